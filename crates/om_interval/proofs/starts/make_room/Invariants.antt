@@ -1,0 +1,9 @@
+use Rattle.std.proofs.Common.{◌≡◌, ◌<◌, map, vec_len, vec_capacity}
+use Rattle.std.specs.List.{AllWithin}
+use Rattle.om_interval.proofs.starts.make_room.Given as goal
+
+abbrev pub invariant-loop-p : goal.invariant-loop-p
+invariant-loop-p l =
+    (map (λ v. v.items) l.by_process.items ≡ map (λ v. v.items) l.initial.by_process.items)
+    × AllWithin (λ v. vec_len v < vec_capacity v) l.by_process.items 0 l.p
+    × (vec_len l.by_process ≡ l.p-end)

@@ -1,0 +1,4 @@
+pub mod InUse
+pub mod InUseLaws
+pub mod Vectors
+pub mod Starts
