@@ -66,12 +66,14 @@ impl DepVec {
         ensures some { 1 ≤ result }
         ensures within { result ≤ MAX_PROCESSES }
     {
-        self.count
+        self.as_slice().len()
     }
 
     /// The numbers, by process.
     pub fn as_slice(&self) -> &[u32]
-        ensures { result.now ≡ self.now }
+        ensures numbers { result.now ≡ self.now }
+        ensures some { 1 ≤ length self.now }
+        ensures within { length self.now ≤ MAX_PROCESSES }
     {
         &self.places[..self.count]
     }

@@ -41,7 +41,7 @@ impl Pid {
         requires { index < MAX_PROCESSES }
         ensures { result ≡ index }
     {
-        Pid { index }
+        Self { index }
     }
 
     /// The place of this process in vectors.
