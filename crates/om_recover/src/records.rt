@@ -1,0 +1,132 @@
+ghost use Rattle.std.specs.Prelude.{◌≡◌, ℕ, ◌+◌, ◌<◌, ◌≤◌, ◌↔◌, length, replicate, IfOk};
+ghost use Rattle.om_interval.specs.Vectors.{IsBelow};
+ghost use Rattle.om_interval.specs.declared.pid.TheConstants.{MAX_PROCESSES};
+ghost use Rattle.om_recover.specs.Rows.{HasRow};
+ghost use Rattle.om_recover.specs.Offered.{offered, TellsChange};
+ghost use Rattle.om_recover.specs.Records.{first_row, IsSound};
+ghost use Rattle.om_recover.specs.declared.row.RowKind.TheVariants.{Checkpoint, Log};
+
+use crate::answer::{answer_without_change, place_of};
+use crate::note::{Note, NoteError};
+use crate::row::{Row, RowKind};
+use crate::search::greatest_recoverable;
+use om_interval::{DepVec, Pid};
+use std::alloc::{AllocError, Global};
+use std::marker::Model;
+
+/// The records that the processes of one cluster noted, and the greatest recoverable state that they allow.
+#[derive(Debug, Drop)]
+pub struct Records {
+    rows: Vec<Row>,
+    state: DepVec,
+}
+
+impl Model for Records {
+    ghost use Rattle.std.specs.FinSet as set;
+    ghost use Rattle.om_recover.specs.Records.{Kept, AreKept};
+    ghost use Rattle.om_recover.specs.RowCode.{coded_kept};
+
+    ghost Value = { Kept };
+
+    ghost coded = { coded_kept };
+
+    ghost view = { λ r. record { rows = set.from_list r.rows.items; state = r.state } };
+
+    ghost invariant = { λ r. AreKept r.rows.items r.state };
+}
+
+impl Records {
+    /// The records of `n` processes at their start: checkpoint 0 of each.
+    pub fn new(alloc: Global, n: usize) -> Result<Records, AllocError>
+        requires some { 1 ≤ n }
+        requires within { n ≤ MAX_PROCESSES }
+        ensures rows { IfOk result (λ records. (row : _) → HasRow records.rows row ↔ ((row.pid < n) × (row ≡ first_row n row.pid))) }
+        ensures state { IfOk result (λ records. records.state ≡ replicate n 0) }
+    {
+        let zeros = DepVec::zeros(n).unwrap();
+        let mut rows = Vec::with_capacity(alloc, n)?;
+        for p in 0..n {
+            rows.push_reserved(Row {
+                kind: RowKind::Checkpoint,
+                pid: Pid::at(p),
+                interval: 0,
+                vec: zeros,
+                got: zeros,
+            });
+        }
+        Ok(Records { rows, state: zeros })
+    }
+
+    /// Notes that the receipt which began interval `x` of a process is logged.
+    pub fn note_logged(
+        &mut self,
+        _alloc: Global,
+        pid: Pid,
+        x: u32,
+        vec: &DepVec,
+        got: &DepVec,
+    ) -> Result<Note, NoteError>
+        ensures answer { offered (length self.old.state) self.old.rows record { kind = Log; pid = pid; interval = x; vec = vec.now; got = got.now } result self.new.rows }
+        ensures raised { TellsChange result self.old.state self.new.state }
+        ensures sound { IsSound self.new }
+        ensures not_lowered { IsBelow self.old.state self.new.state }
+    {
+        self.note(Row {
+            kind: RowKind::Log,
+            pid,
+            interval: x,
+            vec: *vec,
+            got: *got,
+        })
+    }
+
+    /// Notes that the state of a process in interval `x` is stored.
+    pub fn note_checkpoint(
+        &mut self,
+        _alloc: Global,
+        pid: Pid,
+        x: u32,
+        vec: &DepVec,
+        got: &DepVec,
+    ) -> Result<Note, NoteError>
+        ensures answer { offered (length self.old.state) self.old.rows record { kind = Checkpoint; pid = pid; interval = x; vec = vec.now; got = got.now } result self.new.rows }
+        ensures raised { TellsChange result self.old.state self.new.state }
+        ensures sound { IsSound self.new }
+        ensures not_lowered { IsBelow self.old.state self.new.state }
+    {
+        self.note(Row {
+            kind: RowKind::Checkpoint,
+            pid,
+            interval: x,
+            vec: *vec,
+            got: *got,
+        })
+    }
+
+    fn note(&mut self, row: Row) -> Result<Note, NoteError>
+        ensures answer { offered (length self.old.state) self.old.rows row result self.new.rows }
+        ensures raised { TellsChange result self.old.state self.new.state }
+        ensures sound { IsSound self.new }
+        ensures not_lowered { IsBelow self.old.state self.new.state }
+    {
+        if let Some(answer) = answer_without_change(&self.rows, self.state.n(), &row) {
+            return answer;
+        }
+        let place = place_of(&self.rows, &row);
+        if self.rows.insert(place, row).is_err() {
+            return Err(NoteError::Memory);
+        }
+        let state = greatest_recoverable(&self.rows, &self.state);
+        let raised = state != self.state;
+        self.state = state;
+        Ok(Note::Noted { raised })
+    }
+
+    /// The recovery state: the greatest recoverable state of the records.
+    pub fn recovery(&self) -> DepVec
+        ensures state { result ≡ self.now.state }
+        ensures sound { IsSound self.now }
+    {
+        self.state
+    }
+}
