@@ -17,9 +17,9 @@ min-digit_more value whole limit radix digit pos h =
     let large = le-mul_of_pos_right limit pos in
     let whole_large = le-mul_of_pos_right whole pos in
     ⊎_elim (λ lt. let same : value ≡ whole = omega (arith, h) in ap (λ v. min (v * radix + digit) limit) same)
-      (λ le. let same : value ≡ limit = omega (arith, h) in
-        ap (λ v. min (v * radix + digit) limit) same ∙ stops whole limit radix digit large le whole_large)
-      (cases_lt whole limit)
+    (λ le. let same : value ≡ limit = omega (arith, h) in
+    ap (λ v. min (v * radix + digit) limit) same ∙ stops whole limit radix digit large le whole_large)
+    (cases_lt whole limit)
 
 both : (a b : Bool) → (a && b) ≡ true → (a ≡ true) × (b ≡ true)
 both true b h = (refl, h)

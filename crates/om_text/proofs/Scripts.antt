@@ -31,16 +31,16 @@ module _ {State : Type 0} (meaning : State → List (List ℕ) → Result State 
   later_fault : (number : ℕ) (state next : State) (line : List (List ℕ)) (lines : List (List (List ℕ))) (fault : ScriptFault) → after_line meaning number state line ≡ Ok next
       → IsFirstFault meaning (number + 1) next lines fault → IsFirstFault meaning number state (line ∷ lines) fault
   later_fault number state next line lines fault read later = record {
-      before = line ∷ later.before;
-      line = later.line;
-      after = later.after;
-      reached = later.reached;
-      parts = ap (λ more. line ∷ more) later.parts;
-      place = omega (arith, later.place);
-      all_read = ap (λ r. r >>= λ s. script_from meaning (number + 1) s later.before) read ∙ later.all_read;
-      is_read = later.is_read;
-      is_faulty = later.is_faulty
-    }
+    before = line ∷ later.before;
+    line = later.line;
+    after = later.after;
+    reached = later.reached;
+    parts = ap (λ more. line ∷ more) later.parts;
+    place = omega (arith, later.place);
+    all_read = ap (λ r. r >>= λ s. script_from meaning (number + 1) s later.before) read ∙ later.all_read;
+    is_read = later.is_read;
+    is_faulty = later.is_faulty;
+  }
 
   fault_by_line : (number : ℕ) (state : State) (line : List (List ℕ)) (lines : List (List (List ℕ))) (fault : ScriptFault)
       → ((next : State) → script_from meaning (number + 1) next lines ≡ Err fault → IsFirstFault meaning (number + 1) next lines fault)
@@ -59,7 +59,7 @@ module _ {State : Type 0} (meaning : State → List (List ℕ) → Result State 
         place = omega (arith, ap (λ (f : ScriptFault). f.line) here);
         all_read = refl;
         is_read = p;
-        is_faulty = q ∙ ap (λ (f : ScriptFault). Err f.fault) here
+        is_faulty = q ∙ ap (λ (f : ScriptFault). Err f.fault) here;
       }
 
   -- the fault of a script is that of its first faulty line

@@ -2,7 +2,7 @@
 
 ghost use Rattle.std.specs.Prelude.{◌≡◌, codes, Some};
 ghost use Rattle.om_text.specs.declared.faults.ScriptError.TheVariants.{Memory};
-ghost use Rattle.om_text.specs.Faults.{line_fault_text, script_fault_text};
+ghost use Rattle.om_text.specs.Faults.{line_fault_text, script_error_text, script_fault_text};
 
 use std::alloc::{AllocError, AllocFailed};
 use std::error::Error;
@@ -65,7 +65,7 @@ impl fmt::Display for ScriptFault {
 impl Error for ScriptFault {}
 
 /// Why a script, or a line of it, was not read: its fault, or want of memory.
-#[derive(Clone, Copy, Debug, PartialEq, Eq)]
+#[derive(Clone, Copy, Debug, PartialEq, Eq, Drop)]
 pub enum ScriptError<F> {
     Fault(F),
     Memory,
@@ -86,3 +86,16 @@ impl<F, T: Drop> From<AllocFailed<T>> for ScriptError<F> {
         ScriptError::Memory
     }
 }
+
+impl<F: fmt::Display> fmt::Display for ScriptError<F> {
+    ghost output = { λ error. script_error_text F.output error };
+
+    fn fmt<W: fmt::Write>(&self, f: &mut fmt::Formatter<W>) -> fmt::Result {
+        match self {
+            ScriptError::Fault(fault) => fault.fmt(f),
+            ScriptError::Memory => f.write_str("no memory"),
+        }
+    }
+}
+
+impl<F: fmt::Debug + fmt::Display + Drop> Error for ScriptError<F> {}

@@ -13,5 +13,4 @@ pub fn first_faulty_line_counts<B: Builder>()
         → script_from B.meaning number state lines ≡ Err fault → IsFirstFault B.meaning number state lines fault }
     ensures is_the_answer { (number : ℕ) (state : B.State) (lines : List (List (List ℕ))) (fault : ScriptFault)
         → IsFirstFault B.meaning number state lines fault → script_from B.meaning number state lines ≡ Err fault }
-{
-}
+{}

@@ -14,3 +14,5 @@ pub use numbers::{hex_word, number_of};
 pub use script::{Builder, read_script};
 pub use text::{MAX_BYTES, MAX_TURNS, ReadFault, read_text};
 
+#[cfg(test)]
+mod tests;

@@ -28,7 +28,11 @@ pub trait Builder {
 }
 
 /// Reads a whole script: all of its lines, or the first faulty one.
-pub fn read_script<B: Builder + Drop>(alloc: Global, text: &[u8], builder: B) -> Result<B, ScriptError<ScriptFault>>
+pub fn read_script<B: Builder + Drop>(
+    alloc: Global,
+    text: &[u8],
+    builder: B,
+) -> Result<B, ScriptError<ScriptFault>>
     ensures { Gives B.state result (script_from B.meaning 1 (B.state builder) (map words_of (lines_of text.now))) }
 {
     let mut builder = builder;
@@ -45,7 +49,12 @@ pub fn read_script<B: Builder + Drop>(alloc: Global, text: &[u8], builder: B) ->
 }
 
 // Takes in a line, which may be passed over; its fault is one of the script, at the line's number.
-fn take_line<B: Builder>(alloc: Global, words: &[&[u8]], number: usize, builder: &mut B) -> Result<(), ScriptError<ScriptFault>>
+fn take_line<B: Builder>(
+    alloc: Global,
+    words: &[&[u8]],
+    number: usize,
+    builder: &mut B,
+) -> Result<(), ScriptError<ScriptFault>>
     ensures { Gives (λ _. B.state builder.new) result (after_line B.meaning number (B.state builder.old) (map (λ word. word.now) words.now)) }
 {
     if is_passed_over(words) {
@@ -54,6 +63,9 @@ fn take_line<B: Builder>(alloc: Global, words: &[&[u8]], number: usize, builder:
     match builder.add_line(alloc, words) {
         Ok(()) => Ok(()),
         Err(ScriptError::Memory) => Err(ScriptError::Memory),
-        Err(ScriptError::Fault(fault)) => Err(ScriptError::Fault(ScriptFault { line: number, fault })),
+        Err(ScriptError::Fault(fault)) => Err(ScriptError::Fault(ScriptFault {
+            line: number,
+            fault,
+        })),
     }
 }

@@ -71,7 +71,11 @@ pub fn read_text<R: Read>(alloc: Global, reader: &mut R) -> Result<Vec<u8>, Read
 }
 
 // One turn: reads into the chunk, and puts what came at the end of the text. Answers whether the input has ended.
-fn read_more<R: Read>(reader: &mut R, chunk: &mut [u8], text: &mut Vec<u8>) -> Result<bool, ReadFault>
+fn read_more<R: Read>(
+    reader: &mut R,
+    chunk: &mut [u8],
+    text: &mut Vec<u8>,
+) -> Result<bool, ReadFault>
     requires room { 0 < length chunk.old }
     requires within { vec_len text.old ≤ MAX_BYTES }
     ensures within { vec_len text.new ≤ MAX_BYTES }

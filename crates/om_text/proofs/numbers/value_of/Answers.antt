@@ -20,6 +20,6 @@ loop-byte-preserved c =
     record {
       digits = list_all_more (λ b. is_digit b radix) word i 0 c.loop-byte-test.true ∙ both-true _ _ c.loop-byte.invariant.digits (lt-ltb (digit_value byte) radix small);
       value = added
-        ∙ min-digit_more c.loop-byte.value (digits_value radix (take i word)) (2 ^ 32) radix (digit_value byte) (omega arith) c.loop-byte.invariant.value
-        ∙ ap (λ n. min n (2 ^ 32)) (sym (digits_value_more radix word i c.loop-byte-test.true))
+          ∙ min-digit_more c.loop-byte.value (digits_value radix (take i word)) (2 ^ 32) radix (digit_value byte) (omega arith) c.loop-byte.invariant.value
+          ∙ ap (λ n. min n (2 ^ 32)) (sym (digits_value_more radix word i c.loop-byte-test.true));
     }

@@ -6,6 +6,6 @@ use Rattle.om_text.proofs.numbers.value_of.Given as goal
 
 abbrev pub invariant-loop-byte : goal.invariant-loop-byte
 invariant-loop-byte l = record {
-    digits : are_digits l.radix (take l.byte-index l.word) ≡ true;
-    value : l.value ≡ min (digits_value l.radix (take l.byte-index l.word)) (2 ^ 32)
-  }
+  digits : are_digits l.radix (take l.byte-index l.word) ≡ true;
+  value : l.value ≡ min (digits_value l.radix (take l.byte-index l.word)) (2 ^ 32);
+}

@@ -9,6 +9,6 @@ decreases-loop-line g l = length l.rest
 
 abbrev pub invariant-loop-line : goal.invariant-loop-line
 invariant-loop-line g l = record {
-    counted : l.number + length l.rest ≤ length l.text;
-    goes_on : script_from g.B.Builder.meaning (l.number + 1) (g.B.Builder.state l.builder) (map words_of (lines_of l.rest)) ≡ script_from g.B.Builder.meaning 1 (g.B.Builder.state l.initial.builder) (map words_of (lines_of l.text))
-  }
+  counted : l.number + length l.rest ≤ length l.text;
+  goes_on : script_from g.B.Builder.meaning (l.number + 1) (g.B.Builder.state l.builder) (map words_of (lines_of l.rest)) ≡ script_from g.B.Builder.meaning 1 (g.B.Builder.state l.initial.builder) (map words_of (lines_of l.text));
+}

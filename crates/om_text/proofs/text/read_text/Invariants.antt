@@ -5,6 +5,6 @@ use Rattle.om_text.proofs.text.read_text.Given as goal
 
 abbrev pub invariant-loop : goal.invariant-loop
 invariant-loop g l = record {
-    within : vec_len l.text ≤ MAX_BYTES;
-    taken : Consumes (g.R.Read.remaining l.initial.reader) (g.R.Read.remaining l.reader) l.text.items
-  }
+  within : vec_len l.text ≤ MAX_BYTES;
+  taken : Consumes (g.R.Read.remaining l.initial.reader) (g.R.Read.remaining l.reader) l.text.items;
+}
