@@ -1,3 +1,3 @@
 pub mod Digits
+pub mod FirstFaulty
 pub mod Parts
-pub mod Scripts

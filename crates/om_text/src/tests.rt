@@ -244,8 +244,12 @@ fn readers_may_refuse(rt: HostRuntime) {
         )
     );
     assert!(rt; refusing.bytes.is_empty());
+}
+
+#[test]
+fn readers_have_a_number_of_turns(rt: HostRuntime) {
     let mut endless = Drip {
-        bytes: text,
+        bytes: b"",
         turns: 0,
         interruptions: u64::MAX,
         refuses: false,

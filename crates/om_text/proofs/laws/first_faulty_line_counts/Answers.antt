@@ -1,4 +1,4 @@
-use Rattle.om_text.proofs.Scripts.{IsFirstFault-from_script, script-from_IsFirstFault}
+use Rattle.om_text.proofs.FirstFaulty.{IsFirstFault-from_script, script-from_IsFirstFault}
 use Rattle.om_text.proofs.laws.first_faulty_line_counts.Goals as goal
 
 pub returns-clause-is_first : goal.returns-clause-is_first

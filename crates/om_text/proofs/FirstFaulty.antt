@@ -1,4 +1,4 @@
--- Readings of scripts.
+-- The first faulty line of a script.
 use Rattle.std.proofs.Common.{◌≡◌, ℕ, ◌+◌, List, [], ◌∷◌, ◌++◌, length, map, Result, Ok, Err, Bool, true, false, cond, refl, sym, ap, ◌∙◌, arith}
 use Rattle.om_text.specs.declared.faults.LineFault.{LineFault}
 use Rattle.om_text.specs.declared.faults.ScriptFault.{ScriptFault}
@@ -8,22 +8,6 @@ use Rattle.om_text.specs.Script.{at_line, after_line, script_from}
 use Rattle.om_text.specs.FirstFault.{IsFirstFault}
 
 module _ {State : Type 0} (meaning : State → List (List ℕ) → Result State LineFault) where
-  -- ---- the loop over the lines
-
-  pub script_from-next : (number : ℕ) (state next : State) (line : List ℕ) (lines rest : List (List ℕ)) (whole : Result State ScriptFault) → rest ≡ line ∷ lines → after_line meaning number state (words_of line) ≡ Ok next
-      → script_from meaning number state (map words_of rest) ≡ whole → script_from meaning (number + 1) next (map words_of lines) ≡ whole
-  script_from-next number state next line lines rest whole parts read so_far =
-      let joined : script_from meaning number state (map words_of rest) ≡ script_from meaning (number + 1) next (map words_of lines) = ap (λ all. script_from meaning number state (map words_of all)) parts ∙ ap (λ r. r >>= λ s. script_from meaning (number + 1) s (map words_of lines)) read in
-      sym joined ∙ so_far
-
-  pub script_from-fault : (number : ℕ) (state : State) (line : List ℕ) (lines rest : List (List ℕ)) (whole : Result State ScriptFault) (fault : ScriptFault) → rest ≡ line ∷ lines → after_line meaning number state (words_of line) ≡ Err fault
-      → script_from meaning number state (map words_of rest) ≡ whole → whole ≡ Err fault
-  script_from-fault number state line lines rest whole fault parts read so_far =
-      let joined : script_from meaning number state (map words_of rest) ≡ Err fault = ap (λ all. script_from meaning number state (map words_of all)) parts ∙ ap (λ r. r >>= λ s. script_from meaning (number + 1) s (map words_of lines)) read in
-      sym so_far ∙ joined
-
-  -- ---- the first faulty line
-
   after_line-is : (number : ℕ) (state : State) (line : List (List ℕ)) (passed : Bool) (next : Result State LineFault) → is_passed_over line ≡ passed → meaning state line ≡ next
       → after_line meaning number state line ≡ cond passed (Ok state) (at_line number next)
   after_line-is number state line passed next p q = ap (λ b. cond b (Ok state) (at_line number (meaning state line))) p ∙ ap (λ r. cond passed (Ok state) (at_line number r)) q
