@@ -5,7 +5,8 @@ use Rattle.om_text.specs.declared.faults.ScriptFault.{ScriptFault}
 use Rattle.om_text.specs.Words.{is_passed_over}
 use Rattle.om_text.specs.Script.{script_from}
 
--- the lines before are all read, and at the state that they give the line with the fault's number is not passed over and means the fault; the first of the lines has this number
+-- The lines before are all read, and the line with the fault's number is not passed over and means the
+-- fault at the state that they give. The first of the lines has this number.
 pub record IsFirstFault {State : Type 0} (meaning : State → List (List ℕ) → Result State LineFault) (number : ℕ) (state : State) (lines : List (List (List ℕ))) (fault : ScriptFault) : Type 0 where
   pub before : List (List (List ℕ))
   pub line : List (List ℕ)

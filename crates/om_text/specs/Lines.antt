@@ -6,7 +6,8 @@ use Rattle.std.specs.List.{slice_split}
 abbrev pub without_return : List ℕ → List ℕ
 without_return line = if slice_index line (length line - 1) == 13 then take (length line - 1) line else line
 
--- what follows the last LF is a line of its own, and keeps a CR at its end; where nothing follows there is none
+-- what follows the last LF is a line of its own, and keeps a CR at its end; where nothing follows
+-- there is none
 abbrev pub last_line : List ℕ → List (List ℕ)
 last_line [] = []
 last_line (byte ∷ bytes) = (byte ∷ bytes) ∷ []

@@ -1,4 +1,5 @@
--- What a script means, over any meaning of a line: a state and the words of a line give the next state or a fault.
+-- What a script means, over any meaning of a line: what a state and the words of a line give, the next
+-- state or a fault.
 use Rattle.std.specs.Prelude.{ℕ, ◌+◌, List, [], ◌∷◌, Result, Ok, Err, if◌then◌else◌}
 use Rattle.om_text.specs.declared.faults.LineFault.{LineFault}
 use Rattle.om_text.specs.declared.faults.ScriptFault.{ScriptFault}

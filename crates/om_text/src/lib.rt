@@ -1,4 +1,5 @@
-//! Texts in: bytes to lines, lines to words, words to values, and whole scripts over any meaning of a line.
+//! Texts in: bytes to lines, lines to words, words to values, and whole scripts over any meaning
+//! of a line.
 #![tactic(auto)]
 
 mod faults;

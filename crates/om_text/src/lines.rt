@@ -6,7 +6,8 @@ ghost use Rattle.om_text.specs.Lines.{lines_of, without_return};
 // The first line without its end, and what follows it; none of an empty text.
 pub(crate) fn split_line(text: &[u8]) -> Option<(&[u8], &[u8])>
     ensures none { IsNone result ↔ (text.now ≡ []) }
-    ensures first { IfSome result (λ parts. lines_of text.now ≡ parts.0.now ∷ lines_of parts.1.now) }
+    ensures first { IfSome result (λ parts.
+        lines_of text.now ≡ parts.0.now ∷ lines_of parts.1.now) }
     ensures shorter { IfSome result (λ parts. length parts.1.now < length text.now) }
 {
     if text.is_empty() {

@@ -10,7 +10,7 @@ const NUMBER_END: u64 = 1 << 32;
 /// How many hexadecimal digits a word of the machine has.
 const HEX_WORD_DIGITS: usize = 8;
 
-/// A number in decimal digits, below 2^32: any number of leading zeros, and no sign.
+/// A number in decimal digits, below 2^32: with any number of leading zeros, and no sign.
 pub fn number_of(word: &[u8]) -> Option<u32>
     ensures { result ≡ number_of word.now }
 {
@@ -34,7 +34,8 @@ pub fn hex_word(word: &[u8]) -> Option<u32>
 fn value_of(word: &[u8], radix: u32) -> Option<u32>
     requires least { 2 ≤ radix }
     requires most { radix ≤ 16 }
-    ensures { result ≡ (if are_digits radix word.now then below (2 ^ 32) (Some (digits_value radix word.now)) else None) }
+    ensures { result ≡ (if are_digits radix word.now
+        then below (2 ^ 32) (Some (digits_value radix word.now)) else None) }
 {
     let mut value = 0;
     for byte in word {

@@ -17,23 +17,29 @@ pub trait Builder {
     /// What is built, as the meaning of a line sees it.
     ghost State: { Type 0 };
 
+    /// What a builder has built so far.
     ghost state: { Self → State };
 
-    /// What a state and the words of a line that is not passed over give: the next state, or the line's fault.
+    /// What a state and the words of a line that is not passed over give: the next state, or the
+    /// line's fault.
     ghost meaning: { State → List (List ℕ) → Result State LineFault };
 
-    /// Takes in a line that is not passed over. After an error reading ends, and nothing is said of the builder.
+    /// Takes in a line that is not passed over. After an error reading ends, and nothing is said of
+    /// the builder.
     fn add_line(&mut self, alloc: Global, words: &[&[u8]]) -> Result<(), ScriptError<LineFault>>
-        ensures { Gives (λ _. state self.new) result (meaning (state self.old) (map (λ word. word.now) words.now)) };
+        ensures { Gives (λ _. state self.new) result
+            (meaning (state self.old) (map (λ word. word.now) words.now)) };
 }
 
-/// Reads a whole script: all of its lines, or the first faulty one.
+/// Reads a whole script: what its lines build, or the fault of the first faulty one. Lines without
+/// words, and those whose first word begins with `#`, are passed over.
 pub fn read_script<B: Builder + Drop>(
     alloc: Global,
     text: &[u8],
     builder: B,
 ) -> Result<B, ScriptError<ScriptFault>>
-    ensures { Gives B.state result (script_from B.meaning 1 (B.state builder) (map words_of (lines_of text.now))) }
+    ensures { Gives B.state result
+        (script_from B.meaning 1 (B.state builder) (map words_of (lines_of text.now))) }
 {
     let mut builder = builder;
     let mut words = Vec::new(alloc);
@@ -55,7 +61,8 @@ fn take_line<B: Builder>(
     number: usize,
     builder: &mut B,
 ) -> Result<(), ScriptError<ScriptFault>>
-    ensures { Gives (λ _. B.state builder.new) result (after_line B.meaning number (B.state builder.old) (map (λ word. word.now) words.now)) }
+    ensures { Gives (λ _. B.state builder.new) result
+        (after_line B.meaning number (B.state builder.old) (map (λ word. word.now) words.now)) }
 {
     if is_passed_over(words) {
         return Ok(());

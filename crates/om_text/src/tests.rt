@@ -1,4 +1,5 @@
-//! Each public function once, on what no clause says: which inputs are meant, and what comes of readers that fail.
+//! What no clause says: that the definitions mean what the formats say, and what becomes of readers
+//! that fail.
 
 ghost use Rattle.std.specs.Prelude.{ℕ, ◌+◌, ◌-◌, ◌^◌, ◌&&◌, ◌==◌, min, length, slice_index_or, ok_or, if◌then◌else◌, [], codes, Ok, Err};
 ghost use Rattle.std.specs.Option.{option_map};
@@ -23,7 +24,8 @@ impl Builder for Sum {
 
     ghost meaning = { λ total words.
         if (length words == 2) && bytes_eq (slice_index_or words 0 []) (codes "add")
-        then ok_or (option_map (λ n. min (total + n) (2 ^ 64 - 1)) (number_of (slice_index_or words 1 []))) BadNumber
+        then ok_or (option_map (λ n. min (total + n) (2 ^ 64 - 1))
+        (number_of (slice_index_or words 1 []))) BadNumber
         else Err UnknownLine };
 
     fn add_line(&mut self, _alloc: Global, words: &[&[u8]]) -> Result<(), ScriptError<LineFault>> {
@@ -155,7 +157,8 @@ fn faults_are_named(rt: HostRuntime) -> Result<(), Fail> {
     Ok(())
 }
 
-/// A reader that gives its bytes one at a time, is interrupted as often as it says, and refuses in place of ending.
+/// A reader that gives its bytes one at a time, after so many interruptions, and may refuse in place
+/// of ending.
 #[derive(Drop)]
 struct Drip<'a> {
     bytes: &'a [u8],

@@ -51,13 +51,17 @@ impl From<AllocError> for ReadFault {
     }
 }
 
-/// Reads an input to its end. Which of its bytes a reader has left after an error is open.
+/// Reads an input to its end. A read that is interrupted is tried again. Which of its bytes a reader
+/// has left after an error is open.
 pub fn read_text<R: Read>(alloc: Global, reader: &mut R) -> Result<Vec<u8>, ReadFault>
-    ensures whole { IfSome (R.remaining reader.old) (λ bytes. IfOk result (λ text. text.items ≡ bytes)) }
+    ensures whole { IfSome (R.remaining reader.old) (λ bytes.
+        IfOk result (λ text. text.items ≡ bytes)) }
     ensures ended { OnOk result (IsAtEnd (R.remaining reader.new)) }
     ensures within { IfOk result (λ text. vec_len text ≤ MAX_BYTES) }
-    ensures longer_is_refused { IfSome (R.remaining reader.old) (λ bytes. MAX_BYTES < length bytes → IsErr result) }
-    ensures too_long_only_where_longer { IfSome (R.remaining reader.old) (λ bytes. result ≡ Err ReadFault.TooLong → MAX_BYTES < length bytes) }
+    ensures longer_is_refused { IfSome (R.remaining reader.old) (λ bytes.
+        MAX_BYTES < length bytes → IsErr result) }
+    ensures too_long_only_where_longer { IfSome (R.remaining reader.old) (λ bytes.
+        result ≡ Err ReadFault.TooLong → MAX_BYTES < length bytes) }
 {
     let mut text = Vec::new(alloc);
     let mut chunk = zeros(alloc, CHUNK_BYTES)?;
@@ -70,7 +74,8 @@ pub fn read_text<R: Read>(alloc: Global, reader: &mut R) -> Result<Vec<u8>, Read
     Err(ReadFault::CannotRead)
 }
 
-// One turn: reads into the chunk, and puts what came at the end of the text. Answers whether the input has ended.
+// One turn: reads into the chunk, and puts what came at the end of the text. Answers whether the
+// input has ended.
 fn read_more<R: Read>(
     reader: &mut R,
     chunk: &mut [u8],
@@ -79,10 +84,12 @@ fn read_more<R: Read>(
     requires room { 0 < length chunk.old }
     requires within { vec_len text.old ≤ MAX_BYTES }
     ensures within { vec_len text.new ≤ MAX_BYTES }
-    ensures appended { OnOk result ((bytes : List ℕ) × (text.new.items ≡ text.old.items ++ bytes)
+    ensures appended { OnOk result ((bytes : List ℕ)
+        × (text.new.items ≡ text.old.items ++ bytes)
         × Consumes (R.remaining reader.old) (R.remaining reader.new) bytes) }
     ensures ended { result ≡ Ok true → IsAtEnd (R.remaining reader.new) }
-    ensures too_long { result ≡ Err ReadFault.TooLong → ((bytes : List ℕ) × (MAX_BYTES < vec_len text.old + length bytes)
+    ensures too_long { result ≡ Err ReadFault.TooLong → ((bytes : List ℕ)
+        × (MAX_BYTES < vec_len text.old + length bytes)
         × Consumes (R.remaining reader.old) (R.remaining reader.new) bytes) }
 {
     let count = match reader.read(chunk) {
