@@ -1,9 +1,9 @@
 -- The first faulty line of a script.
-use Rattle.std.proofs.Common.{◌≡◌, ℕ, ◌+◌, List, [], ◌∷◌, ◌++◌, length, map, Result, Ok, Err, Bool, true, false, cond, refl, sym, ap, ◌∙◌, arith}
+use Rattle.std.proofs.Common.{◌≡◌, ℕ, ◌+◌, List, [], ◌∷◌, ◌++◌, length, Result, Ok, Err, Bool, true, false, cond, refl, sym, ap, ◌∙◌, arith}
 use Rattle.om_text.specs.declared.faults.LineFault.{LineFault}
 use Rattle.om_text.specs.declared.faults.ScriptFault.{ScriptFault}
 use Rattle.om_text.specs.Reading.{◌>>=◌}
-use Rattle.om_text.specs.Words.{is_passed_over, words_of}
+use Rattle.om_text.specs.Words.{is_passed_over}
 use Rattle.om_text.specs.Script.{at_line, after_line, script_from}
 use Rattle.om_text.specs.FirstFault.{IsFirstFault}
 

@@ -1,7 +1,7 @@
 //! What can be wrong with a script.
 
 ghost use Rattle.std.specs.Prelude.{◌≡◌, codes, Some};
-ghost use Rattle.om_text.specs.declared.faults.ScriptError.TheVariants.{Memory};
+ghost use Rattle.om_text.specs.declared.faults.ScriptError.TheVariants.{Fault, Memory};
 ghost use Rattle.om_text.specs.Faults.{line_fault_text, script_error_text, script_fault_text};
 
 use std::alloc::{AllocError, AllocFailed};
@@ -69,6 +69,14 @@ impl Error for ScriptFault {}
 pub enum ScriptError<F> {
     Fault(F),
     Memory,
+}
+
+impl From<LineFault> for ScriptError<LineFault> {
+    ghost from_gives = { λ fault e. e ≡ Fault fault };
+
+    fn from(fault: LineFault) -> ScriptError<LineFault> {
+        ScriptError::Fault(fault)
+    }
 }
 
 impl<F> From<AllocError> for ScriptError<F> {

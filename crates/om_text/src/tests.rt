@@ -30,14 +30,12 @@ impl Builder for Sum {
 
     fn add_line(&mut self, _alloc: Global, words: &[&[u8]]) -> Result<(), ScriptError<LineFault>> {
         let [name, number] = words else {
-            return Err(ScriptError::Fault(LineFault::UnknownLine));
+            return Err(LineFault::UnknownLine.into());
         };
         if *name != b"add".as_slice() {
-            return Err(ScriptError::Fault(LineFault::UnknownLine));
+            return Err(LineFault::UnknownLine.into());
         }
-        let Some(number) = number_of(number) else {
-            return Err(ScriptError::Fault(LineFault::BadNumber));
-        };
+        let number = number_of(number).ok_or(LineFault::BadNumber)?;
         self.0 = self.0.saturating_add(u64::from(number));
         Ok(())
     }

@@ -1,4 +1,4 @@
-use Rattle.std.proofs.Common.{◌==◌, not, length, map, rules, ap, ◌∙◌, tests}
+use Rattle.std.proofs.Common.{◌==◌, not, length, rules, ap, ◌∙◌, tests}
 use Rattle.std.specs.Prelude.{filter}
 use Rattle.std.proofs.lemmas.Iterator.Consumers.{YieldsList-end}
 use Rattle.std.proofs.lemmas.Iterator.Splits.{YieldsList-from_slice_split}
