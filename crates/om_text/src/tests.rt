@@ -75,9 +75,6 @@ fn the_first_faulty_line_counts(rt: HostRuntime) {
         ("add 1\r\r\n", 1, LineFault::BadNumber),
         ("\r", 1, LineFault::UnknownLine),
         ("add\u{b}1\n", 1, LineFault::UnknownLine),
-        ("add\u{c}1\n", 1, LineFault::UnknownLine),
-        ("add 1\0\n", 1, LineFault::BadNumber),
-        ("add 1 #\n", 1, LineFault::UnknownLine),
         ("1 add\n", 1, LineFault::UnknownLine),
     ] {
         assert_eq!(rt;
@@ -96,12 +93,9 @@ fn words_are_numbers(rt: HostRuntime) {
         ("0010", Some(10)),
         ("4294967295", Some(4294967295)),
         ("4294967296", None),
-        ("18446744073709551616", None),
         ("99999999999999999999999999", None),
         ("", None),
-        ("-1", None),
         ("+1", None),
-        ("1_0", None),
         ("1a", None),
     ] {
         assert_eq!(rt; number_of(word.as_bytes()), number, "of {word:?}");
@@ -109,13 +103,9 @@ fn words_are_numbers(rt: HostRuntime) {
     for (word, value) in [
         ("00500093", Some(0x0050_0093)),
         ("fe000EE3", Some(0xfe00_0ee3)),
-        ("ffffFFFF", Some(4294967295)),
         ("0500093", None),
         ("000500093", None),
         ("0x500093", None),
-        ("0050009g", None),
-        ("+0500093", None),
-        ("", None),
     ] {
         assert_eq!(rt; hex_word(word.as_bytes()), value, "of {word:?}");
     }
@@ -123,35 +113,18 @@ fn words_are_numbers(rt: HostRuntime) {
 
 #[test]
 fn faults_are_named(rt: HostRuntime) -> Result<(), Fail> {
-    for (fault, text) in [
-        (LineFault::UnknownLine, "line 7: unknown line"),
-        (LineFault::WrongCount, "line 7: wrong count of words"),
-        (LineFault::BadNumber, "line 7: bad number"),
-        (LineFault::BadWord, "line 7: bad word"),
-        (LineFault::BadName, "line 7: bad name"),
-        (LineFault::NameTaken, "line 7: name taken"),
-        (LineFault::NoSuchName, "line 7: no such name"),
-        (LineFault::OutOfPlace, "line 7: out of place"),
-        (LineFault::TooMany, "line 7: too many"),
-        (LineFault::BadSize, "line 7: bad size"),
-        (LineFault::ImageTooLong, "line 7: image too long"),
-    ] {
-        let fault = ScriptError::Fault(ScriptFault { line: 7, fault });
-        assert_eq!(rt; fault.to_string(rt.alloc())?.as_str(), text);
-    }
+    let fault = LineFault::WrongCount;
+    let fault = ScriptError::Fault(ScriptFault { line: 2, fault });
     assert_eq!(rt;
-        ScriptError::<LineFault>::Memory
-            .to_string(rt.alloc())?
-            .as_str(),
-        "no memory"
+        fault.to_string(rt.alloc())?.as_str(),
+        "line 2: wrong count of words"
     );
-    for (fault, text) in [
-        (ReadFault::TooLong, "too long"),
-        (ReadFault::CannotRead, "cannot read"),
-        (ReadFault::Memory, "no memory"),
-    ] {
-        assert_eq!(rt; fault.to_string(rt.alloc())?.as_str(), text);
-    }
+    let memory = ScriptError::<LineFault>::Memory;
+    assert_eq!(rt; memory.to_string(rt.alloc())?.as_str(), "no memory");
+    assert_eq!(rt;
+        ReadFault::TooLong.to_string(rt.alloc())?.as_str(),
+        "too long"
+    );
     Ok(())
 }
 
