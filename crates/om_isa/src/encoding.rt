@@ -4,9 +4,8 @@ ghost use Rattle.om_isa.specs.Words.{IsR, IsI, IsShift, IsS, IsB, IsU, IsJ, IsFe
 
 use crate::fields::{FenceBits, Imm12, Off13, Off21, Reg, Shamt, Upper};
 use crate::inst::Inst;
-use crate::rows;
-use crate::shape;
 use crate::words::bits;
+use crate::{rows, shape};
 
 // A field at its place in a word, from bit lo on.
 fn place(field: u32, lo: u32) -> u32
@@ -106,13 +105,23 @@ fn word_fence(opcode: u32, funct3: u32, rd: Reg, rs1: Reg, bits: FenceBits) -> u
     opcode + place(funct3, 12) + registers + place(bits.value().into(), 20)
 }
 
-// The word of a row with these fields.
-macro_rules! word {
-    (u ($opcode:literal) $a:ident $b:ident $c:ident) => { word_u($opcode, $a, $b) };
-    (j ($opcode:literal) $a:ident $b:ident $c:ident) => { word_j($opcode, $a, $b) };
-    (i ($opcode:literal, $funct3:literal) $a:ident $b:ident $c:ident) => { word_i($opcode, $funct3, $a, $b, $c) };
-    (b ($opcode:literal, $funct3:literal) $a:ident $b:ident $c:ident) => { word_b($opcode, $funct3, $a, $b, $c) };
-    (s ($opcode:literal, $funct3:literal) $a:ident $b:ident $c:ident) => { word_s($opcode, $funct3, $a, $b, $c) };
+// The word of a row with these codes and fields.
+macro_rules! word_of {
+    (u ($opcode:literal) $a:ident $b:ident $c:ident) => {
+        word_u($opcode, $a, $b)
+    };
+    (j ($opcode:literal) $a:ident $b:ident $c:ident) => {
+        word_j($opcode, $a, $b)
+    };
+    (i ($opcode:literal, $funct3:literal) $a:ident $b:ident $c:ident) => {
+        word_i($opcode, $funct3, $a, $b, $c)
+    };
+    (b ($opcode:literal, $funct3:literal) $a:ident $b:ident $c:ident) => {
+        word_b($opcode, $funct3, $a, $b, $c)
+    };
+    (s ($opcode:literal, $funct3:literal) $a:ident $b:ident $c:ident) => {
+        word_s($opcode, $funct3, $a, $b, $c)
+    };
     (shift ($opcode:literal, $funct3:literal, $funct7:literal) $a:ident $b:ident $c:ident) => {
         word_shift($opcode, $funct3, $funct7, $a, $b, $c)
     };
@@ -122,13 +131,15 @@ macro_rules! word {
     (fence ($opcode:literal, $funct3:literal) $a:ident $b:ident $c:ident) => {
         word_fence($opcode, $funct3, $a, $b, $c)
     };
-    (whole ($word:literal) $a:ident $b:ident $c:ident) => { $word };
+    (whole ($word:literal) $a:ident $b:ident $c:ident) => {
+        $word
+    };
 }
 
 macro_rules! encode_rows {
-    ([$i:ident] $($name:ident $text:tt $form:ident $key:tt $effect:tt,)*) => {
+    ([$i:ident] $($name:ident $text:tt $form:ident $codes:tt $effect:tt,)*) => {
         match *$i {
-            $(shape!($name $form a b c) => word!($form $key a b c),)*
+            $(shape!($name $form a b c) => word_of!($form $codes a b c),)*
         }
     };
 }

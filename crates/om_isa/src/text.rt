@@ -2,12 +2,10 @@ ghost use Rattle.std.specs.Prelude.{OnOk};
 ghost use Rattle.std.specs.Io.KnownBytes.{Appends};
 ghost use Rattle.om_isa.specs.Text.{address_text, fence_text, jump_text, number_text, registers_text, upper_text, text_of};
 
-use std::io::Write;
-
 use crate::fields::{FenceBits, Imm12, Off21, Reg, Upper};
 use crate::inst::Inst;
-use crate::rows;
-use crate::shape;
+use crate::{rows, shape};
+use std::io::Write;
 use thiserror::Error;
 
 /// The writer refused. Some of the text may have been written.
@@ -102,25 +100,42 @@ fn write_name<W: Write>(out: &mut W, name: &str) -> Result<(), WriteFault>
     out.write_all(name.as_bytes()).map_err(|_| WriteFault)
 }
 
-// Writes a row's text, with the fields in the order of the variant.
+// Writes a row's name and operands.
 macro_rules! write_row {
-    (upper u $out:ident $name:literal $a:ident $b:ident $c:ident) => { write_upper($out, $name, $a, $b) };
-    (jump j $out:ident $name:literal $a:ident $b:ident $c:ident) => { write_jump($out, $name, $a, $b) };
-    (address i $out:ident $name:literal $a:ident $b:ident $c:ident) => { write_address($out, $name, $a, $c, $b) };
-    (address s $out:ident $name:literal $a:ident $b:ident $c:ident) => { write_address($out, $name, $b, $c, $a) };
+    (upper $form:ident $out:ident $name:literal $a:ident $b:ident $c:ident) => {
+        write_upper($out, $name, $a, $b)
+    };
+    (jump $form:ident $out:ident $name:literal $a:ident $b:ident $c:ident) => {
+        write_jump($out, $name, $a, $b)
+    };
+    (address i $out:ident $name:literal $a:ident $b:ident $c:ident) => {
+        write_address($out, $name, $a, $c, $b)
+    };
+    (address s $out:ident $name:literal $a:ident $b:ident $c:ident) => {
+        write_address($out, $name, $b, $c, $a)
+    };
     (number shift $out:ident $name:literal $a:ident $b:ident $c:ident) => {
         write_number($out, $name, $a, $b, i32::from($c.value()))
     };
     (number $form:ident $out:ident $name:literal $a:ident $b:ident $c:ident) => {
         write_number($out, $name, $a, $b, $c.value())
     };
-    (registers r $out:ident $name:literal $a:ident $b:ident $c:ident) => { write_registers($out, $name, $a, $b, $c) };
-    (fence fence $out:ident $name:literal $a:ident $b:ident $c:ident) => { write_fence($out, $name, $a, $b, $c) };
-    (name whole $out:ident $name:literal $a:ident $b:ident $c:ident) => { write_name($out, $name) };
+    (registers $form:ident $out:ident $name:literal $a:ident $b:ident $c:ident) => {
+        write_registers($out, $name, $a, $b, $c)
+    };
+    (fence $form:ident $out:ident $name:literal $a:ident $b:ident $c:ident) => {
+        write_fence($out, $name, $a, $b, $c)
+    };
+    (name $form:ident $out:ident $name:literal $a:ident $b:ident $c:ident) => {
+        write_name($out, $name)
+    };
 }
 
 macro_rules! write_rows {
-    ([$inst:ident $out:ident] $($name:ident ($text:literal $layout:ident) $form:ident $key:tt $effect:tt,)*) => {
+    (
+        [$inst:ident $out:ident]
+        $($name:ident ($text:literal $layout:ident) $form:ident $codes:tt $effect:tt,)*
+    ) => {
         match *$inst {
             $(shape!($name $form a b c) => write_row!($layout $form $out $text a b c),)*
         }

@@ -1,7 +1,7 @@
 //! The fields of a word.
 
-ghost use Rattle.std.specs.Prelude.{◌≡◌, ◌*◌, ◌<◌, ◌≤◌};
-ghost use Rattle.om_isa.specs.Words.{bits_of, immediate_i, immediate_s, immediate_b, immediate_u, immediate_j};
+ghost use Rattle.std.specs.Prelude.{◌≡◌, ◌*◌, ◌<◌, ◌≤◌, pos};
+ghost use Rattle.om_isa.specs.Words.{bits_of, sign_of, immediate_i, immediate_s, immediate_b, immediate_u, immediate_j};
 
 use crate::fields::{FenceBits, Imm12, Off13, Off21, Reg, Shamt, Upper};
 
@@ -12,7 +12,7 @@ pub fn bits(w: u32, hi: u32, lo: u32) -> u32
     requires within { hi < 32 }
     ensures { result ≡ bits_of w hi lo }
 {
-    w >> lo & u32::MAX >> (31 - (hi - lo))
+    (w >> lo) & (u32::MAX >> (31 - (hi - lo)))
 }
 
 pub fn opcode(w: u32) -> u32
@@ -81,13 +81,19 @@ pub fn upper(w: u32) -> Upper
     }
 }
 
-// A number of `low` with the weight of the word's sign taken off where the sign is set.
+// 1 where an immediate of the word is below 0.
+fn sign(w: u32) -> i32
+    ensures { result ≡ pos (sign_of w) }
+{
+    bits(w, 31, 31) as i32
+}
+
 pub fn imm_i(w: u32) -> Imm12
     ensures { result ≡ immediate_i w }
 {
     let low = bits(w, 31, 20);
     Imm12 {
-        value: low as i32 - 4096 * bits(w, 31, 31) as i32,
+        value: low as i32 - 4096 * sign(w),
     }
 }
 
@@ -96,7 +102,7 @@ pub fn imm_s(w: u32) -> Imm12
 {
     let low = 32 * bits(w, 31, 25) + bits(w, 11, 7);
     Imm12 {
-        value: low as i32 - 4096 * bits(w, 31, 31) as i32,
+        value: low as i32 - 4096 * sign(w),
     }
 }
 
@@ -105,7 +111,7 @@ pub fn offset_b(w: u32) -> Off13
 {
     let low = 2048 * bits(w, 7, 7) + 32 * bits(w, 30, 25) + 2 * bits(w, 11, 8);
     Off13 {
-        value: low as i32 - 4096 * bits(w, 31, 31) as i32,
+        value: low as i32 - 4096 * sign(w),
     }
 }
 
@@ -114,6 +120,6 @@ pub fn offset_j(w: u32) -> Off21
 {
     let low = 4096 * bits(w, 19, 12) + 2048 * bits(w, 20, 20) + 2 * bits(w, 30, 21);
     Off21 {
-        value: low as i32 - 1_048_576 * bits(w, 31, 31) as i32,
+        value: low as i32 - 1_048_576 * sign(w),
     }
 }
