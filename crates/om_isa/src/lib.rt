@@ -12,5 +12,7 @@ mod encoding;
 mod fields;
 mod inst;
 mod rows;
+#[cfg(test)]
+mod tests;
 mod text;
 mod words;
