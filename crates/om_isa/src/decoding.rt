@@ -70,7 +70,7 @@ macro_rules! decode_rows {
 
 /// The instruction that a word stands for, or `None` where it fits no row.
 pub fn decode(w: u32) -> Option<Inst>
-    // No word fits two rows: at most one instruction equals the result.
+    // So no word fits two rows, and at `None` none.
     ensures exact { (i : Inst) → Decodes w i ↔ (result ≡ Some i) }
 {
     rows!(decode_rows!(w))

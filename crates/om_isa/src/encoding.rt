@@ -107,29 +107,29 @@ fn word_fence(opcode: u32, funct3: u32, rd: Reg, rs1: Reg, bits: FenceBits) -> u
 
 // The word of a row with these codes and fields.
 macro_rules! word_of {
-    (u ($opcode:literal) $a:ident $b:ident $c:ident) => {
-        word_u($opcode, $a, $b)
+    (u ($($code:literal),+) $a:ident $b:ident $c:ident) => {
+        word_u($($code),+, $a, $b)
     };
-    (j ($opcode:literal) $a:ident $b:ident $c:ident) => {
-        word_j($opcode, $a, $b)
+    (j ($($code:literal),+) $a:ident $b:ident $c:ident) => {
+        word_j($($code),+, $a, $b)
     };
-    (i ($opcode:literal, $funct3:literal) $a:ident $b:ident $c:ident) => {
-        word_i($opcode, $funct3, $a, $b, $c)
+    (i ($($code:literal),+) $a:ident $b:ident $c:ident) => {
+        word_i($($code),+, $a, $b, $c)
     };
-    (b ($opcode:literal, $funct3:literal) $a:ident $b:ident $c:ident) => {
-        word_b($opcode, $funct3, $a, $b, $c)
+    (b ($($code:literal),+) $a:ident $b:ident $c:ident) => {
+        word_b($($code),+, $a, $b, $c)
     };
-    (s ($opcode:literal, $funct3:literal) $a:ident $b:ident $c:ident) => {
-        word_s($opcode, $funct3, $a, $b, $c)
+    (s ($($code:literal),+) $a:ident $b:ident $c:ident) => {
+        word_s($($code),+, $a, $b, $c)
     };
-    (shift ($opcode:literal, $funct3:literal, $funct7:literal) $a:ident $b:ident $c:ident) => {
-        word_shift($opcode, $funct3, $funct7, $a, $b, $c)
+    (shift ($($code:literal),+) $a:ident $b:ident $c:ident) => {
+        word_shift($($code),+, $a, $b, $c)
     };
-    (r ($opcode:literal, $funct3:literal, $funct7:literal) $a:ident $b:ident $c:ident) => {
-        word_r($opcode, $funct3, $funct7, $a, $b, $c)
+    (r ($($code:literal),+) $a:ident $b:ident $c:ident) => {
+        word_r($($code),+, $a, $b, $c)
     };
-    (fence ($opcode:literal, $funct3:literal) $a:ident $b:ident $c:ident) => {
-        word_fence($opcode, $funct3, $a, $b, $c)
+    (fence ($($code:literal),+) $a:ident $b:ident $c:ident) => {
+        word_fence($($code),+, $a, $b, $c)
     };
     (whole ($word:literal) $a:ident $b:ident $c:ident) => {
         $word

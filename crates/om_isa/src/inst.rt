@@ -1,6 +1,8 @@
 use crate::fields::{FenceBits, Imm12, Off13, Off21, Reg, Shamt, Upper};
 
-/// An instruction of RV32I with its fields (RISC-V unprivileged specification, RV32I 2.1).
+/// An instruction of RV32I with its fields (RISC-V unprivileged specification, RV32I 2.1): registers,
+/// immediates as they are signed, offsets in bytes from the instruction's own address, and the upper 20
+/// bits of an immediate of 32 bits.
 #[derive(Clone, Copy, Debug, PartialEq, Eq)]
 pub enum Inst {
     Lui { rd: Reg, upper: Upper },

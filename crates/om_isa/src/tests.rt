@@ -12,7 +12,7 @@ fn text_of_word(alloc: Global, word: u32) -> Result<Option<Vec<u8>>, WriteFault>
     Ok(Some(text))
 }
 
-// The texts are those of GNU objdump, the two of a fence and a shift those of the manual's listing.
+// The texts are GNU objdump's, laid out as `write_text` does; that of the fence follows the manual.
 #[test]
 fn words_have_their_texts(rt: HostRuntime) -> Result<(), Fail> {
     for (word, text) in [
