@@ -1,5 +1,5 @@
 -- The text of an instruction: its name, one space, and its operands, parted by a comma and a space.
-use Rattle.std.specs.Prelude.{ℕ, ℤ, pos, List, ◌++◌, Bool, false, codes}
+use Rattle.std.specs.Prelude.{ℕ, ℤ, pos, List, ◌++◌, false, codes}
 use Rattle.std.specs.Fmt.{decimal, signed_decimal, digits}
 use Rattle.om_isa.specs.declared.inst.Inst.{Inst}
 use Rattle.om_isa.specs.declared.inst.Inst.TheVariants.{Lui, Auipc, Jal, Jalr, Beq, Bne, Blt, Bge, Bltu, Bgeu, Lb, Lh, Lw, Lbu, Lhu, Sb, Sh, Sw, Addi, Slti, Sltiu, Xori, Ori, Andi, Slli, Srli, Srai, Add, Sub, Sll, Slt, Sltu, Xor, Srl, Sra, Or, And, Fence, Ecall, Ebreak}

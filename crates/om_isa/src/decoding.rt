@@ -1,3 +1,5 @@
+//! From a word to its instruction.
+
 ghost use Rattle.std.specs.Prelude.{◌≡◌, ◌↔◌, Some};
 ghost use Rattle.om_isa.specs.declared.inst.Inst.{Inst};
 ghost use Rattle.om_isa.specs.Rows.{Decodes};
@@ -70,7 +72,7 @@ macro_rules! decode_rows {
 
 /// The instruction that a word stands for, or `None` where it fits no row.
 pub fn decode(w: u32) -> Option<Inst>
-    // So no word fits two rows, and at `None` none.
+    // The result equals at most one instruction, so no word fits two rows.
     ensures exact { (i : Inst) → Decodes w i ↔ (result ≡ Some i) }
 {
     rows!(decode_rows!(w))

@@ -1,3 +1,5 @@
+//! From an instruction to its word.
+
 ghost use Rattle.std.specs.Prelude.{◌≡◌, ℕ, ◌*◌, ◌^◌, ◌<◌};
 ghost use Rattle.om_isa.specs.Rows.{Decodes};
 ghost use Rattle.om_isa.specs.Words.{IsR, IsI, IsShift, IsS, IsB, IsU, IsJ, IsFence};

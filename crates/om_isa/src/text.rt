@@ -1,3 +1,5 @@
+//! From an instruction to its text.
+
 ghost use Rattle.std.specs.Prelude.{OnOk};
 ghost use Rattle.std.specs.Io.KnownBytes.{Appends};
 ghost use Rattle.om_isa.specs.Text.{address_text, fence_text, jump_text, number_text, registers_text, upper_text, text_of};
