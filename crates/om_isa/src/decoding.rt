@@ -1,0 +1,79 @@
+//! From a word to its instruction.
+
+ghost use Rattle.std.specs.Prelude.{◌≡◌, ◌↔◌, Some};
+ghost use Rattle.om_isa.specs.declared.inst.Inst.{Inst};
+ghost use Rattle.om_isa.specs.Rows.{Decodes};
+
+use crate::inst::Inst;
+use crate::rows;
+use crate::words::{
+    fence_bits, funct3, funct7, imm_i, imm_s, offset_b, offset_j, opcode, rd, rs1, rs2, shamt,
+    upper,
+};
+
+// The codes of a form among the opcode, the funct3, the funct7 and the whole of a word.
+macro_rules! codes {
+    (u ($opcode:literal)) => {
+        ($opcode, _, _, _)
+    };
+    (j ($opcode:literal)) => {
+        ($opcode, _, _, _)
+    };
+    (whole ($word:literal)) => {
+        (_, _, _, $word)
+    };
+    ($form:ident ($opcode:literal, $funct3:literal)) => {
+        ($opcode, $funct3, _, _)
+    };
+    ($form:ident ($opcode:literal, $funct3:literal, $funct7:literal)) => {
+        ($opcode, $funct3, $funct7, _)
+    };
+}
+
+// The variant of a row with the fields of a word.
+macro_rules! fields_of {
+    ($w:ident $name:ident u) => {
+        Inst::$name { rd: rd($w), upper: upper($w) }
+    };
+    ($w:ident $name:ident j) => {
+        Inst::$name { rd: rd($w), offset: offset_j($w) }
+    };
+    ($w:ident $name:ident i) => {
+        Inst::$name { rd: rd($w), rs1: rs1($w), imm: imm_i($w) }
+    };
+    ($w:ident $name:ident b) => {
+        Inst::$name { rs1: rs1($w), rs2: rs2($w), offset: offset_b($w) }
+    };
+    ($w:ident $name:ident s) => {
+        Inst::$name { rs1: rs1($w), rs2: rs2($w), imm: imm_s($w) }
+    };
+    ($w:ident $name:ident shift) => {
+        Inst::$name { rd: rd($w), rs1: rs1($w), shamt: shamt($w) }
+    };
+    ($w:ident $name:ident r) => {
+        Inst::$name { rd: rd($w), rs1: rs1($w), rs2: rs2($w) }
+    };
+    ($w:ident $name:ident fence) => {
+        Inst::$name { rd: rd($w), rs1: rs1($w), bits: fence_bits($w) }
+    };
+    ($w:ident $name:ident whole) => {
+        Inst::$name
+    };
+}
+
+macro_rules! decode_rows {
+    ([$w:ident] $($name:ident $text:tt $form:ident $codes:tt $effect:tt,)*) => {
+        match (opcode($w), funct3($w), funct7($w), $w) {
+            $(codes!($form $codes) => Some(fields_of!($w $name $form)),)*
+            _ => None,
+        }
+    };
+}
+
+/// The instruction that a word stands for, or `None` where it fits no row.
+pub fn decode(w: u32) -> Option<Inst>
+    // The result equals at most one instruction, so no word fits two rows.
+    ensures exact { (i : Inst) → Decodes w i ↔ (result ≡ Some i) }
+{
+    rows!(decode_rows!(w))
+}
