@@ -71,13 +71,7 @@ impl Records {
         ensures sound { IsSound self.new }
         ensures not_lowered { IsBelow self.old.state self.new.state }
     {
-        self.note(Row {
-            kind: RowKind::Log,
-            pid,
-            interval: x,
-            vec: *vec,
-            got: *got,
-        })
+        self.note(row_of(RowKind::Log, pid, x, vec, got))
     }
 
     /// Notes that the state of a process in interval `x` is stored.
@@ -94,13 +88,7 @@ impl Records {
         ensures sound { IsSound self.new }
         ensures not_lowered { IsBelow self.old.state self.new.state }
     {
-        self.note(Row {
-            kind: RowKind::Checkpoint,
-            pid,
-            interval: x,
-            vec: *vec,
-            got: *got,
-        })
+        self.note(row_of(RowKind::Checkpoint, pid, x, vec, got))
     }
 
     fn note(&mut self, row: Row) -> Result<Note, NoteError>
@@ -127,6 +115,19 @@ impl Records {
         ensures state { result ≡ self.now.state }
         ensures sound { IsSound self.now }
     {
-        self.state
+        let Records { state, .. } = self;
+        *state
+    }
+}
+
+fn row_of(kind: RowKind, pid: Pid, interval: u32, vec: &DepVec, got: &DepVec) -> Row
+    ensures { result ≡ record { kind = kind; pid = pid; interval = interval; vec = vec.now; got = got.now } }
+{
+    Row {
+        kind,
+        pid,
+        interval,
+        vec: *vec,
+        got: *got,
     }
 }

@@ -1,0 +1,4 @@
+pub mod Fault
+pub mod Frontier
+pub mod RecordScript
+pub mod Report

@@ -1,0 +1,110 @@
+//! The command line: which subcommand is meant, and with which status it ends.
+
+use crate::fault::CommandFault;
+use crate::frontier::frontier;
+use clap::error::ErrorKind;
+use clap::{Command, Error};
+use std::alloc::Global;
+use std::process::ExitCode;
+use std::rt::Runtime;
+use std::{env, io};
+
+const FRONTIER: &str = "frontier";
+
+const FRONTIER_HELP: &str = "\
+Reads a record script from standard input and writes a line for each note:
+what was answered, and the recovery state after it. The last line is the
+recovery state in the end.
+
+  procs N           N processes, 1 to 8: the first line
+  log P X V0 ..     the receipt that began interval X of process P is logged
+  ckpt P X V0 ..    the state of process P in interval X is stored
+
+V0 .. is the dependency vector of the interval: one number for each process.
+Empty lines, and lines that begin with '#', are passed over.
+
+Answers: noted, raised, known, bad-vector, differs, disorder Y, stranger.
+A faulty script is refused whole: 'line N: ..' on standard error, status 1.";
+
+/// What the words of the command line ask for.
+enum Request {
+    Frontier,
+}
+
+/// Runs the program on its arguments and standard streams: the status is 0 where it is done, 1 where a command was
+/// refused, and 2 where the arguments were.
+pub fn run<R: Runtime + AllocGlobal>(rt: &R) -> ExitCode {
+    let words = match words(rt) {
+        Ok(words) => words,
+        Err(error) => return refuse_words(rt, &error),
+    };
+    match chosen(rt.alloc(), &words) {
+        Ok(Request::Frontier) => end(
+            rt,
+            frontier(rt.alloc(), &mut rt.reader(), &mut io::writer(rt)),
+        ),
+        Err(error) => refuse_request(rt, &error),
+    }
+}
+
+fn words<R: Runtime + AllocGlobal>(rt: &R) -> io::Result<Vec<String>> {
+    Ok(env::args(rt)?.collect(rt.alloc())?)
+}
+
+fn chosen(alloc: Global, words: &[String]) -> Result<Request, Error> {
+    let mut command = command(alloc)?;
+    let matches = command.try_get_matches_from_mut(words)?;
+    match matches.subcommand_name() {
+        Some(_) => Ok(Request::Frontier),
+        None => Err(command.error(ErrorKind::MissingSubcommand, "a subcommand is missing")?),
+    }
+}
+
+fn command<'a>(alloc: Global) -> Result<Command<'a>, Error> {
+    let command = Command::new(alloc, "omlog")
+        .bin_name("omlog")?
+        .about(
+            "Recovery states of message-passing programs, from the records that their processes keep",
+        )
+        .subcommand_required(true)
+        .subcommand(frontier_command(alloc))?;
+    Ok(command)
+}
+
+fn frontier_command<'a>(alloc: Global) -> Command<'a> {
+    Command::new(alloc, FRONTIER)
+        .about("The greatest recoverable state after each note of a record script")
+        .after_help(FRONTIER_HELP)
+}
+
+/// Ends a command. A fault goes to standard error as one line.
+fn end<R: Runtime>(rt: &R, outcome: Result<(), CommandFault>) -> ExitCode {
+    match outcome {
+        Ok(()) => ExitCode::SUCCESS,
+        Err(fault) => {
+            let _ = rt.eprintln(fault);
+            ExitCode::FAILURE
+        }
+    }
+}
+
+/// A help text that was asked for ends with 0, and a mistake with 2.
+fn refuse_request<R: Runtime>(rt: &R, error: &Error) -> ExitCode {
+    if error.kind() == ErrorKind::OutOfMemory {
+        return end(rt, Err(CommandFault::NoMemory));
+    }
+    let _ = error.print(rt);
+    if error.use_stderr() {
+        ExitCode::from(2)
+    } else {
+        ExitCode::SUCCESS
+    }
+}
+
+fn refuse_words<R: Runtime>(rt: &R, error: &io::Error) -> ExitCode {
+    if error.kind() == io::ErrorKind::OutOfMemory {
+        return end(rt, Err(CommandFault::NoMemory));
+    }
+    let _ = rt.eprintln("error: the arguments are not text");
+    ExitCode::from(2)
+}

@@ -1,0 +1,120 @@
+use crate::fault::CommandFault;
+use crate::frontier::frontier;
+use std::alloc::Global;
+use std::io;
+use std::io::{Read, Write};
+use std::test::Fail;
+
+/// What the command writes of an input.
+fn answered(alloc: Global, input: &str) -> Result<Vec<u8>, CommandFault> {
+    let mut written = Vec::new(alloc);
+    frontier(alloc, &mut input.as_bytes(), &mut written)?;
+    Ok(written)
+}
+
+#[test]
+fn scripts_and_their_texts(rt: HostRuntime) -> Result<(), Fail> {
+    for (input, text) in [
+        ("procs 1", "recovery 0\n"),
+        (
+            "procs 3\nlog 0 1 1 1 0\nckpt 1 3 0 3 4\nlog 1 1 0 1 0\n",
+            "noted: 0 0 0\nnoted: 0 0 0\nraised: 1 1 0\nrecovery 1 1 0\n",
+        ),
+        (
+            "procs 2\nlog 0 1 1 1\nlog 1 1 0 1\n",
+            "noted: 0 0\nraised: 1 1\nrecovery 1 1\n",
+        ),
+        (
+            "procs 1\nlog 0 1 1\nlog 0 4 4\nckpt 0 3 3\n",
+            "raised: 1\nnoted: 1\nraised: 4\nrecovery 4\n",
+        ),
+        (
+            "procs 2\nlog 0 1 1 1\nlog 0 2 2 0\nlog 0 1 1 1\nlog 0 1 1 0\nlog 0 3 2 0\nlog 2 1 0 0\n",
+            "noted: 0 0\ndisorder 1: 0 0\nknown: 0 0\ndiffers: 0 0\nbad-vector: 0 0\nstranger: 0 0\nrecovery 0 0\n",
+        ),
+        (
+            "# two processes\r\n\r\nprocs\t2\r\n  log 0 \t 001 1 0000000001\r\n\t\n#\nlog 8 1 1 0",
+            "noted: 0 0\nstranger: 0 0\nrecovery 0 0\n",
+        ),
+    ] {
+        let written = answered(rt.alloc(), input)?;
+        assert_eq!(rt; written.as_slice(), text.as_bytes(), "{input}");
+    }
+    Ok(())
+}
+
+#[test]
+fn faulty_scripts(rt: HostRuntime) {
+    for (input, text) in [
+        ("", "empty script"),
+        ("# nothing\n\n \t\n", "empty script"),
+        ("procs 0", "line 1: bad number"),
+        ("procs 9", "line 1: bad number"),
+        ("procs", "line 1: wrong count of words"),
+        ("procs 2 2", "line 1: wrong count of words"),
+        ("procs +2", "line 1: bad number"),
+        ("procs 2\r", "line 1: bad number"),
+        ("procs 2\nprocs 2", "line 2: out of place"),
+        ("log 0 1 1", "line 1: out of place"),
+        ("log", "line 1: out of place"),
+        ("log x", "line 1: bad number"),
+        ("procs 2\nlog 0 1 1", "line 2: wrong count of words"),
+        ("procs 1\nckpt 0 4294967296 0", "line 2: bad number"),
+        ("procs 1\nckpt 0 x 0\nprocs", "line 2: bad number"),
+        ("\n# a\nproc 1", "line 3: unknown line"),
+    ] {
+        match answered(rt.alloc(), input) {
+            Ok(_) => assert!(rt; false, "{input}"),
+            Err(fault) => assert!(rt; has_text(rt.alloc(), &fault, text), "{input}"),
+        }
+    }
+}
+
+fn has_text(alloc: Global, fault: &CommandFault, text: &str) -> bool {
+    match fault.to_string(alloc) {
+        Ok(shown) => shown.as_str() == text,
+        Err(_) => false,
+    }
+}
+
+/// A stream that refuses after a number of calls.
+#[derive(Drop)]
+struct Failing {
+    calls: u32,
+}
+
+impl Read for Failing {
+    fn read(&mut self, buf: &mut [u8]) -> io::Result<usize> {
+        if self.calls == 0 || buf.is_empty() {
+            return Err(io::Error::from(io::ErrorKind::Other));
+        }
+        self.calls -= 1;
+        buf[0] = b'#';
+        Ok(1)
+    }
+}
+
+impl Write for Failing {
+    fn write(&mut self, buf: &[u8]) -> io::Result<usize> {
+        if self.calls == 0 || buf.is_empty() {
+            return Err(io::Error::from(io::ErrorKind::Other));
+        }
+        self.calls -= 1;
+        Ok(1)
+    }
+
+    fn flush(&mut self) -> io::Result<()> {
+        Ok(())
+    }
+}
+
+#[test]
+fn streams_that_fail(rt: HostRuntime) {
+    let mut written = Vec::new(rt.alloc());
+    let read = frontier(rt.alloc(), &mut Failing { calls: 3 }, &mut written);
+    assert_eq!(rt; read, Err(CommandFault::CannotRead));
+    assert!(rt; written.is_empty());
+    let input = b"procs 1";
+    let wrote = frontier(rt.alloc(), &mut input.as_slice(), &mut Failing { calls: 3 });
+    assert_eq!(rt; wrote, Err(CommandFault::CannotWrite));
+}
