@@ -1,0 +1,12 @@
+//! One process's store: receipts and checkpoints by interval, in memory and behind a fuse that fails on purpose.
+#![tactic(auto)]
+
+mod error;
+mod mem_stable;
+mod record_tree;
+mod stable;
+
+pub use error::StoreError;
+pub use mem_stable::MemStable;
+
+pub use stable::{INTERVALS, LAST_COUNT, Stable};
