@@ -46,6 +46,11 @@ impl Stable for MemStable {
 
     ghost IsSound = { λ _. Unit {0} };
 
+    ghost use Rattle.std.specs.Prelude.{◌≢◌, Some};
+    ghost use Rattle.om_stable.specs.declared.error.StoreError.TheVariants.{Fault};
+
+    ghost call_gives = { λ _ error _. error ≢ Some Fault };
+
     fn put_receipts(&mut self, alloc: Global, first: u32, recs: &[Vec<u8>]) -> Result<(), StoreError> {
         if self.receipts.has_any(first, recs.len()) {
             return Err(StoreError::Present);

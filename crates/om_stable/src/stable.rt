@@ -1,5 +1,8 @@
 ghost use Rattle.std.specs.Prelude.{◌≡◌, ◌≢◌, ℕ, ◌+◌, ◌≤◌, Bool, length, IsTrue, IfOk, IfSome, IfNone, OnOk, OnErr, IsErrOf, Err};
+ghost use Rattle.std.specs.Prelude.{Option};
+ghost use Rattle.std.specs.Result.{result_err};
 ghost use Rattle.std.specs.FinMap as map;
+ghost use Rattle.om_stable.specs.declared.error.StoreError.{StoreError};
 ghost use Rattle.om_stable.specs.Content.{Content, IsFree, IsTaken, IsEffective, with_all, between, bytes_of, rows_of, kept_by_cut, kept_by_prune};
 ghost use Rattle.om_stable.specs.Count.{Rose};
 
@@ -29,6 +32,9 @@ pub trait Stable: Drop {
     /// What has to be known as a call begins.
     ghost IsSound: { Self → Type 0 };
 
+    /// What else is known of a call that answered this error, or none: of the store before it and after it.
+    ghost call_gives: { Self → Option StoreError → Self → Type 0 };
+
     /// Puts receipts at `first`, `first + 1`, .., all of them or none.
     fn put_receipts(&mut self, alloc: Global, first: u32, recs: &[Vec<u8>]) -> Result<(), StoreError>
         requires { first + length recs.now ≤ INTERVALS }
@@ -41,6 +47,7 @@ pub trait Stable: Drop {
         ensures refused { IsTrue (is_clean self.new) → IsSound self.old → OnErr result (content self.new ≡ content self.old) }
         ensures fault { IsErrOf result StoreError.Fault → Rose (failed self.old) (failed self.new) }
         ensures count { failed self.old ≤ failed self.new }
+        ensures call { call_gives self.old (result_err result) self.new }
         ensures clean { IsTrue (is_clean self.new) → IsTrue (is_clean self.old) }
         ensures sound { IsTrue (is_clean self.new) → IsSound self.old → IsSound self.new };
 
@@ -54,6 +61,7 @@ pub trait Stable: Drop {
         ensures refused { IsTrue (is_clean self.new) → IsSound self.old → OnErr result (content self.new ≡ content self.old) }
         ensures fault { IsErrOf result StoreError.Fault → Rose (failed self.old) (failed self.new) }
         ensures count { failed self.old ≤ failed self.new }
+        ensures call { call_gives self.old (result_err result) self.new }
         ensures clean { IsTrue (is_clean self.new) → IsTrue (is_clean self.old) }
         ensures sound { IsTrue (is_clean self.new) → IsSound self.old → IsSound self.new };
 
@@ -69,6 +77,7 @@ pub trait Stable: Drop {
         ensures never_present { result ≢ Err StoreError.Present }
         ensures fault { IsErrOf result StoreError.Fault → Rose (failed self.old) (failed self.new) }
         ensures count { failed self.old ≤ failed self.new }
+        ensures call { call_gives self.old (result_err result) self.new }
         ensures clean { IsTrue (is_clean self.new) → IsTrue (is_clean self.old) }
         ensures sound { IsTrue (is_clean self.new) → IsSound self.old → IsSound self.new };
 
@@ -80,6 +89,7 @@ pub trait Stable: Drop {
         ensures never_present { result ≢ Err StoreError.Present }
         ensures fault { IsErrOf result StoreError.Fault → Rose (failed self.old) (failed self.new) }
         ensures count { failed self.old ≤ failed self.new }
+        ensures call { call_gives self.old (result_err result) self.new }
         ensures clean { IsTrue (is_clean self.new) → IsTrue (is_clean self.old) }
         ensures sound { IsTrue (is_clean self.new) → IsSound self.old → IsSound self.new };
 
@@ -91,6 +101,7 @@ pub trait Stable: Drop {
         ensures never_present { result ≢ Err StoreError.Present }
         ensures fault { IsErrOf result StoreError.Fault → Rose (failed self.old) (failed self.new) }
         ensures count { failed self.old ≤ failed self.new }
+        ensures call { call_gives self.old (result_err result) self.new }
         ensures clean { IsTrue (is_clean self.new) → IsTrue (is_clean self.old) }
         ensures sound { IsTrue (is_clean self.new) → IsSound self.old → IsSound self.new };
 
@@ -102,6 +113,7 @@ pub trait Stable: Drop {
         ensures never_present { result ≢ Err StoreError.Present }
         ensures fault { IsErrOf result StoreError.Fault → Rose (failed self.old) (failed self.new) }
         ensures count { failed self.old ≤ failed self.new }
+        ensures call { call_gives self.old (result_err result) self.new }
         ensures clean { IsTrue (is_clean self.new) → IsTrue (is_clean self.old) }
         ensures sound { IsTrue (is_clean self.new) → IsSound self.old → IsSound self.new };
 
