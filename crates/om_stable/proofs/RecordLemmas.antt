@@ -80,20 +80,20 @@ run_gone_none m first = record { gone = λ x ge lt. absurd (omega arith); below 
 
 pub run_gone_more : (m n : Records) (first k x : ℕ) → x ≡ first + k → RunGone m n first k → RunGone m (remove n x) first (k + 1)
 run_gone_more m n first k x is run = record {
-    gone = λ q ge lt. ⊎_elim
-        (λ same. ap (λ y. get (remove n x) y) same ∙ get-remove_here n x)
-        (λ ne. get-remove_apart n x q ne ∙ run.gone q ge (omega arith)) (cases_eq q x);
-    below = λ q h. let ne : q ≢ x = omega arith in get-remove_apart n x q ne ∙ run.below q h;
-    above = λ q h. let ne : q ≢ x = omega arith in get-remove_apart n x q ne ∙ run.above q (omega arith);
-  }
+  gone = λ q ge lt. ⊎_elim
+      (λ same. ap (λ y. get (remove n x) y) same ∙ get-remove_here n x)
+      (λ ne. get-remove_apart n x q ne ∙ run.gone q ge (omega arith)) (cases_eq q x);
+  below = λ q h. let ne : q ≢ x = omega arith in get-remove_apart n x q ne ∙ run.below q h;
+  above = λ q h. let ne : q ≢ x = omega arith in get-remove_apart n x q ne ∙ run.above q (omega arith);
+}
 
 -- what was put where nothing was, and then removed, leaves what was before
 pub put_and_gone : (m n : Records) (first : ℕ) (rs : List (List ℕ)) (k count : ℕ) → length rs ≡ k → k ≤ count → IsFree m first count → RunGone (with_all m first rs) n first k → n ≡ m
 put_and_gone m n first rs k count long within free run = same_records n m (λ q. ⊎_elim
     (λ under. run.below q under ∙ get-with_all_below m first rs q under)
     (λ from. ⊎_elim
-        (λ inside. run.gone q from inside ∙ sym (free q from (omega arith)))
-        (λ over. run.above q over ∙ get-with_all_above m first rs q (omega arith)) (cases_lt q (first + k)))
+    (λ inside. run.gone q from inside ∙ sym (free q from (omega arith)))
+    (λ over. run.above q over ∙ get-with_all_above m first rs q (omega arith)) (cases_lt q (first + k)))
     (cases_lt q first))
 
 -- ---- the bytes of records

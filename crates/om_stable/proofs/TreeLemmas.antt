@@ -118,18 +118,18 @@ module _ (m : BTreeMap ℕ (Vec ℕ Global)) (held : Records) (is : records_of m
   pub held_none : (q : ℕ) → tree.get nat_cmp m q ≡ None → get held q ≡ None
   held_none q h = held_at q ∙ ap (option_map (λ v. v.items)) h
 
+  pub is_some-held : (q : ℕ) → is_some (tree.get nat_cmp m q) ≡ is_some (get held q)
+  is_some-held q = sym (ap is_some (held_at q) ∙ elim (tree.get nat_cmp m q) as (λ o. is_some (option_map (λ v. v.items) o) ≡ is_some o) [ None ↦ refl | Some v ↦ refl ])
+
   -- what is held at q stands in the tree
   in_tree : (q : ℕ) → IsSome (get held q) → IsSome (tree.get nat_cmp m q)
-  in_tree q h = elim (tree.get nat_cmp m q) as (λ o. get held q ≡ option_map (λ v. v.items) o → IsSome o) [
-      | None ↦ λ e. sym (ap is_some e) ∙ h
-      | Some v ↦ λ e. refl
-    ] (held_at q)
+  in_tree q h = is_some-held q ∙ h
 
   none_unless : (q : ℕ) → (IsSome (tree.get nat_cmp m q) → ⊥) → get held q ≡ None
   none_unless q never = elim (tree.get nat_cmp m q) as (λ o. (IsSome o → ⊥) → get held q ≡ option_map (λ v. v.items) o → get held q ≡ None) [
-      | None ↦ λ never e. e
-      | Some v ↦ λ never e. absurd (never refl)
-    ] never (held_at q)
+    | None ↦ λ never e. e
+    | Some v ↦ λ never e. absurd (never refl)
+  ] never (held_at q)
 
   pub none_above : (k : ℕ) → IsUpperBound nat_cmp m k → (q : ℕ) → k < q → get held q ≡ None
   none_above k top q h = none_unless q (λ there. let le : q ≤ k = ge_from_not_lt k q (top q there) in absurd (omega arith))

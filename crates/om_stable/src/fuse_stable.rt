@@ -37,7 +37,7 @@ impl Stop {
 
 /// A store that fails on purpose, once: it passes some calls to the store behind it, answers Fault to the
 /// next without a call of that store, and then passes every call. `failures` is not counted as a call.
-#[derive(Drop)]
+#[derive(Debug, Drop)]
 pub struct FuseStable<S> {
     pub inner: S,
     pub stop: Stop,
@@ -72,7 +72,12 @@ impl<S: Stable> Stable for FuseStable<S> {
 
     ghost call_gives = { λ old error new. (new.stop ≡ after_call old.stop) × StopsOrPasses (λ old error new. S.call_gives old error new × (error ≡ Some Fault → Rose (S.failed old) (S.failed new))) (stops_next old.stop) old.inner error new.inner };
 
-    fn put_receipts(&mut self, alloc: Global, first: u32, recs: &[Vec<u8>]) -> Result<(), StoreError> {
+    fn put_receipts(
+        &mut self,
+        alloc: Global,
+        first: u32,
+        recs: &[Vec<u8>],
+    ) -> Result<(), StoreError> {
         self.stop.pass()?;
         self.inner.put_receipts(alloc, first, recs)
     }
@@ -87,7 +92,12 @@ impl<S: Stable> Stable for FuseStable<S> {
         self.inner.effective(alloc, x)
     }
 
-    fn receipts(&mut self, alloc: Global, after: u32, to: u32) -> Result<Vec<(u32, Vec<u8>)>, StoreError> {
+    fn receipts(
+        &mut self,
+        alloc: Global,
+        after: u32,
+        to: u32,
+    ) -> Result<Vec<(u32, Vec<u8>)>, StoreError> {
         self.stop.pass()?;
         self.inner.receipts(alloc, after, to)
     }

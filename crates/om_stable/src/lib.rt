@@ -10,5 +10,7 @@ mod stable;
 pub use error::StoreError;
 pub use fuse_stable::{FuseStable, Stop};
 pub use mem_stable::MemStable;
-
 pub use stable::{INTERVALS, LAST_COUNT, Stable};
+
+#[cfg(test)]
+mod tests;

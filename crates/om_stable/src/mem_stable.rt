@@ -8,7 +8,7 @@ use std::alloc::Global;
 use std::marker::Model;
 
 /// One process's store in memory. It never fails: it refuses a put for what is there, or for want of memory.
-#[derive(Drop)]
+#[derive(Debug, Drop)]
 pub struct MemStable {
     receipts: RecordTree,
     checkpoints: RecordTree,
@@ -51,7 +51,12 @@ impl Stable for MemStable {
 
     ghost call_gives = { λ _ error _. error ≢ Some Fault };
 
-    fn put_receipts(&mut self, alloc: Global, first: u32, recs: &[Vec<u8>]) -> Result<(), StoreError> {
+    fn put_receipts(
+        &mut self,
+        alloc: Global,
+        first: u32,
+        recs: &[Vec<u8>],
+    ) -> Result<(), StoreError> {
         if self.receipts.has_any(first, recs.len()) {
             return Err(StoreError::Present);
         }
@@ -60,7 +65,7 @@ impl Stable for MemStable {
     }
 
     fn put_checkpoint(&mut self, alloc: Global, x: u32, bytes: &[u8]) -> Result<(), StoreError> {
-        if self.checkpoints.has_any(x, 1) {
+        if self.checkpoints.has(x) {
             return Err(StoreError::Present);
         }
         self.checkpoints.insert(alloc, x, bytes)?;
@@ -71,7 +76,12 @@ impl Stable for MemStable {
         Ok(self.checkpoints.effective(alloc, x)?)
     }
 
-    fn receipts(&mut self, alloc: Global, after: u32, to: u32) -> Result<Vec<(u32, Vec<u8>)>, StoreError> {
+    fn receipts(
+        &mut self,
+        alloc: Global,
+        after: u32,
+        to: u32,
+    ) -> Result<Vec<(u32, Vec<u8>)>, StoreError> {
         Ok(self.receipts.between(alloc, after, to)?)
     }
 

@@ -1,4 +1,4 @@
-ghost use Rattle.std.specs.Prelude.{◌≡◌, ℕ, ◌+◌, ◌<◌, ◌≤◌, length, nat_le, Some, None, IsSome, IfOk, IfSome, IfNone, OnOk, OnErr};
+ghost use Rattle.std.specs.Prelude.{◌≡◌, ℕ, ◌+◌, ◌<◌, ◌≤◌, length, nat_le, Some, None, IsSome, is_some, IfOk, IfSome, IfNone, OnOk, OnErr};
 ghost use Rattle.std.specs.Bool.{OnTrue, OnFalse};
 ghost use Rattle.std.specs.FinMap as map;
 ghost use Rattle.om_stable.specs.Content.{Records, IsFree, IsTaken, IsEffective, with_all, between, bytes_of, rows_of};
@@ -10,7 +10,7 @@ use std::marker::Model;
 use std::ops::Bound;
 
 /// Records of one kind, by interval.
-#[derive(Drop)]
+#[derive(Debug, Drop)]
 pub(crate) struct RecordTree {
     tree: BTreeMap<u32, Vec<u8>>,
 }
@@ -51,6 +51,13 @@ impl RecordTree {
         let _ = self.tree.remove(&x);
     }
 
+    /// Whether `x` has a record.
+    pub(crate) fn has(&self, x: u32) -> bool
+        ensures { result ≡ is_some (map.get self.now x) }
+    {
+        self.tree.contains_key(&x)
+    }
+
     /// Whether one of the `count` intervals from `first` on has a record.
     pub(crate) fn has_any(&self, first: u32, count: usize) -> bool
         requires { first + count ≤ INTERVALS }
@@ -65,7 +72,12 @@ impl RecordTree {
     }
 
     /// Puts copies of the bytes at `first`, `first + 1`, .., all of them or none.
-    pub(crate) fn insert_all(&mut self, alloc: Global, first: u32, recs: &[Vec<u8>]) -> Result<(), AllocError>
+    pub(crate) fn insert_all(
+        &mut self,
+        alloc: Global,
+        first: u32,
+        recs: &[Vec<u8>],
+    ) -> Result<(), AllocError>
         requires range { first + length recs.now ≤ INTERVALS }
         requires free { IsFree self.old first (length recs.now) }
         ensures ok { OnOk result (self.new ≡ with_all self.old first (bytes_of recs.now)) }
@@ -95,7 +107,11 @@ impl RecordTree {
     }
 
     /// The greatest record at or below `x`.
-    pub(crate) fn effective(&self, alloc: Global, x: u32) -> Result<Option<(u32, Vec<u8>)>, AllocError>
+    pub(crate) fn effective(
+        &self,
+        alloc: Global,
+        x: u32,
+    ) -> Result<Option<(u32, Vec<u8>)>, AllocError>
         ensures effective { IfOk result (λ found. IfSome found (λ e. IsEffective self.now x e.0)) }
         ensures bytes { IfOk result (λ found. IfSome found (λ e. map.get self.now e.0 ≡ Some e.1.items)) }
         ensures none { IfOk result (λ found. IfNone found (IsFree self.now 0 (x + 1))) }
@@ -107,14 +123,22 @@ impl RecordTree {
     }
 
     /// The records above `after` and at or below `to`, ascending.
-    pub(crate) fn between(&self, alloc: Global, after: u32, to: u32) -> Result<Vec<(u32, Vec<u8>)>, AllocError>
+    pub(crate) fn between(
+        &self,
+        alloc: Global,
+        after: u32,
+        to: u32,
+    ) -> Result<Vec<(u32, Vec<u8>)>, AllocError>
         ensures { IfOk result (λ found. rows_of found.items ≡ between after to self.now) }
     {
         let mut found = Vec::new(alloc);
         if to < after {
             return Ok(found);
         }
-        for (x, bytes) in self.tree.range((Bound::Excluded(after), Bound::Included(to))) {
+        for (x, bytes) in self
+            .tree
+            .range((Bound::Excluded(after), Bound::Included(to)))
+        {
             found.push((*x, Vec::from_slice(alloc, bytes)?))?;
         }
         Ok(found)

@@ -1,5 +1,4 @@
-ghost use Rattle.std.specs.Prelude.{◌≡◌, ◌≢◌, ℕ, ◌+◌, ◌≤◌, Bool, length, IsTrue, IfOk, IfSome, IfNone, OnOk, OnErr, IsErrOf, Err};
-ghost use Rattle.std.specs.Prelude.{Option};
+ghost use Rattle.std.specs.Prelude.{◌≡◌, ◌≢◌, ℕ, ◌+◌, ◌≤◌, Bool, Option, length, IsTrue, IsSome, IfOk, IfSome, IfNone, OnOk, OnErr, IsErrOf};
 ghost use Rattle.std.specs.Result.{result_err};
 ghost use Rattle.std.specs.FinMap as map;
 ghost use Rattle.om_stable.specs.declared.error.StoreError.{StoreError};
@@ -32,11 +31,16 @@ pub trait Stable: Drop {
     /// What has to be known as a call begins.
     ghost IsSound: { Self → Type 0 };
 
-    /// What else is known of a call that answered this error, or none: of the store before it and after it.
+    /// What else a store promises of each call, by the store before, the error answered if any, and the store after.
     ghost call_gives: { Self → Option StoreError → Self → Type 0 };
 
     /// Puts receipts at `first`, `first + 1`, .., all of them or none.
-    fn put_receipts(&mut self, alloc: Global, first: u32, recs: &[Vec<u8>]) -> Result<(), StoreError>
+    fn put_receipts(
+        &mut self,
+        alloc: Global,
+        first: u32,
+        recs: &[Vec<u8>],
+    ) -> Result<(), StoreError>
         requires { first + length recs.now ≤ INTERVALS }
         ensures put { IsTrue (is_clean self.new) → IsSound self.old
             → OnOk result (content self.new ≡ record (content self.old) { receipts = with_all (content self.old).receipts first (bytes_of recs.now) }) }
@@ -55,9 +59,9 @@ pub trait Stable: Drop {
     fn put_checkpoint(&mut self, alloc: Global, x: u32, bytes: &[u8]) -> Result<(), StoreError>
         ensures put { IsTrue (is_clean self.new) → IsSound self.old
             → OnOk result (content self.new ≡ record (content self.old) { checkpoints = map.insert (content self.old).checkpoints x bytes.now }) }
-        ensures free { IsTrue (is_clean self.new) → IsSound self.old → OnOk result (IsFree (content self.old).checkpoints x 1) }
+        ensures free { IsTrue (is_clean self.new) → IsSound self.old → OnOk result (map.get (content self.old).checkpoints x ≡ None) }
         ensures present { IsTrue (is_clean self.new) → IsSound self.old
-            → IsErrOf result StoreError.Present → IsTaken (content self.old).checkpoints x 1 }
+            → IsErrOf result StoreError.Present → IsSome (map.get (content self.old).checkpoints x) }
         ensures refused { IsTrue (is_clean self.new) → IsSound self.old → OnErr result (content self.new ≡ content self.old) }
         ensures fault { IsErrOf result StoreError.Fault → Rose (failed self.old) (failed self.new) }
         ensures count { failed self.old ≤ failed self.new }
@@ -82,7 +86,12 @@ pub trait Stable: Drop {
         ensures sound { IsTrue (is_clean self.new) → IsSound self.old → IsSound self.new };
 
     /// The receipts above `after` and at or below `to`, ascending.
-    fn receipts(&mut self, alloc: Global, after: u32, to: u32) -> Result<Vec<(u32, Vec<u8>)>, StoreError>
+    fn receipts(
+        &mut self,
+        alloc: Global,
+        after: u32,
+        to: u32,
+    ) -> Result<Vec<(u32, Vec<u8>)>, StoreError>
         ensures found { IsTrue (is_clean self.new) → IsSound self.old
             → IfOk result (λ found. rows_of found.items ≡ between after to (content self.old).receipts) }
         ensures same { IsTrue (is_clean self.new) → IsSound self.old → content self.new ≡ content self.old }
