@@ -97,7 +97,7 @@ rows_of-entries_between after to (e ∷ rows) =
     ]
 
 -- nothing lies between the ends of a range that runs backwards
-pub between_backwards : (after to : ℕ) (held : Records) → to < after → [] ≡ between after to held
+pub between_backwards : (after to : ℕ) (held : Records) → to < after → [] ≡ between held after to
 between_backwards after to held h = none_passes (entries held)
   where
     none_passes : (es : List (ℕ × List ℕ)) → [] ≡ filter (λ e. nat_lt after e.0 && nat_le e.0 to) es
@@ -172,7 +172,7 @@ module _ (m : BTreeMap ℕ (Vec ℕ Global)) (held : Records) (is : records_of m
   none_up_to x r range none = λ y ge lt. held_none y (range.5 none y (tt, not_gt_from_le y x (omega arith)))
 
   -- what a range of the tree holds is what lies between
-  pub between_from_range : (after to : ℕ) (r : Rows) → tree.IsOrdered nat_cmp m → r ≡ entries_between nat_cmp (Excluded after) (Included to) m.entries → rows_of r ≡ between after to held
+  pub between_from_range : (after to : ℕ) (r : Rows) → tree.IsOrdered nat_cmp m → r ≡ entries_between nat_cmp (Excluded after) (Included to) m.entries → rows_of r ≡ between held after to
   between_from_range after to r sorted part =
       ap rows_of part ∙ rows_of-entries_between after to m.entries
       ∙ ap (filter (λ e. nat_lt after e.0 && nat_le e.0 to)) (sym (entries-records_of m.entries sorted) ∙ ap entries is)

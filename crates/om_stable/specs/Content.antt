@@ -33,6 +33,14 @@ abbrev pub with_all : Records → ℕ → List (List ℕ) → Records
 with_all held first [] = held
 with_all held first (bytes ∷ more) = with_all (insert held first bytes) (first + 1) more
 
+-- the content with these receipts added at first, first + 1, ..
+abbrev pub with_receipts : Content → ℕ → List (List ℕ) → Content
+with_receipts held first rs = record held { receipts = with_all held.receipts first rs }
+
+-- the content with this checkpoint added at x
+abbrev pub with_checkpoint : Content → ℕ → List ℕ → Content
+with_checkpoint held x bytes = record held { checkpoints = insert held.checkpoints x bytes }
+
 -- none of the n intervals from first on has a record
 abbrev pub IsFree : Records → ℕ → ℕ → Type 0
 IsFree held first n = (x : ℕ) → first ≤ x → x < first + n → get held x ≡ None
@@ -48,13 +56,19 @@ pub record IsEffective (held : Records) (x c : ℕ) : Type 0 where
   pub greatest : (y : ℕ) → y ≤ x → IsSome (get held y) → y ≤ c
 
 -- the records above after and at or below to, in ascending order
-abbrev pub between : ℕ → ℕ → Records → List (ℕ × List ℕ)
-between after to held = filter (λ e. nat_lt after e.0 && nat_le e.0 to) (entries held)
+abbrev pub between : Records → ℕ → ℕ → List (ℕ × List ℕ)
+between held after to = filter (λ e. nat_lt after e.0 && nat_le e.0 to) (entries held)
 
 -- what a cut to r keeps: what stands at or below r
-abbrev pub kept_by_cut : ℕ → Content → Content
-kept_by_cut r held = record { receipts = retain_keys held.receipts (λ x. nat_le x r); checkpoints = retain_keys held.checkpoints (λ x. nat_le x r) }
+abbrev pub kept_by_cut : Content → ℕ → Content
+kept_by_cut held r = record {
+  receipts = retain_keys held.receipts (λ x. nat_le x r);
+  checkpoints = retain_keys held.checkpoints (λ x. nat_le x r);
+}
 
 -- what a prune to c keeps: receipts above c, and checkpoints at or above it
-abbrev pub kept_by_prune : ℕ → Content → Content
-kept_by_prune c held = record { receipts = retain_keys held.receipts (λ x. nat_lt c x); checkpoints = retain_keys held.checkpoints (λ x. nat_le c x) }
+abbrev pub kept_by_prune : Content → ℕ → Content
+kept_by_prune held c = record {
+  receipts = retain_keys held.receipts (λ x. nat_lt c x);
+  checkpoints = retain_keys held.checkpoints (λ x. nat_le c x);
+}

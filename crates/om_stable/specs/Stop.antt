@@ -1,8 +1,5 @@
 -- A fuse: how many calls it passes before the one that it stops.
-use Rattle.std.specs.Prelude.{◌≡◌, ℕ, suc, zero, ◌+◌, min, Bool, true, false, Option, Some}
-use Rattle.std.specs.Bool.{MatchBool}
-use Rattle.om_stable.specs.declared.error.StoreError.{StoreError}
-use Rattle.om_stable.specs.declared.error.StoreError.TheVariants.{Fault}
+use Rattle.std.specs.Prelude.{ℕ, suc, zero, ◌+◌, min, Bool, true, false}
 use Rattle.om_stable.specs.declared.fuse_stable.Stop.{Stop}
 use Rattle.om_stable.specs.declared.fuse_stable.Stop.TheVariants.{After, Past}
 use Rattle.om_stable.specs.declared.stable.TheConstants.{LAST_COUNT}
@@ -23,7 +20,3 @@ after_call Past = Past
 abbrev pub failed_behind : Stop → ℕ → ℕ
 failed_behind (After k) n = min n LAST_COUNT
 failed_behind Past n = min (n + 1) LAST_COUNT
-
--- at the stop a call answers Fault and leaves the inner store alone; any other call is the inner store's
-abbrev pub StopsOrPasses : {S : Type 0} → (S → Option StoreError → S → Type 0) → Bool → S → Option StoreError → S → Type 0
-StopsOrPasses passes stops old error new = MatchBool stops ((error ≡ Some Fault) × (new ≡ old)) (passes old error new)

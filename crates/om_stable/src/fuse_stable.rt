@@ -35,11 +35,13 @@ impl Stop {
     }
 }
 
-/// A store that fails on purpose, once: it passes some calls to the store behind it, answers Fault to the
-/// next without a call of that store, and then passes every call. `failures` is not counted as a call.
+/// A store that fails on purpose, once: it passes some calls to the store behind it, answers Fault
+/// to the next without a call of that store, and then passes every call. `failures` counts as none.
 #[derive(Debug, Drop)]
 pub struct FuseStable<S> {
+    /// The store behind the fuse.
     pub inner: S,
+    /// Where the next call stands.
     pub stop: Stop,
 }
 
@@ -59,7 +61,8 @@ impl<S: Stable> FuseStable<S> {
 impl<S: Stable> Stable for FuseStable<S> {
     ghost use Rattle.std.specs.Prelude.{◌≡◌, Some};
     ghost use Rattle.om_stable.specs.Count.{Rose};
-    ghost use Rattle.om_stable.specs.Stop.{stops_next, after_call, failed_behind, StopsOrPasses};
+    ghost use Rattle.std.specs.Bool.{MatchBool};
+    ghost use Rattle.om_stable.specs.Stop.{stops_next, after_call, failed_behind};
     ghost use Rattle.om_stable.specs.declared.error.StoreError.TheVariants.{Fault};
 
     ghost content = { λ f. S.content f.inner };
@@ -70,7 +73,14 @@ impl<S: Stable> Stable for FuseStable<S> {
 
     ghost IsSound = { λ f. S.IsSound f.inner };
 
-    ghost call_gives = { λ old error new. (new.stop ≡ after_call old.stop) × StopsOrPasses (λ old error new. S.call_gives old error new × (error ≡ Some Fault → Rose (S.failed old) (S.failed new))) (stops_next old.stop) old.inner error new.inner };
+    // At the stop a call answers Fault and leaves the inner store alone. Any other call is the
+    // inner store's, and answers Fault only where that store's own count rose.
+    ghost call_gives = { λ old error new.
+        (new.stop ≡ after_call old.stop)
+        × MatchBool (stops_next old.stop)
+        ((error ≡ Some Fault) × (new.inner ≡ old.inner))
+        (S.call_gives old.inner error new.inner
+        × (error ≡ Some Fault → Rose (S.failed old.inner) (S.failed new.inner))) };
 
     fn put_receipts(
         &mut self,

@@ -1,4 +1,4 @@
-//! One process's store: receipts and checkpoints by interval, in memory and behind a fuse that fails on purpose.
+//! One process's store: receipts and checkpoints by interval, in memory or behind a fuse.
 #![tactic(auto)]
 
 mod error;

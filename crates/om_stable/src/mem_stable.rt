@@ -7,7 +7,7 @@ use crate::stable::Stable;
 use std::alloc::Global;
 use std::marker::Model;
 
-/// One process's store in memory. It never fails: it refuses a put for what is there, or for want of memory.
+/// One process's store in memory. It is always clean and never answers Fault.
 #[derive(Debug, Drop)]
 pub struct MemStable {
     receipts: RecordTree,

@@ -113,7 +113,8 @@ impl RecordTree {
         x: u32,
     ) -> Result<Option<(u32, Vec<u8>)>, AllocError>
         ensures effective { IfOk result (λ found. IfSome found (λ e. IsEffective self.now x e.0)) }
-        ensures bytes { IfOk result (λ found. IfSome found (λ e. map.get self.now e.0 ≡ Some e.1.items)) }
+        ensures bytes { IfOk result (λ found. IfSome found (λ e.
+            map.get self.now e.0 ≡ Some e.1.items)) }
         ensures none { IfOk result (λ found. IfNone found (IsFree self.now 0 (x + 1))) }
     {
         let Some((c, bytes)) = self.tree.range(..=x).next_back() else {
@@ -129,7 +130,7 @@ impl RecordTree {
         after: u32,
         to: u32,
     ) -> Result<Vec<(u32, Vec<u8>)>, AllocError>
-        ensures { IfOk result (λ found. rows_of found.items ≡ between after to self.now) }
+        ensures { IfOk result (λ found. rows_of found.items ≡ between self.now after to) }
     {
         let mut found = Vec::new(alloc);
         if to < after {

@@ -127,13 +127,15 @@ fn play<S: Stable>(rt: &impl Abort, alloc: Global, store: &mut S, rows: &[Row]) 
     let mut memory = false;
     for (i, (call, want)) in rows.iter().enumerate() {
         let mut got = answer(rt, alloc, store, *call);
-        if let Err(StoreError::Memory) = got {
-            memory = true;
-            got = answer(rt, alloc, store, *call);
-        }
-        if let Err(StoreError::Fault) = got {
-            assert_eq!(rt; fault, None);
-            fault = Some(i);
+        for _ in 0..2 {
+            match got {
+                Err(StoreError::Memory) => memory = true,
+                Err(StoreError::Fault) => {
+                    assert_eq!(rt; fault, None);
+                    fault = Some(i);
+                }
+                _ => break,
+            }
             got = answer(rt, alloc, store, *call);
         }
         let got = match &got {

@@ -22,13 +22,20 @@ fn replace_all<S: Stable>(
 ) -> Result<Left, StoreError>
     requires { first + length recs.now ≤ INTERVALS }
     ensures before { IsTrue (S.is_clean store.new) → S.IsSound store.old
-        → IfOk result (λ left. rows_of left.0.items ≡ between 0 x (with_all (S.content store.old).receipts first (bytes_of recs.now))) }
-    ensures kept { IsTrue (S.is_clean store.new) → S.IsSound store.old → IfOk result (λ left. IsSome left.1) }
-    ensures interval { IsTrue (S.is_clean store.new) → S.IsSound store.old → IfOk result (λ left. IfSome left.1 (λ e. e.0 ≡ x)) }
-    ensures bytes { IsTrue (S.is_clean store.new) → S.IsSound store.old → IfOk result (λ left. IfSome left.1 (λ e. e.1.items ≡ bytes.now)) }
-    ensures receipts { IsTrue (S.is_clean store.new) → S.IsSound store.old → OnOk result ((S.content store.new).receipts ≡ map.empty) }
-    ensures checkpoints { IsTrue (S.is_clean store.new) → S.IsSound store.old → OnOk result ((S.content store.new).checkpoints ≡ map.insert map.empty x bytes.now) }
-    ensures fault { IsErrOf result StoreError.Fault → Rose (S.failed store.old) (S.failed store.new) }
+        → IfOk result (λ left. rows_of left.0.items
+        ≡ between (with_all (S.content store.old).receipts first (bytes_of recs.now)) 0 x) }
+    ensures kept { IsTrue (S.is_clean store.new) → S.IsSound store.old
+        → IfOk result (λ left. IsSome left.1) }
+    ensures interval { IsTrue (S.is_clean store.new) → S.IsSound store.old
+        → IfOk result (λ left. IfSome left.1 (λ e. e.0 ≡ x)) }
+    ensures bytes { IsTrue (S.is_clean store.new) → S.IsSound store.old
+        → IfOk result (λ left. IfSome left.1 (λ e. e.1.items ≡ bytes.now)) }
+    ensures receipts { IsTrue (S.is_clean store.new) → S.IsSound store.old
+        → OnOk result ((S.content store.new).receipts ≡ map.empty) }
+    ensures checkpoints { IsTrue (S.is_clean store.new) → S.IsSound store.old
+        → OnOk result ((S.content store.new).checkpoints ≡ map.insert map.empty x bytes.now) }
+    ensures fault { IsErrOf result StoreError.Fault
+        → Rose (S.failed store.old) (S.failed store.new) }
 {
     store.put_receipts(alloc, first, recs)?;
     store.put_checkpoint(alloc, x, bytes)?;
@@ -39,7 +46,7 @@ fn replace_all<S: Stable>(
     Ok((before, kept))
 }
 
-/// Receipts 1 to 3, then a checkpoint at 2: receipts 1 and 2 stood before, and checkpoint 2 is kept.
+/// Receipts 1 to 3, then a checkpoint at 2: receipts 1 and 2 stood before, checkpoint 2 is kept.
 fn check_at<S: Stable>(rt: &impl Abort, alloc: Global, mut store: S) -> Result<(), StoreError> {
     let recs = receipts_from(alloc, 1, 3)?;
     assert_eq!(rt; recs.len(), 3);

@@ -7,7 +7,7 @@ use Rattle.std.proofs.lemmas.Bool.{false≢true, cases_eq, le-leb, lt-leb, cases
 use Rattle.std.proofs.lemmas.Bool.Decides.{nat_tests}
 use Rattle.std.proofs.lemmas.Option.{same_Some}
 use Rattle.std.proofs.Math.Logic.{⊎_elim}
-use Rattle.om_stable.specs.Content.{Content, Records, IsEffective, IsFree, with_all, bytes_of, kept_by_cut, kept_by_prune}
+use Rattle.om_stable.specs.Content.{Content, Records, IsEffective, IsFree, with_checkpoint, kept_by_cut, kept_by_prune}
 use Rattle.om_stable.proofs.RecordLemmas.{same_records, get-insert_here, get-insert_apart, get-retained}
 use Rattle.om_stable.proofs.tests.caller.replace_all.Given.{Over}
 use Rattle.om_stable.proofs.tests.caller.replace_all.Goals as goal
@@ -78,9 +78,9 @@ pruned g c clean sound =
     let sound_two = c.in_ok-put_checkpoint.ensures.sound clean_two sound_one in
     let sound_read = c.in_ok-before.ensures.sound clean_read sound_two in
     let sound_cut = c.in_ok-cut.ensures.sound clean_cut sound_read in
-    let is : g.S.Stable.content c.prune.new.self ≡ kept_by_prune x (kept_by_cut x (record held { checkpoints = insert held.checkpoints x c.args.bytes.now })) =
-    c.in_ok-prune.ensures.pruned clean_pruned sound_cut ∙ ap (kept_by_prune x) (c.in_ok-cut.ensures.cut clean_cut sound_read
-    ∙ ap (kept_by_cut x) (c.in_ok-before.ensures.same clean_read sound_two ∙ c.in_ok-put_checkpoint.ensures.put clean_two sound_one)) in
+    let is : g.S.Stable.content c.prune.new.self ≡ kept_by_prune (kept_by_cut (with_checkpoint held x c.args.bytes.now) x) x =
+    c.in_ok-prune.ensures.pruned clean_pruned sound_cut ∙ ap (λ held. kept_by_prune held x) (c.in_ok-cut.ensures.cut clean_cut sound_read
+    ∙ ap (λ held. kept_by_cut held x) (c.in_ok-before.ensures.same clean_read sound_two ∙ c.in_ok-put_checkpoint.ensures.put clean_two sound_one)) in
     record {
       sound = c.in_ok-prune.ensures.sound clean_pruned sound_cut;
       receipts = ap (λ content. content.receipts) is ∙ none_left held.receipts x;
