@@ -1,14 +1,14 @@
 -- Finite maps from intervals to bytes: what each change leaves at each interval.
-use Rattle.std.proofs.Common.{◌≡◌, ◌≢◌, ℕ, ◌+◌, ◌-◌, ◌<◌, ◌≤◌, Bool, true, false, cond, List, [], ◌∷◌, ◌++◌, length, refl, sym, ap, ◌∙◌, arith, eqb, append_assoc, add_assoc, length-append, length-take-le, Vec, take, get_or}
+use Rattle.std.proofs.Common.{◌≡◌, ◌≢◌, ℕ, ◌+◌, ◌-◌, ◌<◌, ◌≤◌, Bool, true, false, cond, List, [], ◌∷◌, ◌++◌, length, refl, sym, ap, ◌∙◌, arith, length-take-le, Vec, take, get_or}
 use Rattle.std.specs.declared.alloc.Global.{Global}
 use Rattle.std.proofs.lemmas.List.{map_more, length-map}
-use Rattle.std.specs.Prelude.{Option, None, Some, IsSome, is_some}
+use Rattle.std.specs.Prelude.{None, Some, IsSome, is_some}
 use Rattle.std.proofs.lemmas.Bool.{eq-eqb, ne_eqb, cases_eq, cases_lt, both_ways}
 use Rattle.std.proofs.Math.Nat.{add-zero}
 use Rattle.std.proofs.Math.Logic.{⊎_elim}
-use Rattle.std.specs.Ordering.{nat_cmp, eq_by_cmp}
+use Rattle.std.specs.Ordering.{nat_cmp}
 use Rattle.std.specs.Cmp.{nat_cmp_total, unsigned_tied}
-use Rattle.std.specs.FinMap.{get, insert, remove, retain_keys, len, empty, get-insert, get-remove, get-retain_keys, len-remove, empty_of_len, get-empty, same_map, nat_cmp-IsAntisymmetric}
+use Rattle.std.specs.FinMap.{get, insert, remove, retain_keys, len, get-insert, get-remove, get-retain_keys, len-remove, empty_of_len, get-empty, same_map, nat_cmp-IsAntisymmetric}
 use Rattle.om_stable.specs.Content.{Records, with_all, IsFree, bytes_of}
 
 -- maps that answer alike are one

@@ -1,4 +1,4 @@
-ghost use Rattle.std.specs.Prelude.{◌≡◌, ℕ, ◌+◌, ◌≤◌, Bool, true, length, IsTrue, IfOk, IfSome, IfNone, OnOk, OnErr, IsErrOf, Err};
+ghost use Rattle.std.specs.Prelude.{◌≡◌, ◌≢◌, true, Some};
 ghost use Rattle.std.specs.FinMap as map;
 
 use crate::error::StoreError;
@@ -38,6 +38,8 @@ impl MemStable {
 }
 
 impl Stable for MemStable {
+    ghost use Rattle.om_stable.specs.declared.error.StoreError.TheVariants.{Fault};
+
     ghost content = { λ s. s };
 
     ghost failed = { λ _. 0 };
@@ -45,9 +47,6 @@ impl Stable for MemStable {
     ghost is_clean = { λ _. true };
 
     ghost IsSound = { λ _. Unit {0} };
-
-    ghost use Rattle.std.specs.Prelude.{◌≢◌, Some};
-    ghost use Rattle.om_stable.specs.declared.error.StoreError.TheVariants.{Fault};
 
     ghost call_gives = { λ _ error _. error ≢ Some Fault };
 

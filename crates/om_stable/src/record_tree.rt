@@ -136,10 +136,8 @@ impl RecordTree {
         if to < after {
             return Ok(found);
         }
-        for (x, bytes) in self
-            .tree
-            .range((Bound::Excluded(after), Bound::Included(to)))
-        {
+        let ends = (Bound::Excluded(after), Bound::Included(to));
+        for (x, bytes) in self.tree.range(ends) {
             found.push((*x, Vec::from_slice(alloc, bytes)?))?;
         }
         Ok(found)

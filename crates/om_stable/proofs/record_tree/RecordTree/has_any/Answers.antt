@@ -1,4 +1,4 @@
-use Rattle.std.proofs.Common.{◌≡◌, ◌+◌, ◌-◌, arith, ap, ◌∙◌}
+use Rattle.std.proofs.Common.{arith}
 use Rattle.std.specs.Range.{range_inclusive_start, range_inclusive_end}
 use Rattle.om_stable.proofs.TreeLemmas.{taken_if_found, free_if_none}
 use Rattle.om_stable.proofs.record_tree.RecordTree.has_any.Goals as goal

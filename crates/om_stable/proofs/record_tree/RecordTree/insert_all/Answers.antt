@@ -1,6 +1,5 @@
-use Rattle.std.proofs.Common.{◌≡◌, ap, ◌∙◌, arith}
+use Rattle.std.proofs.Common.{ap, ◌∙◌, arith}
 use Rattle.std.specs.FinMap as map
-use Rattle.om_stable.specs.Content.{with_all, bytes_of}
 use Rattle.om_stable.proofs.RecordLemmas.{with_all-next, put_and_gone, length-bytes_of_taken}
 use Rattle.om_stable.proofs.record_tree.RecordTree.insert_all.Goals as goal
 

@@ -1,4 +1,4 @@
-use Rattle.std.proofs.Common.{refl, ap, ◌∙◌}
+use Rattle.std.proofs.Common.{ap}
 use Rattle.std.specs.Prelude.{is_some}
 use Rattle.om_stable.proofs.TreeLemmas.{held_some, none_below, none_of_empty}
 use Rattle.om_stable.proofs.record_tree.RecordTree.least.Goals as goal

@@ -1,6 +1,3 @@
-use Rattle.std.proofs.Common.{◌≡◌, ℕ, ◌+◌, ◌<◌, ◌≤◌}
-use Rattle.std.specs.FinMap as map
-use Rattle.om_stable.specs.Content.{IsFree}
 use Rattle.om_stable.proofs.RecordLemmas.{RunGone}
 use Rattle.om_stable.proofs.record_tree.RecordTree.remove_run.Given as goal
 

@@ -1,13 +1,13 @@
-use Rattle.std.proofs.Common.{◌≡◌, ◌≢◌, ℕ, ◌+◌, ◌<◌, ◌≤◌, Bool, true, false, cond, List, refl, sym, ap, subst, ◌∙◌, arith}
-use Rattle.std.specs.Prelude.{Option, None, Some, IsSome, IsNone, IfSome, IfNone, IsTrue, nat_le, nat_lt, is_some, Vec}
+use Rattle.std.proofs.Common.{◌≡◌, ◌≢◌, ℕ, ◌+◌, ◌≤◌, Bool, cond, List, refl, sym, ap, subst, ◌∙◌, arith}
+use Rattle.std.specs.Prelude.{Option, None, Some, IsSome, IfSome, IfNone, IsTrue, nat_le, nat_lt, is_some, Vec}
 use Rattle.std.specs.declared.alloc.Global.{Global}
 use Rattle.std.specs.Ordering.{nat_cmp}
 use Rattle.std.specs.FinMap.{get, insert, retain_keys, empty, get-empty}
-use Rattle.std.proofs.lemmas.Bool.{false≢true, cases_eq, le-leb, lt-leb, cases_lt}
+use Rattle.std.proofs.lemmas.Bool.{false≢true, cases_eq, le-leb}
 use Rattle.std.proofs.lemmas.Bool.Decides.{nat_tests}
 use Rattle.std.proofs.lemmas.Option.{same_Some}
 use Rattle.std.proofs.Math.Logic.{⊎_elim}
-use Rattle.om_stable.specs.Content.{Content, Records, IsEffective, IsFree, with_checkpoint, kept_by_cut, kept_by_prune}
+use Rattle.om_stable.specs.Content.{Records, IsEffective, IsFree, with_checkpoint, kept_by_cut, kept_by_prune}
 use Rattle.om_stable.proofs.RecordLemmas.{same_records, get-insert_here, get-insert_apart, get-retained}
 use Rattle.om_stable.proofs.tests.caller.replace_all.Given.{Over}
 use Rattle.om_stable.proofs.tests.caller.replace_all.Goals as goal
