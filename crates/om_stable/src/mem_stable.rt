@@ -1,0 +1,102 @@
+ghost use Rattle.std.specs.Prelude.{◌≡◌, ◌≢◌, true, Some};
+ghost use Rattle.std.specs.FinMap as map;
+
+use crate::error::StoreError;
+use crate::record_tree::RecordTree;
+use crate::stable::Stable;
+use std::alloc::Global;
+use std::marker::Model;
+
+/// One process's store in memory. It is always clean and never answers Fault.
+#[derive(Debug, Drop)]
+pub struct MemStable {
+    receipts: RecordTree,
+    checkpoints: RecordTree,
+}
+
+impl Model for MemStable {
+    ghost use Rattle.om_stable.specs.Content.{Content, content_code};
+
+    ghost Value = { Content };
+
+    ghost coded = { content_code };
+
+    ghost view = { λ s. record { receipts = s.receipts; checkpoints = s.checkpoints } };
+}
+
+impl MemStable {
+    /// A store that holds nothing. It takes no memory until something is put.
+    pub fn new(alloc: Global) -> Self
+        ensures receipts { result.receipts ≡ map.empty }
+        ensures checkpoints { result.checkpoints ≡ map.empty }
+    {
+        MemStable {
+            receipts: RecordTree::new(alloc),
+            checkpoints: RecordTree::new(alloc),
+        }
+    }
+}
+
+impl Stable for MemStable {
+    ghost use Rattle.om_stable.specs.declared.error.StoreError.TheVariants.{Fault};
+
+    ghost content = { λ s. s };
+
+    ghost failed = { λ _. 0 };
+
+    ghost is_clean = { λ _. true };
+
+    ghost IsSound = { λ _. Unit {0} };
+
+    ghost call_gives = { λ _ error _. error ≢ Some Fault };
+
+    fn put_receipts(
+        &mut self,
+        alloc: Global,
+        first: u32,
+        recs: &[Vec<u8>],
+    ) -> Result<(), StoreError> {
+        if self.receipts.has_any(first, recs.len()) {
+            return Err(StoreError::Present);
+        }
+        self.receipts.insert_all(alloc, first, recs)?;
+        Ok(())
+    }
+
+    fn put_checkpoint(&mut self, alloc: Global, x: u32, bytes: &[u8]) -> Result<(), StoreError> {
+        if self.checkpoints.has(x) {
+            return Err(StoreError::Present);
+        }
+        self.checkpoints.insert(alloc, x, bytes)?;
+        Ok(())
+    }
+
+    fn effective(&mut self, alloc: Global, x: u32) -> Result<Option<(u32, Vec<u8>)>, StoreError> {
+        Ok(self.checkpoints.effective(alloc, x)?)
+    }
+
+    fn receipts(
+        &mut self,
+        alloc: Global,
+        after: u32,
+        to: u32,
+    ) -> Result<Vec<(u32, Vec<u8>)>, StoreError> {
+        Ok(self.receipts.between(alloc, after, to)?)
+    }
+
+    fn cut(&mut self, r: u32) -> Result<(), StoreError> {
+        self.receipts.keep_up_to(r);
+        self.checkpoints.keep_up_to(r);
+        Ok(())
+    }
+
+    fn prune(&mut self, c: u32) -> Result<(), StoreError> {
+        self.receipts.keep_from(u64::from(c) + 1);
+        self.checkpoints.keep_from(u64::from(c));
+        Ok(())
+    }
+
+    fn failures(&self) -> u64 {
+        0
+    }
+}

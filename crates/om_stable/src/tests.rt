@@ -1,0 +1,179 @@
+use crate::{FuseStable, INTERVALS, MemStable, Stable, Stop, StoreError};
+use std::alloc::{AllocError, Global};
+use std::process::Abort;
+use std::test::Fail;
+
+mod caller;
+
+/// The last interval.
+const LAST: u32 = u32::MAX;
+
+/// A call of a store. A record put at `x` is `receipt_at(x)` or `checkpoint_at(x)`.
+#[derive(Clone, Copy, Debug)]
+enum Call {
+    /// Puts this many receipts from this interval on.
+    PutReceipts(u32, u32),
+    PutCheckpoint(u32),
+    Effective(u32),
+    Receipts(u32, u32),
+    Cut(u32),
+    Prune(u32),
+}
+
+/// A call, and the intervals of the records that it answers or why it is refused.
+type Row = (Call, Result<&'static [u32], StoreError>);
+
+const CUT_AND_PUT_AGAIN: [Row; 18] = [
+    (Call::PutReceipts(1, 3), Ok(&[])),
+    (Call::PutCheckpoint(0), Ok(&[])),
+    (Call::PutCheckpoint(2), Ok(&[])),
+    (Call::Effective(1), Ok(&[0])),
+    (Call::Effective(2), Ok(&[2])),
+    (Call::Effective(9), Ok(&[2])),
+    (Call::Receipts(0, 2), Ok(&[1, 2])),
+    (Call::PutReceipts(3, 2), Err(StoreError::Present)),
+    (Call::PutCheckpoint(2), Err(StoreError::Present)),
+    (Call::PutReceipts(9, 0), Ok(&[])),
+    (Call::Receipts(0, LAST), Ok(&[1, 2, 3])),
+    (Call::Effective(LAST), Ok(&[2])),
+    (Call::Cut(1), Ok(&[])),
+    (Call::Receipts(0, LAST), Ok(&[1])),
+    (Call::Effective(LAST), Ok(&[0])),
+    (Call::PutReceipts(2, 2), Ok(&[])),
+    (Call::Receipts(0, LAST), Ok(&[1, 2, 3])),
+    (Call::Receipts(2, 1), Ok(&[])),
+];
+
+const PRUNE_AND_PUT_LAST: [Row; 12] = [
+    (Call::PutReceipts(1, 3), Ok(&[])),
+    (Call::PutCheckpoint(0), Ok(&[])),
+    (Call::PutCheckpoint(2), Ok(&[])),
+    (Call::Prune(2), Ok(&[])),
+    (Call::Receipts(0, LAST), Ok(&[3])),
+    (Call::Effective(LAST), Ok(&[2])),
+    (Call::Effective(1), Ok(&[])),
+    (Call::PutReceipts(LAST, 1), Ok(&[])),
+    (Call::PutCheckpoint(LAST), Ok(&[])),
+    (Call::Receipts(LAST - 1, LAST), Ok(&[LAST])),
+    (Call::Effective(LAST), Ok(&[LAST])),
+    (Call::Effective(LAST - 1), Ok(&[2])),
+];
+
+fn receipt_at(x: u32) -> [u8; 5] {
+    let [a, b, c, d] = x.to_le_bytes();
+    [b'R', a, b, c, d]
+}
+
+fn checkpoint_at(x: u32) -> [u8; 5] {
+    let [a, b, c, d] = x.to_le_bytes();
+    [b'C', a, b, c, d]
+}
+
+/// The receipts at `count` intervals from `first` on, as far as there are intervals.
+fn receipts_from(alloc: Global, first: u32, count: u32) -> Result<Vec<Vec<u8>>, AllocError> {
+    let mut recs = Vec::new(alloc);
+    for k in 0..count {
+        if let Some(x) = first.checked_add(k) {
+            recs.push(receipt_at(x).to_vec(alloc)?)?;
+        }
+    }
+    Ok(recs)
+}
+
+/// The intervals that a call answers. Their bytes have to be those that were put.
+fn answer<S: Stable>(
+    rt: &impl Abort,
+    alloc: Global,
+    store: &mut S,
+    call: Call,
+) -> Result<Vec<u32>, StoreError> {
+    let mut found = Vec::new(alloc);
+    match call {
+        Call::PutReceipts(first, count) => {
+            let recs = receipts_from(alloc, first, count)?;
+            assert!(rt; recs.len() as u64 <= INTERVALS - u64::from(first));
+            store.put_receipts(alloc, first, &recs)?;
+        }
+        Call::PutCheckpoint(x) => store.put_checkpoint(alloc, x, &checkpoint_at(x))?,
+        Call::Effective(x) => {
+            if let Some((c, bytes)) = store.effective(alloc, x)? {
+                assert_eq!(rt; bytes.as_slice(), checkpoint_at(c).as_slice());
+                found.push(c).map_err(AllocError::from)?;
+            }
+        }
+        Call::Receipts(after, to) => {
+            for (x, bytes) in store.receipts(alloc, after, to)? {
+                assert_eq!(rt; bytes.as_slice(), receipt_at(x).as_slice());
+                found.push(x).map_err(AllocError::from)?;
+            }
+        }
+        Call::Cut(r) => store.cut(r)?,
+        Call::Prune(c) => store.prune(c)?,
+    }
+    Ok(found)
+}
+
+/// At which row a Fault came, and whether a call was refused for want of memory.
+#[derive(Drop)]
+struct Refused {
+    fault: Option<usize>,
+    memory: bool,
+}
+
+/// Plays the rows. A call that is refused for a Fault, or for want of memory where a run refuses an
+/// allocation, is played once more: it has left all as it was.
+fn play<S: Stable>(rt: &impl Abort, alloc: Global, store: &mut S, rows: &[Row]) -> Refused {
+    let mut fault = None;
+    let mut memory = false;
+    for (i, (call, want)) in rows.iter().enumerate() {
+        let mut got = answer(rt, alloc, store, *call);
+        for _ in 0..2 {
+            match got {
+                Err(StoreError::Memory) => memory = true,
+                Err(StoreError::Fault) => {
+                    assert_eq!(rt; fault, None);
+                    fault = Some(i);
+                }
+                _ => break,
+            }
+            got = answer(rt, alloc, store, *call);
+        }
+        let got = match &got {
+            Ok(found) => Ok(found.as_slice()),
+            Err(error) => Err(*error),
+        };
+        assert_eq!(rt; got, *want, "row {i}");
+    }
+    Refused { fault, memory }
+}
+
+#[test]
+fn rows_in_memory(rt: HostRuntime) {
+    for rows in [CUT_AND_PUT_AGAIN.as_slice(), PRUNE_AND_PUT_LAST.as_slice()] {
+        let mut store = MemStable::new(rt.alloc());
+        let refused = play(&rt, rt.alloc(), &mut store, rows);
+        assert_eq!(rt; refused.fault, None);
+        assert_eq!(rt; store.failures(), 0);
+    }
+}
+
+#[test]
+fn rows_behind_a_fuse(rt: HostRuntime) {
+    for rows in [CUT_AND_PUT_AGAIN.as_slice(), PRUNE_AND_PUT_LAST.as_slice()] {
+        for calls in 0..=rows.len() {
+            let mut store = FuseStable::new(MemStable::new(rt.alloc()), calls as u64);
+            let refused = play(&rt, rt.alloc(), &mut store, rows);
+            let reached = refused.fault.is_some();
+            assert_eq!(rt; store.failures(), u64::from(reached));
+            assert_eq!(rt; store.stop == Stop::Past, reached);
+            if !refused.memory {
+                let stopped = if calls < rows.len() {
+                    Some(calls)
+                } else {
+                    None
+                };
+                assert_eq!(rt; refused.fault, stopped);
+            }
+        }
+    }
+}

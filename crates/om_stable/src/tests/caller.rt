@@ -1,0 +1,68 @@
+ghost use Rattle.std.specs.Prelude.{◌≡◌, ℕ, ◌+◌, ◌≤◌, length, IsTrue, IfOk, IfSome, OnOk, IsErrOf, IsSome};
+ghost use Rattle.std.specs.FinMap as map;
+ghost use Rattle.om_stable.specs.Content.{Content, between, bytes_of, rows_of, with_all};
+ghost use Rattle.om_stable.specs.Count.{Rose};
+
+use super::{checkpoint_at, receipts_from};
+use crate::{FuseStable, INTERVALS, MemStable, Stable, StoreError};
+use std::alloc::Global;
+use std::process::Abort;
+
+/// The receipts before, and the checkpoint that is kept.
+type Left = (Vec<(u32, Vec<u8>)>, Option<(u32, Vec<u8>)>);
+
+/// Puts receipts, and at `x` a checkpoint that takes the place of all that is stored.
+fn replace_all<S: Stable>(
+    store: &mut S,
+    alloc: Global,
+    first: u32,
+    recs: &[Vec<u8>],
+    x: u32,
+    bytes: &[u8],
+) -> Result<Left, StoreError>
+    requires { first + length recs.now ≤ INTERVALS }
+    ensures before { IsTrue (S.is_clean store.new) → S.IsSound store.old
+        → IfOk result (λ left. rows_of left.0.items
+        ≡ between (with_all (S.content store.old).receipts first (bytes_of recs.now)) 0 x) }
+    ensures kept { IsTrue (S.is_clean store.new) → S.IsSound store.old
+        → IfOk result (λ left. IsSome left.1) }
+    ensures interval { IsTrue (S.is_clean store.new) → S.IsSound store.old
+        → IfOk result (λ left. IfSome left.1 (λ e. e.0 ≡ x)) }
+    ensures bytes { IsTrue (S.is_clean store.new) → S.IsSound store.old
+        → IfOk result (λ left. IfSome left.1 (λ e. e.1.items ≡ bytes.now)) }
+    ensures receipts { IsTrue (S.is_clean store.new) → S.IsSound store.old
+        → OnOk result ((S.content store.new).receipts ≡ map.empty) }
+    ensures checkpoints { IsTrue (S.is_clean store.new) → S.IsSound store.old
+        → OnOk result ((S.content store.new).checkpoints ≡ map.insert map.empty x bytes.now) }
+    ensures fault { IsErrOf result StoreError.Fault
+        → Rose (S.failed store.old) (S.failed store.new) }
+{
+    store.put_receipts(alloc, first, recs)?;
+    store.put_checkpoint(alloc, x, bytes)?;
+    let before = store.receipts(alloc, 0, x)?;
+    store.cut(x)?;
+    store.prune(x)?;
+    let kept = store.effective(alloc, u32::MAX)?;
+    Ok((before, kept))
+}
+
+/// Receipts 1 to 3, then a checkpoint at 2: receipts 1 and 2 stood before, checkpoint 2 is kept.
+fn check_at<S: Stable>(rt: &impl Abort, alloc: Global, mut store: S) -> Result<(), StoreError> {
+    let recs = receipts_from(alloc, 1, 3)?;
+    assert_eq!(rt; recs.len(), 3);
+    let (before, kept) = replace_all(&mut store, alloc, 1, &recs, 2, &checkpoint_at(2))?;
+    assert_eq!(rt; before.len(), 2);
+    let (x, bytes) = kept.expect(rt, "a checkpoint");
+    assert_eq!(rt; (x, bytes.as_slice()), (2, checkpoint_at(2).as_slice()));
+    Ok(())
+}
+
+#[test]
+fn replaces_all_at_both_stores(rt: HostRuntime) -> Result<(), StoreError> {
+    check_at(&rt, rt.alloc(), MemStable::new(rt.alloc()))?;
+    check_at(
+        &rt,
+        rt.alloc(),
+        FuseStable::new(MemStable::new(rt.alloc()), u64::MAX),
+    )
+}
