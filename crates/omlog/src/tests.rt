@@ -1,5 +1,6 @@
 use crate::fault::CommandFault;
 use crate::frontier::frontier;
+use om_text::MAX_BYTES;
 use std::alloc::Global;
 use std::io;
 use std::io::{Read, Write};
@@ -117,4 +118,20 @@ fn streams_that_fail(rt: HostRuntime) {
     let input = b"procs 1";
     let wrote = frontier(rt.alloc(), &mut input.as_slice(), &mut Failing { calls: 3 });
     assert_eq!(rt; wrote, Err(CommandFault::CannotWrite));
+}
+
+#[test]
+fn inputs_at_the_limit(rt: HostRuntime) -> Result<(), Fail> {
+    let input = vec![in rt.alloc(); b'#'; MAX_BYTES + 1]?;
+    for (bytes, fault) in [
+        (input.as_slice(), CommandFault::TooLong),
+        (&input.as_slice()[1..], CommandFault::EmptyScript),
+    ] {
+        let mut reader = bytes;
+        let mut written = Vec::new(rt.alloc());
+        let answer = frontier(rt.alloc(), &mut reader, &mut written);
+        assert_eq!(rt; answer, Err(fault));
+        assert!(rt; written.is_empty());
+    }
+    Ok(())
 }
