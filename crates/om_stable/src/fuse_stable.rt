@@ -112,14 +112,14 @@ impl<S: Stable> Stable for FuseStable<S> {
         self.inner.receipts(alloc, after, to)
     }
 
-    fn cut(&mut self, r: u32) -> Result<(), StoreError> {
+    fn cut(&mut self, alloc: Global, r: u32) -> Result<(), StoreError> {
         self.stop.pass()?;
-        self.inner.cut(r)
+        self.inner.cut(alloc, r)
     }
 
-    fn prune(&mut self, c: u32) -> Result<(), StoreError> {
+    fn prune(&mut self, alloc: Global, c: u32) -> Result<(), StoreError> {
         self.stop.pass()?;
-        self.inner.prune(c)
+        self.inner.prune(alloc, c)
     }
 
     fn failures(&self) -> u64 {

@@ -84,13 +84,13 @@ impl Stable for MemStable {
         Ok(self.receipts.between(alloc, after, to)?)
     }
 
-    fn cut(&mut self, r: u32) -> Result<(), StoreError> {
+    fn cut(&mut self, _alloc: Global, r: u32) -> Result<(), StoreError> {
         self.receipts.keep_up_to(r);
         self.checkpoints.keep_up_to(r);
         Ok(())
     }
 
-    fn prune(&mut self, c: u32) -> Result<(), StoreError> {
+    fn prune(&mut self, _alloc: Global, c: u32) -> Result<(), StoreError> {
         self.receipts.keep_from(u64::from(c) + 1);
         self.checkpoints.keep_from(u64::from(c));
         Ok(())

@@ -116,7 +116,7 @@ pub trait Stable: Drop {
         ensures sound { IsTrue (is_clean self.new) → IsSound self.old → IsSound self.new };
 
     /// Removes what stands above `r`.
-    fn cut(&mut self, r: u32) -> Result<(), StoreError>
+    fn cut(&mut self, alloc: Global, r: u32) -> Result<(), StoreError>
         ensures cut { IsTrue (is_clean self.new) → IsSound self.old
             → OnOk result (content self.new ≡ kept_by_cut (content self.old) r) }
         ensures refused { IsTrue (is_clean self.new) → IsSound self.old
@@ -129,7 +129,7 @@ pub trait Stable: Drop {
         ensures sound { IsTrue (is_clean self.new) → IsSound self.old → IsSound self.new };
 
     /// Removes the checkpoints below `c`, and the receipts at or below it.
-    fn prune(&mut self, c: u32) -> Result<(), StoreError>
+    fn prune(&mut self, alloc: Global, c: u32) -> Result<(), StoreError>
         ensures pruned { IsTrue (is_clean self.new) → IsSound self.old
             → OnOk result (content self.new ≡ kept_by_prune (content self.old) c) }
         ensures refused { IsTrue (is_clean self.new) → IsSound self.old

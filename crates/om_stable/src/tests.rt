@@ -107,8 +107,8 @@ fn answer<S: Stable>(
                 found.push(x).map_err(AllocError::from)?;
             }
         }
-        Call::Cut(r) => store.cut(r)?,
-        Call::Prune(c) => store.prune(c)?,
+        Call::Cut(r) => store.cut(alloc, r)?,
+        Call::Prune(c) => store.prune(alloc, c)?,
     }
     Ok(found)
 }

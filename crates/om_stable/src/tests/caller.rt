@@ -40,8 +40,8 @@ fn replace_all<S: Stable>(
     store.put_receipts(alloc, first, recs)?;
     store.put_checkpoint(alloc, x, bytes)?;
     let before = store.receipts(alloc, 0, x)?;
-    store.cut(x)?;
-    store.prune(x)?;
+    store.cut(alloc, x)?;
+    store.prune(alloc, x)?;
     let kept = store.effective(alloc, u32::MAX)?;
     Ok((before, kept))
 }

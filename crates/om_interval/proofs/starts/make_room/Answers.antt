@@ -1,4 +1,4 @@
-use Rattle.std.proofs.Common.{◌≡◌, ◌∙◌, ◌<◌, ℕ, Vec, Global, vec_len, vec_capacity, length, arith}
+use Rattle.std.proofs.Common.{◌∙◌, ◌<◌, ℕ, Vec, Global, vec_len, vec_capacity, length, arith}
 use Rattle.std.proofs.lemmas.List.Elements.{AllWithin-more_set}
 use Rattle.om_interval.proofs.StartsLemmas.{same_items}
 use Rattle.om_interval.proofs.starts.make_room.Goals as goal

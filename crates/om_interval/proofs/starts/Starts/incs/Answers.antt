@@ -1,4 +1,4 @@
-use Rattle.std.proofs.Common.{◌≡◌, arith, get_or, subst}
+use Rattle.std.proofs.Common.{◌≡◌, arith, get_or}
 use Rattle.om_interval.specs.Starts.{AreStarts}
 use Rattle.om_interval.proofs.StartsLemmas.{starts_at}
 use Rattle.om_interval.proofs.starts.Starts.incs.Goals as goal
