@@ -1,2 +1,3 @@
+pub mod DecodeLemmas
 pub mod ReportLemmas
 pub mod ScriptLemmas

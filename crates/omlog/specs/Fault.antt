@@ -5,7 +5,7 @@ use Rattle.om_text.specs.declared.faults.ScriptFault.{ScriptFault}
 use Rattle.om_text.specs.declared.text.ReadFault.{ReadFault}
 use Rattle.om_text.specs.declared.text.ReadFault.TheVariants as reading
 use Rattle.omlog.specs.declared.fault.CommandFault.{CommandFault}
-use Rattle.omlog.specs.declared.fault.CommandFault.TheVariants.{TooLong, CannotRead, NoMemory, Script}
+use Rattle.omlog.specs.declared.fault.CommandFault.TheVariants.{TooLong, CannotRead, CannotWrite, NoMemory, EmptyScript, Script}
 
 -- the input could not be had
 abbrev pub fault_of_reading : ReadFault → CommandFault
@@ -17,3 +17,12 @@ fault_of_reading reading.Memory = NoMemory
 abbrev pub fault_of_script : ScriptError ScriptFault → CommandFault
 fault_of_script (errors.Fault fault) = Script fault
 fault_of_script errors.Memory = NoMemory
+
+-- no fault but a writer's leaves anything written
+abbrev pub IsSilent : CommandFault → Type 0 → Type 0
+IsSilent CannotWrite kept = Unit {0}
+IsSilent TooLong kept = kept
+IsSilent CannotRead kept = kept
+IsSilent NoMemory kept = kept
+IsSilent EmptyScript kept = kept
+IsSilent (Script fault) kept = kept

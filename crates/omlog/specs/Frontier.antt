@@ -29,12 +29,3 @@ IsFaultOf bytes faults.CannotWrite = Unit {0}
 IsFaultOf bytes faults.NoMemory = Unit {0}
 IsFaultOf bytes faults.EmptyScript = (length bytes ≤ MAX_BYTES) × LacksProcesses bytes
 IsFaultOf bytes (faults.Script fault) = (length bytes ≤ MAX_BYTES) × (script_of bytes ≡ Err fault)
-
--- no fault but a writer's leaves anything written
-abbrev pub IsSilent : CommandFault → Type 0 → Type 0
-IsSilent faults.CannotWrite kept = Unit {0}
-IsSilent faults.TooLong kept = kept
-IsSilent faults.CannotRead kept = kept
-IsSilent faults.NoMemory kept = kept
-IsSilent faults.EmptyScript kept = kept
-IsSilent (faults.Script fault) kept = kept

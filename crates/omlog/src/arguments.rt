@@ -1,5 +1,6 @@
 //! The command line: which subcommand is meant, and with which status it ends.
 
+use crate::decode::decode;
 use crate::fault::CommandFault;
 use crate::frontier::frontier;
 use clap::error::ErrorKind;
@@ -8,6 +9,18 @@ use std::alloc::Global;
 use std::process::ExitCode;
 use std::rt::Runtime;
 use std::{env, io};
+
+const DECODE: &str = "decode";
+
+const DECODE_HELP: &str = "\
+Reads words of RV32I from standard input, one on each line, and writes a line
+for each: the text of its instruction, or none.
+
+  00500093     a word: eight hexadecimal digits, in either case
+
+Empty lines, and lines that begin with '#', are passed over.
+
+A faulty line refuses the whole: 'line N: ..' on standard error, status 1.";
 
 const FRONTIER: &str = "frontier";
 
@@ -28,6 +41,7 @@ A faulty script is refused whole: 'line N: ..' on standard error, status 1.";
 
 /// What the words of the command line ask for.
 enum Request {
+    Decode,
     Frontier,
 }
 
@@ -39,6 +53,10 @@ pub fn run<R: Runtime + AllocGlobal>(rt: &R) -> ExitCode {
         Err(error) => return refuse_words(rt, &error),
     };
     match chosen(rt.alloc(), &words) {
+        Ok(Request::Decode) => end(
+            rt,
+            decode(rt.alloc(), &mut rt.reader(), &mut io::writer(rt)),
+        ),
         Ok(Request::Frontier) => end(
             rt,
             frontier(rt.alloc(), &mut rt.reader(), &mut io::writer(rt)),
@@ -55,6 +73,7 @@ fn chosen(alloc: Global, words: &[String]) -> Result<Request, Error> {
     let mut command = command(alloc)?;
     let matches = command.try_get_matches_from_mut(words)?;
     match matches.subcommand_name() {
+        Some(DECODE) => Ok(Request::Decode),
         Some(_) => Ok(Request::Frontier),
         None => Err(command.error(ErrorKind::MissingSubcommand, "a subcommand is missing")?),
     }
@@ -67,8 +86,15 @@ fn command<'a>(alloc: Global) -> Result<Command<'a>, Error> {
             "Recovery states of message-passing programs, from the records that their processes keep",
         )
         .subcommand_required(true)
+        .subcommand(decode_command(alloc))?
         .subcommand(frontier_command(alloc))?;
     Ok(command)
+}
+
+fn decode_command<'a>(alloc: Global) -> Command<'a> {
+    Command::new(alloc, DECODE)
+        .about("The texts of the instructions that words of RV32I stand for")
+        .after_help(DECODE_HELP)
 }
 
 fn frontier_command<'a>(alloc: Global) -> Command<'a> {

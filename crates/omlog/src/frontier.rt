@@ -1,7 +1,8 @@
 ghost use Rattle.std.specs.Prelude.{◌≡◌, ◌≤◌, ℕ, List, length, IfSome, IfOk, IfErr, OnOk, string_bytes};
 ghost use Rattle.std.specs.Io.KnownBytes.{Appends, Keeps};
 ghost use Rattle.om_text.specs.declared.text.TheConstants.{MAX_BYTES};
-ghost use Rattle.omlog.specs.Frontier.{IsFrontier, IsFaultOf, IsSilent};
+ghost use Rattle.omlog.specs.Frontier.{IsFrontier, IsFaultOf};
+ghost use Rattle.omlog.specs.Fault.{IsSilent};
 
 use crate::fault::CommandFault;
 use crate::record_script::RecordScript;

@@ -2,10 +2,12 @@
 #![tactic(auto)]
 
 mod arguments;
+mod decode;
 mod fault;
 mod frontier;
 mod record_script;
 mod report;
+mod word_script;
 
 use std::process::ExitCode;
 

@@ -1,3 +1,4 @@
+use crate::decode::decode;
 use crate::fault::CommandFault;
 use crate::frontier::frontier;
 use om_text::MAX_BYTES;
@@ -76,6 +77,47 @@ fn has_text(alloc: Global, fault: &CommandFault, text: &str) -> bool {
         Ok(shown) => shown.as_str() == text,
         Err(_) => false,
     }
+}
+
+/// What `decode` writes of an input, or the text of its fault.
+fn decoded(alloc: Global, input: &str) -> Result<Vec<u8>, Fail> {
+    let mut written = Vec::new(alloc);
+    match decode(alloc, &mut input.as_bytes(), &mut written) {
+        Ok(()) => Ok(written),
+        Err(fault) => Ok(fault.to_string(alloc)?.into_bytes()),
+    }
+}
+
+// The texts are GNU objdump's, laid out as the command does; that of the fence follows the manual.
+#[test]
+fn words_and_their_texts(rt: HostRuntime) -> Result<(), Fail> {
+    for (input, text) in [
+        ("", ""),
+        ("# nothing\n\n \t\n", ""),
+        (
+            "00500093\nFE000EE3\n0FF0000F\n123452B7\n41F0D093\n",
+            "addi x1, x0, 5\nbeq x0, x0, -4\nfence x0, x0, 0xff\nlui x5, 0x12345\nsrai x1, x1, 31\n",
+        ),
+        (
+            "40004033\n00001073\n00000000\n00000073\n00100073",
+            "none\nnone\nnone\necall\nebreak\n",
+        ),
+        (
+            "# in either case\r\n\r\n fe000ee3 \t\r\n",
+            "beq x0, x0, -4\n",
+        ),
+        ("0050009", "line 1: bad word"),
+        ("000500093", "line 1: bad word"),
+        ("0x500093", "line 1: bad word"),
+        ("00500093\n\n0050009g", "line 3: bad word"),
+        ("00500093 00500093", "line 1: wrong count of words"),
+        ("x y", "line 1: wrong count of words"),
+        ("00500093\nx\nx y", "line 2: bad word"),
+    ] {
+        let written = decoded(rt.alloc(), input)?;
+        assert_eq!(rt; written.as_slice(), text.as_bytes(), "{input}");
+    }
+    Ok(())
 }
 
 /// A stream that refuses after a number of calls.
