@@ -1,7 +1,5 @@
-use Rattle.std.proofs.Common.{◌≡◌, ℕ, ◌+◌, ◌<◌, List, [], ◌∷◌, ◌++◌, Option, None, Some, refl, sym, ◌∙◌, ap, append_assoc, drop-cons, add-one, length, get_or, map, drop}
-use Rattle.std.specs.Option.{option_map}
-use Rattle.om_text.specs.Numbers.{number_of}
-use Rattle.omlog.specs.RecordScript.{numbers_in, number_and}
+use Rattle.std.proofs.Common.{◌≡◌, ℕ, List, [], ◌∷◌, ◌++◌, Option, None, Some, refl, sym, ap, append_assoc}
+use Rattle.omlog.specs.RecordScript.{number_and}
 
 -- these numbers, and then those that are read
 abbrev pub and_then : List ℕ → Option (List ℕ) → Option (List ℕ)

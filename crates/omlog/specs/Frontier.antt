@@ -1,5 +1,5 @@
 -- What the command `frontier` answers to the bytes of its input.
-use Rattle.std.specs.Prelude.{◌≡◌, ℕ, ◌<◌, ◌≤◌, List, length, Option, None, Some, Ok, Err}
+use Rattle.std.specs.Prelude.{◌≡◌, ℕ, ◌<◌, ◌≤◌, List, length, None, Some, Ok, Err}
 use Rattle.om_text.specs.declared.text.TheConstants.{MAX_BYTES}
 use Rattle.omlog.specs.RecordScript.{Script, script_of}
 use Rattle.omlog.specs.Report.{IsReport}

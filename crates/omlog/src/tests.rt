@@ -160,6 +160,12 @@ fn streams_that_fail(rt: HostRuntime) {
     let input = b"procs 1";
     let wrote = frontier(rt.alloc(), &mut input.as_slice(), &mut Failing { calls: 3 });
     assert_eq!(rt; wrote, Err(CommandFault::CannotWrite));
+    let read = decode(rt.alloc(), &mut Failing { calls: 3 }, &mut written);
+    assert_eq!(rt; read, Err(CommandFault::CannotRead));
+    assert!(rt; written.is_empty());
+    let input = b"00000073";
+    let wrote = decode(rt.alloc(), &mut input.as_slice(), &mut Failing { calls: 3 });
+    assert_eq!(rt; wrote, Err(CommandFault::CannotWrite));
 }
 
 #[test]

@@ -1,4 +1,4 @@
-use Rattle.std.proofs.Common.{◌≡◌, List, ℕ, [], ◌++◌, drop, refl, sym, subst, append-nil}
+use Rattle.std.proofs.Common.{◌≡◌, List, ℕ, [], drop, refl, sym, subst, append-nil}
 use Rattle.std.proofs.lemmas.List.{drop_all}
 use Rattle.omlog.specs.Decode.{AreLinesOf}
 use Rattle.omlog.proofs.DecodeLemmas.{lines_more}

@@ -1,9 +1,8 @@
-use Rattle.std.proofs.Common.{◌≡◌, List, map, length, None, Some, Result, Ok, ap, sym, ◌∙◌, subst, string_bytes}
+use Rattle.std.proofs.Common.{◌≡◌, List, map, length, Some, Ok, ap, sym, ◌∙◌, subst, string_bytes}
 use Rattle.std.specs.Option.{option_map}
 use Rattle.om_text.specs.Lines.{lines_of}
 use Rattle.om_text.specs.Script.{script_from}
 use Rattle.om_text.specs.Words.{words_of}
-use Rattle.om_text.specs.declared.faults.ScriptFault.{ScriptFault}
 use Rattle.omlog.specs.RecordScript.{Script, meaning_of, script_of, script_so_far}
 use Rattle.omlog.specs.Report.{IsReport}
 use Rattle.omlog.specs.declared.record_script.NoteLine.{NoteLine}
