@@ -1,0 +1,3 @@
+pub mod Decoding
+pub mod Stepping
+pub mod Stops
