@@ -28,22 +28,24 @@ fn compare_all(rt: &HostRuntime) -> io::Result<bool> {
 }
 
 /// Prints each line of a file that does not agree, and how many do. Answers whether all do.
-fn compare(
+fn compare<F: Fn(Global, &str) -> Result<bool, AllocError>>(
     rt: &HostRuntime,
     name: &str,
-    agrees: fn(Global, &str) -> Result<bool, AllocError>,
-) -> io::Result<bool> {
+    agrees: F,
+) -> io::Result<bool>
+    requires { F.IsAlwaysCallable agrees }
+{
     let text = fs::read_to_string(rt, format!(in rt.alloc(); "{name}.txt")?)?;
     let lines: Vec<&str> = text.lines().collect(rt.alloc())?;
-    let mut differing = 0;
+    let mut differing = Vec::new(rt.alloc());
     for line in &lines {
         if !agrees(rt.alloc(), line)? {
             rt.println(line)?;
-            differing += 1;
+            differing.push(*line)?;
         }
     }
     let count = lines.len();
-    let agreeing = count.saturating_sub(differing);
+    let agreeing = count.saturating_sub(differing.len());
     println!(rt; "{agreeing} of {count} {name} agree")?;
-    Ok(differing == 0)
+    Ok(differing.is_empty())
 }

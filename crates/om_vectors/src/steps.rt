@@ -5,14 +5,16 @@
 //! Memory has 65,536 bytes: the word 00100073 all over, then the line's 64 bytes from 00008000 on, then the line's word at
 //! pc. The steps were executed by qemu-riscv32 7.2: 1,202 of 38 instructions, all but ecall and ebreak. None of them traps.
 
-ghost use Rattle.std.specs.Prelude.{◌≡◌, ◌↔◌, true};
+ghost use Rattle.std.specs.Prelude.{◌≡◌, ◌↔◌, length, IfSome, true};
+ghost use Rattle.om_machine.specs.State.{IsSize};
 ghost use Rattle.om_machine.specs.Steps.{next_of};
 
 use om_machine::{Event, Machine, WRITABLE_REGISTERS};
 use std::alloc::{AllocError, Global};
 
 const FILLER: u32 = 0x0010_0073;
-const MEMORY_WORDS: usize = 16_384;
+
+const MEMORY_BYTES: usize = 65_536;
 
 /// Where a line's bytes of memory begin.
 const DATA: usize = 0x8000;
@@ -65,7 +67,7 @@ impl Values {
         Ok(Values {
             regs: [0; WRITABLE_REGISTERS],
             pc: 0,
-            memory: FILLER.to_le_bytes().repeat(alloc, MEMORY_WORDS)?,
+            memory: FILLER.to_le_bytes().repeat(alloc, MEMORY_BYTES / 4)?,
         })
     }
 
@@ -77,7 +79,8 @@ impl Values {
         self.pc = number(pc)?;
         hex::decode_to_slice(data, self.bytes(DATA, data.len() / 2)?).ok()?;
         let word = number(word)?.to_le_bytes();
-        self.bytes(self.pc as usize, word.len())?.copy_from_slice(&word);
+        self.bytes(self.pc as usize, word.len())?
+            .copy_from_slice(&word);
         Some(())
     }
 
@@ -96,7 +99,9 @@ impl Values {
     }
 
     /// The bytes of memory from an address on, or `None` where they don't lie in it.
-    fn bytes(&mut self, address: usize, len: usize) -> Option<&mut [u8]> {
+    fn bytes(&mut self, address: usize, len: usize) -> Option<&mut [u8]>
+        ensures { IfSome result (λ bytes. length bytes.now ≡ len) }
+    {
         let end = address.checked_add(len)?;
         if end > self.memory.len() {
             return None;
@@ -104,9 +109,9 @@ impl Values {
         Some(&mut self.memory[address..end])
     }
 
-    /// A machine in this state, or `None` where pc is not aligned.
+    /// A machine in this state, or `None` where no machine has it.
     fn machine(&self, alloc: Global, count: u64) -> Result<Option<Machine>, AllocError> {
-        if self.pc % 4 != 0 {
+        if self.pc % 4 != 0 || self.memory.len() != MEMORY_BYTES {
             return Ok(None);
         }
         match Machine::restore(alloc, &self.regs, self.pc, count, &self.memory) {
