@@ -1,6 +1,5 @@
 pub mod State
 pub mod Values
 pub mod Effects
-pub mod Decoded
 pub mod Steps
 pub mod Finishing
