@@ -1,3 +1,4 @@
 pub mod Decoding
 pub mod Stepping
 pub mod Stops
+pub mod Runs
