@@ -1,3 +1,4 @@
+pub mod Causes
 pub mod State
 pub mod Values
 pub mod Effects

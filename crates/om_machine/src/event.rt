@@ -1,3 +1,6 @@
+ghost use Rattle.std.specs.Prelude.{◌≡◌};
+ghost use Rattle.om_machine.specs.Causes.{number_of};
+
 /// What one step of a machine was.
 #[derive(Clone, Copy, Debug, PartialEq, Eq)]
 pub enum Event {
@@ -46,4 +49,13 @@ pub enum Cause {
     BufferOutside = 8,
     /// The count of finished instructions is at its last value.
     CountFull = 9,
+}
+
+impl Cause {
+    /// The cause's number, 1 to 9, as texts give it.
+    pub fn number(self) -> u32
+        ensures { result ≡ number_of self }
+    {
+        self as u32
+    }
 }

@@ -11,6 +11,7 @@ mod effect;
 mod event;
 mod fault;
 mod finish;
+mod instruction;
 mod limits;
 mod machine;
 mod memory;
