@@ -7,6 +7,7 @@ pub use limits::{MAX_SIZE, MIN_SIZE, REGISTERS, WRITABLE_REGISTERS};
 pub use machine::Machine;
 pub use run::Ran;
 
+mod comparison;
 mod effect;
 mod event;
 mod fault;

@@ -157,7 +157,9 @@ fn a_full_count_stops_the_machine(rt: HostRuntime) -> Result<(), Fail> {
     let full = Event::Trap(Cause::CountFull);
     for pc in [0, 8] {
         let mut machine = Machine::restore(rt.alloc(), &regs, pc, u64::MAX, &[0x13, 0, 0, 0])?;
+        let before = Machine::restore(rt.alloc(), &regs, pc, u64::MAX, &[0x13, 0, 0, 0])?;
         assert_eq!(rt; machine.step(), full);
+        assert_eq!(rt; machine, before);
         assert_eq!(rt; (machine.pc(), machine.count()), (pc, u64::MAX));
         assert_eq!(rt; reg(&machine, 5), Some(7));
         assert_eq!(rt; machine.bytes(0, 4), Some([0x13, 0, 0, 0].as_slice()));
