@@ -1,9 +1,8 @@
 //! What instructions do: one expansion of the list of rows, at the registers, pc and memory as they are.
 
-ghost use Rattle.std.specs.Prelude.{◌≡◌, ◌+◌, ◌*◌, ◌%◌, ◌<◌, ◌≤◌, IfNone, length, nat_eq, if◌then◌else◌};
+ghost use Rattle.std.specs.Prelude.{◌≡◌, ◌+◌, ◌<◌, ◌≤◌, IfNone, length};
 ghost use Rattle.om_machine.specs.State.{reg, byte_at, half_at, word_at};
-ghost use Rattle.om_machine.specs.Values.{extended_byte, extended_half};
-ghost use Rattle.om_machine.specs.Effects.{branch_effect, address_of, jump_effect, access_fault, access_effect, call_effect, effect_of, CanHave};
+ghost use Rattle.om_machine.specs.Effects.{branch_effect, address_of, jump_effect, access_fault, signed_byte_at, signed_half_at, load_effect, store_effect, call_effect, effect_of, CanHave};
 
 use crate::effect::Effect;
 use crate::event::{Cause, EnvCall, Event};
@@ -138,7 +137,7 @@ impl Machine {
 
     #[tactic(auto, unfolding(crate::specs::Effects::access_effect))]
     fn load_byte(&self, rd: Reg, address: u32) -> Effect
-        ensures effect { result ≡ access_effect self.now 1 address (Effect.Put rd (extended_byte (byte_at self.now.memory address))) }
+        ensures effect { result ≡ load_effect self.now rd 1 signed_byte_at address }
         ensures can { CanHave self.now result }
     {
         match self.access_fault(1, address) {
@@ -152,7 +151,7 @@ impl Machine {
 
     #[tactic(auto, unfolding(crate::specs::Effects::access_effect))]
     fn load_half(&self, rd: Reg, address: u32) -> Effect
-        ensures effect { result ≡ access_effect self.now 2 address (Effect.Put rd (extended_half (half_at self.now.memory address))) }
+        ensures effect { result ≡ load_effect self.now rd 2 signed_half_at address }
         ensures can { CanHave self.now result }
     {
         match self.access_fault(2, address) {
@@ -166,7 +165,7 @@ impl Machine {
 
     #[tactic(auto, unfolding(crate::specs::Effects::access_effect))]
     fn load_word(&self, rd: Reg, address: u32) -> Effect
-        ensures effect { result ≡ access_effect self.now 4 address (Effect.Put rd (word_at self.now.memory address)) }
+        ensures effect { result ≡ load_effect self.now rd 4 word_at address }
         ensures can { CanHave self.now result }
     {
         match self.access_fault(4, address) {
@@ -180,7 +179,7 @@ impl Machine {
 
     #[tactic(auto, unfolding(crate::specs::Effects::access_effect))]
     fn load_byte_unsigned(&self, rd: Reg, address: u32) -> Effect
-        ensures effect { result ≡ access_effect self.now 1 address (Effect.Put rd (byte_at self.now.memory address)) }
+        ensures effect { result ≡ load_effect self.now rd 1 byte_at address }
         ensures can { CanHave self.now result }
     {
         match self.access_fault(1, address) {
@@ -194,7 +193,7 @@ impl Machine {
 
     #[tactic(auto, unfolding(crate::specs::Effects::access_effect))]
     fn load_half_unsigned(&self, rd: Reg, address: u32) -> Effect
-        ensures effect { result ≡ access_effect self.now 2 address (Effect.Put rd (half_at self.now.memory address)) }
+        ensures effect { result ≡ load_effect self.now rd 2 half_at address }
         ensures can { CanHave self.now result }
     {
         match self.access_fault(2, address) {
@@ -208,7 +207,7 @@ impl Machine {
 
     #[tactic(auto, unfolding(crate::specs::Effects::access_effect))]
     fn store_byte(&self, source: Reg, address: u32) -> Effect
-        ensures effect { result ≡ access_effect self.now 1 address (Effect.StoreByte address (reg self.now source)) }
+        ensures effect { result ≡ store_effect self.now source 1 Effect.StoreByte address }
         ensures can { CanHave self.now result }
     {
         match self.access_fault(1, address) {
@@ -222,7 +221,7 @@ impl Machine {
 
     #[tactic(auto, unfolding(crate::specs::Effects::access_effect))]
     fn store_half(&self, source: Reg, address: u32) -> Effect
-        ensures effect { result ≡ access_effect self.now 2 address (Effect.StoreHalf address (reg self.now source)) }
+        ensures effect { result ≡ store_effect self.now source 2 Effect.StoreHalf address }
         ensures can { CanHave self.now result }
     {
         match self.access_fault(2, address) {
@@ -236,7 +235,7 @@ impl Machine {
 
     #[tactic(auto, unfolding(crate::specs::Effects::access_effect))]
     fn store_word(&self, source: Reg, address: u32) -> Effect
-        ensures effect { result ≡ access_effect self.now 4 address (Effect.StoreWord address (reg self.now source)) }
+        ensures effect { result ≡ store_effect self.now source 4 Effect.StoreWord address }
         ensures can { CanHave self.now result }
     {
         match self.access_fault(4, address) {
