@@ -1,4 +1,4 @@
-//! The results of environment calls.
+//! The results of environment calls. Each counts as one finished instruction, and the next one follows it.
 
 ghost use Rattle.std.specs.Prelude.{◌≡◌};
 ghost use Rattle.om_machine.specs.Steps.{next_of};
@@ -9,7 +9,7 @@ use crate::limits::{A0, A1};
 use crate::machine::Machine;
 
 impl Machine {
-    /// Finishes a send or an output, whose result goes into x10.
+    /// Finishes the send or the output at which the machine stands: its result goes into x10.
     #[tactic(auto, using(crate::proofs::Stops::room_at_word), unfolding(crate::specs::Finishing::finished_word))]
     pub fn finish_word(&mut self, v: u32)
         requires { TakesWord (next_of self.old).0 }
@@ -19,7 +19,8 @@ impl Machine {
         self.advance();
     }
 
-    /// Finishes the question who it is: the process's own number goes into x10, the number of processes into x11.
+    /// Finishes the call at which the machine stands, the question who it is: the process's own number goes into x10, the
+    /// number of processes into x11.
     #[tactic(auto, using(crate::proofs::Stops::room_at_who), unfolding(crate::specs::Finishing::finished_who))]
     pub fn finish_who(&mut self, own: u32, n: u32)
         requires { (next_of self.old).0 ≡ Event.Call EnvCall.Who }
@@ -30,8 +31,8 @@ impl Machine {
         self.advance();
     }
 
-    /// Finishes a receive: of the body as many bytes as there is room for go to memory, its length into x10 and the
-    /// sender's number into x11.
+    /// Finishes the receive at which the machine stands, whose buffer lies in memory: the first bytes of the body go there,
+    /// as many as there is room for, the body's length modulo 2^32 goes into x10 and the sender's number into x11.
     #[tactic(auto, using(crate::proofs::Stops::room_at_body, crate::proofs::Stops::buffer_at_body), unfolding(crate::specs::Finishing::finished_receive))]
     pub fn finish_receive(&mut self, from: u32, body: &[u8])
         requires { TakesBody self.old (next_of self.old).0 }

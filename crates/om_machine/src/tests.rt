@@ -198,7 +198,8 @@ fn calls_are_seen_and_finished(rt: HostRuntime) -> Result<(), Fail> {
                 machine.finish_word(9);
                 (9, 2, [0x73, 0, 0, 0])
             }
-            Event::Call(EnvCall::Receive { .. }) => {
+            Event::Call(EnvCall::Receive { addr, cap }) => {
+                assert!(rt; machine.bytes(addr, cap).is_some());
                 machine.finish_receive(6, &[1, 2, 3]);
                 (3, 6, [1, 2, 0, 0])
             }
