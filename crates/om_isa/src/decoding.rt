@@ -2,6 +2,7 @@
 
 ghost use Rattle.std.specs.Prelude.{◌≡◌, ◌↔◌, Some};
 ghost use Rattle.om_isa.specs.declared.inst.Inst.{Inst};
+ghost use Rattle.om_isa.specs.Decoded.{decoded};
 ghost use Rattle.om_isa.specs.Rows.{Decodes};
 
 use crate::inst::Inst;
@@ -74,6 +75,13 @@ macro_rules! decode_rows {
 pub fn decode(w: u32) -> Option<Inst>
     // The result equals at most one instruction, so no word fits two rows.
     ensures exact { (i : Inst) → Decodes w i ↔ (result ≡ Some i) }
+    ensures function { result ≡ decoded w }
+{
+    decode_by_rows(w)
+}
+
+fn decode_by_rows(w: u32) -> Option<Inst>
+    ensures { (i : Inst) → Decodes w i ↔ (result ≡ Some i) }
 {
     rows!(decode_rows!(w))
 }

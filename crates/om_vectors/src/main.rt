@@ -1,27 +1,16 @@
-//! Compares om_isa with values from outside tools: each word of `words.txt`, in the folder where the program runs, with
-//! its text.
-//!
-//! A line is `WORD TEXT`, eight hexadecimal digits, a space, and the text of the instruction or `none`. The texts are
-//! those of GNU objdump 2.40 (`-m riscv:rv32 -M numeric,no-aliases`), laid out as this project does; a second decoder,
-//! by quotients, agreed on every word. Fence words and shifts with bit 25 set follow the tables of the RISC-V
-//! unprivileged specification. Of the 3,000 words 1,184 are `none`: words of other extensions, reserved ones, and words
-//! one bit away from an instruction.
+//! Compares om_isa and om_machine with values from outside tools, which stand in files of the folder where the program
+//! runs.
 #![tactic(auto)]
 
-ghost use Rattle.std.specs.Prelude.{◌≡◌, ◌↔◌, IfOk, codes, true};
-ghost use Rattle.om_isa.specs.Rows.{Decodes};
-ghost use Rattle.om_isa.specs.Text.{text_of};
-ghost use Rattle.om_isa.specs.declared.inst.Inst.{Inst};
+mod steps;
+mod words;
 
-use om_isa::decode;
 use std::alloc::{AllocError, Global};
 use std::process::ExitCode;
 use std::{fs, io};
 
-const WORDS: &str = "words.txt";
-
 fn main(rt: HostRuntime) -> ExitCode {
-    match compare_words(&rt) {
+    match compare_all(&rt) {
         Ok(true) => ExitCode::SUCCESS,
         Ok(false) => ExitCode::FAILURE,
         Err(error) => {
@@ -31,9 +20,22 @@ fn main(rt: HostRuntime) -> ExitCode {
     }
 }
 
-/// Prints each line that differs, and how many agree. Answers whether all do.
-fn compare_words(rt: &HostRuntime) -> io::Result<bool> {
-    let text = fs::read_to_string(rt, WORDS)?;
+/// Compares both files. Answers whether all their lines agree.
+fn compare_all(rt: &HostRuntime) -> io::Result<bool> {
+    let words = compare(rt, "words", words::agrees)?;
+    let steps = compare(rt, "steps", steps::agrees)?;
+    Ok(words && steps)
+}
+
+/// Prints each line of a file that does not agree, and how many do. Answers whether all do.
+fn compare<F: Fn(Global, &str) -> Result<bool, AllocError>>(
+    rt: &HostRuntime,
+    name: &str,
+    agrees: F,
+) -> io::Result<bool>
+    requires { F.IsAlwaysCallable agrees }
+{
+    let text = fs::read_to_string(rt, format!(in rt.alloc(); "{name}.txt")?)?;
     let lines: Vec<&str> = text.lines().collect(rt.alloc())?;
     let mut differing = Vec::new(rt.alloc());
     for line in &lines {
@@ -44,32 +46,6 @@ fn compare_words(rt: &HostRuntime) -> io::Result<bool> {
     }
     let count = lines.len();
     let agreeing = count.saturating_sub(differing.len());
-    println!(rt; "{agreeing} of {count} words agree")?;
+    println!(rt; "{agreeing} of {count} {name} agree")?;
     Ok(differing.is_empty())
-}
-
-/// Whether a line's word has the line's text. A line of another form does not agree.
-fn agrees(alloc: Global, line: &str) -> Result<bool, AllocError> {
-    let Some((word, text)) = line.split_once(' ') else {
-        return Ok(false);
-    };
-    match u32::from_str_radix(word, 16) {
-        Ok(word) => has_text(alloc, word, text.as_bytes()),
-        Err(_) => Ok(false),
-    }
-}
-
-/// Whether this is the text of the word's instruction, or `none` where it is no instruction.
-fn has_text(alloc: Global, word: u32, text: &[u8]) -> Result<bool, AllocError>
-    ensures instruction { (i : Inst) → Decodes word i → IfOk result (λ same. (same ≡ true) ↔ (text.now ≡ text_of i)) }
-    ensures none { ((i : Inst) → Decodes word i → ⊥) → IfOk result (λ same. (same ≡ true) ↔ (text.now ≡ codes "none")) }
-{
-    let Some(instruction) = decode(word) else {
-        return Ok(text == b"none".as_slice());
-    };
-    let mut written = Vec::new(alloc);
-    match instruction.write_text(&mut written) {
-        Ok(()) => Ok(written.as_slice() == text),
-        Err(_) => Err(AllocError),
-    }
 }

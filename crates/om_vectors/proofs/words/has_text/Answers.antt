@@ -1,4 +1,4 @@
-use Rattle.om_vectors.proofs.has_text.Goals as goal
+use Rattle.om_vectors.proofs.words.has_text.Goals as goal
 
 -- the word has an instruction
 pub returns-in-Ok-clause-none : goal.returns-in-Ok-clause-none

@@ -1,0 +1,25 @@
+//! Machines are equal where their states are.
+
+ghost use Rattle.std.specs.Prelude.{◌&&◌, nat_eq};
+ghost use Rattle.std.specs.Cmp.Lexicographic.{pointwise};
+ghost use Rattle.std.specs.Cmp.Rules.{comparing};
+ghost use Rattle.std.proofs.Common.{rules};
+
+use crate::machine::Machine;
+
+impl PartialEq for Machine {
+    ghost eq = { λ m n. pointwise nat_eq m.regs n.regs && pointwise nat_eq m.memory n.memory && nat_eq m.pc n.pc && nat_eq m.count n.count };
+
+    ghost laws = { Prim.search (comparing, rules) };
+
+    fn eq(&self, other: &Machine) -> bool {
+        self.regs == other.regs
+            && self.memory == other.memory
+            && self.pc == other.pc
+            && self.count == other.count
+    }
+}
+
+impl Eq for Machine {
+    ghost laws = { Prim.search (comparing, rules) };
+}

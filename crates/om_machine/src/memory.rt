@@ -1,0 +1,30 @@
+//! Bytes of memory as numbers, the lowest byte first.
+
+ghost use Rattle.std.specs.Prelude.{◌≡◌, ◌+◌, ◌<◌, ◌≤◌, length};
+ghost use Rattle.om_machine.specs.State.{half_at, word_at, overwritten};
+
+pub fn read_half(memory: &Vec<u8>, address: usize) -> u16
+    requires { address + 2 ≤ length memory.now.items }
+    ensures { result ≡ half_at memory.now.items address }
+{
+    u16::from_le_bytes([memory[address], memory[address + 1]])
+}
+
+pub fn read_word(memory: &Vec<u8>, address: usize) -> u32
+    requires { address + 4 ≤ length memory.now.items }
+    ensures { result ≡ word_at memory.now.items address }
+{
+    u32::from_le_bytes([
+        memory[address],
+        memory[address + 1],
+        memory[address + 2],
+        memory[address + 3],
+    ])
+}
+
+pub fn overwrite(memory: &mut Vec<u8>, address: usize, bytes: &[u8])
+    requires { address + length bytes.now ≤ length memory.old.items }
+    ensures { memory.new.items ≡ overwritten memory.old.items address bytes.now }
+{
+    memory[address..address + bytes.len()].copy_from_slice(bytes);
+}
