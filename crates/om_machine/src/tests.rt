@@ -1,3 +1,6 @@
+use crate::Cause::{
+    Break, DataMisaligned, DataOutside, FetchOutside, Illegal, TargetMisaligned, UnknownCall,
+};
 use crate::{Cause, EnvCall, Event, LoadFault, Machine, Ran};
 use om_isa::Reg;
 use std::alloc::Global;
@@ -16,87 +19,37 @@ fn reg(machine: &Machine, r: u8) -> Option<u32> {
     Reg::new(r).map(|r| machine.reg(r))
 }
 
-// Image, size, the steps that go, what the machine stands at, pc, and one register.
+// A branch to the address two behind its own, untaken and then taken.
+const BRANCHES: [u32; 3] = [0x00029163, 0x00100293, 0x00029163];
+
+// The sign bit, shifted right with its copies and then without.
+const SHIFTS: [u32; 3] = [0x80000137, 0x41F15193, 0x01F15213];
+
+// Image, size, the steps that go, the cause of the trap, pc there, and a register with its number. From the word FFFFFFFF
+// on, one more of each cause: words of no instruction, ebreak, a fetch behind memory, a jump and a taken branch to address
+// 2, 2 bytes at address 1, a byte read and a byte written behind memory, and a call with only the topmost bit set.
 #[test]
 fn programs_stop_where_the_tables_say(rt: HostRuntime) -> Result<(), Fail> {
     for (image, size, steps, cause, pc, r, value) in [
-        (
-            [0x00029163, 0x00100293, 0x00029163].as_slice(),
-            12,
-            2,
-            Cause::TargetMisaligned,
-            8,
-            5,
-            1,
-        ),
-        (
-            &[0x000010B7, 0xFFF0B093],
-            8,
-            2,
-            Cause::FetchOutside,
-            8,
-            1,
-            1,
-        ),
-        (
-            &[0x80000137, 0x41F15193, 0x01F15213],
-            12,
-            3,
-            Cause::FetchOutside,
-            12,
-            2,
-            0x8000_0000,
-        ),
-        (
-            &[0x80000137, 0x41F15193, 0x01F15213],
-            12,
-            3,
-            Cause::FetchOutside,
-            12,
-            3,
-            0xFFFF_FFFF,
-        ),
-        (
-            &[0x80000137, 0x41F15193, 0x01F15213],
-            12,
-            3,
-            Cause::FetchOutside,
-            12,
-            4,
-            1,
-        ),
-        (&[0x002000EF], 8, 0, Cause::TargetMisaligned, 0, 1, 0),
-        (&[0xFFE02083], 8, 0, Cause::DataMisaligned, 0, 1, 0),
-        (&[0xFFC02083], 8, 0, Cause::DataOutside, 0, 1, 0),
-        (
-            &[0x00500893, 0x00000073],
-            8,
-            1,
-            Cause::UnknownCall,
-            4,
-            17,
-            5,
-        ),
-        // One more of each cause: no instruction, ebreak, a jump beyond memory, jumps and a taken branch to address 2, a
-        // half at address 1, a byte and a stored byte behind memory, and a call with only the topmost bit set.
-        (&[0xFFFFFFFF], 4, 0, Cause::Illegal, 0, 0, 0),
-        (&[0x00000013], 8, 1, Cause::Illegal, 4, 0, 0),
-        (&[0x00100073], 4, 0, Cause::Break, 0, 0, 0),
-        (&[0x08000067], 8, 1, Cause::FetchOutside, 128, 0, 0),
-        (&[0x002000E7], 8, 0, Cause::TargetMisaligned, 0, 1, 0),
-        (&[0x00000163], 8, 0, Cause::TargetMisaligned, 0, 0, 0),
-        (&[0x00101083], 8, 0, Cause::DataMisaligned, 0, 1, 0),
-        (&[0x00804083], 8, 0, Cause::DataOutside, 0, 1, 0),
-        (&[0x00000423], 8, 0, Cause::DataOutside, 0, 0, 0),
-        (
-            &[0x800008B7, 0x00000073],
-            8,
-            1,
-            Cause::UnknownCall,
-            4,
-            17,
-            0x8000_0000,
-        ),
+        (BRANCHES.as_slice(), 12, 2, TargetMisaligned, 8, 5, 1),
+        (&[0x000010B7, 0xFFF0B093], 8, 2, FetchOutside, 8, 1, 1),
+        (&SHIFTS, 12, 3, FetchOutside, 12, 2, 0x8000_0000),
+        (&SHIFTS, 12, 3, FetchOutside, 12, 3, 0xFFFF_FFFF),
+        (&SHIFTS, 12, 3, FetchOutside, 12, 4, 1),
+        (&[0x002000EF], 8, 0, TargetMisaligned, 0, 1, 0),
+        (&[0xFFE02083], 8, 0, DataMisaligned, 0, 1, 0),
+        (&[0xFFC02083], 8, 0, DataOutside, 0, 1, 0),
+        (&[0x00500893, 0x00000073], 8, 1, UnknownCall, 4, 17, 5),
+        (&[0xFFFFFFFF], 4, 0, Illegal, 0, 0, 0),
+        (&[0x00000013], 8, 1, Illegal, 4, 0, 0),
+        (&[0x00100073], 4, 0, Break, 0, 0, 0),
+        (&[0x08000067], 8, 1, FetchOutside, 128, 0, 0),
+        (&[0x002000E7], 8, 0, TargetMisaligned, 0, 1, 0),
+        (&[0x00000163], 8, 0, TargetMisaligned, 0, 0, 0),
+        (&[0x00101083], 8, 0, DataMisaligned, 0, 1, 0),
+        (&[0x00804083], 8, 0, DataOutside, 0, 1, 0),
+        (&[0x00000423], 8, 0, DataOutside, 0, 0, 0),
+        (&[0x800008B7, 0x73], 8, 1, UnknownCall, 4, 17, 0x8000_0000),
     ] {
         let mut machine = loaded(rt.alloc(), image, size)?;
         let event = Event::Trap(cause);
