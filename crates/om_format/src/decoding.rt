@@ -1,0 +1,54 @@
+//! Bytes to records.
+
+ghost use Rattle.std.specs.Prelude.{◌≡◌, ◌⊎◌, List, Some, Ok, IfOk, IfErr};
+ghost use Rattle.om_format.specs.Reading.{Gives, receipt_at};
+ghost use Rattle.om_format.specs.Receipts.{ReceiptRecord, receipt_record, receipt_fault, SpellsReceipt};
+
+use crate::body::Body;
+use crate::error::DecodeError;
+use crate::limits::{RECEIPT_KIND, RECEIPT_VERSION};
+use crate::reading::{body_at, end_at, opening_at, pid_at, u32_at, u64_at};
+use crate::receipt::Receipt;
+use om_interval::Pid;
+use std::alloc::Global;
+
+#[tactic(auto, unfolding(crate::specs::Reading::receipt_at))]
+fn receipt_at(alloc: Global, bytes: &[u8]) -> Result<Receipt, DecodeError>
+    ensures { Gives receipt_record result (receipt_at bytes.now) }
+{
+    let rest = opening_at(RECEIPT_KIND, RECEIPT_VERSION, bytes)?;
+    let (to, rest) = pid_at(2, rest)?;
+    let (from, rest) = pid_at(3, rest)?;
+    let (interval, rest) = u32_at(rest)?;
+    if interval < 1 {
+        return Err(DecodeError::Field(4));
+    }
+    let (sender_interval, rest) = u32_at(rest)?;
+    let (ssn, rest) = u32_at(rest)?;
+    if ssn >= interval {
+        return Err(DecodeError::Field(12));
+    }
+    let (count, rest) = u64_at(rest)?;
+    let (body, rest) = body_at(24, rest)?;
+    let body = Body::from_vec(Vec::from_slice(alloc, body)?);
+    end_at(rest)?;
+    Ok(Receipt {
+        to: Pid::at(to),
+        from: Pid::at(from),
+        interval,
+        sender_interval,
+        ssn,
+        count,
+        body,
+    })
+}
+
+/// The receipt that the bytes spell, all of the bytes; else the first fault of the bytes from the left. `Memory` where
+/// there was none for the body.
+pub fn decode_receipt(alloc: Global, bytes: &[u8]) -> Result<Receipt, DecodeError>
+    ensures found { IfOk result (λ r. SpellsReceipt (receipt_record r) bytes.now) }
+    ensures only { (r : ReceiptRecord) → SpellsReceipt r bytes.now → Gives receipt_record result (Ok r) }
+    ensures fault { IfErr result (λ e. (e ≡ DecodeError.Memory) ⊎ (receipt_fault bytes.now ≡ Some e)) }
+{
+    receipt_at(alloc, bytes)
+}

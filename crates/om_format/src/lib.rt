@@ -1,0 +1,18 @@
+//! Messages, and the records of receipts and checkpoints as bytes: each record has one spelling, and each damage that the
+//! format can show is named at its first byte.
+#![tactic(auto)]
+
+pub use body::Body;
+pub use decoding::decode_receipt;
+pub use error::DecodeError;
+pub use limits::MAX_BODY;
+pub use message::Message;
+pub use receipt::Receipt;
+
+mod body;
+mod decoding;
+mod error;
+mod limits;
+mod message;
+mod reading;
+mod receipt;
