@@ -1,8 +1,9 @@
 -- The format of a record: its fields from the left.
-use Rattle.std.specs.Prelude.{ℕ, ◌*◌, ◌^◌, List, slice_index, Bool, true}
+use Rattle.std.specs.Prelude.{ℕ, ◌*◌, ◌^◌, ◌==◌, List, slice_index, Bool, true, nat_le}
 use Rattle.std.specs.Int.{Width, w8, w16, w32, w64}
+use Rattle.om_format.specs.declared.limits.TheConstants.{MAX_BODY}
 use Rattle.om_format.specs.declared.error.DecodeError.{DecodeError}
-use Rattle.om_format.specs.declared.error.DecodeError.TheVariants.{Field}
+use Rattle.om_format.specs.declared.error.DecodeError.TheVariants.{Kind, Version, Field}
 
 -- how many bytes a number has
 pub data Size : Type 0 where
@@ -53,3 +54,14 @@ number size allowed behind = number_or Field size allowed behind
 -- a field of so many bytes, which may be any
 abbrev pub bytes : ℕ → Format → Format
 bytes count behind = field one count any Field (λ _. behind)
+
+-- a field of a length, and one of so many bytes
+unfoldable pub body : Format → Format
+body behind = number two (λ len. nat_le len MAX_BODY) λ len. bytes len behind
+
+-- a field of a kind, and one of a version
+unfoldable pub opening : ℕ → ℕ → Format → Format
+opening kind version behind =
+    number_or (λ _. Kind) one (λ found. found == kind) λ _.
+    number_or (λ _. Version) one (λ found. found == version) λ _.
+    behind

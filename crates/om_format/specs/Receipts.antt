@@ -1,11 +1,10 @@
 -- Receipts: what they are, their format, and what bytes spell one.
-use Rattle.std.specs.Prelude.{ℕ, ◌==◌, List, [], ◌∷◌, length, Option, nat_lt, nat_le}
+use Rattle.std.specs.Prelude.{ℕ, List, [], ◌∷◌, length, Option, nat_lt, nat_le}
 use Rattle.om_interval.specs.declared.pid.TheConstants.{MAX_PROCESSES}
 use Rattle.om_format.specs.declared.error.DecodeError.{DecodeError}
-use Rattle.om_format.specs.declared.error.DecodeError.TheVariants.{Kind, Version, Field}
-use Rattle.om_format.specs.declared.limits.TheConstants.{MAX_BODY, RECEIPT_KIND, RECEIPT_VERSION}
+use Rattle.om_format.specs.declared.limits.TheConstants.{RECEIPT_KIND, RECEIPT_VERSION}
 use Rattle.om_format.specs.declared.receipt.Receipt.{Receipt}
-use Rattle.om_format.specs.Formats.{one, two, four, eight, Format, end, any, number, number_or, bytes}
+use Rattle.om_format.specs.Formats.{one, two, four, eight, Format, end, any, number, body, opening}
 use Rattle.om_format.specs.Spelling.{Spells}
 use Rattle.om_format.specs.FirstFault.{first_fault}
 
@@ -24,18 +23,16 @@ abbrev pub receipt_record : Receipt → ReceiptRecord
 receipt_record r = record { to = r.to; from = r.from; interval = r.interval; sender_interval = r.sender_interval; ssn = r.ssn; count = r.count; body = r.body }
 
 -- the fields of a receipt, from the left
-abbrev pub receipt_format : Format
+unfoldable pub receipt_format : Format
 receipt_format =
-    number_or (λ _. Kind) one (λ kind. kind == RECEIPT_KIND) λ _.
-    number_or (λ _. Version) one (λ version. version == RECEIPT_VERSION) λ _.
+    opening RECEIPT_KIND RECEIPT_VERSION (
     number one (λ to. nat_lt to MAX_PROCESSES) λ _.
     number one (λ from. nat_lt from MAX_PROCESSES) λ _.
     number four (λ interval. nat_le 1 interval) λ interval.
     number four any λ _.
     number four (λ ssn. nat_lt ssn interval) λ _.
     number eight any λ _.
-    number two (λ len. nat_le len MAX_BODY) λ len.
-    bytes len end
+    body end)
 
 -- the values of these fields
 abbrev pub receipt_values : ReceiptRecord → List (List ℕ)

@@ -1,0 +1,138 @@
+-- Reading a receipt is reading the fields of its format.
+use Rattle.std.proofs.Common.{eqb, ◌≡◌, ℕ, zero, suc, ◌+◌, ◌*◌, ◌<◌, ◌≤◌, Bool, true, false, cond, ltb, List, [], ◌∷◌, ◌++◌, length, take, drop, Some, Result, Ok, Err, refl, sym, ap, subst, ◌∙◌, arith, inl, inr}
+use Rattle.std.proofs.lemmas.Bool.{eqb-true, cases_lt, lt-ltb, le-ltb}
+use Rattle.std.proofs.lemmas.List.{length-take-le}
+use Rattle.om_format.specs.declared.error.DecodeError.{DecodeError}
+use Rattle.om_format.specs.declared.error.DecodeError.TheVariants.{Short, Trailing, Memory}
+use Rattle.om_format.specs.declared.receipt.Receipt.{Receipt}
+use Rattle.std.specs.Prelude.{IfOk, IfErr, ◌⊎◌}
+use Rattle.om_format.specs.Formats.{Size, one, two, four, eight, bytes_in, Format, end, field, body, opening}
+use Rattle.om_format.specs.FirstFault.{values_at}
+use Rattle.om_format.specs.Receipts.{ReceiptRecord, receipt_record, receipt_format, receipt_values, SpellsReceipt, receipt_fault}
+use Rattle.om_format.specs.Reading.{◌>>=◌, Gives, allow, numbers_at, number_at, fields_at, opening_at, pid_at, body_at, end_at, receipt_at}
+use Rattle.om_format.proofs.Numbers.{IsBytes}
+use Rattle.om_format.proofs.Formats.{bind_ok, ok_is, found, again, faulty, fault_or_memory}
+
+-- ---- the parts
+
+pub bind_assoc : {A B C : Type 0} (r : Result A DecodeError) (f : A → Result B DecodeError) (g : B → Result C DecodeError) → ((r >>= f) >>= g) ≡ (r >>= λ x. f x >>= g)
+bind_assoc (Ok x) f g = refl
+bind_assoc (Err d) f g = refl
+
+bind_cond : {A B : Type 0} (b : Bool) (d : DecodeError) (x : A) (f : A → Result B DecodeError) → (cond b (Err d) (Ok x) >>= f) ≡ cond b (Err d) (f x)
+bind_cond true d x f = refl
+bind_cond false d x f = refl
+
+-- a field of one number
+pub one_number : (size : Size) (bytes : List ℕ) → numbers_at size 1 bytes ≡ (number_at size bytes >>= λ x. Ok (x.0 ∷ [], x.1))
+unfolding numbers_at number_at
+one_number one bytes = sym (bind_cond (ltb (length bytes) 1) Short _ _)
+one_number two bytes = sym (bind_cond (ltb (length bytes) 2) Short _ _)
+one_number four bytes = sym (bind_cond (ltb (length bytes) 4) Short _ _)
+one_number eight bytes = sym (bind_cond (ltb (length bytes) 8) Short _ _)
+
+values-bytes : (count : ℕ) (bytes : List ℕ) → count ≤ length bytes → values_at one count bytes ≡ take count bytes
+values-bytes zero bytes long = refl
+values-bytes (suc count) [] long = absurd (omega arith)
+values-bytes (suc count) (b ∷ bytes) long = ap (λ (rest : List ℕ). b ∷ rest) (values-bytes count bytes (omega arith))
+
+-- a field of bytes
+pub many_bytes : (count : ℕ) (bytes : List ℕ) → numbers_at one count bytes ≡ cond (ltb (length bytes) count) (Err Short) (Ok (take count bytes, drop count bytes))
+unfolding numbers_at
+many_bytes count bytes =
+    let same : count * 1 ≡ count = omega arith in
+    elim (cases_lt (length bytes) count) [
+      | inl short ↦ (let a : ltb (length bytes) count ≡ true = lt-ltb _ _ short in rw (same, a) refl)
+      | inr long ↦ (let a : ltb (length bytes) count ≡ false = le-ltb _ _ long in rw (same, a, values-bytes count bytes long) refl)
+    ]
+
+pub ends : (offset : ℕ) (bytes : List ℕ) → fields_at end offset bytes ≡ (end_at bytes >>= λ u. Ok [])
+unfolding end_at
+ends offset [] = refl
+ends offset (byte ∷ bytes) = refl
+
+pub bind_same : {A B : Type 0} (r : Result A DecodeError) (f g : A → Result B DecodeError) → ((x : A) → f x ≡ g x) → (r >>= f) ≡ (r >>= g)
+bind_same (Ok x) f g same = same x
+bind_same (Err d) f g same = refl
+
+taken : {B : Type 0} (n : ℕ) (bytes : List ℕ) (f g : List ℕ × List ℕ → Result B DecodeError) → (n ≤ length bytes → f (take n bytes, drop n bytes) ≡ g (take n bytes, drop n bytes))
+    → (cond (ltb (length bytes) n) (Err Short) (Ok (take n bytes, drop n bytes)) >>= f) ≡ (cond (ltb (length bytes) n) (Err Short) (Ok (take n bytes, drop n bytes)) >>= g)
+taken n bytes f g same =
+    elim (cases_lt (length bytes) n) [
+      | inl short ↦ (let a : ltb (length bytes) n ≡ true = lt-ltb _ _ short in rw a refl)
+      | inr long ↦ (let a : ltb (length bytes) n ≡ false = le-ltb _ _ long in rw a (same long))
+    ]
+
+body_values : (behind : Format) (offset n : ℕ) (bytes : List ℕ) → n ≤ length bytes
+    → (fields_at behind (offset + 2 + n * 1) (drop n bytes) >>= λ rest. Ok ((n ∷ []) ∷ take n bytes ∷ rest)) ≡ (fields_at behind (offset + 2 + length (take n bytes)) (drop n bytes) >>= λ rest. Ok ((length (take n bytes) ∷ []) ∷ take n bytes ∷ rest))
+body_values behind offset n bytes long =
+    let same : n * 1 ≡ n = omega arith in
+    let len : length (take n bytes) ≡ n = length-take-le n bytes long in
+    rw (same, len) refl
+
+-- a body and what comes behind it
+pub body_is : (behind : Format) (offset : ℕ) (bytes : List ℕ) → fields_at (body behind) offset bytes ≡ (body_at offset bytes >>= λ b. fields_at behind (offset + 2 + length b.0) b.1 >>= λ rest. Ok ((length b.0 ∷ []) ∷ b.0 ∷ rest))
+unfolding body body_at
+body_is behind offset bytes = simp (one_number, many_bytes, bind_assoc) (bind_same (number_at two bytes) _ _ (λ len. bind_same (allow _ _) _ _ (λ fine. taken len.0 len.1 _ _ (λ long. body_values behind offset len.0 len.1 long))))
+
+-- a body that comes last
+pub last_body_is : (offset : ℕ) (bytes : List ℕ) → fields_at (body end) offset bytes ≡ (body_at offset bytes >>= λ b. end_at b.1 >>= λ u. Ok ((length b.0 ∷ []) ∷ b.0 ∷ []))
+last_body_is offset bytes =
+    body_is end offset bytes ∙ bind_same (body_at offset bytes) _ _ (λ b. ap (λ (r : Result (List (List ℕ)) DecodeError). r >>= λ rest. Ok ((length b.0 ∷ []) ∷ b.0 ∷ rest)) (ends (offset + 2 + length b.0) b.1) ∙ bind_assoc (end_at b.1) _ _)
+
+known : {B : Type 0} (n m : ℕ) (d : DecodeError) (f g : Unit {0} → Result B DecodeError) → (n ≡ m → f tt ≡ g tt) → (allow (eqb n m) d >>= f) ≡ (allow (eqb n m) d >>= g)
+known n m d f g same = known_by (eqb n m) d f g (λ h. same (eqb-true n m h))
+  where
+    known_by : {B : Type 0} (b : Bool) (d : DecodeError) (f g : Unit {0} → Result B DecodeError) → (b ≡ true → f tt ≡ g tt) → (allow b d >>= f) ≡ (allow b d >>= g)
+    known_by true d f g same = same refl
+    known_by false d f g same = refl
+
+-- kind and version, and what comes behind them
+pub opening_is : (kind version : ℕ) (behind : Format) (offset : ℕ) (bytes : List ℕ) → fields_at (opening kind version behind) offset bytes ≡ (opening_at kind version bytes >>= λ rest. fields_at behind (offset + 1 + 1) rest >>= λ vs. Ok ((kind ∷ []) ∷ (version ∷ []) ∷ vs))
+unfolding opening opening_at
+opening_is kind version behind offset bytes =
+    simp (one_number, bind_assoc) (bind_same (number_at one bytes) _ _ (λ k. known k.0 kind _ _ _ (λ same_kind. bind_same (number_at one k.1) _ _ (λ v. known v.0 version _ _ _ (λ same_version. rw (same_kind, same_version) refl)))))
+
+pub receipt_is : (bytes : List ℕ) → fields_at receipt_format 0 bytes ≡ (receipt_at bytes >>= λ r. Ok (receipt_values r))
+unfolding receipt_format receipt_at pid_at
+receipt_is bytes = simp (opening_is, one_number, last_body_is, bind_assoc)
+
+made : ℕ → ℕ → ℕ → ℕ → ℕ → ℕ → List ℕ → ReceiptRecord
+made to from interval sender_interval ssn count body = record { to = to; from = from; interval = interval; sender_interval = sender_interval; ssn = ssn; count = count; body = body }
+
+same_receipt : (r s : ReceiptRecord) → receipt_values r ≡ receipt_values s → r ≡ s
+unfolding made
+same_receipt r s e =
+    let to : r.to ≡ s.to = cc in
+    let from : r.from ≡ s.from = cc in
+    let interval : r.interval ≡ s.interval = cc in
+    let sender_interval : r.sender_interval ≡ s.sender_interval = cc in
+    let ssn : r.ssn ≡ s.ssn = cc in
+    let count : r.count ≡ s.count = cc in
+    let body : r.body ≡ s.body = cc in
+    let same : made r.to r.from r.interval r.sender_interval r.ssn r.count r.body ≡ made s.to s.from s.interval s.sender_interval s.ssn s.count s.body = cc in
+    same
+
+module _ (bytes : List ℕ) where
+  -- what is read spells the bytes
+  pub receipt_found : (r : ReceiptRecord) → IsBytes bytes → receipt_at bytes ≡ Ok r → SpellsReceipt r bytes
+  receipt_found r fits e = found receipt_format 0 bytes (receipt_values r) fits (receipt_is bytes ∙ ap (λ (x : Result ReceiptRecord DecodeError). x >>= λ s. Ok (receipt_values s)) e)
+
+  -- what the bytes spell is read
+  pub receipt_again : (r : ReceiptRecord) → SpellsReceipt r bytes → receipt_at bytes ≡ Ok r
+  receipt_again r h =
+      let b = bind_ok (receipt_at bytes) (λ s. Ok (receipt_values s)) (receipt_values r) (sym (receipt_is bytes) ∙ again receipt_format 0 bytes (receipt_values r) h) in
+      b.1 ∙ ap (λ (s : ReceiptRecord). Ok s) (same_receipt b.0 r (ok_is (receipt_values b.0) (receipt_values r) b.2))
+
+  -- what is not read has a first fault
+  pub receipt_faulty : (e : DecodeError) → receipt_at bytes ≡ Err e → receipt_fault bytes ≡ Some e
+  receipt_faulty e h = faulty receipt_format 0 bytes e (receipt_is bytes ∙ ap (λ (x : Result ReceiptRecord DecodeError). x >>= λ s. Ok (receipt_values s)) h)
+
+  -- the same of what a function returned
+  pub is_found : (r : Result Receipt DecodeError) → IsBytes bytes → Gives receipt_record r (receipt_at bytes) → IfOk r (λ v. SpellsReceipt (receipt_record v) bytes)
+  is_found (Ok v) fits given = receipt_found (receipt_record v) fits given
+  is_found (Err e) fits given = tt
+
+  pub is_faulty : (r : Result Receipt DecodeError) → Gives receipt_record r (receipt_at bytes) → IfErr r (λ e. (e ≡ Memory) ⊎ (receipt_fault bytes ≡ Some e))
+  is_faulty (Ok v) given = tt
+  is_faulty (Err e) given = fault_or_memory e (receipt_fault bytes) (λ other. receipt_faulty e (given other))
