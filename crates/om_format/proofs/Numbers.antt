@@ -1,5 +1,5 @@
 -- Numbers that are read are the numbers that were written, and what was written is read again.
-use Rattle.std.proofs.Common.{drop-drop, ◌≡◌, ℕ, zero, suc, ◌+◌, ◌*◌, ◌^◌, ◌<◌, ◌≤◌, Bool, true, false, cond, ltb, List, [], ◌∷◌, ◌++◌, length, get_or, take, drop, Result, Ok, Err, refl, sym, ap, subst, ◌∙◌, append_assoc, arith, inl, inr}
+use Rattle.std.proofs.Common.{drop-drop, ◌%◌, ◌≡◌, ℕ, zero, suc, ◌+◌, ◌*◌, ◌^◌, ◌<◌, ◌≤◌, Bool, true, false, cond, ltb, List, [], ◌∷◌, ◌++◌, length, get_or, take, drop, Result, Ok, Err, refl, sym, ap, subst, ◌∙◌, append_assoc, arith, inl, inr}
 use Rattle.std.specs.List.{flat_map, AllByRecursion}
 use Rattle.std.specs.Int.{to_le_bytes, from_le_bytes}
 use Rattle.std.proofs.lemmas.Bool.{cases_lt, ltb-false, le-ltb}
@@ -119,3 +119,16 @@ numbers_again size count allowed values rest h =
     let long : ltb (length (numbers size values ++ rest)) k ≡ false = le-ltb _ _ (omega (arith, length-append (numbers size values) rest)) in
     let same : values_at size count (numbers size values ++ rest) ≡ values = ap (λ (n : ℕ). values_at size n (numbers size values ++ rest)) (sym h.whole) ∙ values_again size values rest h.within in
     rw (long, same, drop_at (numbers size values) rest k len) refl
+
+-- ---- bytes as numbers of one byte
+
+pub within_bytes : (bytes : List ℕ) → IsBytes bytes → AllByRecursion (λ value. value < limit one) bytes
+within_bytes [] fits = tt
+within_bytes (b ∷ bytes) fits = (fits 0, within_bytes bytes (λ i. fits (suc i)))
+
+pub numbers-bytes : (bytes : List ℕ) → IsBytes bytes → numbers one bytes ≡ bytes
+numbers-bytes [] fits = refl
+numbers-bytes (b ∷ bytes) fits =
+    let rest = numbers-bytes bytes (λ i. fits (suc i)) in
+    let low : b % 256 ≡ b = omega (arith, fits 0) in
+    rw (low, rest) refl

@@ -4,6 +4,7 @@
 
 pub use body::Body;
 pub use decoding::decode_receipt;
+pub use encoding::encode_receipt;
 pub use error::DecodeError;
 pub use limits::MAX_BODY;
 pub use message::Message;
@@ -11,7 +12,9 @@ pub use receipt::Receipt;
 
 mod body;
 mod decoding;
+mod encoding;
 mod error;
+pub mod laws;
 mod limits;
 mod message;
 mod reading;
