@@ -9,12 +9,12 @@ use Rattle.std.specs.Prelude.{IfOk, IfErr, ◌⊎◌}
 use Rattle.std.specs.declared.alloc.AllocError.{AllocError}
 use Rattle.std.specs.Global.{Vec}
 use Rattle.std.specs.Int.{w8, w16, w32, w64, to_le_bytes}
-use Rattle.om_format.specs.Formats.{any, Size, one, two, four, eight, bytes_in, limit, Format, end, field, body, opening}
+use Rattle.om_format.specs.Formats.{any, Size, one, two, four, eight, bytes_in, limit, Format, end, field, counted, is_body_size, body, opening}
 use Rattle.om_format.specs.declared.limits.TheConstants.{MAX_BODY, RECEIPT_KIND, RECEIPT_VERSION}
 use Rattle.om_format.specs.Spelling.{IsField, numbers, Spells}
 use Rattle.om_format.specs.FirstFault.{values_at}
 use Rattle.om_format.specs.Receipts.{ReceiptRecord, receipt_record, receipt_format, receipt_values, receipt_bytes, IsReceipt, SpellsReceipt, receipt_fault}
-use Rattle.om_format.specs.Reading.{◌>>=◌, Gives, allow, numbers_at, number_at, fields_at, opening_at, pid_at, body_at, end_at, receipt_at}
+use Rattle.om_format.specs.Reading.{◌>>=◌, Gives, allow, numbers_at, number_at, fields_at, opening_at, pid_at, counted_at, body_at, end_at, receipt_at}
 use Rattle.om_format.proofs.Numbers.{IsBytes, within_bytes, numbers-bytes}
 use Rattle.om_format.proofs.Formats.{bind_ok, ok_is, found, again, faulty, fault_or_memory}
 
@@ -68,22 +68,25 @@ taken n bytes f g same =
       | inr long ↦ (let a : ltb (length bytes) n ≡ false = le-ltb _ _ long in rw a (same long))
     ]
 
-body_values : (behind : Format) (offset n : ℕ) (bytes : List ℕ) → n ≤ length bytes
-    → (fields_at behind (offset + 2 + n * 1) (drop n bytes) >>= λ rest. Ok ((n ∷ []) ∷ take n bytes ∷ rest)) ≡ (fields_at behind (offset + 2 + length (take n bytes)) (drop n bytes) >>= λ rest. Ok ((length (take n bytes) ∷ []) ∷ take n bytes ∷ rest))
-body_values behind offset n bytes long =
+counted_values : (behind : Format) (offset width n : ℕ) (bytes : List ℕ) → n ≤ length bytes
+    → (fields_at behind (offset + width + n * 1) (drop n bytes) >>= λ rest. Ok ((n ∷ []) ∷ take n bytes ∷ rest)) ≡ (fields_at behind (offset + width + length (take n bytes)) (drop n bytes) >>= λ rest. Ok ((length (take n bytes) ∷ []) ∷ take n bytes ∷ rest))
+counted_values behind offset width n bytes long =
     let same : n * 1 ≡ n = omega arith in
     let len : length (take n bytes) ≡ n = length-take-le n bytes long in
     rw (same, len) refl
 
--- a body and what comes behind it
-pub body_is : (behind : Format) (offset : ℕ) (bytes : List ℕ) → fields_at (body behind) offset bytes ≡ (body_at offset bytes >>= λ b. fields_at behind (offset + 2 + length b.0) b.1 >>= λ rest. Ok ((length b.0 ∷ []) ∷ b.0 ∷ rest))
-unfolding body body_at
-body_is behind offset bytes = simp (one_number, many_bytes, bind_assoc) (bind_same (number_at two bytes) _ _ (λ len. bind_same (allow _ _) _ _ (λ fine. taken len.0 len.1 _ _ (λ long. body_values behind offset len.0 len.1 long))))
+-- a length, so many bytes, and what comes behind them
+pub counted_is : (size : Size) (allowed : ℕ → Bool) (behind : Format) (offset : ℕ) (bytes : List ℕ)
+    → fields_at (counted size allowed behind) offset bytes ≡ (counted_at size allowed offset bytes >>= λ b. fields_at behind (offset + bytes_in size + length b.0) b.1 >>= λ rest. Ok ((length b.0 ∷ []) ∷ b.0 ∷ rest))
+unfolding counted counted_at
+counted_is size allowed behind offset bytes =
+    let one_wide : 1 * bytes_in size ≡ bytes_in size = omega arith in
+    rw one_wide (simp (one_number, many_bytes, bind_assoc) (bind_same (number_at size bytes) _ _ (λ len. bind_same (allow _ _) _ _ (λ fine. taken len.0 len.1 _ _ (λ long. counted_values behind offset (bytes_in size) len.0 len.1 long)))))
 
 -- a body that comes last
 pub last_body_is : (offset : ℕ) (bytes : List ℕ) → fields_at (body end) offset bytes ≡ (body_at offset bytes >>= λ b. end_at b.1 >>= λ u. Ok ((length b.0 ∷ []) ∷ b.0 ∷ []))
 last_body_is offset bytes =
-    body_is end offset bytes ∙ bind_same (body_at offset bytes) _ _ (λ b. ap (λ (r : Result (List (List ℕ)) DecodeError). r >>= λ rest. Ok ((length b.0 ∷ []) ∷ b.0 ∷ rest)) (ends (offset + 2 + length b.0) b.1) ∙ bind_assoc (end_at b.1) _ _)
+    counted_is two is_body_size end offset bytes ∙ bind_same (body_at offset bytes) _ _ (λ b. ap (λ (r : Result (List (List ℕ)) DecodeError). r >>= λ rest. Ok ((length b.0 ∷ []) ∷ b.0 ∷ rest)) (ends (offset + 2 + length b.0) b.1) ∙ bind_assoc (end_at b.1) _ _)
 
 known : {B : Type 0} (n m : ℕ) (d : DecodeError) (f g : Unit {0} → Result B DecodeError) → (n ≡ m → f tt ≡ g tt) → (allow (eqb n m) d >>= f) ≡ (allow (eqb n m) d >>= g)
 known n m d f g same = known_by (eqb n m) d f g (λ h. same (eqb-true n m h))
@@ -152,7 +155,7 @@ field_of size allowed n within fine = record { whole = refl; within = (within, t
 
 body_spells : (bytes : List ℕ) (behind : Format) (rest : List (List ℕ)) (after : List ℕ) → length bytes ≤ MAX_BODY → IsBytes bytes → Spells behind rest after
     → Spells (body behind) ((length bytes ∷ []) ∷ bytes ∷ rest) (to_le_bytes w16 (length bytes) ++ (bytes ++ after))
-unfolding body
+unfolding counted
 body_spells bytes behind rest after len fits h =
     let here : IsField one (length bytes) any bytes = record { whole = refl; within = within_bytes bytes fits; allowed = refl } in
     (field_of two _ (length bytes) (omega arith) (le-leb _ _ len), bytes ++ after, refl,

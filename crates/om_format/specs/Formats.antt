@@ -56,8 +56,16 @@ abbrev pub bytes : ℕ → Format → Format
 bytes count behind = field one count any Field (λ _. behind)
 
 -- a field of a length, and one of so many bytes
-unfoldable pub body : Format → Format
-body behind = number two (λ len. nat_le len MAX_BODY) λ len. bytes len behind
+unfoldable pub counted : Size → (ℕ → Bool) → Format → Format
+counted size allowed behind = number size allowed λ len. bytes len behind
+
+-- lengths of a body
+abbrev pub is_body_size : ℕ → Bool
+is_body_size len = nat_le len MAX_BODY
+
+-- a body: its length, and its bytes
+abbrev pub body : Format → Format
+body behind = counted two is_body_size behind
 
 -- a field of a kind, and one of a version
 unfoldable pub opening : ℕ → ℕ → Format → Format

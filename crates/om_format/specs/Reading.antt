@@ -5,7 +5,7 @@ use Rattle.om_interval.specs.declared.pid.TheConstants.{MAX_PROCESSES}
 use Rattle.om_format.specs.declared.error.DecodeError.{DecodeError}
 use Rattle.om_format.specs.declared.error.DecodeError.TheVariants.{Short, Kind, Version, Field, Trailing, Memory}
 use Rattle.om_format.specs.declared.limits.TheConstants.{MAX_BODY, RECEIPT_KIND, RECEIPT_VERSION}
-use Rattle.om_format.specs.Formats.{Size, one, two, four, eight, bytes_in, width, Format, end, field}
+use Rattle.om_format.specs.Formats.{Size, one, two, four, eight, bytes_in, width, Format, end, field, is_body_size}
 use Rattle.om_format.specs.FirstFault.{values_at}
 use Rattle.om_format.specs.Receipts.{ReceiptRecord}
 
@@ -64,11 +64,15 @@ pid_at offset bytes = do
   Ok pid
 
 -- a length and so many bytes, from fields the first of which is at this offset
-unfoldable pub body_at : ℕ → List ℕ → Result (List ℕ × List ℕ) DecodeError
-body_at offset bytes = do
-  len ← number_at two bytes
-  fine ← allow (nat_le len.0 MAX_BODY) (Field offset)
+unfoldable pub counted_at : Size → (ℕ → Bool) → ℕ → List ℕ → Result (List ℕ × List ℕ) DecodeError
+counted_at size allowed offset bytes = do
+  len ← number_at size bytes
+  fine ← allow (allowed len.0) (Field offset)
   if nat_lt (length len.1) len.0 then Err Short else Ok (take len.0 len.1, drop len.0 len.1)
+
+-- a body, from fields the first of which is at this offset
+abbrev pub body_at : ℕ → List ℕ → Result (List ℕ × List ℕ) DecodeError
+body_at offset bytes = counted_at two is_body_size offset bytes
 
 -- nothing is left
 unfoldable pub end_at : List ℕ → Result (Unit {0}) DecodeError

@@ -90,7 +90,7 @@ pub(crate) fn pid_at(offset: usize, bytes: &[u8]) -> Result<(usize, &[u8]), Deco
     }
 }
 
-#[tactic(auto, unfolding(crate::specs::Reading::body_at))]
+#[tactic(auto, unfolding(crate::specs::Reading::counted_at))]
 pub(crate) fn body_at(offset: usize, bytes: &[u8]) -> Result<(&[u8], &[u8]), DecodeError>
     ensures exact { Gives (λ x. (x.0.now, x.1.now)) result (body_at offset bytes.now) }
     ensures within { IfOk result (λ x. length x.0.now ≤ MAX_BODY) }
