@@ -3,3 +3,6 @@ pub mod Spelling
 pub mod FirstFault
 pub mod Receipts
 pub mod Reading
+pub mod Queues
+pub mod Checkpoints
+pub mod CheckpointReading

@@ -3,19 +3,24 @@
 #![tactic(auto)]
 
 pub use body::Body;
+pub use checkpoint::Checkpoint;
 pub use decoding::decode_receipt;
 pub use encoding::encode_receipt;
 pub use error::DecodeError;
 pub use limits::MAX_BODY;
 pub use message::Message;
+pub use queue::{Entry, Queue};
 pub use receipt::Receipt;
 
 mod body;
+mod checkpoint;
+mod checkpoint_reading;
 mod decoding;
 mod encoding;
 mod error;
 pub mod laws;
 mod limits;
 mod message;
+mod queue;
 mod reading;
 mod receipt;

@@ -1,6 +1,6 @@
 //! Fields of a record, from the left: each is read from the front of the bytes, and leaves those after it.
 
-ghost use Rattle.std.specs.Prelude.{◌≡◌, ◌<◌, ◌≤◌, IfOk, length};
+ghost use Rattle.std.specs.Prelude.{◌≡◌, ◌+◌, ◌<◌, ◌≤◌, IfOk, length};
 ghost use Rattle.om_format.specs.Formats.{one, two, four, eight};
 ghost use Rattle.om_format.specs.Reading.{Gives, allow, number_at, opening_at, pid_at, body_at, end_at};
 ghost use Rattle.om_interval.specs.declared.pid.TheConstants.{MAX_PROCESSES};
@@ -18,7 +18,8 @@ pub(crate) fn allow(allowed: bool, fault: DecodeError) -> Result<(), DecodeError
 
 #[tactic(auto, unfolding(crate::specs::Reading::number_at))]
 pub(crate) fn u8_at(bytes: &[u8]) -> Result<(u8, &[u8]), DecodeError>
-    ensures { Gives (λ x. (x.0, x.1.now)) result (number_at one bytes.now) }
+    ensures exact { Gives (λ x. (x.0, x.1.now)) result (number_at one bytes.now) }
+    ensures left { IfOk result (λ x. 1 + length x.1.now ≡ length bytes.now) }
 {
     if bytes.len() < 1 {
         return Err(DecodeError::Short);
@@ -29,7 +30,8 @@ pub(crate) fn u8_at(bytes: &[u8]) -> Result<(u8, &[u8]), DecodeError>
 
 #[tactic(auto, unfolding(crate::specs::Reading::number_at))]
 pub(crate) fn u16_at(bytes: &[u8]) -> Result<(u16, &[u8]), DecodeError>
-    ensures { Gives (λ x. (x.0, x.1.now)) result (number_at two bytes.now) }
+    ensures exact { Gives (λ x. (x.0, x.1.now)) result (number_at two bytes.now) }
+    ensures left { IfOk result (λ x. 2 + length x.1.now ≡ length bytes.now) }
 {
     if bytes.len() < 2 {
         return Err(DecodeError::Short);
@@ -41,7 +43,8 @@ pub(crate) fn u16_at(bytes: &[u8]) -> Result<(u16, &[u8]), DecodeError>
 
 #[tactic(auto, unfolding(crate::specs::Reading::number_at))]
 pub(crate) fn u32_at(bytes: &[u8]) -> Result<(u32, &[u8]), DecodeError>
-    ensures { Gives (λ x. (x.0, x.1.now)) result (number_at four bytes.now) }
+    ensures exact { Gives (λ x. (x.0, x.1.now)) result (number_at four bytes.now) }
+    ensures left { IfOk result (λ x. 4 + length x.1.now ≡ length bytes.now) }
 {
     if bytes.len() < 4 {
         return Err(DecodeError::Short);
@@ -53,7 +56,8 @@ pub(crate) fn u32_at(bytes: &[u8]) -> Result<(u32, &[u8]), DecodeError>
 
 #[tactic(auto, unfolding(crate::specs::Reading::number_at))]
 pub(crate) fn u64_at(bytes: &[u8]) -> Result<(u64, &[u8]), DecodeError>
-    ensures { Gives (λ x. (x.0, x.1.now)) result (number_at eight bytes.now) }
+    ensures exact { Gives (λ x. (x.0, x.1.now)) result (number_at eight bytes.now) }
+    ensures left { IfOk result (λ x. 8 + length x.1.now ≡ length bytes.now) }
 {
     if bytes.len() < 8 {
         return Err(DecodeError::Short);
@@ -67,7 +71,8 @@ pub(crate) fn u64_at(bytes: &[u8]) -> Result<(u64, &[u8]), DecodeError>
 
 #[tactic(auto, unfolding(crate::specs::Reading::opening_at))]
 pub(crate) fn opening_at(kind: u8, version: u8, bytes: &[u8]) -> Result<&[u8], DecodeError>
-    ensures { Gives (λ x. x.now) result (opening_at kind version bytes.now) }
+    ensures exact { Gives (λ x. x.now) result (opening_at kind version bytes.now) }
+    ensures left { IfOk result (λ x. 2 + length x.now ≡ length bytes.now) }
 {
     let (first, rest) = u8_at(bytes)?;
     allow(first == kind, DecodeError::Kind)?;
@@ -94,6 +99,7 @@ pub(crate) fn pid_at(offset: usize, bytes: &[u8]) -> Result<(usize, &[u8]), Deco
 pub(crate) fn body_at(offset: usize, bytes: &[u8]) -> Result<(&[u8], &[u8]), DecodeError>
     ensures exact { Gives (λ x. (x.0.now, x.1.now)) result (body_at offset bytes.now) }
     ensures within { IfOk result (λ x. length x.0.now ≤ MAX_BODY) }
+    ensures left { IfOk result (λ x. 2 + length x.0.now + length x.1.now ≡ length bytes.now) }
 {
     let (len, rest) = u16_at(bytes)?;
     let len = len as usize;
