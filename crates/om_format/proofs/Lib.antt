@@ -1,3 +1,4 @@
 pub mod Numbers
 pub mod Formats
 pub mod Receipts
+pub mod Loops

@@ -1,9 +1,11 @@
 -- Numbers that are read are the numbers that were written, and what was written is read again.
-use Rattle.std.proofs.Common.{drop-drop, ◌%◌, ◌≡◌, ℕ, zero, suc, ◌+◌, ◌*◌, ◌^◌, ◌<◌, ◌≤◌, Bool, true, false, cond, ltb, List, [], ◌∷◌, ◌++◌, length, get_or, take, drop, Result, Ok, Err, refl, sym, ap, subst, ◌∙◌, append_assoc, arith, inl, inr}
+use Rattle.std.proofs.Common.{add-one, ◌-◌, drop-drop, ◌%◌, ◌≡◌, ℕ, zero, suc, ◌+◌, ◌*◌, ◌^◌, ◌<◌, ◌≤◌, Bool, true, false, cond, ltb, List, [], ◌∷◌, ◌++◌, length, get_or, take, drop, Result, Ok, Err, refl, sym, ap, subst, ◌∙◌, append_assoc, arith, inl, inr}
 use Rattle.std.specs.List.{flat_map, AllByRecursion}
-use Rattle.std.specs.Int.{to_le_bytes, from_le_bytes}
+use Rattle.std.specs.Prelude.{slice_set}
+use Rattle.std.proofs.Math.Seq.{take-suc-set}
+use Rattle.std.specs.Int.{w32, to_le_bytes, from_le_bytes}
 use Rattle.std.proofs.lemmas.Bool.{cases_lt, ltb-false, le-ltb}
-use Rattle.std.proofs.lemmas.List.{take_at, drop_at, take-append-drop, length-append, length-take, length-drop, get_or-drop, get_or-take, get_or_past}
+use Rattle.std.proofs.lemmas.List.{drop-take, take_at, drop_at, take-append-drop, length-append, length-take, length-drop, get_or-drop, get_or-take, get_or_past}
 use Rattle.std.proofs.lemmas.List.Concat.{flat_map-cons}
 use Rattle.std.proofs.lemmas.Nat.{le_bytes_2, le_bytes_4, le_bytes_8, from_le_bytes-to_le_bytes_2, from_le_bytes-to_le_bytes_4, from_le_bytes-to_le_bytes_8}
 use Rattle.om_format.specs.declared.error.DecodeError.{DecodeError}
@@ -132,3 +134,31 @@ numbers-bytes (b ∷ bytes) fits =
     let rest = numbers-bytes bytes (λ i. fits (suc i)) in
     let low : b % 256 ≡ b = omega (arith, fits 0) in
     rw (low, rest) refl
+
+-- ---- numbers of a slice that has no more
+
+take-sum : (n m : ℕ) (xs : List ℕ) → take n (take (n + m) xs) ≡ take n xs
+take-sum zero m xs = refl
+take-sum (suc n) m [] = (let more : suc n + m ≡ suc (n + m) = omega arith in rw more refl)
+take-sum (suc n) m (x ∷ xs) = (let more : suc n + m ≡ suc (n + m) = omega arith in rw (more, take-sum n m xs) refl)
+
+pub values_front : (size : Size) (count : ℕ) (bytes : List ℕ) → values_at size count (take (count * bytes_in size) bytes) ≡ values_at size count bytes
+values_front size zero bytes = refl
+values_front size (suc count) bytes = 
+    let k = bytes_in size in
+    let sum : suc count * k ≡ k + count * k = omega arith in
+    let first : take k (take (k + count * k) bytes) ≡ take k bytes = take-sum k (count * k) bytes in
+    let rest : drop k (take (k + count * k) bytes) ≡ take (count * k) (drop k bytes) = drop-take k (count * k) bytes in
+    rw (sum, first, rest, values_front size count (drop k bytes)) refl
+
+-- one more of the places has its number
+pub more_words : (places : List ℕ) (count i : ℕ) (rest word after : List ℕ) (x : ℕ) (all : List ℕ) → length places ≡ count → i < count → length rest ≡ (count - i) * 4 → word ≡ take 4 rest → after ≡ drop 4 rest → x ≡ from_le_bytes w32 word
+    → take i places ++ values_at four (count - i) rest ≡ all
+    → (length after ≡ (count - (i + 1)) * 4) × (take (i + 1) (slice_set places i x) ++ values_at four (count - (i + 1)) after ≡ all)
+more_words places count i rest word after x all len lt whole front back is so_far =
+    let left : count - i ≡ suc (count - (i + 1)) = omega arith in
+    let next : values_at four (count - i) rest ≡ x ∷ values_at four (count - (i + 1)) after = rw (left, is, front, back) refl in
+    let here : i < length places = omega arith in
+    let filled : take (i + 1) (slice_set places i x) ≡ take i places ++ x ∷ [] = rw add-one (take-suc-set places i x here) in
+    (omega (arith, ap length back, length-drop 4 rest),
+    rw filled (append_assoc (take i places) (x ∷ []) (values_at four (count - (i + 1)) after) ∙ ap (λ (t : List ℕ). take i places ++ t) (sym next) ∙ so_far))

@@ -6,3 +6,4 @@ pub mod Reading
 pub mod Queues
 pub mod Checkpoints
 pub mod CheckpointReading
+pub mod CheckpointViews

@@ -1,15 +1,21 @@
 //! Bytes to records.
 
 ghost use Rattle.std.specs.Prelude.{◌≡◌, ◌⊎◌, List, Some, Ok, IfOk, IfErr};
+ghost use Rattle.om_format.specs.CheckpointReading.{checkpoint_at};
+ghost use Rattle.om_format.specs.CheckpointViews.{parts_record};
 ghost use Rattle.om_format.specs.Reading.{Gives, receipt_at};
 ghost use Rattle.om_format.specs.Receipts.{ReceiptRecord, receipt_record, receipt_fault, SpellsReceipt};
 
 use crate::body::Body;
+use crate::checkpoint_reading::{
+    Head, head_at, memory_at, outputs_at, queues_at, regs_of, vectors_at, words_at,
+};
 use crate::error::DecodeError;
-use crate::limits::{RECEIPT_KIND, RECEIPT_VERSION};
+use crate::limits::{RECEIPT_KIND, RECEIPT_VERSION, REGISTERS};
+use crate::queue::Queue;
 use crate::reading::{body_at, end_at, opening_at, pid_at, u32_at, u64_at};
 use crate::receipt::Receipt;
-use om_interval::Pid;
+use om_interval::{DepVec, Pid};
 use std::alloc::Global;
 
 #[tactic(auto, unfolding(crate::specs::Reading::receipt_at))]
@@ -51,4 +57,49 @@ pub fn decode_receipt(alloc: Global, bytes: &[u8]) -> Result<Receipt, DecodeErro
     ensures fault { IfErr result (λ e. (e ≡ DecodeError.Memory) ⊎ (receipt_fault bytes.now ≡ Some e)) }
 {
     receipt_at(alloc, bytes)
+}
+
+/// The parts of a checkpoint, before it is known that they fit each other.
+#[derive(Drop)]
+struct Parts<'a> {
+    head: Head,
+    regs: [u32; REGISTERS],
+    vec: DepVec,
+    got: DepVec,
+    sent: DepVec,
+    made: u64,
+    memory: &'a [u8],
+    kept: Vec<Queue>,
+    outputs: Queue,
+}
+
+#[tactic(auto, unfolding(crate::specs::CheckpointReading::checkpoint_at))]
+fn checkpoint_at(alloc: Global, bytes: &[u8]) -> Result<Parts<'_>, DecodeError>
+    ensures { Gives parts_record result (checkpoint_at bytes.now) }
+{
+    let (head, rest) = head_at(bytes)?;
+    let (front, rest) = words_at(REGISTERS, rest)?;
+    let regs = regs_of(front);
+    let vectors = vectors_at(head.n, head.pid, head.interval, rest)?;
+    let (made, rest) = u64_at(vectors.rest)?;
+    if made > head.count {
+        return Err(DecodeError::Field(144 + 12 * head.n));
+    }
+    let (memory, rest) = memory_at(152 + 12 * head.n, rest)?;
+    let offset = 156 + 12 * head.n + memory.len();
+    let stops = vectors.sent.as_slice();
+    let kept = queues_at(alloc, head.interval, stops, offset, rest)?;
+    let outputs = outputs_at(alloc, head.interval, made, kept.offset, kept.rest)?;
+    end_at(outputs.rest)?;
+    Ok(Parts {
+        head,
+        regs,
+        vec: vectors.vec,
+        got: vectors.got,
+        sent: vectors.sent,
+        made,
+        memory,
+        kept: kept.value,
+        outputs: outputs.value,
+    })
 }
