@@ -80,7 +80,10 @@ fn checkpoint_at(alloc: Global, bytes: &[u8]) -> Result<Parts<'_>, DecodeError>
     let (head, rest) = head_at(bytes)?;
     let (front, rest) = words_at(REGISTERS, rest)?;
     let regs = regs_of(front);
-    let vectors = vectors_at(head.n, head.pid, head.interval, rest)?;
+    let vectors = match vectors_at(head.n, head.pid, head.interval, rest) {
+        Ok(vectors) => vectors,
+        Err(fault) => return Err(fault),
+    };
     let (made, rest) = u64_at(vectors.rest)?;
     if made > head.count {
         return Err(DecodeError::Field(144 + 12 * head.n));
