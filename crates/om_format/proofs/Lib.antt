@@ -1,4 +1,7 @@
 pub mod Numbers
 pub mod Formats
+pub mod Parts
 pub mod Receipts
+pub mod Queues
+pub mod Checkpoints
 pub mod Loops
