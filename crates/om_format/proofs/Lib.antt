@@ -3,5 +3,6 @@ pub mod Formats
 pub mod Parts
 pub mod Receipts
 pub mod Queues
+pub mod Lawful
 pub mod Checkpoints
 pub mod Loops

@@ -2,11 +2,13 @@
 
 ghost use Rattle.std.specs.Prelude.{◌≡◌, ◌⊎◌, List, Some, Ok, IfOk, IfErr};
 ghost use Rattle.om_format.specs.CheckpointReading.{checkpoint_at};
-ghost use Rattle.om_format.specs.CheckpointViews.{parts_record};
+ghost use Rattle.om_format.specs.CheckpointViews.{checkpoint_record, parts_record};
+ghost use Rattle.om_format.specs.Checkpoints.{CheckpointRecord, IsCheckpoint, SpellsCheckpoint, checkpoint_fault};
 ghost use Rattle.om_format.specs.Reading.{Gives, receipt_at};
 ghost use Rattle.om_format.specs.Receipts.{ReceiptRecord, receipt_record, receipt_fault, SpellsReceipt};
 
 use crate::body::Body;
+use crate::checkpoint::Checkpoint;
 use crate::checkpoint_reading::{
     Head, head_at, memory_at, outputs_at, queues_at, regs_of, vectors_at, words_at,
 };
@@ -105,4 +107,49 @@ fn checkpoint_at(alloc: Global, bytes: &[u8]) -> Result<Parts<'_>, DecodeError>
         kept: kept.value,
         outputs: outputs.value,
     })
+}
+
+/// The checkpoint that the bytes spell, all of the bytes, with its memory borrowed from them; else the first fault of the
+/// bytes from the left. `Memory` where there was none for a queue.
+pub fn decode_checkpoint(alloc: Global, bytes: &[u8]) -> Result<Checkpoint<'_>, DecodeError>
+    ensures found { IfOk result (λ c. SpellsCheckpoint (checkpoint_record c) bytes.now) }
+    ensures only { (r : CheckpointRecord) → SpellsCheckpoint r bytes.now → Gives checkpoint_record result (Ok r) }
+    ensures fault { IfErr result (λ e. (e ≡ DecodeError.Memory) ⊎ (checkpoint_fault bytes.now ≡ Some e)) }
+{
+    match checkpoint_at(alloc, bytes) {
+        Ok(parts) => Ok(fitted(parts)),
+        Err(fault) => Err(fault),
+    }
+}
+
+// The checkpoint of these parts.
+fn fitted<'a>(parts: Parts<'a>) -> Checkpoint<'a>
+    requires { IsCheckpoint (parts_record parts) }
+    ensures { checkpoint_record result ≡ parts_record parts.entry }
+{
+    let Parts {
+        head,
+        regs,
+        vec,
+        got,
+        sent,
+        made,
+        memory,
+        kept,
+        outputs,
+    } = parts;
+    Checkpoint {
+        pid: Pid::at(head.pid),
+        interval: head.interval,
+        count: head.count,
+        pc: head.pc,
+        regs,
+        vec,
+        got,
+        sent,
+        made,
+        memory,
+        kept,
+        outputs,
+    }
 }

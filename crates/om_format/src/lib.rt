@@ -4,7 +4,7 @@
 
 pub use body::Body;
 pub use checkpoint::Checkpoint;
-pub use decoding::decode_receipt;
+pub use decoding::{decode_checkpoint, decode_receipt};
 pub use encoding::encode_receipt;
 pub use error::DecodeError;
 pub use limits::MAX_BODY;
