@@ -3,13 +3,13 @@ ghost use Rattle.om_format.specs.Checkpoints.{IsCheckpoint};
 ghost use Rattle.om_format.specs.Queues.{queue_record};
 
 use crate::limits::REGISTERS;
+use crate::memory::MemoryBytes;
 use crate::queue::Queue;
 use om_interval::{DepVec, Pid};
 
-/// The state of a process in an interval. The memory is borrowed: of the machine that is stored, or of the record that was
-/// read.
+/// The state of a process in an interval.
 #[derive(Debug, Drop)]
-pub struct Checkpoint<'a> {
+pub struct Checkpoint {
     pub pid: Pid,
     pub interval: u32,
     /// How many instructions were finished.
@@ -25,12 +25,11 @@ pub struct Checkpoint<'a> {
     pub sent: DepVec,
     /// How many outputs were made.
     pub made: u64,
-    /// From 4 to 65,536 bytes, a multiple of 4.
-    pub memory: &'a [u8],
+    pub memory: MemoryBytes,
     /// The messages that are kept, by receiver.
     pub kept: Vec<Queue>,
     /// The outputs that are kept.
     pub outputs: Queue,
     // The values fit each other.
-    pub ghost lawful: { IsCheckpoint (record { n = length vec; pid = pid; interval = interval; count = count; pc = pc; regs = regs; vec = vec; got = got; sent = sent; made = made; memory = memory.now; kept = map queue_record kept.items; outputs = queue_record outputs }) },
+    pub ghost lawful: { IsCheckpoint (record { n = length vec; pid = pid; interval = interval; count = count; pc = pc; regs = regs; vec = vec; got = got; sent = sent; made = made; memory = memory; kept = map queue_record kept.items; outputs = queue_record outputs }) },
 }

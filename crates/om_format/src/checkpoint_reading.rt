@@ -1,6 +1,6 @@
 //! The parts of a checkpoint, from the left.
 
-ghost use Rattle.std.specs.Prelude.{◌≡◌, ◌+◌, ◌*◌, ◌<◌, ◌≤◌, ◌^◌, IfOk, length, map, sum};
+ghost use Rattle.std.specs.Prelude.{◌≡◌, ◌+◌, ◌*◌, ◌<◌, ◌≤◌, ◌^◌, IfOk, length, map, sum, true};
 ghost use Rattle.om_format.specs.declared.limits.TheConstants.{MAX_MEMORY, REGISTERS};
 ghost use Rattle.om_format.specs.Formats.{four, eight};
 ghost use Rattle.om_format.specs.Checkpoints.{is_memory_size};
@@ -12,7 +12,8 @@ ghost use Rattle.om_interval.specs.declared.pid.TheConstants.{MAX_PROCESSES};
 
 use crate::body::Body;
 use crate::error::DecodeError;
-use crate::limits::{CHECKPOINT_KIND, CHECKPOINT_VERSION, MAX_MEMORY, MIN_MEMORY, REGISTERS};
+use crate::limits::{CHECKPOINT_KIND, CHECKPOINT_VERSION, MAX_MEMORY, REGISTERS};
+use crate::memory::MemoryBytes;
 use crate::queue::{Entry, Queue};
 use crate::reading::{body_at, opening_at, u8_at, u32_at, u64_at};
 use om_interval::{DepVec, MAX_PROCESSES, Pid};
@@ -170,10 +171,11 @@ pub(crate) fn memory_at(offset: usize, bytes: &[u8]) -> Result<(&[u8], &[u8]), D
     ensures exact { Gives (λ x. (x.0.now, x.1.now)) result (counted_at four is_memory_size offset bytes.now) }
     ensures left { IfOk result (λ x. 4 + length x.0.now + length x.1.now ≡ length bytes.now) }
     ensures within { IfOk result (λ x. length x.0.now ≤ MAX_MEMORY) }
+    ensures size { IfOk result (λ x. is_memory_size (length x.0.now) ≡ true) }
 {
     let (size, rest) = u32_at(bytes)?;
     let size = size as usize;
-    if size < MIN_MEMORY || size > MAX_MEMORY || size % MIN_MEMORY != 0 {
+    if !MemoryBytes::is_size(size) {
         return Err(DecodeError::Field(offset));
     }
     if rest.len() < size {

@@ -14,6 +14,7 @@ use crate::checkpoint_reading::{
 };
 use crate::error::DecodeError;
 use crate::limits::{RECEIPT_KIND, RECEIPT_VERSION, REGISTERS};
+use crate::memory::MemoryBytes;
 use crate::queue::Queue;
 use crate::reading::{body_at, end_at, opening_at, pid_at, u32_at, u64_at};
 use crate::receipt::Receipt;
@@ -63,20 +64,20 @@ pub fn decode_receipt(alloc: Global, bytes: &[u8]) -> Result<Receipt, DecodeErro
 
 /// The parts of a checkpoint, before it is known that they fit each other.
 #[derive(Drop)]
-struct Parts<'a> {
+struct Parts {
     head: Head,
     regs: [u32; REGISTERS],
     vec: DepVec,
     got: DepVec,
     sent: DepVec,
     made: u64,
-    memory: &'a [u8],
+    memory: MemoryBytes,
     kept: Vec<Queue>,
     outputs: Queue,
 }
 
 #[tactic(auto, unfolding(crate::specs::CheckpointReading::checkpoint_at))]
-fn checkpoint_at(alloc: Global, bytes: &[u8]) -> Result<Parts<'_>, DecodeError>
+fn checkpoint_at(alloc: Global, bytes: &[u8]) -> Result<Parts, DecodeError>
     ensures { Gives parts_record result (checkpoint_at bytes.now) }
 {
     let (head, rest) = head_at(bytes)?;
@@ -92,6 +93,7 @@ fn checkpoint_at(alloc: Global, bytes: &[u8]) -> Result<Parts<'_>, DecodeError>
     }
     let (memory, rest) = memory_at(152 + 12 * head.n, rest)?;
     let offset = 156 + 12 * head.n + memory.len();
+    let memory = MemoryBytes::from_vec(Vec::from_slice(alloc, memory)?);
     let stops = vectors.sent.as_slice();
     let kept = queues_at(alloc, head.interval, stops, offset, rest)?;
     let outputs = outputs_at(alloc, head.interval, made, kept.offset, kept.rest)?;
@@ -109,9 +111,9 @@ fn checkpoint_at(alloc: Global, bytes: &[u8]) -> Result<Parts<'_>, DecodeError>
     })
 }
 
-/// The checkpoint that the bytes spell, all of the bytes, with its memory borrowed from them; else the first fault of the
-/// bytes from the left. `Memory` where there was none for a queue.
-pub fn decode_checkpoint(alloc: Global, bytes: &[u8]) -> Result<Checkpoint<'_>, DecodeError>
+/// The checkpoint that the bytes spell, all of the bytes; else the first fault of the bytes from the left. `Memory` where
+/// there was none for the memory or a queue.
+pub fn decode_checkpoint(alloc: Global, bytes: &[u8]) -> Result<Checkpoint, DecodeError>
     ensures found { IfOk result (λ c. SpellsCheckpoint (checkpoint_record c) bytes.now) }
     ensures only { (r : CheckpointRecord) → SpellsCheckpoint r bytes.now → Gives checkpoint_record result (Ok r) }
     ensures fault { IfErr result (λ e. (e ≡ DecodeError.Memory) ⊎ (checkpoint_fault bytes.now ≡ Some e)) }
@@ -123,9 +125,9 @@ pub fn decode_checkpoint(alloc: Global, bytes: &[u8]) -> Result<Checkpoint<'_>, 
 }
 
 // The checkpoint of these parts.
-fn fitted<'a>(parts: Parts<'a>) -> Checkpoint<'a>
+fn fitted(parts: Parts) -> Checkpoint
     requires { IsCheckpoint (parts_record parts) }
-    ensures { checkpoint_record result ≡ parts_record parts.entry }
+    ensures { checkpoint_record result ≡ parts_record parts }
 {
     let Parts {
         head,
