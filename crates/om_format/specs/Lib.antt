@@ -7,3 +7,4 @@ pub mod Queues
 pub mod Checkpoints
 pub mod CheckpointReading
 pub mod CheckpointViews
+pub mod CheckpointBytes

@@ -5,7 +5,7 @@
 pub use body::Body;
 pub use checkpoint::Checkpoint;
 pub use decoding::{decode_checkpoint, decode_receipt};
-pub use encoding::encode_receipt;
+pub use encoding::{encode_checkpoint, encode_receipt};
 pub use error::DecodeError;
 pub use limits::MAX_BODY;
 pub use memory::MemoryBytes;
@@ -16,6 +16,7 @@ pub use receipt::Receipt;
 mod body;
 mod checkpoint;
 mod checkpoint_reading;
+mod checkpoint_writing;
 mod decoding;
 mod encoding;
 mod error;
