@@ -13,7 +13,7 @@ use crate::limits::{CHECKPOINT_KIND, CHECKPOINT_VERSION};
 use crate::queue::{Entry, Queue};
 use std::alloc::AllocError;
 
-pub(crate) fn put_front(out: &mut Vec<u8>, checkpoint: &Checkpoint<'_>) -> Result<(), AllocError>
+pub(crate) fn put_front(out: &mut Vec<u8>, checkpoint: &Checkpoint) -> Result<(), AllocError>
     ensures bytes { OnOk result (out.new.items ≡ out.old.items ++ front_bytes (checkpoint_record checkpoint.now)) }
     ensures interval { OnOk result (checkpoint.now.interval < 2 ^ 32) }
     ensures count { OnOk result (checkpoint.now.count < 2 ^ 64) }
@@ -37,10 +37,7 @@ fn put_words(out: &mut Vec<u8>, words: &[u32]) -> Result<(), AllocError>
     Ok(())
 }
 
-pub(crate) fn put_vectors(
-    out: &mut Vec<u8>,
-    checkpoint: &Checkpoint<'_>,
-) -> Result<(), AllocError>
+pub(crate) fn put_vectors(out: &mut Vec<u8>, checkpoint: &Checkpoint) -> Result<(), AllocError>
     ensures bytes { OnOk result (out.new.items ≡ out.old.items ++ vector_bytes (checkpoint_record checkpoint.now)) }
     ensures regs { OnOk result (AreWords checkpoint.now.regs) }
     ensures vec { OnOk result (AreWords checkpoint.now.vec) }
@@ -103,8 +100,10 @@ pub(crate) fn put_outputs(out: &mut Vec<u8>, queue: &Queue) -> Result<(), AllocE
 
 /// How many bytes a checkpoint has, if that is no more than there are numbers: so much room is made at once, and the memory
 /// need not be moved.
-pub(crate) fn size_of(checkpoint: &Checkpoint<'_>) -> usize {
-    let mut size = size_of_queue(&checkpoint.outputs).saturating_add(checkpoint.memory.len());
+pub(crate) fn size_of(checkpoint: &Checkpoint) -> usize {
+    let mut size = size_of_queue(&checkpoint.outputs).saturating_add(
+        checkpoint.memory.as_slice().len(),
+    );
     for queue in &checkpoint.kept {
         size = size.saturating_add(size_of_queue(queue));
     }

@@ -7,7 +7,9 @@ ghost use Rattle.om_format.specs.Checkpoints.{IsCheckpoint, SpellsCheckpoint};
 ghost use Rattle.om_format.specs.Receipts.{receipt_record, receipt_bytes, IsReceipt, SpellsReceipt};
 
 use crate::checkpoint::Checkpoint;
-use crate::checkpoint_writing::{put_front, put_memory, put_outputs, put_queues, put_vectors, size_of};
+use crate::checkpoint_writing::{
+    put_front, put_memory, put_outputs, put_queues, put_vectors, size_of,
+};
 use crate::limits::{RECEIPT_KIND, RECEIPT_VERSION};
 use crate::receipt::Receipt;
 use std::alloc::{AllocError, Global};
@@ -39,7 +41,7 @@ pub fn encode_receipt(alloc: Global, receipt: &Receipt) -> Result<Vec<u8>, Alloc
     receipt_bytes(alloc, receipt)
 }
 
-fn checkpoint_bytes(alloc: Global, checkpoint: &Checkpoint<'_>) -> Result<Vec<u8>, AllocError>
+fn checkpoint_bytes(alloc: Global, checkpoint: &Checkpoint) -> Result<Vec<u8>, AllocError>
     ensures bytes { IfOk result (λ v. v.items ≡ checkpoint_bytes (checkpoint_record checkpoint.now)) }
     ensures within { IfOk result (λ _. AreWithin (checkpoint_record checkpoint.now)) }
     ensures lawful { IsCheckpoint (checkpoint_record checkpoint.now) }
@@ -47,17 +49,14 @@ fn checkpoint_bytes(alloc: Global, checkpoint: &Checkpoint<'_>) -> Result<Vec<u8
     let mut out = Vec::with_capacity(alloc, size_of(checkpoint))?;
     put_front(&mut out, checkpoint)?;
     put_vectors(&mut out, checkpoint)?;
-    put_memory(&mut out, checkpoint.made, checkpoint.memory)?;
+    put_memory(&mut out, checkpoint.made, checkpoint.memory.as_slice())?;
     put_queues(&mut out, &checkpoint.kept)?;
     put_outputs(&mut out, &checkpoint.outputs)?;
     Ok(out)
 }
 
 /// The bytes that spell a checkpoint. Its memory is copied once.
-pub fn encode_checkpoint(
-    alloc: Global,
-    checkpoint: &Checkpoint<'_>,
-) -> Result<Vec<u8>, AllocError>
+pub fn encode_checkpoint(alloc: Global, checkpoint: &Checkpoint) -> Result<Vec<u8>, AllocError>
     ensures { IfOk result (λ v. SpellsCheckpoint (checkpoint_record checkpoint.now) v.items) }
 {
     checkpoint_bytes(alloc, checkpoint)
