@@ -40,9 +40,12 @@ counted_spells : (size : Size) (allowed : ℕ → Bool) (bytes : List ℕ) (behi
     → Spells (counted size allowed behind) ((length bytes ∷ []) ∷ bytes ∷ rest) (numbers size (length bytes ∷ []) ++ (bytes ++ after))
 unfolding counted
 counted_spells size allowed bytes behind rest after within fine fits h =
-    let here : IsField one (length bytes) any bytes = record { whole = refl; within = within_bytes bytes fits; allowed = refl } in
-    (field_of size _ (length bytes) within fine, bytes ++ after, refl,
-    (here, after, ap (λ (x : List ℕ). x ++ after) (sym (numbers-bytes bytes fits)), h))
+    let here : IsField one (length bytes) any bytes = record { whole = refl; within = within_bytes bytes fits; allowed = refl } in (
+      field_of size _ (length bytes) within fine,
+      bytes ++ after,
+      refl,
+      (here, after, ap (λ (x : List ℕ). x ++ after) (sym (numbers-bytes bytes fits)), h),
+    )
 
 entries_spell : (newest low : ℕ) (es : List Entry) (behind : Format) (rest : List (List ℕ)) (after : List ℕ) → newest < 2 ^ 32 → are_entries newest low es ≡ true → IsBytes (flat_map entry_bytes es ++ after) → Spells behind rest after
     → Spells (entries newest low (length es) behind) (flat_map entry_values es ++ rest) (flat_map entry_bytes es ++ after)
@@ -136,19 +139,62 @@ checkpoint_spells r h w fits =
     let outputs : Spells (queue eight r.interval r.made end) (queue_values r.outputs) t_out = subst (λ (vs : List (List ℕ)). Spells (queue eight r.interval r.made end) vs t_out) (append-nil (queue_values r.outputs)) last in
     let kept = queues_spell r.interval r.kept r.sent (queue eight r.interval r.made end) (queue_values r.outputs) t_out w.interval h.kept w.sent h.messages queues_fit outputs in
     let memory = counted_spells four is_memory_size r.memory (queues r.interval r.sent (queue eight r.interval r.made end)) (flat_map queue_values r.kept ++ queue_values r.outputs) t_queues (omega (arith, size_most)) h.memory (bytes_before r.memory t_queues memory_fits) kept in
-    let spelled : Spells checkpoint_format (checkpoint_values r) whole =
-        (field_of one _ CHECKPOINT_KIND (lit< tt) refl, t_version, refl,
-        (field_of one _ CHECKPOINT_VERSION (lit< tt) refl, t_n, refl,
-        (field_of one _ r.n n_byte h.n, t_pid, byte_cell r.n t_pid n_byte,
-        (field_of one _ r.pid pid_byte (lt-ltb _ _ h.pid), t_interval, byte_cell r.pid t_interval pid_byte,
-        (field_of four any r.interval w.interval refl, t_count, refl,
-        (field_of eight _ r.count w.count (le-leb _ _ h.count), t_pc, refl,
-        (field_of four _ r.pc w.pc (eq-eqb _ _ h.pc), t_regs, refl,
-        (words_of REGISTERS any r.regs h.regs w.regs refl, t_vec, refl,
-        (words_of r.n _ r.vec h.vec w.vec (eq-eqb _ _ h.own), t_got, refl,
-        (words_of r.n _ r.got h.got w.got (eq-eqb _ _ h.received), t_sent, refl,
-        (words_of r.n any r.sent h.sent w.sent refl, t_made, refl,
-        (field_of eight _ r.made w.made (le-leb _ _ h.made), t_size, refl, memory)))))))))))) in
+    let spelled : Spells checkpoint_format (checkpoint_values r) whole = (
+      field_of one _ CHECKPOINT_KIND (lit< tt) refl,
+      t_version,
+      refl,
+      (
+        field_of one _ CHECKPOINT_VERSION (lit< tt) refl,
+        t_n,
+        refl,
+        (
+          field_of one _ r.n n_byte h.n,
+          t_pid,
+          byte_cell r.n t_pid n_byte,
+          (
+            field_of one _ r.pid pid_byte (lt-ltb _ _ h.pid),
+            t_interval,
+            byte_cell r.pid t_interval pid_byte,
+            (
+              field_of four any r.interval w.interval refl,
+              t_count,
+              refl,
+              (
+                field_of eight _ r.count w.count (le-leb _ _ h.count),
+                t_pc,
+                refl,
+                (
+                  field_of four _ r.pc w.pc (eq-eqb _ _ h.pc),
+                  t_regs,
+                  refl,
+                  (
+                    words_of REGISTERS any r.regs h.regs w.regs refl,
+                    t_vec,
+                    refl,
+                    (
+                      words_of r.n _ r.vec h.vec w.vec (eq-eqb _ _ h.own),
+                      t_got,
+                      refl,
+                      (
+                        words_of r.n _ r.got h.got w.got (eq-eqb _ _ h.received),
+                        t_sent,
+                        refl,
+                        (
+                          words_of r.n any r.sent h.sent w.sent refl,
+                          t_made,
+                          refl,
+                          (field_of eight _ r.made w.made (le-leb _ _ h.made), t_size, refl, memory),
+                        ),
+                      ),
+                    ),
+                  ),
+                ),
+              ),
+            ),
+          ),
+        ),
+      ),
+    ) in
     record {
       fields = subst (λ (bytes : List ℕ). Spells checkpoint_format (checkpoint_values r) bytes) ended spelled;
       ended = record { kept = h.kept; outputs = h.outputs };

@@ -144,7 +144,7 @@ take-sum (suc n) m (x ∷ xs) = (let more : suc n + m ≡ suc (n + m) = omega ar
 
 pub values_front : (size : Size) (count : ℕ) (bytes : List ℕ) → values_at size count (take (count * bytes_in size) bytes) ≡ values_at size count bytes
 values_front size zero bytes = refl
-values_front size (suc count) bytes = 
+values_front size (suc count) bytes =
     let k = bytes_in size in
     let sum : suc count * k ≡ k + count * k = omega arith in
     let first : take k (take (k + count * k) bytes) ≡ take k bytes = take-sum k (count * k) bytes in
@@ -159,6 +159,7 @@ more_words places count i rest word after x all len lt whole front back is so_fa
     let left : count - i ≡ suc (count - (i + 1)) = omega arith in
     let next : values_at four (count - i) rest ≡ x ∷ values_at four (count - (i + 1)) after = rw (left, is, front, back) refl in
     let here : i < length places = omega arith in
-    let filled : take (i + 1) (slice_set places i x) ≡ take i places ++ x ∷ [] = rw add-one (take-suc-set places i x here) in
-    (omega (arith, ap length back, length-drop 4 rest),
-    rw filled (append_assoc (take i places) (x ∷ []) (values_at four (count - (i + 1)) after) ∙ ap (λ (t : List ℕ). take i places ++ t) (sym next) ∙ so_far))
+    let filled : take (i + 1) (slice_set places i x) ≡ take i places ++ x ∷ [] = rw add-one (take-suc-set places i x here) in (
+      omega (arith, ap length back, length-drop 4 rest),
+      rw filled (append_assoc (take i places) (x ∷ []) (values_at four (count - (i + 1)) after) ∙ ap (λ (t : List ℕ). take i places ++ t) (sym next) ∙ so_far),
+    )

@@ -98,4 +98,3 @@ pub opening_is : (kind version : ℕ) (behind : Format) (offset : ℕ) (bytes : 
 unfolding opening opening_at
 opening_is kind version behind offset bytes =
     simp (one_number, bind_assoc) (bind_same (number_at one bytes) _ _ (λ k. known k.0 kind _ _ _ (λ same_kind. bind_same (number_at one k.1) _ _ (λ v. known v.0 version _ _ _ (λ same_version. rw (same_kind, same_version) refl)))))
-

@@ -75,9 +75,12 @@ body_spells : (bytes : List ℕ) (behind : Format) (rest : List (List ℕ)) (aft
     → Spells (body behind) ((length bytes ∷ []) ∷ bytes ∷ rest) (to_le_bytes w16 (length bytes) ++ (bytes ++ after))
 unfolding counted
 body_spells bytes behind rest after len fits h =
-    let here : IsField one (length bytes) any bytes = record { whole = refl; within = within_bytes bytes fits; allowed = refl } in
-    (field_of two _ (length bytes) (omega arith) (le-leb _ _ len), bytes ++ after, refl,
-    (here, after, ap (λ (x : List ℕ). x ++ after) (sym (numbers-bytes bytes fits)), h))
+    let here : IsField one (length bytes) any bytes = record { whole = refl; within = within_bytes bytes fits; allowed = refl } in (
+      field_of two _ (length bytes) (omega arith) (le-leb _ _ len),
+      bytes ++ after,
+      refl,
+      (here, after, ap (λ (x : List ℕ). x ++ after) (sym (numbers-bytes bytes fits)), h),
+    )
 
 receipt_spells : (r : ReceiptRecord) → IsReceipt r → SpellsReceipt r (receipt_bytes r)
 unfolding receipt_format opening
@@ -91,15 +94,42 @@ receipt_spells r h =
     let t3 = r.to ∷ t4 in
     let t2 = RECEIPT_VERSION ∷ t3 in
     let last = body_spells r.body end [] [] h.len h.body refl in
-    let spelled : SpellsReceipt r (RECEIPT_KIND ∷ t2) =
-        (field_of one _ RECEIPT_KIND (lit< tt) refl, t2, refl,
-        (field_of one _ RECEIPT_VERSION (lit< tt) refl, t3, refl,
-        (field_of one _ r.to (omega (arith, h.to)) (lt-ltb _ _ h.to), t4, byte_cell r.to t4 (omega (arith, h.to)),
-        (field_of one _ r.from (omega (arith, h.from)) (lt-ltb _ _ h.from), t5, byte_cell r.from t5 (omega (arith, h.from)),
-        (field_of four _ r.interval h.interval (le-leb _ _ (omega (arith, h.ssn))), t6, refl,
-        (field_of four any r.sender_interval h.sender_interval refl, t7, refl,
-        (field_of four _ r.ssn (omega (arith, h.ssn, h.interval)) (lt-ltb _ _ h.ssn), t8, refl,
-        (field_of eight any r.count h.count refl, t9, refl, last)))))))) in
+    let spelled : SpellsReceipt r (RECEIPT_KIND ∷ t2) = (
+      field_of one _ RECEIPT_KIND (lit< tt) refl,
+      t2,
+      refl,
+      (
+        field_of one _ RECEIPT_VERSION (lit< tt) refl,
+        t3,
+        refl,
+        (
+          field_of one _ r.to (omega (arith, h.to)) (lt-ltb _ _ h.to),
+          t4,
+          byte_cell r.to t4 (omega (arith, h.to)),
+          (
+            field_of one _ r.from (omega (arith, h.from)) (lt-ltb _ _ h.from),
+            t5,
+            byte_cell r.from t5 (omega (arith, h.from)),
+            (
+              field_of four _ r.interval h.interval (le-leb _ _ (omega (arith, h.ssn))),
+              t6,
+              refl,
+              (
+                field_of four any r.sender_interval h.sender_interval refl,
+                t7,
+                refl,
+                (
+                  field_of four _ r.ssn (omega (arith, h.ssn, h.interval)) (lt-ltb _ _ h.ssn),
+                  t8,
+                  refl,
+                  (field_of eight any r.count h.count refl, t9, refl, last),
+                ),
+              ),
+            ),
+          ),
+        ),
+      ),
+    ) in
     let ended : RECEIPT_KIND ∷ t2 ≡ receipt_bytes r = rw (append-nil r.body) refl in
     subst (λ (bytes : List ℕ). SpellsReceipt r bytes) ended spelled
 

@@ -37,10 +37,7 @@ fn put_words(out: &mut Vec<u8>, words: &[u32]) -> Result<(), AllocError>
     Ok(())
 }
 
-pub(crate) fn put_vectors(
-    out: &mut Vec<u8>,
-    checkpoint: &Checkpoint<'_>,
-) -> Result<(), AllocError>
+pub(crate) fn put_vectors(out: &mut Vec<u8>, checkpoint: &Checkpoint<'_>) -> Result<(), AllocError>
     ensures bytes { OnOk result (out.new.items ≡ out.old.items ++ vector_bytes (checkpoint_record checkpoint.now)) }
     ensures regs { OnOk result (AreWords checkpoint.now.regs) }
     ensures vec { OnOk result (AreWords checkpoint.now.vec) }

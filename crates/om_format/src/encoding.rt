@@ -7,7 +7,9 @@ ghost use Rattle.om_format.specs.Checkpoints.{IsCheckpoint, SpellsCheckpoint};
 ghost use Rattle.om_format.specs.Receipts.{receipt_record, receipt_bytes, IsReceipt, SpellsReceipt};
 
 use crate::checkpoint::Checkpoint;
-use crate::checkpoint_writing::{put_front, put_memory, put_outputs, put_queues, put_vectors, size_of};
+use crate::checkpoint_writing::{
+    put_front, put_memory, put_outputs, put_queues, put_vectors, size_of,
+};
 use crate::limits::{RECEIPT_KIND, RECEIPT_VERSION};
 use crate::receipt::Receipt;
 use std::alloc::{AllocError, Global};
@@ -55,10 +57,7 @@ fn checkpoint_bytes(alloc: Global, checkpoint: &Checkpoint<'_>) -> Result<Vec<u8
 }
 
 /// The bytes that spell a checkpoint. Its memory is copied once.
-pub fn encode_checkpoint(
-    alloc: Global,
-    checkpoint: &Checkpoint<'_>,
-) -> Result<Vec<u8>, AllocError>
+pub fn encode_checkpoint(alloc: Global, checkpoint: &Checkpoint<'_>) -> Result<Vec<u8>, AllocError>
     ensures { IfOk result (λ v. SpellsCheckpoint (checkpoint_record checkpoint.now) v.items) }
 {
     checkpoint_bytes(alloc, checkpoint)

@@ -11,9 +11,10 @@ returns-in_err-taken-clause-exact c =
 
 pub loop-preserved : goal.loop-preserved
 loop-preserved c =
-    let taken = c.in_ok-taken.taken in
-    (omega (arith, c.in_ok-taken.ensures.left, c.loop.invariant.0),
-    rw c.in_ok-push.ensures.items (entries_go_on c.args.newest c.args.count _ c.loop.value.items c.loop.counter c.loop.low c.loop.offset c.loop.rest.now taken.value taken.offset taken.rest.now c.loop-test.true c.in_ok-taken.ensures.exact c.loop.invariant.1))
+    let taken = c.in_ok-taken.taken in (
+      omega (arith, c.in_ok-taken.ensures.left, c.loop.invariant.0),
+      rw c.in_ok-push.ensures.items (entries_go_on c.args.newest c.args.count _ c.loop.value.items c.loop.counter c.loop.low c.loop.offset c.loop.rest.now taken.value taken.offset taken.rest.now c.loop-test.true c.in_ok-taken.ensures.exact c.loop.invariant.1),
+    )
 
 pub returns-clause-exact : goal.returns-clause-exact
 returns-clause-exact c = entries_done c.args.newest c.args.count _ c.loop.value.items c.loop.counter c.loop.low c.loop.offset c.loop.rest.now c.loop-test.false c.loop.invariant.1

@@ -15,9 +15,10 @@ returns-in_err-taken-clause-exact c =
 pub loop-stop-preserved : goal.loop-stop-preserved
 loop-stop-preserved c =
     let taken = c.in_ok-taken.taken in
-    let pushed : map queue_record c.push.new.self.items ≡ map queue_record c.loop-stop.value.items ++ queue_record taken.value ∷ [] = rw c.in_ok-push.ensures.items (map_push queue_record c.loop-stop.value.items taken.value) in
-    (omega (arith, c.in_ok-taken.ensures.left, c.loop-stop.invariant.0),
-    rw pushed (queues_go_on c.args.newest c.args.stops.now _ (map queue_record c.loop-stop.value.items) c.loop-stop.stop-index c.loop-stop.offset c.loop-stop.rest.now (queue_record taken.value) taken.offset taken.rest.now c.loop-stop-test.true c.in_ok-taken.ensures.exact c.loop-stop.invariant.1))
+    let pushed : map queue_record c.push.new.self.items ≡ map queue_record c.loop-stop.value.items ++ queue_record taken.value ∷ [] = rw c.in_ok-push.ensures.items (map_push queue_record c.loop-stop.value.items taken.value) in (
+      omega (arith, c.in_ok-taken.ensures.left, c.loop-stop.invariant.0),
+      rw pushed (queues_go_on c.args.newest c.args.stops.now _ (map queue_record c.loop-stop.value.items) c.loop-stop.stop-index c.loop-stop.offset c.loop-stop.rest.now (queue_record taken.value) taken.offset taken.rest.now c.loop-stop-test.true c.in_ok-taken.ensures.exact c.loop-stop.invariant.1),
+    )
 
 pub returns-clause-exact : goal.returns-clause-exact
 returns-clause-exact c = queues_done c.args.newest c.args.stops.now _ (map queue_record c.loop-stop.value.items) c.loop-stop.stop-index c.loop-stop.offset c.loop-stop.rest.now c.loop-stop-test.false c.loop-stop.invariant.1
