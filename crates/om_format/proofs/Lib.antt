@@ -4,5 +4,6 @@ pub mod Parts
 pub mod Receipts
 pub mod Queues
 pub mod Lawful
+pub mod CheckpointSpelling
 pub mod Checkpoints
 pub mod Loops

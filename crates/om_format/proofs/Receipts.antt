@@ -65,10 +65,10 @@ module _ (bytes : List ℕ) where
 
 -- ---- writing
 
-byte_cell : (n : ℕ) (after : List ℕ) → n < 256 → n ∷ after ≡ numbers one (n ∷ []) ++ after
+pub byte_cell : (n : ℕ) (after : List ℕ) → n < 256 → n ∷ after ≡ numbers one (n ∷ []) ++ after
 byte_cell n after lt = ap (λ (b : ℕ). b ∷ after) (omega arith)
 
-field_of : (size : Size) (allowed : List ℕ → Bool) (n : ℕ) → n < limit size → allowed (n ∷ []) ≡ true → IsField size 1 allowed (n ∷ [])
+pub field_of : (size : Size) (allowed : List ℕ → Bool) (n : ℕ) → n < limit size → allowed (n ∷ []) ≡ true → IsField size 1 allowed (n ∷ [])
 field_of size allowed n within fine = record { whole = refl; within = (within, tt); allowed = fine }
 
 body_spells : (bytes : List ℕ) (behind : Format) (rest : List (List ℕ)) (after : List ℕ) → length bytes ≤ MAX_BODY → IsBytes bytes → Spells behind rest after

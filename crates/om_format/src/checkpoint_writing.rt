@@ -1,6 +1,6 @@
 //! The parts of a checkpoint, each written behind what was written before.
 
-ghost use Rattle.std.specs.Prelude.{◌≡◌, ◌<◌, ◌≤◌, ◌^◌, ◌++◌, OnOk, All, length, map};
+ghost use Rattle.std.specs.Prelude.{◌≡◌, ◌<◌, ◌≤◌, ◌^◌, ◌++◌, ℕ, OnOk, length, map, slice_index};
 ghost use Rattle.std.specs.List.{flat_map};
 ghost use Rattle.om_format.specs.CheckpointBytes.{front_bytes, vector_bytes, memory_bytes, entry_bytes, message_bytes, output_bytes, AreWords};
 ghost use Rattle.om_format.specs.CheckpointViews.{checkpoint_record};
@@ -92,10 +92,12 @@ pub(crate) fn put_queues(out: &mut Vec<u8>, queues: &[Queue]) -> Result<(), Allo
 }
 
 pub(crate) fn put_outputs(out: &mut Vec<u8>, queue: &Queue) -> Result<(), AllocError>
-    ensures { OnOk result (out.new.items ≡ out.old.items ++ output_bytes (queue_record queue.now)) }
+    ensures bytes { OnOk result (out.new.items ≡ out.old.items ++ output_bytes (queue_record queue.now)) }
+    ensures fits { OnOk result ((i : ℕ) → slice_index out.new.items i < 256) }
 {
     out.extend_from_slice(&queue.first.to_le_bytes())?;
-    put_entries(out, &queue.entries)
+    put_entries(out, &queue.entries)?;
+    Ok(())
 }
 
 /// How many bytes a checkpoint has, if that is no more than there are numbers: so much room is made at once, and the memory

@@ -1,6 +1,6 @@
 //! Records to bytes.
 
-ghost use Rattle.std.specs.Prelude.{◌≡◌, IfOk};
+ghost use Rattle.std.specs.Prelude.{◌≡◌, ◌<◌, ℕ, IfOk, slice_index};
 ghost use Rattle.om_format.specs.CheckpointBytes.{checkpoint_bytes, AreWithin};
 ghost use Rattle.om_format.specs.CheckpointViews.{checkpoint_record};
 ghost use Rattle.om_format.specs.Checkpoints.{IsCheckpoint, SpellsCheckpoint};
@@ -43,6 +43,7 @@ pub fn encode_receipt(alloc: Global, receipt: &Receipt) -> Result<Vec<u8>, Alloc
 
 fn checkpoint_bytes(alloc: Global, checkpoint: &Checkpoint) -> Result<Vec<u8>, AllocError>
     ensures bytes { IfOk result (λ v. v.items ≡ checkpoint_bytes (checkpoint_record checkpoint.now)) }
+    ensures fits { IfOk result (λ v. (i : ℕ) → slice_index v.items i < 256) }
     ensures within { IfOk result (λ _. AreWithin (checkpoint_record checkpoint.now)) }
     ensures lawful { IsCheckpoint (checkpoint_record checkpoint.now) }
 {

@@ -7,7 +7,7 @@ pub use checkpoint::Checkpoint;
 pub use decoding::{decode_checkpoint, decode_receipt};
 pub use encoding::{encode_checkpoint, encode_receipt};
 pub use error::DecodeError;
-pub use limits::MAX_BODY;
+pub use limits::{MAX_BODY, MAX_MEMORY, MIN_MEMORY, REGISTERS};
 pub use memory::MemoryBytes;
 pub use message::Message;
 pub use queue::{Entry, Queue};
@@ -27,3 +27,5 @@ mod message;
 mod queue;
 mod reading;
 mod receipt;
+#[cfg(test)]
+mod tests;
