@@ -1,0 +1,205 @@
+-- What is written of a checkpoint spells it.
+use Rattle.std.proofs.Common.{eq-eqb, lit<, ◌≡◌, ℕ, zero, suc, ◌+◌, ◌-◌, ◌*◌, ◌%◌, ◌<◌, ◌≤◌, ◌^◌, Bool, true, false, ltb, eqb, List, [], ◌∷◌, ◌++◌, length, get_or, refl, sym, ap, subst, ◌∙◌, append_assoc, arith, Result, Ok, Err}
+use Rattle.std.specs.Prelude.{map, sum, slice_index, nat_le, IfOk}
+use Rattle.std.specs.Global.{Vec}
+use Rattle.std.specs.declared.alloc.AllocError.{AllocError}
+use Rattle.std.specs.List.{flat_map, AllByRecursion}
+use Rattle.std.specs.Int.{w8, w16, w32, w64, to_le_bytes}
+use Rattle.std.proofs.lemmas.Bool.{and_parts, leb-true, le-leb, lt-ltb}
+use Rattle.std.proofs.lemmas.List.{append-nil}
+use Rattle.om_interval.specs.declared.pid.TheConstants.{MAX_PROCESSES}
+use Rattle.om_format.specs.declared.queue.Entry.{Entry}
+use Rattle.om_format.specs.declared.limits.TheConstants.{MAX_MEMORY, MAX_BODY, CHECKPOINT_KIND, CHECKPOINT_VERSION, REGISTERS}
+use Rattle.om_format.specs.Formats.{Size, one, two, four, eight, Format, end, field, any, number, counted, body, opening, is_body_size, limit}
+use Rattle.om_format.specs.Spelling.{numbers, IsField, Spells}
+use Rattle.om_format.specs.Queues.{QueueRecord, queue_end, is_between, are_entries, all_entries, entries, queue, queues, entry_values, queue_values}
+use Rattle.om_format.specs.Checkpoints.{CheckpointRecord, IsCheckpoint, SpellsCheckpoint, checkpoint_format, checkpoint_values, is_cluster_size, is_memory_size}
+use Rattle.om_format.specs.CheckpointBytes.{entry_bytes, message_bytes, output_bytes, checkpoint_bytes, AreWords, AreWithin}
+use Rattle.om_format.proofs.Numbers.{IsBytes, within_bytes, numbers-bytes}
+use Rattle.om_format.proofs.Receipts.{field_of, byte_cell}
+
+-- the bytes behind others are bytes
+bytes_behind : (front rest : List ℕ) → IsBytes (front ++ rest) → IsBytes rest
+bytes_behind [] rest h = h
+bytes_behind (b ∷ front) rest h = bytes_behind front rest (λ i. h (suc i))
+
+cons_bytes : (b : ℕ) (bytes : List ℕ) → b < 256 → IsBytes bytes → IsBytes (b ∷ bytes)
+cons_bytes b bytes lt h zero = lt
+cons_bytes b bytes lt h (suc i) = h i
+
+bytes_before : (front rest : List ℕ) → IsBytes (front ++ rest) → IsBytes front
+bytes_before [] rest h = λ i. lit< tt
+bytes_before (b ∷ front) rest h = cons_bytes b front (h 0) (bytes_before front rest (λ i. h (suc i)))
+
+words_within : (words : List ℕ) → AreWords words → AllByRecursion (λ value. value < limit four) words
+words_within [] h = tt
+words_within (w ∷ words) h = (h 0, words_within words (λ i. h (suc i)))
+
+-- a length and so many bytes
+counted_spells : (size : Size) (allowed : ℕ → Bool) (bytes : List ℕ) (behind : Format) (rest : List (List ℕ)) (after : List ℕ) → length bytes < limit size → allowed (length bytes) ≡ true → IsBytes bytes → Spells behind rest after
+    → Spells (counted size allowed behind) ((length bytes ∷ []) ∷ bytes ∷ rest) (numbers size (length bytes ∷ []) ++ (bytes ++ after))
+unfolding counted
+counted_spells size allowed bytes behind rest after within fine fits h =
+    let here : IsField one (length bytes) any bytes = record { whole = refl; within = within_bytes bytes fits; allowed = refl } in (
+      field_of size _ (length bytes) within fine,
+      bytes ++ after,
+      refl,
+      (here, after, ap (λ (x : List ℕ). x ++ after) (sym (numbers-bytes bytes fits)), h),
+    )
+
+entries_spell : (newest low : ℕ) (es : List Entry) (behind : Format) (rest : List (List ℕ)) (after : List ℕ) → newest < 2 ^ 32 → are_entries newest low es ≡ true → IsBytes (flat_map entry_bytes es ++ after) → Spells behind rest after
+    → Spells (entries newest low (length es) behind) (flat_map entry_values es ++ rest) (flat_map entry_bytes es ++ after)
+unfolding entries
+entries_spell newest low [] behind rest after lt fine fits h = h
+entries_spell newest low (e ∷ es) behind rest after lt fine fits h =
+    let p = and_parts _ _ fine in
+    let q = and_parts _ _ p.0 in
+    let tail = flat_map entry_bytes es ++ after in
+    let regrouped : flat_map entry_bytes (e ∷ es) ++ after ≡ to_le_bytes w32 e.interval ++ (to_le_bytes w16 (length e.body) ++ (e.body ++ tail)) = rw (append_assoc e.body (flat_map entry_bytes es) after) refl in
+    let tail_fits : IsBytes (e.body ++ tail) = subst IsBytes (append_assoc e.body (flat_map entry_bytes es) after) (bytes_behind (to_le_bytes w32 e.interval ++ to_le_bytes w16 (length e.body)) ((e.body ++ flat_map entry_bytes es) ++ after) fits) in
+    let small : length e.body ≤ MAX_BODY = leb-true _ _ q.1 in
+    let more = entries_spell newest e.interval es behind rest after lt p.1 (bytes_behind e.body tail tail_fits) h in
+    let bodies = counted_spells two is_body_size e.body (entries newest e.interval (length es) behind) (flat_map entry_values es ++ rest) tail (omega arith) q.1 (bytes_before e.body tail tail_fits) more in
+    let newest_last : e.interval ≤ newest = leb-true _ _ (and_parts _ _ q.0).1 in
+    let within : e.interval < limit four = omega (arith, newest_last, lt) in
+    let spelled : Spells (entries newest low (suc (length es)) behind) (flat_map entry_values (e ∷ es) ++ rest) (to_le_bytes w32 e.interval ++ (to_le_bytes w16 (length e.body) ++ (e.body ++ tail))) = (field_of four _ e.interval within q.0, _, refl, bodies) in
+    subst (λ (bytes : List ℕ). Spells (entries newest low (suc (length es)) behind) (flat_map entry_values (e ∷ es) ++ rest) bytes) (sym regrouped) spelled
+
+queue_spells : (size : Size) (newest stop : ℕ) (q : QueueRecord) (behind : Format) (rest : List (List ℕ)) (after : List ℕ) → newest < 2 ^ 32 → queue_end q ≡ stop → stop < limit size → are_entries newest 0 q.entries ≡ true
+    → IsBytes (numbers size (q.first ∷ []) ++ (flat_map entry_bytes q.entries ++ after)) → Spells behind rest after
+    → Spells (queue size newest stop behind) (queue_values q ++ rest) (numbers size (q.first ∷ []) ++ (flat_map entry_bytes q.entries ++ after))
+unfolding queue
+queue_spells size newest stop q behind rest after lt ended small fine fits h =
+    let tail = flat_map entry_bytes q.entries ++ after in
+    let kept : length q.entries ≡ stop - q.first = omega (arith, ended) in
+    let le : q.first ≤ stop = omega (arith, ended) in
+    let within : q.first < limit size = omega (arith, le, small) in
+    let more = entries_spell newest 0 q.entries behind rest after lt fine (bytes_behind (numbers size (q.first ∷ [])) tail fits) h in
+    (field_of size _ q.first within (le-leb _ _ le), tail, refl, subst (λ (count : ℕ). Spells (entries newest 0 count behind) (flat_map entry_values q.entries ++ rest) tail) kept more)
+
+queues_spell : (newest : ℕ) (qs : List QueueRecord) (stops : List ℕ) (behind : Format) (rest : List (List ℕ)) (after : List ℕ) → newest < 2 ^ 32 → map queue_end qs ≡ stops → AreWords stops → all_entries newest qs ≡ true
+    → IsBytes (flat_map message_bytes qs ++ after) → Spells behind rest after
+    → Spells (queues newest stops behind) (flat_map queue_values qs ++ rest) (flat_map message_bytes qs ++ after)
+unfolding queues
+queues_spell newest [] [] behind rest after lt ended small fine fits h = h
+queues_spell newest [] (stop ∷ stops) behind rest after lt ended small fine fits h = absurd cc
+queues_spell newest (q ∷ qs) [] behind rest after lt ended small fine fits h = absurd cc
+queues_spell newest (q ∷ qs) (stop ∷ stops) behind rest after lt ended small fine fits h =
+    let here : queue_end q ≡ stop = cc in
+    let others : map queue_end qs ≡ stops = cc in
+    let p = and_parts _ _ fine in
+    let tail = flat_map message_bytes qs ++ after in
+    let whole = numbers four (q.first ∷ []) ++ (flat_map entry_bytes q.entries ++ tail) in
+    let regrouped : whole ≡ flat_map message_bytes (q ∷ qs) ++ after = rw (← append_assoc (flat_map entry_bytes q.entries) (flat_map message_bytes qs) after) refl in
+    let whole_fits : IsBytes whole = subst IsBytes (sym regrouped) fits in
+    let tail_fits : IsBytes tail = bytes_behind (flat_map entry_bytes q.entries) tail (bytes_behind (numbers four (q.first ∷ [])) (flat_map entry_bytes q.entries ++ tail) whole_fits) in
+    let more = queues_spell newest qs stops behind rest after lt others (λ i. small (suc i)) p.1 tail_fits h in
+    let spelled = queue_spells four newest stop q (queues newest stops behind) (flat_map queue_values qs ++ rest) tail lt here (small 0) p.0 whole_fits more in
+    let fields : List (List ℕ) = flat_map queue_values (q ∷ qs) ++ rest in
+    let moved : Spells (queue four newest stop (queues newest stops behind)) fields whole = subst (λ (vs : List (List ℕ)). Spells (queue four newest stop (queues newest stops behind)) vs whole) (sym (append_assoc (queue_values q) (flat_map queue_values qs) rest)) spelled in
+    subst (λ (bytes : List ℕ). Spells (queue four newest stop (queues newest stops behind)) fields bytes) regrouped moved
+
+words_of : (count : ℕ) (allowed : List ℕ → Bool) (words : List ℕ) → length words ≡ count → AreWords words → allowed words ≡ true → IsField four count allowed words
+words_of count allowed words len within fine = record { whole = len; within = words_within words within; allowed = fine }
+
+pub checkpoint_spells : (r : CheckpointRecord) → IsCheckpoint r → AreWithin r → IsBytes (checkpoint_bytes r) → SpellsCheckpoint r (checkpoint_bytes r)
+unfolding checkpoint_format opening
+checkpoint_spells r h w fits =
+    let n_parts = and_parts _ _ h.n in
+    let n_most : r.n ≤ MAX_PROCESSES = leb-true _ _ n_parts.1 in
+    let n_byte : r.n < 256 = omega (arith, n_most) in
+    let pid_byte : r.pid < 256 = omega (arith, h.pid, n_byte) in
+    let size_most : length r.memory ≤ MAX_MEMORY = leb-true _ _ (and_parts _ _ (and_parts _ _ h.memory).0).1 in
+    let t_out = numbers eight (r.outputs.first ∷ []) ++ (flat_map entry_bytes r.outputs.entries ++ []) in
+    let t_queues = flat_map message_bytes r.kept ++ t_out in
+    let t_size = numbers four (length r.memory ∷ []) ++ (r.memory ++ t_queues) in
+    let t_made = to_le_bytes w64 r.made ++ t_size in
+    let t_sent = numbers four r.sent ++ t_made in
+    let t_got = numbers four r.got ++ t_sent in
+    let t_vec = numbers four r.vec ++ t_got in
+    let t_regs = numbers four r.regs ++ t_vec in
+    let t_pc = to_le_bytes w32 r.pc ++ t_regs in
+    let t_count = to_le_bytes w64 r.count ++ t_pc in
+    let t_interval = to_le_bytes w32 r.interval ++ t_count in
+    let t_pid = r.pid ∷ t_interval in
+    let t_n = r.n ∷ t_pid in
+    let t_version = CHECKPOINT_VERSION ∷ t_n in
+    let whole = CHECKPOINT_KIND ∷ t_version in
+    let ended : whole ≡ checkpoint_bytes r = simp (append_assoc, append-nil) in
+    let whole_fits : IsBytes whole = subst IsBytes (sym ended) fits in
+    let regs_fit : IsBytes t_regs = bytes_behind ((CHECKPOINT_KIND ∷ CHECKPOINT_VERSION ∷ r.n ∷ r.pid ∷ []) ++ to_le_bytes w32 r.interval ++ to_le_bytes w64 r.count ++ to_le_bytes w32 r.pc) t_regs whole_fits in
+    let vec_fits : IsBytes t_vec = bytes_behind (numbers four r.regs) t_vec regs_fit in
+    let got_fits : IsBytes t_got = bytes_behind (numbers four r.vec) t_got vec_fits in
+    let sent_fits : IsBytes t_sent = bytes_behind (numbers four r.got) t_sent got_fits in
+    let made_fits : IsBytes t_made = bytes_behind (numbers four r.sent) t_made sent_fits in
+    let memory_fits : IsBytes (r.memory ++ t_queues) = bytes_behind (to_le_bytes w64 r.made ++ to_le_bytes w32 (length r.memory)) (r.memory ++ t_queues) made_fits in
+    let queues_fit : IsBytes t_queues = bytes_behind r.memory t_queues memory_fits in
+    let out_fits : IsBytes t_out = bytes_behind (flat_map message_bytes r.kept) t_out queues_fit in
+    let last = queue_spells eight r.interval r.made r.outputs end [] [] w.interval h.outputs w.made h.out out_fits refl in
+    let outputs : Spells (queue eight r.interval r.made end) (queue_values r.outputs) t_out = subst (λ (vs : List (List ℕ)). Spells (queue eight r.interval r.made end) vs t_out) (append-nil (queue_values r.outputs)) last in
+    let kept = queues_spell r.interval r.kept r.sent (queue eight r.interval r.made end) (queue_values r.outputs) t_out w.interval h.kept w.sent h.messages queues_fit outputs in
+    let memory = counted_spells four is_memory_size r.memory (queues r.interval r.sent (queue eight r.interval r.made end)) (flat_map queue_values r.kept ++ queue_values r.outputs) t_queues (omega (arith, size_most)) h.memory (bytes_before r.memory t_queues memory_fits) kept in
+    let spelled : Spells checkpoint_format (checkpoint_values r) whole = (
+      field_of one _ CHECKPOINT_KIND (lit< tt) refl,
+      t_version,
+      refl,
+      (
+        field_of one _ CHECKPOINT_VERSION (lit< tt) refl,
+        t_n,
+        refl,
+        (
+          field_of one _ r.n n_byte h.n,
+          t_pid,
+          byte_cell r.n t_pid n_byte,
+          (
+            field_of one _ r.pid pid_byte (lt-ltb _ _ h.pid),
+            t_interval,
+            byte_cell r.pid t_interval pid_byte,
+            (
+              field_of four any r.interval w.interval refl,
+              t_count,
+              refl,
+              (
+                field_of eight _ r.count w.count (le-leb _ _ h.count),
+                t_pc,
+                refl,
+                (
+                  field_of four _ r.pc w.pc (eq-eqb _ _ h.pc),
+                  t_regs,
+                  refl,
+                  (
+                    words_of REGISTERS any r.regs h.regs w.regs refl,
+                    t_vec,
+                    refl,
+                    (
+                      words_of r.n _ r.vec h.vec w.vec (eq-eqb _ _ h.own),
+                      t_got,
+                      refl,
+                      (
+                        words_of r.n _ r.got h.got w.got (eq-eqb _ _ h.received),
+                        t_sent,
+                        refl,
+                        (
+                          words_of r.n any r.sent h.sent w.sent refl,
+                          t_made,
+                          refl,
+                          (field_of eight _ r.made w.made (le-leb _ _ h.made), t_size, refl, memory),
+                        ),
+                      ),
+                    ),
+                  ),
+                ),
+              ),
+            ),
+          ),
+        ),
+      ),
+    ) in
+    record {
+      fields = subst (λ (bytes : List ℕ). Spells checkpoint_format (checkpoint_values r) bytes) ended spelled;
+      ended = record { kept = h.kept; outputs = h.outputs };
+    }
+
+pub checkpoint_is_spelled : (r : CheckpointRecord) (v : Result (Vec ℕ) AllocError) → IfOk v (λ x. IsBytes x.items) → IfOk v (λ x. x.items ≡ checkpoint_bytes r) → IsCheckpoint r → IfOk v (λ x. AreWithin r) → IfOk v (λ x. SpellsCheckpoint r x.items)
+checkpoint_is_spelled r (Ok v) fits e h w = rw e (checkpoint_spells r h w (subst IsBytes e fits))
+checkpoint_is_spelled r (Err x) fits e h w = tt

@@ -1,0 +1,9 @@
+pub mod Numbers
+pub mod Formats
+pub mod Parts
+pub mod Receipts
+pub mod Queues
+pub mod Lawful
+pub mod CheckpointSpelling
+pub mod Checkpoints
+pub mod Loops

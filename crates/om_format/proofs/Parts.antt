@@ -1,0 +1,100 @@
+-- Reading the parts of a record is reading their fields.
+use Rattle.std.proofs.Common.{lit<, eqb, ◌≡◌, ℕ, zero, suc, ◌+◌, ◌*◌, ◌<◌, ◌≤◌, Bool, true, false, cond, ltb, List, [], ◌∷◌, ◌++◌, length, take, drop, Some, Result, Ok, Err, refl, sym, ap, subst, ◌∙◌, arith, inl, inr}
+use Rattle.std.proofs.lemmas.Bool.{le-leb, eqb-true, cases_lt, lt-ltb, le-ltb}
+use Rattle.std.proofs.lemmas.List.{length-take-le, append-nil}
+use Rattle.om_format.specs.declared.error.DecodeError.{DecodeError}
+use Rattle.om_format.specs.declared.error.DecodeError.TheVariants.{Short, Trailing, Memory}
+use Rattle.om_format.specs.declared.receipt.Receipt.{Receipt}
+use Rattle.std.specs.Prelude.{IfOk, IfErr, ◌⊎◌}
+use Rattle.std.specs.declared.alloc.AllocError.{AllocError}
+use Rattle.std.specs.Global.{Vec}
+use Rattle.std.specs.Int.{w8, w16, w32, w64, to_le_bytes}
+use Rattle.om_format.specs.Formats.{any, Size, one, two, four, eight, bytes_in, limit, Format, end, field, counted, is_body_size, body, opening}
+use Rattle.om_format.specs.declared.limits.TheConstants.{MAX_BODY, RECEIPT_KIND, RECEIPT_VERSION}
+use Rattle.om_format.specs.Spelling.{IsField, numbers, Spells}
+use Rattle.om_format.specs.FirstFault.{values_at}
+use Rattle.om_format.specs.Receipts.{ReceiptRecord, receipt_record, receipt_format, receipt_values, receipt_bytes, IsReceipt, SpellsReceipt, receipt_fault}
+use Rattle.om_format.specs.Reading.{◌>>=◌, Gives, allow, numbers_at, number_at, fields_at, opening_at, pid_at, counted_at, body_at, end_at, receipt_at}
+use Rattle.om_format.proofs.Numbers.{IsBytes, within_bytes, numbers-bytes}
+use Rattle.om_format.proofs.Formats.{bind_ok, ok_is, found, again, faulty, fault_or_memory}
+
+pub bind_assoc : {A B C : Type 0} (r : Result A DecodeError) (f : A → Result B DecodeError) (g : B → Result C DecodeError) → ((r >>= f) >>= g) ≡ (r >>= λ x. f x >>= g)
+bind_assoc (Ok x) f g = refl
+bind_assoc (Err d) f g = refl
+
+bind_cond : {A B : Type 0} (b : Bool) (d : DecodeError) (x : A) (f : A → Result B DecodeError) → (cond b (Err d) (Ok x) >>= f) ≡ cond b (Err d) (f x)
+bind_cond true d x f = refl
+bind_cond false d x f = refl
+
+-- a field of one number
+pub one_number : (size : Size) (bytes : List ℕ) → numbers_at size 1 bytes ≡ (number_at size bytes >>= λ x. Ok (x.0 ∷ [], x.1))
+unfolding numbers_at number_at
+one_number one bytes = sym (bind_cond (ltb (length bytes) 1) Short _ _)
+one_number two bytes = sym (bind_cond (ltb (length bytes) 2) Short _ _)
+one_number four bytes = sym (bind_cond (ltb (length bytes) 4) Short _ _)
+one_number eight bytes = sym (bind_cond (ltb (length bytes) 8) Short _ _)
+
+values-bytes : (count : ℕ) (bytes : List ℕ) → count ≤ length bytes → values_at one count bytes ≡ take count bytes
+values-bytes zero bytes long = refl
+values-bytes (suc count) [] long = absurd (omega arith)
+values-bytes (suc count) (b ∷ bytes) long = ap (λ (rest : List ℕ). b ∷ rest) (values-bytes count bytes (omega arith))
+
+-- a field of bytes
+pub many_bytes : (count : ℕ) (bytes : List ℕ) → numbers_at one count bytes ≡ cond (ltb (length bytes) count) (Err Short) (Ok (take count bytes, drop count bytes))
+unfolding numbers_at
+many_bytes count bytes =
+    let same : count * 1 ≡ count = omega arith in
+    elim (cases_lt (length bytes) count) [
+      | inl short ↦ (let a : ltb (length bytes) count ≡ true = lt-ltb _ _ short in rw (same, a) refl)
+      | inr long ↦ (let a : ltb (length bytes) count ≡ false = le-ltb _ _ long in rw (same, a, values-bytes count bytes long) refl)
+    ]
+
+pub ends : (offset : ℕ) (bytes : List ℕ) → fields_at end offset bytes ≡ (end_at bytes >>= λ u. Ok [])
+unfolding end_at
+ends offset [] = refl
+ends offset (byte ∷ bytes) = refl
+
+pub bind_same : {A B : Type 0} (r : Result A DecodeError) (f g : A → Result B DecodeError) → ((x : A) → f x ≡ g x) → (r >>= f) ≡ (r >>= g)
+bind_same (Ok x) f g same = same x
+bind_same (Err d) f g same = refl
+
+taken : {B : Type 0} (n : ℕ) (bytes : List ℕ) (f g : List ℕ × List ℕ → Result B DecodeError) → (n ≤ length bytes → f (take n bytes, drop n bytes) ≡ g (take n bytes, drop n bytes))
+    → (cond (ltb (length bytes) n) (Err Short) (Ok (take n bytes, drop n bytes)) >>= f) ≡ (cond (ltb (length bytes) n) (Err Short) (Ok (take n bytes, drop n bytes)) >>= g)
+taken n bytes f g same =
+    elim (cases_lt (length bytes) n) [
+      | inl short ↦ (let a : ltb (length bytes) n ≡ true = lt-ltb _ _ short in rw a refl)
+      | inr long ↦ (let a : ltb (length bytes) n ≡ false = le-ltb _ _ long in rw a (same long))
+    ]
+
+counted_values : (behind : Format) (offset width n : ℕ) (bytes : List ℕ) → n ≤ length bytes
+    → (fields_at behind (offset + width + n * 1) (drop n bytes) >>= λ rest. Ok ((n ∷ []) ∷ take n bytes ∷ rest)) ≡ (fields_at behind (offset + width + length (take n bytes)) (drop n bytes) >>= λ rest. Ok ((length (take n bytes) ∷ []) ∷ take n bytes ∷ rest))
+counted_values behind offset width n bytes long =
+    let same : n * 1 ≡ n = omega arith in
+    let len : length (take n bytes) ≡ n = length-take-le n bytes long in
+    rw (same, len) refl
+
+-- a length, so many bytes, and what comes behind them
+pub counted_is : (size : Size) (allowed : ℕ → Bool) (behind : Format) (offset : ℕ) (bytes : List ℕ)
+    → fields_at (counted size allowed behind) offset bytes ≡ (counted_at size allowed offset bytes >>= λ b. fields_at behind (offset + bytes_in size + length b.0) b.1 >>= λ rest. Ok ((length b.0 ∷ []) ∷ b.0 ∷ rest))
+unfolding counted counted_at
+counted_is size allowed behind offset bytes =
+    let one_wide : 1 * bytes_in size ≡ bytes_in size = omega arith in
+    rw one_wide (simp (one_number, many_bytes, bind_assoc) (bind_same (number_at size bytes) _ _ (λ len. bind_same (allow _ _) _ _ (λ fine. taken len.0 len.1 _ _ (λ long. counted_values behind offset (bytes_in size) len.0 len.1 long)))))
+
+-- a body that comes last
+pub last_body_is : (offset : ℕ) (bytes : List ℕ) → fields_at (body end) offset bytes ≡ (body_at offset bytes >>= λ b. end_at b.1 >>= λ u. Ok ((length b.0 ∷ []) ∷ b.0 ∷ []))
+last_body_is offset bytes =
+    counted_is two is_body_size end offset bytes ∙ bind_same (body_at offset bytes) _ _ (λ b. ap (λ (r : Result (List (List ℕ)) DecodeError). r >>= λ rest. Ok ((length b.0 ∷ []) ∷ b.0 ∷ rest)) (ends (offset + 2 + length b.0) b.1) ∙ bind_assoc (end_at b.1) _ _)
+
+known : {B : Type 0} (n m : ℕ) (d : DecodeError) (f g : Unit {0} → Result B DecodeError) → (n ≡ m → f tt ≡ g tt) → (allow (eqb n m) d >>= f) ≡ (allow (eqb n m) d >>= g)
+known n m d f g same = known_by (eqb n m) d f g (λ h. same (eqb-true n m h))
+  where
+    known_by : {B : Type 0} (b : Bool) (d : DecodeError) (f g : Unit {0} → Result B DecodeError) → (b ≡ true → f tt ≡ g tt) → (allow b d >>= f) ≡ (allow b d >>= g)
+    known_by true d f g same = same refl
+    known_by false d f g same = refl
+
+-- kind and version, and what comes behind them
+pub opening_is : (kind version : ℕ) (behind : Format) (offset : ℕ) (bytes : List ℕ) → fields_at (opening kind version behind) offset bytes ≡ (opening_at kind version bytes >>= λ rest. fields_at behind (offset + 1 + 1) rest >>= λ vs. Ok ((kind ∷ []) ∷ (version ∷ []) ∷ vs))
+unfolding opening opening_at
+opening_is kind version behind offset bytes =
+    simp (one_number, bind_assoc) (bind_same (number_at one bytes) _ _ (λ k. known k.0 kind _ _ _ (λ same_kind. bind_same (number_at one k.1) _ _ (λ v. known v.0 version _ _ _ (λ same_version. rw (same_kind, same_version) refl)))))

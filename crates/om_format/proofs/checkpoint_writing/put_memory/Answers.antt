@@ -1,0 +1,6 @@
+use Rattle.std.proofs.Common.{append_assoc}
+use Rattle.om_format.proofs.checkpoint_writing.put_memory.Goals as goal
+
+pub returns : goal.returns
+returns c =
+    rw (c.in_ok-extend_from_slice-3.ensures.items, c.in_ok-extend_from_slice-2.ensures.items, c.to_le_bytes-2.ensures, c.in_ok-extend_from_slice.ensures.items, c.to_le_bytes.ensures) (simp append_assoc)

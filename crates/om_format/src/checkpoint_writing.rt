@@ -1,0 +1,122 @@
+//! The parts of a checkpoint, each written behind what was written before.
+
+ghost use Rattle.std.specs.Prelude.{◌≡◌, ◌<◌, ◌≤◌, ◌^◌, ◌++◌, ℕ, OnOk, length, map, slice_index};
+ghost use Rattle.std.specs.List.{flat_map};
+ghost use Rattle.om_format.specs.CheckpointBytes.{front_bytes, vector_bytes, memory_bytes, entry_bytes, message_bytes, output_bytes, AreWords};
+ghost use Rattle.om_format.specs.CheckpointViews.{checkpoint_record};
+ghost use Rattle.om_format.specs.Formats.{four};
+ghost use Rattle.om_format.specs.Queues.{queue_record};
+ghost use Rattle.om_format.specs.Spelling.{numbers};
+
+use crate::checkpoint::Checkpoint;
+use crate::limits::{CHECKPOINT_KIND, CHECKPOINT_VERSION};
+use crate::queue::{Entry, Queue};
+use std::alloc::AllocError;
+
+pub(crate) fn put_front(out: &mut Vec<u8>, checkpoint: &Checkpoint) -> Result<(), AllocError>
+    ensures bytes { OnOk result (out.new.items ≡ out.old.items ++ front_bytes (checkpoint_record checkpoint.now)) }
+    ensures interval { OnOk result (checkpoint.now.interval < 2 ^ 32) }
+    ensures count { OnOk result (checkpoint.now.count < 2 ^ 64) }
+    ensures pc { OnOk result (checkpoint.now.pc < 2 ^ 32) }
+{
+    out.extend_from_slice(&[CHECKPOINT_KIND, CHECKPOINT_VERSION])?;
+    out.extend_from_slice(&[checkpoint.vec.n() as u8, checkpoint.pid.index() as u8])?;
+    out.extend_from_slice(&checkpoint.interval.to_le_bytes())?;
+    out.extend_from_slice(&checkpoint.count.to_le_bytes())?;
+    out.extend_from_slice(&checkpoint.pc.to_le_bytes())?;
+    Ok(())
+}
+
+fn put_words(out: &mut Vec<u8>, words: &[u32]) -> Result<(), AllocError>
+    ensures bytes { OnOk result (out.new.items ≡ out.old.items ++ numbers four words.now) }
+    ensures within { OnOk result (AreWords words.now) }
+{
+    for word in words {
+        out.extend_from_slice(&word.to_le_bytes())?;
+    }
+    Ok(())
+}
+
+pub(crate) fn put_vectors(out: &mut Vec<u8>, checkpoint: &Checkpoint) -> Result<(), AllocError>
+    ensures bytes { OnOk result (out.new.items ≡ out.old.items ++ vector_bytes (checkpoint_record checkpoint.now)) }
+    ensures regs { OnOk result (AreWords checkpoint.now.regs) }
+    ensures vec { OnOk result (AreWords checkpoint.now.vec) }
+    ensures got { OnOk result (AreWords checkpoint.now.got) }
+    ensures sent { OnOk result (AreWords checkpoint.now.sent) }
+{
+    put_words(out, &checkpoint.regs)?;
+    put_words(out, checkpoint.vec.as_slice())?;
+    put_words(out, checkpoint.got.as_slice())?;
+    put_words(out, checkpoint.sent.as_slice())?;
+    Ok(())
+}
+
+pub(crate) fn put_memory(out: &mut Vec<u8>, made: u64, memory: &[u8]) -> Result<(), AllocError>
+    requires { length memory.now < 2 ^ 32 }
+    ensures { OnOk result (out.new.items ≡ out.old.items ++ memory_bytes made memory.now) }
+{
+    out.extend_from_slice(&made.to_le_bytes())?;
+    out.extend_from_slice(&(memory.len() as u32).to_le_bytes())?;
+    out.extend_from_slice(memory)?;
+    Ok(())
+}
+
+fn put_entries(out: &mut Vec<u8>, entries: &[Entry]) -> Result<(), AllocError>
+    ensures { OnOk result (out.new.items ≡ out.old.items ++ flat_map entry_bytes entries.now) }
+{
+    for entry in entries {
+        let body = entry.body.as_slice();
+        out.extend_from_slice(&entry.interval.to_le_bytes())?;
+        out.extend_from_slice(&(body.len() as u16).to_le_bytes())?;
+        out.extend_from_slice(body)?;
+    }
+    Ok(())
+}
+
+// The number of a message has four bytes.
+fn put_messages(out: &mut Vec<u8>, queue: &Queue) -> Result<(), AllocError>
+    ensures { OnOk result (out.new.items ≡ out.old.items ++ message_bytes (queue_record queue.now)) }
+{
+    let first = queue.first.to_le_bytes();
+    out.extend_from_slice(&[first[0], first[1], first[2], first[3]])?;
+    put_entries(out, &queue.entries)
+}
+
+pub(crate) fn put_queues(out: &mut Vec<u8>, queues: &[Queue]) -> Result<(), AllocError>
+    ensures { OnOk result (out.new.items ≡ out.old.items ++ flat_map message_bytes (map queue_record queues.now)) }
+{
+    for queue in queues {
+        put_messages(out, queue)?;
+    }
+    Ok(())
+}
+
+pub(crate) fn put_outputs(out: &mut Vec<u8>, queue: &Queue) -> Result<(), AllocError>
+    ensures bytes { OnOk result (out.new.items ≡ out.old.items ++ output_bytes (queue_record queue.now)) }
+    ensures fits { OnOk result ((i : ℕ) → slice_index out.new.items i < 256) }
+{
+    out.extend_from_slice(&queue.first.to_le_bytes())?;
+    put_entries(out, &queue.entries)?;
+    Ok(())
+}
+
+/// How many bytes a checkpoint has, if that is no more than there are numbers: so much room is made at once, and the memory
+/// need not be moved.
+pub(crate) fn size_of(checkpoint: &Checkpoint) -> usize {
+    let mut size = size_of_queue(&checkpoint.outputs).saturating_add(
+        checkpoint.memory.as_slice().len(),
+    );
+    for queue in &checkpoint.kept {
+        size = size.saturating_add(size_of_queue(queue));
+    }
+    size.saturating_add(160 + 12 * checkpoint.vec.n())
+}
+
+// No less than a queue has.
+fn size_of_queue(queue: &Queue) -> usize {
+    let mut size: usize = 8;
+    for entry in &queue.entries {
+        size = size.saturating_add(6 + entry.body.as_slice().len());
+    }
+    size
+}

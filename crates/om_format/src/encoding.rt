@@ -1,0 +1,64 @@
+//! Records to bytes.
+
+ghost use Rattle.std.specs.Prelude.{◌≡◌, ◌<◌, ℕ, IfOk, slice_index};
+ghost use Rattle.om_format.specs.CheckpointBytes.{checkpoint_bytes, AreWithin};
+ghost use Rattle.om_format.specs.CheckpointViews.{checkpoint_record};
+ghost use Rattle.om_format.specs.Checkpoints.{IsCheckpoint, SpellsCheckpoint};
+ghost use Rattle.om_format.specs.Receipts.{receipt_record, receipt_bytes, IsReceipt, SpellsReceipt};
+
+use crate::checkpoint::Checkpoint;
+use crate::checkpoint_writing::{
+    put_front, put_memory, put_outputs, put_queues, put_vectors, size_of,
+};
+use crate::limits::{RECEIPT_KIND, RECEIPT_VERSION};
+use crate::receipt::Receipt;
+use std::alloc::{AllocError, Global};
+
+/// The bytes of a receipt before its body.
+const RECEIPT_FRONT: usize = 26;
+
+fn receipt_bytes(alloc: Global, receipt: &Receipt) -> Result<Vec<u8>, AllocError>
+    ensures bytes { IfOk result (λ v. v.items ≡ receipt_bytes (receipt_record receipt.now)) }
+    ensures lawful { IfOk result (λ _. IsReceipt (receipt_record receipt.now)) }
+{
+    let body = receipt.body.as_slice();
+    let mut out = Vec::with_capacity(alloc, RECEIPT_FRONT + body.len())?;
+    out.extend_from_slice(&[RECEIPT_KIND, RECEIPT_VERSION])?;
+    out.extend_from_slice(&[receipt.to.index() as u8, receipt.from.index() as u8])?;
+    out.extend_from_slice(&receipt.interval.to_le_bytes())?;
+    out.extend_from_slice(&receipt.sender_interval.to_le_bytes())?;
+    out.extend_from_slice(&receipt.ssn.to_le_bytes())?;
+    out.extend_from_slice(&receipt.count.to_le_bytes())?;
+    out.extend_from_slice(&(body.len() as u16).to_le_bytes())?;
+    out.extend_from_slice(body)?;
+    Ok(out)
+}
+
+/// The bytes that spell a receipt.
+pub fn encode_receipt(alloc: Global, receipt: &Receipt) -> Result<Vec<u8>, AllocError>
+    ensures { IfOk result (λ v. SpellsReceipt (receipt_record receipt.now) v.items) }
+{
+    receipt_bytes(alloc, receipt)
+}
+
+fn checkpoint_bytes(alloc: Global, checkpoint: &Checkpoint) -> Result<Vec<u8>, AllocError>
+    ensures bytes { IfOk result (λ v. v.items ≡ checkpoint_bytes (checkpoint_record checkpoint.now)) }
+    ensures fits { IfOk result (λ v. (i : ℕ) → slice_index v.items i < 256) }
+    ensures within { IfOk result (λ _. AreWithin (checkpoint_record checkpoint.now)) }
+    ensures lawful { IsCheckpoint (checkpoint_record checkpoint.now) }
+{
+    let mut out = Vec::with_capacity(alloc, size_of(checkpoint))?;
+    put_front(&mut out, checkpoint)?;
+    put_vectors(&mut out, checkpoint)?;
+    put_memory(&mut out, checkpoint.made, checkpoint.memory.as_slice())?;
+    put_queues(&mut out, &checkpoint.kept)?;
+    put_outputs(&mut out, &checkpoint.outputs)?;
+    Ok(out)
+}
+
+/// The bytes that spell a checkpoint. Its memory is copied once.
+pub fn encode_checkpoint(alloc: Global, checkpoint: &Checkpoint) -> Result<Vec<u8>, AllocError>
+    ensures { IfOk result (λ v. SpellsCheckpoint (checkpoint_record checkpoint.now) v.items) }
+{
+    checkpoint_bytes(alloc, checkpoint)
+}

@@ -1,0 +1,31 @@
+//! Messages, and the records of receipts and checkpoints as bytes: each record has one spelling, and each damage that the
+//! format can show is named at its first byte.
+#![tactic(auto)]
+
+pub use body::Body;
+pub use checkpoint::Checkpoint;
+pub use decoding::{decode_checkpoint, decode_receipt};
+pub use encoding::{encode_checkpoint, encode_receipt};
+pub use error::DecodeError;
+pub use limits::{MAX_BODY, MAX_MEMORY, MIN_MEMORY, REGISTERS};
+pub use memory::MemoryBytes;
+pub use message::Message;
+pub use queue::{Entry, Queue};
+pub use receipt::Receipt;
+
+mod body;
+mod checkpoint;
+mod checkpoint_reading;
+mod checkpoint_writing;
+mod decoding;
+mod encoding;
+mod error;
+pub mod laws;
+mod limits;
+mod memory;
+mod message;
+mod queue;
+mod reading;
+mod receipt;
+#[cfg(test)]
+mod tests;

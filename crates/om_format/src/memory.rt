@@ -1,0 +1,52 @@
+ghost use Rattle.std.specs.Prelude.{◌≡◌, ◌↔◌, ℕ, List, length, vec_len, true};
+ghost use Rattle.om_format.specs.Checkpoints.{is_memory_size};
+
+use crate::limits::{MAX_MEMORY, MIN_MEMORY};
+use std::marker::Model;
+
+/// The bytes of a machine's memory: at least `MIN_MEMORY`, at most `MAX_MEMORY`, and a multiple of `MIN_MEMORY`.
+#[derive(Debug, Drop)]
+pub struct MemoryBytes {
+    bytes: Vec<u8>,
+}
+
+impl Model for MemoryBytes {
+    ghost Value = { List ℕ };
+
+    ghost view = { λ m. m.bytes.items };
+
+    ghost invariant = { λ m. is_memory_size (vec_len m.bytes) ≡ true };
+}
+
+impl MemoryBytes {
+    /// Whether a memory can have so many bytes.
+    pub fn is_size(len: usize) -> bool
+        ensures { result ≡ is_memory_size len }
+    {
+        MIN_MEMORY <= len && len <= MAX_MEMORY && len % MIN_MEMORY == 0
+    }
+
+    /// The memory of these bytes.
+    pub fn from_vec(bytes: Vec<u8>) -> MemoryBytes
+        requires { is_memory_size (vec_len bytes) ≡ true }
+        ensures { result ≡ bytes.items }
+    {
+        MemoryBytes { bytes }
+    }
+
+    /// The bytes, given back.
+    pub fn into_vec(self) -> Vec<u8>
+        ensures bytes { result.items ≡ self }
+        ensures size { is_memory_size (vec_len result) ≡ true }
+    {
+        self.bytes
+    }
+
+    /// The bytes.
+    pub fn as_slice(&self) -> &[u8]
+        ensures bytes { result.now ≡ self.now }
+        ensures size { is_memory_size (length self.now) ≡ true }
+    {
+        &self.bytes
+    }
+}
