@@ -1,20 +1,20 @@
 -- What is written of a checkpoint spells it.
-use Rattle.std.proofs.Common.{eq-eqb, lit<, ◌≡◌, ℕ, zero, suc, ◌+◌, ◌-◌, ◌*◌, ◌%◌, ◌<◌, ◌≤◌, ◌^◌, Bool, true, false, ltb, eqb, List, [], ◌∷◌, ◌++◌, length, get_or, refl, sym, ap, subst, ◌∙◌, append_assoc, arith, Result, Ok, Err}
-use Rattle.std.specs.Prelude.{map, sum, slice_index, nat_le, IfOk}
+use Rattle.std.proofs.Common.{eq-eqb, lit<, ◌≡◌, ℕ, zero, suc, ◌-◌, ◌<◌, ◌≤◌, ◌^◌, Bool, true, List, [], ◌∷◌, ◌++◌, length, refl, sym, ap, subst, append_assoc, arith, Result, Ok, Err}
+use Rattle.std.specs.Prelude.{map, IfOk}
 use Rattle.std.specs.Global.{Vec}
 use Rattle.std.specs.declared.alloc.AllocError.{AllocError}
 use Rattle.std.specs.List.{flat_map, AllByRecursion}
-use Rattle.std.specs.Int.{w8, w16, w32, w64, to_le_bytes}
+use Rattle.std.specs.Int.{w16, w32, w64, to_le_bytes}
 use Rattle.std.proofs.lemmas.Bool.{and_parts, leb-true, le-leb, lt-ltb}
 use Rattle.std.proofs.lemmas.List.{append-nil}
 use Rattle.om_interval.specs.declared.pid.TheConstants.{MAX_PROCESSES}
 use Rattle.om_format.specs.declared.queue.Entry.{Entry}
 use Rattle.om_format.specs.declared.limits.TheConstants.{MAX_MEMORY, MAX_BODY, CHECKPOINT_KIND, CHECKPOINT_VERSION, REGISTERS}
-use Rattle.om_format.specs.Formats.{Size, one, two, four, eight, Format, end, field, any, number, counted, body, opening, is_body_size, limit}
+use Rattle.om_format.specs.Formats.{Size, one, two, four, eight, Format, end, any, counted, opening, is_body_size, limit}
 use Rattle.om_format.specs.Spelling.{numbers, IsField, Spells}
-use Rattle.om_format.specs.Queues.{QueueRecord, queue_end, is_between, are_entries, all_entries, entries, queue, queues, entry_values, queue_values}
-use Rattle.om_format.specs.Checkpoints.{CheckpointRecord, IsCheckpoint, SpellsCheckpoint, checkpoint_format, checkpoint_values, is_cluster_size, is_memory_size}
-use Rattle.om_format.specs.CheckpointBytes.{entry_bytes, message_bytes, output_bytes, checkpoint_bytes, AreWords, AreWithin}
+use Rattle.om_format.specs.Queues.{QueueRecord, queue_end, are_entries, all_entries, entries, queue, queues, entry_values, queue_values}
+use Rattle.om_format.specs.Checkpoints.{CheckpointRecord, IsCheckpoint, SpellsCheckpoint, checkpoint_format, checkpoint_values, is_memory_size}
+use Rattle.om_format.specs.CheckpointBytes.{entry_bytes, message_bytes, checkpoint_bytes, AreWords, AreWithin}
 use Rattle.om_format.proofs.Numbers.{IsBytes, within_bytes, numbers-bytes}
 use Rattle.om_format.proofs.Receipts.{field_of, byte_cell}
 

@@ -1,19 +1,18 @@
 -- Reading a checkpoint is reading the fields of its format.
-use Rattle.std.proofs.Common.{◌≡◌, ℕ, zero, suc, ◌+◌, ◌-◌, ◌*◌, List, [], ◌∷◌, ◌++◌, length, Some, Result, Ok, Err, refl, sym, ap, ◌∙◌, append_assoc, arith}
+use Rattle.std.proofs.Common.{◌≡◌, ℕ, ◌+◌, ◌*◌, List, [], ◌∷◌, ◌++◌, length, Some, Result, Ok, Err, refl, sym, ap, ◌∙◌, append_assoc, arith}
 use Rattle.om_format.specs.declared.error.DecodeError.{DecodeError}
-use Rattle.om_format.specs.Formats.{Size, one, two, four, eight, Format}
 use Rattle.std.specs.Prelude.{map}
 use Rattle.std.proofs.lemmas.List.{append-nil}
 use Rattle.om_format.proofs.Numbers.{IsBytes}
-use Rattle.om_format.proofs.Formats.{bind_ok, ok_is, found, again, faulty, fault_or_memory}
+use Rattle.om_format.proofs.Formats.{bind_ok, ok_is, found, again, faulty}
 use Rattle.om_format.proofs.Lawful.{checkpoint_holds, of_ok}
 use Rattle.std.specs.List.{flat_map}
 use Rattle.om_format.specs.declared.queue.Entry.{Entry}
 use Rattle.om_format.specs.Queues.{QueueRecord, queue_end, entry_values, queue_values}
 use Rattle.om_format.specs.Checkpoints.{CheckpointRecord, checkpoint_format, checkpoint_values, checkpoint_fault, AreEnded, SpellsCheckpoint, IsCheckpoint}
-use Rattle.om_format.specs.Reading.{◌>>=◌, allow, number_at, fields_at, counted_at, end_at}
-use Rattle.om_format.specs.CheckpointReading.{head_at, vectors_at, queue_at, queues_at, checkpoint_at}
-use Rattle.om_format.proofs.Parts.{one_number, counted_is, opening_is, bind_assoc, bind_same}
+use Rattle.om_format.specs.Reading.{◌>>=◌, fields_at}
+use Rattle.om_format.specs.CheckpointReading.{head_at, vectors_at, checkpoint_at}
+use Rattle.om_format.proofs.Parts.{one_number, counted_is, opening_is, bind_assoc}
 use Rattle.om_format.proofs.Queues.{queues_is, last_queue_is}
 
 at_vec : (n : ℕ) → 144 + n * 4 ≡ 144 + 4 * n

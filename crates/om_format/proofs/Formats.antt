@@ -1,13 +1,13 @@
 -- The laws of every format: what is read is spelled so, what is spelled so is read, and what is not read has a first
 -- fault.
-use Rattle.std.proofs.Common.{◌≡◌, ℕ, ◌+◌, ◌*◌, Bool, true, false, cond, ltb, List, [], ◌∷◌, ◌++◌, length, drop, Option, Some, None, Result, Ok, Err, refl, sym, ap, subst, ◌∙◌, arith, ◌⊎◌, inl, inr}
+use Rattle.std.proofs.Common.{◌≡◌, ℕ, ◌+◌, ◌*◌, Bool, true, false, cond, ltb, List, [], ◌∷◌, ◌++◌, length, drop, Option, Some, Result, Ok, Err, refl, sym, ap, subst, ◌∙◌, ◌⊎◌, inl, inr}
 use Rattle.om_format.specs.declared.error.DecodeError.{DecodeError}
 use Rattle.om_format.specs.declared.error.DecodeError.TheVariants.{Short, Kind, Version, Field, Trailing, Memory}
-use Rattle.om_format.specs.Formats.{Size, bytes_in, Format, end, field}
+use Rattle.om_format.specs.Formats.{bytes_in, Format, end, field}
 use Rattle.om_format.specs.Spelling.{numbers, IsField, Spells}
 use Rattle.om_format.specs.FirstFault.{values_at, first_fault}
 use Rattle.om_format.specs.Reading.{◌>>=◌, allow, numbers_at, fields_at}
-use Rattle.om_format.proofs.Numbers.{IsBytes, Takes, numbers_take, numbers_again}
+use Rattle.om_format.proofs.Numbers.{IsBytes, numbers_take, numbers_again}
 
 -- the value of a step that did not fail
 pub bind_ok : {A B : Type 0} (r : Result A DecodeError) (f : A → Result B DecodeError) (y : B) → (r >>= f) ≡ Ok y → (x : A) × (r ≡ Ok x) × (f x ≡ Ok y)

@@ -1,18 +1,16 @@
 -- What is read is lawful.
-use Rattle.std.proofs.Common.{◌≡◌, ℕ, zero, suc, ◌+◌, ◌-◌, ◌*◌, ◌%◌, ◌<◌, ◌≤◌, Bool, true, false, cond, ltb, eqb, List, [], ◌∷◌, ◌++◌, length, take, drop, Result, Ok, Err, refl, sym, ap, subst, ◌∙◌, arith, ◌⊎◌, inl, inr}
+use Rattle.std.proofs.Common.{◌≡◌, ℕ, zero, suc, ◌+◌, ◌-◌, ◌*◌, ◌%◌, ◌<◌, ◌≤◌, Bool, true, false, cond, ltb, eqb, List, [], ◌∷◌, length, take, drop, Result, Ok, Err, refl, ap, subst, arith, ◌⊎◌, inl, inr}
 use Rattle.std.specs.Prelude.{map, sum, slice_index, nat_le}
-use Rattle.std.proofs.lemmas.Bool.{and_from, cases_lt, ltb-true, leb-true, eqb-true, lt-ltb, le-ltb, ltb-false}
+use Rattle.std.proofs.lemmas.Bool.{and_from, cases_lt, ltb-true, leb-true, eqb-true, lt-ltb, le-ltb}
 use Rattle.std.proofs.lemmas.List.{length-take-le}
-use Rattle.om_interval.specs.declared.pid.TheConstants.{MAX_PROCESSES}
 use Rattle.om_format.specs.declared.error.DecodeError.{DecodeError}
 use Rattle.om_format.specs.declared.error.DecodeError.TheVariants.{Short}
 use Rattle.om_format.specs.declared.checkpoint_reading.Head.{Head}
-use Rattle.om_format.specs.declared.queue.Entry.{Entry}
 use Rattle.om_format.specs.declared.limits.TheConstants.{CHECKPOINT_KIND, CHECKPOINT_VERSION, REGISTERS}
 use Rattle.om_format.specs.Formats.{Size, one, two, four, eight, bytes_in, is_body_size}
 use Rattle.om_format.specs.FirstFault.{values_at}
-use Rattle.om_format.specs.Queues.{QueueRecord, queue_end, is_between, are_entries, all_entries}
-use Rattle.om_format.specs.Checkpoints.{CheckpointRecord, IsCheckpoint, is_cluster_size, is_memory_size}
+use Rattle.om_format.specs.Queues.{queue_end, is_between, are_entries, all_entries}
+use Rattle.om_format.specs.Checkpoints.{IsCheckpoint, is_cluster_size, is_memory_size}
 use Rattle.om_format.specs.Reading.{◌>>=◌, allow, number_at, numbers_at, opening_at, counted_at, end_at}
 use Rattle.om_format.specs.CheckpointReading.{head_at, vectors_at, entry_at, entries_at, queue_at, queues_at, checkpoint_at}
 

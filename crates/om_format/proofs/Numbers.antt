@@ -1,6 +1,6 @@
 -- Numbers that are read are the numbers that were written, and what was written is read again.
-use Rattle.std.proofs.Common.{add-one, ◌-◌, drop-drop, ◌%◌, ◌≡◌, ℕ, zero, suc, ◌+◌, ◌*◌, ◌^◌, ◌<◌, ◌≤◌, Bool, true, false, cond, ltb, List, [], ◌∷◌, ◌++◌, length, get_or, take, drop, Result, Ok, Err, refl, sym, ap, subst, ◌∙◌, append_assoc, arith, inl, inr}
-use Rattle.std.specs.List.{flat_map, AllByRecursion}
+use Rattle.std.proofs.Common.{add-one, ◌-◌, drop-drop, ◌%◌, ◌≡◌, ℕ, zero, suc, ◌+◌, ◌*◌, ◌<◌, ◌≤◌, Bool, true, false, cond, ltb, List, [], ◌∷◌, ◌++◌, length, get_or, take, drop, Ok, Err, refl, sym, ap, subst, ◌∙◌, append_assoc, arith, inl, inr}
+use Rattle.std.specs.List.{AllByRecursion}
 use Rattle.std.specs.Prelude.{slice_set}
 use Rattle.std.proofs.Math.Seq.{take-suc-set}
 use Rattle.std.specs.Int.{w32, to_le_bytes, from_le_bytes}
@@ -13,7 +13,7 @@ use Rattle.om_format.specs.declared.error.DecodeError.TheVariants.{Short}
 use Rattle.om_format.specs.Formats.{Size, one, two, four, eight, bytes_in, width, limit}
 use Rattle.om_format.specs.Spelling.{numbers, IsField}
 use Rattle.om_format.specs.FirstFault.{values_at}
-use Rattle.om_format.specs.Reading.{◌>>=◌, numbers_at, number_at}
+use Rattle.om_format.specs.Reading.{numbers_at}
 
 abbrev pub IsBytes : List ℕ → Type 0
 IsBytes bytes = (i : ℕ) → get_or bytes i 0 < 256

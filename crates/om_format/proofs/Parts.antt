@@ -1,22 +1,12 @@
 -- Reading the parts of a record is reading their fields.
-use Rattle.std.proofs.Common.{lit<, eqb, ◌≡◌, ℕ, zero, suc, ◌+◌, ◌*◌, ◌<◌, ◌≤◌, Bool, true, false, cond, ltb, List, [], ◌∷◌, ◌++◌, length, take, drop, Some, Result, Ok, Err, refl, sym, ap, subst, ◌∙◌, arith, inl, inr}
-use Rattle.std.proofs.lemmas.Bool.{le-leb, eqb-true, cases_lt, lt-ltb, le-ltb}
-use Rattle.std.proofs.lemmas.List.{length-take-le, append-nil}
+use Rattle.std.proofs.Common.{eqb, ◌≡◌, ℕ, zero, suc, ◌+◌, ◌*◌, ◌≤◌, Bool, true, false, cond, ltb, List, [], ◌∷◌, length, take, drop, Result, Ok, Err, refl, sym, ap, ◌∙◌, arith, inl, inr}
+use Rattle.std.proofs.lemmas.Bool.{eqb-true, cases_lt, lt-ltb, le-ltb}
+use Rattle.std.proofs.lemmas.List.{length-take-le}
 use Rattle.om_format.specs.declared.error.DecodeError.{DecodeError}
-use Rattle.om_format.specs.declared.error.DecodeError.TheVariants.{Short, Trailing, Memory}
-use Rattle.om_format.specs.declared.receipt.Receipt.{Receipt}
-use Rattle.std.specs.Prelude.{IfOk, IfErr, ◌⊎◌}
-use Rattle.std.specs.declared.alloc.AllocError.{AllocError}
-use Rattle.std.specs.Global.{Vec}
-use Rattle.std.specs.Int.{w8, w16, w32, w64, to_le_bytes}
-use Rattle.om_format.specs.Formats.{any, Size, one, two, four, eight, bytes_in, limit, Format, end, field, counted, is_body_size, body, opening}
-use Rattle.om_format.specs.declared.limits.TheConstants.{MAX_BODY, RECEIPT_KIND, RECEIPT_VERSION}
-use Rattle.om_format.specs.Spelling.{IsField, numbers, Spells}
+use Rattle.om_format.specs.declared.error.DecodeError.TheVariants.{Short}
+use Rattle.om_format.specs.Formats.{Size, one, two, four, eight, bytes_in, Format, end, counted, is_body_size, body, opening}
 use Rattle.om_format.specs.FirstFault.{values_at}
-use Rattle.om_format.specs.Receipts.{ReceiptRecord, receipt_record, receipt_format, receipt_values, receipt_bytes, IsReceipt, SpellsReceipt, receipt_fault}
-use Rattle.om_format.specs.Reading.{◌>>=◌, Gives, allow, numbers_at, number_at, fields_at, opening_at, pid_at, counted_at, body_at, end_at, receipt_at}
-use Rattle.om_format.proofs.Numbers.{IsBytes, within_bytes, numbers-bytes}
-use Rattle.om_format.proofs.Formats.{bind_ok, ok_is, found, again, faulty, fault_or_memory}
+use Rattle.om_format.specs.Reading.{◌>>=◌, allow, numbers_at, number_at, fields_at, opening_at, counted_at, body_at, end_at}
 
 pub bind_assoc : {A B C : Type 0} (r : Result A DecodeError) (f : A → Result B DecodeError) (g : B → Result C DecodeError) → ((r >>= f) >>= g) ≡ (r >>= λ x. f x >>= g)
 bind_assoc (Ok x) f g = refl

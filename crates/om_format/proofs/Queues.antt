@@ -1,11 +1,10 @@
 -- Reading queues is reading the fields of their format.
-use Rattle.std.proofs.Common.{◌≡◌, ℕ, zero, suc, ◌+◌, ◌-◌, ◌*◌, List, [], ◌∷◌, ◌++◌, length, Result, Ok, Err, refl, sym, ap, ◌∙◌, append_assoc, arith}
+use Rattle.std.proofs.Common.{◌≡◌, ℕ, zero, suc, ◌+◌, ◌*◌, List, [], ◌∷◌, ◌++◌, length, Result, Ok, Err, refl, sym, ap, ◌∙◌, append_assoc, arith}
 use Rattle.std.proofs.lemmas.List.{append-nil}
 use Rattle.std.specs.List.{flat_map}
 use Rattle.om_format.specs.declared.error.DecodeError.{DecodeError}
-use Rattle.om_format.specs.declared.queue.Entry.{Entry}
-use Rattle.om_format.specs.Formats.{Size, one, two, four, eight, bytes_in, Format, end, field, is_body_size}
-use Rattle.om_format.specs.Queues.{QueueRecord, entries, queue, queues, entry_values, queue_values}
+use Rattle.om_format.specs.Formats.{Size, two, four, bytes_in, Format, end, is_body_size}
+use Rattle.om_format.specs.Queues.{entries, queue, queues, entry_values, queue_values}
 use Rattle.om_format.specs.Reading.{◌>>=◌, allow, number_at, fields_at, counted_at, end_at}
 use Rattle.om_format.specs.CheckpointReading.{entry_at, entries_at, queue_at, queues_at}
 use Rattle.om_format.proofs.Parts.{one_number, counted_is, ends, bind_assoc, bind_same}

@@ -1,20 +1,19 @@
 -- Reading a receipt is reading the fields of its format.
-use Rattle.std.proofs.Common.{lit<, eqb, ◌≡◌, ℕ, zero, suc, ◌+◌, ◌*◌, ◌<◌, ◌≤◌, Bool, true, false, cond, ltb, List, [], ◌∷◌, ◌++◌, length, take, drop, Some, Result, Ok, Err, refl, sym, ap, subst, ◌∙◌, arith, inl, inr}
-use Rattle.std.proofs.lemmas.Bool.{le-leb, eqb-true, cases_lt, lt-ltb, le-ltb}
-use Rattle.std.proofs.lemmas.List.{length-take-le, append-nil}
+use Rattle.std.proofs.Common.{lit<, ◌≡◌, ℕ, ◌<◌, ◌≤◌, Bool, true, List, [], ◌∷◌, ◌++◌, length, Some, Result, Ok, Err, refl, sym, ap, subst, ◌∙◌, arith}
+use Rattle.std.proofs.lemmas.Bool.{le-leb, lt-ltb}
+use Rattle.std.proofs.lemmas.List.{append-nil}
 use Rattle.om_format.specs.declared.error.DecodeError.{DecodeError}
-use Rattle.om_format.specs.declared.error.DecodeError.TheVariants.{Short, Trailing, Memory}
+use Rattle.om_format.specs.declared.error.DecodeError.TheVariants.{Memory}
 use Rattle.om_format.specs.declared.receipt.Receipt.{Receipt}
 use Rattle.std.specs.Prelude.{IfOk, IfErr, ◌⊎◌}
 use Rattle.std.specs.declared.alloc.AllocError.{AllocError}
 use Rattle.std.specs.Global.{Vec}
-use Rattle.std.specs.Int.{w8, w16, w32, w64, to_le_bytes}
-use Rattle.om_format.specs.Formats.{any, Size, one, two, four, eight, bytes_in, limit, Format, end, field, counted, is_body_size, body, opening}
+use Rattle.std.specs.Int.{w16, w32, w64, to_le_bytes}
+use Rattle.om_format.specs.Formats.{any, Size, one, two, four, eight, limit, Format, end, counted, body, opening}
 use Rattle.om_format.specs.declared.limits.TheConstants.{MAX_BODY, RECEIPT_KIND, RECEIPT_VERSION}
 use Rattle.om_format.specs.Spelling.{IsField, numbers, Spells}
-use Rattle.om_format.specs.FirstFault.{values_at}
 use Rattle.om_format.specs.Receipts.{ReceiptRecord, receipt_record, receipt_format, receipt_values, receipt_bytes, IsReceipt, SpellsReceipt, receipt_fault}
-use Rattle.om_format.specs.Reading.{◌>>=◌, Gives, allow, numbers_at, number_at, fields_at, opening_at, pid_at, counted_at, body_at, end_at, receipt_at}
+use Rattle.om_format.specs.Reading.{◌>>=◌, Gives, fields_at, pid_at, receipt_at}
 use Rattle.om_format.proofs.Numbers.{IsBytes, within_bytes, numbers-bytes}
 use Rattle.om_format.proofs.Parts.{one_number, last_body_is, opening_is, bind_assoc}
 use Rattle.om_format.proofs.Formats.{bind_ok, ok_is, found, again, faulty, fault_or_memory}

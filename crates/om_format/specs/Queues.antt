@@ -1,5 +1,5 @@
 -- Queues: the kept ends of numbered lists, and their format.
-use Rattle.std.specs.Prelude.{ℕ, zero, suc, ◌+◌, ◌-◌, ◌&&◌, List, [], ◌∷◌, ◌++◌, length, map, Bool, true, nat_le}
+use Rattle.std.specs.Prelude.{ℕ, zero, suc, ◌+◌, ◌-◌, ◌&&◌, List, [], ◌∷◌, length, Bool, true, nat_le}
 use Rattle.std.specs.List.{flat_map}
 use Rattle.om_format.specs.declared.queue.Entry.{Entry}
 use Rattle.om_format.specs.declared.queue.Queue.{Queue}

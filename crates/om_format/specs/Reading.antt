@@ -4,7 +4,7 @@ use Rattle.std.specs.Int.{from_le_bytes}
 use Rattle.om_interval.specs.declared.pid.TheConstants.{MAX_PROCESSES}
 use Rattle.om_format.specs.declared.error.DecodeError.{DecodeError}
 use Rattle.om_format.specs.declared.error.DecodeError.TheVariants.{Short, Kind, Version, Field, Trailing, Memory}
-use Rattle.om_format.specs.declared.limits.TheConstants.{MAX_BODY, RECEIPT_KIND, RECEIPT_VERSION}
+use Rattle.om_format.specs.declared.limits.TheConstants.{RECEIPT_KIND, RECEIPT_VERSION}
 use Rattle.om_format.specs.Formats.{Size, one, two, four, eight, bytes_in, width, Format, end, field, is_body_size}
 use Rattle.om_format.specs.FirstFault.{values_at}
 use Rattle.om_format.specs.Receipts.{ReceiptRecord}

@@ -5,7 +5,7 @@ use Rattle.om_interval.specs.declared.pid.TheConstants.{MAX_PROCESSES}
 use Rattle.om_format.specs.declared.error.DecodeError.{DecodeError}
 use Rattle.om_format.specs.declared.limits.TheConstants.{MAX_BODY, RECEIPT_KIND, RECEIPT_VERSION}
 use Rattle.om_format.specs.declared.receipt.Receipt.{Receipt}
-use Rattle.om_format.specs.Formats.{one, two, four, eight, Format, end, any, number, body, opening}
+use Rattle.om_format.specs.Formats.{one, four, eight, Format, end, any, number, body, opening}
 use Rattle.om_format.specs.Spelling.{Spells}
 use Rattle.om_format.specs.FirstFault.{first_fault}
 

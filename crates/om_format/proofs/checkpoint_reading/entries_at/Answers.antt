@@ -1,6 +1,5 @@
-use Rattle.std.proofs.Common.{◌≡◌, ◌++◌, ◌∷◌, [], arith}
+use Rattle.std.proofs.Common.{arith}
 use Rattle.std.proofs.lemmas.Result.{err_from_is_err_and}
-use Rattle.om_format.specs.CheckpointReading.{entries_at}
 use Rattle.om_format.proofs.Loops.{entries_go_on, entries_end, entries_done}
 use Rattle.om_format.proofs.checkpoint_reading.entries_at.Goals as goal
 

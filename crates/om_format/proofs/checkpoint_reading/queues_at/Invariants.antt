@@ -1,4 +1,4 @@
-use Rattle.std.proofs.Common.{◌≡◌, ◌+◌, ◌-◌, drop, length}
+use Rattle.std.proofs.Common.{◌≡◌, ◌+◌, drop, length}
 use Rattle.std.specs.Prelude.{map}
 use Rattle.om_format.specs.Queues.{queue_record}
 use Rattle.om_format.specs.CheckpointReading.{queues_at}

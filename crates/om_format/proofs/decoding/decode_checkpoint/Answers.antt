@@ -1,7 +1,7 @@
-use Rattle.std.proofs.Common.{◌≡◌, Ok, sym, ap, ◌∙◌, subst, arith}
+use Rattle.std.proofs.Common.{Ok, sym, ap, ◌∙◌, subst, arith}
 use Rattle.om_format.specs.Checkpoints.{CheckpointRecord, SpellsCheckpoint}
 use Rattle.om_format.specs.CheckpointViews.{parts_record}
-use Rattle.om_format.proofs.Formats.{fault_or_memory, ok_is}
+use Rattle.om_format.proofs.Formats.{fault_or_memory}
 use Rattle.om_format.proofs.Checkpoints.{lawful_of, checkpoint_found, checkpoint_again, checkpoint_faulty}
 use Rattle.om_format.proofs.decoding.decode_checkpoint.Goals as goal
 

@@ -1,4 +1,4 @@
-use Rattle.std.proofs.Common.{◌∙◌, arith, subst}
+use Rattle.std.proofs.Common.{arith, subst}
 use Rattle.om_format.specs.Receipts.{receipt_record}
 use Rattle.om_format.specs.Reading.{Gives}
 use Rattle.om_format.proofs.Receipts.{receipt_again, is_found, is_faulty}
