@@ -1,4 +1,4 @@
--- The bytes of a checkpoint, part by part.
+-- The bytes of a checkpoint, part by part, as they are written. Only private functions speak of them.
 use Rattle.std.specs.Prelude.{ℕ, ◌<◌, ◌^◌, List, [], ◌∷◌, ◌++◌, length, slice_index}
 use Rattle.std.specs.List.{flat_map}
 use Rattle.std.specs.Int.{w16, w32, w64, to_le_bytes}

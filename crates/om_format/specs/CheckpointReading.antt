@@ -1,4 +1,4 @@
--- Reading a checkpoint from left to right.
+-- Reading a checkpoint from left to right, likewise.
 use Rattle.std.specs.Prelude.{ℕ, zero, suc, ◌+◌, ◌-◌, ◌*◌, ◌%◌, ◌==◌, List, [], ◌∷◌, length, sum, slice_index, Result, Ok, nat_lt, nat_le}
 use Rattle.om_format.specs.declared.error.DecodeError.{DecodeError}
 use Rattle.om_format.specs.declared.error.DecodeError.TheVariants.{Field}

@@ -1,4 +1,5 @@
--- Reading from left to right.
+-- Reading from left to right: the steps of the code, as functions on lists. Only private functions speak of them; what
+-- they come to is stated over the formats.
 use Rattle.std.specs.Prelude.{◌≡◌, ℕ, ◌+◌, ◌*◌, ◌==◌, List, [], ◌∷◌, length, take, drop, Bool, true, false, Result, Ok, Err, nat_lt, nat_le, if◌then◌else◌}
 use Rattle.std.specs.Int.{from_le_bytes}
 use Rattle.om_interval.specs.declared.pid.TheConstants.{MAX_PROCESSES}

@@ -67,6 +67,7 @@ pub(crate) fn head_at(bytes: &[u8]) -> Result<(Head, &[u8]), DecodeError>
     Ok((head, rest))
 }
 
+// The bytes of so many numbers of 32 bits.
 #[tactic(auto, using(crate::proofs::Numbers::values_front), unfolding(crate::specs::Reading::numbers_at))]
 pub(crate) fn words_at(count: usize, bytes: &[u8]) -> Result<(&[u8], &[u8]), DecodeError>
     requires { count < 2 ^ 32 }
@@ -94,6 +95,7 @@ fn read_words(front: &[u8], places: &mut [u32])
     }
 }
 
+// The registers x1 to x31.
 pub(crate) fn regs_of(front: &[u8]) -> [u32; REGISTERS]
     requires { length front.now ≡ REGISTERS * 4 }
     ensures { result ≡ values_at four REGISTERS front.now }
@@ -103,6 +105,7 @@ pub(crate) fn regs_of(front: &[u8]) -> [u32; REGISTERS]
     regs
 }
 
+// The vector of n numbers.
 fn vector_of(n: usize, front: &[u8]) -> DepVec
     requires some { 1 ≤ n }
     requires within { n ≤ MAX_PROCESSES }
@@ -115,6 +118,7 @@ fn vector_of(n: usize, front: &[u8]) -> DepVec
     DepVec::from_slice(&places[..n]).unwrap()
 }
 
+// The sum of the places.
 fn sum_of(vector: &DepVec) -> u64
     ensures { result ≡ sum vector.now }
 {
@@ -134,6 +138,7 @@ pub(crate) struct Vectors<'a> {
     pub rest: &'a [u8],
 }
 
+// The dependency vector, the numbers got and the numbers sent, of n processes.
 #[tactic(auto, unfolding(crate::specs::CheckpointReading::vectors_at))]
 pub(crate) fn vectors_at<'a>(
     n: usize,
@@ -166,6 +171,7 @@ pub(crate) fn vectors_at<'a>(
     })
 }
 
+// The size of a memory, and so many bytes; the size stands at the offset.
 #[tactic(auto, unfolding(crate::specs::Reading::counted_at))]
 pub(crate) fn memory_at(offset: usize, bytes: &[u8]) -> Result<(&[u8], &[u8]), DecodeError>
     ensures exact { Gives (λ x. (x.0.now, x.1.now)) result (counted_at four is_memory_size offset bytes.now) }
@@ -192,6 +198,7 @@ pub(crate) struct Taken<'a, T> {
     pub rest: &'a [u8],
 }
 
+// An entry from the interval `low` on, and not newer than the checkpoint.
 #[tactic(auto, unfolding(crate::specs::CheckpointReading::entry_at))]
 fn entry_at<'a>(
     alloc: Global,
@@ -217,6 +224,7 @@ fn entry_at<'a>(
     })
 }
 
+// So many entries, as long as there are bytes.
 fn entries_at<'a>(
     alloc: Global,
     newest: u32,
@@ -246,6 +254,7 @@ fn entries_at<'a>(
     })
 }
 
+// The kept messages to one process, up to the number `stop`.
 #[tactic(auto, unfolding(crate::specs::CheckpointReading::queue_at))]
 fn messages_at<'a>(
     alloc: Global,
@@ -273,6 +282,7 @@ fn messages_at<'a>(
     })
 }
 
+// The kept outputs, up to the number `stop`.
 #[tactic(auto, unfolding(crate::specs::CheckpointReading::queue_at))]
 pub(crate) fn outputs_at<'a>(
     alloc: Global,
@@ -299,6 +309,7 @@ pub(crate) fn outputs_at<'a>(
     })
 }
 
+// The kept messages to each process, up to the numbers `stops`.
 pub(crate) fn queues_at<'a>(
     alloc: Global,
     newest: u32,

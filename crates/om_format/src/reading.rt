@@ -10,6 +10,7 @@ use crate::error::DecodeError;
 use crate::limits::MAX_BODY;
 use om_interval::MAX_PROCESSES;
 
+// What is not allowed is this fault.
 pub(crate) fn allow(allowed: bool, fault: DecodeError) -> Result<(), DecodeError>
     ensures { Gives (λ _. tt) result (allow allowed fault) }
 {
@@ -69,6 +70,7 @@ pub(crate) fn u64_at(bytes: &[u8]) -> Result<(u64, &[u8]), DecodeError>
     Ok((number, rest))
 }
 
+// The kind and the version of a record.
 #[tactic(auto, unfolding(crate::specs::Reading::opening_at))]
 pub(crate) fn opening_at(kind: u8, version: u8, bytes: &[u8]) -> Result<&[u8], DecodeError>
     ensures exact { Gives (λ x. x.now) result (opening_at kind version bytes.now) }
@@ -81,6 +83,7 @@ pub(crate) fn opening_at(kind: u8, version: u8, bytes: &[u8]) -> Result<&[u8], D
     Ok(rest)
 }
 
+// The number of a process, which stands at the offset.
 #[tactic(auto, unfolding(crate::specs::Reading::pid_at))]
 pub(crate) fn pid_at(offset: usize, bytes: &[u8]) -> Result<(usize, &[u8]), DecodeError>
     ensures exact { Gives (λ x. (x.0, x.1.now)) result (pid_at offset bytes.now) }
@@ -95,6 +98,7 @@ pub(crate) fn pid_at(offset: usize, bytes: &[u8]) -> Result<(usize, &[u8]), Deco
     }
 }
 
+// The bytes of a body; its length stands at the offset.
 #[tactic(auto, unfolding(crate::specs::Reading::counted_at))]
 pub(crate) fn body_at(offset: usize, bytes: &[u8]) -> Result<(&[u8], &[u8]), DecodeError>
     ensures exact { Gives (λ x. (x.0.now, x.1.now)) result (body_at offset bytes.now) }
@@ -112,6 +116,7 @@ pub(crate) fn body_at(offset: usize, bytes: &[u8]) -> Result<(&[u8], &[u8]), Dec
     Ok(rest.split_at(len))
 }
 
+// The end of a record.
 #[tactic(auto, unfolding(crate::specs::Reading::end_at))]
 pub(crate) fn end_at(bytes: &[u8]) -> Result<(), DecodeError>
     ensures { Gives (λ _. tt) result (end_at bytes.now) }
