@@ -1,5 +1,5 @@
-pub mod Faults
-pub mod FirstFault
+pub mod Errors
+pub mod FirstFaulty
 pub mod Lines
 pub mod Numbers
 pub mod Reading

@@ -2,7 +2,7 @@
 //! of a line.
 #![tactic(auto)]
 
-mod faults;
+mod error;
 pub mod laws;
 mod lines;
 mod numbers;
@@ -10,10 +10,7 @@ mod script;
 mod text;
 mod words;
 
-pub use faults::{LineFault, ScriptError, ScriptFault};
+pub use error::{BuildError, LineError, ScriptError};
 pub use numbers::{hex_word, number_of};
 pub use script::{Builder, read_script};
-pub use text::{MAX_BYTES, MAX_TURNS, ReadFault, read_text};
-
-#[cfg(test)]
-mod tests;
+pub use text::{MAX_BYTES, MAX_TURNS, ReadError, read_text};

@@ -1,13 +1,13 @@
 //! Scripts, over any meaning of a line.
 
 ghost use Rattle.std.specs.Prelude.{ℕ, List, map, Result};
-ghost use Rattle.om_text.specs.declared.faults.LineFault.{LineFault};
+ghost use Rattle.om_text.specs.declared.error.LineError.{LineError};
 ghost use Rattle.om_text.specs.Lines.{lines_of};
 ghost use Rattle.om_text.specs.Reading.{Gives};
 ghost use Rattle.om_text.specs.Script.{after_line, script_from};
 ghost use Rattle.om_text.specs.Words.{words_of};
 
-use crate::faults::{LineFault, ScriptError, ScriptFault};
+use crate::error::{BuildError, LineError, ScriptError};
 use crate::lines::split_line;
 use crate::words::{is_passed_over, split_words};
 use std::alloc::Global;
@@ -21,23 +21,23 @@ pub trait Builder {
     ghost state: { Self → State };
 
     /// What a state and the words of a line that is not passed over give: the next state, or the
-    /// line's fault.
-    ghost meaning: { State → List (List ℕ) → Result State LineFault };
+    /// line's error.
+    ghost meaning: { State → List (List ℕ) → Result State LineError };
 
     /// Takes in a line that is not passed over. After an error reading ends, and nothing is said of
     /// the builder.
-    fn add_line(&mut self, alloc: Global, words: &[&[u8]]) -> Result<(), ScriptError<LineFault>>
+    fn add_line(&mut self, alloc: Global, words: &[&[u8]]) -> Result<(), BuildError<LineError>>
         ensures { Gives (λ _. state self.new) result
             (meaning (state self.old) (map (λ word. word.now) words.now)) };
 }
 
-/// Reads a whole script: what its lines build, or the fault of the first faulty one. Lines without
+/// Reads a whole script: what its lines build, or the error of the first faulty one. Lines without
 /// words, and those whose first word begins with `#`, are passed over.
 pub fn read_script<B: Builder + Drop>(
     alloc: Global,
     text: &[u8],
     builder: B,
-) -> Result<B, ScriptError<ScriptFault>>
+) -> Result<B, BuildError<ScriptError>>
     ensures { Gives B.state result
         (script_from B.meaning 1 (B.state builder) (map words_of (lines_of text.now))) }
 {
@@ -54,13 +54,13 @@ pub fn read_script<B: Builder + Drop>(
     Ok(builder)
 }
 
-// Takes in a line, which may be passed over; its fault is one of the script, at the line's number.
+// Takes in a line, which may be passed over; its error is one of the script, at the line's number.
 fn take_line<B: Builder>(
     alloc: Global,
     words: &[&[u8]],
     number: usize,
     builder: &mut B,
-) -> Result<(), ScriptError<ScriptFault>>
+) -> Result<(), BuildError<ScriptError>>
     ensures { Gives (λ _. B.state builder.new) result
         (after_line B.meaning number (B.state builder.old) (map (λ word. word.now) words.now)) }
 {
@@ -69,10 +69,10 @@ fn take_line<B: Builder>(
     }
     match builder.add_line(alloc, words) {
         Ok(()) => Ok(()),
-        Err(ScriptError::Memory) => Err(ScriptError::Memory),
-        Err(ScriptError::Fault(fault)) => Err(ScriptError::Fault(ScriptFault {
+        Err(BuildError::Memory) => Err(BuildError::Memory),
+        Err(BuildError::Invalid(error)) => Err(BuildError::Invalid(ScriptError {
             line: number,
-            fault,
+            error,
         })),
     }
 }

@@ -2,8 +2,8 @@
 
 ghost use Rattle.std.specs.Prelude.{◌≡◌, ℕ, ◌+◌, ◌<◌, ◌≤◌, ◌++◌, List, IfOk, OnOk, IsErr, IfSome, vec_len, length, Some, Ok, Err, true};
 ghost use Rattle.std.specs.Io.KnownBytes.{Consumes, IsAtEnd};
-ghost use Rattle.om_text.specs.Faults.{read_fault_text};
-ghost use Rattle.om_text.specs.declared.text.ReadFault.TheVariants.{Memory};
+ghost use Rattle.om_text.specs.Errors.{read_error_text};
+ghost use Rattle.om_text.specs.declared.text.ReadError.TheVariants.{Memory};
 
 use std::alloc::{AllocError, Global};
 use std::error::Error;
@@ -21,7 +21,7 @@ const CHUNK_BYTES: usize = 65_536;
 
 /// Why an input was not read.
 #[derive(Clone, Copy, Debug, PartialEq, Eq, Hash)]
-pub enum ReadFault {
+pub enum ReadError {
     /// It has more than `MAX_BYTES` bytes.
     TooLong,
     /// The reader refused, or did not come to its end in `MAX_TURNS` turns.
@@ -29,31 +29,31 @@ pub enum ReadFault {
     Memory,
 }
 
-impl fmt::Display for ReadFault {
-    ghost output = { λ fault. Some (read_fault_text fault) };
+impl fmt::Display for ReadError {
+    ghost output = { λ error. Some (read_error_text error) };
 
     fn fmt<W: fmt::Write>(&self, f: &mut fmt::Formatter<W>) -> fmt::Result {
         f.write_str(match self {
-            ReadFault::TooLong => "too long",
-            ReadFault::CannotRead => "cannot read",
-            ReadFault::Memory => "no memory",
+            ReadError::TooLong => "too long",
+            ReadError::CannotRead => "cannot read",
+            ReadError::Memory => "no memory",
         })
     }
 }
 
-impl Error for ReadFault {}
+impl Error for ReadError {}
 
-impl From<AllocError> for ReadFault {
-    ghost from_gives = { λ _ fault. fault ≡ Memory };
+impl From<AllocError> for ReadError {
+    ghost from_gives = { λ _ error. error ≡ Memory };
 
-    fn from(_e: AllocError) -> ReadFault {
-        ReadFault::Memory
+    fn from(_e: AllocError) -> ReadError {
+        ReadError::Memory
     }
 }
 
 /// Reads an input to its end. A read that is interrupted is tried again. Which of its bytes a reader
 /// has left after an error is open.
-pub fn read_text<R: Read>(alloc: Global, reader: &mut R) -> Result<Vec<u8>, ReadFault>
+pub fn read_text<R: Read>(alloc: Global, reader: &mut R) -> Result<Vec<u8>, ReadError>
     ensures whole { IfSome (R.remaining reader.old) (λ bytes.
         IfOk result (λ text. text.items ≡ bytes)) }
     ensures ended { OnOk result (IsAtEnd (R.remaining reader.new)) }
@@ -61,7 +61,7 @@ pub fn read_text<R: Read>(alloc: Global, reader: &mut R) -> Result<Vec<u8>, Read
     ensures longer_is_refused { IfSome (R.remaining reader.old) (λ bytes.
         MAX_BYTES < length bytes → IsErr result) }
     ensures too_long_only_where_longer { IfSome (R.remaining reader.old) (λ bytes.
-        result ≡ Err ReadFault.TooLong → MAX_BYTES < length bytes) }
+        result ≡ Err ReadError.TooLong → MAX_BYTES < length bytes) }
 {
     let mut text = Vec::new(alloc);
     let mut chunk = zeros(alloc, CHUNK_BYTES)?;
@@ -71,7 +71,7 @@ pub fn read_text<R: Read>(alloc: Global, reader: &mut R) -> Result<Vec<u8>, Read
             return Ok(text);
         }
     }
-    Err(ReadFault::CannotRead)
+    Err(ReadError::CannotRead)
 }
 
 // One turn: reads into the chunk, and puts what came at the end of the text. Answers whether the
@@ -80,7 +80,7 @@ fn read_more<R: Read>(
     reader: &mut R,
     chunk: &mut [u8],
     text: &mut Vec<u8>,
-) -> Result<bool, ReadFault>
+) -> Result<bool, ReadError>
     requires room { 0 < length chunk.old }
     requires within { vec_len text.old ≤ MAX_BYTES }
     ensures within { vec_len text.new ≤ MAX_BYTES }
@@ -88,17 +88,17 @@ fn read_more<R: Read>(
         × (text.new.items ≡ text.old.items ++ bytes)
         × Consumes (R.remaining reader.old) (R.remaining reader.new) bytes) }
     ensures ended { result ≡ Ok true → IsAtEnd (R.remaining reader.new) }
-    ensures too_long { result ≡ Err ReadFault.TooLong → ((bytes : List ℕ)
+    ensures too_long { result ≡ Err ReadError.TooLong → ((bytes : List ℕ)
         × (MAX_BYTES < vec_len text.old + length bytes)
         × Consumes (R.remaining reader.old) (R.remaining reader.new) bytes) }
 {
     let count = match reader.read(chunk) {
         Ok(count) => count,
         Err(e) if e.kind() == ErrorKind::Interrupted => return Ok(false),
-        Err(_) => return Err(ReadFault::CannotRead),
+        Err(_) => return Err(ReadError::CannotRead),
     };
     if count > MAX_BYTES - text.len() {
-        return Err(ReadFault::TooLong);
+        return Err(ReadError::TooLong);
     }
     text.extend_from_slice(&chunk[..count])?;
     Ok(count == 0)

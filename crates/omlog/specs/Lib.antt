@@ -1,6 +1,1 @@
-pub mod Decode
-pub mod Fault
-pub mod Frontier
-pub mod RecordScript
-pub mod Report
-pub mod WordScript
+pub mod Requests

@@ -1,10 +1,13 @@
 //! The command line: which subcommand is meant, and with which status it ends.
 
-use crate::decode::decode;
-use crate::fault::CommandFault;
-use crate::frontier::frontier;
+ghost use Rattle.std.specs.Prelude.{◌≡◌};
+ghost use Rattle.omlog.specs.Requests.{request_named};
+
 use clap::error::ErrorKind;
 use clap::{Command, Error};
+use om_commands::CommandError;
+use om_commands::decode::decode;
+use om_commands::frontier::frontier;
 use std::alloc::Global;
 use std::process::ExitCode;
 use std::rt::Runtime;
@@ -39,15 +42,16 @@ Empty lines, and lines that begin with '#', are passed over.
 Answers: noted, raised, known, bad-vector, differs, disorder Y, stranger.
 A faulty script is refused whole: 'line N: ..' on standard error, status 1.";
 
-/// What the words of the command line ask for.
-enum Request {
+// What the words of the command line ask for.
+#[derive(Clone, Copy, Debug, PartialEq, Eq)]
+pub(crate) enum Request {
     Decode,
     Frontier,
 }
 
-/// Runs the program on its arguments and standard streams: the status is 0 where it is done, 1 where a command was
-/// refused, and 2 where the arguments were.
-pub fn run<R: Runtime + AllocGlobal>(rt: &R) -> ExitCode {
+// Runs the program on its arguments and standard streams: the status is 0 where it is done, 1 where a command was
+// refused, and 2 where the arguments were.
+pub(crate) fn run<R: Runtime + AllocGlobal>(rt: &R) -> ExitCode {
     let words = match words(rt) {
         Ok(words) => words,
         Err(error) => return refuse_words(rt, &error),
@@ -72,10 +76,20 @@ fn words<R: Runtime + AllocGlobal>(rt: &R) -> io::Result<Vec<String>> {
 fn chosen(alloc: Global, words: &[String]) -> Result<Request, Error> {
     let mut command = command(alloc)?;
     let matches = command.try_get_matches_from_mut(words)?;
-    match matches.subcommand_name() {
-        Some(DECODE) => Ok(Request::Decode),
-        Some(_) => Ok(Request::Frontier),
+    match matches.subcommand_name().and_then(request_named) {
+        Some(request) => Ok(request),
         None => Err(command.error(ErrorKind::MissingSubcommand, "a subcommand is missing")?),
+    }
+}
+
+// The request of a subcommand.
+fn request_named(name: &str) -> Option<Request>
+    ensures { result ≡ request_named name.now }
+{
+    match name {
+        DECODE => Some(Request::Decode),
+        FRONTIER => Some(Request::Frontier),
+        _ => None,
     }
 }
 
@@ -103,33 +117,32 @@ fn frontier_command<'a>(alloc: Global) -> Command<'a> {
         .after_help(FRONTIER_HELP)
 }
 
-/// Ends a command. A fault goes to standard error as one line.
-fn end<R: Runtime>(rt: &R, outcome: Result<(), CommandFault>) -> ExitCode {
+/// Ends a command. A error goes to standard error as one line.
+fn end<R: Runtime>(rt: &R, outcome: Result<(), CommandError>) -> ExitCode {
     match outcome {
         Ok(()) => ExitCode::SUCCESS,
-        Err(fault) => {
-            let _ = rt.eprintln(fault);
+        Err(error) => {
+            let _ = rt.eprintln(error);
             ExitCode::FAILURE
         }
     }
 }
 
-/// A help text that was asked for ends with 0, and a mistake with 2.
+// A help text that was asked for ends with 0, where it could be written, and a mistake with 2.
 fn refuse_request<R: Runtime>(rt: &R, error: &Error) -> ExitCode {
     if error.kind() == ErrorKind::OutOfMemory {
-        return end(rt, Err(CommandFault::NoMemory));
+        return end(rt, Err(CommandError::NoMemory));
     }
-    let _ = error.print(rt);
+    let printed = error.print(rt);
     if error.use_stderr() {
-        ExitCode::from(2)
-    } else {
-        ExitCode::SUCCESS
+        return ExitCode::from(2);
     }
+    end(rt, printed.map_err(|_| CommandError::CannotWrite))
 }
 
 fn refuse_words<R: Runtime>(rt: &R, error: &io::Error) -> ExitCode {
     if error.kind() == io::ErrorKind::OutOfMemory {
-        return end(rt, Err(CommandFault::NoMemory));
+        return end(rt, Err(CommandError::NoMemory));
     }
     let _ = rt.eprintln("error: the arguments are not text");
     ExitCode::from(2)

@@ -1,0 +1,19 @@
+-- The errors of a command, by those of its parts.
+use Rattle.om_text.specs.declared.error.BuildError.{BuildError}
+use Rattle.om_text.specs.declared.error.BuildError.TheVariants as building
+use Rattle.om_text.specs.declared.error.ScriptError.{ScriptError}
+use Rattle.om_text.specs.declared.text.ReadError.{ReadError}
+use Rattle.om_text.specs.declared.text.ReadError.TheVariants as reading
+use Rattle.om_commands.specs.declared.error.CommandError.{CommandError}
+use Rattle.om_commands.specs.declared.error.CommandError.TheVariants.{TooLong, CannotRead, NoMemory, Script}
+
+-- the input could not be had
+abbrev pub error_of_reading : ReadError → CommandError
+error_of_reading reading.TooLong = TooLong
+error_of_reading reading.CannotRead = CannotRead
+error_of_reading reading.Memory = NoMemory
+
+-- the script could not be read
+abbrev pub error_of_building : BuildError ScriptError → CommandError
+error_of_building (building.Invalid error) = Script error
+error_of_building building.Memory = NoMemory

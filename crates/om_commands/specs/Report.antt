@@ -1,0 +1,71 @@
+-- What is written of the notes of a record script.
+use Rattle.std.specs.Prelude.{◌≡◌, ℕ, ◌<◌, ◌↔◌, List, [], ◌∷◌, ◌++◌, replicate, Result, Ok, Err, if◌then◌else◌, codes, decimal}
+use Rattle.std.specs.List.{flat_map}
+use Rattle.om_recover.specs.Rows.{Rows, HasRow}
+use Rattle.om_recover.specs.Recoverable.{IsGreatest}
+use Rattle.om_recover.specs.Offered.{offered, TellsChange}
+use Rattle.om_recover.specs.Records.{first_row}
+use Rattle.om_recover.specs.declared.row.Row.{Row}
+use Rattle.om_recover.specs.declared.note.Note.{Note}
+use Rattle.om_recover.specs.declared.note.Note.TheVariants.{Noted, Known}
+use Rattle.om_recover.specs.declared.note.NoteError.{NoteError}
+use Rattle.om_recover.specs.declared.note.NoteError.TheVariants.{Stranger, BadVector, Differs, Disorder, Memory}
+use Rattle.om_commands.specs.declared.record_script.NoteLine.{NoteLine}
+
+-- the row that a note of the script offers, with these counts
+abbrev pub offered_row : List ℕ → NoteLine → Row
+offered_row got note = record { kind = note.kind; pid = note.pid; interval = note.interval; vec = note.vec; got = got }
+
+-- the word of a note that is no refusal
+abbrev pub note_word : Note → List ℕ
+note_word (Noted raised) = if raised then codes "raised" else codes "noted"
+note_word Known = codes "known"
+
+-- the word of a refusal; want of memory has none
+abbrev pub error_word : NoteError → List ℕ
+error_word Stranger = codes "stranger"
+error_word BadVector = codes "bad-vector"
+error_word Differs = codes "differs"
+error_word (Disorder y) = codes "disorder " ++ decimal y
+error_word Memory = []
+
+-- the word of an answer
+abbrev pub answer_word : Result Note NoteError → List ℕ
+answer_word (Ok note) = note_word note
+answer_word (Err error) = error_word error
+
+-- a refusal has a word
+abbrev pub HasWord : NoteError → Type 0
+HasWord Memory = ⊥
+HasWord Stranger = Unit {0}
+HasWord BadVector = Unit {0}
+HasWord Differs = Unit {0}
+HasWord (Disorder y) = Unit {0}
+
+-- an answer has a word
+abbrev pub IsWritten : Result Note NoteError → Type 0
+IsWritten (Ok note) = Unit {0}
+IsWritten (Err error) = HasWord error
+
+-- the intervals of a state, each after a space, and the end of the line
+abbrev pub state_text : List ℕ → List ℕ
+state_text state = flat_map (λ interval. 32 ∷ decimal interval) state ++ 10 ∷ []
+
+-- the text of the notes, offered in order to these rows, whose greatest recoverable state this is: a line for each
+-- answer with the state after it, and the state in the end
+abbrev pub IsReportFrom : ℕ → Rows → List ℕ → List NoteLine → List ℕ → Type 0
+IsReportFrom n rows state [] text = text ≡ codes "recovery" ++ state_text state
+IsReportFrom n rows state (note ∷ notes) text =
+    (answer : Result Note NoteError) × (after : Rows) × (next : List ℕ) × (rest : List ℕ)
+    × offered n rows (offered_row (replicate n 0) note) answer after
+    × IsGreatest n after next
+    × TellsChange answer state next
+    × IsWritten answer
+    × IsReportFrom n after next notes rest
+    × (text ≡ answer_word answer ++ 58 ∷ state_text next ++ rest)
+
+-- the text of the notes, offered to records that hold checkpoint 0 of each of n processes and nothing else
+abbrev pub IsReport : ℕ → List NoteLine → List ℕ → Type 0
+IsReport n notes text =
+    (rows : Rows) × ((row : Row) → HasRow rows row ↔ ((row.pid < n) × (row ≡ first_row n row.pid)))
+    × IsReportFrom n rows (replicate n 0) notes text

@@ -1,0 +1,61 @@
+//! The command `decode`: the texts of words of the machine.
+
+ghost use Rattle.std.specs.Prelude.{◌≡◌, ◌++◌, ◌∷◌, [], ℕ, List, IfSome, IfOk, IfErr, OnOk};
+ghost use Rattle.std.specs.Io.KnownBytes.{Appends, Keeps};
+ghost use Rattle.om_commands.specs.Command.{IsErrorOf, IsSilent};
+ghost use Rattle.om_commands.specs.Decode.{IsDecoded, IsListing, IsTextOf};
+ghost use Rattle.om_commands.specs.WordScript.{meaning_of};
+
+use crate::command::{read_input, write_answer};
+use crate::error::CommandError;
+use crate::word_script::WordScript;
+use std::alloc::{AllocError, Global};
+use std::io::{Read, Write};
+
+/// Reads words of the machine, one on each line, and then writes the text of each on a line of its own. An input
+/// without words has an empty answer.
+pub fn decode<R: Read, W: Write>(
+    alloc: Global,
+    reader: &mut R,
+    writer: &mut W,
+) -> Result<(), CommandError>
+    ensures text { IfSome (R.remaining reader.old) (λ bytes. OnOk result ((text : List ℕ) × IsDecoded bytes text
+        × Appends (W.contents writer.old) (W.contents writer.new) text)) }
+    ensures error { IfSome (R.remaining reader.old) (λ bytes.
+        IfErr result (IsErrorOf meaning_of [] (λ _. ⊥) bytes)) }
+    ensures silent { IfErr result (λ error. IsSilent error (Keeps (W.contents writer.old) (W.contents writer.new))) }
+{
+    let script = read_input(alloc, reader, WordScript::new(alloc))?;
+    let text = listing(alloc, &script.words)?;
+    write_answer(writer, &text)
+}
+
+// The text of each word, on a line of its own.
+fn listing(alloc: Global, words: &[u32]) -> Result<Vec<u8>, AllocError>
+    ensures { IfOk result (λ text. IsListing words.now text.items) }
+{
+    let mut text = Vec::new(alloc);
+    for word in words {
+        push_line(&mut text, *word)?;
+    }
+    Ok(text)
+}
+
+// Writes the text of a word, and ends the line.
+fn push_line(text: &mut Vec<u8>, word: u32) -> Result<(), AllocError>
+    ensures { OnOk result ((line : List ℕ) × IsTextOf word line × (text.new.items ≡ text.old.items ++ line ++ 10 ∷ [])) }
+{
+    push_text(text, word)?;
+    text.push(b'\n')?;
+    Ok(())
+}
+
+// Writes the text of the instruction that a word stands for, or `none`.
+fn push_text(text: &mut Vec<u8>, word: u32) -> Result<(), AllocError>
+    ensures { OnOk result ((line : List ℕ) × IsTextOf word line × (text.new.items ≡ text.old.items ++ line)) }
+{
+    match om_isa::decode(word) {
+        Some(instruction) => instruction.write_text(text).map_err(|_| AllocError),
+        None => text.extend_from_slice(b"none"),
+    }
+}

@@ -1,0 +1,58 @@
+ghost use Rattle.std.specs.Prelude.{◌≡◌};
+ghost use Rattle.om_text.specs.declared.text.ReadError.TheVariants as reading;
+ghost use Rattle.om_text.specs.declared.error.BuildError.TheVariants as errors;
+ghost use Rattle.om_commands.specs.Errors.{error_of_reading, error_of_building};
+
+use om_text::{BuildError, ReadError, ScriptError};
+use std::alloc::AllocError;
+use thiserror::Error;
+
+/// Why a command was refused. The bytes that are read determine all but `CannotRead`, `CannotWrite` and `NoMemory`.
+#[derive(Clone, Copy, Debug, PartialEq, Eq, Error)]
+pub enum CommandError {
+    #[error("too long")]
+    TooLong,
+    #[error("cannot read")]
+    CannotRead,
+    #[error("cannot write")]
+    CannotWrite,
+    #[error("no memory")]
+    NoMemory,
+    #[error("empty script")]
+    EmptyScript,
+    #[error("{0}")]
+    Script(ScriptError),
+}
+
+impl From<ReadError> for CommandError {
+    ghost from_gives = { λ error e. e ≡ error_of_reading error };
+
+    fn from(error: ReadError) -> CommandError {
+        match error {
+            ReadError::TooLong => CommandError::TooLong,
+            ReadError::CannotRead => CommandError::CannotRead,
+            ReadError::Memory => CommandError::NoMemory,
+        }
+    }
+}
+
+impl From<BuildError<ScriptError>> for CommandError {
+    ghost from_gives = { λ error e. e ≡ error_of_building error };
+
+    fn from(error: BuildError<ScriptError>) -> CommandError {
+        match error {
+            BuildError::Invalid(error) => CommandError::Script(error),
+            BuildError::Memory => CommandError::NoMemory,
+        }
+    }
+}
+
+impl From<AllocError> for CommandError {
+    ghost use Rattle.om_commands.specs.declared.error.CommandError.TheVariants.{NoMemory};
+
+    ghost from_gives = { λ _ e. e ≡ NoMemory };
+
+    fn from(_e: AllocError) -> CommandError {
+        CommandError::NoMemory
+    }
+}

@@ -1,0 +1,43 @@
+//! The command `frontier`: the recovery state after each note of a record script.
+
+ghost use Rattle.std.specs.Prelude.{◌≡◌, ◌⊎◌, ℕ, List, IfSome, IfOk, IfErr, OnOk, string_bytes};
+ghost use Rattle.std.specs.Io.KnownBytes.{Appends, Keeps};
+ghost use Rattle.om_commands.specs.Command.{IsErrorOf, IsSilent};
+ghost use Rattle.om_commands.specs.Frontier.{IsAnswer, IsFrontier, LacksProcesses};
+ghost use Rattle.om_commands.specs.RecordScript.{meaning_of, no_lines};
+
+use crate::command::{read_input, write_answer};
+use crate::error::CommandError;
+use crate::record_script::RecordScript;
+use crate::report::report;
+use std::alloc::Global;
+use std::io::{Read, Write};
+
+/// Reads a record script whole, and then writes the answer to each of its notes and the recovery state.
+pub fn frontier<R: Read, W: Write>(
+    alloc: Global,
+    reader: &mut R,
+    writer: &mut W,
+) -> Result<(), CommandError>
+    ensures text { IfSome (R.remaining reader.old) (λ bytes. OnOk result ((text : List ℕ) × IsFrontier bytes text
+        × Appends (W.contents writer.old) (W.contents writer.new) text)) }
+    ensures error { IfSome (R.remaining reader.old) (λ bytes.
+        IfErr result (IsErrorOf meaning_of no_lines LacksProcesses bytes)) }
+    ensures silent { IfErr result (λ error. IsSilent error (Keeps (W.contents writer.old) (W.contents writer.new))) }
+{
+    let script = read_input(alloc, reader, RecordScript::new(alloc))?;
+    let text = answer(alloc, &script)?;
+    write_answer(writer, text.as_bytes())
+}
+
+// The text that answers a script.
+fn answer(alloc: Global, script: &RecordScript) -> Result<String, CommandError>
+    ensures text { IfOk result (λ text. IsAnswer script.now (string_bytes text)) }
+    ensures error { IfErr result (λ error. (error ≡ CommandError.NoMemory)
+        ⊎ ((error ≡ CommandError.EmptyScript) × LacksProcesses script.now)) }
+{
+    let Some(n) = script.processes() else {
+        return Err(CommandError::EmptyScript);
+    };
+    Ok(report(alloc, n, script.notes())?)
+}

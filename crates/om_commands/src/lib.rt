@@ -1,0 +1,12 @@
+//! The commands on message logs, checkpoints and recovery states of message-passing programs: text in, text out.
+#![tactic(auto)]
+
+mod command;
+pub mod decode;
+mod error;
+pub mod frontier;
+mod record_script;
+mod report;
+mod word_script;
+
+pub use error::CommandError;

@@ -1,0 +1,241 @@
+//! What no clause says: that the definitions mean what the formats say, and what becomes of readers
+//! that fail.
+
+ghost use Rattle.std.specs.Prelude.{ℕ, ◌+◌, ◌-◌, ◌^◌, ◌&&◌, ◌==◌, min, length, slice_index_or, ok_or, if◌then◌else◌, [], codes, Ok, Err};
+ghost use Rattle.std.specs.Option.{option_map};
+ghost use Rattle.std.specs.Str.{bytes_eq};
+ghost use Rattle.om_text.specs.Numbers.{number_of};
+ghost use Rattle.om_text.specs.declared.error.LineError.TheVariants.{UnknownLine, BadNumber};
+
+use om_text::{
+    BuildError, Builder, LineError, MAX_BYTES, MAX_TURNS, ReadError, ScriptError, hex_word, laws,
+    number_of, read_script, read_text,
+};
+use std::alloc::{AllocError, Global};
+use std::io;
+use std::io::{ErrorKind, Read};
+use std::test::Fail;
+
+/// The sum of the numbers N of the lines `add N`.
+#[derive(Debug, Drop)]
+struct Sum(u64);
+
+impl Builder for Sum {
+    ghost State = { ℕ };
+
+    ghost state = { λ sum. sum.0 };
+
+    ghost meaning = { λ total words.
+        if (length words == 2) && bytes_eq (slice_index_or words 0 []) (codes "add")
+        then ok_or (option_map (λ n. min (total + n) (2 ^ 64 - 1))
+        (number_of (slice_index_or words 1 []))) BadNumber
+        else Err UnknownLine };
+
+    fn add_line(&mut self, _alloc: Global, words: &[&[u8]]) -> Result<(), BuildError<LineError>> {
+        let [name, number] = words else {
+            return Err(LineError::UnknownLine.into());
+        };
+        if *name != b"add".as_slice() {
+            return Err(LineError::UnknownLine.into());
+        }
+        let number = number_of(number).ok_or(LineError::BadNumber)?;
+        self.0 = self.0.saturating_add(u64::from(number));
+        Ok(())
+    }
+}
+
+fn sum_of(alloc: Global, text: &[u8]) -> Result<u64, BuildError<ScriptError>> {
+    Ok(read_script(alloc, text, Sum(0))?.0)
+}
+
+fn faulty(line: usize, error: LineError) -> Result<u64, BuildError<ScriptError>> {
+    Err(BuildError::Invalid(ScriptError { line, error }))
+}
+
+#[test]
+fn scripts_are_read_whole(rt: HostRuntime) {
+    for (text, sum) in [
+        ("", 0),
+        ("add 1\nadd 2", 3),
+        ("add 1\r\nadd 2\r\n", 3),
+        ("\n\r\n \t \n# add 5\n  #add 5\n#", 0),
+        ("add\t1\n \tadd  \t 2 \t\n", 3),
+        ("add 007\nadd 00000000000000000000000000000010", 17),
+        ("add 4294967295\nadd 4294967295", 8589934590),
+    ] {
+        assert_eq!(rt; sum_of(rt.alloc(), text.as_bytes()), Ok(sum), "of {text:?}");
+    }
+}
+
+#[test]
+fn the_first_faulty_line_counts(rt: HostRuntime) {
+    for (text, line, error) in [
+        ("add 1\n\n# add x\nadd x\nsub 1", 4, LineError::BadNumber),
+        ("add 1\r\n\r\nsub 1\r\nadd x", 3, LineError::UnknownLine),
+        ("add 4294967296", 1, LineError::BadNumber),
+        ("add +5", 1, LineError::BadNumber),
+        ("add 1\nadd 2\r", 2, LineError::BadNumber),
+        ("add 1\r\r\n", 1, LineError::BadNumber),
+        ("\r", 1, LineError::UnknownLine),
+        ("add\u{b}1\n", 1, LineError::UnknownLine),
+        ("1 add\n", 1, LineError::UnknownLine),
+    ] {
+        assert_eq!(rt;
+            sum_of(rt.alloc(), text.as_bytes()),
+            faulty(line, error),
+            "of {text:?}"
+        );
+    }
+    laws::first_faulty_line_counts::<u64>();
+}
+
+#[test]
+fn words_are_numbers(rt: HostRuntime) {
+    for (word, number) in [
+        ("0", Some(0)),
+        ("0010", Some(10)),
+        ("4294967295", Some(4294967295)),
+        ("4294967296", None),
+        ("99999999999999999999999999", None),
+        ("", None),
+        ("+1", None),
+        ("1a", None),
+    ] {
+        assert_eq!(rt; number_of(word.as_bytes()), number, "of {word:?}");
+    }
+    for (word, value) in [
+        ("00500093", Some(0x0050_0093)),
+        ("fe000EE3", Some(0xfe00_0ee3)),
+        ("0500093", None),
+        ("000500093", None),
+        ("0x500093", None),
+    ] {
+        assert_eq!(rt; hex_word(word.as_bytes()), value, "of {word:?}");
+    }
+}
+
+#[test]
+fn faults_are_named(rt: HostRuntime) -> Result<(), Fail> {
+    let error = LineError::WrongCount;
+    let error = BuildError::Invalid(ScriptError { line: 2, error });
+    assert_eq!(rt;
+        error.to_string(rt.alloc())?.as_str(),
+        "line 2: wrong count of words"
+    );
+    let memory = BuildError::<LineError>::Memory;
+    assert_eq!(rt; memory.to_string(rt.alloc())?.as_str(), "no memory");
+    assert_eq!(rt;
+        ReadError::TooLong.to_string(rt.alloc())?.as_str(),
+        "too long"
+    );
+    Ok(())
+}
+
+/// A reader that gives its bytes one at a time, after so many interruptions, and may refuse in place
+/// of ending.
+#[derive(Drop)]
+struct Drip<'a> {
+    bytes: &'a [u8],
+    turns: u64,
+    interruptions: u64,
+    refuses: bool,
+}
+
+impl Read for Drip<'_> {
+    fn read(&mut self, buf: &mut [u8]) -> io::Result<usize> {
+        self.turns = self.turns.saturating_add(1);
+        if self.turns <= self.interruptions {
+            return Err(ErrorKind::Interrupted.into());
+        }
+        let [first, rest @ ..] = self.bytes else {
+            return if self.refuses {
+                Err(ErrorKind::BrokenPipe.into())
+            } else {
+                Ok(0)
+            };
+        };
+        if buf.is_empty() {
+            return Ok(0);
+        }
+        buf[0] = *first;
+        self.bytes = rest;
+        Ok(1)
+    }
+}
+
+fn zeros(alloc: Global, count: usize) -> Result<Vec<u8>, AllocError> {
+    vec![in alloc; 0; count]
+}
+
+#[test]
+fn inputs_are_read_whole(rt: HostRuntime) -> Result<(), Fail> {
+    let text = b"add 1\nadd 2".as_slice();
+    assert_eq!(rt;
+        read_text(rt.alloc(), &mut b"".as_slice())?.as_slice(),
+        b"".as_slice()
+    );
+    assert_eq!(rt;
+        read_text(rt.alloc(), &mut b"add 1\nadd 2".as_slice())?.as_slice(),
+        text
+    );
+    let mut drip = Drip {
+        bytes: text,
+        turns: 0,
+        interruptions: 1,
+        refuses: false,
+    };
+    assert_eq!(rt; read_text(rt.alloc(), &mut drip)?.as_slice(), text);
+    Ok(())
+}
+
+#[test]
+fn inputs_have_limits(rt: HostRuntime) -> Result<(), Fail> {
+    let longest = zeros(rt.alloc(), MAX_BYTES)?;
+    assert_eq!(rt;
+        read_text(rt.alloc(), &mut longest.as_slice())?.len(),
+        16_777_216
+    );
+    let longer = zeros(rt.alloc(), MAX_BYTES + 1)?;
+    assert!(rt;
+        matches!(
+            read_text(rt.alloc(), &mut longer.as_slice()),
+            Err(ReadError::TooLong)
+        )
+    );
+    Ok(())
+}
+
+#[test]
+fn readers_may_refuse(rt: HostRuntime) {
+    let text = b"add 1\nadd 2".as_slice();
+    let mut refusing = Drip {
+        bytes: text,
+        turns: 0,
+        interruptions: 0,
+        refuses: true,
+    };
+    assert!(rt;
+        matches!(
+            read_text(rt.alloc(), &mut refusing),
+            Err(ReadError::CannotRead)
+        )
+    );
+    assert!(rt; refusing.bytes.is_empty());
+}
+
+#[test]
+fn readers_have_a_number_of_turns(rt: HostRuntime) {
+    let mut endless = Drip {
+        bytes: b"",
+        turns: 0,
+        interruptions: u64::MAX,
+        refuses: false,
+    };
+    assert!(rt;
+        matches!(
+            read_text(rt.alloc(), &mut endless),
+            Err(ReadError::CannotRead)
+        )
+    );
+    assert_eq!(rt; endless.turns, 33_554_432);
+}
