@@ -1,2 +1,3 @@
+pub mod BetweenLemmas
 pub mod RecordLemmas
 pub mod TreeLemmas

@@ -1,11 +1,12 @@
 -- Finite maps from intervals to bytes: what each change leaves at each interval.
-use Rattle.std.proofs.Common.{◌≡◌, ◌≢◌, ℕ, ◌+◌, ◌-◌, ◌<◌, ◌≤◌, Bool, true, false, cond, List, [], ◌∷◌, ◌++◌, length, refl, sym, ap, ◌∙◌, arith, length-take-le, Vec, take, get_or}
+use Rattle.std.proofs.Common.{◌≡◌, ◌≢◌, ◌⊎◌, inl, inr, ℕ, zero, suc, ◌+◌, ◌-◌, ◌<◌, ◌≤◌, Bool, true, false, cond, List, [], ◌∷◌, ◌++◌, length, refl, sym, ap, ◌∙◌, arith, length-take-le, Vec, take, get_or}
 use Rattle.std.specs.declared.alloc.Global.{Global}
 use Rattle.std.proofs.lemmas.List.{map_more, length-map}
 use Rattle.std.specs.Prelude.{None, Some, IsSome, is_some}
 use Rattle.std.proofs.lemmas.Bool.{eq-eqb, ne_eqb, cases_eq, cases_lt, both_ways}
 use Rattle.std.proofs.Math.Nat.{add-zero}
 use Rattle.std.proofs.Math.Logic.{⊎_elim}
+use Rattle.std.specs.List.{slice_get}
 use Rattle.std.specs.Ordering.{nat_cmp}
 use Rattle.std.specs.Cmp.{nat_cmp_total, unsigned_tied}
 use Rattle.std.specs.FinMap.{get, insert, remove, retain_keys, len, get-insert, get-remove, get-retain_keys, len-remove, empty_of_len, get-empty, same_map, nat_cmp-IsAntisymmetric}
@@ -67,6 +68,37 @@ get-with_all_above m first (r ∷ rs) q h =
     let later : (first + 1) + length rs ≤ q = omega arith in
     let ne : q ≢ first = omega arith in
     get-with_all_above (insert m first r) (first + 1) rs q later ∙ get-insert_apart m first r q ne
+
+pub get-with_all_at : (m : Records) (first : ℕ) (rs : List (List ℕ)) (i : ℕ) (bytes : List ℕ) → slice_get rs i ≡ Some bytes → get (with_all m first rs) (first + i) ≡ Some bytes
+get-with_all_at m first [] i bytes h = cc
+get-with_all_at m first (r ∷ rs) zero bytes h =
+    ap (get (with_all (insert m first r) (first + 1) rs)) (add-zero first)
+    ∙ get-with_all_below (insert m first r) (first + 1) rs first (omega arith) ∙ get-insert_here m first r ∙ h
+get-with_all_at m first (r ∷ rs) (suc i) bytes h =
+    ap (get (with_all (insert m first r) (first + 1) rs)) (next first i) ∙ get-with_all_at (insert m first r) (first + 1) rs i bytes h
+  where
+    next : (x i : ℕ) → x + suc i ≡ (x + 1) + i
+    next x i = omega arith
+
+-- what is held then was held before, or was added
+pub with_all_from : (m : Records) (first : ℕ) (rs : List (List ℕ)) (x : ℕ) (bytes : List ℕ) → get (with_all m first rs) x ≡ Some bytes
+    → (get m x ≡ Some bytes) ⊎ ((i : ℕ) × (x ≡ first + i) × (slice_get rs i ≡ Some bytes))
+with_all_from m first [] x bytes h = inl h
+with_all_from m first (r ∷ rs) x bytes h = elim (with_all_from (insert m first r) (first + 1) rs x bytes h) [
+  | inl old ↦ elim (cases_eq x first) [
+    | inl same ↦ inr (0, omega arith, sym (get-insert_here m first r) ∙ ap (get (insert m first r)) (sym same) ∙ old)
+    | inr apart ↦ inl (sym (get-insert_apart m first r x apart) ∙ old)
+  ]
+  | inr new ↦ let i = new.1 in inr (suc new.0, omega arith, new.2)
+]
+
+-- what was held is held, or the bytes that took its place
+pub with_all_keeps : (m : Records) (first : ℕ) (rs : List (List ℕ)) (x : ℕ) → (bytes : List ℕ) × (get m x ≡ Some bytes) → (bytes : List ℕ) × (get (with_all m first rs) x ≡ Some bytes)
+with_all_keeps m first [] x there = there
+with_all_keeps m first (r ∷ rs) x there = with_all_keeps (insert m first r) (first + 1) rs x (elim (cases_eq x first) [
+  | inl same ↦ (r, ap (get (insert m first r)) same ∙ get-insert_here m first r)
+  | inr apart ↦ (there.0, get-insert_apart m first r x apart ∙ there.1)
+])
 
 -- ---- records removed one after another
 -- m without the k intervals from first on is n

@@ -1,3 +1,6 @@
+pub mod Between
+pub mod Calls
 pub mod Content
 pub mod Count
 pub mod Stop
+pub mod WithAll

@@ -14,8 +14,16 @@ pub enum StoreError {
     #[error("the store failed")]
     Fault,
     /// Memory ran out.
-    #[error("out of memory")]
+    #[error("no memory")]
     Memory,
+}
+
+impl<T: Drop> From<AllocFailed<T>> for StoreError {
+    ghost from_gives = { λ _ e. e ≡ Memory };
+
+    fn from(_e: AllocFailed<T>) -> StoreError {
+        StoreError::Memory
+    }
 }
 
 impl From<AllocError> for StoreError {

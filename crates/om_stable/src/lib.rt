@@ -3,6 +3,7 @@
 
 mod error;
 mod fuse_stable;
+pub mod laws;
 mod mem_stable;
 mod record_tree;
 mod stable;
@@ -11,6 +12,3 @@ pub use error::StoreError;
 pub use fuse_stable::{FuseStable, Stop};
 pub use mem_stable::MemStable;
 pub use stable::{INTERVALS, LAST_COUNT, Stable};
-
-#[cfg(test)]
-mod tests;

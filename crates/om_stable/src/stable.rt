@@ -1,9 +1,9 @@
-ghost use Rattle.std.specs.Prelude.{◌≡◌, ◌≢◌, ℕ, ◌+◌, ◌≤◌, Bool, Option, length, IsTrue, IsSome, IfOk, IfSome, IfNone, OnOk, OnErr, IsErrOf};
+ghost use Rattle.std.specs.Prelude.{◌≡◌, ◌≢◌, ℕ, ◌+◌, ◌≤◌, Bool, Option, length, IsSome, IfOk, IfSome, IfNone, OnOk, OnErr, IsErrOf};
 ghost use Rattle.std.specs.Result.{result_err};
 ghost use Rattle.std.specs.FinMap as map;
 ghost use Rattle.om_stable.specs.declared.error.StoreError.{StoreError};
 ghost use Rattle.om_stable.specs.Content.{Content, IsFree, IsTaken, IsEffective, with_receipts, with_checkpoint, between, bytes_of, rows_of, kept_by_cut, kept_by_prune};
-ghost use Rattle.om_stable.specs.Count.{Rose};
+ghost use Rattle.om_stable.specs.Calls.{IsCall, IsKnown};
 
 use crate::error::StoreError;
 use std::alloc::Global;
@@ -18,7 +18,9 @@ pub const LAST_COUNT: u64 = u64::MAX;
 ///
 /// What a call does to the content is known where the store is clean as the call ends and was sound
 /// as it began. A store that is not clean never becomes clean again, and a clean one stays sound.
-/// A refused call changes no content. The refusals come in no fixed order.
+/// A refused call changes no content. The refusals come in no fixed order: `Present`, where a record
+/// of that kind is already at an interval to be put, `Fault`, where the count of failures rose, and
+/// `Memory`.
 pub trait Stable: Drop {
     /// What it holds.
     ghost content: { Self → Content };
@@ -43,58 +45,46 @@ pub trait Stable: Drop {
         recs: &[Vec<u8>],
     ) -> Result<(), StoreError>
         requires { first + length recs.now ≤ INTERVALS }
-        ensures put { IsTrue (is_clean self.new) → IsSound self.old
+        ensures put { IsKnown is_clean IsSound self.old self.new
             → OnOk result (content self.new
             ≡ with_receipts (content self.old) first (bytes_of recs.now)) }
-        ensures free { IsTrue (is_clean self.new) → IsSound self.old
+        ensures free { IsKnown is_clean IsSound self.old self.new
             → OnOk result (IsFree (content self.old).receipts first (length recs.now)) }
-        ensures present { IsTrue (is_clean self.new) → IsSound self.old
+        ensures present { IsKnown is_clean IsSound self.old self.new
             → IsErrOf result StoreError.Present
             → IsTaken (content self.old).receipts first (length recs.now) }
-        ensures refused { IsTrue (is_clean self.new) → IsSound self.old
+        ensures refused { IsKnown is_clean IsSound self.old self.new
             → OnErr result (content self.new ≡ content self.old) }
-        ensures fault { IsErrOf result StoreError.Fault → Rose (failed self.old) (failed self.new) }
-        ensures count { failed self.old ≤ failed self.new }
-        ensures call { call_gives self.old (result_err result) self.new }
-        ensures clean { IsTrue (is_clean self.new) → IsTrue (is_clean self.old) }
-        ensures sound { IsTrue (is_clean self.new) → IsSound self.old → IsSound self.new };
+        ensures call { IsCall failed is_clean IsSound call_gives self.old (result_err result) self.new };
 
     /// Puts a checkpoint at `x`.
     fn put_checkpoint(&mut self, alloc: Global, x: u32, bytes: &[u8]) -> Result<(), StoreError>
-        ensures put { IsTrue (is_clean self.new) → IsSound self.old
+        ensures put { IsKnown is_clean IsSound self.old self.new
             → OnOk result (content self.new ≡ with_checkpoint (content self.old) x bytes.now) }
-        ensures free { IsTrue (is_clean self.new) → IsSound self.old
+        ensures free { IsKnown is_clean IsSound self.old self.new
             → OnOk result (map.get (content self.old).checkpoints x ≡ None) }
-        ensures present { IsTrue (is_clean self.new) → IsSound self.old
+        ensures present { IsKnown is_clean IsSound self.old self.new
             → IsErrOf result StoreError.Present
             → IsSome (map.get (content self.old).checkpoints x) }
-        ensures refused { IsTrue (is_clean self.new) → IsSound self.old
+        ensures refused { IsKnown is_clean IsSound self.old self.new
             → OnErr result (content self.new ≡ content self.old) }
-        ensures fault { IsErrOf result StoreError.Fault → Rose (failed self.old) (failed self.new) }
-        ensures count { failed self.old ≤ failed self.new }
-        ensures call { call_gives self.old (result_err result) self.new }
-        ensures clean { IsTrue (is_clean self.new) → IsTrue (is_clean self.old) }
-        ensures sound { IsTrue (is_clean self.new) → IsSound self.old → IsSound self.new };
+        ensures call { IsCall failed is_clean IsSound call_gives self.old (result_err result) self.new };
 
     /// The effective checkpoint of `x`: the greatest at or below it.
     fn effective(&mut self, alloc: Global, x: u32) -> Result<Option<(u32, Vec<u8>)>, StoreError>
-        ensures effective { IsTrue (is_clean self.new) → IsSound self.old
+        ensures effective { IsKnown is_clean IsSound self.old self.new
             → IfOk result (λ found. IfSome found (λ e.
             IsEffective (content self.old).checkpoints x e.0)) }
-        ensures bytes { IsTrue (is_clean self.new) → IsSound self.old
+        ensures bytes { IsKnown is_clean IsSound self.old self.new
             → IfOk result (λ found. IfSome found (λ e.
             map.get (content self.old).checkpoints e.0 ≡ Some e.1.items)) }
-        ensures none { IsTrue (is_clean self.new) → IsSound self.old
+        ensures none { IsKnown is_clean IsSound self.old self.new
             → IfOk result (λ found. IfNone found
             (IsFree (content self.old).checkpoints 0 (x + 1))) }
-        ensures same { IsTrue (is_clean self.new) → IsSound self.old
+        ensures same { IsKnown is_clean IsSound self.old self.new
             → content self.new ≡ content self.old }
         ensures never_present { result ≢ Err StoreError.Present }
-        ensures fault { IsErrOf result StoreError.Fault → Rose (failed self.old) (failed self.new) }
-        ensures count { failed self.old ≤ failed self.new }
-        ensures call { call_gives self.old (result_err result) self.new }
-        ensures clean { IsTrue (is_clean self.new) → IsTrue (is_clean self.old) }
-        ensures sound { IsTrue (is_clean self.new) → IsSound self.old → IsSound self.new };
+        ensures call { IsCall failed is_clean IsSound call_gives self.old (result_err result) self.new };
 
     /// The receipts above `after` and at or below `to`, ascending.
     fn receipts(
@@ -103,43 +93,31 @@ pub trait Stable: Drop {
         after: u32,
         to: u32,
     ) -> Result<Vec<(u32, Vec<u8>)>, StoreError>
-        ensures found { IsTrue (is_clean self.new) → IsSound self.old
+        ensures found { IsKnown is_clean IsSound self.old self.new
             → IfOk result (λ found. rows_of found.items
             ≡ between (content self.old).receipts after to) }
-        ensures same { IsTrue (is_clean self.new) → IsSound self.old
+        ensures same { IsKnown is_clean IsSound self.old self.new
             → content self.new ≡ content self.old }
         ensures never_present { result ≢ Err StoreError.Present }
-        ensures fault { IsErrOf result StoreError.Fault → Rose (failed self.old) (failed self.new) }
-        ensures count { failed self.old ≤ failed self.new }
-        ensures call { call_gives self.old (result_err result) self.new }
-        ensures clean { IsTrue (is_clean self.new) → IsTrue (is_clean self.old) }
-        ensures sound { IsTrue (is_clean self.new) → IsSound self.old → IsSound self.new };
+        ensures call { IsCall failed is_clean IsSound call_gives self.old (result_err result) self.new };
 
     /// Removes what stands above `r`.
     fn cut(&mut self, alloc: Global, r: u32) -> Result<(), StoreError>
-        ensures cut { IsTrue (is_clean self.new) → IsSound self.old
+        ensures cut { IsKnown is_clean IsSound self.old self.new
             → OnOk result (content self.new ≡ kept_by_cut (content self.old) r) }
-        ensures refused { IsTrue (is_clean self.new) → IsSound self.old
+        ensures refused { IsKnown is_clean IsSound self.old self.new
             → OnErr result (content self.new ≡ content self.old) }
         ensures never_present { result ≢ Err StoreError.Present }
-        ensures fault { IsErrOf result StoreError.Fault → Rose (failed self.old) (failed self.new) }
-        ensures count { failed self.old ≤ failed self.new }
-        ensures call { call_gives self.old (result_err result) self.new }
-        ensures clean { IsTrue (is_clean self.new) → IsTrue (is_clean self.old) }
-        ensures sound { IsTrue (is_clean self.new) → IsSound self.old → IsSound self.new };
+        ensures call { IsCall failed is_clean IsSound call_gives self.old (result_err result) self.new };
 
     /// Removes the checkpoints below `c`, and the receipts at or below it.
     fn prune(&mut self, alloc: Global, c: u32) -> Result<(), StoreError>
-        ensures pruned { IsTrue (is_clean self.new) → IsSound self.old
+        ensures pruned { IsKnown is_clean IsSound self.old self.new
             → OnOk result (content self.new ≡ kept_by_prune (content self.old) c) }
-        ensures refused { IsTrue (is_clean self.new) → IsSound self.old
+        ensures refused { IsKnown is_clean IsSound self.old self.new
             → OnErr result (content self.new ≡ content self.old) }
         ensures never_present { result ≢ Err StoreError.Present }
-        ensures fault { IsErrOf result StoreError.Fault → Rose (failed self.old) (failed self.new) }
-        ensures count { failed self.old ≤ failed self.new }
-        ensures call { call_gives self.old (result_err result) self.new }
-        ensures clean { IsTrue (is_clean self.new) → IsTrue (is_clean self.old) }
-        ensures sound { IsTrue (is_clean self.new) → IsSound self.old → IsSound self.new };
+        ensures call { IsCall failed is_clean IsSound call_gives self.old (result_err result) self.new };
 
     /// How often it has failed, up to `LAST_COUNT`.
     fn failures(&self) -> u64

@@ -9,8 +9,8 @@ use Rattle.std.proofs.lemmas.Option.{same_Some}
 use Rattle.std.proofs.Math.Logic.{⊎_elim}
 use Rattle.om_stable.specs.Content.{Records, IsEffective, IsFree, with_checkpoint, kept_by_cut, kept_by_prune}
 use Rattle.om_stable.proofs.RecordLemmas.{same_records, get-insert_here, get-insert_apart, get-retained}
-use Rattle.om_stable.proofs.tests.caller.replace_all.Given.{Over}
-use Rattle.om_stable.proofs.tests.caller.replace_all.Goals as goal
+use Rattle.om_tests.proofs.stable.caller.replace_all.Given.{Over}
+use Rattle.om_tests.proofs.stable.caller.replace_all.Goals as goal
 
 twice_retained : (m : Records) (p r : ℕ → Bool) (q : ℕ) → get (retain_keys (retain_keys m p) r) q ≡ cond (r q) (cond (p q) (get m q) None) None
 twice_retained m p r q = get-retained (retain_keys m p) r q ∙ ap (λ o. cond (r q) o None) (get-retained m p q)
@@ -70,19 +70,19 @@ pruned : (g : Over) (c : goal.In_ok-kept g) → IsTrue (g.S.Stable.is_clean c.ef
 pruned g c clean sound =
     let x = c.args.x in
     let held = g.S.Stable.content c.put_receipts.new.self in
-    let clean_pruned : IsTrue (g.S.Stable.is_clean c.prune.new.self) = c.in_ok-kept.ensures.clean clean in
-    let clean_cut : IsTrue (g.S.Stable.is_clean c.cut.new.self) = c.in_ok-prune.ensures.clean clean_pruned in
-    let clean_read : IsTrue (g.S.Stable.is_clean c.receipts.new.self) = c.in_ok-cut.ensures.clean clean_cut in
-    let clean_two : IsTrue (g.S.Stable.is_clean c.put_checkpoint.new.self) = c.in_ok-before.ensures.clean clean_read in
-    let sound_one = c.in_ok-put_receipts.ensures.sound (c.in_ok-put_checkpoint.ensures.clean clean_two) sound in
-    let sound_two = c.in_ok-put_checkpoint.ensures.sound clean_two sound_one in
-    let sound_read = c.in_ok-before.ensures.sound clean_read sound_two in
-    let sound_cut = c.in_ok-cut.ensures.sound clean_cut sound_read in
+    let clean_pruned : IsTrue (g.S.Stable.is_clean c.prune.new.self) = c.in_ok-kept.ensures.call.clean clean in
+    let clean_cut : IsTrue (g.S.Stable.is_clean c.cut.new.self) = c.in_ok-prune.ensures.call.clean clean_pruned in
+    let clean_read : IsTrue (g.S.Stable.is_clean c.receipts.new.self) = c.in_ok-cut.ensures.call.clean clean_cut in
+    let clean_two : IsTrue (g.S.Stable.is_clean c.put_checkpoint.new.self) = c.in_ok-before.ensures.call.clean clean_read in
+    let sound_one = c.in_ok-put_receipts.ensures.call.sound (c.in_ok-put_checkpoint.ensures.call.clean clean_two) sound in
+    let sound_two = c.in_ok-put_checkpoint.ensures.call.sound clean_two sound_one in
+    let sound_read = c.in_ok-before.ensures.call.sound clean_read sound_two in
+    let sound_cut = c.in_ok-cut.ensures.call.sound clean_cut sound_read in
     let is : g.S.Stable.content c.prune.new.self ≡ kept_by_prune (kept_by_cut (with_checkpoint held x c.args.bytes.now) x) x =
-    c.in_ok-prune.ensures.pruned clean_pruned sound_cut ∙ ap (λ held. kept_by_prune held x) (c.in_ok-cut.ensures.cut clean_cut sound_read
-    ∙ ap (λ held. kept_by_cut held x) (c.in_ok-before.ensures.same clean_read sound_two ∙ c.in_ok-put_checkpoint.ensures.put clean_two sound_one)) in
+    c.in_ok-prune.ensures.pruned (clean_pruned, sound_cut) ∙ ap (λ held. kept_by_prune held x) (c.in_ok-cut.ensures.cut (clean_cut, sound_read)
+    ∙ ap (λ held. kept_by_cut held x) (c.in_ok-before.ensures.same (clean_read, sound_two) ∙ c.in_ok-put_checkpoint.ensures.put (clean_two, sound_one))) in
     record {
-      sound = c.in_ok-prune.ensures.sound clean_pruned sound_cut;
+      sound = c.in_ok-prune.ensures.call.sound clean_pruned sound_cut;
       receipts = ap (λ content. content.receipts) is ∙ none_left held.receipts x;
       checkpoints = ap (λ content. content.checkpoints) is ∙ one_left held.checkpoints x c.args.bytes.now;
     }
@@ -91,23 +91,23 @@ found : (g : Over) (c : goal.In_ok-kept g) → IsTrue (g.S.Stable.is_clean c.eff
 found g c clean sound =
     let was = pruned g c clean sound in
     finds c.in_ok-kept.kept _ c.args.x _ c.args.bytes.now (omega (arith, c.ranges.x.fits)) was.checkpoints
-    (c.in_ok-kept.ensures.effective clean was.sound) (c.in_ok-kept.ensures.bytes clean was.sound) (c.in_ok-kept.ensures.none clean was.sound)
+    (c.in_ok-kept.ensures.effective (clean, was.sound)) (c.in_ok-kept.ensures.bytes (clean, was.sound)) (c.in_ok-kept.ensures.none (clean, was.sound))
 
 pub returns-clause-kept : goal.returns-clause-kept
-returns-clause-kept g c = λ clean sound. (found g c clean sound).kept
+returns-clause-kept g c = λ known. (found g c known.0 known.1).kept
 
 pub returns-clause-interval : goal.returns-clause-interval
-returns-clause-interval g c = λ clean sound. (found g c clean sound).interval
+returns-clause-interval g c = λ known. (found g c known.0 known.1).interval
 
 pub returns-clause-bytes : goal.returns-clause-bytes
-returns-clause-bytes g c = λ clean sound. (found g c clean sound).items
+returns-clause-bytes g c = λ known. (found g c known.0 known.1).items
 
 pub returns-clause-receipts : goal.returns-clause-receipts
-returns-clause-receipts g c = λ clean sound.
-    let was = pruned g c clean sound in
-    ap (λ content. content.receipts) (c.in_ok-kept.ensures.same clean was.sound) ∙ was.receipts
+returns-clause-receipts g c = λ known.
+    let was = pruned g c known.0 known.1 in
+    ap (λ content. content.receipts) (c.in_ok-kept.ensures.same (known.0, was.sound)) ∙ was.receipts
 
 pub returns-clause-checkpoints : goal.returns-clause-checkpoints
-returns-clause-checkpoints g c = λ clean sound.
-    let was = pruned g c clean sound in
-    ap (λ content. content.checkpoints) (c.in_ok-kept.ensures.same clean was.sound) ∙ was.checkpoints
+returns-clause-checkpoints g c = λ known.
+    let was = pruned g c known.0 known.1 in
+    ap (λ content. content.checkpoints) (c.in_ok-kept.ensures.same (known.0, was.sound)) ∙ was.checkpoints

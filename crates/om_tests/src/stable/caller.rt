@@ -1,10 +1,11 @@
-ghost use Rattle.std.specs.Prelude.{◌≡◌, ℕ, ◌+◌, ◌≤◌, length, IsTrue, IfOk, IfSome, OnOk, IsErrOf, IsSome};
+ghost use Rattle.std.specs.Prelude.{◌≡◌, ℕ, ◌+◌, ◌≤◌, length, IfOk, IfSome, OnOk, IsErrOf, IsSome};
 ghost use Rattle.std.specs.FinMap as map;
+ghost use Rattle.om_stable.specs.Calls.{IsKnown};
 ghost use Rattle.om_stable.specs.Content.{Content, between, bytes_of, rows_of, with_all};
 ghost use Rattle.om_stable.specs.Count.{Rose};
 
 use super::{checkpoint_at, receipts_from};
-use crate::{FuseStable, INTERVALS, MemStable, Stable, StoreError};
+use om_stable::{FuseStable, INTERVALS, MemStable, Stable, StoreError};
 use std::alloc::Global;
 use std::process::Abort;
 
@@ -21,18 +22,18 @@ fn replace_all<S: Stable>(
     bytes: &[u8],
 ) -> Result<Left, StoreError>
     requires { first + length recs.now ≤ INTERVALS }
-    ensures before { IsTrue (S.is_clean store.new) → S.IsSound store.old
+    ensures before { IsKnown S.is_clean S.IsSound store.old store.new
         → IfOk result (λ left. rows_of left.0.items
         ≡ between (with_all (S.content store.old).receipts first (bytes_of recs.now)) 0 x) }
-    ensures kept { IsTrue (S.is_clean store.new) → S.IsSound store.old
+    ensures kept { IsKnown S.is_clean S.IsSound store.old store.new
         → IfOk result (λ left. IsSome left.1) }
-    ensures interval { IsTrue (S.is_clean store.new) → S.IsSound store.old
+    ensures interval { IsKnown S.is_clean S.IsSound store.old store.new
         → IfOk result (λ left. IfSome left.1 (λ e. e.0 ≡ x)) }
-    ensures bytes { IsTrue (S.is_clean store.new) → S.IsSound store.old
+    ensures bytes { IsKnown S.is_clean S.IsSound store.old store.new
         → IfOk result (λ left. IfSome left.1 (λ e. e.1.items ≡ bytes.now)) }
-    ensures receipts { IsTrue (S.is_clean store.new) → S.IsSound store.old
+    ensures receipts { IsKnown S.is_clean S.IsSound store.old store.new
         → OnOk result ((S.content store.new).receipts ≡ map.empty) }
-    ensures checkpoints { IsTrue (S.is_clean store.new) → S.IsSound store.old
+    ensures checkpoints { IsKnown S.is_clean S.IsSound store.old store.new
         → OnOk result ((S.content store.new).checkpoints ≡ map.insert map.empty x bytes.now) }
     ensures fault { IsErrOf result StoreError.Fault
         → Rose (S.failed store.old) (S.failed store.new) }

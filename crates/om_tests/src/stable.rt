@@ -1,4 +1,4 @@
-use crate::{FuseStable, INTERVALS, MemStable, Stable, Stop, StoreError};
+use om_stable::{FuseStable, INTERVALS, MemStable, Stable, Stop, StoreError, laws};
 use std::alloc::{AllocError, Global};
 use std::process::Abort;
 use std::test::Fail;
@@ -155,6 +155,8 @@ fn rows_in_memory(rt: HostRuntime) {
         assert_eq!(rt; refused.fault, None);
         assert_eq!(rt; store.failures(), 0);
     }
+    laws::between_is_all_between();
+    laws::with_all_holds_all();
 }
 
 #[test]

@@ -1,0 +1,17 @@
+-- What holds of every call of a store, whatever it answers.
+use Rattle.std.specs.Prelude.{◌≡◌, ℕ, ◌≤◌, Bool, IsTrue, Option, Some}
+use Rattle.om_stable.specs.Count.{Rose}
+use Rattle.om_stable.specs.declared.error.StoreError.{StoreError}
+use Rattle.om_stable.specs.declared.error.StoreError.TheVariants.{Fault}
+
+-- what a call does to the content is known: the store is clean as it ends, and was sound as it began
+abbrev pub IsKnown : {S : Type 0} → (S → Bool) → (S → Type 0) → S → S → Type 0
+IsKnown is_clean IsSound old new = IsTrue (is_clean new) × IsSound old
+
+-- what a call keeps and counts, by the store before, its error if any, and the store after
+pub record IsCall {S : Type 0} (failed : S → ℕ) (is_clean : S → Bool) (IsSound : S → Type 0) (call_gives : S → Option StoreError → S → Type 0) (old : S) (error : Option StoreError) (new : S) : Type 0 where
+  pub fault : error ≡ Some Fault → Rose (failed old) (failed new)
+  pub count : failed old ≤ failed new
+  pub gives : call_gives old error new
+  pub clean : IsTrue (is_clean new) → IsTrue (is_clean old)
+  pub sound : IsTrue (is_clean new) → IsSound old → IsSound new
