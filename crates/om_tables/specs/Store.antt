@@ -1,0 +1,46 @@
+-- The content of a store of two tables.
+use Rattle.std.specs.Prelude.{◌≡◌, ℕ, pos, Bool, ◌&&◌, List, [], map}
+use Rattle.std.specs.FinMap as finite
+use Rattle.sqlite.specs.declared.types.Value.{Value}
+use Rattle.sqlite.specs.declared.types.Value.TheVariants.{Int, Blob}
+use Rattle.sqlite.specs.Order.{Row, column}
+use Rattle.sqlite.specs.Effect.{Database}
+use Rattle.sqlite.specs.State.{State}
+use Rattle.om_stable.specs.Content.{Records, Content}
+use Rattle.om_tables.specs.Tables.{store_schema, row_of}
+
+abbrev pub number_in : Value → ℕ
+number_in (Int (pos n)) = n
+number_in _ = 0
+
+abbrev pub bytes_in : Value → List ℕ
+bytes_in (Blob b) = b
+bytes_in _ = []
+
+abbrev pub entry_in : Row → ℕ × List ℕ
+entry_in r = (number_in (column r 0), bytes_in (column r 2))
+
+abbrev pub records_in : List Row → Records
+records_in rows = finite.from_sorted (map entry_in rows)
+
+-- what the two tables hold
+abbrev pub content_in : Database → Content
+content_in db = record { receipts = records_in (db.trees 0); checkpoints = records_in (db.trees 1) }
+
+abbrev pub rows_for : Records → List Row
+rows_for m = map row_of (finite.entries m)
+
+-- the tables are those of `create`, with these records
+pub record Holds (db : Database) (c : Content) : Type 0 where
+  pub schema : db.schema ≡ store_schema
+  pub receipts : db.trees 0 ≡ rows_for c.receipts
+  pub checkpoints : db.trees 1 ≡ rows_for c.checkpoints
+
+-- between calls: the content is what the tables show, and is committed
+pub record IsFormed (s : State) : Type 0 where
+  pub holds : Holds s.now (content_in s.now)
+  pub settled : s.now ≡ s.committed
+
+-- the connection is open, and its disk has returned what was written
+abbrev pub is_sure : State → Bool
+is_sure s = s.is_clean && s.is_open

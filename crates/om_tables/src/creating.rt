@@ -1,0 +1,47 @@
+//! The two tables are made.
+ghost use Rattle.std.specs.Prelude.{◌≡◌, false, OnOk};
+ghost use Rattle.om_tables.specs.steps.Statements.{Follows, Makes, HasNoTables, HasReceipts, HoldsNothing};
+ghost use Rattle.sqlite.specs.Held.{state};
+ghost use Rattle.sqlite.specs.State.{HasCleanDisk};
+
+use sqlite::{Alter, Connection, Error, Transaction};
+
+fn create_receipts<S: Alter>(tx: &mut Transaction<'_, S>) -> Result<usize, Error>
+    ensures same_reference { tx.new.conn.ghost_name ≡ tx.old.conn.ghost_name }
+    ensures makes { Makes HasNoTables HasReceipts
+        (state S.Store tx.old.conn.now) (state S.Store tx.new.conn.now) result }
+    ensures clean { HasCleanDisk (state S.Store tx.new.conn.now) → HasCleanDisk (state S.Store tx.old.conn.now) }
+{
+    tx.execute(
+        "CREATE TABLE receipts (x INTEGER PRIMARY KEY, body BLOB NOT NULL)",
+        &[],
+    )
+}
+
+fn create_checkpoints<S: Alter>(tx: &mut Transaction<'_, S>) -> Result<usize, Error>
+    ensures same_reference { tx.new.conn.ghost_name ≡ tx.old.conn.ghost_name }
+    ensures makes { Makes HasReceipts HoldsNothing
+        (state S.Store tx.old.conn.now) (state S.Store tx.new.conn.now) result }
+    ensures clean { HasCleanDisk (state S.Store tx.new.conn.now) → HasCleanDisk (state S.Store tx.old.conn.now) }
+{
+    tx.execute(
+        "CREATE TABLE checkpoints (x INTEGER PRIMARY KEY, body BLOB NOT NULL)",
+        &[],
+    )
+}
+
+// Makes both tables, or none.
+pub(crate) fn create_tables<S: Alter>(conn: &mut Connection<S>) -> Result<(), Error>
+    requires idle { (state S.Store conn.old).in_transaction ≡ false }
+    ensures idle { (state S.Store conn.new).in_transaction ≡ false }
+    ensures made { HasCleanDisk (state S.Store conn.new) → HasNoTables (state S.Store conn.old).now
+        → OnOk result (HoldsNothing (state S.Store conn.new).now) }
+    ensures settled { HasCleanDisk (state S.Store conn.new)
+        → OnOk result ((state S.Store conn.new).committed ≡ (state S.Store conn.new).now) }
+    ensures follows { Follows (state S.Store conn.old) (state S.Store conn.new) }
+{
+    let mut tx = conn.transaction();
+    create_receipts(&mut tx)?;
+    create_checkpoints(&mut tx)?;
+    tx.commit()
+}

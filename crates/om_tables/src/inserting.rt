@@ -1,0 +1,86 @@
+//! Records are put.
+ghost use Rattle.std.specs.Prelude.{◌≡◌, ◌+◌, ◌≤◌, length, false};
+ghost use Rattle.om_tables.specs.steps.Statements.{Performs, Transacts};
+ghost use Rattle.om_stable.specs.Content.{with_receipts, with_checkpoint, bytes_of};
+ghost use Rattle.om_stable.specs.declared.stable.TheConstants.{INTERVALS};
+ghost use Rattle.std.specs.FinMap as finite;
+ghost use Rattle.sqlite.specs.Held.{state};
+
+use sqlite::{Alter, Connection, Error, Transaction, params};
+
+fn insert_receipt<S: Alter>(
+    tx: &mut Transaction<'_, S>,
+    x: u32,
+    body: &[u8],
+) -> Result<usize, Error>
+    ensures same_reference { tx.new.conn.ghost_name ≡ tx.old.conn.ghost_name }
+    ensures performs { Performs (λ c. record c { receipts = finite.insert c.receipts x body.now })
+        (state S.Store tx.old.conn.now) (state S.Store tx.new.conn.now) result }
+{
+    tx.execute(
+        "INSERT INTO receipts (x, body) VALUES (?1, ?2)",
+        params![x, body],
+    )
+}
+
+fn insert_checkpoint<S: Alter>(
+    tx: &mut Transaction<'_, S>,
+    x: u32,
+    body: &[u8],
+) -> Result<usize, Error>
+    ensures same_reference { tx.new.conn.ghost_name ≡ tx.old.conn.ghost_name }
+    ensures performs { Performs (λ c. with_checkpoint c x body.now)
+        (state S.Store tx.old.conn.now) (state S.Store tx.new.conn.now) result }
+{
+    tx.execute(
+        "INSERT INTO checkpoints (x, body) VALUES (?1, ?2)",
+        params![x, body],
+    )
+}
+
+fn insert_receipts<S: Alter>(
+    tx: &mut Transaction<'_, S>,
+    first: u32,
+    recs: &[Vec<u8>],
+) -> Result<(), Error>
+    requires { first + length recs.now ≤ INTERVALS }
+    ensures same_reference { tx.new.conn.ghost_name ≡ tx.old.conn.ghost_name }
+    ensures performs { Performs (λ c. with_receipts c first (bytes_of recs.now))
+        (state S.Store tx.old.conn.now) (state S.Store tx.new.conn.now) result }
+{
+    for (i, body) in recs.iter().enumerate() {
+        insert_receipt(tx, first + i as u32, body)?;
+    }
+    Ok(())
+}
+
+// All or none.
+pub(crate) fn put_receipts<S: Alter>(
+    conn: &mut Connection<S>,
+    first: u32,
+    recs: &[Vec<u8>],
+) -> Result<(), Error>
+    requires fits { first + length recs.now ≤ INTERVALS }
+    requires idle { (state S.Store conn.old).in_transaction ≡ false }
+    ensures idle { (state S.Store conn.new).in_transaction ≡ false }
+    ensures transacts { Transacts (λ c. with_receipts c first (bytes_of recs.now)) (state S.Store conn.old) (state S.Store conn.new) result }
+{
+    let mut tx = conn.transaction();
+    insert_receipts(&mut tx, first, recs)?;
+    tx.commit()
+}
+
+// All or none.
+pub(crate) fn put_checkpoint<S: Alter>(
+    conn: &mut Connection<S>,
+    x: u32,
+    body: &[u8],
+) -> Result<(), Error>
+    requires idle { (state S.Store conn.old).in_transaction ≡ false }
+    ensures idle { (state S.Store conn.new).in_transaction ≡ false }
+    ensures transacts { Transacts (λ c. with_checkpoint c x body.now) (state S.Store conn.old) (state S.Store conn.new) result }
+{
+    let mut tx = conn.transaction();
+    insert_checkpoint(&mut tx, x, body)?;
+    tx.commit()
+}

@@ -1,0 +1,10 @@
+//! One process's store in two tables of a database, that a person can open and look at.
+#![tactic(auto)]
+
+mod creating;
+mod deleting;
+mod inserting;
+mod reading;
+mod sql_stable;
+
+pub use sql_stable::{SqlStable, TablesError};

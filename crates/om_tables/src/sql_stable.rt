@@ -1,0 +1,175 @@
+//! The store over tables, as a `Stable`.
+ghost use Rattle.std.specs.Prelude.{◌≡◌, ◌≢◌, ◌≤◌, ℕ, [], false, IsTrue, Some, None, is_ok, IfOk, IfErr, IsErrOf, OnErr};
+ghost use Rattle.std.specs.Result.{result_err};
+ghost use Rattle.std.specs.FinMap as map;
+ghost use Rattle.om_stable.specs.Count.{Rose};
+ghost use Rattle.om_stable.specs.declared.error.StoreError.TheVariants.{Fault};
+ghost use Rattle.om_tables.specs.Tables.{no_schema};
+ghost use Rattle.om_tables.specs.Store.{content_in, IsFormed, is_sure};
+ghost use Rattle.sqlite.specs.Held.{state};
+
+use crate::creating::create_tables;
+use crate::{deleting, inserting, reading};
+use om_stable::{Stable, StoreError};
+use sqlite::{Alter, Connection, Error, ErrorCode};
+use std::alloc::Global;
+
+/// The records of one process, in two tables.
+#[derive(Drop)]
+pub struct SqlStable<S: Alter> {
+    conn: Connection<S>,
+    failures: u64,
+    ghost idle: { conn.in_transaction ≡ false },
+}
+
+/// Why a connection was not taken as a store.
+#[derive(Clone, Copy, Debug, PartialEq, Eq, Drop)]
+pub enum TablesError {
+    /// It has tables.
+    Present,
+    /// It has not the two tables.
+    NoTables,
+    /// The database failed.
+    Fault,
+    /// Memory ran out.
+    Memory,
+}
+
+impl<S: Alter> SqlStable<S> {
+    /// Makes the tables in a connection that has none. A refusal hands the connection back.
+    pub fn create(
+        _alloc: Global,
+        mut conn: Connection<S>,
+    ) -> Result<SqlStable<S>, (TablesError, Connection<S>)>
+        requires { conn.in_transaction ≡ false }
+        ensures sound { IfOk result (λ s. IsTrue (is_sure (state S.Store s.conn)) → IsFormed (state S.Store s.conn)) }
+        ensures empty { IfOk result (λ s. IsTrue (is_sure (state S.Store s.conn)) → content_in (state S.Store s.conn).now ≡ record { receipts = map.empty; checkpoints = map.empty }) }
+        ensures clean { IfOk result (λ s. IsTrue (is_sure (state S.Store s.conn)) → IsTrue (is_sure (state S.Store conn))) }
+        ensures count { IfOk result (λ s. s.failures ≡ 0) }
+        ensures present { IfErr result (λ e. e.0 ≡ TablesError.Present → ((state S.Store conn).now.schema ≢ no_schema) × (e.1 ≡ conn)) }
+        ensures other { IfErr result (λ e. e.0 ≢ TablesError.NoTables) }
+        ensures idle { IfErr result (λ e. e.1.in_transaction ≡ false) }
+    {
+        let schema = conn.schema();
+        if !schema.tables.is_empty() || !schema.indexes.is_empty() || !schema.views.is_empty() {
+            return Err((TablesError::Present, conn));
+        }
+        match create_tables(&mut conn) {
+            Ok(()) => Ok(SqlStable { conn, failures: 0 }),
+            Err(Error::SqliteFailure(ErrorCode::OutOfMemory)) => Err((TablesError::Memory, conn)),
+            Err(_) => Err((TablesError::Fault, conn)),
+        }
+    }
+
+    /// Takes a connection that has the two tables. A refusal hands it back.
+    pub fn adopt(
+        _alloc: Global,
+        conn: Connection<S>,
+    ) -> Result<SqlStable<S>, (TablesError, Connection<S>)>
+        requires { conn.in_transaction ≡ false }
+        ensures same { IfOk result (λ s. s.conn ≡ conn) }
+        ensures count { IfOk result (λ s. s.failures ≡ 0) }
+        ensures refused { IfErr result (λ e. e ≡ (TablesError.NoTables, conn)) }
+    {
+        let tables = conn.schema().tables.as_slice();
+        if tables.len() != 2
+            || tables[0].name.as_slice() != b"receipts".as_slice()
+            || tables[1].name.as_slice() != b"checkpoints".as_slice()
+        {
+            return Err((TablesError::NoTables, conn));
+        }
+        Ok(SqlStable { conn, failures: 0 })
+    }
+
+    /// The connection, with its tables.
+    pub fn into_connection(self) -> Connection<S>
+        ensures { result ≡ self.conn }
+    {
+        let SqlStable { conn, failures: _ } = self;
+        conn
+    }
+}
+
+/// Counts an error of `sqlite`, except want of memory.
+fn told<T>(failures: &mut u64, outcome: Result<T, Error>) -> Result<T, StoreError>
+    ensures ok { IfOk result (λ x. outcome ≡ Ok x) }
+    ensures err { is_ok result ≡ is_ok outcome }
+    ensures never_present { result ≢ Err StoreError.Present }
+    ensures fault { IsErrOf result StoreError.Fault → Rose failures.old failures.new }
+    ensures count { failures.old ≤ failures.new }
+    ensures kept { result_err result ≢ Some Fault → failures.new ≡ failures.old }
+{
+    match outcome {
+        Ok(x) => Ok(x),
+        Err(Error::SqliteFailure(ErrorCode::OutOfMemory)) => Err(StoreError::Memory),
+        Err(_) => {
+            *failures = failures.saturating_add(1);
+            Err(StoreError::Fault)
+        }
+    }
+}
+
+impl<S: Alter + Drop> Stable for SqlStable<S> {
+    ghost content = { λ s. content_in (state S.Store s.conn).now };
+
+    ghost failed = { λ s. s.failures };
+
+    ghost is_clean = { λ s. is_sure (state S.Store s.conn) };
+
+    ghost IsSound = { λ s. IsFormed (state S.Store s.conn) };
+
+    // The count rises at a fault alone.
+    ghost call_gives = { λ old error new. error ≢ Some Fault → new.failures ≡ old.failures };
+
+    fn put_receipts(
+        &mut self,
+        _alloc: Global,
+        first: u32,
+        recs: &[Vec<u8>],
+    ) -> Result<(), StoreError> {
+        let found = reading::has_any_receipt(&mut self.conn, first, recs.len());
+        if told(&mut self.failures, found)? {
+            return Err(StoreError::Present);
+        }
+        let put = inserting::put_receipts(&mut self.conn, first, recs);
+        told(&mut self.failures, put)
+    }
+
+    fn put_checkpoint(&mut self, _alloc: Global, x: u32, bytes: &[u8]) -> Result<(), StoreError> {
+        let found = reading::has_checkpoint(&mut self.conn, x);
+        if told(&mut self.failures, found)? {
+            return Err(StoreError::Present);
+        }
+        let put = inserting::put_checkpoint(&mut self.conn, x, bytes);
+        told(&mut self.failures, put)
+    }
+
+    fn effective(&mut self, _alloc: Global, x: u32) -> Result<Option<(u32, Vec<u8>)>, StoreError> {
+        let found = reading::effective(&mut self.conn, x);
+        told(&mut self.failures, found)
+    }
+
+    fn receipts(
+        &mut self,
+        alloc: Global,
+        after: u32,
+        to: u32,
+    ) -> Result<Vec<(u32, Vec<u8>)>, StoreError> {
+        let found = reading::receipts(&mut self.conn, alloc, after, to);
+        told(&mut self.failures, found)
+    }
+
+    fn cut(&mut self, _alloc: Global, r: u32) -> Result<(), StoreError> {
+        let done = deleting::cut(&mut self.conn, r);
+        told(&mut self.failures, done)
+    }
+
+    fn prune(&mut self, _alloc: Global, c: u32) -> Result<(), StoreError> {
+        let done = deleting::prune(&mut self.conn, c);
+        told(&mut self.failures, done)
+    }
+
+    fn failures(&self) -> u64 {
+        self.failures
+    }
+}
