@@ -1,11 +1,15 @@
 -- The content of a store of two tables.
-use Rattle.std.specs.Prelude.{◌≡◌, ℕ, pos, Bool, ◌&&◌, List, [], map}
+use Rattle.std.specs.Prelude.{◌≡◌, ℕ, pos, Bool, ◌&&◌, List, [], ◌∷◌, map, codes, refl}
+use Rattle.std.specs.Coded.{Coded, code_by, coded×, coded_ℕ}
 use Rattle.std.specs.FinMap as finite
 use Rattle.sqlite.specs.declared.types.Value.{Value}
 use Rattle.sqlite.specs.declared.types.Value.TheVariants.{Int, Blob}
 use Rattle.sqlite.specs.Order.{Row, column}
 use Rattle.sqlite.specs.Effect.{Database}
+use Rattle.sqlite.specs.Held.{Held, held_code}
+use Rattle.sqlite.specs.Schema.{Schema}
 use Rattle.sqlite.specs.State.{State}
+use Rattle.sqlite.specs.Table.{Table}
 use Rattle.om_stable.specs.Content.{Records, Content}
 use Rattle.om_tables.specs.Tables.{store_schema, row_of}
 
@@ -41,6 +45,22 @@ pub record IsFormed (s : State) : Type 0 where
   pub holds : Holds s.now (content_in s.now)
   pub settled : s.now ≡ s.committed
 
+-- a store, as its clauses see it: its connection, and how often it has failed
+pub record Tables (S : Type 0) : Type 0 where
+  pub connection : Held S
+  pub failures : ℕ
+
+abbrev pub tables_code : {S : Type 0} → Coded S → Coded (Tables S)
+tables_code {S} store =
+    code_by (Held S × ℕ) (coded× (held_code store) coded_ℕ) (λ t. (t.connection, t.failures))
+    (λ p. record { connection = p.0; failures = p.1 }) (λ _. refl)
+
 -- the connection is open, and its disk has returned what was written
 abbrev pub is_sure : State → Bool
 is_sure s = s.is_clean && s.is_open
+
+-- the tables are two, by the names that `create` gives them, and there is nothing beside them
+pub record HasBothTables (schema : Schema) : Type 0 where
+  pub tables : map (λ (t : Table). t.name) schema.tables ≡ codes "receipts" ∷ codes "checkpoints" ∷ []
+  pub indexes : schema.indexes ≡ []
+  pub views : schema.views ≡ []

@@ -3,8 +3,10 @@
 
 mod creating;
 mod deleting;
+mod error;
 mod inserting;
 mod reading;
 mod sql_stable;
 
-pub use sql_stable::{SqlStable, TablesError};
+pub use error::TablesError;
+pub use sql_stable::SqlStable;

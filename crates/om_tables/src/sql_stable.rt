@@ -1,52 +1,58 @@
 //! The store over tables, as a `Stable`.
-ghost use Rattle.std.specs.Prelude.{◌≡◌, ◌≢◌, ◌≤◌, ℕ, [], false, IsTrue, Some, None, is_ok, IfOk, IfErr, IsErrOf, OnErr};
+ghost use Rattle.std.specs.Prelude.{◌≡◌, ◌≢◌, ◌≤◌, ℕ, [], ◌∷◌, map, codes, false, IsTrue, Some, None, ◌↔◌, is_ok, IfOk, IfErr, OnOk, OnErr};
 ghost use Rattle.std.specs.Result.{result_err};
 ghost use Rattle.std.specs.FinMap as map;
 ghost use Rattle.om_stable.specs.Count.{Rose};
 ghost use Rattle.om_stable.specs.declared.error.StoreError.TheVariants.{Fault};
 ghost use Rattle.om_tables.specs.Tables.{no_schema};
-ghost use Rattle.om_tables.specs.Store.{content_in, IsFormed, is_sure};
+ghost use Rattle.om_tables.specs.Store.{content_in, IsFormed, HasBothTables, is_sure};
 ghost use Rattle.sqlite.specs.Held.{state};
 
 use crate::creating::create_tables;
+use crate::error::TablesError;
 use crate::{deleting, inserting, reading};
 use om_stable::{Stable, StoreError};
 use sqlite::{Alter, Connection, Error, ErrorCode};
+use sqlite_schema::schema::{Schema, Table};
 use std::alloc::Global;
+use std::marker::Model;
 
-/// The records of one process, in two tables.
+/// One process's store in two tables of a database, `receipts` and `checkpoints`. What it holds is known as long as the
+/// connection is open and its disk has returned what was written. It answers Fault where the database refused a
+/// statement for another cause than memory.
 #[derive(Drop)]
 pub struct SqlStable<S: Alter> {
     conn: Connection<S>,
     failures: u64,
-    ghost idle: { conn.in_transaction ≡ false },
 }
 
-/// Why a connection was not taken as a store.
-#[derive(Clone, Copy, Debug, PartialEq, Eq, Drop)]
-pub enum TablesError {
-    /// It has tables.
-    Present,
-    /// It has not the two tables.
-    NoTables,
-    /// The database failed.
-    Fault,
-    /// Memory ran out.
-    Memory,
+impl<S: Alter> Model for SqlStable<S> {
+    ghost use Rattle.std.specs.Prelude.{◌≡◌, false};
+    ghost use Rattle.om_tables.specs.Store.{Tables, tables_code};
+
+    ghost Value = { Tables S };
+
+    ghost coded = { tables_code S.code };
+
+    ghost view = { λ s. record { connection = s.conn; failures = s.failures } };
+
+    ghost invariant = { λ s. s.conn.in_transaction ≡ false };
 }
 
 impl<S: Alter> SqlStable<S> {
-    /// Makes the tables in a connection that has none. A refusal hands the connection back.
+    /// Makes the tables in a database that has nothing. A refusal hands the connection back: Present, Fault, Memory.
     pub fn create(
         _alloc: Global,
         mut conn: Connection<S>,
     ) -> Result<SqlStable<S>, (TablesError, Connection<S>)>
         requires { conn.in_transaction ≡ false }
-        ensures sound { IfOk result (λ s. IsTrue (is_sure (state S.Store s.conn)) → IsFormed (state S.Store s.conn)) }
-        ensures empty { IfOk result (λ s. IsTrue (is_sure (state S.Store s.conn)) → content_in (state S.Store s.conn).now ≡ record { receipts = map.empty; checkpoints = map.empty }) }
-        ensures clean { IfOk result (λ s. IsTrue (is_sure (state S.Store s.conn)) → IsTrue (is_sure (state S.Store conn))) }
+        ensures sound { IfOk result (λ s. IsTrue (is_sure (state S.Store s.connection)) → IsFormed (state S.Store s.connection)) }
+        ensures empty { IfOk result (λ s. IsTrue (is_sure (state S.Store s.connection))
+            → content_in (state S.Store s.connection).now ≡ record { receipts = map.empty; checkpoints = map.empty }) }
+        ensures clean { IfOk result (λ s. IsTrue (is_sure (state S.Store s.connection)) → IsTrue (is_sure (state S.Store conn))) }
         ensures count { IfOk result (λ s. s.failures ≡ 0) }
-        ensures present { IfErr result (λ e. e.0 ≡ TablesError.Present → ((state S.Store conn).now.schema ≢ no_schema) × (e.1 ≡ conn)) }
+        ensures present { IfErr result (λ e. e.0 ≡ TablesError.Present
+            → ((state S.Store conn).now.schema ≢ no_schema) × (e.1 ≡ conn)) }
         ensures other { IfErr result (λ e. e.0 ≢ TablesError.NoTables) }
         ensures idle { IfErr result (λ e. e.1.in_transaction ≡ false) }
     {
@@ -61,21 +67,19 @@ impl<S: Alter> SqlStable<S> {
         }
     }
 
-    /// Takes a connection that has the two tables. A refusal hands it back.
+    /// Takes a database that has the two tables. A refusal hands the connection back: NoTables.
     pub fn adopt(
         _alloc: Global,
         conn: Connection<S>,
     ) -> Result<SqlStable<S>, (TablesError, Connection<S>)>
         requires { conn.in_transaction ≡ false }
-        ensures same { IfOk result (λ s. s.conn ≡ conn) }
+        ensures same { IfOk result (λ s. s.connection ≡ conn) }
         ensures count { IfOk result (λ s. s.failures ≡ 0) }
+        ensures tables { OnOk result (HasBothTables (state S.Store conn).now.schema) }
         ensures refused { IfErr result (λ e. e ≡ (TablesError.NoTables, conn)) }
+        ensures no_tables { OnErr result (HasBothTables (state S.Store conn).now.schema → ⊥) }
     {
-        let tables = conn.schema().tables.as_slice();
-        if tables.len() != 2
-            || tables[0].name.as_slice() != b"receipts".as_slice()
-            || tables[1].name.as_slice() != b"checkpoints".as_slice()
-        {
+        if !has_both_tables(conn.schema()) {
             return Err((TablesError::NoTables, conn));
         }
         Ok(SqlStable { conn, failures: 0 })
@@ -83,19 +87,41 @@ impl<S: Alter> SqlStable<S> {
 
     /// The connection, with its tables.
     pub fn into_connection(self) -> Connection<S>
-        ensures { result ≡ self.conn }
+        ensures { result ≡ self.connection }
     {
         let SqlStable { conn, failures: _ } = self;
         conn
     }
 }
 
-/// Counts an error of `sqlite`, except want of memory.
+// Whether a database has the two tables of a store, and nothing beside them.
+fn has_both_tables(schema: &Schema) -> bool
+    ensures { IsTrue result ↔ HasBothTables schema.now }
+{
+    if !schema.indexes.is_empty() || !schema.views.is_empty() {
+        return false;
+    }
+    are_receipts_and_checkpoints(schema.tables.as_slice())
+}
+
+fn are_receipts_and_checkpoints(tables: &[Table]) -> bool
+    ensures { IsTrue result ↔ (map (λ t. t.name) tables.now ≡ codes "receipts" ∷ codes "checkpoints" ∷ []) }
+{
+    let [receipts, checkpoints] = tables else {
+        return false;
+    };
+    if receipts.name.as_slice() != b"receipts".as_slice() {
+        return false;
+    }
+    checkpoints.name.as_slice() == b"checkpoints".as_slice()
+}
+
+// Counts an error of `sqlite`, except want of memory.
 fn told<T>(failures: &mut u64, outcome: Result<T, Error>) -> Result<T, StoreError>
     ensures ok { IfOk result (λ x. outcome ≡ Ok x) }
     ensures err { is_ok result ≡ is_ok outcome }
     ensures never_present { result ≢ Err StoreError.Present }
-    ensures fault { IsErrOf result StoreError.Fault → Rose failures.old failures.new }
+    ensures fault { result_err result ≡ Some Fault → Rose failures.old failures.new }
     ensures count { failures.old ≤ failures.new }
     ensures kept { result_err result ≢ Some Fault → failures.new ≡ failures.old }
 {
@@ -110,13 +136,13 @@ fn told<T>(failures: &mut u64, outcome: Result<T, Error>) -> Result<T, StoreErro
 }
 
 impl<S: Alter + Drop> Stable for SqlStable<S> {
-    ghost content = { λ s. content_in (state S.Store s.conn).now };
+    ghost content = { λ s. content_in (state S.Store s.connection).now };
 
     ghost failed = { λ s. s.failures };
 
-    ghost is_clean = { λ s. is_sure (state S.Store s.conn) };
+    ghost is_clean = { λ s. is_sure (state S.Store s.connection) };
 
-    ghost IsSound = { λ s. IsFormed (state S.Store s.conn) };
+    ghost IsSound = { λ s. IsFormed (state S.Store s.connection) };
 
     // The count rises at a fault alone.
     ghost call_gives = { λ old error new. error ≢ Some Fault → new.failures ≡ old.failures };

@@ -4,26 +4,27 @@ use Rattle.om_tables.proofs.SureLemmas.{clean_of, was_sure, still, through}
 use Rattle.om_tables.proofs.sql_stable.SqlStableStable.effective.Goals as goal
 
 pub returns-clause-effective : goal.returns-clause-effective
-returns-clause-effective g c h =
+returns-clause-effective g c = rw (← c.self.view_is) (λ h.
     through _ c.told.result c.effective-found.result c.told.ensures.ok
-    (c.effective-found.ensures.effective (clean_of (state g.S.Store c.effective-found.new.conn) h.0) _ h.1.holds)
+    (c.effective-found.ensures.effective (clean_of (state g.S.Store c.effective-found.new.conn) h.0) _ h.1.holds))
 
 pub returns-clause-bytes : goal.returns-clause-bytes
-returns-clause-bytes g c h =
+returns-clause-bytes g c = rw (← c.self.view_is) (λ h.
     through _ c.told.result c.effective-found.result c.told.ensures.ok
-    (c.effective-found.ensures.bytes (clean_of (state g.S.Store c.effective-found.new.conn) h.0) _ h.1.holds)
+    (c.effective-found.ensures.bytes (clean_of (state g.S.Store c.effective-found.new.conn) h.0) _ h.1.holds))
 
 pub returns-clause-none : goal.returns-clause-none
-returns-clause-none g c h =
+returns-clause-none g c = rw (← c.self.view_is) (λ h.
     through _ c.told.result c.effective-found.result c.told.ensures.ok
-    (c.effective-found.ensures.none (clean_of (state g.S.Store c.effective-found.new.conn) h.0) _ h.1.holds)
+    (c.effective-found.ensures.none (clean_of (state g.S.Store c.effective-found.new.conn) h.0) _ h.1.holds))
 
 pub returns-clause-same : goal.returns-clause-same
-returns-clause-same g c h = (still (state g.S.Store c.args.self.now.conn) (state g.S.Store c.effective-found.new.conn) c.effective-found.ensures.asks h.0 h.1).content
+returns-clause-same g c = rw (← c.self.view_is) (λ h.
+    (still (state g.S.Store c.self.inside.conn) (state g.S.Store c.effective-found.new.conn) c.effective-found.ensures.asks h.0 h.1).content)
 
 pub returns-clause-call : goal.returns-clause-call
-returns-clause-call g c =
-    let old = state g.S.Store c.args.self.now.conn in
+returns-clause-call g c = rw (← c.self.view_is) (
+    let old = state g.S.Store c.self.inside.conn in
     let new = state g.S.Store c.effective-found.new.conn in
     record {
       fault = search rules;
@@ -31,4 +32,4 @@ returns-clause-call g c =
       gives = search rules;
       clean = was_sure old new c.effective-found.ensures.asks.follows;
       sound = λ h formed. (still old new c.effective-found.ensures.asks h formed).formed;
-    }
+    })

@@ -6,12 +6,12 @@ use Rattle.om_tables.proofs.SureLemmas.{clean_of, was_sure, still, changed, then
 use Rattle.om_tables.proofs.sql_stable.SqlStableStable.put_receipts.Goals as goal
 
 pub returns-in_err-told-clause-refused : goal.returns-in_err-told-clause-refused
-returns-in_err-told-clause-refused g c h =
-    always_err c.from_residual.result (still (state g.S.Store c.args.self.now.conn) (state g.S.Store c.has_any_receipt-found.new.conn) c.has_any_receipt-found.ensures.asks h.0 h.1).content
+returns-in_err-told-clause-refused g c = rw (← c.self.view_is) (λ h.
+    always_err c.from_residual.result (still (state g.S.Store c.self.inside.conn) (state g.S.Store c.has_any_receipt-found.new.conn) c.has_any_receipt-found.ensures.asks h.0 h.1).content)
 
 pub returns-in_err-told-clause-call : goal.returns-in_err-told-clause-call
-returns-in_err-told-clause-call g c =
-    let old = state g.S.Store c.args.self.now.conn in
+returns-in_err-told-clause-call g c = rw (← c.self.view_is) (
+    let old = state g.S.Store c.self.inside.conn in
     let mid = state g.S.Store c.has_any_receipt-found.new.conn in
     record {
       fault = search rules;
@@ -19,20 +19,20 @@ returns-in_err-told-clause-call g c =
       gives = search rules;
       clean = was_sure old mid c.has_any_receipt-found.ensures.asks.follows;
       sound = λ h formed. (still old mid c.has_any_receipt-found.ensures.asks h formed).formed;
-    }
+    })
 
 pub returns-then-branch-clause-present : goal.returns-then-branch-clause-present
-returns-then-branch-clause-present g c h _ =
+returns-then-branch-clause-present g c = rw (← c.self.view_is) (λ h _.
     if_true c.has_any_receipt-found.result c.in_ok-told.field-0
-    (c.has_any_receipt-found.ensures.taken (clean_of (state g.S.Store c.has_any_receipt-found.new.conn) h.0) _ h.1.holds) c.in_ok-told.ensures.ok c.if-branch.true
+    (c.has_any_receipt-found.ensures.taken (clean_of (state g.S.Store c.has_any_receipt-found.new.conn) h.0) _ h.1.holds) c.in_ok-told.ensures.ok c.if-branch.true)
 
 pub returns-then-branch-clause-refused : goal.returns-then-branch-clause-refused
-returns-then-branch-clause-refused g c h =
-    (still (state g.S.Store c.args.self.now.conn) (state g.S.Store c.has_any_receipt-found.new.conn) c.has_any_receipt-found.ensures.asks h.0 h.1).content
+returns-then-branch-clause-refused g c = rw (← c.self.view_is) (λ h.
+    (still (state g.S.Store c.self.inside.conn) (state g.S.Store c.has_any_receipt-found.new.conn) c.has_any_receipt-found.ensures.asks h.0 h.1).content)
 
 pub returns-then-branch-clause-call : goal.returns-then-branch-clause-call
-returns-then-branch-clause-call g c =
-    let old = state g.S.Store c.args.self.now.conn in
+returns-then-branch-clause-call g c = rw (← c.self.view_is) (
+    let old = state g.S.Store c.self.inside.conn in
     let mid = state g.S.Store c.has_any_receipt-found.new.conn in
     record {
       fault = search rules;
@@ -40,40 +40,40 @@ returns-then-branch-clause-call g c =
       gives = search rules;
       clean = was_sure old mid c.has_any_receipt-found.ensures.asks.follows;
       sound = λ h formed. (still old mid c.has_any_receipt-found.ensures.asks h formed).formed;
-    }
+    })
 
 pub returns-clause-put : goal.returns-clause-put
-returns-clause-put g c h =
-    let old = state g.S.Store c.args.self.now.conn in
+returns-clause-put g c = rw (← c.self.view_is) (λ h.
+    let old = state g.S.Store c.self.inside.conn in
     let mid = state g.S.Store c.has_any_receipt-found.new.conn in
     let new = state g.S.Store c.put_receipts-put.new.conn in
     let transacts = c.put_receipts-put.ensures.transacts in
     let same : Same old mid = still old mid c.has_any_receipt-found.ensures.asks (was_sure mid new transacts.follows h.0) h.1 in
     let change = changed _ mid new c.put_receipts-put.result transacts h.0 same.formed in
-    (then_changed (λ k. with_receipts k c.args.first (bytes_of c.args.recs.now)) old mid new c.told-2.result c.put_receipts-put.result same change c.told-2.ensures.ok c.told-2.ensures.err).0
+    (then_changed (λ k. with_receipts k c.args.first (bytes_of c.args.recs.now)) old mid new c.told-2.result c.put_receipts-put.result same change c.told-2.ensures.ok c.told-2.ensures.err).0)
 
 pub returns-clause-free : goal.returns-clause-free
-returns-clause-free g c h =
-    let old = state g.S.Store c.args.self.now.conn in
+returns-clause-free g c = rw (← c.self.view_is) (λ h.
+    let old = state g.S.Store c.self.inside.conn in
     let mid = state g.S.Store c.has_any_receipt-found.new.conn in
     let new = state g.S.Store c.put_receipts-put.new.conn in
     let sure = was_sure mid new c.put_receipts-put.ensures.transacts.follows h.0 in
     always_ok c.told-2.result (if_false c.has_any_receipt-found.result c.in_ok-told.field-0
-    (c.has_any_receipt-found.ensures.free (clean_of mid sure) _ h.1.holds) c.in_ok-told.ensures.ok c.if-branch.false)
+    (c.has_any_receipt-found.ensures.free (clean_of mid sure) _ h.1.holds) c.in_ok-told.ensures.ok c.if-branch.false))
 
 pub returns-clause-refused : goal.returns-clause-refused
-returns-clause-refused g c h =
-    let old = state g.S.Store c.args.self.now.conn in
+returns-clause-refused g c = rw (← c.self.view_is) (λ h.
+    let old = state g.S.Store c.self.inside.conn in
     let mid = state g.S.Store c.has_any_receipt-found.new.conn in
     let new = state g.S.Store c.put_receipts-put.new.conn in
     let transacts = c.put_receipts-put.ensures.transacts in
     let same : Same old mid = still old mid c.has_any_receipt-found.ensures.asks (was_sure mid new transacts.follows h.0) h.1 in
     let change = changed _ mid new c.put_receipts-put.result transacts h.0 same.formed in
-    (then_changed (λ k. with_receipts k c.args.first (bytes_of c.args.recs.now)) old mid new c.told-2.result c.put_receipts-put.result same change c.told-2.ensures.ok c.told-2.ensures.err).1
+    (then_changed (λ k. with_receipts k c.args.first (bytes_of c.args.recs.now)) old mid new c.told-2.result c.put_receipts-put.result same change c.told-2.ensures.ok c.told-2.ensures.err).1)
 
 pub returns-clause-call : goal.returns-clause-call
-returns-clause-call g c =
-    let old = state g.S.Store c.args.self.now.conn in
+returns-clause-call g c = rw (← c.self.view_is) (
+    let old = state g.S.Store c.self.inside.conn in
     let mid = state g.S.Store c.has_any_receipt-found.new.conn in
     let new = state g.S.Store c.put_receipts-put.new.conn in
     let asks = c.has_any_receipt-found.ensures.asks in
@@ -86,4 +86,4 @@ returns-clause-call g c =
       sound = λ h formed.
           let same : Same old mid = still old mid asks (was_sure mid new transacts.follows h) formed in
           (changed _ mid new c.put_receipts-put.result transacts h same.formed).formed;
-    }
+    })
