@@ -4,6 +4,4 @@
 #[cfg(test)]
 mod commands;
 #[cfg(test)]
-mod stable;
-#[cfg(test)]
 mod text;

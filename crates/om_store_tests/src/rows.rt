@@ -4,6 +4,8 @@ use std::process::Abort;
 use std::test::Fail;
 
 mod caller;
+mod stops;
+mod tables;
 
 /// The last interval.
 const LAST: u32 = u32::MAX;
