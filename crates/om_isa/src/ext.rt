@@ -1,3 +1,6 @@
+ghost use Rattle.std.specs.Prelude.{◌≡◌};
+ghost use Rattle.om_isa.specs.Rows.{has};
+
 /// The instructions that a program may use.
 #[derive(Clone, Copy, Debug, PartialEq, Eq)]
 pub enum Ext {
@@ -5,4 +8,14 @@ pub enum Ext {
     I,
     /// The base instructions and those of multiplication and division, RV32IM.
     Im,
+}
+
+impl Ext {
+    // Whether a program of this extension may use the instructions of another.
+    #[inline(always)]
+    pub(crate) fn has(self, other: Ext) -> bool
+        ensures { result ≡ has self other }
+    {
+        self == Ext::Im || other == Ext::I
+    }
 }
