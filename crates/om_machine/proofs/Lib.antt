@@ -1,3 +1,5 @@
 pub mod Stepping
 pub mod Stops
 pub mod Runs
+pub mod Keeping
+pub mod ProductLemmas

@@ -1,5 +1,5 @@
 ghost use Rattle.std.specs.Prelude.{◌≡◌};
-ghost use Rattle.om_machine.specs.Effects.{event_of};
+ghost use Rattle.om_machine.specs.steps.Told.{told, event_of};
 
 use crate::event::Event;
 use om_isa::Reg;
@@ -28,7 +28,7 @@ pub enum Effect {
 impl Effect {
     /// What the step is that has this effect.
     pub fn event(self) -> Event
-        ensures { result ≡ event_of self }
+        ensures { result ≡ event_of (told self) }
     {
         match self {
             Effect::Stop(event) => event,

@@ -2,13 +2,18 @@
 
 ghost use Rattle.std.specs.Prelude.{◌≡◌, ◌+◌, ◌<◌, ◌≤◌, IfNone, length};
 ghost use Rattle.om_machine.specs.State.{reg, byte_at, half_at, word_at};
-ghost use Rattle.om_machine.specs.Effects.{branch_effect, address_of, jump_effect, access_fault, signed_byte_at, signed_half_at, load_effect, store_effect, call_effect, effect_of, CanHave};
+ghost use Rattle.om_machine.specs.Effects.{branch_effect, address_of, jump_effect, access_fault, signed_byte_at, signed_half_at, load_effect, store_effect, call_effect, effect_of};
+ghost use Rattle.om_machine.specs.steps.Told.{told, CanHave};
 
 use crate::effect::Effect;
 use crate::event::{Cause, EnvCall, Event};
 use crate::limits::{A0, A1, A2, A7};
 use crate::machine::Machine;
 use crate::memory::{read_half, read_word};
+use crate::products::{
+    divide, divide_unsigned, multiply, multiply_high, multiply_high_signed_unsigned,
+    multiply_high_unsigned, remainder, remainder_unsigned,
+};
 use crate::values::{
     add, and, at_least, at_least_unsigned, clear_bit_0, equal, extend_byte, extend_half, less_than,
     less_than_unsigned, not_equal, or, set_less_than, set_less_than_unsigned, shift_left_logical,
@@ -60,7 +65,7 @@ macro_rules! effect {
 }
 
 macro_rules! effect_rows {
-    ([$m:ident $inst:ident] $($name:ident $text:tt $form:ident $codes:tt $effect:tt,)*) => {
+    ([$m:ident $inst:ident] $($name:ident $ext:ident $text:tt $form:ident $codes:tt $effect:tt,)*) => {
         match $inst {
             $(shape!($name $form a b c) => effect!($m $effect $form a b c),)*
         }
@@ -69,9 +74,10 @@ macro_rules! effect_rows {
 
 impl Machine {
     /// What an instruction does now.
+    #[inline(always)]
     pub(crate) fn effect(&self, inst: Inst) -> Effect
-        ensures effect { result ≡ effect_of self.now inst }
-        ensures can { CanHave self.now result }
+        ensures effect { told result ≡ effect_of self.now inst }
+        ensures can { CanHave self.now (told result) }
     {
         rows!(effect_rows!(self inst))
     }
@@ -93,13 +99,14 @@ impl Machine {
     // A branch to an offset from its own address.
     #[tactic(auto, unfolding(crate::specs::Effects::branch_effect))]
     fn branch(&self, holds: bool, offset: Off13) -> Effect
-        ensures effect { result ≡ branch_effect self.now holds offset }
-        ensures can { CanHave self.now result }
+        ensures effect { told result ≡ branch_effect self.now holds offset }
+        ensures can { CanHave self.now (told result) }
     {
-        let target = add(self.pc, offset.value().cast_unsigned());
         if !holds {
-            Effect::Nothing
-        } else if target % 4 == 0 {
+            return Effect::Nothing;
+        }
+        let target = add(self.pc, offset.value().cast_unsigned());
+        if target % 4 == 0 {
             Effect::Go { target }
         } else {
             Effect::Stop(Event::Trap(Cause::TargetMisaligned))
@@ -109,8 +116,8 @@ impl Machine {
     // A jump.
     #[tactic(auto, unfolding(crate::specs::Effects::jump_effect))]
     fn jump(&self, rd: Reg, target: u32) -> Effect
-        ensures effect { result ≡ jump_effect rd target }
-        ensures can { CanHave self.now result }
+        ensures effect { told result ≡ jump_effect rd target }
+        ensures can { CanHave self.now (told result) }
     {
         if target % 4 == 0 {
             Effect::Jump { rd, target }
@@ -137,8 +144,8 @@ impl Machine {
 
     #[tactic(auto, unfolding(crate::specs::Effects::access_effect))]
     fn load_byte(&self, rd: Reg, address: u32) -> Effect
-        ensures effect { result ≡ load_effect self.now rd 1 signed_byte_at address }
-        ensures can { CanHave self.now result }
+        ensures effect { told result ≡ load_effect self.now rd 1 signed_byte_at address }
+        ensures can { CanHave self.now (told result) }
     {
         match self.access_fault(1, address) {
             Some(cause) => Effect::Stop(Event::Trap(cause)),
@@ -151,8 +158,8 @@ impl Machine {
 
     #[tactic(auto, unfolding(crate::specs::Effects::access_effect))]
     fn load_half(&self, rd: Reg, address: u32) -> Effect
-        ensures effect { result ≡ load_effect self.now rd 2 signed_half_at address }
-        ensures can { CanHave self.now result }
+        ensures effect { told result ≡ load_effect self.now rd 2 signed_half_at address }
+        ensures can { CanHave self.now (told result) }
     {
         match self.access_fault(2, address) {
             Some(cause) => Effect::Stop(Event::Trap(cause)),
@@ -165,8 +172,8 @@ impl Machine {
 
     #[tactic(auto, unfolding(crate::specs::Effects::access_effect))]
     fn load_word(&self, rd: Reg, address: u32) -> Effect
-        ensures effect { result ≡ load_effect self.now rd 4 word_at address }
-        ensures can { CanHave self.now result }
+        ensures effect { told result ≡ load_effect self.now rd 4 word_at address }
+        ensures can { CanHave self.now (told result) }
     {
         match self.access_fault(4, address) {
             Some(cause) => Effect::Stop(Event::Trap(cause)),
@@ -179,8 +186,8 @@ impl Machine {
 
     #[tactic(auto, unfolding(crate::specs::Effects::access_effect))]
     fn load_byte_unsigned(&self, rd: Reg, address: u32) -> Effect
-        ensures effect { result ≡ load_effect self.now rd 1 byte_at address }
-        ensures can { CanHave self.now result }
+        ensures effect { told result ≡ load_effect self.now rd 1 byte_at address }
+        ensures can { CanHave self.now (told result) }
     {
         match self.access_fault(1, address) {
             Some(cause) => Effect::Stop(Event::Trap(cause)),
@@ -193,8 +200,8 @@ impl Machine {
 
     #[tactic(auto, unfolding(crate::specs::Effects::access_effect))]
     fn load_half_unsigned(&self, rd: Reg, address: u32) -> Effect
-        ensures effect { result ≡ load_effect self.now rd 2 half_at address }
-        ensures can { CanHave self.now result }
+        ensures effect { told result ≡ load_effect self.now rd 2 half_at address }
+        ensures can { CanHave self.now (told result) }
     {
         match self.access_fault(2, address) {
             Some(cause) => Effect::Stop(Event::Trap(cause)),
@@ -207,8 +214,8 @@ impl Machine {
 
     #[tactic(auto, unfolding(crate::specs::Effects::access_effect))]
     fn store_byte(&self, source: Reg, address: u32) -> Effect
-        ensures effect { result ≡ store_effect self.now source 1 Effect.StoreByte address }
-        ensures can { CanHave self.now result }
+        ensures effect { told result ≡ store_effect self.now source 1 address }
+        ensures can { CanHave self.now (told result) }
     {
         match self.access_fault(1, address) {
             Some(cause) => Effect::Stop(Event::Trap(cause)),
@@ -221,8 +228,8 @@ impl Machine {
 
     #[tactic(auto, unfolding(crate::specs::Effects::access_effect))]
     fn store_half(&self, source: Reg, address: u32) -> Effect
-        ensures effect { result ≡ store_effect self.now source 2 Effect.StoreHalf address }
-        ensures can { CanHave self.now result }
+        ensures effect { told result ≡ store_effect self.now source 2 address }
+        ensures can { CanHave self.now (told result) }
     {
         match self.access_fault(2, address) {
             Some(cause) => Effect::Stop(Event::Trap(cause)),
@@ -235,8 +242,8 @@ impl Machine {
 
     #[tactic(auto, unfolding(crate::specs::Effects::access_effect))]
     fn store_word(&self, source: Reg, address: u32) -> Effect
-        ensures effect { result ≡ store_effect self.now source 4 Effect.StoreWord address }
-        ensures can { CanHave self.now result }
+        ensures effect { told result ≡ store_effect self.now source 4 address }
+        ensures can { CanHave self.now (told result) }
     {
         match self.access_fault(4, address) {
             Some(cause) => Effect::Stop(Event::Trap(cause)),
@@ -250,8 +257,8 @@ impl Machine {
     // The environment call that x17 numbers.
     #[tactic(auto, unfolding(crate::specs::Effects::call_effect))]
     fn call(&self) -> Effect
-        ensures effect { result ≡ call_effect self.now }
-        ensures can { CanHave self.now result }
+        ensures effect { told result ≡ call_effect self.now }
+        ensures can { CanHave self.now (told result) }
     {
         let (first, second) = (self.regs[A0], self.regs[A1]);
         let call = match self.regs[A7] {
