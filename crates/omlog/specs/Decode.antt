@@ -2,6 +2,7 @@
 use Rattle.std.specs.Prelude.{◌≡◌, ℕ, ◌<◌, ◌≤◌, List, [], ◌∷◌, ◌++◌, length, Ok, Err, codes, ◌⊎◌}
 use Rattle.om_isa.specs.Rows.{Decodes}
 use Rattle.om_isa.specs.Text.{text_of}
+use Rattle.om_isa.specs.declared.ext.Ext.TheVariants.{I}
 use Rattle.om_isa.specs.declared.inst.Inst.{Inst}
 use Rattle.om_text.specs.declared.text.TheConstants.{MAX_BYTES}
 use Rattle.omlog.specs.WordScript.{script_of}
@@ -10,11 +11,11 @@ use Rattle.omlog.specs.declared.fault.CommandFault.TheVariants as faults
 
 -- the text of an instruction that the word decodes to
 abbrev pub IsInstructionText : ℕ → List ℕ → Type 0
-IsInstructionText word text = (i : Inst) × Decodes word i × (text ≡ text_of i)
+IsInstructionText word text = (i : Inst) × Decodes I word i × (text ≡ text_of i)
 
 -- `none`, where the word decodes to no instruction
 abbrev pub IsNoneText : ℕ → List ℕ → Type 0
-IsNoneText word text = ((i : Inst) → Decodes word i → ⊥) × (text ≡ codes "none")
+IsNoneText word text = ((i : Inst) → Decodes I word i → ⊥) × (text ≡ codes "none")
 
 -- the text of a word
 abbrev pub IsTextOf : ℕ → List ℕ → Type 0

@@ -63,7 +63,7 @@ fn push_line(text: &mut Vec<u8>, word: u32) -> Result<(), AllocError>
 fn push_text(text: &mut Vec<u8>, word: u32) -> Result<(), AllocError>
     ensures { OnOk result ((line : List ℕ) × IsTextOf word line × (text.new.items ≡ text.old.items ++ line)) }
 {
-    match om_isa::decode(word) {
+    match om_isa::decode(word, om_isa::Ext::I) {
         Some(instruction) => instruction.write_text(text).map_err(|_| AllocError),
         None => text.extend_from_slice(b"none"),
     }
