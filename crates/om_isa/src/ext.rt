@@ -16,6 +16,6 @@ impl Ext {
     pub(crate) fn has(self, other: Ext) -> bool
         ensures { result ≡ has self other }
     {
-        self == Ext::Im || other == Ext::I
+        other == Ext::I || self == Ext::Im
     }
 }

@@ -48,9 +48,6 @@ macro_rules! rows {
         Sra    I  ("sra" registers)      r     (0b0110011, 0b101, 0b0100000) (put shift_right_arithmetic),
         Or     I  ("or" registers)       r     (0b0110011, 0b110, 0b0000000) (put or),
         And    I  ("and" registers)      r     (0b0110011, 0b111, 0b0000000) (put and),
-        Fence  I  ("fence" fence)        fence (0b0001111, 0b000)            (nothing),
-        Ecall  I  ("ecall" name)         whole (0x00000073)                  (environment_call),
-        Ebreak I  ("ebreak" name)        whole (0x00100073)                  (breakpoint),
         Mul    Im ("mul" registers)      r     (0b0110011, 0b000, 0b0000001) (put multiply),
         Mulh   Im ("mulh" registers)     r     (0b0110011, 0b001, 0b0000001) (put multiply_high),
         Mulhsu Im ("mulhsu" registers)   r     (0b0110011, 0b010, 0b0000001) (put multiply_high_signed_unsigned),
@@ -59,6 +56,9 @@ macro_rules! rows {
         Divu   Im ("divu" registers)     r     (0b0110011, 0b101, 0b0000001) (put divide_unsigned),
         Rem    Im ("rem" registers)      r     (0b0110011, 0b110, 0b0000001) (put remainder),
         Remu   Im ("remu" registers)     r     (0b0110011, 0b111, 0b0000001) (put remainder_unsigned),
+        Fence  I  ("fence" fence)        fence (0b0001111, 0b000)            (nothing),
+        Ecall  I  ("ecall" name)         whole (0x00000073)                  (environment_call),
+        Ebreak I  ("ebreak" name)        whole (0x00100073)                  (breakpoint),
     } };
 }
 

@@ -2,8 +2,8 @@
 
 ghost use Rattle.std.specs.Prelude.{◌≡◌, ◌+◌, ◌<◌, ◌≤◌, IfNone, length};
 ghost use Rattle.om_machine.specs.State.{reg, byte_at, half_at, word_at};
-ghost use Rattle.om_machine.specs.Effects.{branch_effect, address_of, jump_effect, access_fault, signed_byte_at, signed_half_at, load_effect, store_effect, call_effect, effect_of};
-ghost use Rattle.om_machine.specs.steps.Told.{told, CanHave};
+ghost use Rattle.om_machine.specs.Effects.{branch_effect, address_of, jump_effect, access_fault, signed_byte_at, signed_half_at, load_effect, store_effect, call_effect, effect_of, applied};
+ghost use Rattle.om_machine.specs.steps.Told.{told, CanHave, event_of};
 
 use crate::effect::Effect;
 use crate::event::{Cause, EnvCall, Event};
@@ -57,10 +57,10 @@ macro_rules! effect {
         Effect::Nothing
     };
     ($m:ident (environment_call) whole $a:ident $b:ident $c:ident) => {
-        $m.call()
+        Effect::Call
     };
     ($m:ident (breakpoint) whole $a:ident $b:ident $c:ident) => {
-        Effect::Stop(Event::Trap(Cause::Break))
+        Effect::Trap(Cause::Break)
     };
 }
 
@@ -76,8 +76,8 @@ impl Machine {
     /// What an instruction does now.
     #[inline(always)]
     pub(crate) fn effect(&self, inst: Inst) -> Effect
-        ensures effect { told result ≡ effect_of self.now inst }
-        ensures can { CanHave self.now (told result) }
+        ensures effect { told self.now result ≡ effect_of self.now inst }
+        ensures can { CanHave self.now result }
     {
         rows!(effect_rows!(self inst))
     }
@@ -99,8 +99,8 @@ impl Machine {
     // A branch to an offset from its own address.
     #[tactic(auto, unfolding(crate::specs::Effects::branch_effect))]
     fn branch(&self, holds: bool, offset: Off13) -> Effect
-        ensures effect { told result ≡ branch_effect self.now holds offset }
-        ensures can { CanHave self.now (told result) }
+        ensures effect { told self.now result ≡ branch_effect self.now holds offset }
+        ensures can { CanHave self.now result }
     {
         if !holds {
             return Effect::Nothing;
@@ -109,20 +109,20 @@ impl Machine {
         if target % 4 == 0 {
             Effect::Go { target }
         } else {
-            Effect::Stop(Event::Trap(Cause::TargetMisaligned))
+            Effect::Trap(Cause::TargetMisaligned)
         }
     }
 
     // A jump.
     #[tactic(auto, unfolding(crate::specs::Effects::jump_effect))]
     fn jump(&self, rd: Reg, target: u32) -> Effect
-        ensures effect { told result ≡ jump_effect rd target }
-        ensures can { CanHave self.now (told result) }
+        ensures effect { told self.now result ≡ jump_effect rd target }
+        ensures can { CanHave self.now result }
     {
         if target % 4 == 0 {
             Effect::Jump { rd, target }
         } else {
-            Effect::Stop(Event::Trap(Cause::TargetMisaligned))
+            Effect::Trap(Cause::TargetMisaligned)
         }
     }
 
@@ -144,11 +144,11 @@ impl Machine {
 
     #[tactic(auto, unfolding(crate::specs::Effects::access_effect))]
     fn load_byte(&self, rd: Reg, address: u32) -> Effect
-        ensures effect { told result ≡ load_effect self.now rd 1 signed_byte_at address }
-        ensures can { CanHave self.now (told result) }
+        ensures effect { told self.now result ≡ load_effect self.now rd 1 signed_byte_at address }
+        ensures can { CanHave self.now result }
     {
         match self.access_fault(1, address) {
-            Some(cause) => Effect::Stop(Event::Trap(cause)),
+            Some(cause) => Effect::Trap(cause),
             None => Effect::Put {
                 rd,
                 value: extend_byte(self.memory[address as usize]),
@@ -158,11 +158,11 @@ impl Machine {
 
     #[tactic(auto, unfolding(crate::specs::Effects::access_effect))]
     fn load_half(&self, rd: Reg, address: u32) -> Effect
-        ensures effect { told result ≡ load_effect self.now rd 2 signed_half_at address }
-        ensures can { CanHave self.now (told result) }
+        ensures effect { told self.now result ≡ load_effect self.now rd 2 signed_half_at address }
+        ensures can { CanHave self.now result }
     {
         match self.access_fault(2, address) {
-            Some(cause) => Effect::Stop(Event::Trap(cause)),
+            Some(cause) => Effect::Trap(cause),
             None => Effect::Put {
                 rd,
                 value: extend_half(read_half(&self.memory, address as usize)),
@@ -172,11 +172,11 @@ impl Machine {
 
     #[tactic(auto, unfolding(crate::specs::Effects::access_effect))]
     fn load_word(&self, rd: Reg, address: u32) -> Effect
-        ensures effect { told result ≡ load_effect self.now rd 4 word_at address }
-        ensures can { CanHave self.now (told result) }
+        ensures effect { told self.now result ≡ load_effect self.now rd 4 word_at address }
+        ensures can { CanHave self.now result }
     {
         match self.access_fault(4, address) {
-            Some(cause) => Effect::Stop(Event::Trap(cause)),
+            Some(cause) => Effect::Trap(cause),
             None => Effect::Put {
                 rd,
                 value: read_word(&self.memory, address as usize),
@@ -186,11 +186,11 @@ impl Machine {
 
     #[tactic(auto, unfolding(crate::specs::Effects::access_effect))]
     fn load_byte_unsigned(&self, rd: Reg, address: u32) -> Effect
-        ensures effect { told result ≡ load_effect self.now rd 1 byte_at address }
-        ensures can { CanHave self.now (told result) }
+        ensures effect { told self.now result ≡ load_effect self.now rd 1 byte_at address }
+        ensures can { CanHave self.now result }
     {
         match self.access_fault(1, address) {
-            Some(cause) => Effect::Stop(Event::Trap(cause)),
+            Some(cause) => Effect::Trap(cause),
             None => Effect::Put {
                 rd,
                 value: u32::from(self.memory[address as usize]),
@@ -200,11 +200,11 @@ impl Machine {
 
     #[tactic(auto, unfolding(crate::specs::Effects::access_effect))]
     fn load_half_unsigned(&self, rd: Reg, address: u32) -> Effect
-        ensures effect { told result ≡ load_effect self.now rd 2 half_at address }
-        ensures can { CanHave self.now (told result) }
+        ensures effect { told self.now result ≡ load_effect self.now rd 2 half_at address }
+        ensures can { CanHave self.now result }
     {
         match self.access_fault(2, address) {
-            Some(cause) => Effect::Stop(Event::Trap(cause)),
+            Some(cause) => Effect::Trap(cause),
             None => Effect::Put {
                 rd,
                 value: u32::from(read_half(&self.memory, address as usize)),
@@ -214,11 +214,11 @@ impl Machine {
 
     #[tactic(auto, unfolding(crate::specs::Effects::access_effect))]
     fn store_byte(&self, source: Reg, address: u32) -> Effect
-        ensures effect { told result ≡ store_effect self.now source 1 address }
-        ensures can { CanHave self.now (told result) }
+        ensures effect { told self.now result ≡ store_effect self.now source 1 address }
+        ensures can { CanHave self.now result }
     {
         match self.access_fault(1, address) {
-            Some(cause) => Effect::Stop(Event::Trap(cause)),
+            Some(cause) => Effect::Trap(cause),
             None => Effect::StoreByte {
                 address,
                 value: self.operand(source),
@@ -228,11 +228,11 @@ impl Machine {
 
     #[tactic(auto, unfolding(crate::specs::Effects::access_effect))]
     fn store_half(&self, source: Reg, address: u32) -> Effect
-        ensures effect { told result ≡ store_effect self.now source 2 address }
-        ensures can { CanHave self.now (told result) }
+        ensures effect { told self.now result ≡ store_effect self.now source 2 address }
+        ensures can { CanHave self.now result }
     {
         match self.access_fault(2, address) {
-            Some(cause) => Effect::Stop(Event::Trap(cause)),
+            Some(cause) => Effect::Trap(cause),
             None => Effect::StoreHalf {
                 address,
                 value: self.operand(source),
@@ -242,11 +242,11 @@ impl Machine {
 
     #[tactic(auto, unfolding(crate::specs::Effects::access_effect))]
     fn store_word(&self, source: Reg, address: u32) -> Effect
-        ensures effect { told result ≡ store_effect self.now source 4 address }
-        ensures can { CanHave self.now (told result) }
+        ensures effect { told self.now result ≡ store_effect self.now source 4 address }
+        ensures can { CanHave self.now result }
     {
         match self.access_fault(4, address) {
-            Some(cause) => Effect::Stop(Event::Trap(cause)),
+            Some(cause) => Effect::Trap(cause),
             None => Effect::StoreWord {
                 address,
                 value: self.operand(source),
@@ -254,11 +254,11 @@ impl Machine {
         }
     }
 
-    // The environment call that x17 numbers.
+    // The environment call that x17 numbers, or the trap where there is none.
     #[tactic(auto, unfolding(crate::specs::Effects::call_effect))]
-    fn call(&self) -> Effect
-        ensures effect { told result ≡ call_effect self.now }
-        ensures can { CanHave self.now (told result) }
+    pub(crate) fn call(&self) -> Event
+        ensures event { result ≡ event_of (call_effect self.now) }
+        ensures applied { applied self.now (call_effect self.now) ≡ (result, self.now) }
     {
         let (first, second) = (self.regs[A0], self.regs[A1]);
         let call = match self.regs[A7] {
@@ -277,8 +277,19 @@ impl Machine {
                 len: second,
             },
             4 => EnvCall::Who,
-            _ => return Effect::Stop(Event::Trap(Cause::UnknownCall)),
+            _ => return Event::Trap(Cause::UnknownCall),
         };
-        Effect::Stop(Event::Call(call))
+        Event::Call(call)
+    }
+
+    // What a step is that has this effect.
+    pub(crate) fn event(&self, effect: Effect) -> Event
+        ensures { result ≡ event_of (told self.now effect) }
+    {
+        match effect {
+            Effect::Call => self.call(),
+            Effect::Trap(cause) => Event::Trap(cause),
+            _ => Event::Went,
+        }
     }
 }
