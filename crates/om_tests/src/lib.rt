@@ -1,8 +1,13 @@
-//! Tests of the public calls of the crates below: rows whose values come from outside, and what no clause says.
+//! Tests of the public calls of the crates below, a module for each: rows whose values come from outside, and what no
+//! clause says. A crate with tests is proved twice, and so these stand above them all.
 #![tactic(auto)]
 
 #[cfg(test)]
 mod commands;
+#[cfg(test)]
+mod isa;
+#[cfg(test)]
+mod machine;
 #[cfg(test)]
 mod stable;
 #[cfg(test)]
