@@ -2,7 +2,6 @@ pub mod RowsLemmas
 pub mod StableLemmas
 pub mod ScanLemmas
 pub mod OrderLemmas
-pub mod VectorLemmas
 pub mod SearchLemmas
 pub mod NearestLemmas
 pub mod NoteLemmas

@@ -5,6 +5,7 @@
 mod answer;
 pub mod laws;
 mod note;
+mod order;
 mod records;
 mod row;
 mod search;
@@ -12,6 +13,3 @@ mod search;
 pub use note::{Note, NoteError};
 pub use records::Records;
 pub use row::{Row, RowKind};
-
-#[cfg(test)]
-mod tests;

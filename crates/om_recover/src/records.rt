@@ -3,11 +3,11 @@ ghost use Rattle.om_interval.specs.Vectors.{IsBelow};
 ghost use Rattle.om_interval.specs.declared.pid.TheConstants.{MAX_PROCESSES};
 ghost use Rattle.om_recover.specs.Rows.{HasRow};
 ghost use Rattle.om_recover.specs.Offered.{offered, TellsChange};
-ghost use Rattle.om_recover.specs.Records.{first_row, IsSound};
-ghost use Rattle.om_recover.specs.declared.row.RowKind.TheVariants.{Checkpoint, Log};
+ghost use Rattle.om_recover.specs.Records.{first_row, log_of, checkpoint_of, IsSound};
 
-use crate::answer::{answer_without_change, place_of};
+use crate::answer::answer_without_change;
 use crate::note::{Note, NoteError};
+use crate::order::add;
 use crate::row::{Row, RowKind};
 use crate::search::greatest_recoverable;
 use om_interval::{DepVec, Pid};
@@ -23,8 +23,9 @@ pub struct Records {
 
 impl Model for Records {
     ghost use Rattle.std.specs.FinSet as set;
-    ghost use Rattle.om_recover.specs.Records.{Kept, AreKept};
-    ghost use Rattle.om_recover.specs.RowCode.{coded_kept};
+    ghost use Rattle.om_recover.specs.Records.{Kept};
+    ghost use Rattle.om_recover.specs.steps.AsKept.{AreKept};
+    ghost use Rattle.om_recover.specs.steps.RowCode.{coded_kept};
 
     ghost Value = { Kept };
 
@@ -58,6 +59,11 @@ impl Records {
     }
 
     /// Notes that the receipt which began interval `x` of a process is logged.
+    ///
+    /// Refused, the first that holds, are a process that the cluster has not (`Stranger`), vectors that are not those of
+    /// an interval of the process (`BadVector`), and other vectors than a record of that interval has (`Differs`). A row
+    /// that is there is `Known`. Then, the rows being in order by interval, one that is not above the nearest below it, or
+    /// else not below the nearest above it (`Disorder`), and last want of memory (`Memory`).
     pub fn note_logged(
         &mut self,
         _alloc: Global,
@@ -66,15 +72,22 @@ impl Records {
         vec: &DepVec,
         got: &DepVec,
     ) -> Result<Note, NoteError>
-        ensures answer { offered (length self.old.state) self.old.rows record { kind = Log; pid = pid; interval = x; vec = vec.now; got = got.now } result self.new.rows }
+        ensures answer { offered (length self.old.state) self.old.rows (log_of pid x vec.now got.now) result self.new.rows }
         ensures raised { TellsChange result self.old.state self.new.state }
         ensures sound { IsSound self.new }
         ensures not_lowered { IsBelow self.old.state self.new.state }
     {
-        self.note(row_of(RowKind::Log, pid, x, vec, got))
+        self.note(Row {
+            kind: RowKind::Log,
+            pid,
+            interval: x,
+            vec: *vec,
+            got: *got,
+        })
     }
 
-    /// Notes that the state of a process in interval `x` is stored.
+    /// Notes that the state of a process in interval `x` is stored. The refusals are those of [`Records::note_logged`], in
+    /// the same order.
     pub fn note_checkpoint(
         &mut self,
         _alloc: Global,
@@ -83,12 +96,18 @@ impl Records {
         vec: &DepVec,
         got: &DepVec,
     ) -> Result<Note, NoteError>
-        ensures answer { offered (length self.old.state) self.old.rows record { kind = Checkpoint; pid = pid; interval = x; vec = vec.now; got = got.now } result self.new.rows }
+        ensures answer { offered (length self.old.state) self.old.rows (checkpoint_of pid x vec.now got.now) result self.new.rows }
         ensures raised { TellsChange result self.old.state self.new.state }
         ensures sound { IsSound self.new }
         ensures not_lowered { IsBelow self.old.state self.new.state }
     {
-        self.note(row_of(RowKind::Checkpoint, pid, x, vec, got))
+        self.note(Row {
+            kind: RowKind::Checkpoint,
+            pid,
+            interval: x,
+            vec: *vec,
+            got: *got,
+        })
     }
 
     fn note(&mut self, row: Row) -> Result<Note, NoteError>
@@ -100,10 +119,9 @@ impl Records {
         if let Some(answer) = answer_without_change(&self.rows, self.state.n(), &row) {
             return answer;
         }
-        let place = place_of(&self.rows, &row);
-        if self.rows.insert(place, row).is_err() {
+        let Ok(()) = add(&mut self.rows, &row) else {
             return Err(NoteError::Memory);
-        }
+        };
         let state = greatest_recoverable(&self.rows, &self.state);
         let raised = state != self.state;
         self.state = state;
@@ -117,17 +135,5 @@ impl Records {
     {
         let Records { state, .. } = self;
         *state
-    }
-}
-
-fn row_of(kind: RowKind, pid: Pid, interval: u32, vec: &DepVec, got: &DepVec) -> Row
-    ensures { result ≡ record { kind = kind; pid = pid; interval = interval; vec = vec.now; got = got.now } }
-{
-    Row {
-        kind,
-        pid,
-        interval,
-        vec: *vec,
-        got: *got,
     }
 }

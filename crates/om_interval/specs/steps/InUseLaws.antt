@@ -1,7 +1,7 @@
 use Rattle.std.proofs.Common.{◌≡◌, ℕ, ◌-◌, ◌+◌, ◌++◌, List, length, take, drop, replicate, arith, sym, ◌∙◌, length-drop, ap}
 use Rattle.std.proofs.lemmas.List.{length-take-le, take-append-drop, length-replicate, get_or-replicate, get_or-drop}
 use Rattle.std.proofs.lemmas.Grind.{same_number_lists}
-use Rattle.om_interval.specs.InUse.{AreInUse}
+use Rattle.om_interval.specs.steps.InUse.{AreInUse}
 
 -- as many numbers are seen as are in use
 pub length-in_use : (limit count : ℕ) (places : List ℕ) → AreInUse limit count places → length (take count places) ≡ count
@@ -18,6 +18,7 @@ drop-in_use limit count places used =
     ∙ sym (get_or-replicate (limit - count) k 0 0 (omega arith)))
 
 -- the numbers that are seen and zeros up to the limit are all places
-pub padded-in_use : (limit count : ℕ) (places : List ℕ) → AreInUse limit count places → take count places ++ replicate (limit - length (take count places)) 0 ≡ places
+pub padded-in_use : (limit count : ℕ) (places : List ℕ) → AreInUse limit count places
+    → take count places ++ replicate (limit - length (take count places)) 0 ≡ places
 padded-in_use limit count places used =
     rw (length-in_use limit count places used, ← drop-in_use limit count places used) (take-append-drop count places)
