@@ -7,3 +7,5 @@ pub mod NearestLemmas
 pub mod NoteLemmas
 pub mod FirstLemmas
 pub mod LawLemmas
+pub mod CuttingLemmas
+pub mod OfferLemmas

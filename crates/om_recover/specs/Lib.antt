@@ -3,5 +3,7 @@ pub mod Rows
 pub mod Recoverable
 pub mod Offered
 pub mod Records
+pub mod Cutting
+pub mod Offers
 pub mod Laws
 pub mod steps

@@ -3,6 +3,7 @@
 #![tactic(auto)]
 
 mod answer;
+mod cutting;
 pub mod laws;
 mod note;
 mod order;

@@ -1,11 +1,13 @@
-ghost use Rattle.std.specs.Prelude.{◌≡◌, ℕ, ◌+◌, ◌<◌, ◌≤◌, ◌↔◌, length, replicate, IfOk};
+ghost use Rattle.std.specs.Prelude.{◌≡◌, ℕ, ◌+◌, ◌<◌, ◌≤◌, ◌↔◌, length, replicate, slice_index, IfOk};
 ghost use Rattle.om_interval.specs.Vectors.{IsBelow};
 ghost use Rattle.om_interval.specs.declared.pid.TheConstants.{MAX_PROCESSES};
+ghost use Rattle.om_recover.specs.Cutting.{IsEffective, AreEffective, IsGotAt, cut_to, IsPruned};
 ghost use Rattle.om_recover.specs.Rows.{HasRow};
 ghost use Rattle.om_recover.specs.Offered.{offered, TellsChange};
 ghost use Rattle.om_recover.specs.Records.{first_row, log_of, checkpoint_of, IsSound};
 
 use crate::answer::answer_without_change;
+use crate::cutting::{cut_rows, effective_of, effective_of_all, got_at, prune_rows};
 use crate::note::{Note, NoteError};
 use crate::order::add;
 use crate::row::{Row, RowKind};
@@ -58,6 +60,15 @@ impl Records {
         Ok(Records { rows, state: zeros })
     }
 
+    /// The number of processes, from 1 to the limit.
+    pub fn n(&self) -> usize
+        ensures processes { result ≡ length self.now.state }
+        ensures some { 1 ≤ result }
+        ensures within { result ≤ MAX_PROCESSES }
+    {
+        self.state.n()
+    }
+
     /// Notes that the receipt which began interval `x` of a process is logged.
     ///
     /// Refused, the first that holds, are a process that the cluster has not (`Stranger`), vectors that are not those of
@@ -66,7 +77,7 @@ impl Records {
     /// else not below the nearest above it (`Disorder`), and last want of memory (`Memory`).
     pub fn note_logged(
         &mut self,
-        _alloc: Global,
+        alloc: Global,
         pid: Pid,
         x: u32,
         vec: &DepVec,
@@ -77,20 +88,21 @@ impl Records {
         ensures sound { IsSound self.new }
         ensures not_lowered { IsBelow self.old.state self.new.state }
     {
-        self.note(Row {
+        let row = Row {
             kind: RowKind::Log,
             pid,
             interval: x,
             vec: *vec,
             got: *got,
-        })
+        };
+        self.note(alloc, row)
     }
 
     /// Notes that the state of a process in interval `x` is stored. The refusals are those of [`Records::note_logged`], in
     /// the same order.
     pub fn note_checkpoint(
         &mut self,
-        _alloc: Global,
+        alloc: Global,
         pid: Pid,
         x: u32,
         vec: &DepVec,
@@ -101,16 +113,18 @@ impl Records {
         ensures sound { IsSound self.new }
         ensures not_lowered { IsBelow self.old.state self.new.state }
     {
-        self.note(Row {
+        let row = Row {
             kind: RowKind::Checkpoint,
             pid,
             interval: x,
             vec: *vec,
             got: *got,
-        })
+        };
+        self.note(alloc, row)
     }
 
-    fn note(&mut self, row: Row) -> Result<Note, NoteError>
+    /// Notes a row. The refusals are those of [`Records::note_logged`], in the same order.
+    pub fn note(&mut self, _alloc: Global, row: Row) -> Result<Note, NoteError>
         ensures answer { offered (length self.old.state) self.old.rows row result self.new.rows }
         ensures raised { TellsChange result self.old.state self.new.state }
         ensures sound { IsSound self.new }
@@ -135,5 +149,40 @@ impl Records {
     {
         let Records { state, .. } = self;
         *state
+    }
+
+    /// The checkpoint that is used for the process's place of the recovery state.
+    pub fn effective(&self, pid: Pid) -> u32
+        requires { pid < length self.now.state }
+        ensures { IsEffective self.now.rows pid (slice_index self.now.state pid) result }
+    {
+        effective_of(&self.rows, pid, self.state.get(pid))
+    }
+
+    /// How many messages the process had got in the recovery state, by sender.
+    pub fn got(&self, pid: Pid) -> DepVec
+        requires { pid < length self.now.state }
+        ensures { IsGotAt self.now.rows pid (slice_index self.now.state pid) result }
+    {
+        got_at(&self.rows, pid, self.state.get(pid))
+    }
+
+    /// Drops the rows above the recovery state, which stays.
+    pub fn cut(&mut self)
+        ensures rows { self.new.rows ≡ cut_to self.old.rows self.old.state }
+        ensures state { self.new.state ≡ self.old.state }
+        ensures sound { IsSound self.new }
+    {
+        cut_rows(&mut self.rows, &self.state);
+    }
+
+    /// Drops the rows below the checkpoints that are used for the recovery state, which stays.
+    pub fn prune(&mut self)
+        ensures rows { IsPruned self.old.rows self.old.state self.new.rows }
+        ensures state { self.new.state ≡ self.old.state }
+        ensures sound { IsSound self.new }
+    {
+        let checkpoints = effective_of_all(&self.rows, &self.state);
+        prune_rows(&mut self.rows, &checkpoints);
     }
 }

@@ -75,3 +75,14 @@ IsAnswered n rows row answer = offered n rows row answer rows
 pub record IsWith (row : Row) (old new : List Row) : Type 0 where
   pub in_order : AreInOrder new
   pub rows : set.from_list {R = row_cmp} new ≡ set.insert (set.from_list old) row
+
+-- the row is a checkpoint of the process at or below the interval
+pub record IsCheckpointWithin (p x : ℕ) (row : Row) : Type 0 where
+  pub pid : row.pid ≡ p
+  pub kind : row.kind ≡ Checkpoint
+  pub within : row.interval ≤ x
+
+-- the row is a record of the process's interval
+pub record IsOfInterval (p x : ℕ) (row : Row) : Type 0 where
+  pub pid : row.pid ≡ p
+  pub interval : row.interval ≡ x
