@@ -5,9 +5,13 @@
 #[cfg(test)]
 mod commands;
 #[cfg(test)]
+mod interval;
+#[cfg(test)]
 mod isa;
 #[cfg(test)]
 mod machine;
+#[cfg(test)]
+mod recover;
 #[cfg(test)]
 mod stable;
 #[cfg(test)]
