@@ -3,12 +3,14 @@
 
 pub use decoding::decode;
 pub use encoding::encode;
+pub use ext::Ext;
 pub use fields::{FenceBits, Imm12, Off13, Off21, Reg, Shamt, Upper};
 pub use inst::Inst;
 pub use text::WriteFault;
 
 mod decoding;
 mod encoding;
+mod ext;
 mod fields;
 mod inst;
 mod rows;
