@@ -1,5 +1,5 @@
 -- What is wrong with bytes that are not a record of a format.
-use Rattle.std.specs.Prelude.{ℕ, zero, suc, ◌+◌, ◌*◌, List, [], ◌∷◌, length, take, drop, Option, Some, None, nat_lt, if◌then◌else◌}
+use Rattle.std.specs.Prelude.{◌≡◌, ◌⊎◌, ℕ, zero, suc, ◌+◌, ◌*◌, List, [], ◌∷◌, length, take, drop, Option, Some, None, nat_lt, if◌then◌else◌}
 use Rattle.std.specs.Int.{from_le_bytes}
 use Rattle.om_format.specs.declared.error.DecodeError.{DecodeError}
 use Rattle.om_format.specs.declared.error.DecodeError.TheVariants.{Short, Trailing}
@@ -19,3 +19,7 @@ first_fault (field size count allowed fault behind) offset bytes =
     if nat_lt (length bytes) (count * bytes_in size) then Some Short
     else if allowed (values_at size count bytes) then first_fault (behind (values_at size count bytes)) (offset + count * bytes_in size) (drop (count * bytes_in size) bytes)
     else Some (fault offset)
+
+-- every field is whole and allowed; bytes may follow the last
+abbrev pub AreRead : Format → List ℕ → Type 0
+AreRead format bytes = (first_fault format 0 bytes ≡ None) ⊎ (first_fault format 0 bytes ≡ Some Trailing)

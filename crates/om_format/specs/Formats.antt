@@ -67,9 +67,8 @@ is_body_size len = nat_le len MAX_BODY
 abbrev pub body : Format → Format
 body behind = counted two is_body_size behind
 
--- a field of a kind, and one of a version
-unfoldable pub opening : ℕ → ℕ → Format → Format
-opening kind version behind =
-    number_or (λ _. Kind) one (λ found. found == kind) λ _.
-    number_or (λ _. Version) one (λ found. found == version) λ _.
-    behind
+-- a field of a kind, and one of a version, on which the fields behind may depend
+unfoldable pub opening : (ℕ → Bool) → (ℕ → Bool) → (ℕ → Format) → Format
+opening is_kind is_version behind =
+    number_or (λ _. Kind) one is_kind λ _.
+    number_or (λ _. Version) one is_version behind

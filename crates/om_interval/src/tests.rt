@@ -3,8 +3,8 @@ use std::test::Fail;
 
 #[test]
 fn processes_are_numbered_below_the_limit(rt: HostRuntime) -> Result<(), Fail> {
-    assert_eq!(rt; Pid::new(7).ok_or("7 is a process")?.index(), 7);
-    assert_eq!(rt; Pid::new(8), None);
+    assert_eq!(rt; Pid::new(15).ok_or("15 is a process")?.index(), 15);
+    assert_eq!(rt; Pid::new(16), None);
     assert_eq!(rt; Pid::at(3).index(), 3);
     Ok(())
 }

@@ -4,7 +4,7 @@ use Rattle.std.proofs.lemmas.Result.{err_from_is_err_and}
 use Rattle.std.proofs.lemmas.List.{map_push}
 use Rattle.om_format.specs.Queues.{queue_record}
 use Rattle.om_format.proofs.Loops.{queues_go_on, queues_end, queues_done}
-use Rattle.om_format.proofs.checkpoint_reading.queues_at.Goals as goal
+use Rattle.om_format.proofs.queue_reading.queues_at.Goals as goal
 
 pub returns-in_err-taken-clause-exact : goal.returns-in_err-taken-clause-exact
 returns-in_err-taken-clause-exact c =

@@ -1,9 +1,9 @@
 use Rattle.std.proofs.Common.{◌≡◌, ◌+◌, drop, length}
 use Rattle.std.specs.Prelude.{map}
 use Rattle.om_format.specs.Queues.{queue_record}
-use Rattle.om_format.specs.CheckpointReading.{queues_at}
+use Rattle.om_format.specs.steps.CheckpointReading.{queues_at}
 use Rattle.om_format.proofs.Loops.{with_front}
-use Rattle.om_format.proofs.checkpoint_reading.queues_at.Given as goal
+use Rattle.om_format.proofs.queue_reading.queues_at.Given as goal
 
 abbrev pub invariant-loop-stop : goal.invariant-loop-stop
 invariant-loop-stop l =

@@ -1,7 +1,7 @@
 use Rattle.std.proofs.Common.{◌≡◌, ◌+◌, ◌-◌, length}
-use Rattle.om_format.specs.CheckpointReading.{entries_at}
+use Rattle.om_format.specs.steps.CheckpointReading.{entries_at}
 use Rattle.om_format.proofs.Loops.{with_front}
-use Rattle.om_format.proofs.checkpoint_reading.entries_at.Given as goal
+use Rattle.om_format.proofs.queue_reading.entries_at.Given as goal
 
 abbrev pub invariant-loop : goal.invariant-loop
 invariant-loop l =

@@ -1,7 +1,7 @@
 use Rattle.std.proofs.Common.{arith}
 use Rattle.std.proofs.lemmas.Result.{err_from_is_err_and}
 use Rattle.om_format.proofs.Loops.{entries_go_on, entries_end, entries_done}
-use Rattle.om_format.proofs.checkpoint_reading.entries_at.Goals as goal
+use Rattle.om_format.proofs.queue_reading.entries_at.Goals as goal
 
 pub returns-in_err-taken-clause-exact : goal.returns-in_err-taken-clause-exact
 returns-in_err-taken-clause-exact c =
