@@ -4,6 +4,7 @@ pub mod Formats
 pub mod Parts
 pub mod Holding
 pub mod Receipts
+pub mod Entries
 pub mod Queues
 pub mod MemoryReading
 pub mod Lawful
