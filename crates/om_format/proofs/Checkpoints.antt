@@ -1,6 +1,6 @@
 -- Reading a checkpoint is reading the fields of its format.
 use Rattle.std.proofs.Common.{◌≡◌, ℕ, ◌+◌, ◌*◌, Bool, true, false, cond, eqb, List, [], ◌∷◌, ◌++◌, length, Some, Result, Ok, Err, refl, sym, ap, subst, ◌∙◌, ◌⊎◌, inl, inr, append_assoc, arith}
-use Rattle.std.specs.Prelude.{map, ◌||◌}
+use Rattle.std.specs.Prelude.{map, nat_le, ◌||◌, IsOk}
 use Rattle.std.specs.List.{flat_map}
 use Rattle.std.proofs.lemmas.Bool.{eqb-true, false≢true}
 use Rattle.std.proofs.lemmas.List.{append-nil}
@@ -8,19 +8,20 @@ use Rattle.om_isa.specs.declared.ext.Ext.{Ext}
 use Rattle.om_isa.specs.declared.ext.Ext.TheVariants.{I, Im}
 use Rattle.om_format.specs.declared.checkpoint_reading.Front.{Front}
 use Rattle.om_format.specs.declared.error.DecodeError.{DecodeError}
+use Rattle.om_format.specs.declared.error.DecodeError.TheVariants.{Field}
 use Rattle.om_format.specs.declared.queue.Entry.{Entry}
 use Rattle.om_format.specs.declared.version.Version.{Version}
 use Rattle.om_format.specs.declared.version.Version.TheVariants.{V1, V2}
-use Rattle.om_format.specs.Formats.{Format, end, four, eight}
+use Rattle.om_format.specs.Formats.{Format, end, two, four, eight}
 use Rattle.om_format.specs.FirstFault.{AreRead}
-use Rattle.om_format.specs.Pages.{Page, kept_pages, page_values}
+use Rattle.om_format.specs.Pages.{Page, page_count, kept_pages, page_values}
 use Rattle.om_format.specs.Queues.{QueueRecord, queue_end, entry_values, queue_values, queue, queues}
-use Rattle.om_format.specs.Versions.{kind_of, is_kind, ext_of, number_of, is_version, version_of, memory_in, memory_values}
+use Rattle.om_format.specs.Versions.{kind_of, is_kind, ext_of, number_of, is_version, version_of, memory_in, before_memory, memory_values}
 use Rattle.om_format.specs.Checkpoints.{CheckpointRecord, front, checkpoint_format, checkpoint_values, checkpoint_fault, AreEnded, SpellsCheckpoint, IsSpelled, IsFrontRead, IsCheckpoint}
-use Rattle.om_format.specs.steps.Reading.{◌>>=◌, fields_at, opening_at, end_at}
-use Rattle.om_format.specs.steps.CheckpointReading.{head_at, vectors_at, front_at, memory_at, queues_at, queue_at, rest_at, checkpoint_of, checkpoint_at}
+use Rattle.om_format.specs.steps.Reading.{◌>>=◌, allow, number_at, fields_at, opening_at, end_at}
+use Rattle.om_format.specs.steps.CheckpointReading.{head_at, vectors_at, front_at, before_memory_at, memory_at, queues_at, queue_at, rest_at, checkpoint_of, checkpoint_at}
 use Rattle.om_format.proofs.Numbers.{IsBytes}
-use Rattle.om_format.proofs.Formats.{bind_ok, ok_is, found, again, faulty, read_all}
+use Rattle.om_format.proofs.Formats.{bind_ok, allow_ok, ok_is, found, again, faulty, read_all}
 use Rattle.om_format.proofs.Holding.{Holds, of_ok, holding_same, opening_hold}
 use Rattle.om_format.proofs.Parts.{one_number, opening_is, ends, bind_assoc, bind_same}
 use Rattle.om_format.proofs.Queues.{queues_is, last_queue_is}
@@ -100,14 +101,32 @@ checkpoint_is bytes =
     ∙ bind_same (front_at bytes) _ _ (λ f. rest_is f.0 f.1 ∙ sym (bind_assoc (rest_at f.0 f.1) _ _))
     ∙ sym (bind_assoc (front_at bytes) _ _)
 
--- the fields before the memory are read
-pub front_read : (bytes behind : List ℕ) (f : Front) → front_at bytes ≡ Ok (f, behind) → IsFrontRead bytes
-front_read bytes behind f e =
-    read_all (front (λ version interval sent made size. end)) bytes behind (front_values f ++ []) (
-    front_is (λ version interval sent made size. end) bytes
-    ∙ ap (λ (r : Result (Front × List ℕ) DecodeError). r >>= λ g. fields_at end (156 + 12 * g.0.head.n) g.1 >>= λ vs. Ok (front_values g.0 ++ vs)) e
-    ∙ ap (λ (r : Result (List (List ℕ)) DecodeError). r >>= λ vs. Ok (front_values f ++ vs)) (ends (156 + 12 * f.head.n) behind)
-    ∙ bind_assoc (end_at behind) _ _)
+-- what stands before the bytes of the memory is read
+before_fields : (size offset : ℕ) (bytes : List ℕ) (count : ℕ × List ℕ) → number_at two bytes ≡ Ok count → nat_le count.0 (page_count size) ≡ true → fields_at (before_memory V2 size) offset bytes ≡ (end_at count.1 >>= λ u. Ok ((count.0 ∷ []) ∷ []))
+before_fields size offset bytes count e fine =
+    rw (one_number two bytes, e, fine) (ap (λ (r : Result (List (List ℕ)) DecodeError). r >>= λ rest. Ok ((count.0 ∷ []) ∷ rest)) (ends (offset + 2) count.1) ∙ bind_assoc (end_at count.1) _ _)
+
+before_read : (version : Version) (size offset : ℕ) (bytes : List ℕ) (x : ℕ × List ℕ) → before_memory_at version size offset bytes ≡ Ok x → (rest : List ℕ) × (vs : List (List ℕ)) × (fields_at (before_memory version size) offset bytes ≡ (end_at rest >>= λ u. Ok vs))
+unfolding before_memory_at
+before_read V1 size offset bytes x e = (bytes, [], ends offset bytes)
+before_read V2 size offset bytes x e =
+    let a = bind_ok (number_at two bytes) (λ count. allow (nat_le count.0 (page_count size)) (Field offset) >>= λ fine. Ok count) x e in
+    let b = bind_ok (allow (nat_le a.0.0 (page_count size)) (Field offset)) (λ fine. Ok a.0) x a.2 in
+    (a.0.1, (a.0.0 ∷ []) ∷ [], before_fields size offset bytes a.0 a.1 (allow_ok (nat_le a.0.0 (page_count size)) (Field offset) b.0 b.1))
+
+-- the fields before the bytes of the memory are read
+front_read_from : (bytes behind : List ℕ) (f : Front) (r : Result (ℕ × List ℕ) DecodeError) → front_at bytes ≡ Ok (f, behind) → before_memory_at f.head.version f.size (156 + 12 * f.head.n) behind ≡ r → IsOk r → IsFrontRead bytes
+front_read_from bytes behind f (Err d) e g ok = absurd (false≢true ok)
+front_read_from bytes behind f (Ok x) e g ok =
+    let m = before_read f.head.version f.size (156 + 12 * f.head.n) behind x g in
+    read_all (front (λ version interval sent made size. before_memory version size)) bytes m.0 (front_values f ++ m.1) (
+    front_is (λ version interval sent made size. before_memory version size) bytes
+    ∙ ap (λ (r : Result (Front × List ℕ) DecodeError). r >>= λ g. fields_at (before_memory g.0.head.version g.0.size) (156 + 12 * g.0.head.n) g.1 >>= λ vs. Ok (front_values g.0 ++ vs)) e
+    ∙ ap (λ (r : Result (List (List ℕ)) DecodeError). r >>= λ vs. Ok (front_values f ++ vs)) m.2
+    ∙ bind_assoc (end_at m.0) _ _)
+
+pub front_read : (bytes behind : List ℕ) (f : Front) → front_at bytes ≡ Ok (f, behind) → IsOk (before_memory_at f.head.version f.size (156 + 12 * f.head.n) behind) → IsFrontRead bytes
+front_read bytes behind f e ok = front_read_from bytes behind f (before_memory_at f.head.version f.size (156 + 12 * f.head.n) behind) e refl ok
 
 -- ---- values that are the same
 

@@ -11,7 +11,7 @@ use Rattle.om_format.specs.Formats.{one, four, eight, Format, end, field, any, n
 use Rattle.om_format.specs.Spelling.{Spells}
 use Rattle.om_format.specs.FirstFault.{first_fault, AreRead}
 use Rattle.om_format.specs.Queues.{QueueRecord, queue_end, queue, queues, queue_values, are_entries, all_entries}
-use Rattle.om_format.specs.Versions.{kind_of, is_kind, number_of, is_version, version_of, is_cluster_size, memory_in, memory_values}
+use Rattle.om_format.specs.Versions.{kind_of, is_kind, number_of, is_version, version_of, is_cluster_size, memory_in, before_memory, memory_values}
 
 -- a checkpoint without where it lies in memory: of n processes
 pub record CheckpointRecord : Type 0 where
@@ -84,9 +84,9 @@ IsSpelled r bytes = (version : Version) × SpellsCheckpoint version r bytes
 abbrev pub checkpoint_fault : List ℕ → Option DecodeError
 checkpoint_fault bytes = first_fault checkpoint_format 0 bytes
 
--- the fields up to the size of the memory are whole and allowed
+-- the fields before the bytes of the memory are whole and allowed
 abbrev pub IsFrontRead : List ℕ → Type 0
-IsFrontRead bytes = AreRead (front λ version interval sent made size. end) bytes
+IsFrontRead bytes = AreRead (front λ version interval sent made size. before_memory version size) bytes
 
 -- what holds of every checkpoint, beside the ranges of its numbers
 pub record IsCheckpoint (r : CheckpointRecord) : Type 0 where

@@ -7,8 +7,8 @@ use Rattle.om_interval.specs.declared.pid.TheConstants.{MAX_PROCESSES}
 use Rattle.om_format.specs.declared.limits.TheConstants.{CHECKPOINT_KIND, CHECKPOINT_KIND_M, CHECKPOINT_VERSION_1, CHECKPOINT_VERSION_2, MAX_PROCESSES_OF_VERSION_1}
 use Rattle.om_format.specs.declared.version.Version.{Version}
 use Rattle.om_format.specs.declared.version.Version.TheVariants.{V1, V2}
-use Rattle.om_format.specs.Formats.{Format, bytes}
-use Rattle.om_format.specs.Pages.{counted_pages, kept_pages, page_values}
+use Rattle.om_format.specs.Formats.{two, Format, end, number, bytes}
+use Rattle.om_format.specs.Pages.{page_count, counted_pages, kept_pages, page_values}
 
 -- the kind tells which instructions the program may use
 abbrev pub kind_of : Ext → ℕ
@@ -45,6 +45,11 @@ is_cluster_size version n = nat_le 1 n && nat_le n (most_processes version)
 unfoldable pub memory_in : Version → ℕ → Format → Format
 memory_in V1 size behind = bytes size behind
 memory_in V2 size behind = counted_pages size behind
+
+-- what stands before the bytes of the memory: the number of pages, where these are counted
+abbrev pub before_memory : Version → ℕ → Format
+before_memory V1 size = end
+before_memory V2 size = number two (λ count. nat_le count (page_count size)) λ count. end
 
 -- the values of its fields
 abbrev pub memory_values : Version → List ℕ → List (List ℕ)

@@ -22,7 +22,7 @@ use crate::version::Version;
 use om_interval::{DepVec, MAX_PROCESSES, Pid};
 use om_isa::Ext;
 
-/// The fields of a checkpoint before the registers.
+// The fields of a checkpoint before the registers.
 #[derive(Clone, Copy)]
 pub(crate) struct Head {
     pub ext: Ext,
@@ -173,7 +173,7 @@ fn sum_of(vector: &DepVec) -> u64
     total
 }
 
-/// The vectors of a checkpoint.
+// The vectors of a checkpoint.
 #[derive(Clone, Copy)]
 pub(crate) struct Vectors {
     pub vec: DepVec,
@@ -209,7 +209,7 @@ fn vectors_at(
     Ok((Vectors { vec, got, sent }, rest))
 }
 
-/// The fields of a checkpoint before its memory.
+// The fields of a checkpoint before its memory.
 #[derive(Clone, Copy)]
 pub(crate) struct Front {
     pub head: Head,

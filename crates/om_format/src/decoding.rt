@@ -7,7 +7,7 @@ ghost use Rattle.om_format.specs.FirstFault.{AreRead};
 ghost use Rattle.om_format.specs.Outcomes.{Gives};
 ghost use Rattle.om_format.specs.Queues.{queue_record};
 ghost use Rattle.om_format.specs.Receipts.{ReceiptRecord, receipt_record, receipt_fault, receipt_format, SpellsReceipt};
-ghost use Rattle.om_format.specs.steps.CheckpointReading.{rest_at, checkpoint_of};
+ghost use Rattle.om_format.specs.steps.CheckpointReading.{before_memory_at, rest_at, checkpoint_of};
 ghost use Rattle.om_format.specs.steps.Reading.{receipt_fields_at, receipt_at};
 ghost use Rattle.om_format.specs.declared.version.Version.{Version};
 ghost use Rattle.om_interval.specs.declared.pid.TheConstants.{MAX_PROCESSES};
@@ -76,7 +76,7 @@ pub fn decode_receipt(alloc: Global, bytes: &[u8]) -> Result<Receipt, DecodeErro
     receipt_at(alloc, bytes)
 }
 
-/// The memory and the queues of a checkpoint.
+// The memory and the queues of a checkpoint.
 #[derive(Drop)]
 struct Rest {
     memory: MemoryBytes,
@@ -88,8 +88,10 @@ struct Rest {
 fn rest_at(alloc: Global, front: &Front, bytes: &[u8]) -> Result<Rest, DecodeError>
     requires size { is_memory_size front.now.size ≡ true }
     requires room { 156 + 12 * front.now.head.n + length bytes.now < 2 ^ 64 }
-    ensures { Gives (λ x. (x.memory, map queue_record x.kept.items, queue_record x.outputs)) result
+    ensures exact { Gives (λ x. (x.memory, map queue_record x.kept.items, queue_record x.outputs)) result
         (rest_at front.now bytes.now) }
+    ensures memory { IfErr result (λ e. e ≡ DecodeError.Memory
+        → IsOk (before_memory_at front.now.head.version front.now.size (156 + 12 * front.now.head.n) bytes.now)) }
 {
     let head = front.head;
     let memory = memory_at(alloc, head.version, front.size, 156 + 12 * head.n, bytes)?;
@@ -105,7 +107,8 @@ fn rest_at(alloc: Global, front: &Front, bytes: &[u8]) -> Result<Rest, DecodeErr
 }
 
 /// The checkpoint that the bytes spell in one of the versions, all of the bytes; else the first fault of the bytes from the
-/// left. `Memory` where there was none for the memory or a queue, and the fields before the memory are whole and allowed.
+/// left. `Memory` where there was none for the memory or a queue, and the fields before the bytes of the memory are whole and
+/// allowed.
 pub fn decode_checkpoint(alloc: Global, bytes: &[u8]) -> Result<Checkpoint, DecodeError>
     ensures found { IfOk result (λ c. IsSpelled (checkpoint_record c) bytes.now) }
     ensures only { (version : Version) (r : CheckpointRecord) → SpellsCheckpoint version r bytes.now

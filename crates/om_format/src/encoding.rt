@@ -17,7 +17,7 @@ use crate::pages::count_kept;
 use crate::receipt::Receipt;
 use std::alloc::{AllocError, Global};
 
-/// The bytes of a receipt before its body.
+// The bytes of a receipt before its body.
 const RECEIPT_FRONT: usize = 26;
 
 fn receipt_bytes(alloc: Global, receipt: &Receipt) -> Result<Vec<u8>, AllocError>

@@ -1,11 +1,11 @@
 //! The memory of a checkpoint.
 
-ghost use Rattle.std.specs.Prelude.{◌≡◌, ◌+◌, ◌<◌, ◌≤◌, ◌^◌, IfOk, length, true};
+ghost use Rattle.std.specs.Prelude.{◌≡◌, ◌+◌, ◌<◌, ◌≤◌, ◌^◌, IfOk, IfErr, IsOk, length, true};
 ghost use Rattle.om_format.specs.declared.limits.TheConstants.{MAX_MEMORY};
 ghost use Rattle.om_format.specs.Checkpoints.{is_memory_size};
 ghost use Rattle.om_format.specs.Outcomes.{Gives, Tells};
 ghost use Rattle.om_format.specs.Pages.{page_count, page_size};
-ghost use Rattle.om_format.specs.steps.CheckpointReading.{page_at, pages_at, memory_at};
+ghost use Rattle.om_format.specs.steps.CheckpointReading.{page_at, pages_at, memory_at, before_memory_at};
 
 use crate::error::DecodeError;
 use crate::limits::PAGE;
@@ -80,7 +80,7 @@ fn pages_at<'a>(
 }
 
 // A memory of this size, in the form of this version.
-#[tactic(auto, unfolding(crate::specs::steps::CheckpointReading::memory_at))]
+#[tactic(auto, unfolding(crate::specs::steps::CheckpointReading::memory_at, crate::specs::steps::CheckpointReading::before_memory_at))]
 pub(crate) fn memory_at<'a>(
     alloc: Global,
     version: Version,
@@ -92,6 +92,8 @@ pub(crate) fn memory_at<'a>(
     requires room { offset + length bytes.now < 2 ^ 64 }
     ensures exact { Gives (λ x. (x.value, x.offset, x.rest.now)) result
         (memory_at version size offset bytes.now) }
+    ensures before { IfOk result (λ _. IsOk (before_memory_at version size offset bytes.now)) }
+    ensures memory { IfErr result (λ e. e ≡ DecodeError.Memory → IsOk (before_memory_at version size offset bytes.now)) }
     ensures left { IfOk result (λ x. x.offset + length x.rest.now ≡ offset + length bytes.now) }
 {
     match version {

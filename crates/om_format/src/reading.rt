@@ -118,7 +118,7 @@ pub(crate) fn end_at(bytes: &[u8]) -> Result<(), DecodeError>
     }
 }
 
-/// What was read, the offset after it in the record, and the bytes after it.
+// What was read, the offset after it in the record, and the bytes after it.
 #[derive(Drop)]
 pub(crate) struct Taken<'a, T> {
     pub value: T,

@@ -100,6 +100,14 @@ memory_at V2 size offset bytes = do
   fine ← allow (nat_le count.0 (page_count size)) (Field offset)
   pages_at size 0 count.0 (offset + 2) count.1
 
+-- what stands before the bytes of the memory, and the bytes after that
+unfoldable pub before_memory_at : Version → ℕ → ℕ → List ℕ → Result (ℕ × List ℕ) DecodeError
+before_memory_at V1 size offset bytes = Ok (0, bytes)
+before_memory_at V2 size offset bytes = do
+  count ← number_at two bytes
+  fine ← allow (nat_le count.0 (page_count size)) (Field offset)
+  Ok count
+
 -- an entry, the offset after it, and the bytes after it
 unfoldable pub entry_at : ℕ → ℕ → ℕ → List ℕ → Result (Entry × ℕ × List ℕ) DecodeError
 entry_at newest low offset bytes = do

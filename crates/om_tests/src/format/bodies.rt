@@ -53,13 +53,15 @@ fn queues_are_copied_and_compared(rt: HostRuntime) -> Result<(), Fail> {
     let queue = Queue { first: 5, entries };
     let mut copy = queue.copy(rt.alloc())?;
     assert_eq!(rt; copy, queue);
-    assert_eq!(rt; queue.entries[0].copy(rt.alloc())?, queue.entries[0]);
-    assert!(rt; queue.entries[0] != queue.entries[1]);
-    assert!(rt; queue.entries[0].body != queue.entries[1].body);
+    let first = queue.entries.first().ok_or("two entries")?;
+    let last = queue.entries.last().ok_or("two entries")?;
+    assert_eq!(rt; first.copy(rt.alloc())?, *first);
+    assert!(rt; first != last);
+    assert!(rt; first.body != last.body);
     copy.first = 6;
     assert!(rt; copy != queue);
     copy.first = 5;
-    let _last = copy.entries.pop();
+    let _ = copy.entries.pop();
     assert!(rt; copy != queue);
     Ok(())
 }
