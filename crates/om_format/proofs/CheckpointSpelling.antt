@@ -20,7 +20,7 @@ use Rattle.om_format.proofs.MemoryReading.{FitsPage}
 use Rattle.om_format.specs.Formats.{Size, one, two, four, eight, Format, end, any, counted, opening, is_body_size, limit}
 use Rattle.om_format.specs.Spelling.{numbers, IsField, Spells}
 use Rattle.om_format.specs.Queues.{QueueRecord, queue_end, are_entries, all_entries, entries, queue, queues, entry_values, queue_values}
-use Rattle.om_format.specs.Checkpoints.{CheckpointRecord, IsCheckpoint, SpellsCheckpoint, front, checkpoint_format, checkpoint_values, is_memory_size}
+use Rattle.om_format.specs.Checkpoints.{CheckpointRecord, IsCheckpoint, SpellsCheckpoint, front, checkpoint_format, checkpoint_values}
 use Rattle.om_format.specs.steps.CheckpointBytes.{page_bytes, entry_bytes, message_bytes, checkpoint_bytes, AreWords, AreWithin}
 use Rattle.om_format.proofs.Numbers.{IsBytes, within_bytes, numbers-bytes}
 use Rattle.om_format.proofs.Receipts.{field_of, byte_cell}

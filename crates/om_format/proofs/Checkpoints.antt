@@ -12,17 +12,16 @@ use Rattle.om_format.specs.declared.error.DecodeError.TheVariants.{Field}
 use Rattle.om_format.specs.declared.queue.Entry.{Entry}
 use Rattle.om_format.specs.declared.version.Version.{Version}
 use Rattle.om_format.specs.declared.version.Version.TheVariants.{V1, V2}
-use Rattle.om_format.specs.Formats.{Format, end, two, four, eight}
-use Rattle.om_format.specs.FirstFault.{AreRead}
+use Rattle.om_format.specs.Formats.{Format, end, two, eight}
 use Rattle.om_format.specs.Pages.{Page, page_count, kept_pages, page_values}
 use Rattle.om_format.specs.Queues.{QueueRecord, queue_end, entry_values, queue_values, queue, queues}
 use Rattle.om_format.specs.Versions.{kind_of, is_kind, ext_of, number_of, is_version, version_of, memory_in, before_memory, memory_values}
 use Rattle.om_format.specs.Checkpoints.{CheckpointRecord, front, checkpoint_format, checkpoint_values, checkpoint_fault, AreEnded, SpellsCheckpoint, IsSpelled, IsFrontRead, IsCheckpoint}
 use Rattle.om_format.specs.steps.Reading.{◌>>=◌, allow, number_at, fields_at, opening_at, end_at}
-use Rattle.om_format.specs.steps.CheckpointReading.{head_at, vectors_at, front_at, before_memory_at, memory_at, queues_at, queue_at, rest_at, checkpoint_of, checkpoint_at}
+use Rattle.om_format.specs.steps.CheckpointReading.{head_at, vectors_at, front_at, before_memory_at, memory_at, rest_at, checkpoint_of, checkpoint_at}
 use Rattle.om_format.proofs.Numbers.{IsBytes}
 use Rattle.om_format.proofs.Formats.{bind_ok, allow_ok, ok_is, found, again, faulty, read_all}
-use Rattle.om_format.proofs.Holding.{Holds, of_ok, holding_same, opening_hold}
+use Rattle.om_format.proofs.Holding.{of_ok, holding_same, opening_hold}
 use Rattle.om_format.proofs.Parts.{one_number, opening_is, ends, bind_assoc, bind_same}
 use Rattle.om_format.proofs.Queues.{queues_is, last_queue_is}
 use Rattle.om_format.proofs.KeptPages.{same_memory}

@@ -114,4 +114,3 @@ fault_or_memory Version fault P is may = inl (is (λ h. cc))
 fault_or_memory (Field offset) fault P is may = inl (is (λ h. cc))
 fault_or_memory Trailing fault P is may = inl (is (λ h. cc))
 fault_or_memory Memory fault P is may = inr (refl, may refl)
-

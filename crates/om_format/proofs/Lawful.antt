@@ -1,8 +1,7 @@
 -- What is read is lawful.
-use Rattle.std.proofs.Common.{◌≡◌, ℕ, zero, suc, ◌+◌, ◌-◌, ◌*◌, ◌%◌, ◌<◌, ◌≤◌, true, eqb, ltb, List, [], ◌∷◌, length, Result, Ok, Err, refl, ap, sym, subst, ◌∙◌, arith}
+use Rattle.std.proofs.Common.{◌≡◌, ℕ, zero, suc, ◌+◌, ◌-◌, ◌*◌, ◌%◌, ◌<◌, ◌≤◌, true, eqb, ltb, List, [], ◌∷◌, length, Ok, refl, ap, ◌∙◌, arith}
 use Rattle.std.specs.Prelude.{map, sum, slice_index, nat_le}
 use Rattle.std.proofs.lemmas.Bool.{and_from, and_parts, ltb-true, leb-true, le-leb, eqb-true}
-use Rattle.om_format.specs.declared.error.DecodeError.{DecodeError}
 use Rattle.om_format.specs.declared.checkpoint_reading.Front.{Front}
 use Rattle.om_format.specs.declared.checkpoint_reading.Head.{Head}
 use Rattle.om_format.specs.declared.checkpoint_reading.Vectors.{Vectors}
@@ -13,8 +12,8 @@ use Rattle.om_format.specs.declared.version.Version.TheVariants.{V1, V2}
 use Rattle.om_format.specs.Formats.{Size, one, two, four, eight, bytes_in, is_body_size}
 use Rattle.om_format.specs.Queues.{QueueRecord, queue_end, is_between, are_entries, all_entries}
 use Rattle.om_format.specs.Versions.{is_kind, is_version, version_of, is_cluster_size}
-use Rattle.om_format.specs.Checkpoints.{CheckpointRecord, IsCheckpoint, is_memory_size}
-use Rattle.om_format.specs.steps.Reading.{◌>>=◌, allow, number_at, numbers_at, opening_at, counted_at, end_at}
+use Rattle.om_format.specs.Checkpoints.{IsCheckpoint, is_memory_size}
+use Rattle.om_format.specs.steps.Reading.{number_at, numbers_at, opening_at, counted_at, end_at}
 use Rattle.om_format.specs.steps.CheckpointReading.{head_at, vectors_at, front_at, memory_at, entry_at, entries_at, queue_at, queues_at, rest_at, checkpoint_of, checkpoint_at}
 use Rattle.om_format.proofs.Holding.{Holds, of_ok, then_holds, any_holds, allow_holds, numbers_hold, counted_hold}
 use Rattle.om_format.proofs.MemoryReading.{memory_hold}

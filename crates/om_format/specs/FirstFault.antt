@@ -19,7 +19,7 @@ first_fault end offset (byte ∷ bytes) = Some Trailing
 first_fault (field size count allowed fault behind) offset bytes =
     if nat_lt (length bytes) (count * bytes_in size) then Some Short
     else if allowed (values_at size count bytes) then
-        first_fault (behind (values_at size count bytes)) (offset + count * bytes_in size) (drop (count * bytes_in size) bytes)
+    first_fault (behind (values_at size count bytes)) (offset + count * bytes_in size) (drop (count * bytes_in size) bytes)
     else Some (fault offset)
 
 -- every field is whole and allowed; bytes may follow the last

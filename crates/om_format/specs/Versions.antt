@@ -1,5 +1,5 @@
 -- The versions of a checkpoint, and its kinds: where they differ.
-use Rattle.std.specs.Prelude.{ℕ, ◌==◌, ◌&&◌, ◌||◌, List, [], ◌∷◌, ◌++◌, length, Bool, nat_le, if◌then◌else◌}
+use Rattle.std.specs.Prelude.{ℕ, ◌==◌, ◌&&◌, ◌||◌, List, [], ◌∷◌, length, Bool, nat_le, if◌then◌else◌}
 use Rattle.std.specs.List.{flat_map}
 use Rattle.om_isa.specs.declared.ext.Ext.{Ext}
 use Rattle.om_isa.specs.declared.ext.Ext.TheVariants.{I, Im}

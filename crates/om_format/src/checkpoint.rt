@@ -35,19 +35,19 @@ pub struct Checkpoint {
     pub outputs: Queue,
     // The values fit each other.
     pub ghost lawful: { IsCheckpoint (record {
-        ext = ext;
-        n = length vec;
-        pid = pid;
-        interval = interval;
-        count = count;
-        pc = pc;
-        regs = regs;
-        vec = vec;
-        got = got;
-        sent = sent;
-        made = made;
-        memory = memory;
-        kept = map queue_record kept.items;
-        outputs = queue_record outputs;
+      ext = ext;
+      n = length vec;
+      pid = pid;
+      interval = interval;
+      count = count;
+      pc = pc;
+      regs = regs;
+      vec = vec;
+      got = got;
+      sent = sent;
+      made = made;
+      memory = memory;
+      kept = map queue_record kept.items;
+      outputs = queue_record outputs;
     }) },
 }

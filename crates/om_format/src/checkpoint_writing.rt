@@ -155,7 +155,8 @@ pub(crate) fn room_for(checkpoint: &Checkpoint, kept: usize) -> usize {
     for queue in &checkpoint.kept {
         room = room.saturating_add(room_for_queue(queue));
     }
-    room.saturating_add(162 + 12 * checkpoint.vec.n()).saturating_add((PAGE + 2).saturating_mul(kept))
+    room.saturating_add(162 + 12 * checkpoint.vec.n())
+        .saturating_add((PAGE + 2).saturating_mul(kept))
 }
 
 // No less than a queue has.

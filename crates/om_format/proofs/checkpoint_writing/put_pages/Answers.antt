@@ -1,7 +1,6 @@
-use Rattle.std.proofs.Common.{◌≡◌, ◌++◌, ℕ, [], ◌∷◌, List, ap, ◌∙◌, sym, append_assoc, arith}
+use Rattle.std.proofs.Common.{◌≡◌, ℕ, List, ap, ◌∙◌, sym}
 use Rattle.std.proofs.lemmas.List.{flat_map_more}
-use Rattle.std.specs.List.{flat_map}
-use Rattle.om_format.specs.Pages.{Page, page_at, is_kept}
+use Rattle.om_format.specs.Pages.{page_at, is_kept}
 use Rattle.om_format.specs.steps.CheckpointBytes.{page_bytes}
 use Rattle.om_format.proofs.KeptPages.{kept_before, one_more_kept, one_more_zero}
 use Rattle.om_format.proofs.checkpoint_writing.put_pages.Goals as goal
