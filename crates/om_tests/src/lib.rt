@@ -5,6 +5,8 @@
 #[cfg(test)]
 mod commands;
 #[cfg(test)]
+mod format;
+#[cfg(test)]
 mod interval;
 #[cfg(test)]
 mod isa;
