@@ -1,12 +1,12 @@
 -- The laws of every format: what is read is spelled so, what is spelled so is read, and what is not read has a first
 -- fault.
-use Rattle.std.proofs.Common.{◌≡◌, ℕ, ◌+◌, ◌*◌, Bool, true, false, cond, ltb, List, [], ◌∷◌, ◌++◌, length, drop, Option, Some, Result, Ok, Err, refl, sym, ap, subst, ◌∙◌, ◌⊎◌, inl, inr}
+use Rattle.std.proofs.Common.{◌≡◌, ℕ, ◌+◌, ◌*◌, Bool, true, false, cond, ltb, List, [], ◌∷◌, ◌++◌, length, drop, Option, Some, None, Result, Ok, Err, refl, sym, ap, subst, ◌∙◌, ◌⊎◌, inl, inr}
 use Rattle.om_format.specs.declared.error.DecodeError.{DecodeError}
 use Rattle.om_format.specs.declared.error.DecodeError.TheVariants.{Short, Kind, Version, Field, Trailing, Memory}
 use Rattle.om_format.specs.Formats.{bytes_in, Format, end, field}
 use Rattle.om_format.specs.Spelling.{numbers, IsField, Spells}
-use Rattle.om_format.specs.FirstFault.{values_at, first_fault}
-use Rattle.om_format.specs.Reading.{◌>>=◌, allow, numbers_at, fields_at}
+use Rattle.om_format.specs.FirstFault.{values_at, first_fault, AreRead}
+use Rattle.om_format.specs.steps.Reading.{◌>>=◌, allow, numbers_at, fields_at, end_at}
 use Rattle.om_format.proofs.Numbers.{IsBytes, numbers_take, numbers_again}
 
 -- the value of a step that did not fail
@@ -68,6 +68,36 @@ faulty (field size count allowed fault behind) offset bytes e h =
     let after = drop k bytes in
     fault_step (ltb (length bytes) k) (values, after) allowed (fault offset) (λ x. fields_at (behind x.0) (offset + k) x.1) (first_fault (behind values) (offset + k) after) e (λ later. faulty (behind values) (offset + k) after e later) h
 
+allow_fine : (is_allowed : Bool) (values : List ℕ) (fault : DecodeError) (more : Result (List (List ℕ)) DecodeError) (next : Option DecodeError) (vs : List (List ℕ)) → ((ws : List (List ℕ)) → more ≡ Ok ws → next ≡ None)
+    → (allow is_allowed fault >>= λ fine. more >>= λ rest. Ok (values ∷ rest)) ≡ Ok vs
+    → cond is_allowed next (Some fault) ≡ None
+allow_fine false values fault more next vs later h = absurd cc
+allow_fine true values fault (Ok rest) next vs later h = later rest refl
+allow_fine true values fault (Err d) next vs later h = absurd cc
+
+fine_step : (short : Bool) (x : List ℕ × List ℕ) (allowed : List ℕ → Bool) (fault : DecodeError) (more : List ℕ × List ℕ → Result (List (List ℕ)) DecodeError) (next : Option DecodeError) (vs : List (List ℕ)) → ((ws : List (List ℕ)) → more x ≡ Ok ws → next ≡ None)
+    → (cond short (Err Short) (Ok x) >>= λ y. allow (allowed y.0) fault >>= λ fine. more y >>= λ rest. Ok (y.0 ∷ rest)) ≡ Ok vs
+    → cond short (Some Short) (cond (allowed x.0) next (Some fault)) ≡ None
+fine_step true x allowed fault more next vs later h = absurd cc
+fine_step false x allowed fault more next vs later h = allow_fine (allowed x.0) x.0 fault (more x) next vs later h
+
+-- what is read has no fault
+pub fine : (format : Format) (offset : ℕ) (bytes : List ℕ) (vs : List (List ℕ)) → fields_at format offset bytes ≡ Ok vs → first_fault format offset bytes ≡ None
+unfolding numbers_at
+fine end offset [] vs h = refl
+fine end offset (byte ∷ bytes) vs h = absurd cc
+fine (field size count allowed fault behind) offset bytes vs h =
+    let k = count * bytes_in size in
+    let values = values_at size count bytes in
+    let after = drop k bytes in
+    fine_step (ltb (length bytes) k) (values, after) allowed (fault offset) (λ x. fields_at (behind x.0) (offset + k) x.1) (first_fault (behind values) (offset + k) after) vs (λ ws later. fine (behind values) (offset + k) after ws later) h
+
+-- all fields are read, whatever follows
+pub read_all : (format : Format) (bytes rest : List ℕ) (vs : List (List ℕ)) → fields_at format 0 bytes ≡ (end_at rest >>= λ u. Ok vs) → AreRead format bytes
+unfolding end_at
+read_all format bytes [] vs h = inl (fine format 0 bytes vs h)
+read_all format bytes (byte ∷ rest) vs h = inr (faulty format 0 bytes Trailing h)
+
 -- a format spells its fields in one way
 pub one_spelling : (format : Format) (fields : List (List ℕ)) (a b : List ℕ) → Spells format fields a → Spells format fields b → a ≡ b
 one_spelling end [] a b p q = p ∙ sym q
@@ -76,11 +106,11 @@ one_spelling (field size count allowed fault behind) [] a b p q = absurd p
 one_spelling (field size count allowed fault behind) (values ∷ fields) a b p q =
     p.2 ∙ ap (λ (x : List ℕ). numbers size values ++ x) (one_spelling (behind values) fields p.1 q.1 p.3 q.3) ∙ sym q.2
 
--- an error is want of memory, or the fault that every other error is
-pub fault_or_memory : (e : DecodeError) (fault : Option DecodeError) → ((e ≡ Memory → ⊥) → fault ≡ Some e) → (e ≡ Memory) ⊎ (fault ≡ Some e)
-fault_or_memory Short fault is = inr (is (λ h. cc))
-fault_or_memory Kind fault is = inr (is (λ h. cc))
-fault_or_memory Version fault is = inr (is (λ h. cc))
-fault_or_memory (Field offset) fault is = inr (is (λ h. cc))
-fault_or_memory Trailing fault is = inr (is (λ h. cc))
-fault_or_memory Memory fault is = inl refl
+-- an error is the one that is due, or want of memory where that may be
+pub fault_or_memory : (e : DecodeError) (fault : Option DecodeError) (P : Type 0) → ((e ≡ Memory → ⊥) → fault ≡ Some e) → (e ≡ Memory → P) → (fault ≡ Some e) ⊎ ((e ≡ Memory) × P)
+fault_or_memory Short fault P is may = inl (is (λ h. cc))
+fault_or_memory Kind fault P is may = inl (is (λ h. cc))
+fault_or_memory Version fault P is may = inl (is (λ h. cc))
+fault_or_memory (Field offset) fault P is may = inl (is (λ h. cc))
+fault_or_memory Trailing fault P is may = inl (is (λ h. cc))
+fault_or_memory Memory fault P is may = inr (refl, may refl)

@@ -1,8 +1,12 @@
 pub mod Numbers
+pub mod KeptPages
 pub mod Formats
 pub mod Parts
+pub mod Holding
 pub mod Receipts
+pub mod Entries
 pub mod Queues
+pub mod MemoryReading
 pub mod Lawful
 pub mod CheckpointSpelling
 pub mod Checkpoints

@@ -13,7 +13,7 @@ use Rattle.om_format.specs.declared.error.DecodeError.TheVariants.{Short}
 use Rattle.om_format.specs.Formats.{Size, one, two, four, eight, bytes_in, width, limit}
 use Rattle.om_format.specs.Spelling.{numbers, IsField}
 use Rattle.om_format.specs.FirstFault.{values_at}
-use Rattle.om_format.specs.Reading.{numbers_at}
+use Rattle.om_format.specs.steps.Reading.{numbers_at}
 
 abbrev pub IsBytes : List ℕ → Type 0
 IsBytes bytes = (i : ℕ) → get_or bytes i 0 < 256

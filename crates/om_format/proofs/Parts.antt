@@ -1,12 +1,12 @@
 -- Reading the parts of a record is reading their fields.
-use Rattle.std.proofs.Common.{eqb, ◌≡◌, ℕ, zero, suc, ◌+◌, ◌*◌, ◌≤◌, Bool, true, false, cond, ltb, List, [], ◌∷◌, length, take, drop, Result, Ok, Err, refl, sym, ap, ◌∙◌, arith, inl, inr}
-use Rattle.std.proofs.lemmas.Bool.{eqb-true, cases_lt, lt-ltb, le-ltb}
+use Rattle.std.proofs.Common.{◌≡◌, ℕ, zero, suc, ◌+◌, ◌*◌, ◌≤◌, Bool, true, false, cond, ltb, List, [], ◌∷◌, length, take, drop, Result, Ok, Err, refl, sym, ap, ◌∙◌, arith, inl, inr}
+use Rattle.std.proofs.lemmas.Bool.{cases_lt, lt-ltb, le-ltb}
 use Rattle.std.proofs.lemmas.List.{length-take-le}
 use Rattle.om_format.specs.declared.error.DecodeError.{DecodeError}
 use Rattle.om_format.specs.declared.error.DecodeError.TheVariants.{Short}
 use Rattle.om_format.specs.Formats.{Size, one, two, four, eight, bytes_in, Format, end, counted, is_body_size, body, opening}
 use Rattle.om_format.specs.FirstFault.{values_at}
-use Rattle.om_format.specs.Reading.{◌>>=◌, allow, numbers_at, number_at, fields_at, opening_at, counted_at, body_at, end_at}
+use Rattle.om_format.specs.steps.Reading.{◌>>=◌, allow, numbers_at, number_at, bytes_at, fields_at, opening_at, counted_at, body_at, end_at}
 
 pub bind_assoc : {A B C : Type 0} (r : Result A DecodeError) (f : A → Result B DecodeError) (g : B → Result C DecodeError) → ((r >>= f) >>= g) ≡ (r >>= λ x. f x >>= g)
 bind_assoc (Ok x) f g = refl
@@ -56,12 +56,15 @@ taken n bytes f g same =
       | inr long ↦ (let a : ltb (length bytes) n ≡ false = le-ltb _ _ long in rw a (same long))
     ]
 
-counted_values : (behind : Format) (offset width n : ℕ) (bytes : List ℕ) → n ≤ length bytes
-    → (fields_at behind (offset + width + n * 1) (drop n bytes) >>= λ rest. Ok ((n ∷ []) ∷ take n bytes ∷ rest)) ≡ (fields_at behind (offset + width + length (take n bytes)) (drop n bytes) >>= λ rest. Ok ((length (take n bytes) ∷ []) ∷ take n bytes ∷ rest))
-counted_values behind offset width n bytes long =
-    let same : n * 1 ≡ n = omega arith in
-    let len : length (take n bytes) ≡ n = length-take-le n bytes long in
-    rw (same, len) refl
+-- so many bytes
+pub bytes_is : (n : ℕ) (bytes : List ℕ) → numbers_at one n bytes ≡ bytes_at n bytes
+unfolding bytes_at
+bytes_is n bytes = many_bytes n bytes
+
+-- what is known of what was read
+pub bytes_same : {B : Type 0} (n : ℕ) (bytes : List ℕ) (f g : List ℕ × List ℕ → Result B DecodeError) → ((x : List ℕ × List ℕ) → length x.0 ≡ n → f x ≡ g x) → (bytes_at n bytes >>= f) ≡ (bytes_at n bytes >>= g)
+unfolding bytes_at
+bytes_same n bytes f g same = taken n bytes f g (λ long. same (take n bytes, drop n bytes) (length-take-le n bytes long))
 
 -- a length, so many bytes, and what comes behind them
 pub counted_is : (size : Size) (allowed : ℕ → Bool) (behind : Format) (offset : ℕ) (bytes : List ℕ)
@@ -69,22 +72,16 @@ pub counted_is : (size : Size) (allowed : ℕ → Bool) (behind : Format) (offse
 unfolding counted counted_at
 counted_is size allowed behind offset bytes =
     let one_wide : 1 * bytes_in size ≡ bytes_in size = omega arith in
-    rw one_wide (simp (one_number, many_bytes, bind_assoc) (bind_same (number_at size bytes) _ _ (λ len. bind_same (allow _ _) _ _ (λ fine. taken len.0 len.1 _ _ (λ long. counted_values behind offset (bytes_in size) len.0 len.1 long)))))
+    rw one_wide (simp (one_number, bytes_is, bind_assoc) (bind_same (number_at size bytes) _ _ (λ len. bind_same (allow _ _) _ _ (λ fine. bytes_same len.0 len.1 _ _ (λ x len_is. rw len_is (let same : len.0 * 1 ≡ len.0 = omega arith in rw same refl))))))
 
 -- a body that comes last
 pub last_body_is : (offset : ℕ) (bytes : List ℕ) → fields_at (body end) offset bytes ≡ (body_at offset bytes >>= λ b. end_at b.1 >>= λ u. Ok ((length b.0 ∷ []) ∷ b.0 ∷ []))
 last_body_is offset bytes =
     counted_is two is_body_size end offset bytes ∙ bind_same (body_at offset bytes) _ _ (λ b. ap (λ (r : Result (List (List ℕ)) DecodeError). r >>= λ rest. Ok ((length b.0 ∷ []) ∷ b.0 ∷ rest)) (ends (offset + 2 + length b.0) b.1) ∙ bind_assoc (end_at b.1) _ _)
 
-known : {B : Type 0} (n m : ℕ) (d : DecodeError) (f g : Unit {0} → Result B DecodeError) → (n ≡ m → f tt ≡ g tt) → (allow (eqb n m) d >>= f) ≡ (allow (eqb n m) d >>= g)
-known n m d f g same = known_by (eqb n m) d f g (λ h. same (eqb-true n m h))
-  where
-    known_by : {B : Type 0} (b : Bool) (d : DecodeError) (f g : Unit {0} → Result B DecodeError) → (b ≡ true → f tt ≡ g tt) → (allow b d >>= f) ≡ (allow b d >>= g)
-    known_by true d f g same = same refl
-    known_by false d f g same = refl
-
 -- kind and version, and what comes behind them
-pub opening_is : (kind version : ℕ) (behind : Format) (offset : ℕ) (bytes : List ℕ) → fields_at (opening kind version behind) offset bytes ≡ (opening_at kind version bytes >>= λ rest. fields_at behind (offset + 1 + 1) rest >>= λ vs. Ok ((kind ∷ []) ∷ (version ∷ []) ∷ vs))
+pub opening_is : (is_kind is_version : ℕ → Bool) (behind : ℕ → Format) (offset : ℕ) (bytes : List ℕ)
+    → fields_at (opening is_kind is_version behind) offset bytes
+    ≡ (opening_at is_kind is_version bytes >>= λ x. fields_at (behind x.1) (offset + 1 + 1) x.2 >>= λ vs. Ok ((x.0 ∷ []) ∷ (x.1 ∷ []) ∷ vs))
 unfolding opening opening_at
-opening_is kind version behind offset bytes =
-    simp (one_number, bind_assoc) (bind_same (number_at one bytes) _ _ (λ k. known k.0 kind _ _ _ (λ same_kind. bind_same (number_at one k.1) _ _ (λ v. known v.0 version _ _ _ (λ same_version. rw (same_kind, same_version) refl)))))
+opening_is is_kind is_version behind offset bytes = simp (one_number, bind_assoc)

@@ -5,11 +5,11 @@ use Rattle.std.specs.List.{flat_map}
 use Rattle.om_format.specs.declared.error.DecodeError.{DecodeError}
 use Rattle.om_format.specs.Formats.{Size, two, four, bytes_in, Format, end, is_body_size}
 use Rattle.om_format.specs.Queues.{entries, queue, queues, entry_values, queue_values}
-use Rattle.om_format.specs.Reading.{◌>>=◌, allow, number_at, fields_at, counted_at, end_at}
-use Rattle.om_format.specs.CheckpointReading.{entry_at, entries_at, queue_at, queues_at}
+use Rattle.om_format.specs.steps.Reading.{◌>>=◌, allow, number_at, fields_at, counted_at, end_at}
+use Rattle.om_format.specs.steps.CheckpointReading.{entry_at, entries_at, queue_at, queues_at}
 use Rattle.om_format.proofs.Parts.{one_number, counted_is, ends, bind_assoc, bind_same}
 
-bind_done : {A : Type 0} (r : Result A DecodeError) → r ≡ (r >>= λ x. Ok x)
+pub bind_done : {A : Type 0} (r : Result A DecodeError) → r ≡ (r >>= λ x. Ok x)
 bind_done (Ok x) = refl
 bind_done (Err d) = refl
 

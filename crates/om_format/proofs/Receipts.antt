@@ -1,26 +1,40 @@
 -- Reading a receipt is reading the fields of its format.
-use Rattle.std.proofs.Common.{lit<, ◌≡◌, ℕ, ◌<◌, ◌≤◌, Bool, true, List, [], ◌∷◌, ◌++◌, length, Some, Result, Ok, Err, refl, sym, ap, subst, ◌∙◌, arith}
-use Rattle.std.proofs.lemmas.Bool.{le-leb, lt-ltb}
+use Rattle.std.proofs.Common.{lit<, ◌≡◌, ℕ, ◌<◌, ◌≤◌, Bool, true, List, [], ◌∷◌, ◌++◌, length, Some, Result, Ok, Err, refl, sym, ap, subst, ◌∙◌, arith, ◌⊎◌, inl, inr}
+use Rattle.std.proofs.lemmas.Bool.{le-leb, lt-ltb, eqb-true, false≢true}
 use Rattle.std.proofs.lemmas.List.{append-nil}
 use Rattle.om_format.specs.declared.error.DecodeError.{DecodeError}
 use Rattle.om_format.specs.declared.error.DecodeError.TheVariants.{Memory}
 use Rattle.om_format.specs.declared.receipt.Receipt.{Receipt}
-use Rattle.std.specs.Prelude.{IfOk, IfErr, ◌⊎◌}
+use Rattle.std.specs.Prelude.{IfOk, IfErr}
 use Rattle.std.specs.declared.alloc.AllocError.{AllocError}
 use Rattle.std.specs.Global.{Vec}
 use Rattle.std.specs.Int.{w16, w32, w64, to_le_bytes}
 use Rattle.om_format.specs.Formats.{any, Size, one, two, four, eight, limit, Format, end, counted, body, opening}
 use Rattle.om_format.specs.declared.limits.TheConstants.{MAX_BODY, RECEIPT_KIND, RECEIPT_VERSION}
 use Rattle.om_format.specs.Spelling.{IsField, numbers, Spells}
-use Rattle.om_format.specs.Receipts.{ReceiptRecord, receipt_record, receipt_format, receipt_values, receipt_bytes, IsReceipt, SpellsReceipt, receipt_fault}
-use Rattle.om_format.specs.Reading.{◌>>=◌, Gives, fields_at, pid_at, receipt_at}
+use Rattle.om_format.specs.Receipts.{ReceiptRecord, receipt_record, receipt_format, receipt_values, SpellsReceipt, receipt_fault}
+use Rattle.om_format.specs.steps.ReceiptBytes.{receipt_bytes, IsReceipt}
+use Rattle.om_format.specs.Outcomes.{Gives}
+use Rattle.om_format.specs.FirstFault.{AreRead}
+use Rattle.om_format.specs.steps.Reading.{◌>>=◌, fields_at, opening_at, end_at, pid_at, receipt_fields_at, receipt_at}
 use Rattle.om_format.proofs.Numbers.{IsBytes, within_bytes, numbers-bytes}
 use Rattle.om_format.proofs.Parts.{one_number, last_body_is, opening_is, bind_assoc}
-use Rattle.om_format.proofs.Formats.{bind_ok, ok_is, found, again, faulty, fault_or_memory}
+use Rattle.om_format.proofs.Formats.{bind_ok, ok_is, found, again, faulty, read_all, fault_or_memory}
+use Rattle.om_format.proofs.Holding.{holding_same, opening_hold}
+use Rattle.std.specs.Prelude.{◌==◌, IsOk}
 
 pub receipt_is : (bytes : List ℕ) → fields_at receipt_format 0 bytes ≡ (receipt_at bytes >>= λ r. Ok (receipt_values r))
-unfolding receipt_format receipt_at pid_at
-receipt_is bytes = simp (opening_is, one_number, last_body_is, bind_assoc)
+unfolding receipt_format receipt_at receipt_fields_at pid_at
+receipt_is bytes =
+    simp (opening_is, one_number, last_body_is, bind_assoc) (holding_same (λ x. ((x.0 == RECEIPT_KIND) ≡ true) × ((x.1 == RECEIPT_VERSION) ≡ true)) (opening_at (λ kind. kind == RECEIPT_KIND) (λ version. version == RECEIPT_VERSION) bytes) _ _ (opening_hold (λ kind. kind == RECEIPT_KIND) (λ version. version == RECEIPT_VERSION) bytes) (λ x h.
+    (let kind : x.0 ≡ RECEIPT_KIND = eqb-true _ _ h.0 in
+    let version : x.1 ≡ RECEIPT_VERSION = eqb-true _ _ h.1 in
+    rw (kind, version) refl)))
+
+-- its fields, and then the end
+receipt_fields : (bytes : List ℕ) → fields_at receipt_format 0 bytes ≡ (receipt_fields_at bytes >>= λ x. end_at x.1 >>= λ u. Ok (receipt_values x.0))
+unfolding receipt_at
+receipt_fields bytes = receipt_is bytes ∙ simp bind_assoc
 
 made : ℕ → ℕ → ℕ → ℕ → ℕ → ℕ → List ℕ → ReceiptRecord
 made to from interval sender_interval ssn count body = record { to = to; from = from; interval = interval; sender_interval = sender_interval; ssn = ssn; count = count; body = body }
@@ -58,9 +72,25 @@ module _ (bytes : List ℕ) where
   is_found (Ok v) fits given = receipt_found (receipt_record v) fits given
   is_found (Err e) fits given = tt
 
-  pub is_faulty : (r : Result Receipt DecodeError) → Gives receipt_record r (receipt_at bytes) → IfErr r (λ e. (e ≡ Memory) ⊎ (receipt_fault bytes ≡ Some e))
-  is_faulty (Ok v) given = tt
-  is_faulty (Err e) given = fault_or_memory e (receipt_fault bytes) (λ other. receipt_faulty e (given other))
+  fields_read : (r : Result (ReceiptRecord × List ℕ) DecodeError) → receipt_fields_at bytes ≡ r → IsOk r → AreRead receipt_format bytes
+  fields_read (Ok x) e ok = read_all receipt_format bytes x.1 (receipt_values x.0) (receipt_fields bytes ∙ ap (λ (r : Result (ReceiptRecord × List ℕ) DecodeError). r >>= λ y. end_at y.1 >>= λ u. Ok (receipt_values y.0)) e)
+  fields_read (Err d) e ok = absurd (false≢true ok)
+
+  pub is_faulty : (r : Result Receipt DecodeError) → Gives receipt_record r (receipt_at bytes) → IfErr r (λ e. e ≡ Memory → IsOk (receipt_fields_at bytes)) → IfErr r (λ e. (receipt_fault bytes ≡ Some e) ⊎ ((e ≡ Memory) × AreRead receipt_format bytes))
+  is_faulty (Ok v) given may = tt
+  is_faulty (Err e) given may = fault_or_memory e (receipt_fault bytes) (AreRead receipt_format bytes) (λ other. receipt_faulty e (given other)) (λ h. fields_read (receipt_fields_at bytes) refl (may h))
+
+  -- bytes are spelled or have a first fault
+  pub receipt_or_fault : IsBytes bytes → ((r : ReceiptRecord) × SpellsReceipt r bytes) ⊎ ((e : DecodeError) × (receipt_fault bytes ≡ Some e))
+  receipt_or_fault fits = by_reading (receipt_at bytes) refl
+    where
+      by_reading : (x : Result ReceiptRecord DecodeError) → receipt_at bytes ≡ x → ((r : ReceiptRecord) × SpellsReceipt r bytes) ⊎ ((e : DecodeError) × (receipt_fault bytes ≡ Some e))
+      by_reading (Ok r) h = inl (r, receipt_found r fits h)
+      by_reading (Err e) h = inr (e, receipt_faulty e h)
+
+  -- bytes spell at most one
+  pub one_receipt : (r s : ReceiptRecord) → SpellsReceipt r bytes → SpellsReceipt s bytes → r ≡ s
+  one_receipt r s p q = ok_is r s (sym (receipt_again r p) ∙ receipt_again s q)
 
 -- ---- writing
 

@@ -1,17 +1,21 @@
 -- Checkpoints: what they are, their format, and what bytes spell one.
 use Rattle.std.specs.Prelude.{◌≡◌, ℕ, ◌%◌, ◌<◌, ◌≤◌, ◌==◌, ◌&&◌, List, [], ◌∷◌, ◌++◌, length, map, sum, slice_index, Option, Bool, true, nat_lt, nat_le}
 use Rattle.std.specs.List.{flat_map}
-use Rattle.om_interval.specs.declared.pid.TheConstants.{MAX_PROCESSES}
+use Rattle.om_isa.specs.declared.ext.Ext.{Ext}
 use Rattle.om_format.specs.declared.error.DecodeError.{DecodeError}
 use Rattle.om_format.specs.declared.error.DecodeError.TheVariants.{Field}
-use Rattle.om_format.specs.declared.limits.TheConstants.{CHECKPOINT_KIND, CHECKPOINT_VERSION, MIN_MEMORY, MAX_MEMORY, REGISTERS}
-use Rattle.om_format.specs.Formats.{one, four, eight, Format, end, field, any, number, counted, opening}
+use Rattle.om_format.specs.declared.limits.TheConstants.{MIN_MEMORY, MAX_MEMORY, REGISTERS}
+use Rattle.om_format.specs.declared.version.Version.{Version}
+use Rattle.om_format.specs.declared.version.Version.TheVariants.{V2}
+use Rattle.om_format.specs.Formats.{one, four, eight, Format, end, field, any, number, opening}
 use Rattle.om_format.specs.Spelling.{Spells}
-use Rattle.om_format.specs.FirstFault.{first_fault}
+use Rattle.om_format.specs.FirstFault.{first_fault, AreRead}
 use Rattle.om_format.specs.Queues.{QueueRecord, queue_end, queue, queues, queue_values, are_entries, all_entries}
+use Rattle.om_format.specs.Versions.{kind_of, is_kind, number_of, is_version, version_of, is_cluster_size, memory_in, before_memory, memory_values}
 
 -- a checkpoint without where it lies in memory: of n processes
 pub record CheckpointRecord : Type 0 where
+  pub ext : Ext
   pub n : ℕ
   pub pid : ℕ
   pub interval : ℕ
@@ -26,19 +30,16 @@ pub record CheckpointRecord : Type 0 where
   pub kept : List QueueRecord
   pub outputs : QueueRecord
 
--- numbers of processes
-abbrev pub is_cluster_size : ℕ → Bool
-is_cluster_size n = nat_le 1 n && nat_le n MAX_PROCESSES
-
 -- lengths of a memory
 abbrev pub is_memory_size : ℕ → Bool
 is_memory_size size = nat_le MIN_MEMORY size && nat_le size MAX_MEMORY && size % MIN_MEMORY == 0
 
--- the fields of a checkpoint, from the left
-unfoldable pub checkpoint_format : Format
-checkpoint_format =
-    opening CHECKPOINT_KIND CHECKPOINT_VERSION (
-    number one is_cluster_size λ n.
+-- The fields of a checkpoint from the left, up to the size of its memory. What comes behind depends on the version, the
+-- interval, the numbers of messages sent and of outputs made, and that size.
+unfoldable pub front : (Version → ℕ → List ℕ → ℕ → ℕ → Format) → Format
+front behind =
+    opening is_kind is_version λ found.
+    number one (is_cluster_size (version_of found)) λ n.
     number one (λ pid. nat_lt pid n) λ pid.
     number four any λ interval.
     number eight (λ count. nat_le interval count) λ count.
@@ -48,32 +49,48 @@ checkpoint_format =
     field four n (λ got. sum got == interval) Field λ _.
     field four n any Field λ sent.
     number eight (λ made. nat_le made count) λ made.
-    counted four is_memory_size (
+    number four is_memory_size λ size.
+    behind (version_of found) interval sent made size
+
+-- all fields of a checkpoint
+unfoldable pub checkpoint_format : Format
+checkpoint_format = front λ version interval sent made size.
+    memory_in version size (
     queues interval sent (
-    queue eight interval made end)))
+    queue eight interval made end))
 
 -- the values of these fields
-abbrev pub checkpoint_values : CheckpointRecord → List (List ℕ)
-checkpoint_values r =
-    (CHECKPOINT_KIND ∷ []) ∷ (CHECKPOINT_VERSION ∷ []) ∷ (r.n ∷ []) ∷ (r.pid ∷ []) ∷ (r.interval ∷ []) ∷ (r.count ∷ []) ∷ (r.pc ∷ []) ∷ r.regs ∷ r.vec ∷ r.got ∷ r.sent ∷ (r.made ∷ []) ∷ (length r.memory ∷ []) ∷ r.memory ∷ (flat_map queue_values r.kept ++ queue_values r.outputs)
+abbrev pub checkpoint_values : Version → CheckpointRecord → List (List ℕ)
+checkpoint_values version r =
+    (kind_of r.ext ∷ []) ∷ (number_of version ∷ []) ∷ (r.n ∷ []) ∷ (r.pid ∷ []) ∷ (r.interval ∷ []) ∷ (r.count ∷ [])
+    ∷ (r.pc ∷ []) ∷ r.regs ∷ r.vec ∷ r.got ∷ r.sent ∷ (r.made ∷ []) ∷ (length r.memory ∷ [])
+    ∷ (memory_values version r.memory ++ (flat_map queue_values r.kept ++ queue_values r.outputs))
 
 -- each queue ends at the number of messages sent, or of outputs made
 pub record AreEnded (r : CheckpointRecord) : Type 0 where
   pub kept : map queue_end r.kept ≡ r.sent
   pub outputs : queue_end r.outputs ≡ r.made
 
--- the bytes are the checkpoint's fields, one after the other, each within its bytes and allowed
-pub record SpellsCheckpoint (r : CheckpointRecord) (bytes : List ℕ) : Type 0 where
-  pub fields : Spells checkpoint_format (checkpoint_values r) bytes
+-- in this version the bytes are the checkpoint's fields, one after the other, each within its bytes and allowed
+pub record SpellsCheckpoint (version : Version) (r : CheckpointRecord) (bytes : List ℕ) : Type 0 where
+  pub fields : Spells checkpoint_format (checkpoint_values version r) bytes
   pub ended : AreEnded r
+
+-- in one of the versions
+abbrev pub IsSpelled : CheckpointRecord → List ℕ → Type 0
+IsSpelled r bytes = (version : Version) × SpellsCheckpoint version r bytes
 
 -- the first fault of bytes that spell no checkpoint
 abbrev pub checkpoint_fault : List ℕ → Option DecodeError
 checkpoint_fault bytes = first_fault checkpoint_format 0 bytes
 
+-- the fields before the bytes of the memory are whole and allowed
+abbrev pub IsFrontRead : List ℕ → Type 0
+IsFrontRead bytes = AreRead (front λ version interval sent made size. before_memory version size) bytes
+
 -- what holds of every checkpoint, beside the ranges of its numbers
 pub record IsCheckpoint (r : CheckpointRecord) : Type 0 where
-  pub n : is_cluster_size r.n ≡ true
+  pub n : is_cluster_size V2 r.n ≡ true
   pub pid : r.pid < r.n
   pub count : r.interval ≤ r.count
   pub pc : r.pc % 4 ≡ 0

@@ -1,5 +1,5 @@
 -- The format of a record: its fields from the left.
-use Rattle.std.specs.Prelude.{ℕ, ◌^◌, ◌==◌, List, slice_index, Bool, true, nat_le}
+use Rattle.std.specs.Prelude.{ℕ, ◌^◌, List, slice_index, Bool, true, nat_le}
 use Rattle.std.specs.Int.{Width, w8, w16, w32, w64}
 use Rattle.om_format.specs.declared.limits.TheConstants.{MAX_BODY}
 use Rattle.om_format.specs.declared.error.DecodeError.{DecodeError}
@@ -45,7 +45,8 @@ any value = true
 
 -- a field of one number, with its own fault
 abbrev pub number_or : (ℕ → DecodeError) → Size → (ℕ → Bool) → (ℕ → Format) → Format
-number_or fault size allowed behind = field size 1 (λ values. allowed (slice_index values 0)) fault (λ values. behind (slice_index values 0))
+number_or fault size allowed behind =
+    field size 1 (λ values. allowed (slice_index values 0)) fault (λ values. behind (slice_index values 0))
 
 -- a field of one number
 abbrev pub number : Size → (ℕ → Bool) → (ℕ → Format) → Format
@@ -67,9 +68,8 @@ is_body_size len = nat_le len MAX_BODY
 abbrev pub body : Format → Format
 body behind = counted two is_body_size behind
 
--- a field of a kind, and one of a version
-unfoldable pub opening : ℕ → ℕ → Format → Format
-opening kind version behind =
-    number_or (λ _. Kind) one (λ found. found == kind) λ _.
-    number_or (λ _. Version) one (λ found. found == version) λ _.
-    behind
+-- a field of a kind, and one of a version, on which the fields behind may depend
+unfoldable pub opening : (ℕ → Bool) → (ℕ → Bool) → (ℕ → Format) → Format
+opening is_kind is_version behind =
+    number_or (λ _. Kind) one is_kind λ _.
+    number_or (λ _. Version) one is_version behind

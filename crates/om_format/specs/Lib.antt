@@ -1,10 +1,11 @@
 pub mod Formats
 pub mod Spelling
 pub mod FirstFault
+pub mod Outcomes
 pub mod Receipts
-pub mod Reading
 pub mod Queues
+pub mod Pages
+pub mod Versions
 pub mod Checkpoints
-pub mod CheckpointReading
 pub mod CheckpointViews
-pub mod CheckpointBytes
+pub mod steps

@@ -1,9 +1,8 @@
 -- Receipts: what they are, their format, and what bytes spell one.
-use Rattle.std.specs.Prelude.{ℕ, List, [], ◌∷◌, ◌++◌, ◌<◌, ◌≤◌, ◌^◌, slice_index, length, Option, nat_lt, nat_le}
-use Rattle.std.specs.Int.{w16, w32, w64, to_le_bytes}
+use Rattle.std.specs.Prelude.{ℕ, ◌==◌, List, [], ◌∷◌, length, Option, nat_lt, nat_le}
 use Rattle.om_interval.specs.declared.pid.TheConstants.{MAX_PROCESSES}
 use Rattle.om_format.specs.declared.error.DecodeError.{DecodeError}
-use Rattle.om_format.specs.declared.limits.TheConstants.{MAX_BODY, RECEIPT_KIND, RECEIPT_VERSION}
+use Rattle.om_format.specs.declared.limits.TheConstants.{RECEIPT_KIND, RECEIPT_VERSION}
 use Rattle.om_format.specs.declared.receipt.Receipt.{Receipt}
 use Rattle.om_format.specs.Formats.{one, four, eight, Format, end, any, number, body, opening}
 use Rattle.om_format.specs.Spelling.{Spells}
@@ -21,24 +20,33 @@ pub record ReceiptRecord : Type 0 where
 
 -- what is seen of a receipt
 abbrev pub receipt_record : Receipt → ReceiptRecord
-receipt_record r = record { to = r.to; from = r.from; interval = r.interval; sender_interval = r.sender_interval; ssn = r.ssn; count = r.count; body = r.body }
+receipt_record r = record {
+  to = r.to;
+  from = r.from;
+  interval = r.interval;
+  sender_interval = r.sender_interval;
+  ssn = r.ssn;
+  count = r.count;
+  body = r.body;
+}
 
 -- the fields of a receipt, from the left
 unfoldable pub receipt_format : Format
 receipt_format =
-    opening RECEIPT_KIND RECEIPT_VERSION (
+    opening (λ kind. kind == RECEIPT_KIND) (λ version. version == RECEIPT_VERSION) λ _.
     number one (λ to. nat_lt to MAX_PROCESSES) λ _.
     number one (λ from. nat_lt from MAX_PROCESSES) λ _.
     number four (λ interval. nat_le 1 interval) λ interval.
     number four any λ _.
     number four (λ ssn. nat_lt ssn interval) λ _.
     number eight any λ _.
-    body end)
+    body end
 
 -- the values of these fields
 abbrev pub receipt_values : ReceiptRecord → List (List ℕ)
 receipt_values r =
-    (RECEIPT_KIND ∷ []) ∷ (RECEIPT_VERSION ∷ []) ∷ (r.to ∷ []) ∷ (r.from ∷ []) ∷ (r.interval ∷ []) ∷ (r.sender_interval ∷ []) ∷ (r.ssn ∷ []) ∷ (r.count ∷ []) ∷ (length r.body ∷ []) ∷ r.body ∷ []
+    (RECEIPT_KIND ∷ []) ∷ (RECEIPT_VERSION ∷ []) ∷ (r.to ∷ []) ∷ (r.from ∷ []) ∷ (r.interval ∷ [])
+    ∷ (r.sender_interval ∷ []) ∷ (r.ssn ∷ []) ∷ (r.count ∷ []) ∷ (length r.body ∷ []) ∷ r.body ∷ []
 
 -- the bytes are the receipt's fields, one after the other, each within its bytes and allowed
 abbrev pub SpellsReceipt : ReceiptRecord → List ℕ → Type 0
@@ -47,19 +55,3 @@ SpellsReceipt r bytes = Spells receipt_format (receipt_values r) bytes
 -- the first fault of bytes that spell no receipt
 abbrev pub receipt_fault : List ℕ → Option DecodeError
 receipt_fault bytes = first_fault receipt_format 0 bytes
-
--- these fields, one after the other
-abbrev pub receipt_bytes : ReceiptRecord → List ℕ
-receipt_bytes r =
-    (RECEIPT_KIND ∷ RECEIPT_VERSION ∷ []) ++ (r.to ∷ r.from ∷ []) ++ to_le_bytes w32 r.interval ++ to_le_bytes w32 r.sender_interval ++ to_le_bytes w32 r.ssn ++ to_le_bytes w64 r.count ++ to_le_bytes w16 (length r.body) ++ r.body
-
--- what holds of every receipt: its fields are within their bytes and allowed
-pub record IsReceipt (r : ReceiptRecord) : Type 0 where
-  pub to : r.to < MAX_PROCESSES
-  pub from : r.from < MAX_PROCESSES
-  pub interval : r.interval < 2 ^ 32
-  pub sender_interval : r.sender_interval < 2 ^ 32
-  pub ssn : r.ssn < r.interval
-  pub count : r.count < 2 ^ 64
-  pub len : length r.body ≤ MAX_BODY
-  pub body : (i : ℕ) → slice_index r.body i < 256

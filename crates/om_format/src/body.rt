@@ -1,7 +1,11 @@
-ghost use Rattle.std.specs.Prelude.{◌≡◌, ℕ, ◌≤◌, List, length, vec_len};
+ghost use Rattle.std.specs.Prelude.{◌≡◌, ℕ, ◌≤◌, List, IfOk, length, vec_len, nat_eq};
+ghost use Rattle.std.specs.Cmp.Lexicographic.{pointwise};
+ghost use Rattle.std.specs.Cmp.Rules.{comparing};
+ghost use Rattle.std.proofs.Common.{rules};
 ghost use Rattle.om_format.specs.declared.limits.TheConstants.{MAX_BODY};
 
 use crate::limits::MAX_BODY;
+use std::alloc::{AllocError, Global};
 use std::marker::Model;
 
 /// The bytes of a message or of an output: at most `MAX_BODY`.
@@ -42,4 +46,26 @@ impl Body {
     {
         &self.bytes
     }
+
+    /// The same body, in memory of its own.
+    pub fn copy(&self, alloc: Global) -> Result<Body, AllocError>
+        ensures { IfOk result (λ copy. copy ≡ self.now) }
+    {
+        let bytes = Vec::from_slice(alloc, &self.bytes)?;
+        Ok(Body { bytes })
+    }
+}
+
+impl PartialEq for Body {
+    ghost eq = { pointwise nat_eq };
+
+    ghost laws = { Prim.search (comparing, rules) };
+
+    fn eq(&self, other: &Body) -> bool {
+        self.as_slice() == other.as_slice()
+    }
+}
+
+impl Eq for Body {
+    ghost laws = { Prim.search (comparing, rules) };
 }

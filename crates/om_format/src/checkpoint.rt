@@ -6,10 +6,13 @@ use crate::limits::REGISTERS;
 use crate::memory::MemoryBytes;
 use crate::queue::Queue;
 use om_interval::{DepVec, Pid};
+use om_isa::Ext;
 
 /// The state of a process in an interval.
 #[derive(Debug, Drop)]
 pub struct Checkpoint {
+    /// The instructions that the program may use.
+    pub ext: Ext,
     pub pid: Pid,
     pub interval: u32,
     /// How many instructions were finished.
@@ -31,5 +34,20 @@ pub struct Checkpoint {
     /// The outputs that are kept.
     pub outputs: Queue,
     // The values fit each other.
-    pub ghost lawful: { IsCheckpoint (record { n = length vec; pid = pid; interval = interval; count = count; pc = pc; regs = regs; vec = vec; got = got; sent = sent; made = made; memory = memory; kept = map queue_record kept.items; outputs = queue_record outputs }) },
+    pub ghost lawful: { IsCheckpoint (record {
+      ext = ext;
+      n = length vec;
+      pid = pid;
+      interval = interval;
+      count = count;
+      pc = pc;
+      regs = regs;
+      vec = vec;
+      got = got;
+      sent = sent;
+      made = made;
+      memory = memory;
+      kept = map queue_record kept.items;
+      outputs = queue_record outputs;
+    }) },
 }

@@ -2,24 +2,39 @@
 
 ghost use Rattle.std.specs.Prelude.{◌≡◌, ◌<◌, ◌≤◌, ◌^◌, ◌++◌, ℕ, OnOk, length, map, slice_index};
 ghost use Rattle.std.specs.List.{flat_map};
-ghost use Rattle.om_format.specs.CheckpointBytes.{front_bytes, vector_bytes, memory_bytes, entry_bytes, message_bytes, output_bytes, AreWords};
+ghost use Rattle.om_format.specs.steps.CheckpointBytes.{head_bytes, vector_bytes, page_bytes, memory_bytes, entry_bytes, message_bytes, output_bytes, AreWords};
 ghost use Rattle.om_format.specs.CheckpointViews.{checkpoint_record};
 ghost use Rattle.om_format.specs.Formats.{four};
 ghost use Rattle.om_format.specs.Queues.{queue_record};
 ghost use Rattle.om_format.specs.Spelling.{numbers};
+ghost use Rattle.om_format.specs.Pages.{page_count, kept_pages};
+ghost use Rattle.om_format.specs.Versions.{kind_of};
+ghost use Rattle.om_format.specs.declared.limits.TheConstants.{MAX_MEMORY};
 
 use crate::checkpoint::Checkpoint;
-use crate::limits::{CHECKPOINT_KIND, CHECKPOINT_VERSION};
+use crate::limits::{CHECKPOINT_KIND, CHECKPOINT_KIND_M, CHECKPOINT_VERSION_2, PAGE};
+use crate::pages::{count_kept, is_kept, page_count, page_of};
 use crate::queue::{Entry, Queue};
+use om_isa::Ext;
 use std::alloc::AllocError;
 
-pub(crate) fn put_front(out: &mut Vec<u8>, checkpoint: &Checkpoint) -> Result<(), AllocError>
-    ensures bytes { OnOk result (out.new.items ≡ out.old.items ++ front_bytes (checkpoint_record checkpoint.now)) }
+// The kind of a checkpoint tells which instructions its program may use.
+fn kind_of(ext: Ext) -> u8
+    ensures { result ≡ kind_of ext }
+{
+    match ext {
+        Ext::I => CHECKPOINT_KIND,
+        Ext::Im => CHECKPOINT_KIND_M,
+    }
+}
+
+pub(crate) fn put_head(out: &mut Vec<u8>, checkpoint: &Checkpoint) -> Result<(), AllocError>
+    ensures bytes { OnOk result (out.new.items ≡ out.old.items ++ head_bytes (checkpoint_record checkpoint.now)) }
     ensures interval { OnOk result (checkpoint.now.interval < 2 ^ 32) }
     ensures count { OnOk result (checkpoint.now.count < 2 ^ 64) }
     ensures pc { OnOk result (checkpoint.now.pc < 2 ^ 32) }
 {
-    out.extend_from_slice(&[CHECKPOINT_KIND, CHECKPOINT_VERSION])?;
+    out.extend_from_slice(&[kind_of(checkpoint.ext), CHECKPOINT_VERSION_2])?;
     out.extend_from_slice(&[checkpoint.vec.n() as u8, checkpoint.pid.index() as u8])?;
     out.extend_from_slice(&checkpoint.interval.to_le_bytes())?;
     out.extend_from_slice(&checkpoint.count.to_le_bytes())?;
@@ -51,13 +66,46 @@ pub(crate) fn put_vectors(out: &mut Vec<u8>, checkpoint: &Checkpoint) -> Result<
     Ok(())
 }
 
-pub(crate) fn put_memory(out: &mut Vec<u8>, made: u64, memory: &[u8]) -> Result<(), AllocError>
-    requires { length memory.now < 2 ^ 32 }
+// A page of a memory that has this index.
+fn put_page(out: &mut Vec<u8>, index: usize, page: &[u8]) -> Result<(), AllocError>
+    requires { index < 2 ^ 16 }
+    ensures { OnOk result (out.new.items ≡ out.old.items ++ page_bytes (record { index = index; bytes = page.now })) }
+{
+    out.extend_from_slice(&(index as u16).to_le_bytes())?;
+    out.extend_from_slice(page)?;
+    Ok(())
+}
+
+// The pages of a memory that are not all zero.
+fn put_pages(out: &mut Vec<u8>, memory: &[u8]) -> Result<(), AllocError>
+    requires { length memory.now ≤ MAX_MEMORY }
+    ensures { OnOk result (out.new.items ≡ out.old.items ++ flat_map page_bytes (kept_pages memory.now)) }
+{
+    for index in 0..page_count(memory.len()) {
+        let page = page_of(memory, index);
+        if is_kept(page) {
+            put_page(out, index, page)?;
+        }
+    }
+    Ok(())
+}
+
+// The number of outputs, and the memory, of which so many pages are kept.
+pub(crate) fn put_memory(
+    out: &mut Vec<u8>,
+    made: u64,
+    memory: &[u8],
+    kept: usize,
+) -> Result<(), AllocError>
+    requires most { length memory.now ≤ MAX_MEMORY }
+    requires kept { kept ≡ length (kept_pages memory.now) }
+    requires within { kept ≤ page_count (length memory.now) }
     ensures { OnOk result (out.new.items ≡ out.old.items ++ memory_bytes made memory.now) }
 {
     out.extend_from_slice(&made.to_le_bytes())?;
     out.extend_from_slice(&(memory.len() as u32).to_le_bytes())?;
-    out.extend_from_slice(memory)?;
+    out.extend_from_slice(&(kept as u16).to_le_bytes())?;
+    put_pages(out, memory)?;
     Ok(())
 }
 
@@ -100,23 +148,22 @@ pub(crate) fn put_outputs(out: &mut Vec<u8>, queue: &Queue) -> Result<(), AllocE
     Ok(())
 }
 
-/// How many bytes a checkpoint has, if that is no more than there are numbers: so much room is made at once, and the memory
-/// need not be moved.
-pub(crate) fn size_of(checkpoint: &Checkpoint) -> usize {
-    let mut size = size_of_queue(&checkpoint.outputs).saturating_add(
-        checkpoint.memory.as_slice().len(),
-    );
+// Room for all bytes of a checkpoint of which so many pages are kept, if that is no more than there are numbers: it is made
+// at once, and the memory need not be moved.
+pub(crate) fn room_for(checkpoint: &Checkpoint, kept: usize) -> usize {
+    let mut room = room_for_queue(&checkpoint.outputs);
     for queue in &checkpoint.kept {
-        size = size.saturating_add(size_of_queue(queue));
+        room = room.saturating_add(room_for_queue(queue));
     }
-    size.saturating_add(160 + 12 * checkpoint.vec.n())
+    room.saturating_add(162 + 12 * checkpoint.vec.n())
+        .saturating_add((PAGE + 2).saturating_mul(kept))
 }
 
 // No less than a queue has.
-fn size_of_queue(queue: &Queue) -> usize {
-    let mut size: usize = 8;
+fn room_for_queue(queue: &Queue) -> usize {
+    let mut room: usize = 8;
     for entry in &queue.entries {
-        size = size.saturating_add(6 + entry.body.as_slice().len());
+        room = room.saturating_add(6 + entry.body.as_slice().len());
     }
-    size
+    room
 }

@@ -1,31 +1,44 @@
 //! Bytes to records.
 
-ghost use Rattle.std.specs.Prelude.{◌≡◌, ◌⊎◌, List, Some, Ok, IfOk, IfErr};
-ghost use Rattle.om_format.specs.CheckpointReading.{checkpoint_at};
-ghost use Rattle.om_format.specs.CheckpointViews.{checkpoint_record, parts_record};
-ghost use Rattle.om_format.specs.Checkpoints.{CheckpointRecord, IsCheckpoint, SpellsCheckpoint, checkpoint_fault};
-ghost use Rattle.om_format.specs.Reading.{Gives, receipt_at};
-ghost use Rattle.om_format.specs.Receipts.{ReceiptRecord, receipt_record, receipt_fault, SpellsReceipt};
+ghost use Rattle.std.specs.Prelude.{◌≡◌, ◌⊎◌, ◌+◌, ◌*◌, ◌<◌, ◌^◌, Some, Ok, IfOk, IfErr, IsOk, length, map, true};
+ghost use Rattle.om_format.specs.CheckpointViews.{checkpoint_record};
+ghost use Rattle.om_format.specs.Checkpoints.{CheckpointRecord, IsCheckpoint, IsFrontRead, IsSpelled, SpellsCheckpoint, checkpoint_fault, is_memory_size};
+ghost use Rattle.om_format.specs.FirstFault.{AreRead};
+ghost use Rattle.om_format.specs.Outcomes.{Gives};
+ghost use Rattle.om_format.specs.Queues.{queue_record};
+ghost use Rattle.om_format.specs.Receipts.{ReceiptRecord, receipt_record, receipt_fault, receipt_format, SpellsReceipt};
+ghost use Rattle.om_format.specs.steps.CheckpointReading.{before_memory_at, rest_at, checkpoint_of};
+ghost use Rattle.om_format.specs.steps.Reading.{receipt_fields_at, receipt_at};
+ghost use Rattle.om_format.specs.declared.version.Version.{Version};
+ghost use Rattle.om_interval.specs.declared.pid.TheConstants.{MAX_PROCESSES};
 
 use crate::body::Body;
 use crate::checkpoint::Checkpoint;
-use crate::checkpoint_reading::{
-    Head, head_at, memory_at, outputs_at, queues_at, regs_of, vectors_at, words_at,
-};
+use crate::checkpoint_reading::{Front, front_at};
 use crate::error::DecodeError;
-use crate::limits::{RECEIPT_KIND, RECEIPT_VERSION, REGISTERS};
+use crate::limits::{RECEIPT_KIND, RECEIPT_VERSION};
 use crate::memory::MemoryBytes;
+use crate::memory_reading::memory_at;
 use crate::queue::Queue;
-use crate::reading::{body_at, end_at, opening_at, pid_at, u32_at, u64_at};
+use crate::queue_reading::{outputs_at, queues_at};
+use crate::reading::{body_at, end_at, pid_at, u8_at, u32_at, u64_at};
 use crate::receipt::Receipt;
-use om_interval::{DepVec, Pid};
+use om_interval::Pid;
 use std::alloc::Global;
 
-#[tactic(auto, unfolding(crate::specs::Reading::receipt_at))]
+#[tactic(auto, unfolding(crate::specs::steps::Reading::receipt_at, crate::specs::steps::Reading::receipt_fields_at, crate::specs::steps::Reading::opening_at))]
 fn receipt_at(alloc: Global, bytes: &[u8]) -> Result<Receipt, DecodeError>
-    ensures { Gives receipt_record result (receipt_at bytes.now) }
+    ensures exact { Gives receipt_record result (receipt_at bytes.now) }
+    ensures memory { IfErr result (λ e. e ≡ DecodeError.Memory → IsOk (receipt_fields_at bytes.now)) }
 {
-    let rest = opening_at(RECEIPT_KIND, RECEIPT_VERSION, bytes)?;
+    let (kind, rest) = u8_at(bytes)?;
+    if kind != RECEIPT_KIND {
+        return Err(DecodeError::Kind);
+    }
+    let (version, rest) = u8_at(rest)?;
+    if version != RECEIPT_VERSION {
+        return Err(DecodeError::Version);
+    }
     let (to, rest) = pid_at(2, rest)?;
     let (from, rest) = pid_at(3, rest)?;
     let (interval, rest) = u32_at(rest)?;
@@ -53,102 +66,94 @@ fn receipt_at(alloc: Global, bytes: &[u8]) -> Result<Receipt, DecodeError>
 }
 
 /// The receipt that the bytes spell, all of the bytes; else the first fault of the bytes from the left. `Memory` where
-/// there was none for the body.
+/// there was none for the body, and every field is whole and allowed.
 pub fn decode_receipt(alloc: Global, bytes: &[u8]) -> Result<Receipt, DecodeError>
     ensures found { IfOk result (λ r. SpellsReceipt (receipt_record r) bytes.now) }
     ensures only { (r : ReceiptRecord) → SpellsReceipt r bytes.now → Gives receipt_record result (Ok r) }
-    ensures fault { IfErr result (λ e. (e ≡ DecodeError.Memory) ⊎ (receipt_fault bytes.now ≡ Some e)) }
+    ensures fault { IfErr result (λ e. (receipt_fault bytes.now ≡ Some e)
+        ⊎ ((e ≡ DecodeError.Memory) × AreRead receipt_format bytes.now)) }
 {
     receipt_at(alloc, bytes)
 }
 
-/// The parts of a checkpoint, before it is known that they fit each other.
+// The memory and the queues of a checkpoint.
 #[derive(Drop)]
-struct Parts {
-    head: Head,
-    regs: [u32; REGISTERS],
-    vec: DepVec,
-    got: DepVec,
-    sent: DepVec,
-    made: u64,
+struct Rest {
     memory: MemoryBytes,
     kept: Vec<Queue>,
     outputs: Queue,
 }
 
-#[tactic(auto, unfolding(crate::specs::CheckpointReading::checkpoint_at))]
-fn checkpoint_at(alloc: Global, bytes: &[u8]) -> Result<Parts, DecodeError>
-    ensures { Gives parts_record result (checkpoint_at bytes.now) }
+#[tactic(auto, unfolding(crate::specs::steps::CheckpointReading::rest_at))]
+fn rest_at(alloc: Global, front: &Front, bytes: &[u8]) -> Result<Rest, DecodeError>
+    requires size { is_memory_size front.now.size ≡ true }
+    requires room { 156 + 12 * front.now.head.n + length bytes.now < 2 ^ 64 }
+    ensures exact { Gives (λ x. (x.memory, map queue_record x.kept.items, queue_record x.outputs)) result
+        (rest_at front.now bytes.now) }
+    ensures memory { IfErr result (λ e. e ≡ DecodeError.Memory
+        → IsOk (before_memory_at front.now.head.version front.now.size (156 + 12 * front.now.head.n) bytes.now)) }
 {
-    let (head, rest) = head_at(bytes)?;
-    let (front, rest) = words_at(REGISTERS, rest)?;
-    let regs = regs_of(front);
-    let vectors = match vectors_at(head.n, head.pid, head.interval, rest) {
-        Ok(vectors) => vectors,
-        Err(fault) => return Err(fault),
-    };
-    let (made, rest) = u64_at(vectors.rest)?;
-    if made > head.count {
-        return Err(DecodeError::Field(144 + 12 * head.n));
-    }
-    let (memory, rest) = memory_at(152 + 12 * head.n, rest)?;
-    let offset = 156 + 12 * head.n + memory.len();
-    let memory = MemoryBytes::from_vec(Vec::from_slice(alloc, memory)?);
-    let stops = vectors.sent.as_slice();
-    let kept = queues_at(alloc, head.interval, stops, offset, rest)?;
-    let outputs = outputs_at(alloc, head.interval, made, kept.offset, kept.rest)?;
+    let head = front.head;
+    let memory = memory_at(alloc, head.version, front.size, 156 + 12 * head.n, bytes)?;
+    let stops = front.vectors.sent.as_slice();
+    let kept = queues_at(alloc, head.interval, stops, memory.offset, memory.rest)?;
+    let outputs = outputs_at(alloc, head.interval, front.made, kept.offset, kept.rest)?;
     end_at(outputs.rest)?;
-    Ok(Parts {
-        head,
-        regs,
-        vec: vectors.vec,
-        got: vectors.got,
-        sent: vectors.sent,
-        made,
-        memory,
+    Ok(Rest {
+        memory: memory.value,
         kept: kept.value,
         outputs: outputs.value,
     })
 }
 
-/// The checkpoint that the bytes spell, all of the bytes; else the first fault of the bytes from the left. `Memory` where
-/// there was none for the memory or a queue.
+/// The checkpoint that the bytes spell in one of the versions, all of the bytes; else the first fault of the bytes from the
+/// left. `Memory` where there was none for the memory or a queue, and the fields before the bytes of the memory are whole and
+/// allowed.
 pub fn decode_checkpoint(alloc: Global, bytes: &[u8]) -> Result<Checkpoint, DecodeError>
-    ensures found { IfOk result (λ c. SpellsCheckpoint (checkpoint_record c) bytes.now) }
-    ensures only { (r : CheckpointRecord) → SpellsCheckpoint r bytes.now → Gives checkpoint_record result (Ok r) }
-    ensures fault { IfErr result (λ e. (e ≡ DecodeError.Memory) ⊎ (checkpoint_fault bytes.now ≡ Some e)) }
+    ensures found { IfOk result (λ c. IsSpelled (checkpoint_record c) bytes.now) }
+    ensures only { (version : Version) (r : CheckpointRecord) → SpellsCheckpoint version r bytes.now
+        → Gives checkpoint_record result (Ok r) }
+    ensures fault { IfErr result (λ e. (checkpoint_fault bytes.now ≡ Some e)
+        ⊎ ((e ≡ DecodeError.Memory) × IsFrontRead bytes.now)) }
 {
-    match checkpoint_at(alloc, bytes) {
-        Ok(parts) => Ok(fitted(parts)),
+    match front_at(bytes) {
+        Ok((front, behind)) => match rest_at(alloc, &front, behind) {
+            Ok(rest) => Ok(fitted(front, rest)),
+            Err(fault) => Err(fault),
+        },
         Err(fault) => Err(fault),
     }
 }
 
 // The checkpoint of these parts.
-fn fitted(parts: Parts) -> Checkpoint
-    requires { IsCheckpoint (parts_record parts) }
-    ensures { checkpoint_record result ≡ parts_record parts }
+fn fitted(front: Front, rest: Rest) -> Checkpoint
+    requires own { front.head.pid < MAX_PROCESSES }
+    requires fits { IsCheckpoint (checkpoint_of front rest.memory (map queue_record rest.kept.items) (queue_record rest.outputs)) }
+    ensures { checkpoint_record result
+        ≡ checkpoint_of front rest.memory (map queue_record rest.kept.items) (queue_record rest.outputs) }
 {
-    let Parts {
-        head,
-        regs,
-        vec,
-        got,
-        sent,
-        made,
+    let Rest {
         memory,
         kept,
         outputs,
-    } = parts;
+    } = rest;
+    let Front {
+        head,
+        regs,
+        vectors,
+        made,
+        ..
+    } = front;
     Checkpoint {
+        ext: head.ext,
         pid: Pid::at(head.pid),
         interval: head.interval,
         count: head.count,
         pc: head.pc,
         regs,
-        vec,
-        got,
-        sent,
+        vec: vectors.vec,
+        got: vectors.got,
+        sent: vectors.sent,
         made,
         memory,
         kept,

@@ -1,20 +1,23 @@
 //! Records to bytes.
 
 ghost use Rattle.std.specs.Prelude.{◌≡◌, ◌<◌, ℕ, IfOk, slice_index};
-ghost use Rattle.om_format.specs.CheckpointBytes.{checkpoint_bytes, AreWithin};
+ghost use Rattle.om_format.specs.steps.CheckpointBytes.{checkpoint_bytes, AreWithin};
 ghost use Rattle.om_format.specs.CheckpointViews.{checkpoint_record};
 ghost use Rattle.om_format.specs.Checkpoints.{IsCheckpoint, SpellsCheckpoint};
-ghost use Rattle.om_format.specs.Receipts.{receipt_record, receipt_bytes, IsReceipt, SpellsReceipt};
+ghost use Rattle.om_format.specs.Receipts.{receipt_record, SpellsReceipt};
+ghost use Rattle.om_format.specs.steps.ReceiptBytes.{receipt_bytes, IsReceipt};
+ghost use Rattle.om_format.specs.declared.version.Version.TheVariants.{V2};
 
 use crate::checkpoint::Checkpoint;
 use crate::checkpoint_writing::{
-    put_front, put_memory, put_outputs, put_queues, put_vectors, size_of,
+    put_head, put_memory, put_outputs, put_queues, put_vectors, room_for,
 };
 use crate::limits::{RECEIPT_KIND, RECEIPT_VERSION};
+use crate::pages::count_kept;
 use crate::receipt::Receipt;
 use std::alloc::{AllocError, Global};
 
-/// The bytes of a receipt before its body.
+// The bytes of a receipt before its body.
 const RECEIPT_FRONT: usize = 26;
 
 fn receipt_bytes(alloc: Global, receipt: &Receipt) -> Result<Vec<u8>, AllocError>
@@ -47,18 +50,20 @@ fn checkpoint_bytes(alloc: Global, checkpoint: &Checkpoint) -> Result<Vec<u8>, A
     ensures within { IfOk result (λ _. AreWithin (checkpoint_record checkpoint.now)) }
     ensures lawful { IsCheckpoint (checkpoint_record checkpoint.now) }
 {
-    let mut out = Vec::with_capacity(alloc, size_of(checkpoint))?;
-    put_front(&mut out, checkpoint)?;
+    let memory = checkpoint.memory.as_slice();
+    let kept = count_kept(memory);
+    let mut out = Vec::with_capacity(alloc, room_for(checkpoint, kept))?;
+    put_head(&mut out, checkpoint)?;
     put_vectors(&mut out, checkpoint)?;
-    put_memory(&mut out, checkpoint.made, checkpoint.memory.as_slice())?;
+    put_memory(&mut out, checkpoint.made, memory, kept)?;
     put_queues(&mut out, &checkpoint.kept)?;
     put_outputs(&mut out, &checkpoint.outputs)?;
     Ok(out)
 }
 
-/// The bytes that spell a checkpoint. Its memory is copied once.
+/// The bytes that spell a checkpoint in version 2. What is kept of its memory is copied once.
 pub fn encode_checkpoint(alloc: Global, checkpoint: &Checkpoint) -> Result<Vec<u8>, AllocError>
-    ensures { IfOk result (λ v. SpellsCheckpoint (checkpoint_record checkpoint.now) v.items) }
+    ensures { IfOk result (λ v. SpellsCheckpoint V2 (checkpoint_record checkpoint.now) v.items) }
 {
     checkpoint_bytes(alloc, checkpoint)
 }

@@ -25,7 +25,7 @@ pub enum DecodeError {
     #[error("bytes after the record")]
     Trailing,
     /// Memory ran out.
-    #[error("out of memory")]
+    #[error("no memory")]
     Memory,
 }
 

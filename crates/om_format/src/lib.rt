@@ -7,11 +7,12 @@ pub use checkpoint::Checkpoint;
 pub use decoding::{decode_checkpoint, decode_receipt};
 pub use encoding::{encode_checkpoint, encode_receipt};
 pub use error::DecodeError;
-pub use limits::{MAX_BODY, MAX_MEMORY, MIN_MEMORY, REGISTERS};
+pub use limits::{MAX_BODY, MAX_MEMORY, MAX_PROCESSES_OF_VERSION_1, MIN_MEMORY, PAGE, REGISTERS};
 pub use memory::MemoryBytes;
 pub use message::Message;
 pub use queue::{Entry, Queue};
 pub use receipt::Receipt;
+pub use version::Version;
 
 mod body;
 mod checkpoint;
@@ -23,9 +24,11 @@ mod error;
 pub mod laws;
 mod limits;
 mod memory;
+mod memory_reading;
 mod message;
+mod pages;
 mod queue;
+mod queue_reading;
 mod reading;
 mod receipt;
-#[cfg(test)]
-mod tests;
+mod version;

@@ -1,5 +1,8 @@
+ghost use Rattle.std.specs.Prelude.{◌≡◌, IfOk};
+
 use crate::body::Body;
 use om_interval::{Pid, Tag};
+use std::alloc::{AllocError, Global};
 
 /// A message on its way.
 #[derive(Debug, Drop)]
@@ -11,4 +14,20 @@ pub struct Message {
     /// The number of the message among those from this sender to this receiver, from 0.
     pub ssn: u32,
     pub body: Body,
+}
+
+impl Message {
+    /// The same message, in memory of its own.
+    pub fn copy(&self, alloc: Global) -> Result<Message, AllocError>
+        ensures { IfOk result (λ copy. copy ≡ self.now) }
+    {
+        let body = self.body.copy(alloc)?;
+        Ok(Message {
+            from: self.from,
+            to: self.to,
+            tag: self.tag,
+            ssn: self.ssn,
+            body,
+        })
+    }
 }

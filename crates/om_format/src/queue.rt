@@ -1,17 +1,50 @@
+ghost use Rattle.std.specs.Prelude.{◌≡◌, IfOk};
+ghost use Rattle.om_format.specs.Queues.{queue_record};
+
 use crate::body::Body;
+use std::alloc::{AllocError, Global};
 
 /// A message or an output that is kept, without its number.
-#[derive(Debug, Drop)]
+#[derive(Debug, PartialEq, Eq, Drop)]
 pub struct Entry {
     /// The interval in which it was made.
     pub interval: u32,
     pub body: Body,
 }
 
+impl Entry {
+    /// The same entry, in memory of its own.
+    pub fn copy(&self, alloc: Global) -> Result<Entry, AllocError>
+        ensures { IfOk result (λ copy. copy ≡ self.now) }
+    {
+        let body = self.body.copy(alloc)?;
+        Ok(Entry {
+            interval: self.interval,
+            body,
+        })
+    }
+}
+
 /// The kept end of a numbered list of messages or outputs, the oldest first.
-#[derive(Debug, Drop)]
+#[derive(Debug, PartialEq, Eq, Drop)]
 pub struct Queue {
     /// The number of the first entry.
     pub first: u64,
     pub entries: Vec<Entry>,
+}
+
+impl Queue {
+    /// The same queue, in memory of its own.
+    pub fn copy(&self, alloc: Global) -> Result<Queue, AllocError>
+        ensures { IfOk result (λ copy. queue_record copy ≡ queue_record self.now) }
+    {
+        let mut entries = Vec::with_capacity(alloc, self.entries.len())?;
+        for entry in &self.entries {
+            entries.push(entry.copy(alloc)?)?;
+        }
+        Ok(Queue {
+            first: self.first,
+            entries,
+        })
+    }
 }

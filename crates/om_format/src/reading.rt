@@ -2,7 +2,8 @@
 
 ghost use Rattle.std.specs.Prelude.{◌≡◌, ◌+◌, ◌<◌, ◌≤◌, IfOk, length};
 ghost use Rattle.om_format.specs.Formats.{one, two, four, eight};
-ghost use Rattle.om_format.specs.Reading.{Gives, allow, number_at, opening_at, pid_at, body_at, end_at};
+ghost use Rattle.om_format.specs.Outcomes.{Tells};
+ghost use Rattle.om_format.specs.steps.Reading.{number_at, pid_at, body_at, bytes_at, end_at};
 ghost use Rattle.om_interval.specs.declared.pid.TheConstants.{MAX_PROCESSES};
 ghost use Rattle.om_format.specs.declared.limits.TheConstants.{MAX_BODY};
 
@@ -10,16 +11,9 @@ use crate::error::DecodeError;
 use crate::limits::MAX_BODY;
 use om_interval::MAX_PROCESSES;
 
-// What is not allowed is this fault.
-pub(crate) fn allow(allowed: bool, fault: DecodeError) -> Result<(), DecodeError>
-    ensures { Gives (λ _. tt) result (allow allowed fault) }
-{
-    if allowed { Ok(()) } else { Err(fault) }
-}
-
-#[tactic(auto, unfolding(crate::specs::Reading::number_at))]
+#[tactic(auto, unfolding(crate::specs::steps::Reading::number_at))]
 pub(crate) fn u8_at(bytes: &[u8]) -> Result<(u8, &[u8]), DecodeError>
-    ensures exact { Gives (λ x. (x.0, x.1.now)) result (number_at one bytes.now) }
+    ensures exact { Tells (λ x. (x.0, x.1.now)) result (number_at one bytes.now) }
     ensures left { IfOk result (λ x. 1 + length x.1.now ≡ length bytes.now) }
 {
     if bytes.len() < 1 {
@@ -29,9 +23,9 @@ pub(crate) fn u8_at(bytes: &[u8]) -> Result<(u8, &[u8]), DecodeError>
     Ok((front[0], rest))
 }
 
-#[tactic(auto, unfolding(crate::specs::Reading::number_at))]
+#[tactic(auto, unfolding(crate::specs::steps::Reading::number_at))]
 pub(crate) fn u16_at(bytes: &[u8]) -> Result<(u16, &[u8]), DecodeError>
-    ensures exact { Gives (λ x. (x.0, x.1.now)) result (number_at two bytes.now) }
+    ensures exact { Tells (λ x. (x.0, x.1.now)) result (number_at two bytes.now) }
     ensures left { IfOk result (λ x. 2 + length x.1.now ≡ length bytes.now) }
 {
     if bytes.len() < 2 {
@@ -42,9 +36,9 @@ pub(crate) fn u16_at(bytes: &[u8]) -> Result<(u16, &[u8]), DecodeError>
     Ok((number, rest))
 }
 
-#[tactic(auto, unfolding(crate::specs::Reading::number_at))]
+#[tactic(auto, unfolding(crate::specs::steps::Reading::number_at))]
 pub(crate) fn u32_at(bytes: &[u8]) -> Result<(u32, &[u8]), DecodeError>
-    ensures exact { Gives (λ x. (x.0, x.1.now)) result (number_at four bytes.now) }
+    ensures exact { Tells (λ x. (x.0, x.1.now)) result (number_at four bytes.now) }
     ensures left { IfOk result (λ x. 4 + length x.1.now ≡ length bytes.now) }
 {
     if bytes.len() < 4 {
@@ -55,9 +49,9 @@ pub(crate) fn u32_at(bytes: &[u8]) -> Result<(u32, &[u8]), DecodeError>
     Ok((number, rest))
 }
 
-#[tactic(auto, unfolding(crate::specs::Reading::number_at))]
+#[tactic(auto, unfolding(crate::specs::steps::Reading::number_at))]
 pub(crate) fn u64_at(bytes: &[u8]) -> Result<(u64, &[u8]), DecodeError>
-    ensures exact { Gives (λ x. (x.0, x.1.now)) result (number_at eight bytes.now) }
+    ensures exact { Tells (λ x. (x.0, x.1.now)) result (number_at eight bytes.now) }
     ensures left { IfOk result (λ x. 8 + length x.1.now ≡ length bytes.now) }
 {
     if bytes.len() < 8 {
@@ -70,23 +64,10 @@ pub(crate) fn u64_at(bytes: &[u8]) -> Result<(u64, &[u8]), DecodeError>
     Ok((number, rest))
 }
 
-// The kind and the version of a record.
-#[tactic(auto, unfolding(crate::specs::Reading::opening_at))]
-pub(crate) fn opening_at(kind: u8, version: u8, bytes: &[u8]) -> Result<&[u8], DecodeError>
-    ensures exact { Gives (λ x. x.now) result (opening_at kind version bytes.now) }
-    ensures left { IfOk result (λ x. 2 + length x.now ≡ length bytes.now) }
-{
-    let (first, rest) = u8_at(bytes)?;
-    allow(first == kind, DecodeError::Kind)?;
-    let (second, rest) = u8_at(rest)?;
-    allow(second == version, DecodeError::Version)?;
-    Ok(rest)
-}
-
 // The number of a process, which stands at the offset.
-#[tactic(auto, unfolding(crate::specs::Reading::pid_at))]
+#[tactic(auto, unfolding(crate::specs::steps::Reading::pid_at))]
 pub(crate) fn pid_at(offset: usize, bytes: &[u8]) -> Result<(usize, &[u8]), DecodeError>
-    ensures exact { Gives (λ x. (x.0, x.1.now)) result (pid_at offset bytes.now) }
+    ensures exact { Tells (λ x. (x.0, x.1.now)) result (pid_at offset bytes.now) }
     ensures below { IfOk result (λ x. x.0 < MAX_PROCESSES) }
 {
     let (pid, rest) = u8_at(bytes)?;
@@ -98,10 +79,23 @@ pub(crate) fn pid_at(offset: usize, bytes: &[u8]) -> Result<(usize, &[u8]), Deco
     }
 }
 
+// So many bytes.
+#[tactic(auto, unfolding(crate::specs::steps::Reading::bytes_at))]
+pub(crate) fn bytes_at(count: usize, bytes: &[u8]) -> Result<(&[u8], &[u8]), DecodeError>
+    ensures exact { Tells (λ x. (x.0.now, x.1.now)) result (bytes_at count bytes.now) }
+    ensures whole { IfOk result (λ x. length x.0.now ≡ count) }
+    ensures left { IfOk result (λ x. count + length x.1.now ≡ length bytes.now) }
+{
+    if bytes.len() < count {
+        return Err(DecodeError::Short);
+    }
+    Ok(bytes.split_at(count))
+}
+
 // The bytes of a body; its length stands at the offset.
-#[tactic(auto, unfolding(crate::specs::Reading::counted_at))]
+#[tactic(auto, unfolding(crate::specs::steps::Reading::counted_at))]
 pub(crate) fn body_at(offset: usize, bytes: &[u8]) -> Result<(&[u8], &[u8]), DecodeError>
-    ensures exact { Gives (λ x. (x.0.now, x.1.now)) result (body_at offset bytes.now) }
+    ensures exact { Tells (λ x. (x.0.now, x.1.now)) result (body_at offset bytes.now) }
     ensures within { IfOk result (λ x. length x.0.now ≤ MAX_BODY) }
     ensures left { IfOk result (λ x. 2 + length x.0.now + length x.1.now ≡ length bytes.now) }
 {
@@ -110,19 +104,24 @@ pub(crate) fn body_at(offset: usize, bytes: &[u8]) -> Result<(&[u8], &[u8]), Dec
     if len > MAX_BODY {
         return Err(DecodeError::Field(offset));
     }
-    if rest.len() < len {
-        return Err(DecodeError::Short);
-    }
-    Ok(rest.split_at(len))
+    bytes_at(len, rest)
 }
 
 // The end of a record.
-#[tactic(auto, unfolding(crate::specs::Reading::end_at))]
+#[tactic(auto, unfolding(crate::specs::steps::Reading::end_at))]
 pub(crate) fn end_at(bytes: &[u8]) -> Result<(), DecodeError>
-    ensures { Gives (λ _. tt) result (end_at bytes.now) }
+    ensures { Tells (λ _. tt) result (end_at bytes.now) }
 {
     match bytes {
         [] => Ok(()),
         [_, ..] => Err(DecodeError::Trailing),
     }
+}
+
+// What was read, the offset after it in the record, and the bytes after it.
+#[derive(Drop)]
+pub(crate) struct Taken<'a, T> {
+    pub value: T,
+    pub offset: usize,
+    pub rest: &'a [u8],
 }

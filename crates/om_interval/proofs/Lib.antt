@@ -1,1 +1,2 @@
+pub mod VectorLemmas
 pub mod StartsLemmas

@@ -1,4 +1,3 @@
-pub mod InUse
-pub mod InUseLaws
 pub mod Vectors
 pub mod Starts
+pub mod steps

@@ -30,7 +30,8 @@ is_named who p = slice_index_or who p false
 -- incarnations stay numbers of 32 bits
 pub record MayBegin (who : List Bool) (state : List ℕ) (starts : List (List ℕ)) : Type 0 where
   pub processes : length state ≡ length starts
-  pub rising : (p : ℕ) → p < length starts → is_named who p ≡ true → slice_index (starts_of starts p) (newest_of starts p) ≤ slice_index state p + 1
+  pub rising : (p : ℕ) → p < length starts → is_named who p ≡ true
+      → slice_index (starts_of starts p) (newest_of starts p) ≤ slice_index state p + 1
   pub numbered : (p : ℕ) → p < length starts → is_named who p ≡ true → length (starts_of starts p) < 2 ^ 32
 
 -- each named process has one incarnation more, which starts right above its place of the state; the others have theirs
@@ -41,5 +42,6 @@ pub record BeginIncarnations (who : List Bool) (state : List ℕ) (old new : Lis
 
 -- the starts of a cluster's processes
 pub record AllAreStarts (starts : List (List ℕ)) : Type 0 where
+  pub some : 1 ≤ length starts
   pub within : length starts ≤ MAX_PROCESSES
   pub each : (p : ℕ) → p < length starts → AreStarts (starts_of starts p)

@@ -1,7 +1,7 @@
 use crate::dep_vec::DepVec;
 
 /// What a process need not keep any longer.
-#[derive(Clone, Copy, Debug)]
+#[derive(Clone, Copy, Debug, PartialEq, Eq)]
 pub struct Bounds {
     /// By receiver: the number of messages from this process that it got in the recovery state. Messages numbered below
     /// it are never sent again.

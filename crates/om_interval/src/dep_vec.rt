@@ -2,8 +2,8 @@ ghost use Rattle.std.specs.Prelude.{◌≡◌, ℕ, ◌+◌, ◌-◌, ◌<◌, �
 ghost use Rattle.std.specs.Cmp.Lexicographic.{pointwise};
 ghost use Rattle.std.specs.Cmp.Rules.{comparing};
 ghost use Rattle.std.proofs.Common.{rules};
-ghost use Rattle.om_interval.specs.InUse.{AreInUse};
-ghost use Rattle.om_interval.specs.InUseLaws.{length-in_use, padded-in_use};
+ghost use Rattle.om_interval.specs.steps.InUse.{AreInUse};
+ghost use Rattle.om_interval.specs.steps.InUseLaws.{length-in_use, padded-in_use};
 ghost use Rattle.om_interval.specs.Vectors.{IsBelow};
 ghost use Rattle.om_interval.specs.declared.pid.TheConstants.{MAX_PROCESSES};
 

@@ -3,6 +3,7 @@
 
 mod bounds;
 mod dep_vec;
+pub mod laws;
 mod pid;
 mod starts;
 mod tag;
@@ -14,6 +15,3 @@ pub use pid::{MAX_PROCESSES, Pid};
 pub use starts::Starts;
 pub use tag::Tag;
 pub use verdict::Verdict;
-
-#[cfg(test)]
-mod tests;

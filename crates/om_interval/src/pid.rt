@@ -4,7 +4,7 @@ ghost use Rattle.om_interval.specs.declared.pid.TheConstants.{MAX_PROCESSES};
 use std::marker::Model;
 
 /// The greatest number of processes in one cluster.
-pub const MAX_PROCESSES: usize = 8;
+pub const MAX_PROCESSES: usize = 16;
 
 /// The number of a process: from 0, below the limit of processes.
 #[derive(Clone, Copy, Debug, PartialEq, Eq, Hash, PartialOrd, Ord)]

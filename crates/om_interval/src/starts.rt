@@ -1,5 +1,6 @@
-ghost use Rattle.std.specs.Prelude.{◌≡◌, ℕ, ◌+◌, ◌-◌, ◌<◌, ◌≤◌, ◌^◌, ◌↔◌, List, [], ◌∷◌, ◌++◌, length, map, replicate, slice_get, slice_index, vec_len, vec_capacity, true, false, All, IsTrue, IfOk, OnOk, OnErr};
+ghost use Rattle.std.specs.Prelude.{◌≡◌, ℕ, ◌+◌, ◌-◌, ◌<◌, ◌≤◌, ◌^◌, ◌↔◌, List, [], ◌∷◌, ◌++◌, length, map, replicate, slice_get, slice_index, vec_len, true, false, Some, IsTrue, IfOk, OnOk, OnErr};
 ghost use Rattle.om_interval.specs.Starts.{starts_of, newest_of, AllAreStarts, IsOrphan, MayBegin, BeginIncarnations};
+ghost use Rattle.om_interval.specs.steps.Room.{HaveRoom, starts_in};
 ghost use Rattle.om_interval.specs.declared.pid.TheConstants.{MAX_PROCESSES};
 
 use crate::dep_vec::DepVec;
@@ -39,6 +40,15 @@ impl Starts {
         Ok(Starts { by_process })
     }
 
+    /// The number of processes, from 1 to the limit.
+    pub fn n(&self) -> usize
+        ensures processes { result ≡ length self.now }
+        ensures some { 1 ≤ result }
+        ensures within { result ≤ MAX_PROCESSES }
+    {
+        self.by_process.len()
+    }
+
     /// The newest incarnation of a process: 0 at first.
     pub fn incs(&self, pid: Pid) -> u32
         requires { pid < length self.now }
@@ -49,12 +59,14 @@ impl Starts {
         (starts.len() - 1) as u32
     }
 
-    /// The interval at which an incarnation of a process starts, or `None` above the newest.
+    /// The interval at which an incarnation of a process starts: 0 for incarnation 0, and `None` above the newest.
     pub fn start(&self, pid: Pid, inc: u32) -> Option<u64>
         requires { pid < length self.now }
-        ensures { result ≡ slice_get (starts_of self.now pid) inc }
+        ensures start { result ≡ slice_get (starts_of self.now pid) inc }
+        ensures first { inc ≡ 0 → result ≡ Some 0 }
     {
-        self.by_process[pid.index()].get(inc as usize).copied()
+        let starts = &self.by_process[pid.index()];
+        number_at(starts, inc)
     }
 
     /// Whether a message with this tag is an orphan: a later incarnation of its sender began at or below the interval in
@@ -90,29 +102,38 @@ impl Starts {
         ensures ok { OnOk result (BeginIncarnations who r.now self.old self.new) }
         ensures err { OnErr result (self.new ≡ self.old) }
     {
-        make_room(&mut self.by_process)?;
+        make_room(&mut self.by_process, who)?;
         begin(&mut self.by_process, who, r.as_slice());
         Ok(())
     }
 }
 
-/// Makes room for one more start of each process.
-fn make_room(by_process: &mut Vec<Vec<u64>>) -> Result<(), AllocError>
-    ensures same { map (λ starts. starts.items) by_process.new.items ≡ map (λ starts. starts.items) by_process.old.items }
-    ensures room { OnOk result (All (λ starts. vec_len starts < vec_capacity starts) by_process.new.items) }
+fn number_at(numbers: &[u64], place: u32) -> Option<u64>
+    ensures { result ≡ slice_get numbers.now place }
+{
+    numbers.get(place as usize).copied()
+}
+
+// Makes room for one more start of each named process.
+fn make_room(by_process: &mut Vec<Vec<u64>>, who: [bool; MAX_PROCESSES]) -> Result<(), AllocError>
+    requires { vec_len by_process.old ≤ MAX_PROCESSES }
+    ensures same { starts_in by_process.new.items ≡ starts_in by_process.old.items }
+    ensures room { OnOk result (HaveRoom who by_process.new.items) }
 {
     for p in 0..by_process.len() {
-        by_process[p].try_reserve(1)?;
+        if who[p] {
+            by_process[p].try_reserve(1)?;
+        }
     }
     Ok(())
 }
 
-/// Adds a start, right above its place of the state, to each named process.
+// Adds a start, right above its place of the state, to each named process.
 fn begin(by_process: &mut Vec<Vec<u64>>, who: [bool; MAX_PROCESSES], state: &[u32])
     requires places { length state.now ≡ vec_len by_process.old }
     requires within { length state.now ≤ MAX_PROCESSES }
-    requires room { All (λ starts. vec_len starts < vec_capacity starts) by_process.old.items }
-    ensures { BeginIncarnations who state.now (map (λ starts. starts.items) by_process.old.items) (map (λ starts. starts.items) by_process.new.items) }
+    requires room { HaveRoom who by_process.old.items }
+    ensures { BeginIncarnations who state.now (starts_in by_process.old.items) (starts_in by_process.new.items) }
 {
     for p in 0..by_process.len() {
         if who[p] {

@@ -2,7 +2,7 @@
 use Rattle.std.specs.Prelude.{ℕ, ℤ, pos, List, ◌++◌, false, codes}
 use Rattle.std.specs.Fmt.{decimal, signed_decimal, digits}
 use Rattle.om_isa.specs.declared.inst.Inst.{Inst}
-use Rattle.om_isa.specs.declared.inst.Inst.TheVariants.{Lui, Auipc, Jal, Jalr, Beq, Bne, Blt, Bge, Bltu, Bgeu, Lb, Lh, Lw, Lbu, Lhu, Sb, Sh, Sw, Addi, Slti, Sltiu, Xori, Ori, Andi, Slli, Srli, Srai, Add, Sub, Sll, Slt, Sltu, Xor, Srl, Sra, Or, And, Fence, Ecall, Ebreak}
+use Rattle.om_isa.specs.declared.inst.Inst.TheVariants.{Lui, Auipc, Jal, Jalr, Beq, Bne, Blt, Bge, Bltu, Bgeu, Lb, Lh, Lw, Lbu, Lhu, Sb, Sh, Sw, Addi, Slti, Sltiu, Xori, Ori, Andi, Slli, Srli, Srai, Add, Sub, Sll, Slt, Sltu, Xor, Srl, Sra, Or, And, Fence, Ecall, Ebreak, Mul, Mulh, Mulhsu, Mulhu, Div, Divu, Rem, Remu}
 
 -- x0 to x31
 abbrev pub register : ℕ → List ℕ
@@ -13,30 +13,30 @@ abbrev pub hexadecimal : ℕ → List ℕ
 hexadecimal n = codes "0x" ++ digits 16 false n
 
 -- lui x5, 0x12345
-abbrev pub upper_text : List ℕ → ℕ → ℕ → List ℕ
+unfoldable pub upper_text : List ℕ → ℕ → ℕ → List ℕ
 upper_text name rd upper = name ++ codes " " ++ register rd ++ codes ", " ++ hexadecimal upper
 
 -- jal x1, 16
-abbrev pub jump_text : List ℕ → ℕ → ℤ → List ℕ
+unfoldable pub jump_text : List ℕ → ℕ → ℤ → List ℕ
 jump_text name rd offset = name ++ codes " " ++ register rd ++ codes ", " ++ signed_decimal offset
 
 -- lw x1, 8(x2)
-abbrev pub address_text : List ℕ → ℕ → ℤ → ℕ → List ℕ
+unfoldable pub address_text : List ℕ → ℕ → ℤ → ℕ → List ℕ
 address_text name a imm base =
     name ++ codes " " ++ register a ++ codes ", " ++ signed_decimal imm ++ codes "(" ++ register base ++ codes ")"
 
 -- addi x1, x0, 5
-abbrev pub number_text : List ℕ → ℕ → ℕ → ℤ → List ℕ
+unfoldable pub number_text : List ℕ → ℕ → ℕ → ℤ → List ℕ
 number_text name a b number =
     name ++ codes " " ++ register a ++ codes ", " ++ register b ++ codes ", " ++ signed_decimal number
 
 -- add x1, x2, x3
-abbrev pub registers_text : List ℕ → ℕ → ℕ → ℕ → List ℕ
+unfoldable pub registers_text : List ℕ → ℕ → ℕ → ℕ → List ℕ
 registers_text name a b c =
     name ++ codes " " ++ register a ++ codes ", " ++ register b ++ codes ", " ++ register c
 
 -- fence x0, x0, 0xff
-abbrev pub fence_text : List ℕ → ℕ → ℕ → ℕ → List ℕ
+unfoldable pub fence_text : List ℕ → ℕ → ℕ → ℕ → List ℕ
 fence_text name rd rs1 bits =
     name ++ codes " " ++ register rd ++ codes ", " ++ register rs1 ++ codes ", " ++ hexadecimal bits
 
@@ -82,3 +82,11 @@ text_of (And rd rs1 rs2) = registers_text (codes "and") rd rs1 rs2
 text_of (Fence rd rs1 bits) = fence_text (codes "fence") rd rs1 bits
 text_of Ecall = codes "ecall"
 text_of Ebreak = codes "ebreak"
+text_of (Mul rd rs1 rs2) = registers_text (codes "mul") rd rs1 rs2
+text_of (Mulh rd rs1 rs2) = registers_text (codes "mulh") rd rs1 rs2
+text_of (Mulhsu rd rs1 rs2) = registers_text (codes "mulhsu") rd rs1 rs2
+text_of (Mulhu rd rs1 rs2) = registers_text (codes "mulhu") rd rs1 rs2
+text_of (Div rd rs1 rs2) = registers_text (codes "div") rd rs1 rs2
+text_of (Divu rd rs1 rs2) = registers_text (codes "divu") rd rs1 rs2
+text_of (Rem rd rs1 rs2) = registers_text (codes "rem") rd rs1 rs2
+text_of (Remu rd rs1 rs2) = registers_text (codes "remu") rd rs1 rs2

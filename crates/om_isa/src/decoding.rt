@@ -3,14 +3,15 @@
 ghost use Rattle.std.specs.Prelude.{◌≡◌, ◌↔◌, Some};
 ghost use Rattle.om_isa.specs.declared.inst.Inst.{Inst};
 ghost use Rattle.om_isa.specs.Decoded.{decoded};
-ghost use Rattle.om_isa.specs.Rows.{Decodes};
+ghost use Rattle.om_isa.specs.Rows.{Decodes, Fits, extension_of};
 
+use crate::ext::Ext;
 use crate::inst::Inst;
-use crate::rows;
 use crate::words::{
     fence_bits, funct3, funct7, imm_i, imm_s, offset_b, offset_j, opcode, rd, rs1, rs2, shamt,
     upper,
 };
+use crate::{rows, shape};
 
 // The codes of a form among the opcode, the funct3, the funct7 and the whole of a word.
 macro_rules! codes {
@@ -63,7 +64,7 @@ macro_rules! fields_of {
 }
 
 macro_rules! decode_rows {
-    ([$w:ident] $($name:ident $text:tt $form:ident $codes:tt $effect:tt,)*) => {
+    ([$w:ident] $($name:ident $ext:ident $text:tt $form:ident $codes:tt $effect:tt,)*) => {
         match (opcode($w), funct3($w), funct7($w), $w) {
             $(codes!($form $codes) => Some(fields_of!($w $name $form)),)*
             _ => None,
@@ -71,17 +72,37 @@ macro_rules! decode_rows {
     };
 }
 
-/// The instruction that a word stands for, or `None` where it fits no row.
-pub fn decode(w: u32) -> Option<Inst>
-    // The result equals at most one instruction, so no word fits two rows.
-    ensures exact { (i : Inst) → Decodes w i ↔ (result ≡ Some i) }
-    ensures function { result ≡ decoded w }
-{
-    decode_by_rows(w)
+macro_rules! extension_rows {
+    ([$i:ident] $($name:ident $ext:ident $text:tt $form:ident $codes:tt $effect:tt,)*) => {
+        match *$i {
+            $(shape!($name $form a b c) => Ext::$ext,)*
+        }
+    };
 }
 
+/// The instruction that a word stands for in a program of this extension, or `None` where it fits no row of it.
+#[inline(always)]
+pub fn decode(w: u32, ext: Ext) -> Option<Inst>
+    // The result equals at most one instruction, so no word fits two rows.
+    ensures exact { (i : Inst) → Decodes ext w i ↔ (result ≡ Some i) }
+    ensures function { result ≡ decoded ext w }
+{
+    let inst = decode_by_rows(w)?;
+    ext.has(extension_of(&inst)).then_some(inst)
+}
+
+// The instruction of a word's row, whatever the extension.
+#[inline(always)]
 fn decode_by_rows(w: u32) -> Option<Inst>
-    ensures { (i : Inst) → Decodes w i ↔ (result ≡ Some i) }
+    ensures { (i : Inst) → Fits w i ↔ (result ≡ Some i) }
 {
     rows!(decode_rows!(w))
+}
+
+// The least extension that has an instruction.
+#[inline(always)]
+fn extension_of(i: &Inst) -> Ext
+    ensures { result ≡ extension_of i.now }
+{
+    rows!(extension_rows!(i))
 }

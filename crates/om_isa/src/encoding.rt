@@ -1,9 +1,10 @@
 //! From an instruction to its word.
 
 ghost use Rattle.std.specs.Prelude.{◌≡◌, ℕ, ◌*◌, ◌^◌, ◌<◌};
-ghost use Rattle.om_isa.specs.Rows.{Decodes};
+ghost use Rattle.om_isa.specs.Rows.{Decodes, Fits};
 ghost use Rattle.om_isa.specs.Words.{IsR, IsI, IsShift, IsS, IsB, IsU, IsJ, IsFence};
 
+use crate::ext::Ext;
 use crate::fields::{FenceBits, Imm12, Off13, Off21, Reg, Shamt, Upper};
 use crate::inst::Inst;
 use crate::words::bits;
@@ -139,17 +140,25 @@ macro_rules! word_of {
 }
 
 macro_rules! encode_rows {
-    ([$i:ident] $($name:ident $text:tt $form:ident $codes:tt $effect:tt,)*) => {
+    ([$i:ident] $($name:ident $ext:ident $text:tt $form:ident $codes:tt $effect:tt,)*) => {
         match *$i {
             $(shape!($name $form a b c) => word_of!($form $codes a b c),)*
         }
     };
 }
 
-/// The one word that decodes to the instruction.
+/// The one word that decodes to the instruction, in a program that may use all instructions.
 pub fn encode(i: &Inst) -> u32
-    ensures decodes { Decodes result i.now }
-    ensures only { (w : ℕ) → Decodes w i.now → w ≡ result }
+    ensures decodes { Decodes Ext.Im result i.now }
+    ensures only { (w : ℕ) → Decodes Ext.Im w i.now → w ≡ result }
+{
+    encode_by_rows(i)
+}
+
+// The one word that fits the instruction's row.
+fn encode_by_rows(i: &Inst) -> u32
+    ensures fits { Fits result i.now }
+    ensures only { (w : ℕ) → Fits w i.now → w ≡ result }
 {
     rows!(encode_rows!(i))
 }

@@ -1,8 +1,8 @@
 use crate::fields::{FenceBits, Imm12, Off13, Off21, Reg, Shamt, Upper};
 
-/// An instruction of RV32I with its fields (RISC-V unprivileged specification, RV32I 2.1): registers,
-/// immediates as they are signed, offsets in bytes from the instruction's own address, and the upper 20
-/// bits of an immediate of 32 bits.
+/// An instruction of RV32IM with its fields (RISC-V unprivileged specification, RV32I 2.1 and RV32M 2.0):
+/// registers, immediates as they are signed, offsets in bytes from the instruction's own address, and the
+/// upper 20 bits of an immediate of 32 bits.
 #[derive(Clone, Copy, Debug, PartialEq, Eq)]
 pub enum Inst {
     Lui { rd: Reg, upper: Upper },
@@ -45,4 +45,12 @@ pub enum Inst {
     Fence { rd: Reg, rs1: Reg, bits: FenceBits },
     Ecall,
     Ebreak,
+    Mul { rd: Reg, rs1: Reg, rs2: Reg },
+    Mulh { rd: Reg, rs1: Reg, rs2: Reg },
+    Mulhsu { rd: Reg, rs1: Reg, rs2: Reg },
+    Mulhu { rd: Reg, rs1: Reg, rs2: Reg },
+    Div { rd: Reg, rs1: Reg, rs2: Reg },
+    Divu { rd: Reg, rs1: Reg, rs2: Reg },
+    Rem { rd: Reg, rs1: Reg, rs2: Reg },
+    Remu { rd: Reg, rs1: Reg, rs2: Reg },
 }

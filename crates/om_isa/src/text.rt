@@ -15,6 +15,7 @@ use thiserror::Error;
 #[error("the writer refused")]
 pub struct WriteFault;
 
+#[tactic(auto, unfolding(crate::specs::Text::upper_text))]
 fn write_upper<W: Write>(out: &mut W, name: &str, rd: Reg, upper: Upper) -> Result<(), WriteFault>
     ensures { OnOk result (Appends (W.contents out.old) (W.contents out.new)
         (upper_text name.now rd upper)) }
@@ -24,6 +25,7 @@ fn write_upper<W: Write>(out: &mut W, name: &str, rd: Reg, upper: Upper) -> Resu
     write!(out, "{name} x{rd}, 0x{upper:x}").map_err(|_| WriteFault)
 }
 
+#[tactic(auto, unfolding(crate::specs::Text::jump_text))]
 fn write_jump<W: Write>(out: &mut W, name: &str, rd: Reg, offset: Off21) -> Result<(), WriteFault>
     ensures { OnOk result (Appends (W.contents out.old) (W.contents out.new)
         (jump_text name.now rd offset)) }
@@ -33,6 +35,7 @@ fn write_jump<W: Write>(out: &mut W, name: &str, rd: Reg, offset: Off21) -> Resu
     write!(out, "{name} x{rd}, {offset}").map_err(|_| WriteFault)
 }
 
+#[tactic(auto, unfolding(crate::specs::Text::address_text))]
 fn write_address<W: Write>(
     out: &mut W,
     name: &str,
@@ -49,6 +52,7 @@ fn write_address<W: Write>(
     write!(out, "{name} x{a}, {imm}(x{base})").map_err(|_| WriteFault)
 }
 
+#[tactic(auto, unfolding(crate::specs::Text::number_text))]
 fn write_number<W: Write>(
     out: &mut W,
     name: &str,
@@ -64,6 +68,7 @@ fn write_number<W: Write>(
     write!(out, "{name} x{a}, x{b}, {number}").map_err(|_| WriteFault)
 }
 
+#[tactic(auto, unfolding(crate::specs::Text::registers_text))]
 fn write_registers<W: Write>(
     out: &mut W,
     name: &str,
@@ -80,6 +85,7 @@ fn write_registers<W: Write>(
     write!(out, "{name} x{a}, x{b}, x{c}").map_err(|_| WriteFault)
 }
 
+#[tactic(auto, unfolding(crate::specs::Text::fence_text))]
 fn write_fence<W: Write>(
     out: &mut W,
     name: &str,
@@ -136,7 +142,7 @@ macro_rules! write_row {
 macro_rules! write_rows {
     (
         [$inst:ident $out:ident]
-        $($name:ident ($text:literal $layout:ident) $form:ident $codes:tt $effect:tt,)*
+        $($name:ident $ext:ident ($text:literal $layout:ident) $form:ident $codes:tt $effect:tt,)*
     ) => {
         match *$inst {
             $(shape!($name $form a b c) => write_row!($layout $form $out $text a b c),)*

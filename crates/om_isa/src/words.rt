@@ -91,10 +91,15 @@ fn sign(w: u32) -> i32
 pub fn imm_i(w: u32) -> Imm12
     ensures { result ≡ immediate_i w }
 {
-    let low = bits(w, 31, 20);
-    Imm12 {
-        value: low as i32 - 4096 * sign(w),
-    }
+    Imm12 { value: high_12(w) }
+}
+
+// Bits 31 to 20 as a signed number, which costs one shift.
+#[tactic(auto, using(crate::proofs::Bits::signed_bits))]
+fn high_12(w: u32) -> i32
+    ensures { result ≡ immediate_i w }
+{
+    w.cast_signed() >> 20
 }
 
 pub fn imm_s(w: u32) -> Imm12

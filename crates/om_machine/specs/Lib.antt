@@ -2,5 +2,6 @@ pub mod Causes
 pub mod State
 pub mod Values
 pub mod Effects
-pub mod Steps
+pub mod Step
 pub mod Finishing
+pub mod steps

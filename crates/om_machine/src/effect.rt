@@ -1,10 +1,10 @@
-ghost use Rattle.std.specs.Prelude.{◌≡◌};
-ghost use Rattle.om_machine.specs.Effects.{event_of};
-
-use crate::event::Event;
+use crate::event::Cause;
 use om_isa::Reg;
 
 /// What an instruction does to a machine, once its operands are read and the tests for its traps are made.
+///
+/// The call at which a machine stands is read where it is answered: an effect that held it would have its bytes where the
+/// numbers of the others lie, and these would be put together from bytes at each step.
 #[derive(Clone, Copy)]
 pub enum Effect {
     /// A number goes into a register.
@@ -21,18 +21,8 @@ pub enum Effect {
     StoreWord { address: u32, value: u32 },
     /// Nothing but pc changes.
     Nothing,
-    /// The machine stands still at a call or a trap.
-    Stop(Event),
-}
-
-impl Effect {
-    /// What the step is that has this effect.
-    pub fn event(self) -> Event
-        ensures { result ≡ event_of self }
-    {
-        match self {
-            Effect::Stop(event) => event,
-            _ => Event::Went,
-        }
-    }
+    /// The machine stands still at the environment call that x17 numbers, or has none of that number.
+    Call,
+    /// The machine stands still at a trap.
+    Trap(Cause),
 }

@@ -1,5 +1,5 @@
 ghost use Rattle.std.specs.Prelude.{◌≡◌};
-ghost use Rattle.om_machine.specs.Causes.{number_of};
+ghost use Rattle.om_machine.specs.Causes.{cause_number};
 
 /// What one step of a machine was.
 #[derive(Clone, Copy, Debug, PartialEq, Eq)]
@@ -54,7 +54,7 @@ pub enum Cause {
 impl Cause {
     /// The cause's number, 1 to 9, as texts give it.
     pub fn number(self) -> u32
-        ensures { result ≡ number_of self }
+        ensures { result ≡ cause_number self }
     {
         self as u32
     }

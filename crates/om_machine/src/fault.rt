@@ -11,7 +11,7 @@ pub enum LoadFault {
     #[error("no memory has that size")]
     BadSize,
     /// Memory ran out.
-    #[error("out of memory")]
+    #[error("no memory")]
     Memory,
 }
 

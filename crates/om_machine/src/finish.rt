@@ -1,7 +1,7 @@
 //! The results of environment calls. Each counts as one finished instruction, and the next one follows it.
 
-ghost use Rattle.std.specs.Prelude.{◌≡◌};
-ghost use Rattle.om_machine.specs.Steps.{next_of};
+ghost use Rattle.std.specs.Prelude.{◌≡◌, ◌+◌};
+ghost use Rattle.om_machine.specs.Step.{next_of};
 ghost use Rattle.om_machine.specs.Finishing.{TakesWord, TakesBody, finished_word, finished_who, finished_receive};
 
 use crate::event::{EnvCall, Event};
@@ -10,10 +10,11 @@ use crate::machine::Machine;
 
 impl Machine {
     /// Finishes the send or the output at which the machine stands: its result goes into x10.
-    #[tactic(auto, using(crate::proofs::Stops::room_at_word), unfolding(crate::specs::Finishing::finished_word))]
+    #[tactic(auto, using(crate::proofs::Stops::room_at_word), unfolding(crate::specs::Finishing::finished_word, crate::specs::State::put, crate::specs::State::moved))]
     pub fn finish_word(&mut self, v: u32)
         requires { TakesWord (next_of self.old).0 }
-        ensures { self.new ≡ finished_word v self.old }
+        ensures state { self.new ≡ finished_word v self.old }
+        ensures counted { self.new.count ≡ self.old.count + 1 }
     {
         self.put(A0, v);
         self.advance();
@@ -21,10 +22,11 @@ impl Machine {
 
     /// Finishes the call at which the machine stands, the question who it is: the process's own number goes into x10, the
     /// number of processes into x11.
-    #[tactic(auto, using(crate::proofs::Stops::room_at_who), unfolding(crate::specs::Finishing::finished_who))]
+    #[tactic(auto, using(crate::proofs::Stops::room_at_who), unfolding(crate::specs::Finishing::finished_who, crate::specs::State::put, crate::specs::State::moved))]
     pub fn finish_who(&mut self, own: u32, n: u32)
         requires { (next_of self.old).0 ≡ Event.Call EnvCall.Who }
-        ensures { self.new ≡ finished_who own n self.old }
+        ensures state { self.new ≡ finished_who own n self.old }
+        ensures counted { self.new.count ≡ self.old.count + 1 }
     {
         self.put(A0, own);
         self.put(A1, n);
@@ -33,10 +35,11 @@ impl Machine {
 
     /// Finishes the receive at which the machine stands, whose buffer lies in memory: the first bytes of the body go there,
     /// as many as there is room for, the body's length modulo 2^32 goes into x10 and the sender's number into x11.
-    #[tactic(auto, using(crate::proofs::Stops::room_at_body, crate::proofs::Stops::buffer_at_body), unfolding(crate::specs::Finishing::finished_receive))]
+    #[tactic(auto, using(crate::proofs::Stops::room_at_body, crate::proofs::Stops::buffer_at_body), unfolding(crate::specs::Finishing::finished_receive, crate::specs::State::put, crate::specs::State::moved, crate::specs::State::written))]
     pub fn finish_receive(&mut self, from: u32, body: &[u8])
         requires { TakesBody self.old (next_of self.old).0 }
-        ensures { self.new ≡ finished_receive from body.now self.old }
+        ensures state { self.new ≡ finished_receive from body.now self.old }
+        ensures counted { self.new.count ≡ self.old.count + 1 }
     {
         let addr = self.regs[A0];
         let room = self.regs[A1] as usize;

@@ -2,13 +2,18 @@
 
 ghost use Rattle.std.specs.Prelude.{◌≡◌, ◌+◌, ◌<◌, ◌≤◌, IfNone, length};
 ghost use Rattle.om_machine.specs.State.{reg, byte_at, half_at, word_at};
-ghost use Rattle.om_machine.specs.Effects.{branch_effect, address_of, jump_effect, access_fault, signed_byte_at, signed_half_at, load_effect, store_effect, call_effect, effect_of, CanHave};
+ghost use Rattle.om_machine.specs.Effects.{branch_effect, address_of, jump_effect, access_fault, signed_byte_at, signed_half_at, load_effect, store_effect, call_effect, effect_of, applied};
+ghost use Rattle.om_machine.specs.steps.Told.{told, CanHave, event_of};
 
 use crate::effect::Effect;
 use crate::event::{Cause, EnvCall, Event};
 use crate::limits::{A0, A1, A2, A7};
 use crate::machine::Machine;
 use crate::memory::{read_half, read_word};
+use crate::products::{
+    divide, divide_unsigned, multiply, multiply_high, multiply_high_signed_unsigned,
+    multiply_high_unsigned, remainder, remainder_unsigned,
+};
 use crate::values::{
     add, and, at_least, at_least_unsigned, clear_bit_0, equal, extend_byte, extend_half, less_than,
     less_than_unsigned, not_equal, or, set_less_than, set_less_than_unsigned, shift_left_logical,
@@ -52,15 +57,15 @@ macro_rules! effect {
         Effect::Nothing
     };
     ($m:ident (environment_call) whole $a:ident $b:ident $c:ident) => {
-        $m.call()
+        Effect::Call
     };
     ($m:ident (breakpoint) whole $a:ident $b:ident $c:ident) => {
-        Effect::Stop(Event::Trap(Cause::Break))
+        Effect::Trap(Cause::Break)
     };
 }
 
 macro_rules! effect_rows {
-    ([$m:ident $inst:ident] $($name:ident $text:tt $form:ident $codes:tt $effect:tt,)*) => {
+    ([$m:ident $inst:ident] $($name:ident $ext:ident $text:tt $form:ident $codes:tt $effect:tt,)*) => {
         match $inst {
             $(shape!($name $form a b c) => effect!($m $effect $form a b c),)*
         }
@@ -69,8 +74,9 @@ macro_rules! effect_rows {
 
 impl Machine {
     /// What an instruction does now.
+    #[inline(always)]
     pub(crate) fn effect(&self, inst: Inst) -> Effect
-        ensures effect { result ≡ effect_of self.now inst }
+        ensures effect { told self.now result ≡ effect_of self.now inst }
         ensures can { CanHave self.now result }
     {
         rows!(effect_rows!(self inst))
@@ -93,29 +99,30 @@ impl Machine {
     // A branch to an offset from its own address.
     #[tactic(auto, unfolding(crate::specs::Effects::branch_effect))]
     fn branch(&self, holds: bool, offset: Off13) -> Effect
-        ensures effect { result ≡ branch_effect self.now holds offset }
+        ensures effect { told self.now result ≡ branch_effect self.now holds offset }
         ensures can { CanHave self.now result }
     {
-        let target = add(self.pc, offset.value().cast_unsigned());
         if !holds {
-            Effect::Nothing
-        } else if target % 4 == 0 {
+            return Effect::Nothing;
+        }
+        let target = add(self.pc, offset.value().cast_unsigned());
+        if target % 4 == 0 {
             Effect::Go { target }
         } else {
-            Effect::Stop(Event::Trap(Cause::TargetMisaligned))
+            Effect::Trap(Cause::TargetMisaligned)
         }
     }
 
     // A jump.
     #[tactic(auto, unfolding(crate::specs::Effects::jump_effect))]
     fn jump(&self, rd: Reg, target: u32) -> Effect
-        ensures effect { result ≡ jump_effect rd target }
+        ensures effect { told self.now result ≡ jump_effect rd target }
         ensures can { CanHave self.now result }
     {
         if target % 4 == 0 {
             Effect::Jump { rd, target }
         } else {
-            Effect::Stop(Event::Trap(Cause::TargetMisaligned))
+            Effect::Trap(Cause::TargetMisaligned)
         }
     }
 
@@ -137,11 +144,11 @@ impl Machine {
 
     #[tactic(auto, unfolding(crate::specs::Effects::access_effect))]
     fn load_byte(&self, rd: Reg, address: u32) -> Effect
-        ensures effect { result ≡ load_effect self.now rd 1 signed_byte_at address }
+        ensures effect { told self.now result ≡ load_effect self.now rd 1 signed_byte_at address }
         ensures can { CanHave self.now result }
     {
         match self.access_fault(1, address) {
-            Some(cause) => Effect::Stop(Event::Trap(cause)),
+            Some(cause) => Effect::Trap(cause),
             None => Effect::Put {
                 rd,
                 value: extend_byte(self.memory[address as usize]),
@@ -151,11 +158,11 @@ impl Machine {
 
     #[tactic(auto, unfolding(crate::specs::Effects::access_effect))]
     fn load_half(&self, rd: Reg, address: u32) -> Effect
-        ensures effect { result ≡ load_effect self.now rd 2 signed_half_at address }
+        ensures effect { told self.now result ≡ load_effect self.now rd 2 signed_half_at address }
         ensures can { CanHave self.now result }
     {
         match self.access_fault(2, address) {
-            Some(cause) => Effect::Stop(Event::Trap(cause)),
+            Some(cause) => Effect::Trap(cause),
             None => Effect::Put {
                 rd,
                 value: extend_half(read_half(&self.memory, address as usize)),
@@ -165,11 +172,11 @@ impl Machine {
 
     #[tactic(auto, unfolding(crate::specs::Effects::access_effect))]
     fn load_word(&self, rd: Reg, address: u32) -> Effect
-        ensures effect { result ≡ load_effect self.now rd 4 word_at address }
+        ensures effect { told self.now result ≡ load_effect self.now rd 4 word_at address }
         ensures can { CanHave self.now result }
     {
         match self.access_fault(4, address) {
-            Some(cause) => Effect::Stop(Event::Trap(cause)),
+            Some(cause) => Effect::Trap(cause),
             None => Effect::Put {
                 rd,
                 value: read_word(&self.memory, address as usize),
@@ -179,11 +186,11 @@ impl Machine {
 
     #[tactic(auto, unfolding(crate::specs::Effects::access_effect))]
     fn load_byte_unsigned(&self, rd: Reg, address: u32) -> Effect
-        ensures effect { result ≡ load_effect self.now rd 1 byte_at address }
+        ensures effect { told self.now result ≡ load_effect self.now rd 1 byte_at address }
         ensures can { CanHave self.now result }
     {
         match self.access_fault(1, address) {
-            Some(cause) => Effect::Stop(Event::Trap(cause)),
+            Some(cause) => Effect::Trap(cause),
             None => Effect::Put {
                 rd,
                 value: u32::from(self.memory[address as usize]),
@@ -193,11 +200,11 @@ impl Machine {
 
     #[tactic(auto, unfolding(crate::specs::Effects::access_effect))]
     fn load_half_unsigned(&self, rd: Reg, address: u32) -> Effect
-        ensures effect { result ≡ load_effect self.now rd 2 half_at address }
+        ensures effect { told self.now result ≡ load_effect self.now rd 2 half_at address }
         ensures can { CanHave self.now result }
     {
         match self.access_fault(2, address) {
-            Some(cause) => Effect::Stop(Event::Trap(cause)),
+            Some(cause) => Effect::Trap(cause),
             None => Effect::Put {
                 rd,
                 value: u32::from(read_half(&self.memory, address as usize)),
@@ -207,11 +214,11 @@ impl Machine {
 
     #[tactic(auto, unfolding(crate::specs::Effects::access_effect))]
     fn store_byte(&self, source: Reg, address: u32) -> Effect
-        ensures effect { result ≡ store_effect self.now source 1 Effect.StoreByte address }
+        ensures effect { told self.now result ≡ store_effect self.now source 1 address }
         ensures can { CanHave self.now result }
     {
         match self.access_fault(1, address) {
-            Some(cause) => Effect::Stop(Event::Trap(cause)),
+            Some(cause) => Effect::Trap(cause),
             None => Effect::StoreByte {
                 address,
                 value: self.operand(source),
@@ -221,11 +228,11 @@ impl Machine {
 
     #[tactic(auto, unfolding(crate::specs::Effects::access_effect))]
     fn store_half(&self, source: Reg, address: u32) -> Effect
-        ensures effect { result ≡ store_effect self.now source 2 Effect.StoreHalf address }
+        ensures effect { told self.now result ≡ store_effect self.now source 2 address }
         ensures can { CanHave self.now result }
     {
         match self.access_fault(2, address) {
-            Some(cause) => Effect::Stop(Event::Trap(cause)),
+            Some(cause) => Effect::Trap(cause),
             None => Effect::StoreHalf {
                 address,
                 value: self.operand(source),
@@ -235,11 +242,11 @@ impl Machine {
 
     #[tactic(auto, unfolding(crate::specs::Effects::access_effect))]
     fn store_word(&self, source: Reg, address: u32) -> Effect
-        ensures effect { result ≡ store_effect self.now source 4 Effect.StoreWord address }
+        ensures effect { told self.now result ≡ store_effect self.now source 4 address }
         ensures can { CanHave self.now result }
     {
         match self.access_fault(4, address) {
-            Some(cause) => Effect::Stop(Event::Trap(cause)),
+            Some(cause) => Effect::Trap(cause),
             None => Effect::StoreWord {
                 address,
                 value: self.operand(source),
@@ -247,11 +254,11 @@ impl Machine {
         }
     }
 
-    // The environment call that x17 numbers.
+    // The environment call that x17 numbers, or the trap where there is none.
     #[tactic(auto, unfolding(crate::specs::Effects::call_effect))]
-    fn call(&self) -> Effect
-        ensures effect { result ≡ call_effect self.now }
-        ensures can { CanHave self.now result }
+    pub(crate) fn call(&self) -> Event
+        ensures event { result ≡ event_of (call_effect self.now) }
+        ensures applied { applied self.now (call_effect self.now) ≡ (result, self.now) }
     {
         let (first, second) = (self.regs[A0], self.regs[A1]);
         let call = match self.regs[A7] {
@@ -270,8 +277,19 @@ impl Machine {
                 len: second,
             },
             4 => EnvCall::Who,
-            _ => return Effect::Stop(Event::Trap(Cause::UnknownCall)),
+            _ => return Event::Trap(Cause::UnknownCall),
         };
-        Effect::Stop(Event::Call(call))
+        Event::Call(call)
+    }
+
+    // What a step is that has this effect.
+    pub(crate) fn event(&self, effect: Effect) -> Event
+        ensures { result ≡ event_of (told self.now effect) }
+    {
+        match effect {
+            Effect::Call => self.call(),
+            Effect::Trap(cause) => Event::Trap(cause),
+            _ => Event::Went,
+        }
     }
 }

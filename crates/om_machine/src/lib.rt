@@ -1,9 +1,10 @@
-//! A deterministic machine that runs RV32I: registers, memory, and one step at a time.
+//! A deterministic machine that runs RV32I, and RV32M where its program may use it: registers, memory, and one step at a
+//! time.
 #![tactic(auto)]
 
 pub use event::{Cause, EnvCall, Event};
 pub use fault::LoadFault;
-pub use limits::{MAX_SIZE, MIN_SIZE, REGISTERS, WRITABLE_REGISTERS};
+pub use limits::{MAX_SIZE, MIN_SIZE, is_size};
 pub use machine::Machine;
 pub use run::Ran;
 
@@ -13,11 +14,11 @@ mod event;
 mod fault;
 mod finish;
 mod instruction;
+pub mod laws;
 mod limits;
 mod machine;
 mod memory;
+mod products;
 mod run;
 mod step;
-#[cfg(test)]
-mod tests;
 mod values;

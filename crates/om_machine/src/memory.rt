@@ -14,12 +14,10 @@ pub fn read_word(memory: &Vec<u8>, address: usize) -> u32
     requires { address + 4 ≤ length memory.now.items }
     ensures { result ≡ word_at memory.now.items address }
 {
-    u32::from_le_bytes([
-        memory[address],
-        memory[address + 1],
-        memory[address + 2],
-        memory[address + 3],
-    ])
+    // By a copy, which is one load of 4 bytes.
+    let mut bytes = [0; 4];
+    bytes.copy_from_slice(&memory[address..address + 4]);
+    u32::from_le_bytes(bytes)
 }
 
 pub fn overwrite(memory: &mut Vec<u8>, address: usize, bytes: &[u8])

@@ -2,9 +2,10 @@ pub mod RowsLemmas
 pub mod StableLemmas
 pub mod ScanLemmas
 pub mod OrderLemmas
-pub mod VectorLemmas
 pub mod SearchLemmas
 pub mod NearestLemmas
 pub mod NoteLemmas
 pub mod FirstLemmas
 pub mod LawLemmas
+pub mod CuttingLemmas
+pub mod OfferLemmas

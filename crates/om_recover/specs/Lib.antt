@@ -1,6 +1,9 @@
+pub use Rattle.om_interval.specs.Vectors
 pub mod Rows
 pub mod Recoverable
 pub mod Offered
 pub mod Records
-pub mod RowCode
-pub mod Search
+pub mod Cutting
+pub mod Offers
+pub mod Laws
+pub mod steps

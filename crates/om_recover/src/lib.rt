@@ -3,8 +3,10 @@
 #![tactic(auto)]
 
 mod answer;
+mod cutting;
 pub mod laws;
 mod note;
+mod order;
 mod records;
 mod row;
 mod search;
@@ -12,6 +14,3 @@ mod search;
 pub use note::{Note, NoteError};
 pub use records::Records;
 pub use row::{Row, RowKind};
-
-#[cfg(test)]
-mod tests;

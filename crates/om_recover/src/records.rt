@@ -1,13 +1,15 @@
-ghost use Rattle.std.specs.Prelude.{◌≡◌, ℕ, ◌+◌, ◌<◌, ◌≤◌, ◌↔◌, length, replicate, IfOk};
+ghost use Rattle.std.specs.Prelude.{◌≡◌, ℕ, ◌+◌, ◌<◌, ◌≤◌, ◌↔◌, length, replicate, slice_index, IfOk};
 ghost use Rattle.om_interval.specs.Vectors.{IsBelow};
 ghost use Rattle.om_interval.specs.declared.pid.TheConstants.{MAX_PROCESSES};
+ghost use Rattle.om_recover.specs.Cutting.{IsEffective, AreEffective, IsGotAt, cut_to, IsPruned};
 ghost use Rattle.om_recover.specs.Rows.{HasRow};
 ghost use Rattle.om_recover.specs.Offered.{offered, TellsChange};
-ghost use Rattle.om_recover.specs.Records.{first_row, IsSound};
-ghost use Rattle.om_recover.specs.declared.row.RowKind.TheVariants.{Checkpoint, Log};
+ghost use Rattle.om_recover.specs.Records.{first_row, log_of, checkpoint_of, IsSound};
 
-use crate::answer::{answer_without_change, place_of};
+use crate::answer::answer_without_change;
+use crate::cutting::{cut_rows, effective_of, effective_of_all, got_at, prune_rows};
 use crate::note::{Note, NoteError};
+use crate::order::add;
 use crate::row::{Row, RowKind};
 use crate::search::greatest_recoverable;
 use om_interval::{DepVec, Pid};
@@ -23,8 +25,9 @@ pub struct Records {
 
 impl Model for Records {
     ghost use Rattle.std.specs.FinSet as set;
-    ghost use Rattle.om_recover.specs.Records.{Kept, AreKept};
-    ghost use Rattle.om_recover.specs.RowCode.{coded_kept};
+    ghost use Rattle.om_recover.specs.Records.{Kept};
+    ghost use Rattle.om_recover.specs.steps.AsKept.{AreKept};
+    ghost use Rattle.om_recover.specs.steps.RowCode.{coded_kept};
 
     ghost Value = { Kept };
 
@@ -57,41 +60,71 @@ impl Records {
         Ok(Records { rows, state: zeros })
     }
 
+    /// The number of processes, from 1 to the limit.
+    pub fn n(&self) -> usize
+        ensures processes { result ≡ length self.now.state }
+        ensures some { 1 ≤ result }
+        ensures within { result ≤ MAX_PROCESSES }
+    {
+        self.state.n()
+    }
+
     /// Notes that the receipt which began interval `x` of a process is logged.
+    ///
+    /// Refused, the first that holds, are a process that the cluster has not (`Stranger`), vectors that are not those of
+    /// an interval of the process (`BadVector`), and other vectors than a record of that interval has (`Differs`). A row
+    /// that is there is `Known`. Then, the rows being in order by interval, one that is not above the nearest below it, or
+    /// else not below the nearest above it (`Disorder`), and last want of memory (`Memory`).
     pub fn note_logged(
         &mut self,
-        _alloc: Global,
+        alloc: Global,
         pid: Pid,
         x: u32,
         vec: &DepVec,
         got: &DepVec,
     ) -> Result<Note, NoteError>
-        ensures answer { offered (length self.old.state) self.old.rows record { kind = Log; pid = pid; interval = x; vec = vec.now; got = got.now } result self.new.rows }
+        ensures answer { offered (length self.old.state) self.old.rows (log_of pid x vec.now got.now) result self.new.rows }
         ensures raised { TellsChange result self.old.state self.new.state }
         ensures sound { IsSound self.new }
         ensures not_lowered { IsBelow self.old.state self.new.state }
     {
-        self.note(row_of(RowKind::Log, pid, x, vec, got))
+        let row = Row {
+            kind: RowKind::Log,
+            pid,
+            interval: x,
+            vec: *vec,
+            got: *got,
+        };
+        self.note(alloc, row)
     }
 
-    /// Notes that the state of a process in interval `x` is stored.
+    /// Notes that the state of a process in interval `x` is stored. The refusals are those of [`Records::note_logged`], in
+    /// the same order.
     pub fn note_checkpoint(
         &mut self,
-        _alloc: Global,
+        alloc: Global,
         pid: Pid,
         x: u32,
         vec: &DepVec,
         got: &DepVec,
     ) -> Result<Note, NoteError>
-        ensures answer { offered (length self.old.state) self.old.rows record { kind = Checkpoint; pid = pid; interval = x; vec = vec.now; got = got.now } result self.new.rows }
+        ensures answer { offered (length self.old.state) self.old.rows (checkpoint_of pid x vec.now got.now) result self.new.rows }
         ensures raised { TellsChange result self.old.state self.new.state }
         ensures sound { IsSound self.new }
         ensures not_lowered { IsBelow self.old.state self.new.state }
     {
-        self.note(row_of(RowKind::Checkpoint, pid, x, vec, got))
+        let row = Row {
+            kind: RowKind::Checkpoint,
+            pid,
+            interval: x,
+            vec: *vec,
+            got: *got,
+        };
+        self.note(alloc, row)
     }
 
-    fn note(&mut self, row: Row) -> Result<Note, NoteError>
+    /// Notes a row. The refusals are those of [`Records::note_logged`], in the same order.
+    pub fn note(&mut self, _alloc: Global, row: Row) -> Result<Note, NoteError>
         ensures answer { offered (length self.old.state) self.old.rows row result self.new.rows }
         ensures raised { TellsChange result self.old.state self.new.state }
         ensures sound { IsSound self.new }
@@ -100,10 +133,9 @@ impl Records {
         if let Some(answer) = answer_without_change(&self.rows, self.state.n(), &row) {
             return answer;
         }
-        let place = place_of(&self.rows, &row);
-        if self.rows.insert(place, row).is_err() {
+        let Ok(()) = add(&mut self.rows, &row) else {
             return Err(NoteError::Memory);
-        }
+        };
         let state = greatest_recoverable(&self.rows, &self.state);
         let raised = state != self.state;
         self.state = state;
@@ -118,16 +150,39 @@ impl Records {
         let Records { state, .. } = self;
         *state
     }
-}
 
-fn row_of(kind: RowKind, pid: Pid, interval: u32, vec: &DepVec, got: &DepVec) -> Row
-    ensures { result ≡ record { kind = kind; pid = pid; interval = interval; vec = vec.now; got = got.now } }
-{
-    Row {
-        kind,
-        pid,
-        interval,
-        vec: *vec,
-        got: *got,
+    /// The checkpoint that is used for the process's place of the recovery state.
+    pub fn effective(&self, pid: Pid) -> u32
+        requires { pid < length self.now.state }
+        ensures { IsEffective self.now.rows pid (slice_index self.now.state pid) result }
+    {
+        effective_of(&self.rows, pid, self.state.get(pid))
+    }
+
+    /// How many messages the process had got in the recovery state, by sender.
+    pub fn got(&self, pid: Pid) -> DepVec
+        requires { pid < length self.now.state }
+        ensures { IsGotAt self.now.rows pid (slice_index self.now.state pid) result }
+    {
+        got_at(&self.rows, pid, self.state.get(pid))
+    }
+
+    /// Drops the rows above the recovery state, which stays.
+    pub fn cut(&mut self)
+        ensures rows { self.new.rows ≡ cut_to self.old.rows self.old.state }
+        ensures state { self.new.state ≡ self.old.state }
+        ensures sound { IsSound self.new }
+    {
+        cut_rows(&mut self.rows, &self.state);
+    }
+
+    /// Drops the rows below the checkpoints that are used for the recovery state, which stays.
+    pub fn prune(&mut self)
+        ensures rows { IsPruned self.old.rows self.old.state self.new.rows }
+        ensures state { self.new.state ≡ self.old.state }
+        ensures sound { IsSound self.new }
+    {
+        let checkpoints = effective_of_all(&self.rows, &self.state);
+        prune_rows(&mut self.rows, &checkpoints);
     }
 }

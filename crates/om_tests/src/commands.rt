@@ -1,6 +1,7 @@
 use om_commands::CommandError;
 use om_commands::decode::decode;
 use om_commands::frontier::frontier;
+use om_isa::Ext;
 use om_text::MAX_BYTES;
 use std::alloc::Global;
 use std::io;
@@ -18,6 +19,7 @@ fn answered(alloc: Global, input: &str) -> Result<Vec<u8>, CommandError> {
 fn scripts_and_their_texts(rt: HostRuntime) -> Result<(), Fail> {
     for (input, text) in [
         ("procs 1", "recovery 0\n"),
+        ("procs 16", "recovery 0 0 0 0 0 0 0 0 0 0 0 0 0 0 0 0\n"),
         (
             "procs 3\nlog 0 1 1 1 0\nckpt 1 3 0 3 4\nlog 1 1 0 1 0\n",
             "noted: 0 0 0\nnoted: 0 0 0\nraised: 1 1 0\nrecovery 1 1 0\n",
@@ -35,7 +37,7 @@ fn scripts_and_their_texts(rt: HostRuntime) -> Result<(), Fail> {
             "noted: 0 0\ndisorder 1: 0 0\nknown: 0 0\ndiffers: 0 0\nbad-vector: 0 0\nstranger: 0 0\nrecovery 0 0\n",
         ),
         (
-            "# two processes\r\n\r\nprocs\t2\r\n  log 0 \t 001 1 0000000001\r\n\t\n#\nlog 8 1 1 0",
+            "# two processes\r\n\r\nprocs\t2\r\n  log 0 \t 001 1 0000000001\r\n\t\n#\nlog 16 1 1 0",
             "noted: 0 0\nstranger: 0 0\nrecovery 0 0\n",
         ),
     ] {
@@ -51,7 +53,7 @@ fn faulty_scripts(rt: HostRuntime) {
         ("", "empty script"),
         ("# nothing\n\n \t\n", "empty script"),
         ("procs 0", "line 1: bad number"),
-        ("procs 9", "line 1: bad number"),
+        ("procs 17", "line 1: bad number"),
         ("procs", "line 1: wrong count of words"),
         ("procs 2 2", "line 1: wrong count of words"),
         ("procs +2", "line 1: bad number"),
@@ -80,9 +82,9 @@ fn has_text(alloc: Global, error: &CommandError, text: &str) -> bool {
 }
 
 /// What `decode` writes of an input, or the text of its error.
-fn decoded(alloc: Global, input: &str) -> Result<Vec<u8>, Fail> {
+fn decoded(alloc: Global, ext: Ext, input: &str) -> Result<Vec<u8>, Fail> {
     let mut written = Vec::new(alloc);
-    match decode(alloc, &mut input.as_bytes(), &mut written) {
+    match decode(alloc, ext, &mut input.as_bytes(), &mut written) {
         Ok(()) => Ok(written),
         Err(error) => Ok(error.to_string(alloc)?.into_bytes()),
     }
@@ -114,8 +116,15 @@ fn words_and_their_texts(rt: HostRuntime) -> Result<(), Fail> {
         ("x y", "line 1: wrong count of words"),
         ("00500093\nx\nx y", "line 2: bad word"),
     ] {
-        let written = decoded(rt.alloc(), input)?;
+        let written = decoded(rt.alloc(), Ext::I, input)?;
         assert_eq!(rt; written.as_slice(), text.as_bytes(), "{input}");
+    }
+    for (ext, text) in [
+        (Ext::I, "none\nnone\naddi x1, x0, 5\n"),
+        (Ext::Im, "mul x3, x1, x2\nremu x3, x1, x2\naddi x1, x0, 5\n"),
+    ] {
+        let written = decoded(rt.alloc(), ext, "022081B3\n0220F1B3\n00500093\n")?;
+        assert_eq!(rt; written.as_slice(), text.as_bytes(), "{ext:?}");
     }
     Ok(())
 }
@@ -160,11 +169,11 @@ fn streams_that_fail(rt: HostRuntime) {
     let input = b"procs 1";
     let wrote = frontier(rt.alloc(), &mut input.as_slice(), &mut Failing { calls: 3 });
     assert_eq!(rt; wrote, Err(CommandError::CannotWrite));
-    let read = decode(rt.alloc(), &mut Failing { calls: 3 }, &mut written);
+    let read = decode(rt.alloc(), Ext::I, &mut Failing { calls: 3 }, &mut written);
     assert_eq!(rt; read, Err(CommandError::CannotRead));
     assert!(rt; written.is_empty());
     let input = b"00000073";
-    let wrote = decode(rt.alloc(), &mut input.as_slice(), &mut Failing { calls: 3 });
+    let wrote = decode(rt.alloc(), Ext::I, &mut input.as_slice(), &mut Failing { calls: 3 });
     assert_eq!(rt; wrote, Err(CommandError::CannotWrite));
 }
 

@@ -20,11 +20,13 @@ fn main(rt: HostRuntime) -> ExitCode {
     }
 }
 
-/// Compares both files. Answers whether all their lines agree.
+/// Compares all files. Answers whether all their lines agree.
 fn compare_all(rt: &HostRuntime) -> io::Result<bool> {
     let words = compare(rt, "words", words::agrees)?;
+    let words_m = compare(rt, "words-m", words::agrees_with_m_alone)?;
     let steps = compare(rt, "steps", steps::agrees)?;
-    Ok(words && steps)
+    let steps_m = compare(rt, "steps-m", steps::agrees_with_m_alone)?;
+    Ok(words && words_m && steps && steps_m)
 }
 
 /// Prints each line of a file that does not agree, and how many do. Answers whether all do.

@@ -3,13 +3,15 @@
 //! `ADDRESS=BYTES` or `-`; numbers in hexadecimal, but N.
 //!
 //! Memory has 65,536 bytes: the word 00100073 all over, then the line's 64 bytes from 00008000 on, then the line's word at
-//! pc. The steps were executed by qemu-riscv32 7.2: 1,202 of 38 instructions, all but ecall and ebreak. None of them traps.
+//! pc. The steps were executed by qemu-riscv32 7.2: 1,202 of 38 instructions, all but ecall and ebreak, and in a second
+//! file 304 of RV32M, 38 of each instruction. None of them traps.
 
 ghost use Rattle.std.specs.Prelude.{◌≡◌, ◌↔◌, length, IfSome, true};
 ghost use Rattle.om_machine.specs.State.{IsSize};
-ghost use Rattle.om_machine.specs.Steps.{next_of};
+ghost use Rattle.om_machine.specs.Step.{next_of};
 
-use om_machine::{Event, Machine, WRITABLE_REGISTERS};
+use om_isa::{Ext, WRITABLE_REGISTERS};
+use om_machine::{Cause, Event, Machine};
 use std::alloc::{AllocError, Global};
 
 const FILLER: u32 = 0x0010_0073;
@@ -33,24 +35,49 @@ struct Values {
     memory: Vec<u8>,
 }
 
-/// Whether a line's step leads to what the line says. A line of another form does not agree.
+/// Whether a line's step leads to what the line says in a program of RV32I. A line of another form does not agree.
 pub fn agrees(alloc: Global, line: &str) -> Result<bool, AllocError> {
+    match machines(alloc, line, Ext::I)? {
+        Some((before, after)) => Ok(goes_to(before, &after)),
+        None => Ok(false),
+    }
+}
+
+/// Whether a line's step leads to what the line says in a program of RV32IM, and traps in one of RV32I, as it is no
+/// instruction there.
+pub fn agrees_with_m_alone(alloc: Global, line: &str) -> Result<bool, AllocError> {
+    let goes = match machines(alloc, line, Ext::Im)? {
+        Some((before, after)) => goes_to(before, &after),
+        None => false,
+    };
+    let traps = match (
+        machines(alloc, line, Ext::I)?,
+        machines(alloc, line, Ext::I)?,
+    ) {
+        (Some((machine, _)), Some((before, _))) => is_illegal(machine, &before),
+        _ => false,
+    };
+    Ok(goes && traps)
+}
+
+/// The machines before and after a line's step, or `None` where the line has another form.
+fn machines(alloc: Global, line: &str, ext: Ext) -> Result<Option<(Machine, Machine)>, AllocError> {
     let fields: Vec<&str> = line.split(' ').collect(alloc)?;
     let [word, _, pc, regs, data, next_pc, reg, bytes] = fields.as_slice() else {
-        return Ok(false);
+        return Ok(None);
     };
     let mut values = Values::filled(alloc)?;
     if values.begin(word, pc, regs, data).is_none() {
-        return Ok(false);
+        return Ok(None);
     }
-    let before = values.machine(alloc, COUNT)?;
+    let before = values.machine(alloc, COUNT, ext)?;
     if values.end(next_pc, reg, bytes).is_none() {
-        return Ok(false);
+        return Ok(None);
     }
-    let after = values.machine(alloc, COUNT + 1)?;
+    let after = values.machine(alloc, COUNT + 1, ext)?;
     match (before, after) {
-        (Some(before), Some(after)) => Ok(goes_to(before, &after)),
-        _ => Ok(false),
+        (Some(before), Some(after)) => Ok(Some((before, after))),
+        _ => Ok(None),
     }
 }
 
@@ -60,6 +87,14 @@ fn goes_to(before: Machine, after: &Machine) -> bool
 {
     let mut machine = before;
     machine.step() == Event::Went && machine == *after
+}
+
+/// Whether a step finds no instruction, and leaves the machine as it was.
+fn is_illegal(machine: Machine, before: &Machine) -> bool
+    ensures { (result ≡ true) → (next_of machine ≡ (Event.Trap Cause.Illegal, before.now)) }
+{
+    let mut machine = machine;
+    machine.step() == Event::Trap(Cause::Illegal) && machine == *before
 }
 
 impl Values {
@@ -110,11 +145,11 @@ impl Values {
     }
 
     /// A machine in this state, or `None` where no machine has it.
-    fn machine(&self, alloc: Global, count: u64) -> Result<Option<Machine>, AllocError> {
+    fn machine(&self, alloc: Global, count: u64, ext: Ext) -> Result<Option<Machine>, AllocError> {
         if self.pc % 4 != 0 || self.memory.len() != MEMORY_BYTES {
             return Ok(None);
         }
-        match Machine::restore(alloc, &self.regs, self.pc, count, &self.memory) {
+        match Machine::restore(alloc, &self.regs, self.pc, count, &self.memory, ext) {
             Ok(machine) => Ok(Some(machine)),
             Err(_) => Err(AllocError),
         }

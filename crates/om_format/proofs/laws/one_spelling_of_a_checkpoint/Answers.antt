@@ -3,4 +3,4 @@ use Rattle.om_format.proofs.Formats.{one_spelling}
 use Rattle.om_format.proofs.laws.one_spelling_of_a_checkpoint.Goals as goal
 
 pub returns : goal.returns
-returns c = λ r a b p q. one_spelling checkpoint_format (checkpoint_values r) a b p.fields q.fields
+returns c = λ version r a b p q. one_spelling checkpoint_format (checkpoint_values version r) a b p.fields q.fields

@@ -12,14 +12,14 @@ loop-p-preserved c =
           w.push_reserved.ensures.items ∙ ap (λ n. w.index_mut.result.now.items ++ (n + 1) ∷ []) w.from.ensures in
           rw w.by_process-is record {
             begun = begun_push _ _ _ _ _ _ _ there w.index_mut.ensures.value pushed w.if-who-p.true c.loop-p.invariant.begun;
-            room = λ k d low high. let other : k ≢ c.loop-p.p = omega arith in
-                subst (λ (v : Vec ℕ Global). vec_len v < vec_capacity v) (sym (get_or-set_other c.loop-p.by_process.items c.loop-p.p k w.push_reserved.new.self d other)) (c.loop-p.invariant.room k d (omega arith) high);
+            room = λ k d low high named. let other : k ≢ c.loop-p.p = omega arith in
+                subst (λ (v : Vec ℕ Global). vec_len v < vec_capacity v) (sym (get_or-set_other c.loop-p.by_process.items c.loop-p.p k w.push_reserved.new.self d other)) (c.loop-p.invariant.room k d (omega arith) high named);
             len = c.loop-p.invariant.len;
           }
       | else-who-p w ↦
           rw w.by_process-is record {
             begun = begun_other _ _ _ _ _ w.if-who-p.false c.loop-p.invariant.begun;
-            room = λ k d low high. c.loop-p.invariant.room k d (omega arith) high;
+            room = λ k d low high named. c.loop-p.invariant.room k d (omega arith) high named;
             len = c.loop-p.invariant.len;
           }
     ]

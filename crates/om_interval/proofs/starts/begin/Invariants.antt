@@ -1,11 +1,11 @@
-use Rattle.std.proofs.Common.{◌≡◌, ◌<◌, map, vec_len, vec_capacity}
-use Rattle.std.specs.List.{AllWithin}
+use Rattle.std.proofs.Common.{◌≡◌, ◌<◌, ◌≤◌, ℕ, Vec, Global, true, map, get_or, vec_len, vec_capacity}
+use Rattle.om_interval.specs.Starts.{is_named}
 use Rattle.om_interval.proofs.StartsLemmas.{BegunBelow}
 use Rattle.om_interval.proofs.starts.begin.Given as goal
 
 abbrev pub invariant-loop-p : goal.invariant-loop-p
 invariant-loop-p l = record {
   begun : BegunBelow l.who l.state (map (λ v. v.items) l.initial.by_process.items) (map (λ v. v.items) l.by_process.items) l.p;
-  room : AllWithin (λ v. vec_len v < vec_capacity v) l.by_process.items l.p l.p-end;
+  room : (p : ℕ) (d : Vec ℕ Global) → l.p ≤ p → p < l.p-end → is_named l.who p ≡ true → vec_len (get_or l.by_process.items p d) < vec_capacity (get_or l.by_process.items p d);
   len : vec_len l.by_process ≡ l.p-end;
 }

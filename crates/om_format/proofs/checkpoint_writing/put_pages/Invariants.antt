@@ -1,0 +1,8 @@
+use Rattle.std.proofs.Common.{◌≡◌, ◌++◌}
+use Rattle.std.specs.List.{flat_map}
+use Rattle.om_format.specs.steps.CheckpointBytes.{page_bytes}
+use Rattle.om_format.proofs.KeptPages.{kept_before}
+use Rattle.om_format.proofs.checkpoint_writing.put_pages.Given as goal
+
+abbrev pub invariant-loop-index : goal.invariant-loop-index
+invariant-loop-index l = l.out.items ≡ l.fn.out.items ++ flat_map page_bytes (kept_before l.memory l.index)

@@ -1,0 +1,6 @@
+-- The steps of the code, as functions on lists. Only private functions speak of them; what they come to is stated over
+-- the formats.
+pub mod Reading
+pub mod CheckpointReading
+pub mod ReceiptBytes
+pub mod CheckpointBytes

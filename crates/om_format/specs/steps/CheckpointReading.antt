@@ -1,0 +1,176 @@
+-- Reading a checkpoint from left to right.
+use Rattle.std.specs.Prelude.{ℕ, zero, suc, ◌+◌, ◌-◌, ◌*◌, ◌%◌, ◌==◌, ◌&&◌, List, [], ◌∷◌, ◌++◌, length, replicate, sum, slice_index, Result, Ok, nat_lt, nat_le}
+use Rattle.om_format.specs.declared.error.DecodeError.{DecodeError}
+use Rattle.om_format.specs.declared.error.DecodeError.TheVariants.{Field}
+use Rattle.om_format.specs.declared.limits.TheConstants.{PAGE, REGISTERS}
+use Rattle.om_format.specs.declared.version.Version.{Version}
+use Rattle.om_format.specs.declared.version.Version.TheVariants.{V1, V2}
+use Rattle.om_format.specs.declared.checkpoint_reading.Head.{Head}
+use Rattle.om_format.specs.declared.checkpoint_reading.Front.{Front}
+use Rattle.om_format.specs.declared.checkpoint_reading.Vectors.{Vectors}
+use Rattle.om_format.specs.declared.queue.Entry.{Entry}
+use Rattle.om_format.specs.Formats.{Size, one, two, four, eight, bytes_in}
+use Rattle.om_format.specs.Queues.{QueueRecord, is_between}
+use Rattle.om_format.specs.Pages.{Page, page_count, page_size, is_kept}
+use Rattle.om_format.specs.Versions.{is_kind, ext_of, is_version, version_of, is_cluster_size}
+use Rattle.om_format.specs.Checkpoints.{CheckpointRecord, is_memory_size}
+use Rattle.om_format.specs.steps.Reading.{◌>>=◌, allow, number_at, numbers_at, bytes_at, opening_at, body_at, end_at}
+
+-- the fields before the registers
+unfoldable pub head_at : List ℕ → Result (Head × List ℕ) DecodeError
+head_at bytes = do
+  opened ← opening_at is_kind is_version bytes
+  n ← number_at one opened.2
+  is_cluster ← allow (is_cluster_size (version_of opened.1) n.0) (Field 2)
+  pid ← number_at one n.1
+  is_below ← allow (nat_lt pid.0 n.0) (Field 3)
+  interval ← number_at four pid.1
+  count ← number_at eight interval.1
+  is_counted ← allow (nat_le interval.0 count.0) (Field 8)
+  pc ← number_at four count.1
+  is_aligned ← allow (pc.0 % 4 == 0) (Field 16)
+  Ok (
+    record {
+      ext = ext_of opened.0;
+      version = version_of opened.1;
+      n = n.0;
+      pid = pid.0;
+      interval = interval.0;
+      count = count.0;
+      pc = pc.0;
+    },
+    pc.1,
+  )
+
+-- the dependency vector, the numbers got and the numbers sent
+unfoldable pub vectors_at : ℕ → ℕ → ℕ → List ℕ → Result (Vectors × List ℕ) DecodeError
+vectors_at n pid interval bytes = do
+  vec ← numbers_at four n bytes
+  is_own ← allow (slice_index vec.0 pid == interval) (Field 144)
+  got ← numbers_at four n vec.1
+  is_sum ← allow (sum got.0 == interval) (Field (144 + 4 * n))
+  sent ← numbers_at four n got.1
+  Ok (record { vec = vec.0; got = got.0; sent = sent.0 }, sent.1)
+
+-- the fields before the memory
+unfoldable pub front_at : List ℕ → Result (Front × List ℕ) DecodeError
+front_at bytes = do
+  head ← head_at bytes
+  regs ← numbers_at four REGISTERS head.1
+  vectors ← vectors_at head.0.n head.0.pid head.0.interval regs.1
+  made ← number_at eight vectors.1
+  is_made ← allow (nat_le made.0 head.0.count) (Field (144 + 12 * head.0.n))
+  size ← number_at four made.1
+  is_size ← allow (is_memory_size size.0) (Field (152 + 12 * head.0.n))
+  Ok (
+    record {
+      head = head.0;
+      regs = regs.0;
+      vectors = vectors.0;
+      made = made.0;
+      size = size.0;
+    },
+    size.1,
+  )
+
+-- a page of a memory of this size, and the bytes after it
+unfoldable pub page_at : ℕ → ℕ → ℕ → List ℕ → Result (Page × List ℕ) DecodeError
+page_at size low offset bytes = do
+  index ← number_at two bytes
+  fine ← allow (nat_le low index.0 && nat_lt index.0 (page_count size)) (Field offset)
+  page ← bytes_at (page_size size index.0) index.1
+  kept ← allow (is_kept page.0) (Field (offset + 2))
+  Ok (record { index = index.0; bytes = page.0 }, page.1)
+
+-- the memory from a page on, of which so many pages are kept, the offset after them, and the bytes after them
+unfoldable pub pages_at : ℕ → ℕ → ℕ → ℕ → List ℕ → Result (List ℕ × ℕ × List ℕ) DecodeError
+pages_at size low zero offset bytes = Ok (replicate (size - low * PAGE) 0, offset, bytes)
+pages_at size low (suc count) offset bytes = do
+  page ← page_at size low offset bytes
+  more ← pages_at size (page.0.index + 1) count (offset + (2 + length page.0.bytes)) page.1
+  Ok (replicate ((page.0.index - low) * PAGE) 0 ++ (page.0.bytes ++ more.0), more.1, more.2)
+
+-- a memory of this size, likewise
+unfoldable pub memory_at : Version → ℕ → ℕ → List ℕ → Result (List ℕ × ℕ × List ℕ) DecodeError
+memory_at V1 size offset bytes = do
+  all ← bytes_at size bytes
+  Ok (all.0, offset + length all.0, all.1)
+memory_at V2 size offset bytes = do
+  count ← number_at two bytes
+  fine ← allow (nat_le count.0 (page_count size)) (Field offset)
+  pages_at size 0 count.0 (offset + 2) count.1
+
+-- what stands before the bytes of the memory, and the bytes after that
+unfoldable pub before_memory_at : Version → ℕ → ℕ → List ℕ → Result (ℕ × List ℕ) DecodeError
+before_memory_at V1 size offset bytes = Ok (0, bytes)
+before_memory_at V2 size offset bytes = do
+  count ← number_at two bytes
+  fine ← allow (nat_le count.0 (page_count size)) (Field offset)
+  Ok count
+
+-- an entry, the offset after it, and the bytes after it
+unfoldable pub entry_at : ℕ → ℕ → ℕ → List ℕ → Result (Entry × ℕ × List ℕ) DecodeError
+entry_at newest low offset bytes = do
+  interval ← number_at four bytes
+  fine ← allow (is_between low newest interval.0) (Field offset)
+  content ← body_at (offset + 4) interval.1
+  Ok (record { interval = interval.0; body = content.0 }, offset + 4 + 2 + length content.0, content.1)
+
+-- so many entries
+unfoldable pub entries_at : ℕ → ℕ → ℕ → ℕ → List ℕ → Result (List Entry × ℕ × List ℕ) DecodeError
+entries_at newest low zero offset bytes = Ok ([], offset, bytes)
+entries_at newest low (suc count) offset bytes = do
+  e ← entry_at newest low offset bytes
+  more ← entries_at newest e.0.interval count e.1 e.2
+  Ok (e.0 ∷ more.0, more.1, more.2)
+
+-- a queue that ends at this number
+unfoldable pub queue_at : Size → ℕ → ℕ → ℕ → List ℕ → Result (QueueRecord × ℕ × List ℕ) DecodeError
+queue_at size newest stop offset bytes = do
+  first ← number_at size bytes
+  fine ← allow (nat_le first.0 stop) (Field offset)
+  kept ← entries_at newest 0 (stop - first.0) (offset + bytes_in size) first.1
+  Ok (record { first = first.0; entries = kept.0 }, kept.1, kept.2)
+
+-- a queue for each of these ends
+unfoldable pub queues_at : ℕ → List ℕ → ℕ → List ℕ → Result (List QueueRecord × ℕ × List ℕ) DecodeError
+queues_at newest [] offset bytes = Ok ([], offset, bytes)
+queues_at newest (stop ∷ stops) offset bytes = do
+  q ← queue_at four newest stop offset bytes
+  more ← queues_at newest stops q.1 q.2
+  Ok (q.0 ∷ more.0, more.1, more.2)
+
+-- the memory and the queues behind these fields
+unfoldable pub rest_at : Front → List ℕ → Result (List ℕ × List QueueRecord × QueueRecord) DecodeError
+rest_at f bytes = do
+  memory ← memory_at f.head.version f.size (156 + 12 * f.head.n) bytes
+  kept ← queues_at f.head.interval f.vectors.sent memory.1 memory.2
+  outputs ← queue_at eight f.head.interval f.made kept.1 kept.2
+  ended ← end_at outputs.2
+  Ok (memory.0, kept.0, outputs.0)
+
+-- the checkpoint of these fields
+abbrev pub checkpoint_of : Front → List ℕ → List QueueRecord → QueueRecord → CheckpointRecord
+checkpoint_of f memory kept outputs = record {
+  ext = f.head.ext;
+  n = f.head.n;
+  pid = f.head.pid;
+  interval = f.head.interval;
+  count = f.head.count;
+  pc = f.head.pc;
+  regs = f.regs;
+  vec = f.vectors.vec;
+  got = f.vectors.got;
+  sent = f.vectors.sent;
+  made = f.made;
+  memory = memory;
+  kept = kept;
+  outputs = outputs;
+}
+
+-- a whole checkpoint, and its version
+unfoldable pub checkpoint_at : List ℕ → Result (Version × CheckpointRecord) DecodeError
+checkpoint_at bytes = do
+  f ← front_at bytes
+  r ← rest_at f.0 f.1
+  Ok (f.0.head.version, checkpoint_of f.0 r.0 r.1 r.2)

@@ -1,0 +1,123 @@
+//! The memory of a checkpoint.
+
+ghost use Rattle.std.specs.Prelude.{◌≡◌, ◌+◌, ◌<◌, ◌≤◌, ◌^◌, IfOk, IfErr, IsOk, length, true};
+ghost use Rattle.om_format.specs.declared.limits.TheConstants.{MAX_MEMORY};
+ghost use Rattle.om_format.specs.Checkpoints.{is_memory_size};
+ghost use Rattle.om_format.specs.Outcomes.{Gives, Tells};
+ghost use Rattle.om_format.specs.Pages.{page_count, page_size};
+ghost use Rattle.om_format.specs.steps.CheckpointReading.{page_at, pages_at, memory_at, before_memory_at};
+
+use crate::error::DecodeError;
+use crate::limits::PAGE;
+use crate::memory::MemoryBytes;
+use crate::pages::{is_kept, page_count, page_size};
+use crate::reading::{Taken, bytes_at, u16_at};
+use crate::version::Version;
+use std::alloc::Global;
+
+// The index of a page of a memory of this size, from `low` on, its bytes, and those after it.
+#[tactic(auto, unfolding(crate::specs::steps::CheckpointReading::page_at))]
+fn page_at(
+    size: usize,
+    low: usize,
+    offset: usize,
+    bytes: &[u8],
+) -> Result<(usize, &[u8], &[u8]), DecodeError>
+    requires most { size ≤ MAX_MEMORY }
+    requires room { offset + length bytes.now < 2 ^ 64 }
+    ensures exact { Tells (λ x. (record { index = x.0; bytes = x.1.now }, x.2.now)) result
+        (page_at size low offset bytes.now) }
+    ensures above { IfOk result (λ x. low ≤ x.0) }
+    ensures below { IfOk result (λ x. x.0 < page_count size) }
+    ensures whole { IfOk result (λ x. length x.1.now ≡ page_size size x.0) }
+    ensures left { IfOk result (λ x. 2 + length x.1.now + length x.2.now ≡ length bytes.now) }
+{
+    let (index, rest) = u16_at(bytes)?;
+    let index = index as usize;
+    if index < low || index >= page_count(size) {
+        return Err(DecodeError::Field(offset));
+    }
+    let (page, rest) = bytes_at(page_size(size, index), rest)?;
+    if !is_kept(page) {
+        return Err(DecodeError::Field(offset + 2));
+    }
+    Ok((index, page, rest))
+}
+
+// A memory of which so many pages are kept: the others are zeros.
+fn pages_at<'a>(
+    alloc: Global,
+    size: usize,
+    count: usize,
+    offset: usize,
+    bytes: &'a [u8],
+) -> Result<Taken<'a, Vec<u8>>, DecodeError>
+    requires most { size ≤ MAX_MEMORY }
+    requires room { offset + length bytes.now < 2 ^ 64 }
+    ensures exact { Gives (λ x. (x.value.items, x.offset, x.rest.now)) result
+        (pages_at size 0 count offset bytes.now) }
+    ensures size { IfOk result (λ x. length x.value.items ≡ size) }
+    ensures left { IfOk result (λ x. x.offset + length x.rest.now ≡ offset + length bytes.now) }
+{
+    let mut value = Vec::with_capacity(alloc, size)?;
+    let mut low = 0;
+    let mut offset = offset;
+    let mut rest = bytes;
+    for _ in 0..count {
+        let (index, page, after) = page_at(size, low, offset, rest)?;
+        value.resize(index * PAGE, 0)?;
+        value.extend_from_slice(page)?;
+        low = index + 1;
+        offset += 2 + page.len();
+        rest = after;
+    }
+    value.resize(size, 0)?;
+    Ok(Taken {
+        value,
+        offset,
+        rest,
+    })
+}
+
+// A memory of this size, in the form of this version.
+#[tactic(auto, unfolding(crate::specs::steps::CheckpointReading::memory_at, crate::specs::steps::CheckpointReading::before_memory_at))]
+pub(crate) fn memory_at<'a>(
+    alloc: Global,
+    version: Version,
+    size: usize,
+    offset: usize,
+    bytes: &'a [u8],
+) -> Result<Taken<'a, MemoryBytes>, DecodeError>
+    requires size { is_memory_size size ≡ true }
+    requires room { offset + length bytes.now < 2 ^ 64 }
+    ensures exact { Gives (λ x. (x.value, x.offset, x.rest.now)) result
+        (memory_at version size offset bytes.now) }
+    ensures before { IfOk result (λ _. IsOk (before_memory_at version size offset bytes.now)) }
+    ensures memory { IfErr result (λ e. e ≡ DecodeError.Memory → IsOk (before_memory_at version size offset bytes.now)) }
+    ensures left { IfOk result (λ x. x.offset + length x.rest.now ≡ offset + length bytes.now) }
+{
+    match version {
+        Version::V1 => {
+            let (all, rest) = bytes_at(size, bytes)?;
+            let value = MemoryBytes::from_vec(Vec::from_slice(alloc, all)?);
+            Ok(Taken {
+                value,
+                offset: offset + all.len(),
+                rest,
+            })
+        }
+        Version::V2 => {
+            let (count, rest) = u16_at(bytes)?;
+            let count = count as usize;
+            if count > page_count(size) {
+                return Err(DecodeError::Field(offset));
+            }
+            let taken = pages_at(alloc, size, count, offset + 2, rest)?;
+            Ok(Taken {
+                value: MemoryBytes::from_vec(taken.value),
+                offset: taken.offset,
+                rest: taken.rest,
+            })
+        }
+    }
+}

@@ -1,0 +1,8 @@
+//! What holds of vectors, whatever they stand for: each function stands for a theorem over the definitions alone.
+ghost use Rattle.std.specs.Prelude.{◌≡◌, ◌≢◌, ℕ, ◌<◌, List, sum};
+ghost use Rattle.om_interval.specs.Vectors.{IsBelow};
+
+/// The numbers of a vector that is below another, and not that one, come to less.
+pub fn lower_vector_has_smaller_sum()
+    ensures { (low high : List ℕ) → IsBelow low high → low ≢ high → sum low < sum high }
+{}

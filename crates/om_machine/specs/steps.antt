@@ -1,0 +1,2 @@
+-- What private contracts alone speak of.
+pub mod Told

@@ -1,0 +1,200 @@
+use Rattle.std.proofs.Common.{◌≡◌, ℕ, ◌+◌, ◌<◌, ◌≤◌, ◌&&◌, ◌||◌, inl, inr, refl, sym, ◌∙◌, ap, subst, arith, cond, Bool, true, false, true≢false, List, [], ◌∷◌, length, slice_index, nat_le, All, get_or}
+use Rattle.std.specs.List.{filter, AllWithin, HoldsAt}
+use Rattle.std.proofs.lemmas.Bool.{cases_order, leb-true, le-leb}
+use Rattle.std.proofs.lemmas.List.{get_or_default}
+use Rattle.std.proofs.lemmas.List.Kept.{AllPairs-filter}
+use Rattle.std.specs.FinSet as set
+use Rattle.std.specs.Ordering.{eq_by_cmp}
+use Rattle.std.specs.Cmp.{Equal-is}
+use Rattle.om_recover.specs.Rows.{Rows, HasRow, Has, IsLawful, row_cmp}
+use Rattle.om_recover.specs.Recoverable.{IsStable, IsGreatest}
+use Rattle.om_recover.specs.steps.AsKept.{AreKept}
+use Rattle.om_recover.specs.steps.Search.{AreInOrder, StandsBefore, IsCheckpointWithin, IsOfInterval}
+use Rattle.om_recover.specs.Cutting.{IsEffective, AreEffective, cut_to, pruned_to}
+use Rattle.om_recover.specs.declared.row.RowKind.{RowKind}
+use Rattle.om_recover.specs.declared.row.RowKind.TheVariants.{Checkpoint, Log}
+use Rattle.om_recover.specs.declared.row.Row.{Row}
+use Rattle.om_recover.proofs.RowsLemmas.{rows_total, exact_rows, in_list, of_list}
+use Rattle.om_recover.proofs.StableLemmas.{stable_by_records, record_of_stable}
+use Rattle.om_recover.proofs.OrderLemmas.{lawful_part}
+
+kept_one : (e c t : Bool) → (e ≡ true → t ≡ true) → (e || (c && t)) ≡ ((e || c) && t)
+kept_one true c t tested = sym (tested refl)
+kept_one false c t tested = refl
+
+dropped_one : (e c t : Bool) → (e ≡ true → t ≡ false) → (c && t) ≡ ((e || c) && t)
+dropped_one true true t tested = refl
+dropped_one true false t tested = sym (tested refl)
+dropped_one false c t tested = refl
+
+contains-filter : (test : Row → Bool) (rows : List Row) (q : Row) → set.contains (set.from_list {R = row_cmp} (filter test rows)) q ≡ (set.contains (set.from_list {R = row_cmp} rows) q && test q)
+contains-filter test [] q = set.contains-empty row_cmp q ∙ sym (ap (λ b. b && test q) (set.contains-empty row_cmp q))
+contains-filter test (x ∷ rows) q =
+    let tested : (b : Bool) → test x ≡ b → eq_by_cmp row_cmp q x ≡ true → test q ≡ b = λ b is same. ap test (exact_rows q x ((Equal-is (row_cmp q x)).0 same)) ∙ is in
+    elim (test x) as (λ b. test x ≡ b → set.contains (set.from_list {R = row_cmp} (cond b (x ∷ filter test rows) (filter test rows))) q ≡ (set.contains (set.insert (set.from_list {R = row_cmp} rows) x) q && test q)) [
+      | true ↦ λ is. set.contains-insert rows_total (set.from_list (filter test rows)) x q
+          ∙ ap (λ b. eq_by_cmp row_cmp q x || b) (contains-filter test rows q)
+          ∙ kept_one (eq_by_cmp row_cmp q x) (set.contains (set.from_list {R = row_cmp} rows) q) (test q) (tested true is)
+          ∙ sym (ap (λ b. b && test q) (set.contains-insert rows_total (set.from_list rows) x q))
+      | false ↦ λ is. contains-filter test rows q
+          ∙ dropped_one (eq_by_cmp row_cmp q x) (set.contains (set.from_list {R = row_cmp} rows) q) (test q) (tested false is)
+          ∙ sym (ap (λ b. b && test q) (set.contains-insert rows_total (set.from_list rows) x q))
+    ] refl
+
+contains-retain : (rows : Rows) (test : Row → Bool) (q : Row) → set.contains (set.retain rows test) q ≡ (set.contains rows q && test q)
+contains-retain rows test q = set.contains-retain rows test q (λ x tie. ap test (sym (exact_rows q x tie)))
+
+-- what a test leaves of a list is what it leaves of its rows
+pub from_list-filter : (test : Row → Bool) (rows : List Row) → set.from_list {R = row_cmp} (filter test rows) ≡ set.retain (set.from_list rows) test
+from_list-filter test rows = set.same_set rows_total exact_rows _ _ (λ q. contains-filter test rows q ∙ sym (contains-retain (set.from_list rows) test q))
+
+both : (a b : Bool) → (a && b) ≡ true → (a ≡ true) × (b ≡ true)
+both true b is = (refl, is)
+both false b is = absurd (true≢false (sym is))
+
+of_retained : (rows : Rows) (test : Row → Bool) (row : Row) → HasRow (set.retain rows test) row → HasRow rows row × (test row ≡ true)
+of_retained rows test row there = both _ _ (sym (contains-retain rows test row) ∙ there)
+
+retained : (rows : Rows) (test : Row → Bool) (row : Row) → HasRow rows row → test row ≡ true → HasRow (set.retain rows test) row
+retained rows test row there passes = contains-retain rows test row ∙ ap (λ b. b && test row) there ∙ passes
+
+-- a row after a cut
+pub of_cut : (rows : Rows) (state : List ℕ) (row : Row) → HasRow (cut_to rows state) row → HasRow rows row × (row.interval ≤ slice_index state row.pid)
+of_cut rows state row there = let found = of_retained rows _ row there in (found.0, leb-true _ _ found.1)
+
+pub to_cut : (rows : Rows) (state : List ℕ) (row : Row) → HasRow rows row → row.interval ≤ slice_index state row.pid → HasRow (cut_to rows state) row
+to_cut rows state row there within = retained rows _ row there (le-leb _ _ within)
+
+-- a row after a prune
+pub of_pruned : (rows : Rows) (checkpoints : List ℕ) (row : Row) → HasRow (pruned_to rows checkpoints) row → HasRow rows row × (slice_index checkpoints row.pid ≤ row.interval)
+of_pruned rows checkpoints row there = let found = of_retained rows _ row there in (found.0, leb-true _ _ found.1)
+
+pub to_pruned : (rows : Rows) (checkpoints : List ℕ) (row : Row) → HasRow rows row → slice_index checkpoints row.pid ≤ row.interval → HasRow (pruned_to rows checkpoints) row
+to_pruned rows checkpoints row there within = retained rows _ row there (le-leb _ _ within)
+
+has_among : (part rows : Rows) (kind : RowKind) (p y : ℕ) → ((row : Row) → HasRow part row → HasRow rows row) → Has part kind p y → Has rows kind p y
+has_among part rows kind p y among has = record { row = has.row; there = among has.row has.there; kind_is = has.kind_is; pid_is = has.pid_is; interval_is = has.interval_is }
+
+has_after_cut : (rows : Rows) (state : List ℕ) (kind : RowKind) (p y : ℕ) → y ≤ slice_index state p → Has rows kind p y → Has (cut_to rows state) kind p y
+has_after_cut rows state kind p y within has = record {
+  row = has.row;
+  there = to_cut rows state has.row has.there (subst (λ q. has.row.interval ≤ slice_index state q) (sym has.pid_is) (omega (arith, has.interval_is, within)));
+  kind_is = has.kind_is;
+  pid_is = has.pid_is;
+  interval_is = has.interval_is;
+}
+
+pub has_after_prune : (rows : Rows) (checkpoints : List ℕ) (kind : RowKind) (p y : ℕ) → slice_index checkpoints p ≤ y → Has rows kind p y → Has (pruned_to rows checkpoints) kind p y
+has_after_prune rows checkpoints kind p y within has = record {
+  row = has.row;
+  there = to_pruned rows checkpoints has.row has.there (subst (λ q. slice_index checkpoints q ≤ has.row.interval) (sym has.pid_is) (omega (arith, has.interval_is, within)));
+  kind_is = has.kind_is;
+  pid_is = has.pid_is;
+  interval_is = has.interval_is;
+}
+
+-- a cut to the greatest state keeps it
+pub greatest_after_cut : (n : ℕ) (rows : Rows) (state : List ℕ) → IsLawful n rows → IsGreatest n rows state → IsGreatest n (cut_to rows state) state
+greatest_after_cut n rows state lawful greatest = record {
+  recoverable = record {
+    places = greatest.recoverable.places;
+    stable = λ p in_cluster. stable_by_records rows (cut_to rows state) p (slice_index state p) (λ kind z below has. has_after_cut rows state kind p z below has) (greatest.recoverable.stable p in_cluster);
+    closed = λ row there. greatest.recoverable.closed row (of_cut rows state row there).0;
+  };
+  above_all = λ other recoverable. greatest.above_all other (record {
+    places = recoverable.places;
+    stable = λ p in_cluster. stable_by_records (cut_to rows state) rows p (slice_index other p) (λ kind z _. has_among (cut_to rows state) rows kind p z (λ row there. (of_cut rows state row there).0)) (recoverable.stable p in_cluster);
+    closed = λ row there at_state.
+        let has = (record_of_stable (cut_to rows state) row.pid (slice_index other row.pid) (recoverable.stable row.pid (lawful.known row there))).1 in
+        let within : has.row.interval ≤ slice_index state row.pid = subst (λ q. has.row.interval ≤ slice_index state q) has.pid_is (of_cut rows state has.row has.there).1 in
+        recoverable.closed row (to_cut rows state row there (omega (arith, at_state, has.interval_is, within))) at_state;
+  });
+}
+
+-- and so does a prune
+pub greatest_after_prune : (n : ℕ) (rows : Rows) (state checkpoints : List ℕ) → IsLawful n rows → AreEffective rows state checkpoints → IsGreatest n rows state → IsGreatest n (pruned_to rows checkpoints) state
+greatest_after_prune n rows state checkpoints lawful effective greatest = record {
+  recoverable = record {
+    places = greatest.recoverable.places;
+    stable = λ p in_cluster.
+        let old = greatest.recoverable.stable p in_cluster in
+        let used = effective.each p (omega (arith, in_cluster, greatest.recoverable.places)) in
+        let above : old.from ≤ slice_index checkpoints p = used.greatest old.from old.checkpoint old.below in
+        record {
+          from = slice_index checkpoints p;
+          checkpoint = has_after_prune rows checkpoints Checkpoint p (slice_index checkpoints p) (omega arith) used.there;
+          below = used.below;
+          logged = λ y over under. has_after_prune rows checkpoints Log p y (omega arith) (old.logged y (omega arith) under);
+        };
+    closed = λ row there. greatest.recoverable.closed row (of_pruned rows checkpoints row there).0;
+  };
+  above_all = λ other recoverable. greatest.above_all other (record {
+    places = recoverable.places;
+    stable = λ p in_cluster. stable_by_records (pruned_to rows checkpoints) rows p (slice_index other p) (λ kind z _. has_among (pruned_to rows checkpoints) rows kind p z (λ row there. (of_pruned rows checkpoints row there).0)) (recoverable.stable p in_cluster);
+    closed = λ row there at_state.
+        let has = (record_of_stable (pruned_to rows checkpoints) row.pid (slice_index other row.pid) (recoverable.stable row.pid (lawful.known row there))).1 in
+        let within : slice_index checkpoints row.pid ≤ has.row.interval = subst (λ q. slice_index checkpoints q ≤ has.row.interval) has.pid_is (of_pruned rows checkpoints has.row has.there).1 in
+        recoverable.closed row (to_pruned rows checkpoints row there (omega (arith, at_state, has.interval_is, within))) at_state;
+  });
+}
+
+-- how rows are kept after a cut
+pub kept_after_cut : (rows new : List Row) (state : List ℕ) → AreKept rows state → new ≡ filter (λ row. nat_le row.interval (slice_index state row.pid)) rows → AreKept new state
+kept_after_cut rows new state kept is =
+    let rows_are : set.from_list {R = row_cmp} new ≡ cut_to (set.from_list rows) state = ap set.from_list is ∙ from_list-filter _ rows in
+    record {
+      in_order = subst AreInOrder (sym is) (AllPairs-filter StandsBefore _ rows kept.in_order);
+      lawful = subst (IsLawful (length state)) (sym rows_are) (lawful_part (length state) _ _ (λ row there. (of_cut (set.from_list rows) state row there).0) kept.lawful);
+      greatest = subst (λ all. IsGreatest (length state) all state) (sym rows_are) (greatest_after_cut (length state) (set.from_list rows) state kept.lawful kept.greatest);
+    }
+
+-- and after a prune
+pub kept_after_prune : (rows new : List Row) (state checkpoints : List ℕ) → AreKept rows state → AreEffective (set.from_list rows) state checkpoints
+    → new ≡ filter (λ row. nat_le (slice_index checkpoints row.pid) row.interval) rows → AreKept new state
+kept_after_prune rows new state checkpoints kept effective is =
+    let rows_are : set.from_list {R = row_cmp} new ≡ pruned_to (set.from_list rows) checkpoints = ap set.from_list is ∙ from_list-filter _ rows in
+    record {
+      in_order = subst AreInOrder (sym is) (AllPairs-filter StandsBefore _ rows kept.in_order);
+      lawful = subst (IsLawful (length state)) (sym rows_are) (lawful_part (length state) _ _ (λ row there. (of_pruned (set.from_list rows) checkpoints row there).0) kept.lawful);
+      greatest = subst (λ all. IsGreatest (length state) all state) (sym rows_are) (greatest_after_prune (length state) (set.from_list rows) state checkpoints kept.lawful effective kept.greatest);
+    }
+
+-- a stable interval has a checkpoint within
+pub some_checkpoint : (rows : List Row) (p x : ℕ) → IsStable (set.from_list rows) p x → All (λ row. IsCheckpointWithin p x row → ⊥) rows → ⊥
+some_checkpoint rows p x stable none =
+    let has = stable.checkpoint in
+    let found = in_list rows has.row has.there in
+    none found.0 has.row found.1 (subst (IsCheckpointWithin p x) (sym found.2) (record { pid = has.pid_is; kind = has.kind_is; within = omega (arith, has.interval_is, stable.below) }))
+
+-- of rows in order, the last checkpoint within is the greatest
+pub last_is_effective : (rows : List Row) (p x place : ℕ) → AreInOrder rows → place < length rows → HoldsAt (IsCheckpointWithin p x) rows place
+    → AllWithin (λ row. IsCheckpointWithin p x row → ⊥) rows (place + 1) (length rows) → (d : Row) → IsEffective (set.from_list rows) p x (get_or rows place d).interval
+last_is_effective rows p x place in_order within holds later d =
+    let here : IsCheckpointWithin p x (get_or rows place d) = holds d in
+    record {
+      there = record { row = get_or rows place d; there = of_list rows place d within; kind_is = here.kind; pid_is = here.pid; interval_is = refl };
+      below = here.within;
+      greatest = λ other has under.
+          let found = in_list rows has.row has.there in
+          let fits : IsCheckpointWithin p x has.row = record { pid = has.pid_is; kind = has.kind_is; within = omega (arith, has.interval_is, under) } in
+          let is : get_or rows found.0 d ≡ has.row = get_or_default rows found.0 d has.row found.1 ∙ found.2 in
+          elim (cases_order found.0 place) [
+            | inl same ↦
+                let one : get_or rows place d ≡ has.row = ap (λ k. get_or rows k d) (sym same) ∙ is in
+                omega (arith, ap (λ (r : Row). r.interval) one, has.interval_is)
+            | inr apart ↦ elim apart [
+              | inl before ↦ elim (in_order found.0 place d before within) [
+                | inl lower ↦ absurd (omega (arith, lower, here.pid, ap (λ (r : Row). r.pid) is, has.pid_is))
+                | inr earlier ↦ omega (arith, earlier.1, ap (λ (r : Row). r.interval) is, has.interval_is)
+              ]
+              | inr after ↦ absurd (later found.0 has.row (omega arith) found.1 (subst (IsCheckpointWithin p x) (sym found.2) fits))
+            ]
+          ];
+    }
+
+-- a stable interval has a record
+pub some_record : (rows : List Row) (p x : ℕ) → IsStable (set.from_list rows) p x → All (λ row. IsOfInterval p x row → ⊥) rows → ⊥
+some_record rows p x stable none =
+    let has = (record_of_stable (set.from_list rows) p x stable).1 in
+    let found = in_list rows has.row has.there in
+    none found.0 has.row found.1 (subst (IsOfInterval p x) (sym found.2) (record { pid = has.pid_is; interval = has.interval_is }))

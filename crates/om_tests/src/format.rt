@@ -1,0 +1,5 @@
+mod bodies;
+mod checkpoints;
+mod limits;
+mod receipts;
+mod records;

@@ -1,0 +1,113 @@
+use om_isa::{
+    Ext, FenceBits, Imm12, Inst, Off13, Off21, Reg, Shamt, Upper, WriteFault, decode, encode,
+};
+use std::alloc::Global;
+use std::test::Fail;
+
+// The text of a word, None where it is no instruction.
+fn text_of_word(alloc: Global, word: u32, ext: Ext) -> Result<Option<Vec<u8>>, WriteFault> {
+    let Some(instruction) = decode(word, ext) else {
+        return Ok(None);
+    };
+    let mut text = Vec::new(alloc);
+    instruction.write_text(&mut text)?;
+    Ok(Some(text))
+}
+
+// The texts are GNU objdump's, laid out as `write_text` does; that of the fence follows the manual. Last the extension with
+// which the word is an instruction, None where it never is.
+#[test]
+fn words_have_their_texts(rt: HostRuntime) -> Result<(), Fail> {
+    for (word, text, needed) in [
+        (0x00500093, "addi x1, x0, 5", Some(Ext::I)),
+        (0xFE000EE3, "beq x0, x0, -4", Some(Ext::I)),
+        (0x0FF0000F, "fence x0, x0, 0xff", Some(Ext::I)),
+        (0x123452B7, "lui x5, 0x12345", Some(Ext::I)),
+        (0x41F0D093, "srai x1, x1, 31", Some(Ext::I)),
+        (0x5DC570EF, "jal x1, 357852", Some(Ext::I)),
+        (0x002502E7, "jalr x5, 2(x10)", Some(Ext::I)),
+        (0xB80B2E83, "lw x29, -1152(x22)", Some(Ext::I)),
+        (0x80080F23, "sb x0, -2018(x16)", Some(Ext::I)),
+        (0x40DC03B3, "sub x7, x24, x13", Some(Ext::I)),
+        (0x00000073, "ecall", Some(Ext::I)),
+        (0x00100073, "ebreak", Some(Ext::I)),
+        (0x022081B3, "mul x3, x1, x2", Some(Ext::Im)),
+        (0x0220F1B3, "remu x3, x1, x2", Some(Ext::Im)),
+        (0x40004033, "", None),
+        (0x00001073, "", None),
+        (0x00000000, "", None),
+    ] {
+        for ext in [Ext::I, Ext::Im] {
+            let is = needed == Some(Ext::I) || needed == Some(ext);
+            let found = text_of_word(rt.alloc(), word, ext)?;
+            let found = found.as_ref().map(|found| found.as_slice());
+            assert_eq!(rt; found, is.then_some(text.as_bytes()), "at {word:08x}");
+            let back = decode(word, ext).map(|instruction| encode(&instruction));
+            assert_eq!(rt; back, is.then_some(word), "at {word:08x}");
+        }
+    }
+    Ok(())
+}
+
+#[test]
+fn fields_keep_their_ranges(rt: HostRuntime) {
+    for (value, lawful) in [(0, true), (31, true), (32, false), (255, false)] {
+        assert_eq!(rt;
+            Reg::new(value).map(|reg| reg.value()),
+            lawful.then_some(value)
+        );
+        assert_eq!(rt;
+            Shamt::new(value).map(|shamt| shamt.value()),
+            lawful.then_some(value)
+        );
+    }
+    for (value, lawful) in [(-2049, false), (-2048, true), (2047, true), (2048, false)] {
+        assert_eq!(rt;
+            Imm12::new(value).map(|imm| imm.value()),
+            lawful.then_some(value)
+        );
+    }
+    for (value, lawful) in [
+        (-4098, false),
+        (-4096, true),
+        (4093, false),
+        (4094, true),
+        (4096, false),
+    ] {
+        assert_eq!(rt;
+            Off13::new(value).map(|offset| offset.value()),
+            lawful.then_some(value)
+        );
+    }
+    for (value, lawful) in [
+        (-1_048_578, false),
+        (-1_048_576, true),
+        (1_048_574, true),
+        (1_048_575, false),
+        (1_048_576, false),
+    ] {
+        assert_eq!(rt;
+            Off21::new(value).map(|offset| offset.value()),
+            lawful.then_some(value)
+        );
+    }
+    for (value, lawful) in [(0, true), (1_048_575, true), (1_048_576, false)] {
+        assert_eq!(rt;
+            Upper::new(value).map(|upper| upper.value()),
+            lawful.then_some(value)
+        );
+    }
+    for (value, lawful) in [(0, true), (4095, true), (4096, false)] {
+        assert_eq!(rt;
+            FenceBits::new(value).map(|bits| bits.value()),
+            lawful.then_some(value)
+        );
+    }
+}
+
+#[test]
+fn a_full_writer_is_a_fault(rt: HostRuntime) {
+    let mut buffer = [0; 4];
+    let mut room = buffer.as_mut_slice();
+    assert_eq!(rt; Inst::Ecall.write_text(&mut room), Err(WriteFault));
+}
