@@ -179,7 +179,7 @@ fn found(alloc: Global, files: &Files<Fuse<Memory>>) -> Option<Held> {
 }
 
 /// Opens the files and makes the change, as far as the stop lets it.
-fn changed(
+fn change_files(
     alloc: Global,
     start: &Files<Fuse<Memory>>,
     change: Change,
@@ -197,7 +197,7 @@ fn run(
     change: Change,
     calls: (u64, u64),
 ) -> Result<Ended, StoreError> {
-    let Some((changed, files)) = changed(alloc, start, change, calls) else {
+    let Some((changed, files)) = change_files(alloc, start, change, calls) else {
         return Ok(Ended::Early);
     };
     let left = found(alloc, &files);
@@ -229,7 +229,7 @@ fn stops(rt: &impl Abort, alloc: Global, change: Change, which: Which) -> u64 {
         };
         match run(alloc, &start, change, calls) {
             Ok(Ended::Early) => {}
-            Ok(Ended::Stopped) => stopped += 1,
+            Ok(Ended::Stopped) => stopped = u64::saturating_add(stopped, 1),
             Ok(Ended::Done) => return stopped,
             ended => panic!(rt; "{change:?} {which:?} {calls:?}: {ended:?}"),
         }
