@@ -25,8 +25,10 @@ impl Model for Reg {
 }
 
 impl Reg {
+    /// The greatest value.
     pub const MAX: u8 = 31;
 
+    /// The field with this value, or `None` where it is out of range.
     pub fn new(value: u8) -> Option<Self>
         ensures valid { IsSome result ↔ (value ≤ Self.MAX) }
         ensures value { IfSome result (λ r. r ≡ value) }
@@ -38,6 +40,7 @@ impl Reg {
         }
     }
 
+    /// The value, which is within its range.
     pub fn value(self) -> u8
         ensures value { result ≡ self }
         ensures range { result ≤ Self.MAX }
@@ -66,10 +69,13 @@ impl Model for Imm12 {
 }
 
 impl Imm12 {
+    /// The least value.
     pub const MIN: i32 = -2048;
 
+    /// The greatest value.
     pub const MAX: i32 = 2047;
 
+    /// The field with this value, or `None` where it is out of range.
     pub fn new(value: i32) -> Option<Self>
         ensures valid { IsSome result ↔ ((Self.MIN ≤ℤ value) × (value ≤ℤ Self.MAX)) }
         ensures value { IfSome result (λ i. i ≡ value) }
@@ -81,6 +87,7 @@ impl Imm12 {
         }
     }
 
+    /// The value, which is within its range.
     pub fn value(self) -> i32
         ensures value { result ≡ self }
         ensures least { Self.MIN ≤ℤ result }
@@ -111,10 +118,13 @@ impl Model for Off13 {
 }
 
 impl Off13 {
+    /// The least value.
     pub const MIN: i32 = -4096;
 
+    /// The greatest value.
     pub const MAX: i32 = 4094;
 
+    /// The field with this value, or `None` where it is odd or out of range.
     pub fn new(value: i32) -> Option<Self>
         ensures valid { IsSome result ↔ ((Self.MIN ≤ℤ value) × (value ≤ℤ Self.MAX) × IsEven value) }
         ensures value { IfSome result (λ o. o ≡ value) }
@@ -126,6 +136,7 @@ impl Off13 {
         }
     }
 
+    /// The value, which is even and within its range.
     pub fn value(self) -> i32
         ensures value { result ≡ self }
         ensures least { Self.MIN ≤ℤ result }
@@ -157,10 +168,13 @@ impl Model for Off21 {
 }
 
 impl Off21 {
+    /// The least value.
     pub const MIN: i32 = -1_048_576;
 
+    /// The greatest value.
     pub const MAX: i32 = 1_048_574;
 
+    /// The field with this value, or `None` where it is odd or out of range.
     pub fn new(value: i32) -> Option<Self>
         ensures valid { IsSome result ↔ ((Self.MIN ≤ℤ value) × (value ≤ℤ Self.MAX) × IsEven value) }
         ensures value { IfSome result (λ o. o ≡ value) }
@@ -172,6 +186,7 @@ impl Off21 {
         }
     }
 
+    /// The value, which is even and within its range.
     pub fn value(self) -> i32
         ensures value { result ≡ self }
         ensures least { Self.MIN ≤ℤ result }
@@ -202,8 +217,10 @@ impl Model for Upper {
 }
 
 impl Upper {
+    /// The greatest value.
     pub const MAX: u32 = 1_048_575;
 
+    /// The field with this value, or `None` where it is out of range.
     pub fn new(value: u32) -> Option<Self>
         ensures valid { IsSome result ↔ (value ≤ Self.MAX) }
         ensures value { IfSome result (λ u. u ≡ value) }
@@ -215,6 +232,7 @@ impl Upper {
         }
     }
 
+    /// The value, which is within its range.
     pub fn value(self) -> u32
         ensures value { result ≡ self }
         ensures range { result ≤ Self.MAX }
@@ -243,8 +261,10 @@ impl Model for Shamt {
 }
 
 impl Shamt {
+    /// The greatest value.
     pub const MAX: u8 = 31;
 
+    /// The field with this value, or `None` where it is out of range.
     pub fn new(value: u8) -> Option<Self>
         ensures valid { IsSome result ↔ (value ≤ Self.MAX) }
         ensures value { IfSome result (λ s. s ≡ value) }
@@ -256,6 +276,7 @@ impl Shamt {
         }
     }
 
+    /// The value, which is within its range.
     pub fn value(self) -> u8
         ensures value { result ≡ self }
         ensures range { result ≤ Self.MAX }
@@ -284,8 +305,10 @@ impl Model for FenceBits {
 }
 
 impl FenceBits {
+    /// The greatest value.
     pub const MAX: u16 = 4095;
 
+    /// The field with this value, or `None` where it is out of range.
     pub fn new(value: u16) -> Option<Self>
         ensures valid { IsSome result ↔ (value ≤ Self.MAX) }
         ensures value { IfSome result (λ f. f ≡ value) }
@@ -297,6 +320,7 @@ impl FenceBits {
         }
     }
 
+    /// The value, which is within its range.
     pub fn value(self) -> u16
         ensures value { result ≡ self }
         ensures range { result ≤ Self.MAX }

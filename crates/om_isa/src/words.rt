@@ -105,10 +105,17 @@ fn high_12(w: u32) -> i32
 pub fn imm_s(w: u32) -> Imm12
     ensures { result ≡ immediate_s w }
 {
-    let low = 32 * bits(w, 31, 25) + bits(w, 11, 7);
     Imm12 {
-        value: low as i32 - 4096 * sign(w),
+        value: high_7_low_5(w),
     }
+}
+
+// Bits 31 to 25 as a signed number, and bits 11 to 7 behind them.
+#[tactic(auto, using(crate::proofs::Bits::high_bits))]
+fn high_7_low_5(w: u32) -> i32
+    ensures { result ≡ immediate_s w }
+{
+    (w.cast_signed() >> 25) * 32 + bits(w, 11, 7) as i32
 }
 
 pub fn offset_b(w: u32) -> Off13

@@ -9,7 +9,8 @@ ghost use Rattle.std.proofs.Common.{rules};
 use crate::machine::Machine;
 
 impl PartialEq for Machine {
-    ghost eq = { λ m n. pointwise nat_eq m.regs n.regs && pointwise nat_eq m.memory n.memory && nat_eq m.pc n.pc && nat_eq m.count n.count && nat_eq (number_of_ext m.ext) (number_of_ext n.ext) };
+    ghost eq = { λ m n. pointwise nat_eq m.regs n.regs && pointwise nat_eq m.memory n.memory
+        && nat_eq m.pc n.pc && nat_eq m.count n.count && nat_eq (number_of_ext m.ext) (number_of_ext n.ext) };
 
     ghost laws = { Prim.search (comparing, rules) };
 

@@ -14,37 +14,36 @@ fn text_of_word(alloc: Global, word: u32, ext: Ext) -> Result<Option<Vec<u8>>, W
     Ok(Some(text))
 }
 
-// The texts are GNU objdump's, laid out as `write_text` does; that of the fence follows the manual. Last the extension with
-// which the word is an instruction, None where it never is.
+// The texts are GNU objdump's, laid out as `write_text` does; that of the fence follows the manual.
 #[test]
 fn words_have_their_texts(rt: HostRuntime) -> Result<(), Fail> {
-    for (word, text, needed) in [
-        (0x00500093, "addi x1, x0, 5", Some(Ext::I)),
-        (0xFE000EE3, "beq x0, x0, -4", Some(Ext::I)),
-        (0x0FF0000F, "fence x0, x0, 0xff", Some(Ext::I)),
-        (0x123452B7, "lui x5, 0x12345", Some(Ext::I)),
-        (0x41F0D093, "srai x1, x1, 31", Some(Ext::I)),
-        (0x5DC570EF, "jal x1, 357852", Some(Ext::I)),
-        (0x002502E7, "jalr x5, 2(x10)", Some(Ext::I)),
-        (0xB80B2E83, "lw x29, -1152(x22)", Some(Ext::I)),
-        (0x80080F23, "sb x0, -2018(x16)", Some(Ext::I)),
-        (0x40DC03B3, "sub x7, x24, x13", Some(Ext::I)),
-        (0x00000073, "ecall", Some(Ext::I)),
-        (0x00100073, "ebreak", Some(Ext::I)),
-        (0x022081B3, "mul x3, x1, x2", Some(Ext::Im)),
-        (0x0220F1B3, "remu x3, x1, x2", Some(Ext::Im)),
-        (0x40004033, "", None),
-        (0x00001073, "", None),
-        (0x00000000, "", None),
+    for (word, ext, text) in [
+        (0x00500093, Ext::I, Some("addi x1, x0, 5")),
+        (0xFE000EE3, Ext::I, Some("beq x0, x0, -4")),
+        (0x0FF0000F, Ext::I, Some("fence x0, x0, 0xff")),
+        (0x123452B7, Ext::I, Some("lui x5, 0x12345")),
+        (0x41F0D093, Ext::I, Some("srai x1, x1, 31")),
+        (0x5DC570EF, Ext::I, Some("jal x1, 357852")),
+        (0x002502E7, Ext::I, Some("jalr x5, 2(x10)")),
+        (0xB80B2E83, Ext::I, Some("lw x29, -1152(x22)")),
+        (0x80080F23, Ext::I, Some("sb x0, -2018(x16)")),
+        (0x40DC03B3, Ext::I, Some("sub x7, x24, x13")),
+        (0x40DC03B3, Ext::Im, Some("sub x7, x24, x13")),
+        (0x022081B3, Ext::I, None),
+        (0x022081B3, Ext::Im, Some("mul x3, x1, x2")),
+        (0x0220F1B3, Ext::I, None),
+        (0x0220F1B3, Ext::Im, Some("remu x3, x1, x2")),
+        (0x40004033, Ext::Im, None),
+        (0x00001073, Ext::Im, None),
+        (0x00000000, Ext::I, None),
+        (0x00000073, Ext::I, Some("ecall")),
+        (0x00100073, Ext::Im, Some("ebreak")),
     ] {
-        for ext in [Ext::I, Ext::Im] {
-            let is = needed == Some(Ext::I) || needed == Some(ext);
-            let found = text_of_word(rt.alloc(), word, ext)?;
-            let found = found.as_ref().map(|found| found.as_slice());
-            assert_eq!(rt; found, is.then_some(text.as_bytes()), "at {word:08x}");
-            let back = decode(word, ext).map(|instruction| encode(&instruction));
-            assert_eq!(rt; back, is.then_some(word), "at {word:08x}");
-        }
+        let found = text_of_word(rt.alloc(), word, ext)?;
+        let found = found.as_ref().map(|found| found.as_slice());
+        assert_eq!(rt; found, text.map(|text| text.as_bytes()), "at {word:08x}");
+        let back = decode(word, ext).map(|instruction| encode(&instruction));
+        assert_eq!(rt; back, text.map(|_| word), "at {word:08x}");
     }
     Ok(())
 }
