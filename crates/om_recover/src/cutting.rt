@@ -2,6 +2,7 @@ ghost use Rattle.std.specs.Prelude.{◌≡◌, ℕ, ◌+◌, ◌<◌, ◌≤◌,
 ghost use Rattle.std.specs.List.{AllWithin, HoldsAt};
 ghost use Rattle.std.specs.FinSet as set;
 ghost use Rattle.om_recover.specs.Cutting.{IsEffective, AreEffective, IsGotAt, cut_to, pruned_to};
+ghost use Rattle.om_recover.specs.Rows.{HasRow, Has, IsLawful};
 ghost use Rattle.om_recover.specs.Recoverable.{IsStable, IsRecoverable};
 ghost use Rattle.om_recover.specs.steps.Search.{AreInOrder, IsCheckpointWithin, IsOfInterval};
 
@@ -65,6 +66,18 @@ fn is_checkpoint_within(row: &Row, pid: Pid, x: u32) -> bool
     ensures { IsTrue result ↔ IsCheckpointWithin pid x row.now }
 {
     row.pid == pid && row.kind == RowKind::Checkpoint && row.interval <= x
+}
+
+/// The dependency vector of an interval of a process that has a row.
+pub fn vec_at(rows: &[Row], pid: Pid, x: u32) -> DepVec
+    requires lawful { (n : ℕ) × IsLawful n (set.from_list rows.now) }
+    requires there { (kind : _) × Has (set.from_list rows.now) kind pid x }
+    ensures { (row : _) → HasRow (set.from_list rows.now) row → row.pid ≡ pid → row.interval ≡ x → row.vec ≡ result }
+{
+    match place_at(rows, pid, x) {
+        Some(place) => rows[place].vec,
+        None => unreachable!(),
+    }
 }
 
 /// What a process had got in a stable interval.

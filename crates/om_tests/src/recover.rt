@@ -1,5 +1,5 @@
 use om_interval::{DepVec, Pid};
-use om_recover::{Note, NoteError, Records, Row, RowKind, laws};
+use om_recover::{Note, NoteError, Records, Row, RowKind, Work, laws};
 use std::test::Fail;
 
 const LOG: RowKind = RowKind::Log;
@@ -17,6 +17,7 @@ const KNOWN: Result<Note, NoteError> = Ok(Note::Known);
 #[test]
 fn answers_and_recovery_states(rt: HostRuntime) -> Result<(), Fail> {
     let mut records = Records::new(rt.alloc(), 2)?;
+    let mut work = Work::new();
     assert_eq!(rt; records.recovery().as_slice(), [0, 0].as_slice());
     for (kind, pid, interval, vec, got, answer, recovery) in [
         (LOG, 0, 1, [1, 1], [0, 1], NOTED, [0, 0]),
@@ -69,8 +70,15 @@ fn answers_and_recovery_states(rt: HostRuntime) -> Result<(), Fail> {
         let vec = DepVec::from_slice(&vec).ok_or("2 places")?;
         let got = DepVec::from_slice(&got).ok_or("2 places")?;
         let told = match kind {
-            RowKind::Log => records.note_logged(rt.alloc(), pid, interval, &vec, &got),
-            RowKind::Checkpoint => records.note_checkpoint(rt.alloc(), pid, interval, &vec, &got),
+            RowKind::Log => records.note_logged(rt.alloc(), pid, interval, &vec, &got, &mut work),
+            RowKind::Checkpoint => records.note_checkpoint(
+                rt.alloc(),
+                pid,
+                interval,
+                &vec,
+                &got,
+                &mut work,
+            ),
         };
         assert_eq!(rt;
             told,
@@ -89,15 +97,16 @@ fn answers_and_recovery_states(rt: HostRuntime) -> Result<(), Fail> {
 #[test]
 fn sixteen_processes_are_recovered(rt: HostRuntime) -> Result<(), Fail> {
     let mut records = Records::new(rt.alloc(), 16)?;
+    let mut work = Work::new();
     let mut vec = DepVec::zeros(16).ok_or("16 processes")?;
     let mut got = vec;
     vec.set(Pid::at(15), 1);
     got.set(Pid::at(0), 1);
-    let told = records.note_logged(rt.alloc(), Pid::at(15), 1, &vec, &got);
+    let told = records.note_logged(rt.alloc(), Pid::at(15), 1, &vec, &got, &mut work);
     assert_eq!(rt; told, RAISED);
     assert_eq!(rt; records.recovery(), vec);
     let fewer = DepVec::zeros(15).ok_or("15 processes")?;
-    let told = records.note_logged(rt.alloc(), Pid::at(0), 1, &fewer, &got);
+    let told = records.note_logged(rt.alloc(), Pid::at(0), 1, &fewer, &got, &mut work);
     assert_eq!(rt; told, Err(NoteError::BadVector));
     Ok(())
 }
@@ -111,6 +120,7 @@ fn vector(numbers: &[u32]) -> Result<DepVec, Fail> {
 #[test]
 fn a_chain_is_cut_and_pruned(rt: HostRuntime) -> Result<(), Fail> {
     let mut records = Records::new(rt.alloc(), 3)?;
+    let mut work = Work::new();
     assert_eq!(rt; records.n(), 3);
     let zeros = vector(&[0, 0, 0])?;
     for (kind, pid, vec, answer, recovery) in [
@@ -131,7 +141,7 @@ fn a_chain_is_cut_and_pruned(rt: HostRuntime) -> Result<(), Fail> {
             vec,
             got: zeros,
         };
-        assert_eq!(rt; records.note(rt.alloc(), row), answer, "{row:?}");
+        assert_eq!(rt; records.note(rt.alloc(), row, &mut work), answer, "{row:?}");
         assert_eq!(rt; records.recovery().as_slice(), recovery.as_slice());
     }
     for (pid, effective) in [(0, 0), (1, 2), (2, 0)] {
@@ -163,7 +173,7 @@ fn a_chain_is_cut_and_pruned(rt: HostRuntime) -> Result<(), Fail> {
             vec,
             got: zeros,
         };
-        assert_eq!(rt; records.note(rt.alloc(), row), answer, "{row:?}");
+        assert_eq!(rt; records.note(rt.alloc(), row, &mut work), answer, "{row:?}");
         assert_eq!(rt; records.recovery().as_slice(), [1, 3, 1].as_slice());
     }
     laws::cut_keeps_the_greatest();
@@ -176,6 +186,7 @@ fn a_chain_is_cut_and_pruned(rt: HostRuntime) -> Result<(), Fail> {
 #[test]
 fn checkpoints_and_counts_of_the_state(rt: HostRuntime) -> Result<(), Fail> {
     let mut records = Records::new(rt.alloc(), 2)?;
+    let mut work = Work::new();
     for (kind, vec, got) in [
         (LOG, [1, 0], [0, 1]),
         (CKPT, [2, 0], [0, 2]),
@@ -190,7 +201,7 @@ fn checkpoints_and_counts_of_the_state(rt: HostRuntime) -> Result<(), Fail> {
             vec: vector(&vec)?,
             got: vector(&got)?,
         };
-        let told = records.note(rt.alloc(), row);
+        let told = records.note(rt.alloc(), row, &mut work);
         assert_eq!(rt; matches!(told, Ok(Note::Noted { .. })), true, "{row:?}");
     }
     assert_eq!(rt; records.recovery().as_slice(), [5, 0].as_slice());
@@ -206,12 +217,12 @@ fn checkpoints_and_counts_of_the_state(rt: HostRuntime) -> Result<(), Fail> {
         vec: vector(&[0, 4])?,
         got: vector(&[0, 0])?,
     };
-    assert_eq!(rt; records.note(rt.alloc(), above), NOTED);
+    assert_eq!(rt; records.note(rt.alloc(), above, &mut work), NOTED);
     let checkpoint = Row {
         kind: CKPT,
         ..above
     };
-    assert_eq!(rt; records.note(rt.alloc(), checkpoint), RAISED);
+    assert_eq!(rt; records.note(rt.alloc(), checkpoint, &mut work), RAISED);
     assert_eq!(rt; records.recovery().as_slice(), [9, 4].as_slice());
     Ok(())
 }
