@@ -14,7 +14,8 @@ pub record Attempt : Type 0 where
 
 abbrev pub coded_attempt : Coded Attempt
 coded_attempt =
-    code_by (ℕ × (ℕ × (List ℕ × List (ℕ × ℕ)))) (coded× coded_ℕ (coded× coded_ℕ (coded× (coded_list coded_ℕ) (coded_list (coded× coded_ℕ coded_ℕ)))))
+    code_by (ℕ × (ℕ × (List ℕ × List (ℕ × ℕ))))
+    (coded× coded_ℕ (coded× coded_ℕ (coded× (coded_list coded_ℕ) (coded_list (coded× coded_ℕ coded_ℕ)))))
     (λ a. (a.pid, (a.interval, (a.state, a.looks))))
     (λ parts. record { pid = parts.0; interval = parts.1.0; state = parts.1.1.0; looks = parts.1.1.1 })
     (λ a. refl)

@@ -13,7 +13,8 @@ pub record IsLeastStable (rows : Rows) (p from y : ℕ) : Type 0 where
 -- vector names beyond the state, raised to its process's least stable interval there
 pub data IsNeeded (rows : Rows) (state : List ℕ) (p x : ℕ) : ℕ → ℕ → Type 0 where
   starts : IsNeeded rows state p x p x
-  follows : (row : Row) (j y : ℕ) → IsNeeded rows state p x row.pid row.interval → HasRow rows row → slice_index state j < slice_index row.vec j
+  follows : (row : Row) (j y : ℕ) → IsNeeded rows state p x row.pid row.interval → HasRow rows row
+      → slice_index state j < slice_index row.vec j
       → IsLeastStable rows j (slice_index row.vec j) y → IsNeeded rows state p x j y
 
 -- the looks of an attempt: each is of an interval that the start needs, and none is made twice

@@ -35,8 +35,10 @@ pub record IsSearched (n : ℕ) (rows : Rows) (state : List ℕ) (p x : ℕ) (ra
 -- the attempts of a note: none where no interval of the process becomes stable above the state, else those of a search
 -- from the least that does
 pub data IsCounted (n : ℕ) (before after : Rows) (p : ℕ) (state raised : List ℕ) (old new : List Attempt) : Type 0 where
-  uncounted : ((y : ℕ) → IsStable after p y → slice_index state p < y → IsStable before p y) → new ≡ old → IsCounted n before after p state raised old new
-  searched : (x : ℕ) → IsLeastNew before after p (slice_index state p) x → IsSearched n after state p x raised old new → IsCounted n before after p state raised old new
+  uncounted : ((y : ℕ) → IsStable after p y → slice_index state p < y → IsStable before p y) → new ≡ old
+      → IsCounted n before after p state raised old new
+  searched : (x : ℕ) → IsLeastNew before after p (slice_index state p) x → IsSearched n after state p x raised old new
+      → IsCounted n before after p state raised old new
 
 -- the attempts of a note of a process, from the records before it and after
 abbrev pub IsCountedNote : Kept → Kept → ℕ → List Attempt → List Attempt → Type 0

@@ -4,7 +4,7 @@ ghost use Rattle.om_recover.specs.Rows.{Rows, HasRow, Has, IsLawful};
 ghost use Rattle.om_recover.specs.Recoverable.{IsStable, IsRecoverable, maximum_of};
 ghost use Rattle.om_recover.specs.Attempts.{with_look};
 ghost use Rattle.om_recover.specs.Climb.{IsLeastStable};
-ghost use Rattle.om_recover.specs.steps.Climbing.{IsAttempted, IsForced, IsBlocked, IsClimbed, IsOutOfReach};
+ghost use Rattle.om_recover.specs.steps.Climbing.{TellsLeast, TellsClimb, TellsBegin, TellsBehind, IsAttempted, IsForced, IsBlocked, IsClimbed, IsOutOfReach};
 ghost use Rattle.om_recover.specs.steps.Climbing.{IsClimbing};
 ghost use Rattle.om_recover.specs.steps.Memory.{IsRemembered, AreRemembered};
 
@@ -26,7 +26,7 @@ pub trait Shelf {
 
     /// The least stable interval of a process at or above an interval.
     fn least_stable(&self, pid: Pid, from: u32) -> Option<u32>
-        ensures { MatchOption result ((z : ℕ) → IsStable (rows self.now) pid z → from ≤ z → ⊥) (IsLeastStable (rows self.now) pid from) };
+        ensures { TellsLeast (rows self.now) pid from result };
 }
 
 /// Climbs from the state, with a process raised to an interval, to the least recoverable state there, if there is one.
@@ -44,7 +44,7 @@ pub fn climb<S: Shelf>(
     requires start { IsStable (S.rows shelf.now) pid x }
     requires above { slice_index state.now pid < x }
     requires remembered { AreRemembered (length state.now) (S.rows shelf.now) state.now memories.old.places }
-    ensures climbed { MatchOption result (IsOutOfReach (length state.now) (S.rows shelf.now) pid x) (IsClimbed (length state.now) (S.rows shelf.now) state.now pid x) }
+    ensures climbed { TellsClimb (length state.now) (S.rows shelf.now) state.now pid x result }
     ensures counted { IsAttempted (S.rows shelf.now) state.now pid x work.old.attempts work.new.attempts }
     ensures remembered { AreRemembered (length state.now) (S.rows shelf.now) state.now memories.new.places }
 {
@@ -89,7 +89,7 @@ fn begin<S: Shelf>(
     requires start { IsStable (S.rows shelf.now) pid x }
     requires above { slice_index state.now pid < x }
     requires remembered { AreRemembered (length state.now) (S.rows shelf.now) state.now memories.now.places }
-    ensures { MatchOption result (IsOutOfReach (length state.now) (S.rows shelf.now) pid x) (λ reached. IsClimbing (length state.now) (S.rows shelf.now) state.now pid x reached state.now) }
+    ensures { TellsBegin (length state.now) (S.rows shelf.now) state.now pid x result }
 {
     match memories.get(pid) {
         Some(memory) if memory.start <= x => begin_known(shelf, state, pid, x, &memory),
@@ -112,7 +112,7 @@ fn begin_known<S: Shelf>(
     requires above { slice_index state.now pid < x }
     requires known { memory.now.start ≤ x }
     requires remembered { IsRemembered (length state.now) (S.rows shelf.now) state.now pid memory.now }
-    ensures { MatchOption result (IsOutOfReach (length state.now) (S.rows shelf.now) pid x) (λ reached. IsClimbing (length state.now) (S.rows shelf.now) state.now pid x reached state.now) }
+    ensures { TellsBegin (length state.now) (S.rows shelf.now) state.now pid x result }
 {
     let Some(_) = shelf.least_stable(memory.waits, memory.from) else {
         return None;
@@ -148,7 +148,7 @@ fn maximum(one: &DepVec, other: &DepVec) -> DepVec
 /// A process whose interval is below in the first vector.
 fn first_behind(looked: &DepVec, reached: &DepVec) -> Option<Pid>
     requires { IsBelow looked.now reached.now }
-    ensures { MatchOption result (looked.now ≡ reached.now) (λ q. (q < length looked.now) × (slice_index looked.now q < slice_index reached.now q)) }
+    ensures { TellsBehind looked.now reached.now result }
 {
     for p in 0..looked.n() {
         let q = Pid::at(p);

@@ -1,8 +1,6 @@
 ghost use Rattle.std.specs.Prelude.{◌≡◌, ℕ, ◌<◌, ◌≤◌, length};
-ghost use Rattle.om_recover.specs.Rows.{Rows};
 ghost use Rattle.om_recover.specs.Recoverable.{IsGreatest};
-ghost use Rattle.om_recover.specs.Counted.{IsCounted};
-ghost use Rattle.om_recover.specs.steps.Indexed.{IsAdded};
+ghost use Rattle.om_recover.specs.steps.Indexed.{IsRaisable, IsCountedFrom};
 ghost use Rattle.om_recover.specs.steps.Memory.{AreRemembered};
 
 use crate::climb::Shelf;
@@ -21,10 +19,10 @@ pub fn raised_by<S: Shelf>(
     memories: &mut Memories,
     work: &mut Work,
 ) -> DepVec
-    requires { (before : Rows) × IsAdded (length state.now) before (S.rows after.now) row.now state.now is_new × AreRemembered (length state.now) before state.now memories.old.places }
+    requires { IsRaisable (length state.now) (S.rows after.now) row.now state.now is_new memories.old.places }
     ensures greatest { IsGreatest (length state.now) (S.rows after.now) result }
     ensures remembered { AreRemembered (length state.now) (S.rows after.now) result memories.new.places }
-    ensures counted { (before : Rows) → IsAdded (length state.now) before (S.rows after.now) row.now state.now is_new → IsCounted (length state.now) before (S.rows after.now) row.now.pid state.now result work.old.attempts work.new.attempts }
+    ensures counted { IsCountedFrom (length state.now) (S.rows after.now) row.now state.now is_new result work.old.attempts work.new.attempts }
 {
     if !is_new {
         return *state;

@@ -4,6 +4,7 @@ ghost use Rattle.std.specs.FinSet as set;
 ghost use Rattle.om_recover.specs.Rows.{HasRow, Has};
 ghost use Rattle.om_recover.specs.Recoverable.{IsStable};
 ghost use Rattle.om_recover.specs.Climb.{IsLeastStable};
+ghost use Rattle.om_recover.specs.steps.Climbing.{TellsLeast};
 ghost use Rattle.om_recover.specs.steps.Search.{AreInOrder, Extends, IsOfInterval};
 
 use crate::row::{Row, RowKind};
@@ -13,7 +14,7 @@ use om_interval::{DepVec, Pid};
 /// interval so far.
 pub fn least_stable_of(rows: &[Row], pid: Pid, from: u32) -> Option<u32>
     requires { AreInOrder rows.now }
-    ensures { MatchOption result ((z : ℕ) → IsStable (set.from_list rows.now) pid z → from ≤ z → ⊥) (IsLeastStable (set.from_list rows.now) pid from) }
+    ensures { TellsLeast (set.from_list rows.now) pid from result }
 {
     let mut last = None;
     for row in rows {

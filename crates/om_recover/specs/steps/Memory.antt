@@ -19,7 +19,8 @@ pub record IsRemembered (n : ℕ) (rows : Rows) (state : List ℕ) (p : ℕ) (me
   pub waits : memory.waits < n
   pub started : memory.start ≤ slice_index memory.reached p
   pub stable : (q : ℕ) → q < n → slice_index state q < slice_index memory.reached q → IsStable rows q (slice_index memory.reached q)
-  pub needed : (q : ℕ) → q < n → slice_index state q < slice_index memory.reached q → IsNeededWithin rows state memory.reached p memory.start q (slice_index memory.reached q)
+  pub needed : (q : ℕ) → q < n → slice_index state q < slice_index memory.reached q
+      → IsNeededWithin rows state memory.reached p memory.start q (slice_index memory.reached q)
   pub reason : slice_index state memory.waits < memory.from → IsReason rows state p memory
 
 -- each process's memory, if it has one
@@ -28,8 +29,12 @@ AreRemembered n rows state places = (p : ℕ) → p < n → MatchOption (slice_i
 
 -- at most the one process's memory became the given one
 abbrev pub IsKept : List (Option Memory) → List (Option Memory) → ℕ → Memory → Type 0
-IsKept old new p memory = (q : ℕ) → (slice_index_or new q None ≡ slice_index_or old q None) ⊎ ((q ≡ p) × (slice_index_or new q None ≡ Some memory))
+IsKept old new p memory =
+    (q : ℕ) → (slice_index_or new q None ≡ slice_index_or old q None) ⊎ ((q ≡ p) × (slice_index_or new q None ≡ Some memory))
 
 -- the memories that are left came no further, at a process, than to an interval
 abbrev pub IsWithout : ℕ → List (Option Memory) → List (Option Memory) → ℕ → ℕ → Type 0
-IsWithout n old new p x = (q : ℕ) → q < n → (slice_index_or new q None ≡ None) ⊎ ((slice_index_or new q None ≡ slice_index_or old q None) × MatchOption (slice_index_or old q None) ⊤ (λ memory. slice_index memory.reached p ≤ x))
+IsWithout n old new p x =
+    (q : ℕ) → q < n → (slice_index_or new q None ≡ None)
+    ⊎ ((slice_index_or new q None ≡ slice_index_or old q None)
+    × MatchOption (slice_index_or old q None) ⊤ (λ memory. slice_index memory.reached p ≤ x))

@@ -42,6 +42,10 @@ HasNoneBelow rows row = (low : Row) → HasRow rows low → low.pid ≡ row.pid 
 abbrev pub HasNoneAbove : Rows → Row → Type 0
 HasNoneAbove rows row = (high : Row) → HasRow rows high → high.pid ≡ row.pid → row.interval < high.interval → ⊥
 
+-- the row at the place has the property
+abbrev pub IsPlaceOf : (Row → Type 0) → List Row → ℕ → Type 0
+IsPlaceOf P rows place = (place < length rows) × HoldsAt P rows place
+
 -- of the rows with the property, the one at the place is the last
 pub record IsLastOf (P : Row → Type 0) (rows : List Row) (place : ℕ) : Type 0 where
   pub within : place < length rows
