@@ -6,7 +6,7 @@ ghost use Rattle.om_commands.specs.Report.{IsReport, IsWritten, HasWord, answer_
 
 use crate::record_script::NoteLine;
 use om_interval::{DepVec, Pid};
-use om_recover::{Note, NoteError, Records, RowKind};
+use om_recover::{Note, NoteError, Records, RowKind, Work};
 use std::alloc::{AllocError, Global};
 use std::fmt::Write;
 
@@ -20,8 +20,9 @@ pub fn report(alloc: Global, n: usize, notes: &[NoteLine]) -> Result<String, All
     let mut records = Records::new(alloc, n)?;
     let zeros = records.recovery();
     let mut text = String::new(alloc);
+    let mut work = Work::new();
     for note in notes {
-        let answer = answer_to(alloc, &mut records, note, &zeros);
+        let answer = answer_to(alloc, &mut records, note, &zeros, &mut work);
         push_answer(&mut text, answer)?;
         push_state(&mut text, &records.recovery())?;
     }
@@ -36,6 +37,7 @@ fn answer_to(
     records: &mut Records,
     note: &NoteLine,
     zeros: &DepVec,
+    work: &mut Work,
 ) -> Result<Note, NoteError>
     requires { length zeros.now ≡ length records.old.state }
     ensures answer { offered (length records.old.state) records.old.rows (offered_row zeros.now note.now) result records.new.rows }
@@ -47,8 +49,15 @@ fn answer_to(
         return Err(NoteError::Stranger);
     };
     match note.kind {
-        RowKind::Log => records.note_logged(alloc, pid, note.interval, &note.vec, zeros),
-        RowKind::Checkpoint => records.note_checkpoint(alloc, pid, note.interval, &note.vec, zeros),
+        RowKind::Log => records.note_logged(alloc, pid, note.interval, &note.vec, zeros, work),
+        RowKind::Checkpoint => records.note_checkpoint(
+            alloc,
+            pid,
+            note.interval,
+            &note.vec,
+            zeros,
+            work,
+        ),
     }
 }
 

@@ -1,22 +1,25 @@
-use Rattle.std.proofs.Common.{◌≡◌, ℕ, ◌+◌, ◌<◌, ◌≤◌, ◌&&◌, ◌||◌, inl, inr, refl, sym, ◌∙◌, ap, subst, arith, cond, Bool, true, false, true≢false, List, [], ◌∷◌, length, slice_index, nat_le, All, get_or}
+use Rattle.std.proofs.Common.{◌≡◌, ℕ, ◌+◌, ◌<◌, ◌≤◌, ◌&&◌, ◌||◌, inl, inr, refl, sym, ◌∙◌, ap, subst, arith, cond, Bool, true, false, true≢false, List, [], ◌∷◌, length, slice_index, slice_index_or, Option, None, All, get_or}
 use Rattle.std.specs.List.{filter, AllWithin, HoldsAt}
 use Rattle.std.proofs.lemmas.Bool.{cases_order, leb-true, le-leb}
 use Rattle.std.proofs.lemmas.List.{get_or_default}
-use Rattle.std.proofs.lemmas.List.Kept.{AllPairs-filter}
 use Rattle.std.specs.FinSet as set
 use Rattle.std.specs.Ordering.{eq_by_cmp}
 use Rattle.std.specs.Cmp.{Equal-is}
 use Rattle.om_recover.specs.Rows.{Rows, HasRow, Has, IsLawful, row_cmp}
 use Rattle.om_recover.specs.Recoverable.{IsStable, IsGreatest}
 use Rattle.om_recover.specs.steps.AsKept.{AreKept}
-use Rattle.om_recover.specs.steps.Search.{AreInOrder, StandsBefore, IsCheckpointWithin, IsOfInterval}
-use Rattle.om_recover.specs.Cutting.{IsEffective, AreEffective, cut_to, pruned_to}
+use Rattle.om_recover.specs.steps.Search.{AreInOrder, IsCheckpointWithin, IsOfInterval}
+use Rattle.om_recover.specs.Cutting.{IsEffective, AreEffective, IsPruned, cut_to, pruned_to}
 use Rattle.om_recover.specs.declared.row.RowKind.{RowKind}
 use Rattle.om_recover.specs.declared.row.RowKind.TheVariants.{Checkpoint, Log}
 use Rattle.om_recover.specs.declared.row.Row.{Row}
 use Rattle.om_recover.proofs.RowsLemmas.{rows_total, exact_rows, in_list, of_list}
 use Rattle.om_recover.proofs.StableLemmas.{stable_by_records, record_of_stable}
 use Rattle.om_recover.proofs.OrderLemmas.{lawful_part}
+use Rattle.om_recover.proofs.ClimbLemmas.{at_most_or_more}
+use Rattle.om_recover.proofs.MemoryLemmas.{all_alike, none_remembered}
+use Rattle.om_recover.specs.steps.Memory.{AreRemembered}
+use Rattle.om_recover.specs.declared.memory.Memory.{Memory}
 
 kept_one : (e c t : Bool) → (e ≡ true → t ≡ true) → (e || (c && t)) ≡ ((e || c) && t)
 kept_one true c t tested = sym (tested refl)
@@ -138,26 +141,50 @@ greatest_after_prune n rows state checkpoints lawful effective greatest = record
   });
 }
 
--- how rows are kept after a cut
-pub kept_after_cut : (rows new : List Row) (state : List ℕ) → AreKept rows state → new ≡ filter (λ row. nat_le row.interval (slice_index state row.pid)) rows → AreKept new state
-kept_after_cut rows new state kept is =
-    let rows_are : set.from_list {R = row_cmp} new ≡ cut_to (set.from_list rows) state = ap set.from_list is ∙ from_list-filter _ rows in
-    record {
-      in_order = subst AreInOrder (sym is) (AllPairs-filter StandsBefore _ rows kept.in_order);
-      lawful = subst (IsLawful (length state)) (sym rows_are) (lawful_part (length state) _ _ (λ row there. (of_cut (set.from_list rows) state row there).0) kept.lawful);
-      greatest = subst (λ all. IsGreatest (length state) all state) (sym rows_are) (greatest_after_cut (length state) (set.from_list rows) state kept.lawful kept.greatest);
-    }
+-- what is kept after a cut
+pub kept_after_cut : (rows new : Rows) (state : List ℕ) (old places : List (Option Memory)) → AreKept rows state old → new ≡ cut_to rows state
+    → ((p : ℕ) → slice_index_or places p None ≡ None) → AreKept new state places
+kept_after_cut rows new state old places kept is none = subst (λ rows. AreKept rows state places) (sym is) (record {
+  lawful = lawful_part (length state) _ _ (λ row there. (of_cut rows state row there).0) kept.lawful;
+  greatest = greatest_after_cut (length state) rows state kept.lawful kept.greatest;
+  remembered = none_remembered _ _ state places none;
+})
 
 -- and after a prune
-pub kept_after_prune : (rows new : List Row) (state checkpoints : List ℕ) → AreKept rows state → AreEffective (set.from_list rows) state checkpoints
-    → new ≡ filter (λ row. nat_le (slice_index checkpoints row.pid) row.interval) rows → AreKept new state
-kept_after_prune rows new state checkpoints kept effective is =
-    let rows_are : set.from_list {R = row_cmp} new ≡ pruned_to (set.from_list rows) checkpoints = ap set.from_list is ∙ from_list-filter _ rows in
-    record {
-      in_order = subst AreInOrder (sym is) (AllPairs-filter StandsBefore _ rows kept.in_order);
-      lawful = subst (IsLawful (length state)) (sym rows_are) (lawful_part (length state) _ _ (λ row there. (of_pruned (set.from_list rows) checkpoints row there).0) kept.lawful);
-      greatest = subst (λ all. IsGreatest (length state) all state) (sym rows_are) (greatest_after_prune (length state) (set.from_list rows) state checkpoints kept.lawful effective kept.greatest);
-    }
+pub kept_after_prune : (rows new : Rows) (state : List ℕ) (places : List (Option Memory)) → AreKept rows state places → IsPruned rows state new → AreKept new state places
+kept_after_prune rows new state places kept pruned = subst (λ rows. AreKept rows state places) (sym pruned.rows) (record {
+  lawful = lawful_part (length state) _ _ (λ row there. (of_pruned rows pruned.checkpoints row there).0) kept.lawful;
+  greatest = greatest_after_prune (length state) rows state pruned.checkpoints kept.lawful pruned.effective kept.greatest;
+  remembered = remembered_after_prune (length state) rows state pruned.checkpoints places kept.lawful pruned.effective kept.greatest kept.remembered;
+})
+  where
+    remembered_after_prune : (n : ℕ) (rows : Rows) (state checkpoints : List ℕ) (places : List (Option Memory)) → IsLawful n rows → AreEffective rows state checkpoints → IsGreatest n rows state
+        → AreRemembered n rows state places → AreRemembered n (pruned_to rows checkpoints) state places
+    remembered_after_prune n rows state checkpoints places lawful effective greatest =
+        all_alike n rows (pruned_to rows checkpoints) state places lawful greatest.recoverable (λ bound. record {
+          there = λ row there above _.
+              let in_cluster : row.pid < length state = omega (arith, lawful.known row there, greatest.recoverable.places) in
+              to_pruned rows checkpoints row there (omega (arith, above, (effective.each row.pid in_cluster).below));
+          stable = λ j z above _ stable.
+              let has = (record_of_stable rows j z stable).1 in
+              let in_cluster : j < length state = omega (arith, lawful.known has.row has.there, has.pid_is, greatest.recoverable.places) in
+              let used = effective.each j in_cluster in
+              elim (at_most_or_more (slice_index checkpoints j) stable.from) [
+                | inl far ↦ record {
+                  from = stable.from;
+                  checkpoint = has_after_prune rows checkpoints Checkpoint j stable.from far stable.checkpoint;
+                  below = stable.below;
+                  logged = λ y over under. has_after_prune rows checkpoints Log j y (omega (arith, far, over)) (stable.logged y over under);
+                }
+                | inr near ↦ record {
+                  from = slice_index checkpoints j;
+                  checkpoint = has_after_prune rows checkpoints Checkpoint j (slice_index checkpoints j) (omega arith) used.there;
+                  below = omega (arith, above, used.below);
+                  logged = λ y over under. has_after_prune rows checkpoints Log j y (omega (arith, over)) (stable.logged y (omega (arith, near, over)) under);
+                }
+              ];
+          new = λ j z _ stable. inl (stable_by_records (pruned_to rows checkpoints) rows j z (λ kind y _. has_among (pruned_to rows checkpoints) rows kind j y (λ row there. (of_pruned rows checkpoints row there).0)) stable);
+        })
 
 -- a stable interval has a checkpoint within
 pub some_checkpoint : (rows : List Row) (p x : ℕ) → IsStable (set.from_list rows) p x → All (λ row. IsCheckpointWithin p x row → ⊥) rows → ⊥
@@ -192,9 +219,12 @@ last_is_effective rows p x place in_order within holds later d =
           ];
     }
 
--- a stable interval has a record
-pub some_record : (rows : List Row) (p x : ℕ) → IsStable (set.from_list rows) p x → All (λ row. IsOfInterval p x row → ⊥) rows → ⊥
-some_record rows p x stable none =
-    let has = (record_of_stable (set.from_list rows) p x stable).1 in
+-- a record of the interval is one of the list
+pub some_of : (rows : List Row) (p x : ℕ) (kind : RowKind) → Has (set.from_list rows) kind p x → All (λ row. IsOfInterval p x row → ⊥) rows → ⊥
+some_of rows p x kind has none =
     let found = in_list rows has.row has.there in
     none found.0 has.row found.1 (subst (IsOfInterval p x) (sym found.2) (record { pid = has.pid_is; interval = has.interval_is }))
+
+-- a stable interval has a record
+pub some_record : (rows : List Row) (p x : ℕ) → IsStable (set.from_list rows) p x → All (λ row. IsOfInterval p x row → ⊥) rows → ⊥
+some_record rows p x stable = let found = record_of_stable (set.from_list rows) p x stable in some_of rows p x found.0 found.1

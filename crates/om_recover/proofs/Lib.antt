@@ -2,10 +2,14 @@ pub mod RowsLemmas
 pub mod StableLemmas
 pub mod ScanLemmas
 pub mod OrderLemmas
-pub mod SearchLemmas
 pub mod NearestLemmas
 pub mod NoteLemmas
 pub mod FirstLemmas
 pub mod LawLemmas
 pub mod CuttingLemmas
 pub mod OfferLemmas
+pub mod NewLemmas
+pub mod ClimbLemmas
+pub mod SearchLemmas
+pub mod MemoryLemmas
+pub mod NotedLemmas

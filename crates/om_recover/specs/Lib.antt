@@ -6,4 +6,7 @@ pub mod Records
 pub mod Cutting
 pub mod Offers
 pub mod Laws
+pub mod Attempts
+pub mod Climb
+pub mod Counted
 pub mod steps

@@ -2,3 +2,6 @@
 pub mod Search
 pub mod RowCode
 pub mod AsKept
+pub mod Climbing
+pub mod Memory
+pub mod Indexed

@@ -2,8 +2,9 @@ ghost use Rattle.std.specs.Prelude.{◌≡◌, ℕ, ◌+◌, ◌<◌, ◌≤◌,
 ghost use Rattle.std.specs.List.{AllWithin, HoldsAt};
 ghost use Rattle.std.specs.FinSet as set;
 ghost use Rattle.om_recover.specs.Cutting.{IsEffective, AreEffective, IsGotAt, cut_to, pruned_to};
+ghost use Rattle.om_recover.specs.Rows.{HasRow, Has, IsLawful};
 ghost use Rattle.om_recover.specs.Recoverable.{IsStable, IsRecoverable};
-ghost use Rattle.om_recover.specs.steps.Search.{AreInOrder, IsCheckpointWithin, IsOfInterval};
+ghost use Rattle.om_recover.specs.steps.Search.{AreInOrder, IsCheckpointWithin, IsOfInterval, IsLastOf, IsPlaceOf};
 
 use crate::row::{Row, RowKind};
 use om_interval::{DepVec, Pid};
@@ -55,7 +56,7 @@ pub fn effective_of(rows: &[Row], pid: Pid, x: u32) -> u32
 }
 
 fn last_checkpoint(rows: &[Row], pid: Pid, x: u32) -> Option<usize>
-    ensures { MatchOption result (All (λ row. IsCheckpointWithin pid x row → ⊥) rows.now) (λ place. (place < length rows.now) × HoldsAt (IsCheckpointWithin pid x) rows.now place × AllWithin (λ row. IsCheckpointWithin pid x row → ⊥) rows.now (place + 1) (length rows.now)) }
+    ensures { MatchOption result (All (λ row. IsCheckpointWithin pid x row → ⊥) rows.now) (IsLastOf (IsCheckpointWithin pid x) rows.now) }
 {
     rows.iter()
         .rposition(|row| is_checkpoint_within(row, pid, x))
@@ -65,6 +66,18 @@ fn is_checkpoint_within(row: &Row, pid: Pid, x: u32) -> bool
     ensures { IsTrue result ↔ IsCheckpointWithin pid x row.now }
 {
     row.pid == pid && row.kind == RowKind::Checkpoint && row.interval <= x
+}
+
+/// The dependency vector of an interval of a process that has a row.
+pub fn vec_at(rows: &[Row], pid: Pid, x: u32) -> DepVec
+    requires lawful { (n : ℕ) × IsLawful n (set.from_list rows.now) }
+    requires there { (kind : _) × Has (set.from_list rows.now) kind pid x }
+    ensures { (row : _) → HasRow (set.from_list rows.now) row → row.pid ≡ pid → row.interval ≡ x → row.vec ≡ result }
+{
+    match place_at(rows, pid, x) {
+        Some(place) => rows[place].vec,
+        None => unreachable!(),
+    }
 }
 
 /// What a process had got in a stable interval.
@@ -79,7 +92,7 @@ pub fn got_at(rows: &[Row], pid: Pid, x: u32) -> DepVec
 }
 
 fn place_at(rows: &[Row], pid: Pid, x: u32) -> Option<usize>
-    ensures { MatchOption result (All (λ row. IsOfInterval pid x row → ⊥) rows.now) (λ place. (place < length rows.now) × HoldsAt (IsOfInterval pid x) rows.now place) }
+    ensures { MatchOption result (All (λ row. IsOfInterval pid x row → ⊥) rows.now) (IsPlaceOf (IsOfInterval pid x) rows.now) }
 {
     rows.iter().position(|row| is_of_interval(row, pid, x))
 }

@@ -3,14 +3,22 @@
 #![tactic(auto)]
 
 mod answer;
+mod climb;
 mod cutting;
+mod index;
 pub mod laws;
+mod memory;
 mod note;
 mod order;
+mod raise;
 mod records;
 mod row;
+mod scan;
 mod search;
+mod step;
+mod work;
 
 pub use note::{Note, NoteError};
 pub use records::Records;
 pub use row::{Row, RowKind};
+pub use work::Work;

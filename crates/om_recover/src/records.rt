@@ -1,17 +1,18 @@
 ghost use Rattle.std.specs.Prelude.{◌≡◌, ℕ, ◌+◌, ◌<◌, ◌≤◌, ◌↔◌, length, replicate, slice_index, IfOk};
 ghost use Rattle.om_interval.specs.Vectors.{IsBelow};
 ghost use Rattle.om_interval.specs.declared.pid.TheConstants.{MAX_PROCESSES};
-ghost use Rattle.om_recover.specs.Cutting.{IsEffective, AreEffective, IsGotAt, cut_to, IsPruned};
+ghost use Rattle.om_recover.specs.Cutting.{IsEffective, IsGotAt, IsPruned, cut_to};
 ghost use Rattle.om_recover.specs.Rows.{HasRow};
 ghost use Rattle.om_recover.specs.Offered.{offered, TellsChange};
+ghost use Rattle.om_recover.specs.Counted.{IsCountedNote};
 ghost use Rattle.om_recover.specs.Records.{first_row, log_of, checkpoint_of, IsSound};
 
-use crate::answer::answer_without_change;
-use crate::cutting::{cut_rows, effective_of, effective_of_all, got_at, prune_rows};
+use crate::index::Index;
+use crate::memory::Memories;
 use crate::note::{Note, NoteError};
-use crate::order::add;
+use crate::raise::raised_by;
 use crate::row::{Row, RowKind};
-use crate::search::greatest_recoverable;
+use crate::work::Work;
 use om_interval::{DepVec, Pid};
 use std::alloc::{AllocError, Global};
 use std::marker::Model;
@@ -19,12 +20,12 @@ use std::marker::Model;
 /// The records that the processes of one cluster noted, and the greatest recoverable state that they allow.
 #[derive(Debug, Drop)]
 pub struct Records {
-    rows: Vec<Row>,
+    index: Index,
     state: DepVec,
+    memories: Memories,
 }
 
 impl Model for Records {
-    ghost use Rattle.std.specs.FinSet as set;
     ghost use Rattle.om_recover.specs.Records.{Kept};
     ghost use Rattle.om_recover.specs.steps.AsKept.{AreKept};
     ghost use Rattle.om_recover.specs.steps.RowCode.{coded_kept};
@@ -33,9 +34,9 @@ impl Model for Records {
 
     ghost coded = { coded_kept };
 
-    ghost view = { λ r. record { rows = set.from_list r.rows.items; state = r.state } };
+    ghost view = { λ r. record { rows = r.index; state = r.state } };
 
-    ghost invariant = { λ r. AreKept r.rows.items r.state };
+    ghost invariant = { λ r. AreKept r.index r.state r.memories.places };
 }
 
 impl Records {
@@ -46,18 +47,13 @@ impl Records {
         ensures rows { IfOk result (λ records. (row : _) → HasRow records.rows row ↔ ((row.pid < n) × (row ≡ first_row n row.pid))) }
         ensures state { IfOk result (λ records. records.state ≡ replicate n 0) }
     {
-        let zeros = DepVec::zeros(n).unwrap();
-        let mut rows = Vec::with_capacity(alloc, n)?;
-        for p in 0..n {
-            rows.push_reserved(Row {
-                kind: RowKind::Checkpoint,
-                pid: Pid::at(p),
-                interval: 0,
-                vec: zeros,
-                got: zeros,
-            });
-        }
-        Ok(Records { rows, state: zeros })
+        let index = Index::new(alloc, n)?;
+        let state = DepVec::zeros(n).unwrap();
+        Ok(Records {
+            index,
+            state,
+            memories: Memories::new(),
+        })
     }
 
     /// The number of processes, from 1 to the limit.
@@ -82,11 +78,13 @@ impl Records {
         x: u32,
         vec: &DepVec,
         got: &DepVec,
+        work: &mut Work,
     ) -> Result<Note, NoteError>
         ensures answer { offered (length self.old.state) self.old.rows (log_of pid x vec.now got.now) result self.new.rows }
         ensures raised { TellsChange result self.old.state self.new.state }
         ensures sound { IsSound self.new }
         ensures not_lowered { IsBelow self.old.state self.new.state }
+        ensures counted { IsCountedNote self.old self.new pid work.old.attempts work.new.attempts }
     {
         let row = Row {
             kind: RowKind::Log,
@@ -95,7 +93,7 @@ impl Records {
             vec: *vec,
             got: *got,
         };
-        self.note(alloc, row)
+        self.note(alloc, row, work)
     }
 
     /// Notes that the state of a process in interval `x` is stored. The refusals are those of [`Records::note_logged`], in
@@ -107,11 +105,13 @@ impl Records {
         x: u32,
         vec: &DepVec,
         got: &DepVec,
+        work: &mut Work,
     ) -> Result<Note, NoteError>
         ensures answer { offered (length self.old.state) self.old.rows (checkpoint_of pid x vec.now got.now) result self.new.rows }
         ensures raised { TellsChange result self.old.state self.new.state }
         ensures sound { IsSound self.new }
         ensures not_lowered { IsBelow self.old.state self.new.state }
+        ensures counted { IsCountedNote self.old self.new pid work.old.attempts work.new.attempts }
     {
         let row = Row {
             kind: RowKind::Checkpoint,
@@ -120,23 +120,32 @@ impl Records {
             vec: *vec,
             got: *got,
         };
-        self.note(alloc, row)
+        self.note(alloc, row, work)
     }
 
     /// Notes a row. The refusals are those of [`Records::note_logged`], in the same order.
-    pub fn note(&mut self, _alloc: Global, row: Row) -> Result<Note, NoteError>
+    pub fn note(&mut self, _alloc: Global, row: Row, work: &mut Work) -> Result<Note, NoteError>
         ensures answer { offered (length self.old.state) self.old.rows row result self.new.rows }
         ensures raised { TellsChange result self.old.state self.new.state }
         ensures sound { IsSound self.new }
         ensures not_lowered { IsBelow self.old.state self.new.state }
+        ensures counted { IsCountedNote self.old self.new row.pid work.old.attempts work.new.attempts }
     {
-        if let Some(answer) = answer_without_change(&self.rows, self.state.n(), &row) {
+        if let Some(answer) = self.index.answer(self.state.n(), &row) {
             return answer;
         }
-        let Ok(()) = add(&mut self.rows, &row) else {
+        let is_new = self.index.makes_stable(&row);
+        let Ok(()) = self.index.add(&row) else {
             return Err(NoteError::Memory);
         };
-        let state = greatest_recoverable(&self.rows, &self.state);
+        let state = raised_by(
+            &self.index,
+            &row,
+            &self.state,
+            is_new,
+            &mut self.memories,
+            work,
+        );
         let raised = state != self.state;
         self.state = state;
         Ok(Note::Noted { raised })
@@ -147,8 +156,7 @@ impl Records {
         ensures state { result ≡ self.now.state }
         ensures sound { IsSound self.now }
     {
-        let Records { state, .. } = self;
-        *state
+        self.state
     }
 
     /// The checkpoint that is used for the process's place of the recovery state.
@@ -156,7 +164,7 @@ impl Records {
         requires { pid < length self.now.state }
         ensures { IsEffective self.now.rows pid (slice_index self.now.state pid) result }
     {
-        effective_of(&self.rows, pid, self.state.get(pid))
+        self.index.effective(pid, self.state.get(pid))
     }
 
     /// How many messages the process had got in the recovery state, by sender.
@@ -164,7 +172,7 @@ impl Records {
         requires { pid < length self.now.state }
         ensures { IsGotAt self.now.rows pid (slice_index self.now.state pid) result }
     {
-        got_at(&self.rows, pid, self.state.get(pid))
+        self.index.got(pid, self.state.get(pid))
     }
 
     /// Drops the rows above the recovery state, which stays.
@@ -173,7 +181,8 @@ impl Records {
         ensures state { self.new.state ≡ self.old.state }
         ensures sound { IsSound self.new }
     {
-        cut_rows(&mut self.rows, &self.state);
+        self.index.cut(&self.state);
+        self.memories = Memories::new();
     }
 
     /// Drops the rows below the checkpoints that are used for the recovery state, which stays.
@@ -182,7 +191,6 @@ impl Records {
         ensures state { self.new.state ≡ self.old.state }
         ensures sound { IsSound self.new }
     {
-        let checkpoints = effective_of_all(&self.rows, &self.state);
-        prune_rows(&mut self.rows, &checkpoints);
+        self.index.prune(&self.state);
     }
 }

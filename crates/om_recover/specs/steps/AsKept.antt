@@ -1,13 +1,11 @@
-use Rattle.std.specs.Prelude.{ℕ, List, length}
-use Rattle.std.specs.FinSet as set
-use Rattle.om_recover.specs.Rows.{IsLawful}
+use Rattle.std.specs.Prelude.{ℕ, List, Option, length}
+use Rattle.om_recover.specs.Rows.{Rows, IsLawful}
 use Rattle.om_recover.specs.Recoverable.{IsGreatest}
-use Rattle.om_recover.specs.steps.Search.{AreInOrder}
-use Rattle.om_recover.specs.declared.row.Row.{Row}
+use Rattle.om_recover.specs.steps.Memory.{AreRemembered}
+use Rattle.om_recover.specs.declared.memory.Memory.{Memory}
 
--- a list of rows and a state, as records keep them: the list is in order, the rows on it are lawful, and the state is the
--- greatest that they allow
-pub record AreKept (rows : List Row) (state : List ℕ) : Type 0 where
-  pub in_order : AreInOrder rows
-  pub lawful : IsLawful (length state) (set.from_list rows)
-  pub greatest : IsGreatest (length state) (set.from_list rows) state
+-- what records keep: lawful rows, the greatest state that they allow, and the failed climbs that are remembered
+pub record AreKept (rows : Rows) (state : List ℕ) (places : List (Option Memory)) : Type 0 where
+  pub lawful : IsLawful (length state) rows
+  pub greatest : IsGreatest (length state) rows state
+  pub remembered : AreRemembered (length state) rows state places

@@ -1,10 +1,8 @@
 -- What the steps of the search and of a note promise.
-use Rattle.std.specs.Prelude.{◌≡◌, ℕ, ◌<◌, ◌≤◌, ◌⊎◌, ◌+◌, List, AllPairs, Option, None, Some, Result, Ok, Err, slice_index, length}
+use Rattle.std.specs.Prelude.{◌≡◌, ℕ, ◌<◌, ◌≤◌, ◌⊎◌, ◌+◌, List, AllPairs, Option, None, Some, Result, Ok, Err, length}
 use Rattle.std.specs.List.{AllWithin, HoldsAt}
 use Rattle.std.specs.FinSet as set
-use Rattle.om_interval.specs.Vectors.{IsBelow}
 use Rattle.om_recover.specs.Rows.{Rows, HasRow, row_cmp}
-use Rattle.om_recover.specs.Recoverable.{IsStable}
 use Rattle.om_recover.specs.Offered.{offered}
 use Rattle.om_recover.specs.declared.row.RowKind.TheVariants.{Checkpoint}
 use Rattle.om_recover.specs.declared.row.Row.{Row}
@@ -19,17 +17,6 @@ StandsBefore one other = (one.pid < other.pid) ⊎ ((one.pid ≡ other.pid) × (
 -- a list of rows in which each stands before those that follow
 abbrev pub AreInOrder : List Row → Type 0
 AreInOrder rows = AllPairs StandsBefore rows
-
--- the interval of the process is stable and within the bounds, and depends on nothing beyond them
-pub record Fits (rows : Rows) (bounds : List ℕ) (p interval : ℕ) : Type 0 where
-  pub stable : IsStable rows p interval
-  pub within : interval ≤ slice_index bounds p
-  pub closed : (row : Row) → HasRow rows row → row.pid ≡ p → row.interval ≡ interval → IsBelow row.vec bounds
-
--- the greatest interval of the process that fits
-pub record IsGreatestFit (rows : Rows) (bounds : List ℕ) (p interval : ℕ) : Type 0 where
-  pub fits : Fits rows bounds p interval
-  pub greatest : (other : ℕ) → Fits rows bounds p other → other ≤ interval
 
 -- after the last stable interval that is given, the row's interval is stable
 abbrev pub Extends : Row → Option ℕ → Type 0
@@ -54,6 +41,10 @@ HasNoneBelow rows row = (low : Row) → HasRow rows low → low.pid ≡ row.pid 
 -- the process of the row has no row above it
 abbrev pub HasNoneAbove : Rows → Row → Type 0
 HasNoneAbove rows row = (high : Row) → HasRow rows high → high.pid ≡ row.pid → row.interval < high.interval → ⊥
+
+-- the row at the place has the property
+abbrev pub IsPlaceOf : (Row → Type 0) → List Row → ℕ → Type 0
+IsPlaceOf P rows place = (place < length rows) × HoldsAt P rows place
 
 -- of the rows with the property, the one at the place is the last
 pub record IsLastOf (P : Row → Type 0) (rows : List Row) (place : ℕ) : Type 0 where

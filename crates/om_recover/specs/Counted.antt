@@ -1,0 +1,45 @@
+use Rattle.std.specs.Prelude.{◌≡◌, ℕ, ◌+◌, ◌-◌, ◌*◌, ◌<◌, ◌≤◌, List, ◌∷◌, ◌++◌, All, length, sum, slice_index}
+use Rattle.om_interval.specs.Vectors.{IsBelow}
+use Rattle.om_recover.specs.Rows.{Rows}
+use Rattle.om_recover.specs.Recoverable.{IsStable, IsRecoverable}
+use Rattle.om_recover.specs.Records.{Kept}
+use Rattle.om_recover.specs.Attempts.{Attempt}
+use Rattle.om_recover.specs.Climb.{IsLeastStable, AreLooks}
+
+-- of the process's intervals above the floor that were not stable before, the least
+pub record IsLeastNew (before after : Rows) (p floor x : ℕ) : Type 0 where
+  pub stable : IsStable after p x
+  pub new : IsStable before p x → ⊥
+  pub above : floor < x
+  pub least : (y : ℕ) → IsStable after p y → floor < y → y < x → IsStable before p y
+
+-- an attempt that climbs from a recoverable state between the two, from a process's least stable interval above it
+pub record IsLater (n : ℕ) (rows : Rows) (low high : List ℕ) (attempt : Attempt) : Type 0 where
+  pub process : attempt.pid < n
+  pub recoverable : IsRecoverable n rows attempt.state
+  pub above : IsBelow low attempt.state
+  pub below : IsBelow attempt.state high
+  pub start : IsLeastStable rows attempt.pid (slice_index attempt.state attempt.pid + 1) attempt.interval
+  pub looks : AreLooks rows attempt.state attempt.pid attempt.interval attempt.looks
+
+-- the attempts of a search that raised one state to another: the first climbs from the state, from the interval given,
+-- and there are at most n more for each interval by which the state was raised
+pub record IsSearched (n : ℕ) (rows : Rows) (state : List ℕ) (p x : ℕ) (raised : List ℕ) (old new : List Attempt) : Type 0 where
+  pub made : List Attempt
+  pub looks : List (ℕ × ℕ)
+  pub added : new ≡ made ++ record { pid = p; interval = x; state = state; looks = looks } ∷ old
+  pub first : AreLooks rows state p x looks
+  pub few : length made ≤ n * (sum raised - sum state)
+  pub later : All (IsLater n rows state raised) made
+
+-- the attempts of a note: none where no interval of the process becomes stable above the state, else those of a search
+-- from the least that does
+pub data IsCounted (n : ℕ) (before after : Rows) (p : ℕ) (state raised : List ℕ) (old new : List Attempt) : Type 0 where
+  uncounted : ((y : ℕ) → IsStable after p y → slice_index state p < y → IsStable before p y) → new ≡ old
+      → IsCounted n before after p state raised old new
+  searched : (x : ℕ) → IsLeastNew before after p (slice_index state p) x → IsSearched n after state p x raised old new
+      → IsCounted n before after p state raised old new
+
+-- the attempts of a note of a process, from the records before it and after
+abbrev pub IsCountedNote : Kept → Kept → ℕ → List Attempt → List Attempt → Type 0
+IsCountedNote before after p old new = IsCounted (length before.state) before.rows after.rows p before.state after.state old new

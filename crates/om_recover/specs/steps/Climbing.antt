@@ -1,0 +1,91 @@
+-- What a climb and its steps promise.
+use Rattle.std.specs.Prelude.{◌≡◌, ℕ, ◌+◌, ◌<◌, ◌≤◌, ◌⊎◌, Option, MatchOption, List, ◌∷◌, ◌++◌, All, length, slice_index}
+use Rattle.om_interval.specs.Vectors.{IsBelow}
+use Rattle.om_recover.specs.Rows.{Rows, HasRow}
+use Rattle.om_recover.specs.Recoverable.{IsStable, IsRecoverable}
+use Rattle.om_recover.specs.Attempts.{Attempt}
+use Rattle.om_recover.specs.Climb.{IsLeastStable, AreLooks}
+use Rattle.om_recover.specs.Counted.{IsLater}
+use Rattle.om_recover.specs.declared.row.Row.{Row}
+
+-- an attempt was added, of that start and state
+pub record IsAttempted (rows : Rows) (state : List ℕ) (p x : ℕ) (old new : List Attempt) : Type 0 where
+  pub looks : List (ℕ × ℕ)
+  pub added : new ≡ record { pid = p; interval = x; state = state; looks = looks } ∷ old
+  pub lawful : AreLooks rows state p x looks
+
+-- each place of the vector that is beyond the state is raised to its process's least stable interval there
+pub record IsForced (rows : Rows) (state vec higher : List ℕ) : Type 0 where
+  pub places : length higher ≡ length state
+  pub kept : (j : ℕ) → j < length state → slice_index vec j ≤ slice_index state j → slice_index higher j ≡ slice_index state j
+  pub raised : (j : ℕ) → j < length state → slice_index state j < slice_index vec j
+      → IsLeastStable rows j (slice_index vec j) (slice_index higher j)
+
+-- the vector names an interval of the process beyond the state, at or above which it has no stable one
+pub record IsBlocked (rows : Rows) (state vec : List ℕ) (at : ℕ) : Type 0 where
+  pub within : at < length state
+  pub beyond : slice_index state at < slice_index vec at
+  pub none : (z : ℕ) → IsStable rows at z → slice_index vec at ≤ z → ⊥
+
+-- the least recoverable state at or above the state that has process p at x or above
+pub record IsClimbed (n : ℕ) (rows : Rows) (state : List ℕ) (p x : ℕ) (climbed : List ℕ) : Type 0 where
+  pub recoverable : IsRecoverable n rows climbed
+  pub above : IsBelow state climbed
+  pub started : x ≤ slice_index climbed p
+  pub least : (other : List ℕ) → IsRecoverable n rows other → IsBelow state other → x ≤ slice_index other p → IsBelow climbed other
+
+-- no recoverable state has process p at x or above
+abbrev pub IsOutOfReach : ℕ → Rows → ℕ → ℕ → Type 0
+IsOutOfReach n rows p x = (other : List ℕ) → IsRecoverable n rows other → slice_index other p < x
+
+-- at most one attempt for each process was added
+pub record ArePassed (n : ℕ) (rows : Rows) (low high : List ℕ) (p : ℕ) (old new : List Attempt) : Type 0 where
+  pub made : List Attempt
+  pub added : new ≡ made ++ old
+  pub few : length made ≤ p
+  pub later : All (IsLater n rows low high) made
+
+-- `IsNeeded`, where each interval after the first is at most the bound's place
+pub data IsNeededWithin (rows : Rows) (state bound : List ℕ) (p x : ℕ) : ℕ → ℕ → Type 0 where
+  begins : IsNeededWithin rows state bound p x p x
+  leads : (row : Row) (j y : ℕ) → IsNeededWithin rows state bound p x row.pid row.interval → HasRow rows row
+      → slice_index state j < slice_index row.vec j
+      → IsLeastStable rows j (slice_index row.vec j) y → y ≤ slice_index bound j → IsNeededWithin rows state bound p x j y
+
+-- what a climb knows: the state reached so far, and per process the interval whose vector was read last
+pub record IsClimbing (n : ℕ) (rows : Rows) (state : List ℕ) (p x : ℕ) (reached looked : List ℕ) : Type 0 where
+  pub reached_places : length reached ≡ n
+  pub looked_places : length looked ≡ n
+  pub from_state : IsBelow state looked
+  pub behind : IsBelow looked reached
+  pub started : x ≤ slice_index reached p
+  pub stable : (q : ℕ) → q < n → IsStable rows q (slice_index reached q)
+  pub needed : (q : ℕ) → q < n → slice_index state q < slice_index reached q
+      → IsNeededWithin rows state reached p x q (slice_index reached q)
+  pub closed : (row : Row) → HasRow rows row → row.interval ≡ slice_index looked row.pid → IsBelow row.vec reached
+  pub forced : (other : List ℕ) → IsRecoverable n rows other → IsBelow state other → x ≤ slice_index other p → IsBelow reached other
+
+-- what is told of the least stable interval of the process at or above an interval
+abbrev pub TellsLeast : Rows → ℕ → ℕ → Option ℕ → Type 0
+TellsLeast rows p from told = MatchOption told ((z : ℕ) → IsStable rows p z → from ≤ z → ⊥) (IsLeastStable rows p from)
+
+-- what comes of a climb
+abbrev pub TellsClimb : ℕ → Rows → List ℕ → ℕ → ℕ → Option (List ℕ) → Type 0
+TellsClimb n rows state p x told = MatchOption told (IsOutOfReach n rows p x) (IsClimbed n rows state p x)
+
+-- where a climb begins, unless it is known to fail
+abbrev pub TellsBegin : ℕ → Rows → List ℕ → ℕ → ℕ → Option (List ℕ) → Type 0
+TellsBegin n rows state p x told = MatchOption told (IsOutOfReach n rows p x) (λ reached. IsClimbing n rows state p x reached state)
+
+-- a process that is lower in the first vector, if the vectors differ
+abbrev pub TellsBehind : List ℕ → List ℕ → Option ℕ → Type 0
+TellsBehind looked reached told =
+    MatchOption told (looked ≡ reached) (λ q. (q < length looked) × (slice_index looked q < slice_index reached q))
+
+-- each recoverable state is within the state, or has the process at the interval or above
+abbrev pub AreWithinOrStarted : ℕ → Rows → List ℕ → ℕ → ℕ → Type 0
+AreWithinOrStarted n rows state p x = (other : List ℕ) → IsRecoverable n rows other → IsBelow other state ⊎ (x ≤ slice_index other p)
+
+-- no recoverable state has a process above its place of the state
+abbrev pub IsAtRest : ℕ → Rows → List ℕ → Type 0
+IsAtRest n rows state = (p : ℕ) → p < n → IsOutOfReach n rows p (slice_index state p + 1)
