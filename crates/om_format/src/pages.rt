@@ -33,11 +33,15 @@ pub(crate) fn page_of(memory: &[u8], index: usize) -> &[u8]
     &behind[..PAGE.min(behind.len())]
 }
 
-// Not all bytes are zero.
+// Not all bytes are zero. Each byte is looked at, which takes less time than to stop at the first that is not.
 pub(crate) fn is_kept(bytes: &[u8]) -> bool
     ensures { result ≡ is_kept bytes.now }
 {
-    bytes.iter().any(|byte| *byte > 0)
+    let mut kept = false;
+    for byte in bytes {
+        kept |= *byte > 0;
+    }
+    kept
 }
 
 // How many pages of a memory are kept.

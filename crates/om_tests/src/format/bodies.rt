@@ -40,6 +40,7 @@ fn messages_are_copied_whole(rt: HostRuntime) -> Result<(), Fail> {
     assert_eq!(rt; copy.ssn, 7);
     assert_eq!(rt; copy.body, message.body);
     assert_eq!(rt; copy.body.as_slice(), [1, 2].as_slice());
+    assert_eq!(rt; copy.body.copy(rt.alloc())?, copy.body);
     Ok(())
 }
 
