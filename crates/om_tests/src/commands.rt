@@ -173,7 +173,12 @@ fn streams_that_fail(rt: HostRuntime) {
     assert_eq!(rt; read, Err(CommandError::CannotRead));
     assert!(rt; written.is_empty());
     let input = b"00000073";
-    let wrote = decode(rt.alloc(), Ext::I, &mut input.as_slice(), &mut Failing { calls: 3 });
+    let wrote = decode(
+        rt.alloc(),
+        Ext::I,
+        &mut input.as_slice(),
+        &mut Failing { calls: 3 },
+    );
     assert_eq!(rt; wrote, Err(CommandError::CannotWrite));
 }
 
