@@ -1,5 +1,5 @@
 -- What a script means, over any meaning of a line: what a state and the words of a line give, the next
--- state or a error.
+-- state or an error.
 use Rattle.std.specs.Prelude.{ℕ, ◌+◌, List, [], ◌∷◌, Result, Ok, Err, if◌then◌else◌}
 use Rattle.om_text.specs.declared.error.LineError.{LineError}
 use Rattle.om_text.specs.declared.error.ScriptError.{ScriptError}
