@@ -2,6 +2,7 @@ pub mod Basics
 pub mod Runs
 pub mod Parts
 pub mod Going
-pub mod Made
+pub mod Making
 pub mod Vectors
 pub mod Replays
+pub mod Numbering

@@ -9,7 +9,7 @@ use Rattle.om_process.specs.Turns.{Turns, Leads, From, Along, Reaches, IsWaiting
 use Rattle.om_process.specs.Claims.{RowOf}
 use Rattle.om_process.proofs.Runs.{turns_grow, leads_apart}
 use Rattle.om_process.proofs.Going.{stays_turns}
-use Rattle.om_process.proofs.Made.{interval_along}
+use Rattle.om_process.proofs.Making.{interval_along}
 
 -- one receipt more raises the place of its sender
 pub greatest_more : (q : ℕ) (h : List Received) (r : Received) → greatest_from q (h ++ r ∷ []) ≡ (if nat_eq r.from q then max (greatest_from q h) r.interval else greatest_from q h)

@@ -5,3 +5,4 @@ pub mod Replays
 pub mod Parts
 pub mod Claims
 pub mod Trims
+pub mod Kept

@@ -1,0 +1,81 @@
+-- Entries with their numbers.
+use Rattle.std.proofs.Common.{◌≡◌, ◌⊎◌, inl, inr, ℕ, zero, suc, ◌+◌, ◌-◌, ◌<◌, ◌≤◌, List, [], ◌∷◌, ◌++◌, length, drop, map, refl, sym, ap, ◌∙◌, arith}
+use Rattle.std.specs.Prelude.{max, min}
+use Rattle.std.proofs.lemmas.List.{map-append, length-append, length-map, length-drop, drop-map, drop_all}
+use Rattle.om_format.specs.declared.queue.Entry.{Entry}
+use Rattle.om_format.specs.Queues.{QueueRecord, queue_end}
+use Rattle.om_process.specs.Kept.{numbered, AreNumbered}
+use Rattle.om_process.specs.Trims.{trimmed_queue}
+
+pub numbered-push : {A : Type 0} (form : ℕ → Entry → A) (first next : ℕ) (es : List Entry) (e : Entry) → next ≡ first + length es
+    → numbered form first (es ++ e ∷ []) ≡ numbered form first es ++ form next e ∷ []
+numbered-push form first next [] e is = let at : next ≡ first = omega arith in ap (λ k. form k e ∷ []) (sym at)
+numbered-push form first next (x ∷ es) e is = ap (λ xs. form first x ∷ xs) (numbered-push form (first + 1) next es e (omega arith))
+
+pub numbered-drop : {A : Type 0} (form : ℕ → Entry → A) (k first next : ℕ) (es : List Entry) → k ≤ length es → next ≡ first + k
+    → numbered form next (drop k es) ≡ drop k (numbered form first es)
+numbered-drop form zero first next es le is = let at : next ≡ first = omega arith in ap (λ j. numbered form j es) at
+numbered-drop form (suc k) first next [] le is = absurd (omega arith)
+numbered-drop form (suc k) first next (x ∷ es) le is = numbered-drop form k (first + 1) next es (omega arith) (omega arith)
+
+pub length-numbered : {A : Type 0} (form : ℕ → Entry → A) (first : ℕ) (es : List Entry) → length (numbered form first es) ≡ length es
+length-numbered form first [] = refl
+length-numbered form first (x ∷ es) = ap suc (length-numbered form (first + 1) es)
+
+-- those numbered from this number on
+pub numbered_from : {A : Type 0} (form : ℕ → Entry → A) (first seq before : ℕ) (values : List A) (es : List Entry) → values ≡ numbered form first es
+    → before ≡ min (seq - first) (length values) → drop before values ≡ numbered form (max first seq) (drop (seq - first) es)
+numbered_from form first seq before values es all is = go (le_or (seq - first) (length values))
+  where
+    le_or : (x y : ℕ) → (x ≤ y) ⊎ (y ≤ x)
+    le_or x y = grind arith
+
+    long : length values ≡ length es
+    long = ap length all ∙ length-numbered form first es
+
+    go : (seq - first ≤ length values) ⊎ (length values ≤ seq - first) → drop before values ≡ numbered form (max first seq) (drop (seq - first) es)
+    go (inl le) =
+        let at : before ≡ seq - first = omega arith in
+        let l = long in
+        ap (λ k. drop k values) at ∙ ap (drop (seq - first)) all ∙ sym (numbered-drop form (seq - first) first (max first seq) es (omega arith) (omega arith))
+    go (inr le) =
+        let l = long in
+        drop_all before values (omega arith) ∙ sym (ap (numbered form (max first seq)) (drop_all (seq - first) es (omega arith)))
+
+-- one value more, of the next number
+pub are_numbered-push : {A : Type 0} (form : ℕ → Entry → A) (entry : A → Entry) (last first next : ℕ) (values new : List A) (x : A) (e : Entry)
+    → next ≡ first + length values → queue_end (record { first = first; entries = map entry values }) < last → x ≡ form next e → e ≡ entry x → new ≡ values ++ x ∷ []
+    → AreNumbered form last (record { first = first; entries = map entry values }) values
+    → AreNumbered form last (record { first = first; entries = map entry new }) new
+are_numbered-push form entry last first next values new x e at room is same more all =
+    let long : length (map entry values) ≡ length values = length-map values entry in
+    let entries : map entry new ≡ map entry values ++ e ∷ [] = ap (map entry) more ∙ map-append entry values (x ∷ []) ∙ ap (λ d. map entry values ++ d ∷ []) (sym same) in
+    let grown : length (map entry new) ≡ length (map entry values) + 1 = ap length entries ∙ length-append (map entry values) (e ∷ []) in
+    record {
+      numbers = more ∙ ap (λ y. values ++ y ∷ []) is ∙ ap (λ vs. vs ++ form next e ∷ []) all.numbers ∙ sym (numbered-push form first next (map entry values) e (omega arith)) ∙ ap (numbered form first) (sym entries);
+      within = omega arith;
+    }
+
+-- without the first values
+pub are_numbered-drop : {A : Type 0} (form : ℕ → Entry → A) (entry : A → Entry) (last first next k : ℕ) (values new : List A) → k ≤ length values → next ≡ first + k → new ≡ drop k values
+    → AreNumbered form last (record { first = first; entries = map entry values }) values
+    → AreNumbered form last (record { first = next; entries = map entry new }) new
+are_numbered-drop form entry last first next k values new within at less all =
+    let long : length (map entry values) ≡ length values = length-map values entry in
+    let entries : map entry new ≡ drop k (map entry values) = ap (map entry) less ∙ sym (drop-map entry k values) in
+    let shrunk : length (map entry new) ≡ length (map entry values) - k = ap length entries ∙ length-drop k (map entry values) in
+    let end : first + length (map entry values) ≤ last = all.within in
+    record {
+      numbers = less ∙ ap (drop k) all.numbers ∙ sym (numbered-drop form k first next (map entry values) (omega arith) at) ∙ ap (numbered form next) (sym entries);
+      within = omega arith;
+    }
+
+-- the queue is the trimmed one
+pub is_trimmed : {A : Type 0} (entry : A → Entry) (bound first next k : ℕ) (values new : List A) → k ≡ min (bound - first) (length values) → next ≡ first + k → new ≡ drop k values
+    → record { first = next; entries = map entry new } ≡ trimmed_queue bound (record { first = first; entries = map entry values })
+is_trimmed entry bound first next k values new is at less =
+    let long : length (map entry values) ≡ length values = length-map values entry in
+    let by : k ≡ min (bound - first) (length (map entry values)) = omega arith in
+    ap (λ (n : ℕ). record { first = n; entries = map entry new }) at
+    ∙ ap (λ (es : List Entry). record { first = first + k; entries = es }) (ap (map entry) less ∙ sym (drop-map entry k values))
+    ∙ ap (λ (j : ℕ). record { first = first + j; entries = drop j (map entry values) }) by
