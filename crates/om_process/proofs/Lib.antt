@@ -6,3 +6,5 @@ pub mod Making
 pub mod Vectors
 pub mod Replays
 pub mod Numbering
+pub mod QueueLemmas
+pub mod CoreLemmas

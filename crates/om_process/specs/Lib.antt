@@ -6,3 +6,7 @@ pub mod Parts
 pub mod Claims
 pub mod Trims
 pub mod Kept
+pub mod Core
+pub mod Views
+pub mod Accepts
+pub mod steps

@@ -1,9 +1,21 @@
 //! One logged process: it runs and receives, and where its receipts lead is a matter of its program alone.
 #![tactic(auto)]
 
+pub use accept::Accept;
 pub use limits::{LAST_INTERVAL, LAST_NUMBER, LAST_OUTPUT, REFUSED};
+pub use proc_core::ProcCore;
 pub use queues::{Made, Messages, Outputs, Sent};
+pub use row::Row;
+pub use status::Status;
+pub use turns::Ran;
 
+mod accept;
 pub mod laws;
 mod limits;
+mod log;
+mod plan;
+mod proc_core;
 mod queues;
+mod row;
+mod status;
+mod turns;
