@@ -1,6 +1,6 @@
 -- What holds of every core is kept.
 use Rattle.std.proofs.Common.{◌≡◌, ℕ, ◌+◌, ◌-◌, ◌%◌, ◌≤◌, ◌<◌, List, [], ◌∷◌, ◌++◌, length, map, set, get_or, length-set, Some, refl, sym, ap, ◌∙◌, subst, arith}
-use Rattle.std.specs.Prelude.{sum, zero, suc, max, Bool, true, false, if◌then◌else◌, nat_le}
+use Rattle.std.specs.Prelude.{min, sum, zero, suc, max, Bool, true, false, if◌then◌else◌, nat_le}
 use Rattle.std.proofs.lemmas.Bool.{leb-true}
 use Rattle.std.specs.List.{range_with_len}
 use Rattle.std.proofs.lemmas.List.{get_or-set_same, length-append, length-map, map-append, map-id}
@@ -26,10 +26,12 @@ use Rattle.om_isa.specs.declared.ext.Ext.{Ext}
 use Rattle.om_format.specs.Checkpoints.{IsCheckpoint, is_memory_size}
 use Rattle.om_format.specs.Versions.{is_cluster_size}
 use Rattle.om_format.specs.declared.version.Version.TheVariants.{V2}
-use Rattle.om_format.proofs.Entries.{are_entries-push, are_entries_later, all_entries_later}
+use Rattle.om_format.proofs.Entries.{are_entries-drop, are_entries-push, are_entries_later, all_entries_later}
 use Rattle.om_process.specs.Core.{LoggedRecord, AreLast}
+use Rattle.om_process.specs.Trims.{trimmed_queue, trimmed_queues}
+use Rattle.om_process.specs.declared.row.Row.{Row}
 use Rattle.om_process.proofs.Going.{turns_add}
-use Rattle.om_process.proofs.QueueLemmas.{ends-append, emitted-append, emitted-last, ends_emitted, all_entries_emitted, end_with}
+use Rattle.om_process.proofs.QueueLemmas.{all_entries_trimmed, end_trimmed, ends_trimmed, ends-append, emitted-append, emitted-last, ends_emitted, all_entries_emitted, end_with}
 use Rattle.om_format.specs.declared.queue.Entry.{Entry}
 use Rattle.om_format.specs.declared.limits.TheConstants.{MAX_BODY}
 use Rattle.om_process.specs.Process.{emitted, with_entry, raised}
@@ -226,6 +228,35 @@ process_with interval vec got m qs = record { machine = m; interval = interval; 
 -- processes that differ in the machine and the queues alone
 pub same_process : (interval : ℕ) (vec got : List ℕ) (m n : State) (qs rs : List QueueRecord) → m ≡ n → qs ≡ rs → Some (process_with interval vec got m qs) ≡ Some (process_with interval vec got n rs)
 same_process interval vec got m n qs rs same alike = ap (λ (x : State). Some (process_with interval vec got x qs)) same ∙ ap (λ (x : List QueueRecord). Some (process_with interval vec got n x)) alike
+
+abbrev pub core_with : ℕ → State → ℕ → List ℕ → List ℕ → List LoggedRecord → List Row → ℕ → ℕ → List (List ℕ) → List QueueRecord → CoreState
+core_with own m interval vec got log pending inc round starts qs =
+    record { own = own; now = process_with interval vec got m qs; log = log; pending = pending; inc = inc; round = round; starts = starts }
+
+-- cores that differ in the queues alone
+pub same_core : (own : ℕ) (m : State) (interval : ℕ) (vec got : List ℕ) (log : List LoggedRecord) (pending : List Row) (inc round : ℕ) (starts : List (List ℕ)) (qs rs : List QueueRecord) → qs ≡ rs
+    → core_with own m interval vec got log pending inc round starts qs ≡ core_with own m interval vec got log pending inc round starts rs
+same_core own m interval vec got log pending inc round starts qs rs alike = ap (core_with own m interval vec got log pending inc round starts) alike
+
+-- fewer entries are kept
+pub core_trimmed : (c : CoreParts) (bounds : List ℕ) (bound : ℕ) (outbox : List QueueRecord) (outputs : QueueRecord) → outbox ≡ trimmed_queues bounds c.outbox → outputs ≡ trimmed_queue bound c.outputs
+    → IsCore c → IsCore (record c { outbox = outbox; outputs = outputs })
+core_trimmed c bounds bound outbox outputs box last is = record {
+  cluster = is.cluster;
+  own = is.own;
+  counted = is.counted;
+  own_place = is.own_place;
+  got = is.got;
+  received = is.received;
+  sent = is.sent;
+  ends = ap (map queue_end) box ∙ ends_trimmed bounds c.outbox ∙ is.ends;
+  outputs_end = ap queue_end last ∙ end_trimmed bound c.outputs ∙ is.outputs_end;
+  made = is.made;
+  messages = subst (λ qs. all_entries c.interval qs ≡ true) (sym box) (all_entries_trimmed c.interval bounds c.outbox is.messages);
+  outputs = subst (λ (q : QueueRecord). are_entries c.interval 0 q.entries ≡ true) (sym last) (are_entries-drop c.interval 0 (min (bound - c.outputs.first) (length c.outputs.entries)) c.outputs.entries is.outputs);
+  logged = is.logged;
+  starts = is.starts;
+}
 
 -- the queues after a message more
 pub queues_sent : (place : ℕ) (d e : Entry) (box new : List QueueRecord) (outputs : QueueRecord) → place < length box → d ≡ e → new ≡ emitted place d box → emitted place e (box ++ outputs ∷ []) ≡ new ++ outputs ∷ []

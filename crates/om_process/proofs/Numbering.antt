@@ -1,11 +1,12 @@
 -- Entries with their numbers.
-use Rattle.std.proofs.Common.{◌≡◌, ◌⊎◌, inl, inr, ℕ, zero, suc, ◌+◌, ◌-◌, ◌<◌, ◌≤◌, List, [], ◌∷◌, ◌++◌, length, drop, map, refl, sym, ap, ◌∙◌, arith}
-use Rattle.std.specs.Prelude.{max, min}
+use Rattle.std.proofs.Common.{◌≡◌, ◌⊎◌, inl, inr, ℕ, zero, suc, ◌+◌, ◌-◌, ◌<◌, ◌≤◌, List, [], ◌∷◌, ◌++◌, length, drop, get_or, map, refl, sym, ap, ◌∙◌, Some, None, arith}
+use Rattle.std.specs.Prelude.{max, min, slice_get}
 use Rattle.std.proofs.lemmas.List.{map-append, length-append, length-map, length-drop, drop-map, drop_all}
 use Rattle.om_format.specs.declared.queue.Entry.{Entry}
 use Rattle.om_format.specs.Queues.{QueueRecord, queue_end}
 use Rattle.om_process.specs.Kept.{numbered, AreNumbered}
 use Rattle.om_process.specs.Trims.{trimmed_queue}
+
 
 pub numbered-push : {A : Type 0} (form : ℕ → Entry → A) (first next : ℕ) (es : List Entry) (e : Entry) → next ≡ first + length es
     → numbered form first (es ++ e ∷ []) ≡ numbered form first es ++ form next e ∷ []
@@ -21,6 +22,21 @@ numbered-drop form (suc k) first next (x ∷ es) le is = numbered-drop form k (f
 pub length-numbered : {A : Type 0} (form : ℕ → Entry → A) (first : ℕ) (es : List Entry) → length (numbered form first es) ≡ length es
 length-numbered form first [] = refl
 length-numbered form first (x ∷ es) = ap suc (length-numbered form (first + 1) es)
+
+-- the entry at a place, with its number
+pub numbered_at : {A : Type 0} (form : ℕ → Entry → A) (first k : ℕ) (es : List Entry) (x : A) → k < length es → x ≡ get_or (numbered form first es) k x
+    → (e : Entry) × (slice_get es k ≡ Some e) × (x ≡ form (first + k) e)
+numbered_at form first k [] x within at = absurd (omega arith)
+numbered_at form first zero (e ∷ es) x within at = let is : first ≡ first + 0 = omega arith in (e, refl, at ∙ ap (λ j. form j e) is)
+numbered_at form first (suc k) (e ∷ es) x within at =
+    let there = numbered_at form (first + 1) k es x (omega arith) at in
+    let is : first + 1 + k ≡ first + suc k = omega arith in
+    (there.0, there.1, there.2 ∙ ap (λ j. form j there.0) is)
+
+pub nothing_at : (k : ℕ) (es : List Entry) → length es ≤ k → slice_get es k ≡ None
+nothing_at k [] le = refl
+nothing_at zero (e ∷ es) le = absurd (omega arith)
+nothing_at (suc k) (e ∷ es) le = nothing_at k es (omega arith)
 
 -- those numbered from this number on
 pub numbered_from : {A : Type 0} (form : ℕ → Entry → A) (first seq before : ℕ) (values : List A) (es : List Entry) → values ≡ numbered form first es

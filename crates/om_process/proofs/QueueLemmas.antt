@@ -1,10 +1,13 @@
 -- A queue among others gains an entry.
-use Rattle.std.proofs.Common.{◌≡◌, ℕ, zero, suc, ◌+◌, ◌<◌, ◌≤◌, ◌&&◌, Bool, true, false, List, [], ◌∷◌, ◌++◌, length, map, set, get_or, length-append, refl, sym, ap, ◌∙◌, arith}
+use Rattle.std.proofs.Common.{◌≡◌, ℕ, zero, suc, ◌+◌, ◌-◌, ◌<◌, ◌≤◌, ◌&&◌, Bool, true, false, List, [], ◌∷◌, ◌++◌, length, drop, map, set, take, get_or, length-append, refl, sym, ap, ◌∙◌, arith}
+use Rattle.std.specs.Prelude.{min}
+use Rattle.std.proofs.lemmas.List.{length-drop}
 use Rattle.om_format.specs.declared.limits.TheConstants.{MAX_BODY}
 use Rattle.om_format.specs.declared.queue.Entry.{Entry}
 use Rattle.om_format.specs.Queues.{QueueRecord, queue_end, are_entries, all_entries}
-use Rattle.om_format.proofs.Entries.{are_entries-push, all_entries-set}
+use Rattle.om_format.proofs.Entries.{are_entries-drop, are_entries-push}
 use Rattle.om_process.specs.Process.{emitted, with_entry}
+use Rattle.om_process.specs.Trims.{trimmed_queue, trimmed_queues}
 
 pub emitted_at : (qs : List QueueRecord) (place : ℕ) (old new : QueueRecord) (e : Entry) → place < length qs → old ≡ get_or qs place old → new ≡ with_entry e old → set qs place new ≡ emitted place e qs
 emitted_at [] place old new e within at is = absurd (omega arith)
@@ -61,3 +64,50 @@ all_entries_emitted newest zero e (q ∷ qs) is short all =
 all_entries_emitted newest (suc place) e (q ∷ qs) is short all =
     let h = both (are_entries newest 0 q.entries) (all_entries newest qs) all in
     and (are_entries newest 0 q.entries) (all_entries newest (emitted place e qs)) h.0 (all_entries_emitted newest place e qs is short h.1)
+
+-- ---- queues before the last one
+pub queue_before : (qs : List QueueRecord) (q d : QueueRecord) (place : ℕ) → place < length qs → get_or (qs ++ q ∷ []) place d ≡ get_or qs place d
+queue_before [] q d place within = absurd (omega arith)
+queue_before (p ∷ qs) q d zero within = refl
+queue_before (p ∷ qs) q d (suc place) within = queue_before qs q d place (omega arith)
+
+pub queue_last : (qs : List QueueRecord) (q d : QueueRecord) → get_or (qs ++ q ∷ []) (length qs) d ≡ q
+queue_last [] q d = refl
+queue_last (p ∷ qs) q d = queue_last qs q d
+
+-- ---- trimming
+pub trimmed_more : (bounds : List ℕ) (qs : List QueueRecord) (k : ℕ) (old : QueueRecord) → k < length bounds → length bounds ≡ length qs → old ≡ get_or (trimmed_queues (take k bounds) qs) k old
+    → set (trimmed_queues (take k bounds) qs) k (trimmed_queue (get_or bounds k 0) old) ≡ trimmed_queues (take (suc k) bounds) qs
+trimmed_more [] qs k old within long at = absurd (omega arith)
+trimmed_more (b ∷ bounds) [] k old within long at = absurd (omega arith)
+trimmed_more (b ∷ bounds) (q ∷ qs) zero old within long at = ap (λ p. trimmed_queue b p ∷ qs) at
+trimmed_more (b ∷ bounds) (q ∷ qs) (suc k) old within long at = ap (λ ps. trimmed_queue b q ∷ ps) (trimmed_more bounds qs k old (omega arith) (omega arith) at)
+
+pub length-trimmed_queues : (bounds : List ℕ) (qs : List QueueRecord) → length (trimmed_queues bounds qs) ≡ length qs
+length-trimmed_queues [] qs = refl
+length-trimmed_queues (b ∷ bounds) [] = refl
+length-trimmed_queues (b ∷ bounds) (q ∷ qs) = ap suc (length-trimmed_queues bounds qs)
+
+pub trimmed-append : (bounds : List ℕ) (b : ℕ) (qs : List QueueRecord) (q : QueueRecord) → length bounds ≡ length qs → trimmed_queues (bounds ++ b ∷ []) (qs ++ q ∷ []) ≡ trimmed_queues bounds qs ++ trimmed_queue b q ∷ []
+trimmed-append [] b [] q long = refl
+trimmed-append [] b (p ∷ qs) q long = absurd (omega arith)
+trimmed-append (c ∷ bounds) b [] q long = absurd (omega arith)
+trimmed-append (c ∷ bounds) b (p ∷ qs) q long = ap (λ rs. trimmed_queue c p ∷ rs) (trimmed-append bounds b qs q (omega arith))
+
+-- what is trimmed ends where it ended
+pub end_trimmed : (bound : ℕ) (q : QueueRecord) → queue_end (trimmed_queue bound q) ≡ queue_end q
+end_trimmed bound q =
+    let l : length (drop (min (bound - q.first) (length q.entries)) q.entries) ≡ length q.entries - min (bound - q.first) (length q.entries) = length-drop (min (bound - q.first) (length q.entries)) q.entries in
+    omega arith
+
+pub ends_trimmed : (bounds : List ℕ) (qs : List QueueRecord) → map queue_end (trimmed_queues bounds qs) ≡ map queue_end qs
+ends_trimmed [] qs = refl
+ends_trimmed (b ∷ bounds) [] = refl
+ends_trimmed (b ∷ bounds) (q ∷ qs) = ap (λ e. e ∷ map queue_end (trimmed_queues bounds qs)) (end_trimmed b q) ∙ ap (λ es. queue_end q ∷ es) (ends_trimmed bounds qs)
+
+pub all_entries_trimmed : (newest : ℕ) (bounds : List ℕ) (qs : List QueueRecord) → all_entries newest qs ≡ true → all_entries newest (trimmed_queues bounds qs) ≡ true
+all_entries_trimmed newest [] qs all = all
+all_entries_trimmed newest (b ∷ bounds) [] all = all
+all_entries_trimmed newest (b ∷ bounds) (q ∷ qs) all =
+    let h = both (are_entries newest 0 q.entries) (all_entries newest qs) all in
+    and (are_entries newest 0 (trimmed_queue b q).entries) (all_entries newest (trimmed_queues bounds qs)) (are_entries-drop newest 0 (min (b - q.first) (length q.entries)) q.entries h.0) (all_entries_trimmed newest bounds qs h.1)

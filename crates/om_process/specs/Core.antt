@@ -54,6 +54,10 @@ move_of c = next_move c.own (size_of c.now) c.now.machine (made c.now.queues)
 abbrev pub with_now : CoreState → Process → CoreState
 with_now c p = record { own = c.own; now = p; log = c.log; pending = c.pending; inc = c.inc; round = c.round; starts = c.starts }
 
+-- only the pending rows changed
+abbrev pub with_pending : CoreState → List Row → CoreState
+with_pending c rows = record { own = c.own; now = c.now; log = c.log; pending = rows; inc = c.inc; round = c.round; starts = c.starts }
+
 -- the parts of a core
 pub record CoreParts : Type 0 where
   pub own : ℕ

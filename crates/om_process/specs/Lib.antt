@@ -9,4 +9,5 @@ pub mod Kept
 pub mod Core
 pub mod Views
 pub mod Accepts
+pub mod Frames
 pub mod steps

@@ -2,6 +2,7 @@
 #![tactic(auto)]
 
 pub use accept::Accept;
+pub use down::Down;
 pub use limits::{LAST_INTERVAL, LAST_NUMBER, LAST_OUTPUT, REFUSED};
 pub use proc_core::ProcCore;
 pub use queues::{Made, Messages, Outputs, Sent};
@@ -10,12 +11,15 @@ pub use status::Status;
 pub use turns::Ran;
 
 mod accept;
+mod down;
 pub mod laws;
 mod limits;
 mod log;
+mod outbox;
 mod plan;
 mod proc_core;
 mod queues;
 mod row;
 mod status;
+mod trim;
 mod turns;
