@@ -10,4 +10,6 @@ pub mod Core
 pub mod Views
 pub mod Accepts
 pub mod Frames
+pub mod Starting
+pub mod Stores
 pub mod steps

@@ -7,6 +7,7 @@ pub use limits::{LAST_INTERVAL, LAST_NUMBER, LAST_OUTPUT, REFUSED};
 pub use proc_core::ProcCore;
 pub use queues::{Made, Messages, Outputs, Sent};
 pub use row::Row;
+pub use start::StartFault;
 pub use status::Status;
 pub use turns::Ran;
 
@@ -20,6 +21,7 @@ mod plan;
 mod proc_core;
 mod queues;
 mod row;
+mod start;
 mod status;
 mod trim;
 mod turns;
