@@ -1,5 +1,5 @@
 -- What holds of every core is kept.
-use Rattle.std.proofs.Common.{◌≡◌, ℕ, ◌+◌, ◌-◌, ◌%◌, ◌≤◌, ◌<◌, List, [], ◌∷◌, ◌++◌, length, map, set, get_or, length-set, Some, refl, sym, ap, ◌∙◌, subst, arith}
+use Rattle.std.proofs.Common.{◌≡◌, ℕ, ◌+◌, ◌-◌, ◌%◌, ◌≤◌, ◌<◌, List, [], ◌∷◌, ◌++◌, length, map, set, get_or, length-set, Some, refl, sym, ap, ◌∙◌, subst, None, ◌≢◌, arith}
 use Rattle.std.specs.Prelude.{min, sum, zero, suc, max, Bool, true, false, if◌then◌else◌, nat_le}
 use Rattle.std.proofs.lemmas.Bool.{leb-true}
 use Rattle.std.specs.List.{range_with_len}
@@ -307,6 +307,17 @@ core_lawful c ext pc regs memory kept outputs is aligned long size same last = r
   messages = subst (λ qs. all_entries c.interval qs ≡ true) (sym same) is.messages;
   out = subst (λ (q : QueueRecord). are_entries c.interval 0 q.entries ≡ true) (sym last) is.outputs;
 }
+
+-- a process that is told not to be ready has no turn
+pub no_turn_at : (s : CoreState) (status : Status) → status ≡ status_of (move_of s) → status ≢ Ready → next_turn s.own (size_of s.now) s.now ≡ None
+no_turn_at s status is other = none (move_of s) (λ ready. other (is ∙ ready))
+  where
+    none : (move : Move) → status_of move ≢ Ready → moved s.now move ≡ None
+    none Waits not = refl
+    none (Ends code) not = refl
+    none (Traps cause) not = refl
+    none (Goes next) not = absurd (not refl)
+    none (Emits place body next) not = absurd (not refl)
 
 waits_of : (move : Move) → status_of move ≡ Waiting → move ≡ Waits
 waits_of Waits is = refl

@@ -8,3 +8,4 @@ pub mod Replays
 pub mod Numbering
 pub mod QueueLemmas
 pub mod CoreLemmas
+pub mod Accepting

@@ -1,7 +1,8 @@
 //! Messages that are offered to a process.
 
-ghost use Rattle.std.specs.Prelude.{◌≡◌, ◌≢◌, ◌+◌, ◌<◌, ◌≤◌, ℕ, OnOk, OnErr, length, IfSome, IfNone, Option, slice_index};
-ghost use Rattle.om_process.specs.Accepts.{Answers, IsDue, IsNext, taken};
+ghost use Rattle.std.specs.Prelude.{◌≡◌, ◌≢◌, ◌+◌, ◌<◌, ◌↔◌, ◌⊎◌, ℕ, OnOk, OnErr, IfSome, IfNone};
+ghost use Rattle.om_interval.specs.Starts.{IsOrphan};
+ghost use Rattle.om_process.specs.Accepts.{Answers, IsDue, IsNoStranger, taken};
 ghost use Rattle.om_process.specs.declared.limits.TheConstants.{LAST_INTERVAL};
 
 use crate::limits::LAST_INTERVAL;
@@ -33,11 +34,17 @@ pub enum Accept {
 }
 
 impl ProcCore {
-    /// Offers a message to the process.
+    /// Offers a message to the process. Taken, it begins an interval, and its receipt is the last of the volatile log. The
+    /// refusals are tested in their order, and change nothing.
+    #[tactic(auto, using(crate::proofs::Accepting::due_is_taken, crate::proofs::Accepting::orphan_is_refused, crate::proofs::Accepting::orphan_is_one))]
     pub fn accept(&mut self, alloc: Global, message: &Message) -> Accept
         ensures answer { Answers self.old message.now result }
         ensures taken { (x : ℕ) → result ≡ Accept.Taken x → self.new ≡ taken self.old message.now }
         ensures refused { ((x : ℕ) → result ≢ Accept.Taken x) → self.new ≡ self.old }
+        ensures orphan { (result ≡ Accept.Orphan) ↔ (IsNoStranger self.old message.now
+            × IsOrphan self.old.starts message.now.from message.now.tag.inc message.now.tag.interval) }
+        ensures due { IsDue self.old message.now → self.old.now.interval < LAST_INTERVAL
+            → (result ≡ Accept.Memory) ⊎ (result ≡ Accept.Taken (self.old.now.interval + 1)) }
     {
         if let Some(refusal) = self.refusal(message) {
             return refusal;

@@ -3,9 +3,10 @@
 
 pub use accept::Accept;
 pub use down::Down;
+pub use image::Image;
 pub use limits::{LAST_INTERVAL, LAST_NUMBER, LAST_OUTPUT, REFUSED};
 pub use proc_core::ProcCore;
-pub use queues::{Made, Messages, Outputs, Sent};
+pub use queues::{Made, Sent};
 pub use row::Row;
 pub use start::StartFault;
 pub use status::Status;
@@ -13,6 +14,7 @@ pub use turns::Ran;
 
 mod accept;
 mod down;
+mod image;
 pub mod laws;
 mod limits;
 mod log;

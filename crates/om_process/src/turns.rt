@@ -149,7 +149,9 @@ impl ProcCore {
         ensures within { IfOk result (λ ran. ran.steps ≤ fuel) }
         ensures status { IfOk result (λ ran. ran.status ≡ status_of (move_of self.new)) }
         ensures stops { IfOk result (λ ran. ran.steps < fuel → ran.status ≢ Status.Ready) }
-        ensures some { (k : ℕ) × Turns self.old.own (size_of self.old.now) k self.old.now self.new.now }
+        ensures no_more { IfOk result (λ ran. ran.steps < fuel
+            → next_turn self.new.own (size_of self.new.now) self.new.now ≡ None) }
+        ensures at_most { (k : ℕ) × (k ≤ fuel) × Turns self.old.own (size_of self.old.now) k self.old.now self.new.now }
         ensures rest { self.new ≡ with_now self.old self.new.now }
         ensures size { size_of self.new.now ≡ size_of self.old.now }
     {
