@@ -1,5 +1,5 @@
 -- Which answer a message gets.
-use Rattle.std.proofs.Common.{◌≡◌, ◌⊎◌, inl, inr, ℕ, ◌+◌, ◌<◌, refl, ap, arith}
+use Rattle.std.proofs.Common.{◌≡◌, ◌↔◌, ◌⊎◌, inl, inr, ℕ, ◌+◌, ◌<◌, refl, ap, arith}
 use Rattle.om_interval.specs.Starts.{IsOrphan}
 use Rattle.om_format.specs.declared.message.Message.{Message}
 use Rattle.om_process.specs.declared.limits.TheConstants.{LAST_INTERVAL}
@@ -40,3 +40,6 @@ orphan_is_one c m NotWaiting is at = cc
 orphan_is_one c m Full is at = cc
 orphan_is_one c m (Taken x) is at = cc
 orphan_is_one c m Memory is at = cc
+
+pub orphan_is_exact : (c : CoreState) (m : Message) (a : Accept) → Answers c m a → (a ≡ Orphan) ↔ (IsNoStranger c m × IsOrphan c.starts m.from m.tag.inc m.tag.interval)
+orphan_is_exact c m a is = (orphan_is_one c m a is, λ both. orphan_is_refused c m a is both.0 both.1)

@@ -4,7 +4,10 @@ use Rattle.std.specs.Prelude.{max, min, slice_get}
 use Rattle.std.proofs.lemmas.List.{map-append, length-append, length-map, length-drop, drop-map, drop_all}
 use Rattle.om_format.specs.declared.queue.Entry.{Entry}
 use Rattle.om_format.specs.Queues.{QueueRecord, queue_end}
-use Rattle.om_process.specs.Kept.{numbered, AreNumbered}
+use Rattle.om_process.specs.Claims.{HasEntry}
+use Rattle.om_process.specs.Kept.{numbered, queue_at, AreNumbered}
+use Rattle.om_process.specs.Process.{empty_queue}
+use Rattle.om_process.proofs.Basics.{some_once}
 use Rattle.om_process.specs.Trims.{trimmed_queue}
 
 
@@ -95,3 +98,57 @@ is_trimmed entry bound first next k values new is at less =
     ap (λ (n : ℕ). record { first = n; entries = map entry new }) at
     ∙ ap (λ (es : List Entry). record { first = first + k; entries = es }) (ap (map entry) less ∙ sym (drop-map entry k values))
     ∙ ap (λ (j : ℕ). record { first = first + j; entries = drop j (map entry values) }) by
+
+-- ---- what is kept, by its number
+pub has_entry_at : (qs : List QueueRecord) (place k number : ℕ) (e : Entry) → number ≡ (queue_at qs place).first + k → slice_get (queue_at qs place).entries k ≡ Some e → HasEntry qs place number e
+has_entry_at [] place k number e is at = absurd (nothing_there k at)
+  where
+    nothing_there : (k : ℕ) → slice_get empty_queue.entries k ≡ Some e → ⊥
+    nothing_there k at = cc
+has_entry_at (q ∷ qs) zero k number e is at = (k, is, at)
+has_entry_at (q ∷ qs) (suc place) k number e is at = has_entry_at qs place k number e is at
+
+get_of : (A : Type 0) (xs : List A) (k : ℕ) (x : A) → slice_get xs k ≡ Some x → (k < length xs) × (x ≡ get_or xs k x)
+get_of A [] k x at = cc
+get_of A (y ∷ xs) zero x at = (omega arith, sym (some_once y x at))
+get_of A (y ∷ xs) (suc k) x at = let rest = get_of A xs k x at in let l = rest.0 in (omega arith, rest.1)
+
+pub some_at : {A : Type 0} (xs : List A) (k : ℕ) (x : A) → k < length xs → x ≡ get_or xs k x → slice_get xs k ≡ Some x
+some_at [] k x within at = absurd (omega arith)
+some_at (y ∷ xs) zero x within at = ap (λ z. Some z) (sym at)
+some_at (y ∷ xs) (suc k) x within at = some_at xs k x (omega arith) at
+
+get_dropped : (n k : ℕ) (es : List Entry) → slice_get (drop n es) k ≡ slice_get es (n + k)
+get_dropped zero k es = let is : k ≡ 0 + k = omega arith in ap (slice_get es) is
+get_dropped (suc n) k [] = refl
+get_dropped (suc n) k (e ∷ es) = let is : suc (n + k) ≡ suc n + k = omega arith in get_dropped n k es ∙ ap (slice_get (e ∷ es)) is
+
+-- each of the numbered values is the queue's entry of its number
+pub has_kept : {A : Type 0} (form : ℕ → Entry → A) (number : A → ℕ) (entry : A → Entry) (qs : List QueueRecord) (place i : ℕ) (values : List A) (x : A)
+    → ((k : ℕ) (e : Entry) → (number (form k e) ≡ k) × (entry (form k e) ≡ e))
+    → values ≡ numbered form (queue_at qs place).first (queue_at qs place).entries → slice_get values i ≡ Some x → HasEntry qs place (number x) (entry x)
+has_kept form number entry qs place i values x back all at =
+    let q = queue_at qs place in
+    let here = get_of _ (numbered form q.first q.entries) i x (ap (λ vs. slice_get vs i) (sym all) ∙ at) in
+    let long = length-numbered form q.first q.entries in
+    let within = here.0 in
+    let there = numbered_at form q.first i q.entries x (omega arith) here.1 in
+    let n : number x ≡ q.first + i = ap number there.2 ∙ (back (q.first + i) there.0).0 in
+    let e : entry x ≡ there.0 = ap entry there.2 ∙ (back (q.first + i) there.0).1 in
+    has_entry_at qs place i (number x) (entry x) n (there.1 ∙ ap (λ (d : Entry). Some d) (sym e))
+
+-- and of those numbered from a number on is the queue's entry of its number
+pub has_numbered : {A : Type 0} (form : ℕ → Entry → A) (number : A → ℕ) (entry : A → Entry) (qs : List QueueRecord) (place seq i : ℕ) (values : List A) (x : A)
+    → ((k : ℕ) (e : Entry) → (number (form k e) ≡ k) × (entry (form k e) ≡ e))
+    → values ≡ numbered form (max (queue_at qs place).first seq) (drop (seq - (queue_at qs place).first) (queue_at qs place).entries)
+    → slice_get values i ≡ Some x → HasEntry qs place (number x) (entry x)
+has_numbered form number entry qs place seq i values x back all at =
+    let q = queue_at qs place in
+    let left = drop (seq - q.first) q.entries in
+    let here = get_of _ (numbered form (max q.first seq) left) i x (ap (λ vs. slice_get vs i) (sym all) ∙ at) in
+    let long = length-numbered form (max q.first seq) left in
+    let within = here.0 in
+    let there = numbered_at form (max q.first seq) i left x (omega arith) here.1 in
+    let n : number x ≡ max q.first seq + i = ap number there.2 ∙ (back (max q.first seq + i) there.0).0 in
+    let e : entry x ≡ there.0 = ap entry there.2 ∙ (back (max q.first seq + i) there.0).1 in
+    has_entry_at qs place (seq - q.first + i) (number x) (entry x) (omega arith) (sym (get_dropped (seq - q.first) i q.entries) ∙ there.1 ∙ ap (λ (d : Entry). Some d) (sym e))

@@ -6,6 +6,7 @@ use Rattle.om_format.specs.declared.limits.TheConstants.{MAX_BODY}
 use Rattle.om_format.specs.declared.queue.Entry.{Entry}
 use Rattle.om_format.specs.Queues.{QueueRecord, queue_end, are_entries, all_entries}
 use Rattle.om_format.proofs.Entries.{are_entries-drop, are_entries-push}
+use Rattle.om_process.specs.Kept.{queue_at}
 use Rattle.om_process.specs.Process.{emitted, with_entry}
 use Rattle.om_process.specs.Trims.{trimmed_queue, trimmed_queues}
 
@@ -65,15 +66,17 @@ all_entries_emitted newest (suc place) e (q ∷ qs) is short all =
     let h = both (are_entries newest 0 q.entries) (all_entries newest qs) all in
     and (are_entries newest 0 q.entries) (all_entries newest (emitted place e qs)) h.0 (all_entries_emitted newest place e qs is short h.1)
 
--- ---- queues before the last one
-pub queue_before : (qs : List QueueRecord) (q d : QueueRecord) (place : ℕ) → place < length qs → get_or (qs ++ q ∷ []) place d ≡ get_or qs place d
-queue_before [] q d place within = absurd (omega arith)
-queue_before (p ∷ qs) q d zero within = refl
-queue_before (p ∷ qs) q d (suc place) within = queue_before qs q d place (omega arith)
+-- ---- queues of messages, and behind them that of the outputs
+pub queue_here : (qs : List QueueRecord) (last q : QueueRecord) (place : ℕ) → place < length qs → q ≡ get_or qs place q → queue_at (qs ++ last ∷ []) place ≡ q
+queue_here [] last q place within at = absurd (omega arith)
+queue_here (p ∷ qs) last q zero within at = sym at
+queue_here (p ∷ qs) last q (suc place) within at = queue_here qs last q place (omega arith) at
 
-pub queue_last : (qs : List QueueRecord) (q d : QueueRecord) → get_or (qs ++ q ∷ []) (length qs) d ≡ q
-queue_last [] q d = refl
-queue_last (p ∷ qs) q d = queue_last qs q d
+pub queue_last : (qs : List QueueRecord) (last : QueueRecord) (place : ℕ) → length qs ≡ place → queue_at (qs ++ last ∷ []) place ≡ last
+queue_last [] last zero long = refl
+queue_last [] last (suc place) long = absurd (omega arith)
+queue_last (p ∷ qs) last zero long = absurd (omega arith)
+queue_last (p ∷ qs) last (suc place) long = queue_last qs last place (omega arith)
 
 -- ---- trimming
 pub trimmed_more : (bounds : List ℕ) (qs : List QueueRecord) (k : ℕ) (old : QueueRecord) → k < length bounds → length bounds ≡ length qs → old ≡ get_or (trimmed_queues (take k bounds) qs) k old

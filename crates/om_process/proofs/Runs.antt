@@ -65,7 +65,7 @@ leads_apart own size (r ∷ g) h s t a = let b = leads_apart own size g h (deliv
 pub leads_more : (own size : ℕ) (h : List Received) (k : ℕ) (s w : Process) (r : Received) → From own size s h k w → IsWaiting own size w → Leads own size (h ++ r ∷ []) s (delivered own w r)
 leads_more own size h k s w r a is = leads_then own size h (r ∷ []) s a.0 (delivered own w r) a.1 (k, w, a.2, is, refl)
 
-replay_leads : (own size : ℕ) (rs : List ReceiptRecord) (s t : Process) → Replayed own size s rs t → Leads own size (receipts_of rs) s t
+pub replay_leads : (own size : ℕ) (rs : List ReceiptRecord) (s t : Process) → Replayed own size s rs t → Leads own size (receipts_of rs) s t
 replay_leads own size [] s t a = a
 replay_leads own size (r ∷ rs) s t a = (a.0, a.1, a.2, a.3.waits, replay_leads own size rs (delivered own a.1 (received_of r)) t a.4)
 

@@ -1,5 +1,5 @@
 -- One logged process as its callers see it.
-use Rattle.std.specs.Prelude.{◌≡◌, ℕ, ◌+◌, ◌-◌, ◌<◌, ◌≤◌, List, length, map, sum, slice_index, true}
+use Rattle.std.specs.Prelude.{◌≡◌, ℕ, ◌+◌, ◌-◌, ◌<◌, ◌≤◌, List, Option, length, map, sum, slice_index, true}
 use Rattle.std.specs.List.{range_with_len}
 use Rattle.om_format.specs.Receipts.{ReceiptRecord}
 use Rattle.om_format.specs.Versions.{is_cluster_size}
@@ -10,7 +10,7 @@ use Rattle.om_process.specs.declared.status.Status.{Status}
 use Rattle.om_process.specs.declared.status.Status.TheVariants.{Ready, Waiting, Ended, Trapped}
 use Rattle.om_process.specs.declared.row.Row.{Row}
 use Rattle.om_process.specs.Process.{Process, Move, Waits, Ends, Traps, Goes, Emits, made}
-use Rattle.om_process.specs.Turns.{next_move}
+use Rattle.om_process.specs.Turns.{Turns, next_move, next_turn}
 
 -- a receipt in the volatile log, with the vector and the numbers got right after it
 pub record LoggedRecord : Type 0 where
@@ -49,6 +49,14 @@ status_of (Emits place body next) = Ready
 -- what comes next in a core
 abbrev pub move_of : CoreState → Move
 move_of c = next_move c.own (size_of c.now) c.now.machine (made c.now.queues)
+
+-- the process of a core after one turn, where there is one
+abbrev pub core_turn : CoreState → Option Process
+core_turn c = next_turn c.own (size_of c.now) c.now
+
+-- so many turns lead from the process of the first core to that of the second
+abbrev pub CoreTurns : ℕ → CoreState → CoreState → Type 0
+CoreTurns k c d = Turns c.own (size_of c.now) k c.now d.now
 
 -- only the process changed
 abbrev pub with_now : CoreState → Process → CoreState

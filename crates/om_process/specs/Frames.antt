@@ -1,8 +1,9 @@
 -- Messages of a process on their way.
-use Rattle.std.specs.Prelude.{ℕ, ◌+◌, Option, Some, None, slice_get}
+use Rattle.std.specs.Prelude.{◌≡◌, ℕ, ◌+◌, Option, Some, None, slice_get}
 use Rattle.om_format.specs.declared.message.Message.{Message}
 use Rattle.om_format.specs.declared.queue.Entry.{Entry}
 use Rattle.om_format.specs.Queues.{QueueRecord}
+use Rattle.om_process.specs.Claims.{HasEntry}
 use Rattle.om_process.specs.Kept.{queue_at}
 use Rattle.om_process.specs.Core.{CoreState, size_of}
 
@@ -18,6 +19,12 @@ abbrev pub frame_of : CoreState → ℕ → ℕ → Option Entry → Option Mess
 frame_of c to ssn None = None
 frame_of c to ssn (Some e) =
     Some (record { from = c.own; to = to; tag = record { inc = c.inc; interval = e.interval }; ssn = ssn; body = e.body })
+
+-- the message is one of the process's kept ones, with its present incarnation and the interval in which it was sent
+pub record IsFrameOf (c : CoreState) (m : Message) : Type 0 where
+  pub from : m.from ≡ c.own
+  pub inc : m.tag.inc ≡ c.inc
+  pub sent : HasEntry c.now.queues m.to m.ssn (record { interval = m.tag.interval; body = m.body })
 
 -- the k-th of the messages to a process that are kept
 abbrev pub frame_at : CoreState → ℕ → ℕ → Option Message

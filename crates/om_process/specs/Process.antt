@@ -80,12 +80,15 @@ delivered own p r = record {
 abbrev pub empty_queue : QueueRecord
 empty_queue = record { first = 0; entries = [] }
 
--- a process of n at its start
-abbrev pub started : Program → ℕ → Process
-started program n = record {
-  machine = loaded program.image program.size program.ext;
+-- a process of n at its start, with its machine, and of a program
+abbrev pub started_with : State → ℕ → Process
+started_with machine n = record {
+  machine = machine;
   interval = 0;
   vec = replicate n 0;
   got = replicate n 0;
   queues = replicate n empty_queue ++ empty_queue ∷ [];
 }
+
+abbrev pub started : Program → ℕ → Process
+started program n = started_with (loaded program.image program.size program.ext) n

@@ -36,7 +36,7 @@ pub enum Accept {
 impl ProcCore {
     /// Offers a message to the process. Taken, it begins an interval, and its receipt is the last of the volatile log. The
     /// refusals are tested in their order, and change nothing.
-    #[tactic(auto, using(crate::proofs::Accepting::due_is_taken, crate::proofs::Accepting::orphan_is_refused, crate::proofs::Accepting::orphan_is_one))]
+    #[tactic(auto, using(crate::proofs::Accepting::due_is_taken, crate::proofs::Accepting::orphan_is_exact))]
     pub fn accept(&mut self, alloc: Global, message: &Message) -> Accept
         ensures answer { Answers self.old message.now result }
         ensures taken { (x : ℕ) → result ≡ Accept.Taken x → self.new ≡ taken self.old message.now }

@@ -66,6 +66,12 @@ pub fn replayed_along()
         → CheckpointOf program own n t (h ++ receipts_of rs) }
 {}
 
+/// What is replayed keeps what the checkpoint kept, and behind it what was made since.
+pub fn replayed_grows()
+    ensures { (own n : ℕ) (c t : Process) (rs : List ReceiptRecord)
+        → Replayed own n c rs t → Grow c.interval c.queues t.queues }
+{}
+
 /// From a checkpoint along the way, true records are replayed to their end.
 pub fn replays()
     ensures { (program : Program) (own n : ℕ) (c : Process) (h : List Received) (rs : List ReceiptRecord)

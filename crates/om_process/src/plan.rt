@@ -31,7 +31,8 @@ pub enum Plan {
 
 /// What a process of as many as `sent` has places does at this event.
 pub fn plan_at(machine: &Machine, sent: &DepVec, event: Event) -> Plan
-    ensures planned { (own made : ℕ) (next : State) → planned own (length sent.now) machine.now next result ≡ after_event own (length sent.now) machine.now (sent.now ++ made ∷ []) event next }
+    ensures planned { (own made : ℕ) (next : State) → planned own (length sent.now) machine.now next result
+        ≡ after_event own (length sent.now) machine.now (sent.now ++ made ∷ []) event next }
     ensures fits { Fits sent.now machine.now event result }
 {
     match event {
@@ -60,7 +61,8 @@ pub fn plan_at(machine: &Machine, sent: &DepVec, event: Event) -> Plan
 }
 
 fn send_at(machine: &Machine, sent: &DepVec, to: u32, addr: u32, len: u32) -> Plan
-    ensures planned { (own made : ℕ) (next : State) → planned own (length sent.now) machine.now next result ≡ after_event own (length sent.now) machine.now (sent.now ++ made ∷ []) (Event.Call (EnvCall.Send to addr len)) next }
+    ensures planned { (own made : ℕ) (next : State) → planned own (length sent.now) machine.now next result
+        ≡ after_event own (length sent.now) machine.now (sent.now ++ made ∷ []) (Event.Call (EnvCall.Send to addr len)) next }
     ensures fits { Fits sent.now machine.now (Event.Call (EnvCall.Send to addr len)) result }
 {
     let n = sent.n();

@@ -36,9 +36,35 @@ impl Model for ProcCore {
 
     ghost Value = { CoreState };
 
-    ghost view = { λ c. record { own = c.pid; now = record { machine = c.machine; interval = c.interval; vec = c.vec; got = c.got; queues = c.outbox.items ++ c.outputs ∷ [] }; log = map logged_record c.log.items; pending = c.pending.items; inc = c.inc; round = c.round; starts = c.starts } };
+    ghost view = { λ c. record {
+      own = c.pid;
+      now = record {
+        machine = c.machine;
+        interval = c.interval;
+        vec = c.vec;
+        got = c.got;
+        queues = c.outbox.items ++ c.outputs ∷ [];
+      };
+      log = map logged_record c.log.items;
+      pending = c.pending.items;
+      inc = c.inc;
+      round = c.round;
+      starts = c.starts;
+    } };
 
-    ghost invariant = { λ c. IsCore (record { own = c.pid; count = c.machine.count; interval = c.interval; vec = c.vec; got = c.got; sent = c.sent; made = c.made; outbox = c.outbox.items; outputs = c.outputs; log = map logged_record c.log.items; starts = c.starts }) };
+    ghost invariant = { λ c. IsCore (record {
+      own = c.pid;
+      count = c.machine.count;
+      interval = c.interval;
+      vec = c.vec;
+      got = c.got;
+      sent = c.sent;
+      made = c.made;
+      outbox = c.outbox.items;
+      outputs = c.outputs;
+      log = map logged_record c.log.items;
+      starts = c.starts;
+    }) };
 }
 
 impl ProcCore {

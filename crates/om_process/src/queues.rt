@@ -48,7 +48,8 @@ impl Model for Messages {
 
     ghost view = { λ q. record { first = q.first; entries = map sent_entry q.kept.items } };
 
-    ghost invariant = { λ q. AreNumbered sent_as LAST_NUMBER (record { first = q.first; entries = map sent_entry q.kept.items }) q.kept.items };
+    ghost invariant = { λ q. AreNumbered sent_as LAST_NUMBER
+        (record { first = q.first; entries = map sent_entry q.kept.items }) q.kept.items };
 }
 
 impl Messages {
@@ -128,7 +129,8 @@ impl Model for Outputs {
 
     ghost view = { λ q. record { first = q.first; entries = map made_entry q.kept.items } };
 
-    ghost invariant = { λ q. AreNumbered made_as LAST_OUTPUT (record { first = q.first; entries = map made_entry q.kept.items }) q.kept.items };
+    ghost invariant = { λ q. AreNumbered made_as LAST_OUTPUT
+        (record { first = q.first; entries = map made_entry q.kept.items }) q.kept.items };
 }
 
 impl Outputs {

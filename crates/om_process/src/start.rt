@@ -8,7 +8,7 @@ ghost use Rattle.om_machine.specs.State.{IsSize};
 ghost use Rattle.om_stable.specs.Calls.{IsKnown};
 ghost use Rattle.om_stable.specs.Count.{Rose};
 ghost use Rattle.om_stable.specs.declared.error.StoreError.{StoreError};
-ghost use Rattle.om_process.specs.Process.{empty_queue, started};
+ghost use Rattle.om_process.specs.Process.{empty_queue, started_with};
 ghost use Rattle.om_process.specs.Starting.{IsPlace, fault_of_loading, fault_of_storing, started_core};
 ghost use Rattle.om_process.specs.Stores.{HasGainedCheckpoint, IsOf};
 ghost use Rattle.om_process.specs.Turns.{Along};
@@ -146,7 +146,7 @@ impl ProcCore {
         requires place { pid < n }
         requires size { n ≤ MAX_PROCESSES }
         ensures own { IfOk result (λ core. core.own ≡ pid) }
-        ensures now { IfOk result (λ core. core.now ≡ record { machine = machine; interval = 0; vec = replicate n 0; got = replicate n 0; queues = replicate n empty_queue ++ empty_queue ∷ [] }) }
+        ensures now { IfOk result (λ core. core.now ≡ started_with machine n) }
         ensures log { IfOk result (λ core. core.log ≡ []) }
         ensures pending { IfOk result (λ core. core.pending ≡ []) }
         ensures inc { IfOk result (λ core. core.inc ≡ 0) }

@@ -2,13 +2,12 @@
 
 ghost use Rattle.std.specs.Prelude.{ℕ, ◌≡◌, ◌≢◌, ◌+◌, ◌<◌, ◌≤◌, length, slice_index, slice_range, Option, None, Some, IfOk, OnOk, OnErr, IfSome};
 ghost use Rattle.om_machine.specs.Step.{next_of};
-ghost use Rattle.om_machine.specs.Finishing.{TakesWord, finished_word, finished_who};
-ghost use Rattle.om_process.specs.Core.{CoreState, with_now, size_of, move_of, status_of};
-ghost use Rattle.om_process.specs.steps.Planned.{IsBuffer};
-ghost use Rattle.om_process.specs.Process.{moved, made, emitted, with_machine, Emits};
+ghost use Rattle.om_machine.specs.Finishing.{TakesWord, finished_who, finished_word};
+ghost use Rattle.om_process.specs.Core.{CoreTurns, core_turn, move_of, size_of, status_of, with_now};
+ghost use Rattle.om_process.specs.steps.Planned.{IsBuffer, with_bytes_emitted};
+ghost use Rattle.om_process.specs.Process.{emitted, made, with_machine};
 ghost use Rattle.om_format.specs.declared.limits.TheConstants.{MAX_BODY};
 ghost use Rattle.om_process.specs.declared.limits.TheConstants.{LAST_NUMBER};
-ghost use Rattle.om_process.specs.Turns.{Turns, next_turn};
 
 use crate::limits::REFUSED;
 use crate::plan::{Plan, plan_at};
@@ -60,7 +59,7 @@ fn push_at(
 impl ProcCore {
     // Runs the machine alone, until it stands or the fuel is used up.
     fn go(&mut self, fuel: u64) -> om_machine::Ran
-        ensures turns { Turns self.old.own (size_of self.old.now) result.steps self.old.now self.new.now }
+        ensures turns { CoreTurns result.steps self.old self.new }
         ensures rest { self.new ≡ with_now self.old self.new.now }
         ensures size { size_of self.new.now ≡ size_of self.old.now }
         ensures within { result.steps ≤ fuel }
@@ -76,7 +75,7 @@ impl ProcCore {
         requires buffer { IsBuffer self.old.now.machine addr len }
         requires place { to < size_of self.old.now }
         requires room { slice_index (made self.old.now.queues) to < LAST_NUMBER }
-        ensures ok { OnOk result (moved self.old.now (Emits to (slice_range self.old.now.machine.memory addr (addr + len)) (finished_word 0 self.old.now.machine)) ≡ Some self.new.now) }
+        ensures ok { OnOk result (with_bytes_emitted self.old.now to addr len ≡ Some self.new.now) }
         ensures rest { self.new ≡ with_now self.old self.new.now }
         ensures size { size_of self.new.now ≡ size_of self.old.now }
         ensures err { OnErr result (self.new ≡ self.old) }
@@ -92,7 +91,7 @@ impl ProcCore {
     fn put_out(&mut self, alloc: Global, addr: u32, len: u32) -> Result<(), AllocError>
         requires word { TakesWord (next_of self.old.now.machine).0 }
         requires buffer { IsBuffer self.old.now.machine addr len }
-        ensures ok { OnOk result (moved self.old.now (Emits (size_of self.old.now) (slice_range self.old.now.machine.memory addr (addr + len)) (finished_word 0 self.old.now.machine)) ≡ Some self.new.now) }
+        ensures ok { OnOk result (with_bytes_emitted self.old.now (size_of self.old.now) addr len ≡ Some self.new.now) }
         ensures rest { self.new ≡ with_now self.old self.new.now }
         ensures size { size_of self.new.now ≡ size_of self.old.now }
         ensures err { OnErr result (self.new ≡ self.old) }
@@ -115,7 +114,8 @@ impl ProcCore {
     // Tells the process its number.
     fn tell(&mut self)
         requires { (next_of self.old.now.machine).0 ≡ Event.Call EnvCall.Who }
-        ensures { self.new ≡ with_now self.old (with_machine self.old.now (finished_who self.old.own (size_of self.old.now) self.old.now.machine)) }
+        ensures { self.new ≡ with_now self.old
+            (with_machine self.old.now (finished_who self.old.own (size_of self.old.now) self.old.now.machine)) }
     {
         let n = self.vec.n() as u32;
         self.machine.finish_who(self.pid.index() as u32, n);
@@ -125,9 +125,10 @@ impl ProcCore {
     fn turn(&mut self, alloc: Global, event: Event) -> Result<Option<Status>, AllocError>
         requires at { (next_of self.old.now.machine).0 ≡ event }
         requires stands { event ≢ Event.Went }
-        ensures turn { IfOk result (λ stop. stop ≡ None → next_turn self.old.own (size_of self.old.now) self.old.now ≡ Some self.new.now) }
+        ensures turn { IfOk result (λ stop. stop ≡ None → core_turn self.old ≡ Some self.new.now) }
         ensures not_ready { IfOk result (λ stop. IfSome stop (λ status. status ≢ Status.Ready)) }
-        ensures stop { IfOk result (λ stop. IfSome stop (λ status. (status ≡ status_of (move_of self.old)) × (self.new ≡ self.old))) }
+        ensures stop { IfOk result (λ stop. IfSome stop (λ status.
+            (status ≡ status_of (move_of self.old)) × (self.new ≡ self.old))) }
         ensures rest { self.new ≡ with_now self.old self.new.now }
         ensures size { size_of self.new.now ≡ size_of self.old.now }
         ensures err { OnErr result (self.new ≡ self.old) }
@@ -145,13 +146,12 @@ impl ProcCore {
 
     /// Runs the process, at most this many instructions. After want of memory the instructions before it stand.
     pub fn run(&mut self, alloc: Global, fuel: u64) -> Result<Ran, AllocError>
-        ensures turns { IfOk result (λ ran. Turns self.old.own (size_of self.old.now) ran.steps self.old.now self.new.now) }
+        ensures turns { IfOk result (λ ran. CoreTurns ran.steps self.old self.new) }
         ensures within { IfOk result (λ ran. ran.steps ≤ fuel) }
         ensures status { IfOk result (λ ran. ran.status ≡ status_of (move_of self.new)) }
         ensures stops { IfOk result (λ ran. ran.steps < fuel → ran.status ≢ Status.Ready) }
-        ensures no_more { IfOk result (λ ran. ran.steps < fuel
-            → next_turn self.new.own (size_of self.new.now) self.new.now ≡ None) }
-        ensures at_most { (k : ℕ) × (k ≤ fuel) × Turns self.old.own (size_of self.old.now) k self.old.now self.new.now }
+        ensures no_more { IfOk result (λ ran. ran.steps < fuel → core_turn self.new ≡ None) }
+        ensures at_most { (k : ℕ) × (k ≤ fuel) × CoreTurns k self.old self.new }
         ensures rest { self.new ≡ with_now self.old self.new.now }
         ensures size { size_of self.new.now ≡ size_of self.old.now }
     {
