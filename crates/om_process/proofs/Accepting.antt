@@ -1,5 +1,5 @@
 -- Which answer a message gets.
-use Rattle.std.proofs.Common.{◌≡◌, ◌↔◌, ◌⊎◌, inl, inr, ℕ, ◌+◌, ◌<◌, refl, ap, arith}
+use Rattle.std.proofs.Common.{◌≡◌, ◌↔◌, ◌⊎◌, inl, inr, ◌+◌, ◌<◌, refl, ap, arith}
 use Rattle.om_interval.specs.Starts.{IsOrphan}
 use Rattle.om_format.specs.declared.message.Message.{Message}
 use Rattle.om_process.specs.declared.limits.TheConstants.{LAST_INTERVAL}

@@ -1,6 +1,6 @@
 -- What holds of every core is kept.
 use Rattle.std.proofs.Common.{◌≡◌, ℕ, ◌+◌, ◌-◌, ◌%◌, ◌≤◌, ◌<◌, List, [], ◌∷◌, ◌++◌, length, map, set, get_or, length-set, Some, refl, sym, ap, ◌∙◌, subst, None, ◌≢◌, arith}
-use Rattle.std.specs.Prelude.{min, sum, zero, suc, max, Bool, true, false, if◌then◌else◌, nat_le}
+use Rattle.std.specs.Prelude.{min, sum, Bool, true, false, if◌then◌else◌}
 use Rattle.std.proofs.lemmas.Bool.{leb-true}
 use Rattle.std.specs.List.{range_with_len}
 use Rattle.std.proofs.lemmas.List.{get_or-set_same, length-append, length-map, map-append, map-id}
@@ -15,7 +15,6 @@ use Rattle.om_machine.specs.declared.event.Cause.{Cause}
 use Rattle.om_machine.specs.Finishing.{TakesBody}
 use Rattle.om_format.specs.Queues.{QueueRecord, queue_end, are_entries, all_entries}
 use Rattle.om_process.specs.declared.plan.Plan.{Plan}
-use Rattle.om_process.specs.declared.plan.Plan.TheVariants.{Stop}
 use Rattle.om_process.specs.declared.status.Status.{Status}
 use Rattle.om_process.specs.declared.status.Status.TheVariants.{Ready, Waiting, Ended, Trapped}
 use Rattle.om_process.specs.Process.{Process, Move, Waits, Ends, Traps, Goes, Emits, made, moved}

@@ -1,5 +1,5 @@
 -- Runs of the machine are turns of the process, and turns count.
-use Rattle.std.proofs.Common.{◌≡◌, ℕ, zero, suc, ◌+◌, List, Bool, true, false, Some, None, refl, sym, ap, subst, ◌∙◌, arith}
+use Rattle.std.proofs.Common.{◌≡◌, ℕ, zero, suc, ◌+◌, List, Bool, true, false, Some, refl, sym, ap, subst, ◌∙◌, arith}
 use Rattle.std.specs.Prelude.{if◌then◌else◌}
 use Rattle.om_machine.specs.State as machine
 use Rattle.om_machine.specs.State.{State, put, written}
@@ -13,8 +13,8 @@ use Rattle.om_machine.proofs.Stepping.{steps-next}
 use Rattle.om_machine.proofs.Stops.{counts_step}
 use Rattle.om_machine.specs.declared.event.Cause.{Cause}
 use Rattle.om_process.specs.declared.limits.TheConstants.{REFUSED}
-use Rattle.om_process.specs.Process.{Process, Move, Waits, Ends, Traps, Goes, Emits, made, moved, emitted, with_machine}
-use Rattle.om_process.specs.Turns.{next_move, next_turn, after_event, emits, refuses, Turns, IsWaiting}
+use Rattle.om_process.specs.Process.{Process, Move, Waits, Ends, Traps, Goes, Emits, made, moved, with_machine}
+use Rattle.om_process.specs.Turns.{next_move, next_turn, after_event, emits, refuses, Turns}
 use Rattle.om_process.proofs.Basics.{some_once, some_none}
 
 step_turn : (own n : ℕ) (p : Process) (m : State) → Steps p.machine Went m → next_turn own n p ≡ Some (with_machine p m)

@@ -1,13 +1,13 @@
 -- What a process makes: in which interval, and that it is one entry to a number.
-use Rattle.std.proofs.Common.{◌≡◌, ◌⊎◌, inl, inr, ℕ, zero, suc, ◌+◌, ◌-◌, ◌≤◌, ◌<◌, List, [], ◌∷◌, ◌++◌, length, take, replicate, Some, None, refl, sym, ap, ◌∙◌, subst, arith}
+use Rattle.std.proofs.Common.{◌≡◌, ◌⊎◌, inl, inr, ℕ, zero, suc, ◌+◌, ◌-◌, ◌≤◌, ◌<◌, List, [], ◌∷◌, ◌++◌, length, take, replicate, Some, refl, sym, ap, ◌∙◌, subst, arith}
 use Rattle.std.specs.Prelude.{slice_get}
 use Rattle.std.specs.List.{AllByRecursion}
 use Rattle.std.proofs.lemmas.List.{take_all}
 use Rattle.om_format.specs.declared.queue.Entry.{Entry}
 use Rattle.om_format.specs.Queues.{QueueRecord}
 use Rattle.om_process.specs.Process.{Process, Received, Program, Move, Waits, Ends, Traps, Goes, Emits, made, moved, delivered, emitted, started, empty_queue}
-use Rattle.om_process.specs.Turns.{next_move, next_turn, Turns, Leads, From, Along, Reaches}
-use Rattle.om_process.specs.Parts.{Grow, KeepQueues, KeepsQueue, Keeps}
+use Rattle.om_process.specs.Turns.{next_move, Turns, Leads, From, Along, Reaches}
+use Rattle.om_process.specs.Parts.{Grow, KeepQueues}
 use Rattle.om_process.specs.Claims.{HasEntry, AtInterval, Makes}
 use Rattle.om_process.proofs.Basics.{some_once, some_none}
 use Rattle.om_process.proofs.Runs.{leads_once, turns_between, turns_grow, leads_grow, earlier}

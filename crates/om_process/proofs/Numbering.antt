@@ -10,7 +10,6 @@ use Rattle.om_process.specs.Process.{empty_queue}
 use Rattle.om_process.proofs.Basics.{some_once}
 use Rattle.om_process.specs.Trims.{trimmed_queue}
 
-
 pub numbered-push : {A : Type 0} (form : ℕ → Entry → A) (first next : ℕ) (es : List Entry) (e : Entry) → next ≡ first + length es
     → numbered form first (es ++ e ∷ []) ≡ numbered form first es ++ form next e ∷ []
 numbered-push form first next [] e is = let at : next ≡ first = omega arith in ap (λ k. form k e ∷ []) (sym at)

@@ -1,14 +1,13 @@
 -- True records are replayed to their end, from a part too.
-use Rattle.std.proofs.Common.{◌≡◌, ℕ, zero, suc, ◌+◌, List, [], ◌∷◌, ◌++◌, length, drop, take, Some, None, refl, sym, ap, ◌∙◌, subst, arith}
-use Rattle.std.specs.Prelude.{min, ◌-◌, ◌≤◌, slice_index}
+use Rattle.std.proofs.Common.{◌≡◌, ℕ, zero, suc, ◌+◌, List, [], ◌∷◌, ◌++◌, length, drop, take, Some, refl, sym, ap, ◌∙◌, subst, arith}
+use Rattle.std.specs.Prelude.{min, ◌-◌, slice_index}
 use Rattle.std.proofs.lemmas.List.{append_assoc, append-nil, take-append-drop, length-take-le, length-append}
 use Rattle.std.proofs.Math.Seq.{append_snoc}
-use Rattle.om_machine.specs.State.{State}
 use Rattle.om_format.specs.declared.queue.Entry.{Entry}
-use Rattle.om_format.specs.Queues.{QueueRecord, queue_end}
+use Rattle.om_format.specs.Queues.{QueueRecord}
 use Rattle.om_format.specs.Receipts.{ReceiptRecord}
 use Rattle.om_process.specs.Process.{Process, Received, Program, Move, Waits, Ends, Traps, Goes, Emits, made, moved, delivered, emitted, started}
-use Rattle.om_process.specs.Turns.{next_move, next_turn, Turns, Leads, From, Along, Reaches, IsWaiting}
+use Rattle.om_process.specs.Turns.{next_move, next_turn, Turns, IsWaiting}
 use Rattle.om_process.specs.Replays.{Replayed, FitsReceipt, received_of, receipts_of}
 use Rattle.om_process.specs.Parts.{KeepsQueue, KeepQueues, Keeps}
 use Rattle.om_process.specs.Trims.{trimmed_queue, trimmed_queues, trimmed}

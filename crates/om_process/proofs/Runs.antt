@@ -1,12 +1,11 @@
 -- Runs of a process: one state at most, runs joined and parted, and how the queues grow.
-use Rattle.std.proofs.Common.{◌≡◌, ℕ, zero, suc, ◌+◌, ◌≤◌, List, [], ◌∷◌, ◌++◌, length, Some, None, refl, sym, ap, ◌∙◌, subst, arith}
-use Rattle.std.specs.Prelude.{slice_get}
+use Rattle.std.proofs.Common.{◌≡◌, ℕ, zero, suc, ◌+◌, ◌≤◌, List, [], ◌∷◌, ◌++◌, length, Some, refl, sym, ap, ◌∙◌, subst, arith}
 use Rattle.std.specs.List.{AllByRecursion}
 use Rattle.std.proofs.lemmas.List.{append_assoc, append-nil}
 use Rattle.om_format.specs.declared.queue.Entry.{Entry}
 use Rattle.om_format.specs.Queues.{QueueRecord}
 use Rattle.om_format.specs.Receipts.{ReceiptRecord}
-use Rattle.om_process.specs.Process.{Process, Received, Move, Waits, Ends, Traps, Goes, Emits, made, moved, delivered, emitted, with_entry}
+use Rattle.om_process.specs.Process.{Process, Received, Move, Waits, Ends, Traps, Goes, Emits, made, moved, delivered, emitted}
 use Rattle.om_process.specs.Turns.{next_move, next_turn, Turns, Leads, From, IsWaiting}
 use Rattle.om_process.specs.Replays.{Replayed, received_of, receipts_of}
 use Rattle.om_process.specs.Parts.{Grow}

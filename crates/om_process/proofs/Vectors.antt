@@ -1,15 +1,14 @@
 -- The vector and the numbers got along some receipts are their dependencies and their counts.
-use Rattle.std.proofs.Common.{◌≡◌, ◌≢◌, ◌⊎◌, inl, inr, ℕ, zero, suc, ◌+◌, ◌<◌, ◌≤◌, List, [], ◌∷◌, ◌++◌, length, replicate, set, get_or, refl, sym, ap, ◌∙◌, subst, arith, true, false, Bool}
-use Rattle.std.specs.Prelude.{if◌then◌else◌, nat_eq, max, slice_index, slice_set}
+use Rattle.std.proofs.Common.{◌≡◌, ℕ, zero, suc, ◌+◌, ◌<◌, List, [], ◌∷◌, ◌++◌, length, replicate, set, get_or, refl, sym, ap, ◌∙◌, subst, arith, true, false, Bool}
+use Rattle.std.specs.Prelude.{if◌then◌else◌, nat_eq, max}
 use Rattle.std.proofs.lemmas.Bool.Decides.{nat_tests}
 use Rattle.std.proofs.lemmas.List.{append_assoc, append-nil}
 use Rattle.om_process.specs.Process.{Process, Received, Program, delivered, raised, started}
 use Rattle.om_process.specs.Dependencies.{greatest_from, count_from, places, Depends, Counts}
-use Rattle.om_process.specs.Turns.{Turns, Leads, From, Along, Reaches, IsWaiting}
+use Rattle.om_process.specs.Turns.{Turns, Leads, Reaches}
 use Rattle.om_process.specs.Claims.{RowOf}
-use Rattle.om_process.proofs.Runs.{turns_grow, leads_apart}
+use Rattle.om_process.proofs.Runs.{turns_grow}
 use Rattle.om_process.proofs.Going.{stays_turns}
-use Rattle.om_process.proofs.Making.{interval_along}
 
 -- one receipt more raises the place of its sender
 pub greatest_more : (q : ℕ) (h : List Received) (r : Received) → greatest_from q (h ++ r ∷ []) ≡ (if nat_eq r.from q then max (greatest_from q h) r.interval else greatest_from q h)
@@ -130,8 +129,7 @@ counts_delivered n h r =
 row_delivered : (own n : ℕ) (h : List Received) (r : Received) (a w : Process) (k : ℕ) → a.interval ≡ length h → RowOf own n a.vec a.got h → Turns own n k a w → RowOf own n (delivered own w r).vec (delivered own w r).got (h ++ r ∷ [])
 row_delivered own n h r a w k long row turns =
     let s = stays_turns own n k a w turns in
-    let e : w.interval ≡ a.interval = ap (λ (p : Process). p.interval) s in
-    (
+    let e : w.interval ≡ a.interval = ap (λ (p : Process). p.interval) s in (
       ap (λ v. set (raised v r.from r.interval) own (w.interval + 1)) (ap (λ (p : Process). p.vec) s ∙ row.0) ∙ depends_delivered n own w.interval h r (omega arith),
       ap (λ v. set v r.from (get_or v r.from 0 + 1)) (ap (λ (p : Process). p.got) s ∙ row.1) ∙ counts_delivered n h r,
     )

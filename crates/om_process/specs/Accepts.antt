@@ -1,14 +1,14 @@
 -- What a process answers to a message, and what it is after it took one.
-use Rattle.std.specs.Prelude.{◌≡◌, ◌≢◌, ◌⊎◌, ℕ, ◌+◌, ◌<◌, ◌≤◌, List, [], ◌∷◌, ◌++◌, length, slice_index}
+use Rattle.std.specs.Prelude.{◌≡◌, ◌+◌, ◌<◌, ◌≤◌, [], ◌∷◌, ◌++◌, slice_index}
 use Rattle.om_interval.specs.Starts.{IsOrphan, newest_of}
 use Rattle.om_format.specs.declared.message.Message.{Message}
 use Rattle.om_format.specs.Receipts.{ReceiptRecord}
 use Rattle.om_process.specs.declared.limits.TheConstants.{LAST_INTERVAL}
 use Rattle.om_process.specs.declared.accept.Accept.{Accept}
 use Rattle.om_process.specs.declared.accept.Accept.TheVariants.{Taken, Stranger, Orphan, Repeat, Ahead, NotWaiting, Full, Memory}
-use Rattle.om_process.specs.Process.{Process, Received, delivered}
+use Rattle.om_process.specs.Process.{Received, delivered}
 use Rattle.om_process.specs.Turns.{IsWaiting}
-use Rattle.om_process.specs.Core.{CoreState, LoggedRecord, size_of}
+use Rattle.om_process.specs.Core.{CoreState, size_of}
 
 -- what is delivered of a message
 abbrev pub received : Message → Received

@@ -5,7 +5,6 @@ use Rattle.om_format.specs.Receipts.{ReceiptRecord}
 use Rattle.om_format.specs.Versions.{is_cluster_size}
 use Rattle.om_format.specs.declared.version.Version.TheVariants.{V2}
 use Rattle.om_format.specs.Queues.{QueueRecord, queue_end, are_entries, all_entries}
-use Rattle.om_machine.specs.declared.event.Cause.{Cause}
 use Rattle.om_process.specs.declared.status.Status.{Status}
 use Rattle.om_process.specs.declared.status.Status.TheVariants.{Ready, Waiting, Ended, Trapped}
 use Rattle.om_process.specs.declared.row.Row.{Row}

@@ -1,5 +1,5 @@
 -- Turns of a process, and what receipts lead to.
-use Rattle.std.specs.Prelude.{◌≡◌, ℕ, zero, suc, ◌+◌, List, [], ◌∷◌, length, slice_index, slice_range, Option, Some, if◌then◌else◌, nat_eq, nat_lt, nat_le, ◌||◌}
+use Rattle.std.specs.Prelude.{◌≡◌, ℕ, zero, suc, ◌+◌, List, [], ◌∷◌, length, slice_index, slice_range, Option, Some, if◌then◌else◌, nat_lt, nat_le, ◌||◌}
 use Rattle.om_machine.specs.State.{State}
 use Rattle.om_machine.specs.Step.{next_of}
 use Rattle.om_machine.specs.Finishing.{finished_word, finished_who}

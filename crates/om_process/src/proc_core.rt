@@ -3,9 +3,9 @@ ghost use Rattle.om_process.specs.Core.{move_of, status_of};
 
 use crate::log::Logged;
 use crate::plan::plan_at;
+use crate::queues::{Messages, Outputs};
 use crate::row::Row;
 use crate::status::Status;
-use crate::queues::{Messages, Outputs};
 use om_interval::{DepVec, Pid, Starts};
 use om_machine::Machine;
 use std::marker::Model;

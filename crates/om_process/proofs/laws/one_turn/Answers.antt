@@ -1,4 +1,4 @@
-use Rattle.std.proofs.Common.{◌≡◌, ap}
+use Rattle.std.proofs.Common.{ap}
 use Rattle.om_process.specs.Process.{Process, made}
 use Rattle.om_process.specs.Turns.{next_move}
 use Rattle.om_process.proofs.Runs.{moved_grows, no_turn}

@@ -1,4 +1,4 @@
-use Rattle.std.proofs.Common.{rules, ◌≡◌, ◌+◌, ◌<◌, suc, length, get_or, set, take, vec_len, List, sym, ap, ◌∙◌, subst, arith}
+use Rattle.std.proofs.Common.{rules, ◌≡◌, ◌+◌, ◌<◌, suc, length, get_or, set, take, vec_len, List, ap, ◌∙◌, subst, arith}
 use Rattle.om_format.specs.Queues.{QueueRecord}
 use Rattle.om_process.specs.Trims.{trimmed_queue, trimmed_queues}
 use Rattle.om_process.proofs.QueueLemmas.{length-trimmed_queues, trimmed_more}

@@ -1,10 +1,9 @@
-use Rattle.std.proofs.Common.{rules, ◌≡◌, ◌+◌, ◌<◌, ◌≤◌, length, get_or, ℕ, List, Some, None, Option, sym, ap, ◌∙◌, subst, arith}
-use Rattle.std.specs.Prelude.{slice_get}
+use Rattle.std.proofs.Common.{rules, ◌≡◌, ◌+◌, ◌<◌, ◌≤◌, length, get_or, ℕ, List, Some, Option, sym, ap, ◌∙◌, subst, arith}
 use Rattle.om_format.specs.declared.message.Message.{Message}
 use Rattle.om_process.specs.Claims.{HasEntry}
 use Rattle.om_process.specs.Core.{CoreState}
 use Rattle.om_process.specs.Frames.{frame_of, messages_to}
-use Rattle.om_process.specs.Kept.{numbered, sent_as}
+use Rattle.om_process.specs.Kept.{sent_as}
 use Rattle.om_process.specs.declared.queues.Sent.{Sent}
 use Rattle.om_process.proofs.Numbering.{length-numbered, nothing_at, numbered_at, some_at}
 use Rattle.om_process.proofs.proc_core.ProcCore.frame.Goals as goal

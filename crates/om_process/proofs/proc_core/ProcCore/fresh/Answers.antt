@@ -1,5 +1,5 @@
-use Rattle.std.proofs.Common.{◌≡◌, ℕ, zero, suc, ◌+◌, ◌<◌, ◌≤◌, true, List, [], ◌∷◌, length, map, replicate, get_or, refl, sym, ap, ◌∙◌, subst, arith, rules}
-use Rattle.std.specs.Prelude.{sum, nat_le, ◌&&◌}
+use Rattle.std.proofs.Common.{◌≡◌, ℕ, zero, suc, ◌<◌, ◌≤◌, true, List, [], ◌∷◌, length, map, replicate, get_or, refl, sym, ap, ◌∙◌, subst, arith, rules}
+use Rattle.std.specs.Prelude.{sum}
 use Rattle.std.proofs.lemmas.Bool.{le-leb}
 use Rattle.std.proofs.lemmas.List.{length-replicate, get_or-replicate}
 use Rattle.std.proofs.lemmas.List.Sums.{sum_by-cons}
@@ -8,7 +8,7 @@ use Rattle.om_format.specs.Versions.{is_cluster_size}
 use Rattle.om_format.specs.declared.version.Version.TheVariants.{V2}
 use Rattle.om_format.specs.Queues.{QueueRecord, queue_end, are_entries, all_entries}
 use Rattle.om_process.specs.Process.{empty_queue}
-use Rattle.om_process.specs.Core.{AreLast, CoreParts, IsCore, LoggedRecord}
+use Rattle.om_process.specs.Core.{AreLast, IsCore, LoggedRecord}
 use Rattle.om_process.specs.Views.{logged_record}
 use Rattle.om_process.proofs.proc_core.ProcCore.fresh.Goals as goal
 

@@ -1,4 +1,3 @@
-use Rattle.std.proofs.Common.{sym, ap, subst, ◌≡◌}
 use Rattle.om_process.proofs.Going.{goes_turns}
 use Rattle.om_process.proofs.proc_core.ProcCore.go.Goals as goal
 

@@ -16,6 +16,6 @@ returns-clause-sent c =
     let within : c.args.to < length box = subst (λ k. c.args.to < k) (sym (box_long _ c.self.invariant)) place in
     let at : here ≡ get_or box c.args.to here = search rules in
     let kept : c.as_slice.result.now ≡ numbered sent_as (messages_to c.args.self.now c.args.to).first (messages_to c.args.self.now c.args.to).entries =
-        c.as_slice.ensures ∙ ap (λ q. numbered sent_as q.first q.entries) (sym (queue_here box c.self.inside.outputs here c.args.to within at))
-        ∙ ap (λ (s : CoreState). numbered sent_as (messages_to s c.args.to).first (messages_to s c.args.to).entries) c.self.view_is in
+    c.as_slice.ensures ∙ ap (λ q. numbered sent_as q.first q.entries) (sym (queue_here box c.self.inside.outputs here c.args.to within at))
+    ∙ ap (λ (s : CoreState). numbered sent_as (messages_to s c.args.to).first (messages_to s c.args.to).entries) c.self.view_is in
     λ i s has. has_kept sent_as (λ (m : Sent). m.ssn) sent_entry c.args.self.now.now.queues c.args.to i c.as_slice.result.now s (λ k e. (refl, refl)) kept has

@@ -1,4 +1,4 @@
-use Rattle.std.proofs.Common.{◌≡◌, ℕ, true, ap, sym, ◌∙◌, subst, length, vec_len, arith, rules, ◌%◌}
+use Rattle.std.proofs.Common.{◌≡◌, true, sym, subst, length, rules}
 use Rattle.om_format.specs.Checkpoints.{is_memory_size}
 use Rattle.om_process.proofs.CoreLemmas.{core_lawful}
 use Rattle.om_process.proofs.proc_core.ProcCore.picture.Goals as goal

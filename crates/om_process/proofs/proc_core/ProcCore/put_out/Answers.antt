@@ -1,11 +1,11 @@
-use Rattle.std.proofs.Common.{◌≤◌, ◌<◌, ◌≡◌, ◌+◌, ◌++◌, ◌∷◌, [], arith, ap, sym, ◌∙◌, length, map, refl, Some, subst}
+use Rattle.std.proofs.Common.{◌≤◌, ◌<◌, ◌≡◌, arith, ap, sym, refl, subst}
 use Rattle.om_machine.specs.Finishing.{TakesWord}
 use Rattle.om_machine.specs.Step.{next_of}
 use Rattle.om_machine.specs.declared.limits.TheConstants.{LAST_COUNT}
 use Rattle.om_machine.proofs.Stops.{room_at_word}
 use Rattle.om_format.specs.declared.queue.Entry.{Entry}
 use Rattle.om_format.specs.Queues.{queue_end}
-use Rattle.om_process.specs.Core.{CoreState, size_of}
+use Rattle.om_process.specs.Core.{CoreState}
 use Rattle.om_process.proofs.CoreLemmas.{core_put_out, box_long, same_process, queues_put_out}
 use Rattle.om_process.proofs.proc_core.ProcCore.put_out.Goals as goal
 

@@ -1,8 +1,7 @@
-use Rattle.std.proofs.Common.{◌≤◌, ◌<◌, ◌≡◌, ◌+◌, ◌++◌, ◌∷◌, [], arith, ap, sym, ◌∙◌, length, map, set, refl, Some, subst}
+use Rattle.std.proofs.Common.{◌<◌, ◌+◌, arith, ap, sym, ◌∙◌, length, set, refl, subst}
 use Rattle.om_format.specs.declared.queue.Entry.{Entry}
-use Rattle.om_format.specs.Queues.{QueueRecord}
 use Rattle.om_process.specs.Core.{CoreState, size_of}
-use Rattle.om_process.specs.Process.{Process, emitted}
+use Rattle.om_process.specs.Process.{emitted}
 use Rattle.om_process.proofs.CoreLemmas.{core_sent, box_long, same_process, queues_sent}
 use Rattle.om_process.proofs.proc_core.ProcCore.send.Goals as goal
 

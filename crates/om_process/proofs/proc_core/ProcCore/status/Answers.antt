@@ -1,4 +1,4 @@
-use Rattle.std.proofs.Common.{sym, ap, ◌∙◌, ◌≡◌}
+use Rattle.std.proofs.Common.{sym, ap, ◌∙◌}
 use Rattle.om_machine.specs.Step.{next_of}
 use Rattle.om_process.specs.Core.{status_of}
 use Rattle.om_process.proofs.CoreLemmas.{made_by, planned_move}

@@ -1,7 +1,7 @@
-use Rattle.std.proofs.Common.{◌≡◌, ◌++◌, ◌∷◌, [], List, length, sym, ap, ◌∙◌, subst}
+use Rattle.std.proofs.Common.{◌≡◌, ◌++◌, ◌∷◌, [], List, length, sym, ap, ◌∙◌}
 use Rattle.om_format.specs.Queues.{QueueRecord}
 use Rattle.om_process.specs.Core.{CoreState, size_of}
-use Rattle.om_process.specs.Trims.{trimmed_queue, trimmed_queues}
+use Rattle.om_process.specs.Trims.{trimmed_queues}
 use Rattle.om_process.proofs.QueueLemmas.{trimmed-append}
 use Rattle.om_process.proofs.CoreLemmas.{box_long, core_trimmed, same_core}
 use Rattle.om_process.proofs.proc_core.ProcCore.trim.Goals as goal

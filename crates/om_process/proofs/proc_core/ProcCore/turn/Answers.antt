@@ -1,6 +1,5 @@
-use Rattle.std.proofs.Common.{sym, ap, ◌∙◌, ◌≡◌, refl, Some}
-use Rattle.om_machine.specs.Step.{next_of}
-use Rattle.om_process.specs.Core.{CoreState, size_of, move_of, status_of}
+use Rattle.std.proofs.Common.{sym, ap, ◌∙◌, refl, Some}
+use Rattle.om_process.specs.Core.{size_of, status_of}
 use Rattle.om_process.specs.declared.plan.Plan.TheVariants.{Refuse, Send, Output, Tell, Stop}
 use Rattle.om_process.specs.Process.{made, moved}
 use Rattle.om_process.proofs.CoreLemmas.{made_by, move_planned, status_stopped}

@@ -1,4 +1,4 @@
-use Rattle.std.proofs.Common.{rules, ◌≡◌, ◌+◌, ◌-◌, ◌≤◌, length, drop, refl, sym, ap, ◌∙◌, arith}
+use Rattle.std.proofs.Common.{rules, ◌≡◌, ◌-◌, length, drop, refl, ap, ◌∙◌, arith}
 use Rattle.std.specs.Prelude.{min}
 use Rattle.om_process.specs.Kept.{made_as, made_entry}
 use Rattle.om_process.specs.Trims.{trimmed_queue}
