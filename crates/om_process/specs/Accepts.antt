@@ -16,13 +16,21 @@ received m = record { from = m.from; interval = m.tag.interval; body = m.body }
 
 -- the receipt of a message
 abbrev pub receipt_for : CoreState → Message → ReceiptRecord
-receipt_for c m = record { to = c.own; from = m.from; interval = c.now.interval + 1; sender_interval = m.tag.interval; ssn = m.ssn; count = c.now.machine.count; body = m.body }
+receipt_for c m = record {
+  to = c.own;
+  from = m.from;
+  interval = c.now.interval + 1;
+  sender_interval = m.tag.interval;
+  ssn = m.ssn;
+  count = c.now.machine.count;
+  body = m.body;
+}
 
 -- the core after it took a message
 abbrev pub taken : CoreState → Message → CoreState
 taken c m =
     let next = delivered c.own c.now (received m) in
-    record { own = c.own; now = next; log = c.log ++ record { receipt = receipt_for c m; vec = next.vec; got = next.got } ∷ []; pending = c.pending; inc = c.inc; round = c.round; starts = c.starts }
+    record c { now = next; log = c.log ++ record { receipt = receipt_for c m; vec = next.vec; got = next.got } ∷ [] }
 
 -- it is for this process, from one that it knows in that incarnation
 pub record IsNoStranger (c : CoreState) (m : Message) : Type 0 where

@@ -59,11 +59,11 @@ CoreTurns k c d = Turns c.own (size_of c.now) k c.now d.now
 
 -- only the process changed
 abbrev pub with_now : CoreState → Process → CoreState
-with_now c p = record { own = c.own; now = p; log = c.log; pending = c.pending; inc = c.inc; round = c.round; starts = c.starts }
+with_now c p = record c { now = p }
 
 -- only the pending rows changed
 abbrev pub with_pending : CoreState → List Row → CoreState
-with_pending c rows = record { own = c.own; now = c.now; log = c.log; pending = rows; inc = c.inc; round = c.round; starts = c.starts }
+with_pending c rows = record c { pending = rows }
 
 -- the parts of a core
 pub record CoreParts : Type 0 where

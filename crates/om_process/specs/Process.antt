@@ -52,7 +52,7 @@ emitted (suc place) e (q ∷ qs) = q ∷ emitted place e qs
 
 -- the process with another machine
 abbrev pub with_machine : Process → State → Process
-with_machine p m = record { machine = m; interval = p.interval; vec = p.vec; got = p.got; queues = p.queues }
+with_machine p m = record p { machine = m }
 
 -- the process after a move, where there is one
 abbrev pub moved : Process → Move → Option Process
@@ -60,7 +60,8 @@ moved p Waits = None
 moved p (Ends code) = None
 moved p (Traps cause) = None
 moved p (Goes next) = Some (with_machine p next)
-moved p (Emits place body next) = Some (record { machine = next; interval = p.interval; vec = p.vec; got = p.got; queues = emitted place (record { interval = p.interval; body = body }) p.queues })
+moved p (Emits place body next) =
+    Some (record p { machine = next; queues = emitted place (record { interval = p.interval; body = body }) p.queues })
 
 -- a vector with a place raised to an interval, where it is lower
 abbrev pub raised : List ℕ → ℕ → ℕ → List ℕ

@@ -8,7 +8,13 @@ use Rattle.om_process.specs.Turns.{Turns, IsWaiting}
 
 -- the process that a checkpoint is of
 abbrev pub process_of : CheckpointRecord → Process
-process_of c = record { machine = restored c.regs c.pc c.count c.memory c.ext; interval = c.interval; vec = c.vec; got = c.got; queues = c.kept ++ c.outputs ∷ [] }
+process_of c = record {
+  machine = restored c.regs c.pc c.count c.memory c.ext;
+  interval = c.interval;
+  vec = c.vec;
+  got = c.got;
+  queues = c.kept ++ c.outputs ∷ [];
+}
 
 -- what a stored receipt delivered
 abbrev pub received_of : ReceiptRecord → Received
@@ -30,4 +36,6 @@ pub record FitsReceipt (own n : ℕ) (w : Process) (r : ReceiptRecord) : Type 0 
 -- turn comes after the last
 abbrev pub Replayed : ℕ → ℕ → Process → List ReceiptRecord → Process → Type 0
 Replayed own n c [] t = t ≡ c
-Replayed own n c (r ∷ rs) t = (k : ℕ) × (w : Process) × Turns own n k c w × FitsReceipt own n w r × Replayed own n (delivered own w (received_of r)) rs t
+Replayed own n c (r ∷ rs) t =
+    (k : ℕ) × (w : Process) × Turns own n k c w × FitsReceipt own n w r
+    × Replayed own n (delivered own w (received_of r)) rs t

@@ -17,7 +17,15 @@ pub record IsPlace (own n : ℕ) : Type 0 where
 
 -- a process at its start, which knows of no failure
 abbrev pub started_core : Program → ℕ → ℕ → CoreState
-started_core program own n = record { own = own; now = started program n; log = []; pending = []; inc = 0; round = 0; starts = replicate n (0 ∷ []) }
+started_core program own n = record {
+  own = own;
+  now = started program n;
+  log = [];
+  pending = [];
+  inc = 0;
+  round = 0;
+  starts = replicate n (0 ∷ []);
+}
 
 -- why a process is not started where its machine is not loaded
 abbrev pub fault_of_loading : loading.LoadFault → StartFault

@@ -15,4 +15,6 @@ pub record IsOf (own : ℕ) (p : Process) (r : CheckpointRecord) : Type 0 where
 
 -- the store has gained the spelling of the process as the checkpoint of its interval, and nothing else
 abbrev pub HasGainedCheckpoint : CoreState → Content → Content → Type 0
-HasGainedCheckpoint c old new = (r : CheckpointRecord) × IsOf c.own c.now r × (bytes : List ℕ) × SpellsCheckpoint V2 r bytes × (new ≡ with_checkpoint old c.now.interval bytes)
+HasGainedCheckpoint c old new =
+    (r : CheckpointRecord) × IsOf c.own c.now r
+    × (bytes : List ℕ) × SpellsCheckpoint V2 r bytes × (new ≡ with_checkpoint old c.now.interval bytes)

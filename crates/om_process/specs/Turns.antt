@@ -14,7 +14,9 @@ use Rattle.om_process.specs.Process.{Process, Received, Program, Move, Waits, En
 -- bytes of memory that are made a message or an output, unless one of them lies outside
 abbrev pub emits : ℕ → ℕ → ℕ → State → Move
 emits place addr len m =
-    if nat_le (addr + len) (length m.memory) then Emits place (slice_range m.memory addr (addr + len)) (finished_word 0 m) else Traps BufferOutside
+    if nat_le (addr + len) (length m.memory)
+    then Emits place (slice_range m.memory addr (addr + len)) (finished_word 0 m)
+    else Traps BufferOutside
 
 -- a call that is answered with a refusal
 abbrev pub refuses : State → Move

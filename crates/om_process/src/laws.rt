@@ -1,6 +1,6 @@
 //! What holds of every process, as theorems over the definitions alone: each function stands for one.
 
-ghost use Rattle.std.specs.Prelude.{◌≡◌, ◌++◌, ◌+◌, ◌<◌, ◌≤◌, ◌∷◌, [], List, ℕ, Some, length, take};
+ghost use Rattle.std.specs.Prelude.{◌≡◌, ◌↔◌, ◌++◌, ◌+◌, ◌<◌, ◌≤◌, ◌∷◌, [], List, ℕ, Some, length, take};
 ghost use Rattle.om_format.specs.declared.queue.Entry.{Entry};
 ghost use Rattle.om_format.specs.Receipts.{ReceiptRecord};
 ghost use Rattle.om_process.specs.Claims.{AtInterval, CheckpointOf, HasEntry, Makes, RecordsAlong, RowOf};
@@ -112,7 +112,7 @@ pub fn parts_go_on()
         → Keeps whole part → Turns own n k part next → (w : Process) × Turns own n k whole w × Keeps w next }
     ensures of_the_whole { (own n k : ℕ) (whole part next : Process)
         → Keeps whole part → Turns own n k whole next → (p : Process) × Turns own n k part p × Keeps next p }
-    ensures waits { (own n : ℕ) (whole part : Process) → Keeps whole part → IsWaiting own n part → IsWaiting own n whole }
+    ensures waits { (own n : ℕ) (whole part : Process) → Keeps whole part → IsWaiting own n part ↔ IsWaiting own n whole }
     ensures delivery { (own : ℕ) (whole part : Process) (r : Received)
         → Keeps whole part → Keeps (delivered own whole r) (delivered own part r) }
     ensures trimming { (bounds : List ℕ) (whole part : Process) → Keeps whole part → Keeps whole (trimmed bounds part) }

@@ -1,5 +1,6 @@
-ghost use Rattle.std.specs.Prelude.{◌≡◌, ℕ, length};
-ghost use Rattle.om_process.specs.Core.{move_of, status_of};
+ghost use Rattle.std.specs.Prelude.{◌≡◌, slice_index, sum};
+ghost use Rattle.om_process.specs.Core.{AreLast, move_of, size_of, status_of};
+ghost use Rattle.om_process.specs.Starting.{IsPlace};
 
 use crate::log::Logged;
 use crate::plan::plan_at;
@@ -77,21 +78,25 @@ impl ProcCore {
 
     /// The interval that the process is in.
     pub fn interval(&self) -> u32
-        ensures { result ≡ self.now.now.interval }
+        ensures interval { result ≡ self.now.now.interval }
+        ensures log { AreLast result self.now.log }
     {
         self.interval
     }
 
     /// The direct dependencies of that interval.
     pub fn vec(&self) -> &DepVec
-        ensures { result.now ≡ self.now.now.vec }
+        ensures vec { result.now ≡ self.now.now.vec }
+        ensures own { slice_index result.now self.now.own ≡ self.now.now.interval }
+        ensures place { IsPlace self.now.own (size_of self.now.now) }
     {
         &self.vec
     }
 
     /// How many messages were received, by sender.
     pub fn got(&self) -> &DepVec
-        ensures { result.now ≡ self.now.now.got }
+        ensures got { result.now ≡ self.now.now.got }
+        ensures received { sum result.now ≡ self.now.now.interval }
     {
         &self.got
     }

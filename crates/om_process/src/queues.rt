@@ -31,7 +31,7 @@ pub struct Made {
     pub bytes: Body,
 }
 
-/// The messages to one process that are kept, those above the number `first`.
+/// The messages to one process that are kept, from the number `first` on.
 #[derive(Debug, Drop)]
 pub struct Messages {
     first: u32,
@@ -112,7 +112,7 @@ impl Messages {
     }
 }
 
-/// The outputs that are kept, those above the number `first`.
+/// The outputs that are kept, from the number `first` on.
 #[derive(Debug, Drop)]
 pub struct Outputs {
     first: u64,

@@ -5,7 +5,7 @@ ghost use Rattle.om_machine.specs.Step.{next_of};
 ghost use Rattle.om_machine.specs.Finishing.{TakesWord, finished_who, finished_word};
 ghost use Rattle.om_process.specs.Core.{CoreTurns, core_turn, move_of, size_of, status_of, with_now};
 ghost use Rattle.om_process.specs.steps.Planned.{IsBuffer, with_bytes_emitted};
-ghost use Rattle.om_process.specs.Process.{emitted, made, with_machine};
+ghost use Rattle.om_process.specs.Process.{Process, emitted, made, with_machine};
 ghost use Rattle.om_format.specs.declared.limits.TheConstants.{MAX_BODY};
 ghost use Rattle.om_process.specs.declared.limits.TheConstants.{LAST_NUMBER};
 
@@ -132,6 +132,7 @@ impl ProcCore {
         ensures rest { self.new ≡ with_now self.old self.new.now }
         ensures size { size_of self.new.now ≡ size_of self.old.now }
         ensures err { OnErr result (self.new ≡ self.old) }
+        ensures due { OnErr result ((p : Process) × (core_turn self.old ≡ Some p)) }
     {
         match plan_at(&self.machine, &self.sent, event) {
             Plan::Go => unreachable!(),
@@ -144,13 +145,15 @@ impl ProcCore {
         Ok(None)
     }
 
-    /// Runs the process, at most this many instructions. After want of memory the instructions before it stand.
+    /// Runs the process, at most `fuel` instructions. Where memory runs out the instructions before stand, and the send or
+    /// output that was refused is still to come.
     pub fn run(&mut self, alloc: Global, fuel: u64) -> Result<Ran, AllocError>
         ensures turns { IfOk result (λ ran. CoreTurns ran.steps self.old self.new) }
         ensures within { IfOk result (λ ran. ran.steps ≤ fuel) }
         ensures status { IfOk result (λ ran. ran.status ≡ status_of (move_of self.new)) }
         ensures stops { IfOk result (λ ran. ran.steps < fuel → ran.status ≢ Status.Ready) }
         ensures no_more { IfOk result (λ ran. ran.steps < fuel → core_turn self.new ≡ None) }
+        ensures due { OnErr result ((p : Process) × (core_turn self.new ≡ Some p)) }
         ensures at_most { (k : ℕ) × (k ≤ fuel) × CoreTurns k self.old self.new }
         ensures rest { self.new ≡ with_now self.old self.new.now }
         ensures size { size_of self.new.now ≡ size_of self.old.now }
