@@ -13,6 +13,8 @@ mod isa;
 #[cfg(test)]
 mod machine;
 #[cfg(test)]
+mod process;
+#[cfg(test)]
 mod recover;
 #[cfg(test)]
 mod text;

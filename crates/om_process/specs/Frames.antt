@@ -1,0 +1,31 @@
+-- Messages of a process on their way.
+use Rattle.std.specs.Prelude.{◌≡◌, ℕ, ◌+◌, Option, Some, None, slice_get}
+use Rattle.om_format.specs.declared.message.Message.{Message}
+use Rattle.om_format.specs.declared.queue.Entry.{Entry}
+use Rattle.om_format.specs.Queues.{QueueRecord}
+use Rattle.om_process.specs.Claims.{HasEntry}
+use Rattle.om_process.specs.Kept.{queue_at}
+use Rattle.om_process.specs.Core.{CoreState, size_of}
+
+-- the messages to a process that are kept, and the outputs
+abbrev pub messages_to : CoreState → ℕ → QueueRecord
+messages_to c to = queue_at c.now.queues to
+
+abbrev pub outputs_of : CoreState → QueueRecord
+outputs_of c = queue_at c.now.queues (size_of c.now)
+
+-- an entry on its way, with the process's present incarnation and the interval in which it was sent
+abbrev pub frame_of : CoreState → ℕ → ℕ → Option Entry → Option Message
+frame_of c to ssn None = None
+frame_of c to ssn (Some e) =
+    Some (record { from = c.own; to = to; tag = record { inc = c.inc; interval = e.interval }; ssn = ssn; body = e.body })
+
+-- the message is one of the process's kept ones, with its present incarnation and the interval in which it was sent
+pub record IsFrameOf (c : CoreState) (m : Message) : Type 0 where
+  pub from : m.from ≡ c.own
+  pub inc : m.tag.inc ≡ c.inc
+  pub sent : HasEntry c.now.queues m.to m.ssn (record { interval = m.tag.interval; body = m.body })
+
+-- the k-th of the messages to a process that are kept
+abbrev pub frame_at : CoreState → ℕ → ℕ → Option Message
+frame_at c to k = frame_of c to ((messages_to c to).first + k) (slice_get (messages_to c to).entries k)

@@ -1,0 +1,15 @@
+pub mod Process
+pub mod Turns
+pub mod Dependencies
+pub mod Replays
+pub mod Parts
+pub mod Claims
+pub mod Trims
+pub mod Kept
+pub mod Core
+pub mod Views
+pub mod Accepts
+pub mod Frames
+pub mod Starting
+pub mod Stores
+pub mod steps

@@ -1,0 +1,122 @@
+//! Messages that are offered to a process.
+
+ghost use Rattle.std.specs.Prelude.{◌≡◌, ◌≢◌, ◌+◌, ◌<◌, ◌↔◌, ◌⊎◌, ℕ, OnOk, OnErr, IfSome, IfNone};
+ghost use Rattle.om_interval.specs.Starts.{IsOrphan};
+ghost use Rattle.om_process.specs.Accepts.{Answers, IsDue, IsNoStranger, taken};
+ghost use Rattle.om_process.specs.declared.limits.TheConstants.{LAST_INTERVAL};
+
+use crate::limits::LAST_INTERVAL;
+use crate::log::Logged;
+use crate::proc_core::ProcCore;
+use crate::status::Status;
+use om_format::{Message, Receipt};
+use std::alloc::{AllocError, Global};
+
+/// The answer to a message that was offered.
+#[derive(Clone, Copy, Debug, PartialEq, Eq)]
+pub enum Accept {
+    /// It was taken, and this interval began with it.
+    Taken(u32),
+    /// It is for another process, or its sender or its sender's incarnation is not known.
+    Stranger,
+    /// The interval in which it was sent was cut.
+    Orphan,
+    /// It was received before.
+    Repeat,
+    /// One from this sender that was sent before it is still to come.
+    Ahead,
+    /// The process does not wait for a message.
+    NotWaiting,
+    /// There is no further interval.
+    Full,
+    /// Memory ran out.
+    Memory,
+}
+
+impl ProcCore {
+    /// Offers a message to the process. Taken, it begins an interval, and its receipt is the last of the volatile log. The
+    /// refusals are tested in their order, and change nothing.
+    #[tactic(auto, using(crate::proofs::Accepting::due_is_taken, crate::proofs::Accepting::orphan_is_exact))]
+    pub fn accept(&mut self, alloc: Global, message: &Message) -> Accept
+        ensures answer { Answers self.old message.now result }
+        ensures taken { (x : ℕ) → result ≡ Accept.Taken x → self.new ≡ taken self.old message.now }
+        ensures refused { ((x : ℕ) → result ≢ Accept.Taken x) → self.new ≡ self.old }
+        ensures orphan { (result ≡ Accept.Orphan) ↔ (IsNoStranger self.old message.now
+            × IsOrphan self.old.starts message.now.from message.now.tag.inc message.now.tag.interval) }
+        ensures due { IsDue self.old message.now → self.old.now.interval < LAST_INTERVAL
+            → (result ≡ Accept.Memory) ⊎ (result ≡ Accept.Taken (self.old.now.interval + 1)) }
+    {
+        if let Some(refusal) = self.refusal(message) {
+            return refusal;
+        }
+        match self.take(alloc, message) {
+            Ok(()) => Accept::Taken(self.interval),
+            Err(_) => Accept::Memory,
+        }
+    }
+
+    // What speaks against a message, if anything does.
+    fn refusal(&self, message: &Message) -> Option<Accept>
+        ensures some { IfSome result (λ answer. Answers self.now message.now answer) }
+        ensures not_taken { IfSome result (λ answer. (x : ℕ) → answer ≢ Accept.Taken x) }
+        ensures none { IfNone result (IsDue self.now message.now) }
+        ensures room { IfNone result (self.now.now.interval < LAST_INTERVAL) }
+    {
+        let from = message.from;
+        if message.to != self.pid
+            || from.index() >= self.vec.n()
+            || message.tag.inc > self.starts.incs(from)
+        {
+            return Some(Accept::Stranger);
+        }
+        if self.starts.is_orphan(from, message.tag) {
+            return Some(Accept::Orphan);
+        }
+        let got = self.got.get(from);
+        if message.ssn < got {
+            return Some(Accept::Repeat);
+        }
+        if message.ssn > got {
+            return Some(Accept::Ahead);
+        }
+        if self.status() != Status::Waiting {
+            return Some(Accept::NotWaiting);
+        }
+        if self.interval == LAST_INTERVAL {
+            return Some(Accept::Full);
+        }
+        None
+    }
+
+    // Takes a message that is due.
+    fn take(&mut self, alloc: Global, message: &Message) -> Result<(), AllocError>
+        requires due { IsDue self.old message.now }
+        requires room { self.old.now.interval < LAST_INTERVAL }
+        ensures ok { OnOk result (self.new ≡ taken self.old message.now) }
+        ensures err { OnErr result (self.new ≡ self.old) }
+    {
+        let from = message.from;
+        let interval = self.interval + 1;
+        let mut vec = self.vec;
+        vec.join_tag(from, message.tag.interval);
+        vec.set(self.pid, interval);
+        let mut got = self.got;
+        got.set(from, got.get(from) + 1);
+        let receipt = Receipt {
+            to: self.pid,
+            from,
+            interval,
+            sender_interval: message.tag.interval,
+            ssn: message.ssn,
+            count: self.machine.count(),
+            body: message.body.copy(alloc)?,
+        };
+        self.log.push(Logged { receipt, vec, got })?;
+        self.machine
+            .finish_receive(from.index() as u32, message.body.as_slice());
+        self.interval = interval;
+        self.vec = vec;
+        self.got = got;
+        Ok(())
+    }
+}

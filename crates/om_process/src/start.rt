@@ -1,0 +1,242 @@
+//! Processes at their start.
+
+ghost use Rattle.std.specs.Prelude.{◌≡◌, ◌≢◌, ◌<◌, ◌≤◌, ◌↔◌, ◌++◌, ◌∷◌, [], IfOk, IsErrOf, IsSome, IsTrue, None, OnErr, OnOk, length, map, replicate};
+ghost use Rattle.std.specs.FinMap.{get};
+ghost use Rattle.om_format.specs.CheckpointViews.{checkpoint_record};
+ghost use Rattle.om_format.specs.Queues.{queue_record};
+ghost use Rattle.om_machine.specs.State.{IsSize};
+ghost use Rattle.om_stable.specs.Calls.{IsKnown};
+ghost use Rattle.om_stable.specs.Count.{Rose};
+ghost use Rattle.om_stable.specs.declared.error.StoreError.{StoreError};
+ghost use Rattle.om_process.specs.Process.{empty_queue, started_with};
+ghost use Rattle.om_process.specs.Starting.{IsPlace, fault_of_loading, fault_of_storing, started_core};
+ghost use Rattle.om_process.specs.Stores.{HasGainedCheckpoint, IsOf};
+ghost use Rattle.om_process.specs.Turns.{Along};
+
+use crate::proc_core::ProcCore;
+use crate::queues::{Messages, Outputs};
+use om_format::{Checkpoint, MemoryBytes, Queue, encode_checkpoint};
+use om_interval::{DepVec, MAX_PROCESSES, Pid, Starts};
+use om_isa::Ext;
+use om_machine::{LoadFault, Machine};
+use om_stable::{Stable, StoreError};
+use std::alloc::{AllocError, Global};
+use thiserror::Error;
+
+/// Why a process was not started.
+#[derive(Clone, Copy, Debug, PartialEq, Eq, Error)]
+pub enum StartFault {
+    /// No cluster of so many processes has one of that number.
+    #[error("no such process")]
+    BadPlace,
+    /// No memory has that size.
+    #[error("no memory has that size")]
+    BadSize,
+    /// The image is longer than the memory.
+    #[error("the image is longer than the memory")]
+    ImageTooLong,
+    /// The store has a checkpoint of interval 0 already.
+    #[error("a record is already there")]
+    Present,
+    /// The store failed, and its count of failures rose.
+    #[error("the store failed")]
+    Fault,
+    /// Memory ran out.
+    #[error("no memory")]
+    Memory,
+}
+
+impl From<LoadFault> for StartFault {
+    ghost from_gives = { λ error fault. fault ≡ fault_of_loading error };
+
+    fn from(error: LoadFault) -> StartFault {
+        match error {
+            LoadFault::ImageTooLong => StartFault::ImageTooLong,
+            LoadFault::BadSize => StartFault::BadSize,
+            LoadFault::Memory => StartFault::Memory,
+        }
+    }
+}
+
+impl From<StoreError> for StartFault {
+    ghost from_gives = { λ error fault. fault ≡ fault_of_storing error };
+
+    fn from(error: StoreError) -> StartFault {
+        match error {
+            StoreError::Present => StartFault::Present,
+            StoreError::Fault => StartFault::Fault,
+            StoreError::Memory => StartFault::Memory,
+        }
+    }
+}
+
+impl From<AllocError> for StartFault {
+    ghost use Rattle.om_process.specs.declared.start.StartFault.TheVariants.{Memory};
+
+    ghost from_gives = { λ _ fault. fault ≡ Memory };
+
+    fn from(_e: AllocError) -> StartFault {
+        StartFault::Memory
+    }
+}
+
+impl ProcCore {
+    /// Starts process `pid` of `n`: the image at the start of a memory of `size` bytes, as a program that may use the
+    /// instructions of `ext`. Its checkpoint of interval 0 is stored.
+    ///
+    /// Refused with `BadPlace` where `n` is 0 or too great or `pid` is not below it, with `BadSize` and `ImageTooLong` as
+    /// the machine is, and then with what the store answers, or with `Memory`. A refusal leaves the store's content.
+    pub fn start<S: Stable>(
+        alloc: Global,
+        image: &[u8],
+        size: u32,
+        ext: Ext,
+        pid: Pid,
+        n: usize,
+        store: &mut S,
+    ) -> Result<ProcCore, StartFault>
+        ensures started { IfOk result (λ core. core ≡ started_core (record { image = image.now; size = size; ext = ext }) pid n) }
+        ensures along { IfOk result (λ core. Along (record { image = image.now; size = size; ext = ext }) pid n [] 0 core.now) }
+        ensures stored { IsKnown S.is_clean S.IsSound store.old store.new
+            → IfOk result (λ core. HasGainedCheckpoint core (S.content store.old) (S.content store.new)) }
+        ensures bad_place { (result ≡ Err StartFault.BadPlace) ↔ ¬ IsPlace pid n }
+        ensures bad_size { (result ≡ Err StartFault.BadSize) ↔ (IsPlace pid n × ¬ IsSize size) }
+        ensures too_long { (result ≡ Err StartFault.ImageTooLong) ↔ (IsPlace pid n × IsSize size × (size < length image.now)) }
+        ensures free { IsKnown S.is_clean S.IsSound store.old store.new
+            → OnOk result (get (S.content store.old).checkpoints 0 ≡ None) }
+        ensures present { IsKnown S.is_clean S.IsSound store.old store.new
+            → IsErrOf result StartFault.Present → IsSome (get (S.content store.old).checkpoints 0) }
+        ensures refused { IsKnown S.is_clean S.IsSound store.old store.new
+            → OnErr result (S.content store.new ≡ S.content store.old) }
+        ensures fault { IsErrOf result StartFault.Fault → Rose (S.failed store.old) (S.failed store.new) }
+        ensures count { S.failed store.old ≤ S.failed store.new }
+        ensures clean { IsTrue (S.is_clean store.new) → IsTrue (S.is_clean store.old) }
+        ensures sound { IsTrue (S.is_clean store.new) → S.IsSound store.old → S.IsSound store.new }
+    {
+        let core = ProcCore::at_start(alloc, image, size, ext, pid, n)?;
+        core.store_checkpoint(alloc, store)?;
+        Ok(core)
+    }
+
+    // The process at its start, which nothing is stored of.
+    fn at_start(
+        alloc: Global,
+        image: &[u8],
+        size: u32,
+        ext: Ext,
+        pid: Pid,
+        n: usize,
+    ) -> Result<ProcCore, StartFault>
+        ensures started { IfOk result (λ core. core ≡ started_core (record { image = image.now; size = size; ext = ext }) pid n) }
+        ensures bad_place { (result ≡ Err StartFault.BadPlace) ↔ ¬ IsPlace pid n }
+        ensures bad_size { (result ≡ Err StartFault.BadSize) ↔ (IsPlace pid n × ¬ IsSize size) }
+        ensures too_long { (result ≡ Err StartFault.ImageTooLong) ↔ (IsPlace pid n × IsSize size × (size < length image.now)) }
+        ensures not_present { result ≢ Err StartFault.Present }
+        ensures no_fault { result ≢ Err StartFault.Fault }
+    {
+        if n > MAX_PROCESSES || pid.index() >= n {
+            return Err(StartFault::BadPlace);
+        }
+        let machine = Machine::load(alloc, image, size, ext)?;
+        Ok(ProcCore::fresh(alloc, machine, pid, n)?)
+    }
+
+    // A process with this machine that has received nothing.
+    fn fresh(alloc: Global, machine: Machine, pid: Pid, n: usize) -> Result<ProcCore, AllocError>
+        requires place { pid < n }
+        requires size { n ≤ MAX_PROCESSES }
+        ensures own { IfOk result (λ core. core.own ≡ pid) }
+        ensures now { IfOk result (λ core. core.now ≡ started_with machine n) }
+        ensures log { IfOk result (λ core. core.log ≡ []) }
+        ensures pending { IfOk result (λ core. core.pending ≡ []) }
+        ensures inc { IfOk result (λ core. core.inc ≡ 0) }
+        ensures round { IfOk result (λ core. core.round ≡ 0) }
+        ensures starts { IfOk result (λ core. core.starts ≡ replicate n (0 ∷ [])) }
+    {
+        let Some(zeros) = DepVec::zeros(n) else {
+            unreachable!()
+        };
+        Ok(ProcCore {
+            pid,
+            machine,
+            interval: 0,
+            vec: zeros,
+            got: zeros,
+            sent: zeros,
+            made: 0,
+            outbox: empty_outbox(alloc, n)?,
+            outputs: Outputs::new(alloc),
+            log: Vec::new(alloc),
+            pending: Vec::new(alloc),
+            inc: 0,
+            round: 0,
+            starts: Starts::new(alloc, n)?,
+        })
+    }
+
+    // Puts a checkpoint of now into the store.
+    fn store_checkpoint<S: Stable>(&self, alloc: Global, store: &mut S) -> Result<(), StoreError>
+        ensures stored { IsKnown S.is_clean S.IsSound store.old store.new
+            → OnOk result (HasGainedCheckpoint self.now (S.content store.old) (S.content store.new)) }
+        ensures free { IsKnown S.is_clean S.IsSound store.old store.new
+            → OnOk result (get (S.content store.old).checkpoints self.now.now.interval ≡ None) }
+        ensures present { IsKnown S.is_clean S.IsSound store.old store.new
+            → IsErrOf result StoreError.Present → IsSome (get (S.content store.old).checkpoints self.now.now.interval) }
+        ensures refused { IsKnown S.is_clean S.IsSound store.old store.new
+            → OnErr result (S.content store.new ≡ S.content store.old) }
+        ensures fault { IsErrOf result StoreError.Fault → Rose (S.failed store.old) (S.failed store.new) }
+        ensures count { S.failed store.old ≤ S.failed store.new }
+        ensures clean { IsTrue (S.is_clean store.new) → IsTrue (S.is_clean store.old) }
+        ensures sound { IsTrue (S.is_clean store.new) → S.IsSound store.old → S.IsSound store.new }
+    {
+        let bytes = encode_checkpoint(alloc, &self.picture(alloc)?)?;
+        store.put_checkpoint(alloc, self.interval, &bytes)
+    }
+
+    // The process as a checkpoint.
+    fn picture(&self, alloc: Global) -> Result<Checkpoint, AllocError>
+        ensures { IfOk result (λ c. IsOf self.now.own self.now.now (checkpoint_record c)) }
+    {
+        let memory = Vec::from_slice(alloc, self.machine.memory())?;
+        let kept = queues_of(alloc, &self.outbox)?;
+        let outputs = self.outputs.queue(alloc)?;
+        Ok(Checkpoint {
+            ext: self.machine.ext(),
+            pid: self.pid,
+            interval: self.interval,
+            count: self.machine.count(),
+            pc: self.machine.pc(),
+            regs: self.machine.regs(),
+            vec: self.vec,
+            got: self.got,
+            sent: self.sent,
+            made: self.made,
+            memory: MemoryBytes::from_vec(memory),
+            kept,
+            outputs,
+        })
+    }
+}
+
+// So many queues of no messages.
+fn empty_outbox(alloc: Global, n: usize) -> Result<Vec<Messages>, AllocError>
+    ensures { IfOk result (λ outbox. outbox.items ≡ replicate n empty_queue) }
+{
+    let mut outbox = Vec::with_capacity(alloc, n)?;
+    for made in 0..n {
+        let _ = made;
+        outbox.push(Messages::new(alloc))?;
+    }
+    Ok(outbox)
+}
+
+// The messages as queues of a checkpoint.
+fn queues_of(alloc: Global, outbox: &Vec<Messages>) -> Result<Vec<Queue>, AllocError>
+    ensures { IfOk result (λ queues. map queue_record queues.items ≡ outbox.now.items) }
+{
+    let mut queues = Vec::with_capacity(alloc, outbox.len())?;
+    for messages in outbox.iter() {
+        queues.push(messages.queue(alloc)?)?;
+    }
+    Ok(queues)
+}
