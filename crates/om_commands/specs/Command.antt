@@ -1,17 +1,12 @@
 -- What every command over a script answers to the bytes of its input.
 use Rattle.std.specs.Prelude.{◌≡◌, ℕ, ◌<◌, ◌≤◌, List, length, map, Result, Ok, Err}
 use Rattle.om_text.specs.Lines.{lines_of}
-use Rattle.om_text.specs.Script.{script_from}
+use Rattle.om_text.specs.Script.{Meaning, script_from}
 use Rattle.om_text.specs.Words.{words_of}
-use Rattle.om_text.specs.declared.error.LineError.{LineError}
 use Rattle.om_text.specs.declared.error.ScriptError.{ScriptError}
 use Rattle.om_text.specs.declared.text.TheConstants.{MAX_BYTES}
 use Rattle.om_commands.specs.declared.error.CommandError.{CommandError}
 use Rattle.om_commands.specs.declared.error.CommandError.TheVariants as errors
-
--- what a line means: what a state and the words of a line give, the next state or an error
-abbrev pub Meaning : Type 0 → Type 0
-Meaning State = State → List (List ℕ) → Result State LineError
 
 -- what the lines of a text give from this start on
 abbrev pub script_of : {State : Type 0} → Meaning State → State → List ℕ → Result State ScriptError
@@ -23,7 +18,8 @@ pub record IsScript {State : Type 0} (meaning : Meaning State) (start : State) (
   pub read : script_of meaning start bytes ≡ Ok script
 
 -- the bytes are not too many, and their lines give a script that is empty
-pub record IsEmptyScript {State : Type 0} (meaning : Meaning State) (start : State) (IsEmpty : State → Type 0) (bytes : List ℕ) : Type 0 where
+pub record IsEmptyScript {State : Type 0} (meaning : Meaning State) (start : State) (IsEmpty : State → Type 0)
+    (bytes : List ℕ) : Type 0 where
   pub script : State
   pub is_script : IsScript meaning start bytes script
   pub is_empty : IsEmpty script

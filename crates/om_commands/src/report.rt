@@ -31,7 +31,7 @@ pub fn report(alloc: Global, n: usize, notes: &[NoteLine]) -> Result<String, All
     Ok(text)
 }
 
-// Offers a note's row to the records.
+// Offers a note's row to the records. A number of 16 or above is no process of any cluster.
 fn answer_to(
     alloc: Global,
     records: &mut Records,
@@ -45,6 +45,7 @@ fn answer_to(
     ensures greatest { IsGreatest (length records.old.state) records.new.rows records.new.state }
 {
     let Some(pid) = Pid::new(note.pid) else {
+        // The read tells the proof that the records are sound.
         let _ = records.recovery();
         return Err(NoteError::Stranger);
     };

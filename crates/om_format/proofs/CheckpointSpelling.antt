@@ -9,12 +9,13 @@ use Rattle.std.proofs.lemmas.Bool.{and_parts, and_from, leb-true, le-leb, lt-ltb
 use Rattle.std.proofs.lemmas.List.{append-nil, length-drop, length-take}
 use Rattle.om_interval.specs.declared.pid.TheConstants.{MAX_PROCESSES}
 use Rattle.om_format.specs.declared.queue.Entry.{Entry}
-use Rattle.om_format.specs.declared.limits.TheConstants.{MAX_MEMORY, MAX_BODY, PAGE, REGISTERS}
+use Rattle.om_format.specs.declared.limits.TheConstants.{MAX_MEMORY, MAX_BODY, PAGE}
+use Rattle.om_isa.specs.declared.registers.TheConstants.{WRITABLE_REGISTERS}
 use Rattle.om_isa.specs.declared.ext.Ext.{Ext}
 use Rattle.om_isa.specs.declared.ext.Ext.TheVariants.{I, Im}
 use Rattle.om_format.specs.declared.version.Version.TheVariants.{V2}
 use Rattle.om_format.specs.Pages.{Page, page_count, page_size, is_kept, kept_pages, pages, counted_pages, page_values}
-use Rattle.om_format.specs.Versions.{kind_of, is_kind, number_of, memory_in, memory_values}
+use Rattle.om_format.specs.Versions.{kind_of, is_kind, version_number, memory_in, memory_values}
 use Rattle.om_format.proofs.KeptPages.{kept_from, kept_by, kept_pages_are}
 use Rattle.om_format.proofs.MemoryReading.{FitsPage}
 use Rattle.om_format.specs.Formats.{Size, one, two, four, eight, Format, end, any, counted, opening, is_body_size, limit}
@@ -205,11 +206,11 @@ checkpoint_spells r h w fits =
     let t_interval = to_le_bytes w32 r.interval ++ t_count in
     let t_pid = r.pid ∷ t_interval in
     let t_n = r.n ∷ t_pid in
-    let t_version = number_of V2 ∷ t_n in
+    let t_version = version_number V2 ∷ t_n in
     let whole = kind_of r.ext ∷ t_version in
     let ended : whole ≡ checkpoint_bytes r = simp (append_assoc, append-nil) in
     let whole_fits : IsBytes whole = subst IsBytes (sym ended) fits in
-    let regs_fit : IsBytes t_regs = bytes_behind ((kind_of r.ext ∷ number_of V2 ∷ r.n ∷ r.pid ∷ []) ++ to_le_bytes w32 r.interval ++ to_le_bytes w64 r.count ++ to_le_bytes w32 r.pc) t_regs whole_fits in
+    let regs_fit : IsBytes t_regs = bytes_behind ((kind_of r.ext ∷ version_number V2 ∷ r.n ∷ r.pid ∷ []) ++ to_le_bytes w32 r.interval ++ to_le_bytes w64 r.count ++ to_le_bytes w32 r.pc) t_regs whole_fits in
     let vec_fits : IsBytes t_vec = bytes_behind (numbers four r.regs) t_vec regs_fit in
     let got_fits : IsBytes t_got = bytes_behind (numbers four r.vec) t_got vec_fits in
     let sent_fits : IsBytes t_sent = bytes_behind (numbers four r.got) t_sent got_fits in
@@ -226,7 +227,7 @@ checkpoint_spells r h w fits =
       t_version,
       byte_cell (kind_of r.ext) t_version (kind_small r.ext),
       (
-        field_of one _ (number_of V2) (lit< tt) refl,
+        field_of one _ (version_number V2) (lit< tt) refl,
         t_n,
         refl,
         (
@@ -250,7 +251,7 @@ checkpoint_spells r h w fits =
                   t_regs,
                   refl,
                   (
-                    words_of REGISTERS any r.regs h.regs w.regs refl,
+                    words_of WRITABLE_REGISTERS any r.regs h.regs w.regs refl,
                     t_vec,
                     refl,
                     (

@@ -15,7 +15,7 @@ use Rattle.om_format.specs.declared.version.Version.TheVariants.{V1, V2}
 use Rattle.om_format.specs.Formats.{Format, end, two, eight}
 use Rattle.om_format.specs.Pages.{Page, page_count, kept_pages, page_values}
 use Rattle.om_format.specs.Queues.{QueueRecord, queue_end, entry_values, queue_values, queue, queues}
-use Rattle.om_format.specs.Versions.{kind_of, is_kind, ext_of, number_of, is_version, version_of, memory_in, before_memory, memory_values}
+use Rattle.om_format.specs.Versions.{kind_of, is_kind, ext_of, version_number, is_version, version_of, memory_in, before_memory, memory_values}
 use Rattle.om_format.specs.Checkpoints.{CheckpointRecord, front, checkpoint_format, checkpoint_values, checkpoint_fault, AreEnded, SpellsCheckpoint, IsSpelled, IsFrontRead, IsCheckpoint}
 use Rattle.om_format.specs.steps.Reading.{◌>>=◌, allow, number_at, fields_at, opening_at, end_at}
 use Rattle.om_format.specs.steps.CheckpointReading.{head_at, vectors_at, front_at, before_memory_at, memory_at, rest_at, checkpoint_of, checkpoint_at}
@@ -38,10 +38,10 @@ kind_again kind h = by_test (eqb kind (kind_of I)) (eqb kind (kind_of Im)) refl 
     by_test false true is_a is_b h = sym (eqb-true _ _ is_b)
     by_test false false is_a is_b h = absurd (false≢true h)
 
-number_again : (number : ℕ) → is_version number ≡ true → number_of (version_of number) ≡ number
-number_again number h = by_test (eqb number (number_of V1)) (eqb number (number_of V2)) refl refl h
+number_again : (number : ℕ) → is_version number ≡ true → version_number (version_of number) ≡ number
+number_again number h = by_test (eqb number (version_number V1)) (eqb number (version_number V2)) refl refl h
   where
-    by_test : (a b : Bool) → eqb number (number_of V1) ≡ a → eqb number (number_of V2) ≡ b → (a || b) ≡ true → number_of (cond a V1 V2) ≡ number
+    by_test : (a b : Bool) → eqb number (version_number V1) ≡ a → eqb number (version_number V2) ≡ b → (a || b) ≡ true → version_number (cond a V1 V2) ≡ number
     by_test true b is_a is_b h = sym (eqb-true _ _ is_a)
     by_test false true is_a is_b h = sym (eqb-true _ _ is_b)
     by_test false false is_a is_b h = absurd (false≢true h)
@@ -52,7 +52,7 @@ same_kind I Im h = absurd (omega arith)
 same_kind Im I h = absurd (omega arith)
 same_kind Im Im h = refl
 
-pub same_number : (v w : Version) → number_of v ≡ number_of w → v ≡ w
+pub same_number : (v w : Version) → version_number v ≡ version_number w → v ≡ w
 same_number V1 V1 h = refl
 same_number V1 V2 h = absurd (omega arith)
 same_number V2 V1 h = absurd (omega arith)
@@ -78,7 +78,7 @@ at_memory n = omega arith
 -- the values of the fields before the memory
 abbrev front_values : Front → List (List ℕ)
 front_values f =
-    (kind_of f.head.ext ∷ []) ∷ (number_of f.head.version ∷ []) ∷ (f.head.n ∷ []) ∷ (f.head.pid ∷ []) ∷ (f.head.interval ∷ []) ∷ (f.head.count ∷ []) ∷ (f.head.pc ∷ []) ∷ f.regs ∷ f.vectors.vec ∷ f.vectors.got ∷ f.vectors.sent ∷ (f.made ∷ []) ∷ (f.size ∷ []) ∷ []
+    (kind_of f.head.ext ∷ []) ∷ (version_number f.head.version ∷ []) ∷ (f.head.n ∷ []) ∷ (f.head.pid ∷ []) ∷ (f.head.interval ∷ []) ∷ (f.head.count ∷ []) ∷ (f.head.pc ∷ []) ∷ f.regs ∷ f.vectors.vec ∷ f.vectors.got ∷ f.vectors.sent ∷ (f.made ∷ []) ∷ (f.size ∷ []) ∷ []
 
 front_is : (behind : Version → ℕ → List ℕ → ℕ → ℕ → Format) (bytes : List ℕ)
     → fields_at (front behind) 0 bytes ≡ (front_at bytes >>= λ f. fields_at (behind f.0.head.version f.0.head.interval f.0.vectors.sent f.0.made f.0.size) (156 + 12 * f.0.head.n) f.1 >>= λ vs. Ok (front_values f.0 ++ vs))

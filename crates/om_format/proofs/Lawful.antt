@@ -5,7 +5,8 @@ use Rattle.std.proofs.lemmas.Bool.{and_from, and_parts, ltb-true, leb-true, le-l
 use Rattle.om_format.specs.declared.checkpoint_reading.Front.{Front}
 use Rattle.om_format.specs.declared.checkpoint_reading.Head.{Head}
 use Rattle.om_format.specs.declared.checkpoint_reading.Vectors.{Vectors}
-use Rattle.om_format.specs.declared.limits.TheConstants.{REGISTERS, MAX_PROCESSES_OF_VERSION_1}
+use Rattle.om_format.specs.declared.limits.TheConstants.{MAX_PROCESSES_OF_VERSION_1}
+use Rattle.om_isa.specs.declared.registers.TheConstants.{WRITABLE_REGISTERS}
 use Rattle.om_interval.specs.declared.pid.TheConstants.{MAX_PROCESSES}
 use Rattle.om_format.specs.declared.version.Version.{Version}
 use Rattle.om_format.specs.declared.version.Version.TheVariants.{V1, V2}
@@ -94,7 +95,7 @@ vectors_hold n pid interval bytes =
 -- the fields before the memory fit each other
 record FitsFront (f : Front) : Type 0 where
   head : FitsHead f.head
-  regs : length f.regs ≡ REGISTERS
+  regs : length f.regs ≡ WRITABLE_REGISTERS
   vectors : FitVectors f.head.n f.head.pid f.head.interval f.vectors
   made : f.made ≤ f.head.count
   size : is_memory_size f.size ≡ true
@@ -104,7 +105,7 @@ unfolding front_at
 front_hold bytes =
     let P : Front × List ℕ → Type 0 = λ x. FitsFront x.0 in
     then_holds P (λ x. FitsHead x.0) (head_at bytes) _ (head_hold bytes) (λ head h.
-    then_holds P (λ x. length x.0 ≡ REGISTERS) (numbers_at four REGISTERS head.1) _ (numbers_hold four REGISTERS head.1) (λ regs regs_len.
+    then_holds P (λ x. length x.0 ≡ WRITABLE_REGISTERS) (numbers_at four WRITABLE_REGISTERS head.1) _ (numbers_hold four WRITABLE_REGISTERS head.1) (λ regs regs_len.
     then_holds P (λ x. FitVectors head.0.n head.0.pid head.0.interval x.0) (vectors_at head.0.n head.0.pid head.0.interval regs.1) _ (vectors_hold head.0.n head.0.pid head.0.interval regs.1) (λ vectors v.
     any_holds P (number_at eight vectors.1) _ (λ made. allow_holds P (nat_le made.0 head.0.count) _ _ (λ is_made.
     any_holds P (number_at four made.1) _ (λ size. allow_holds P (is_memory_size size.0) _ _ (λ is_size.

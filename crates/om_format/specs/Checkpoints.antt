@@ -4,14 +4,15 @@ use Rattle.std.specs.List.{flat_map}
 use Rattle.om_isa.specs.declared.ext.Ext.{Ext}
 use Rattle.om_format.specs.declared.error.DecodeError.{DecodeError}
 use Rattle.om_format.specs.declared.error.DecodeError.TheVariants.{Field}
-use Rattle.om_format.specs.declared.limits.TheConstants.{MIN_MEMORY, MAX_MEMORY, REGISTERS}
+use Rattle.om_format.specs.declared.limits.TheConstants.{MIN_MEMORY, MAX_MEMORY}
+use Rattle.om_isa.specs.declared.registers.TheConstants.{WRITABLE_REGISTERS}
 use Rattle.om_format.specs.declared.version.Version.{Version}
 use Rattle.om_format.specs.declared.version.Version.TheVariants.{V2}
 use Rattle.om_format.specs.Formats.{one, four, eight, Format, end, field, any, number, opening}
 use Rattle.om_format.specs.Spelling.{Spells}
 use Rattle.om_format.specs.FirstFault.{first_fault, AreRead}
 use Rattle.om_format.specs.Queues.{QueueRecord, queue_end, queue, queues, queue_values, are_entries, all_entries}
-use Rattle.om_format.specs.Versions.{kind_of, is_kind, number_of, is_version, version_of, is_cluster_size, memory_in, before_memory, memory_values}
+use Rattle.om_format.specs.Versions.{kind_of, is_kind, version_number, is_version, version_of, is_cluster_size, memory_in, before_memory, memory_values}
 
 -- a checkpoint without where it lies in memory: of n processes
 pub record CheckpointRecord : Type 0 where
@@ -44,7 +45,7 @@ front behind =
     number four any λ interval.
     number eight (λ count. nat_le interval count) λ count.
     number four (λ pc. pc % 4 == 0) λ _.
-    field four REGISTERS any Field λ _.
+    field four WRITABLE_REGISTERS any Field λ _.
     field four n (λ vec. slice_index vec pid == interval) Field λ _.
     field four n (λ got. sum got == interval) Field λ _.
     field four n any Field λ sent.
@@ -62,7 +63,7 @@ checkpoint_format = front λ version interval sent made size.
 -- the values of these fields
 abbrev pub checkpoint_values : Version → CheckpointRecord → List (List ℕ)
 checkpoint_values version r =
-    (kind_of r.ext ∷ []) ∷ (number_of version ∷ []) ∷ (r.n ∷ []) ∷ (r.pid ∷ []) ∷ (r.interval ∷ []) ∷ (r.count ∷ [])
+    (kind_of r.ext ∷ []) ∷ (version_number version ∷ []) ∷ (r.n ∷ []) ∷ (r.pid ∷ []) ∷ (r.interval ∷ []) ∷ (r.count ∷ [])
     ∷ (r.pc ∷ []) ∷ r.regs ∷ r.vec ∷ r.got ∷ r.sent ∷ (r.made ∷ []) ∷ (length r.memory ∷ [])
     ∷ (memory_values version r.memory ++ (flat_map queue_values r.kept ++ queue_values r.outputs))
 
@@ -94,7 +95,7 @@ pub record IsCheckpoint (r : CheckpointRecord) : Type 0 where
   pub pid : r.pid < r.n
   pub count : r.interval ≤ r.count
   pub pc : r.pc % 4 ≡ 0
-  pub regs : length r.regs ≡ REGISTERS
+  pub regs : length r.regs ≡ WRITABLE_REGISTERS
   pub vec : length r.vec ≡ r.n
   pub own : slice_index r.vec r.pid ≡ r.interval
   pub got : length r.got ≡ r.n

@@ -22,15 +22,15 @@ abbrev pub ext_of : ℕ → Ext
 ext_of kind = if kind == kind_of I then I else Im
 
 -- the number of a version
-abbrev pub number_of : Version → ℕ
-number_of V1 = CHECKPOINT_VERSION_1
-number_of V2 = CHECKPOINT_VERSION_2
+abbrev pub version_number : Version → ℕ
+version_number V1 = CHECKPOINT_VERSION_1
+version_number V2 = CHECKPOINT_VERSION_2
 
 abbrev pub is_version : ℕ → Bool
-is_version number = number == number_of V1 || number == number_of V2
+is_version number = number == version_number V1 || number == version_number V2
 
 abbrev pub version_of : ℕ → Version
-version_of number = if number == number_of V1 then V1 else V2
+version_of number = if number == version_number V1 then V1 else V2
 
 -- the greatest number of processes
 abbrev pub most_processes : Version → ℕ

@@ -2,11 +2,10 @@ ghost use Rattle.std.specs.Prelude.{length, map};
 ghost use Rattle.om_format.specs.Checkpoints.{IsCheckpoint};
 ghost use Rattle.om_format.specs.Queues.{queue_record};
 
-use crate::limits::REGISTERS;
 use crate::memory::MemoryBytes;
 use crate::queue::Queue;
 use om_interval::{DepVec, Pid};
-use om_isa::Ext;
+use om_isa::{Ext, WRITABLE_REGISTERS};
 
 /// The state of a process in an interval.
 #[derive(Debug, Drop)]
@@ -19,7 +18,7 @@ pub struct Checkpoint {
     pub count: u64,
     pub pc: u32,
     /// The registers x1 to x31.
-    pub regs: [u32; REGISTERS],
+    pub regs: [u32; WRITABLE_REGISTERS],
     /// The direct dependency vector.
     pub vec: DepVec,
     /// How many messages were received, by sender.

@@ -1,12 +1,13 @@
 //! The fields of a checkpoint before its memory, from the left.
 
 ghost use Rattle.std.specs.Prelude.{◌≡◌, ◌+◌, ◌*◌, ◌<◌, ◌≤◌, ◌^◌, IfOk, length, sum, true};
-ghost use Rattle.om_format.specs.declared.limits.TheConstants.{MAX_MEMORY, REGISTERS};
+ghost use Rattle.om_format.specs.declared.limits.TheConstants.{MAX_MEMORY};
+ghost use Rattle.om_isa.specs.declared.registers.TheConstants.{WRITABLE_REGISTERS};
 ghost use Rattle.om_format.specs.Formats.{four};
 ghost use Rattle.om_format.specs.Checkpoints.{is_memory_size};
 ghost use Rattle.om_format.specs.FirstFault.{values_at};
 ghost use Rattle.om_format.specs.Outcomes.{Tells};
-ghost use Rattle.om_format.specs.Versions.{is_kind, kind_of, is_version, number_of, is_cluster_size};
+ghost use Rattle.om_format.specs.Versions.{is_kind, kind_of, is_version, version_number, is_cluster_size};
 ghost use Rattle.om_format.specs.steps.Reading.{numbers_at, opening_at};
 ghost use Rattle.om_format.specs.steps.CheckpointReading.{head_at, vectors_at, front_at};
 ghost use Rattle.om_interval.specs.declared.pid.TheConstants.{MAX_PROCESSES};
@@ -14,13 +15,13 @@ ghost use Rattle.om_interval.specs.declared.pid.TheConstants.{MAX_PROCESSES};
 use crate::error::DecodeError;
 use crate::limits::{
     CHECKPOINT_KIND, CHECKPOINT_KIND_M, CHECKPOINT_VERSION_1, CHECKPOINT_VERSION_2,
-    MAX_PROCESSES_OF_VERSION_1, REGISTERS,
+    MAX_PROCESSES_OF_VERSION_1,
 };
 use crate::memory::MemoryBytes;
 use crate::reading::{u8_at, u32_at, u64_at};
 use crate::version::Version;
 use om_interval::{DepVec, MAX_PROCESSES, Pid};
-use om_isa::Ext;
+use om_isa::{Ext, WRITABLE_REGISTERS};
 
 // The fields of a checkpoint before the registers.
 #[derive(Clone, Copy)]
@@ -37,7 +38,7 @@ pub(crate) struct Head {
 // The kind of a checkpoint, and its version.
 #[tactic(auto, unfolding(crate::specs::steps::Reading::opening_at))]
 fn kind_at(bytes: &[u8]) -> Result<(Ext, Version, &[u8]), DecodeError>
-    ensures exact { Tells (λ x. (kind_of x.0, number_of x.1, x.2.now)) result (opening_at is_kind is_version bytes.now) }
+    ensures exact { Tells (λ x. (kind_of x.0, version_number x.1, x.2.now)) result (opening_at is_kind is_version bytes.now) }
     ensures left { IfOk result (λ x. 2 + length x.2.now ≡ length bytes.now) }
 {
     let (kind, rest) = u8_at(bytes)?;
@@ -140,11 +141,11 @@ fn read_words(front: &[u8], places: &mut [u32])
 }
 
 // The registers x1 to x31.
-fn regs_of(front: &[u8]) -> [u32; REGISTERS]
-    requires { length front.now ≡ REGISTERS * 4 }
-    ensures { result ≡ values_at four REGISTERS front.now }
+fn regs_of(front: &[u8]) -> [u32; WRITABLE_REGISTERS]
+    requires { length front.now ≡ WRITABLE_REGISTERS * 4 }
+    ensures { result ≡ values_at four WRITABLE_REGISTERS front.now }
 {
-    let mut regs = [0; REGISTERS];
+    let mut regs = [0; WRITABLE_REGISTERS];
     read_words(front, &mut regs);
     regs
 }
@@ -213,7 +214,7 @@ fn vectors_at(
 #[derive(Clone, Copy)]
 pub(crate) struct Front {
     pub head: Head,
-    pub regs: [u32; REGISTERS],
+    pub regs: [u32; WRITABLE_REGISTERS],
     pub vectors: Vectors,
     pub made: u64,
     pub size: usize,
@@ -228,7 +229,7 @@ pub(crate) fn front_at(bytes: &[u8]) -> Result<(Front, &[u8]), DecodeError>
     ensures left { IfOk result (λ x. 156 + 12 * x.0.head.n + length x.1.now ≡ length bytes.now) }
 {
     let (head, rest) = head_at(bytes)?;
-    let (words, rest) = words_at(REGISTERS, rest)?;
+    let (words, rest) = words_at(WRITABLE_REGISTERS, rest)?;
     let regs = regs_of(words);
     let (vectors, rest) = match vectors_at(head.n, head.pid, head.interval, rest) {
         Ok(vectors) => vectors,

@@ -7,7 +7,7 @@ pub use checkpoint::Checkpoint;
 pub use decoding::{decode_checkpoint, decode_receipt};
 pub use encoding::{encode_checkpoint, encode_receipt};
 pub use error::DecodeError;
-pub use limits::{MAX_BODY, MAX_MEMORY, MAX_PROCESSES_OF_VERSION_1, MIN_MEMORY, PAGE, REGISTERS};
+pub use limits::{MAX_BODY, MAX_MEMORY, MAX_PROCESSES_OF_VERSION_1, MIN_MEMORY, PAGE};
 pub use memory::MemoryBytes;
 pub use message::Message;
 pub use queue::{Entry, Queue};

@@ -32,6 +32,3 @@ pub const MIN_MEMORY: usize = 4;
 
 /// The greatest number of bytes in a memory.
 pub const MAX_MEMORY: usize = 65_536;
-
-/// The registers of a checkpoint: x1 to x31.
-pub const REGISTERS: usize = 31;

@@ -27,7 +27,10 @@ impl Model for DepVec {
 
     ghost inverse = { λ numbers. record { count = length numbers; places = numbers ++ replicate (MAX_PROCESSES - length numbers) 0 } };
 
-    ghost inverse_ok = { λ v used. λ i. record { count = length-in_use _ v.count v.places used i; places = padded-in_use _ v.count v.places used i } };
+    ghost inverse_ok = { λ v used. λ i. record {
+      count = length-in_use _ v.count v.places used i;
+      places = padded-in_use _ v.count v.places used i;
+    } };
 }
 
 impl DepVec {

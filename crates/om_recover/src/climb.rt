@@ -75,7 +75,7 @@ pub fn climb<S: Shelf>(
     Some(reached)
 }
 
-/// Where a climb begins: at what is remembered of one from the same start, or at the start. None where it is known to fail.
+// Where a climb begins: at what is remembered of one from the same start, or at the start. None where it is known to fail.
 fn begin<S: Shelf>(
     shelf: &S,
     state: &DepVec,
@@ -97,7 +97,7 @@ fn begin<S: Shelf>(
     }
 }
 
-/// Where a climb begins that is remembered from its start or a lower one.
+// Where a climb begins that is remembered from its start or a lower one.
 fn begin_known<S: Shelf>(
     shelf: &S,
     state: &DepVec,
@@ -132,7 +132,7 @@ fn raised_to(state: &DepVec, pid: Pid, x: u32) -> DepVec
     raised
 }
 
-/// The greater of two vectors, place by place.
+// The greater of two vectors, place by place.
 fn maximum(one: &DepVec, other: &DepVec) -> DepVec
     requires { length one.now ≡ length other.now }
     ensures { result ≡ maximum_of one.now other.now }
@@ -145,7 +145,7 @@ fn maximum(one: &DepVec, other: &DepVec) -> DepVec
     greater
 }
 
-/// A process whose interval is below in the first vector.
+// A process whose interval is below in the first vector.
 fn first_behind(looked: &DepVec, reached: &DepVec) -> Option<Pid>
     requires { IsBelow looked.now reached.now }
     ensures { TellsBehind looked.now reached.now result }
@@ -159,7 +159,7 @@ fn first_behind(looked: &DepVec, reached: &DepVec) -> Option<Pid>
     None
 }
 
-/// The state with each process that the vector names beyond it raised to its least stable interval there, or a process that has none.
+// The state with each process that the vector names beyond it raised to its least stable interval there, or a process that has none.
 fn forced<S: Shelf>(shelf: &S, state: &DepVec, vec: &DepVec) -> Result<DepVec, Pid>
     requires { length vec.now ≡ length state.now }
     ensures { MatchResult result (IsForced (S.rows shelf.now) state.now vec.now) (IsBlocked (S.rows shelf.now) state.now vec.now) }

@@ -22,7 +22,8 @@ pub fn raised_by<S: Shelf>(
     requires { IsRaisable (length state.now) (S.rows after.now) row.now state.now is_new memories.old.places }
     ensures greatest { IsGreatest (length state.now) (S.rows after.now) result }
     ensures remembered { AreRemembered (length state.now) (S.rows after.now) result memories.new.places }
-    ensures counted { IsCountedFrom (length state.now) (S.rows after.now) row.now state.now is_new result work.old.attempts work.new.attempts }
+    ensures counted { IsCountedFrom (length state.now) (S.rows after.now) row.now state.now is_new result
+        work.old.attempts work.new.attempts }
 {
     if !is_new {
         return *state;

@@ -9,7 +9,8 @@ abbrev pub IsKnown : {S : Type 0} → (S → Bool) → (S → Type 0) → S → 
 IsKnown is_clean IsSound old new = IsTrue (is_clean new) × IsSound old
 
 -- what a call keeps and counts, by the store before, its error if any, and the store after
-pub record IsCall {S : Type 0} (failed : S → ℕ) (is_clean : S → Bool) (IsSound : S → Type 0) (call_gives : S → Option StoreError → S → Type 0) (old : S) (error : Option StoreError) (new : S) : Type 0 where
+pub record IsCall {S : Type 0} (failed : S → ℕ) (is_clean : S → Bool) (IsSound : S → Type 0)
+    (call_gives : S → Option StoreError → S → Type 0) (old : S) (error : Option StoreError) (new : S) : Type 0 where
   pub fault : error ≡ Some Fault → Rose (failed old) (failed new)
   pub count : failed old ≤ failed new
   pub gives : call_gives old error new

@@ -17,7 +17,7 @@ impl Stop {
     ghost use Rattle.std.specs.Prelude.{is_err, OnErr, Err};
     ghost use Rattle.om_stable.specs.Stop.{stops_next, after_call};
 
-    /// Counts a call, and answers Fault at the one to be stopped.
+    // Counts a call, and answers Fault at the one to be stopped.
     fn pass(&mut self) -> Result<(), StoreError>
         ensures stops { is_err result ≡ stops_next self.old }
         ensures fault { OnErr result (result ≡ Err StoreError.Fault) }

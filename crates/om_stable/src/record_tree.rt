@@ -94,7 +94,7 @@ impl RecordTree {
         Ok(())
     }
 
-    /// Removes the records at the `count` intervals from `first` on.
+    // Removes the records at the `count` intervals from `first` on.
     fn remove_run(&mut self, first: u32, count: usize)
         requires { first + count ≤ INTERVALS }
         ensures gone { IsFree self.new first count }
@@ -167,7 +167,7 @@ impl RecordTree {
         }
     }
 
-    /// The greatest interval that has a record.
+    // The greatest interval that has a record.
     fn greatest(&self) -> Option<u32>
         ensures has { IfSome result (λ x. IsSome (map.get self.now x)) }
         ensures greatest { IfSome result (λ x. (y : ℕ) → x < y → map.get self.now y ≡ None) }
@@ -177,7 +177,7 @@ impl RecordTree {
         Some(*x)
     }
 
-    /// The least interval that has a record.
+    // The least interval that has a record.
     fn least(&self) -> Option<u32>
         ensures has { IfSome result (λ x. IsSome (map.get self.now x)) }
         ensures least { IfSome result (λ x. (y : ℕ) → y < x → map.get self.now y ≡ None) }

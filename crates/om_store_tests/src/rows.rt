@@ -7,10 +7,10 @@ mod caller;
 mod stops;
 mod tables;
 
-/// The last interval.
+// The last interval.
 const LAST: u32 = u32::MAX;
 
-/// A call of a store. A record put at `x` is `receipt_at(x)` or `checkpoint_at(x)`.
+// A call of a store. A record put at `x` is `receipt_at(x)` or `checkpoint_at(x)`.
 #[derive(Clone, Copy, Debug)]
 enum Call {
     /// Puts this many receipts from this interval on.
@@ -22,7 +22,7 @@ enum Call {
     Prune(u32),
 }
 
-/// A call, and the intervals of the records that it answers or why it is refused.
+// A call, and the intervals of the records that it answers or why it is refused.
 type Row = (Call, Result<&'static [u32], StoreError>);
 
 const CUT_AND_PUT_AGAIN: [Row; 18] = [
@@ -71,7 +71,7 @@ fn checkpoint_at(x: u32) -> [u8; 5] {
     [b'C', a, b, c, d]
 }
 
-/// The receipts at `count` intervals from `first` on, as far as there are intervals.
+// The receipts at `count` intervals from `first` on, as far as there are intervals.
 fn receipts_from(alloc: Global, first: u32, count: u32) -> Result<Vec<Vec<u8>>, AllocError> {
     let mut recs = Vec::new(alloc);
     for k in 0..count {
@@ -82,7 +82,7 @@ fn receipts_from(alloc: Global, first: u32, count: u32) -> Result<Vec<Vec<u8>>, 
     Ok(recs)
 }
 
-/// The intervals that a call answers. Their bytes have to be those that were put.
+// The intervals that a call answers. Their bytes have to be those that were put.
 fn answer<S: Stable>(
     rt: &impl Abort,
     alloc: Global,
@@ -115,15 +115,15 @@ fn answer<S: Stable>(
     Ok(found)
 }
 
-/// At which row a Fault came, and whether a call was refused for want of memory.
+// At which row a Fault came, and whether a call was refused for want of memory.
 #[derive(Drop)]
 struct Refused {
     fault: Option<usize>,
     memory: bool,
 }
 
-/// Plays the rows. A call that is refused for a Fault, or for want of memory where a run refuses an
-/// allocation, is played once more: it has left all as it was.
+// Plays the rows. A call that is refused for a Fault, or for want of memory where a run refuses an
+// allocation, is played once more: it has left all as it was.
 fn play<S: Stable>(rt: &impl Abort, alloc: Global, store: &mut S, rows: &[Row]) -> Refused {
     let mut fault = None;
     let mut memory = false;

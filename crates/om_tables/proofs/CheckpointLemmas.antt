@@ -18,7 +18,7 @@ use Rattle.sqlite.specs.Listing.{understood}
 use Rattle.sqlite.specs.Effect.{Database}
 use Rattle.sqlite.specs.State.{State, mode_of, Executes, ExecutesInside}
 use Rattle.sqlite.proofs.Callers.{IsPlain, command_of, statement_of, runs_as, one_step}
-use Rattle.om_tables.specs.Tables.{checkpoints, store_schema, stored, row_of}
+use Rattle.om_tables.specs.Tables.{checkpoints, store_schema, stored, stored_row}
 use Rattle.om_tables.specs.Store.{Holds}
 use Rattle.om_tables.specs.steps.Statements.{GoesOn}
 use Rattle.om_stable.specs.Content.{Content}
@@ -86,7 +86,7 @@ pub puts : (old new : State) (x : ℕ) (body : List ℕ) (count : ℕ) (c : Cont
 puts old new x body count c had h =
     let a = adds old new x body count had.schema h.0 in
     record {
-      holds = record { schema = a.schema; receipts = a.others ∙ had.receipts; checkpoints = a.rows ∙ ap (put_row (stored x body)) had.checkpoints ∙ put_rows x body (entries c.checkpoints) ∙ ap (map row_of) (sym (entries-insert nat_cmp_total c.checkpoints x body)) };
+      holds = record { schema = a.schema; receipts = a.others ∙ had.receipts; checkpoints = a.rows ∙ ap (put_row (stored x body)) had.checkpoints ∙ put_rows x body (entries c.checkpoints) ∙ ap (map stored_row) (sym (entries-insert nat_cmp_total c.checkpoints x body)) };
       begun = h.1.mode;
       committed = h.1.committed_is;
     }

@@ -15,7 +15,7 @@ use Rattle.sqlite.proofs.Callers.{IsPlain, command_of, statement_of, runs_as}
 use Rattle.std.proofs.lemmas.List.{nil_from_length}
 use Rattle.std.specs.Ordering.{nat_cmp}
 use Rattle.std.specs.FinMap.{entries, empty, len-entries, len-empty}
-use Rattle.om_tables.specs.Tables.{receipts, checkpoints, no_schema, half_schema, store_schema, row_of}
+use Rattle.om_tables.specs.Tables.{receipts, checkpoints, no_schema, half_schema, store_schema, stored_row}
 use Rattle.om_tables.specs.Store.{Holds}
 
 abbrev pub receipts_text : List ℕ
@@ -82,7 +82,7 @@ pub checkpoints_hold : (old new : State) (count : ℕ) → old.now.schema ≡ ha
     → Holds new.now (record { receipts = empty; checkpoints = empty })
 checkpoints_hold old new count had none h =
     let m = checkpoints_made old new count had h in
-    record { schema = m.0; receipts = m.2.0 ∙ none ∙ ap (map row_of) (sym entries_of_empty); checkpoints = m.1 ∙ ap (map row_of) (sym entries_of_empty) }
+    record { schema = m.0; receipts = m.2.0 ∙ none ∙ ap (map stored_row) (sym entries_of_empty); checkpoints = m.1 ∙ ap (map stored_row) (sym entries_of_empty) }
 
 -- as the clauses have them
 pub on_ok : {P : Type 0} (r : Result ℕ Error) → ((count : ℕ) → r ≡ Ok count → P) → OnOk r P

@@ -34,7 +34,7 @@ use Rattle.sqlite.specs.Rows.{Written}
 use Rattle.sqlite.specs.Effect.{Database}
 use Rattle.sqlite.specs.State.{State, mode_of}
 use Rattle.om_tables.proofs.CreateLemmas.{went, same_value}
-use Rattle.om_tables.specs.Tables.{receipts, checkpoints, store_schema, row_of}
+use Rattle.om_tables.specs.Tables.{receipts, checkpoints, store_schema, stored_row}
 use Rattle.om_tables.specs.Store.{Holds, rows_for}
 use Rattle.om_tables.specs.steps.Statements.{GoesOn, Goes, Performs}
 use Rattle.om_tables.proofs.InsertLemmas.{keeps_then}
@@ -78,12 +78,12 @@ abbrev one : ℕ → Row
 one a = Int (pos a) ∷ []
 
 -- the rowids that are removed, in some order
-ids_are : (t : ℕ) (op : CompareOp) (a : ℕ) (p : ℕ → Bool) → ((e : ℕ × List ℕ) → list_all (holds (one a ∷ row_of e ∷ [])) (terms op) ≡ p e.0) → (es : List (ℕ × List ℕ)) (db : Trees) (rows : List Row) → overlay db [] t ≡ map row_of es
+ids_are : (t : ℕ) (op : CompareOp) (a : ℕ) (p : ℕ → Bool) → ((e : ℕ × List ℕ) → list_all (holds (one a ∷ stored_row e ∷ [])) (terms op) ≡ p e.0) → (es : List (ℕ × List ℕ)) (db : Trees) (rows : List Row) → overlay db [] t ≡ map stored_row es
     → IsAnswer (query t op) (overlay db []) (one a) rows → IsPermutation (map key (filter (λ e. p e.0) es)) (ids_of rows)
 ids_are t op a p passes es db rows are answer =
     let fs = filter (λ e. p e.0) es in
-    let staged : answer.staged ≡ map (λ e. one a ∷ row_of e ∷ []) fs = answer.grouped ∙ rw are (matched (terms op) (one a) p passes es) in
-    let kept : answer.kept ≡ map out fs = answer.distinct ∙ ap (map (output (query t op))) staged ∙ map-map (output (query t op)) (λ e. one a ∷ row_of e ∷ []) fs in
+    let staged : answer.staged ≡ map (λ e. one a ∷ stored_row e ∷ []) fs = answer.grouped ∙ rw are (matched (terms op) (one a) p passes es) in
+    let kept : answer.kept ≡ map out fs = answer.distinct ∙ ap (map (output (query t op))) staged ∙ map-map (output (query t op)) (λ e. one a ∷ stored_row e ∷ []) fs in
     let same = subst (λ k. IsPermutation k answer.ordered) kept answer.same in
     let ids = IsPermutation-map (λ (o : Output). id_in (rowid o.1)) (map out fs) answer.ordered same in
     subst₂ IsPermutation (map-map (λ (o : Output). id_in (rowid o.1)) out fs) (sym (ap ids_of answer.shown ∙ map-map (λ r. id_in (rowid r)) (λ (o : Output). o.1) answer.ordered)) ids
@@ -106,20 +106,20 @@ left_is [] rows = sym (filter_all (λ r. true) rows (all_true rows))
     all_true (r ∷ rows) = (refl, all_true rows)
 left_is (id ∷ ids) rows = left_is ids (filter (λ r. not (has_rowid id r)) rows) ∙ both_not (has_rowid id) (λ r. list_any (λ id. has_rowid id r) ids) rows
 
-one_gone : (id : ℤ) (es : List (ℕ × List ℕ)) → filter (λ r. not (has_rowid id r)) (map row_of es) ≡ map row_of (without_key key es id)
-one_gone id es = filter-map (λ r. not (has_rowid id r)) row_of es ∙ ap (map row_of) (filter_same (λ e. not (has_rowid id (row_of e))) (λ e. not (int_eq (key e) id)) (λ e. ap (λ o. not (is_eq o)) (value_cmp-Int (pos e.0) id)) es)
+one_gone : (id : ℤ) (es : List (ℕ × List ℕ)) → filter (λ r. not (has_rowid id r)) (map stored_row es) ≡ map stored_row (without_key key es id)
+one_gone id es = filter-map (λ r. not (has_rowid id r)) stored_row es ∙ ap (map stored_row) (filter_same (λ e. not (has_rowid id (stored_row e))) (λ e. not (int_eq (key e) id)) (λ e. ap (λ o. not (is_eq o)) (value_cmp-Int (pos e.0) id)) es)
 
-all_gone : (ids : List ℤ) (es : List (ℕ × List ℕ)) → without_all (map row_of es) ids ≡ map row_of (fold (without_key key) es ids)
+all_gone : (ids : List ℤ) (es : List (ℕ × List ℕ)) → without_all (map stored_row es) ids ≡ map stored_row (fold (without_key key) es ids)
 all_gone [] es = refl
 all_gone (id ∷ ids) es = ap (λ rows. without_all rows ids) (one_gone id es) ∙ all_gone ids (without_key key es id)
 
 -- the order of the rowids does not matter
-pub gone_are : (gone : ℕ × List ℕ → Bool) (es : List (ℕ × List ℕ)) (ids : List ℤ) → IsKeyedBy key es → IsPermutation (map key (filter (gone) es)) ids → without_all (map row_of es) ids ≡ map row_of (delete_where (gone) es)
+pub gone_are : (gone : ℕ × List ℕ → Bool) (es : List (ℕ × List ℕ)) (ids : List ℤ) → IsKeyedBy key es → IsPermutation (map key (filter (gone) es)) ids → without_all (map stored_row es) ids ≡ map stored_row (delete_where (gone) es)
 gone_are gone es ids keyed same =
     let other = map key (filter (gone) es) in
-    left_is ids (map row_of es)
-    ∙ filter_same (λ r. not (list_any (λ id. has_rowid id r) ids)) (λ r. not (list_any (λ id. has_rowid id r) other)) (λ r. ap not (sym (list_any-IsPermutation (λ id. has_rowid id r) other ids same))) (map row_of es)
-    ∙ sym (left_is other (map row_of es)) ∙ all_gone other es ∙ ap (map row_of) (removes_delete key (gone) es keyed)
+    left_is ids (map stored_row es)
+    ∙ filter_same (λ r. not (list_any (λ id. has_rowid id r) ids)) (λ r. not (list_any (λ id. has_rowid id r) other)) (λ r. ap not (sym (list_any-IsPermutation (λ id. has_rowid id r) other ids same))) (map stored_row es)
+    ∙ sym (left_is other (map stored_row es)) ∙ all_gone other es ∙ ap (map stored_row) (removes_delete key (gone) es keyed)
 
 -- ---- what is left, as a map
 pos_below : (x y : ℕ) → x < y → pos x <ℤ pos y
@@ -146,7 +146,7 @@ zero_not_one : ◌≡◌ {A = ℕ} 0 1 → ⊥
 zero_not_one e = omega arith
 
 module _ (op : CompareOp) (text : List ℕ) (is : command_of (understood store_schema text) ≡ Delete 0 (record { lets = []; body = query 0 op })) (plain : IsPlain (understood store_schema text)) (a : ℕ) (p kept : ℕ → Bool)
-    (passes : (e : ℕ × List ℕ) → list_all (holds (one a ∷ row_of e ∷ [])) (terms op) ≡ p e.0) (turns : (x : ℕ) → not (p x) ≡ kept x) where
+    (passes : (e : ℕ × List ℕ) → list_all (holds (one a ∷ stored_row e ∷ [])) (terms op) ≡ p e.0) (turns : (x : ℕ) → not (p x) ≡ kept x) where
   removes_receipts : (old new : State) (c : Content) (count : ℕ) → Holds old.now c → ExecutesInside 0 text (one a) old new (Ok count) → GoesOn old new (record c { receipts = retain_keys c.receipts kept })
   removes_receipts old new c count had h =
       let db = old.now.trees in
@@ -163,7 +163,7 @@ module _ (op : CompareOp) (text : List ℕ) (is : command_of (understood store_s
       let edit = edit_of db receipts ids Given 0 [] in
       let applied = one_step store_schema _ db written.0 edit refl written.1 in
       let left : edited db edit ≡ rows_for (retain_keys c.receipts kept) = ap (λ rows. without_all rows ids) had.receipts ∙ gone_are (λ e. p e.0) es ids (keyed c.receipts) (ids_are 0 op a p passes es db given.0 had.receipts (given.1.answer Null))
-      ∙ ap (map row_of) (filter_same (λ e. not (p e.0)) (λ e. kept e.0) (λ e. turns e.0) es ∙ sym (entries_retained c.receipts kept)) in
+      ∙ ap (map stored_row) (filter_same (λ e. not (p e.0)) (λ e. kept e.0) (λ e. turns e.0) es ∙ sym (entries_retained c.receipts kept)) in
       record {
         holds = record {
           schema = ap (λ (d : Database). d.schema) now;
@@ -175,7 +175,7 @@ module _ (op : CompareOp) (text : List ℕ) (is : command_of (understood store_s
       }
 
 module _ (op : CompareOp) (text : List ℕ) (is : command_of (understood store_schema text) ≡ Delete 1 (record { lets = []; body = query 1 op })) (plain : IsPlain (understood store_schema text)) (a : ℕ) (p kept : ℕ → Bool)
-    (passes : (e : ℕ × List ℕ) → list_all (holds (one a ∷ row_of e ∷ [])) (terms op) ≡ p e.0) (turns : (x : ℕ) → not (p x) ≡ kept x) where
+    (passes : (e : ℕ × List ℕ) → list_all (holds (one a ∷ stored_row e ∷ [])) (terms op) ≡ p e.0) (turns : (x : ℕ) → not (p x) ≡ kept x) where
   removes_checkpoints : (old new : State) (c : Content) (count : ℕ) → Holds old.now c → ExecutesInside 0 text (one a) old new (Ok count) → GoesOn old new (record c { checkpoints = retain_keys c.checkpoints kept })
   removes_checkpoints old new c count had h =
       let db = old.now.trees in
@@ -192,7 +192,7 @@ module _ (op : CompareOp) (text : List ℕ) (is : command_of (understood store_s
       let edit = edit_of db checkpoints ids Given 0 [] in
       let applied = one_step store_schema _ db written.0 edit refl written.1 in
       let left : edited db edit ≡ rows_for (retain_keys c.checkpoints kept) = ap (λ rows. without_all rows ids) had.checkpoints ∙ gone_are (λ e. p e.0) es ids (keyed c.checkpoints) (ids_are 1 op a p passes es db given.0 had.checkpoints (given.1.answer Null))
-      ∙ ap (map row_of) (filter_same (λ e. not (p e.0)) (λ e. kept e.0) (λ e. turns e.0) es ∙ sym (entries_retained c.checkpoints kept)) in
+      ∙ ap (map stored_row) (filter_same (λ e. not (p e.0)) (λ e. kept e.0) (λ e. turns e.0) es ∙ sym (entries_retained c.checkpoints kept)) in
       record {
         holds = record {
           schema = ap (λ (d : Database). d.schema) now;
@@ -217,7 +217,7 @@ cut_receipts_plain = (refl, refl)
 cut_receipts_turns : (a x : ℕ) → not (nat_lt a x) ≡ (nat_le x a)
 cut_receipts_turns a x = grind (arith, nat_tests)
 
-cut_receipts_passes : (a : ℕ) (e : ℕ × List ℕ) → list_all (holds (one a ∷ row_of e ∷ [])) (terms Gt) ≡ (nat_lt a e.0)
+cut_receipts_passes : (a : ℕ) (e : ℕ × List ℕ) → list_all (holds (one a ∷ stored_row e ∷ [])) (terms Gt) ≡ (nat_lt a e.0)
 cut_receipts_passes a e = rw (over e.0 a) (and_true (nat_lt a e.0))
 
 pub cut_receipts : (old new : State) (a : ℕ) (c : Content) (count : ℕ) → Holds old.now c → ExecutesInside 0 cut_receipts_text (one a) old new (Ok count) → GoesOn old new (record c { receipts = retain_keys c.receipts (λ x. nat_le x a) })
@@ -237,7 +237,7 @@ cut_checkpoints_plain = (refl, refl)
 cut_checkpoints_turns : (a x : ℕ) → not (nat_lt a x) ≡ (nat_le x a)
 cut_checkpoints_turns a x = grind (arith, nat_tests)
 
-cut_checkpoints_passes : (a : ℕ) (e : ℕ × List ℕ) → list_all (holds (one a ∷ row_of e ∷ [])) (terms Gt) ≡ (nat_lt a e.0)
+cut_checkpoints_passes : (a : ℕ) (e : ℕ × List ℕ) → list_all (holds (one a ∷ stored_row e ∷ [])) (terms Gt) ≡ (nat_lt a e.0)
 cut_checkpoints_passes a e = rw (over e.0 a) (and_true (nat_lt a e.0))
 
 pub cut_checkpoints : (old new : State) (a : ℕ) (c : Content) (count : ℕ) → Holds old.now c → ExecutesInside 0 cut_checkpoints_text (one a) old new (Ok count) → GoesOn old new (record c { checkpoints = retain_keys c.checkpoints (λ x. nat_le x a) })
@@ -257,7 +257,7 @@ prune_receipts_plain = (refl, refl)
 prune_receipts_turns : (a x : ℕ) → not (nat_le x a) ≡ (nat_lt a x)
 prune_receipts_turns a x = grind (arith, nat_tests)
 
-prune_receipts_passes : (a : ℕ) (e : ℕ × List ℕ) → list_all (holds (one a ∷ row_of e ∷ [])) (terms Le) ≡ (nat_le e.0 a)
+prune_receipts_passes : (a : ℕ) (e : ℕ × List ℕ) → list_all (holds (one a ∷ stored_row e ∷ [])) (terms Le) ≡ (nat_le e.0 a)
 prune_receipts_passes a e = rw (up_to e.0 a) (and_true (nat_le e.0 a))
 
 pub prune_receipts : (old new : State) (a : ℕ) (c : Content) (count : ℕ) → Holds old.now c → ExecutesInside 0 prune_receipts_text (one a) old new (Ok count) → GoesOn old new (record c { receipts = retain_keys c.receipts (λ x. nat_lt a x) })
@@ -277,7 +277,7 @@ prune_checkpoints_plain = (refl, refl)
 prune_checkpoints_turns : (a x : ℕ) → not (nat_lt x a) ≡ (nat_le a x)
 prune_checkpoints_turns a x = grind (arith, nat_tests)
 
-prune_checkpoints_passes : (a : ℕ) (e : ℕ × List ℕ) → list_all (holds (one a ∷ row_of e ∷ [])) (terms Lt) ≡ (nat_lt e.0 a)
+prune_checkpoints_passes : (a : ℕ) (e : ℕ × List ℕ) → list_all (holds (one a ∷ stored_row e ∷ [])) (terms Lt) ≡ (nat_lt e.0 a)
 prune_checkpoints_passes a e = rw (under e.0 a) (and_true (nat_lt e.0 a))
 
 pub prune_checkpoints : (old new : State) (a : ℕ) (c : Content) (count : ℕ) → Holds old.now c → ExecutesInside 0 prune_checkpoints_text (one a) old new (Ok count) → GoesOn old new (record c { checkpoints = retain_keys c.checkpoints (λ x. nat_le a x) })

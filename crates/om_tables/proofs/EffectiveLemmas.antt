@@ -27,7 +27,7 @@ use Rattle.sqlite.specs.State.{State, Shown}
 use Rattle.sqlite.proofs.Callers.{IsPlain, command_of, reads_as}
 use Rattle.std.specs.FinMap.{find, get, entries, get-entries}
 use Rattle.om_stable.specs.Content.{Records, Content}
-use Rattle.om_tables.specs.Tables.{store_schema, row_of, shown}
+use Rattle.om_tables.specs.Tables.{store_schema, stored_row, shown}
 use Rattle.om_tables.specs.Store.{Holds}
 use Rattle.om_tables.specs.steps.Statements.{ShowsEffective}
 use Rattle.om_tables.proofs.QueryLemmas.{up_to, and_true, matched, entries_rise, tied_here}
@@ -127,7 +127,7 @@ one x = Int (pos x) ∷ []
 abbrev is_low : ℕ → ℕ → Bool
 is_low a x = nat_le x a
 
-low_is : (a : ℕ) (e : Entry) → list_all (holds (one a ∷ row_of e ∷ [])) low ≡ is_low a e.0
+low_is : (a : ℕ) (e : Entry) → list_all (holds (one a ∷ stored_row e ∷ [])) low ≡ is_low a e.0
 low_is a e = rw (up_to e.0 a) (and_true (nat_le e.0 a))
 
 above : (x y : ℕ) → y < x → value_cmp (Int (pos y)) (Int (pos x)) ≡ Less
@@ -183,8 +183,8 @@ effective old new c x rows has h =
     let answer : IsAnswer query (overlay old.now.trees []) (one x) rows = got.answer Null in
     let es = entries c.checkpoints in
     let fs = filter (λ e. is_low x e.0) es in
-    let staged : answer.staged ≡ map (λ e. one x ∷ row_of e ∷ []) fs = answer.grouped ∙ rw has.checkpoints (matched low (one x) (is_low x) (low_is x) es) in
-    let kept : answer.kept ≡ map out fs = answer.distinct ∙ ap (map (output query)) staged ∙ map-map (output query) (λ e. one x ∷ row_of e ∷ []) fs in
+    let staged : answer.staged ≡ map (λ e. one x ∷ stored_row e ∷ []) fs = answer.grouped ∙ rw has.checkpoints (matched low (one x) (is_low x) (low_is x) es) in
+    let kept : answer.kept ≡ map out fs = answer.distinct ∙ ap (map (output query)) staged ∙ map-map (output query) (λ e. one x ∷ stored_row e ∷ []) fs in
     let same : IsPermutation (map out (turned fs)) answer.ordered = IsPermutation-trans _ _ _ (IsPermutation-map out (turned fs) fs (turned_permutes fs)) (subst (λ k. IsPermutation k answer.ordered) kept answer.same) in
     let ordered : answer.ordered ≡ map out (turned fs) = sorted_unique (output_cmp query) (output_cmp_total query) (map out (turned fs)) answer.ordered (sinks (turned fs) (falls fs (ascending-filter _ (λ e. is_low x e.0) es (entries_rise c.checkpoints)))) same answer.sorted in
     picks c.checkpoints x rows (turned fs) refl (answer.shown ∙ ap (λ (os : List Output). take 1 (map (λ (o : Output). o.1) os)) ordered ∙ ap (take 1) (map-map (λ (o : Output). o.1) out (turned fs)))

@@ -6,12 +6,12 @@ use Rattle.sqlite_keyed.proofs.ListLemmas.{map_back}
 use Rattle.sqlite.specs.Effect.{Database}
 use Rattle.sqlite.specs.State.{State}
 use Rattle.om_stable.specs.Content.{Records, Content}
-use Rattle.om_tables.specs.Tables.{row_of}
+use Rattle.om_tables.specs.Tables.{stored_row}
 use Rattle.om_tables.specs.Store.{entry_in, records_in, rows_for, content_in, Holds, IsFormed}
 
 read_back : (m : Records) → records_in (rows_for m) ≡ m
 read_back m =
-    let same : map entry_in (map row_of (entries m)) ≡ entries m = map_back row_of entry_in (λ e. refl) (entries m) in
+    let same : map entry_in (map stored_row (entries m)) ≡ entries m = map_back stored_row entry_in (λ e. refl) (entries m) in
     ap from_sorted same ∙ same_entries_map (from_sorted (entries m)) m (entries-from_sorted nat_cmp (entries m) (entries_sorted m))
 
 pub content_is : (db : Database) (c : Content) → Holds db c → content_in db ≡ c

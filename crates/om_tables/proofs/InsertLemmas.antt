@@ -21,7 +21,7 @@ use Rattle.sqlite.specs.Effect.{Database}
 use Rattle.sqlite.specs.State.{State, HasCleanDisk, mode_of, Executes, ExecutesInside, KeepsCommit, FailsToQuery, IsNotRun}
 use Rattle.sqlite.proofs.Callers.{IsPlain, command_of, statement_of, runs_as, one_step}
 use Rattle.sqlite.specs.Steps.{FailsToCommit}
-use Rattle.om_tables.specs.Tables.{receipts, store_schema, stored, row_of}
+use Rattle.om_tables.specs.Tables.{receipts, store_schema, stored, stored_row}
 use Rattle.om_tables.specs.Store.{Holds}
 use Rattle.om_tables.specs.steps.Statements.{Makes, GoesOn, Goes, Performs}
 use Rattle.om_stable.specs.Content.{Content}
@@ -108,20 +108,20 @@ by_greater x y h = let gt = gt_from_nat_cmp x y h in rw value_cmp-Int (grind (ar
 by_equal : (x y : ℕ) → x ≡ y → value_cmp (Int (pos y)) (Int (pos x)) ≡ Equal
 by_equal x y e = rw value_cmp-Int (grind (arith, nat_tests))
 
-pub put_rows : (x : ℕ) (body : List ℕ) (es : List (ℕ × List ℕ)) → put_row (stored x body) (map row_of es) ≡ map row_of (put nat_cmp x body es)
+pub put_rows : (x : ℕ) (body : List ℕ) (es : List (ℕ × List ℕ)) → put_row (stored x body) (map stored_row es) ≡ map stored_row (put nat_cmp x body es)
 put_rows x body [] = refl
 put_rows x body (e ∷ es) = go (put_rows x body es) (nat_cmp x e.0) refl
   where
-    go : put_row (stored x body) (map row_of es) ≡ map row_of (put nat_cmp x body es) → (o : Ordering) → nat_cmp x e.0 ≡ o → put_row (stored x body) (row_of e ∷ map row_of es) ≡ map row_of (by_order o ((x, body) ∷ e ∷ es) ((e.0, body) ∷ es) (e ∷ put nat_cmp x body es))
+    go : put_row (stored x body) (map stored_row es) ≡ map stored_row (put nat_cmp x body es) → (o : Ordering) → nat_cmp x e.0 ≡ o → put_row (stored x body) (stored_row e ∷ map stored_row es) ≡ map stored_row (by_order o ((x, body) ∷ e ∷ es) ((e.0, body) ∷ es) (e ∷ put nat_cmp x body es))
     go rest Less is = rw (by_less x e.0 is) refl
-    go rest Equal is = let same = nat_cmp-IsAntisymmetric x e.0 is in rw (by_equal x e.0 same) (ap (λ k. stored k body ∷ map row_of es) same)
-    go rest Greater is = rw (by_greater x e.0 is) (ap (λ rs. row_of e ∷ rs) rest)
+    go rest Equal is = let same = nat_cmp-IsAntisymmetric x e.0 is in rw (by_equal x e.0 same) (ap (λ k. stored k body ∷ map stored_row es) same)
+    go rest Greater is = rw (by_greater x e.0 is) (ap (λ rs. stored_row e ∷ rs) rest)
 
 pub puts : (old new : State) (x : ℕ) (body : List ℕ) (count : ℕ) (c : Content) → Holds old.now c → ExecutesInside 0 insert_text (Int (pos x) ∷ Blob body ∷ []) old new (Ok count) → GoesOn old new (record c { receipts = insert c.receipts x body })
 puts old new x body count c had h =
     let a = adds old new x body count had.schema h.0 in
     record {
-      holds = record { schema = a.schema; receipts = a.rows ∙ ap (put_row (stored x body)) had.receipts ∙ put_rows x body (entries c.receipts) ∙ ap (map row_of) (sym (entries-insert nat_cmp_total c.receipts x body)); checkpoints = a.others ∙ had.checkpoints };
+      holds = record { schema = a.schema; receipts = a.rows ∙ ap (put_row (stored x body)) had.receipts ∙ put_rows x body (entries c.receipts) ∙ ap (map stored_row) (sym (entries-insert nat_cmp_total c.receipts x body)); checkpoints = a.others ∙ had.checkpoints };
       begun = h.1.mode;
       committed = h.1.committed_is;
     }

@@ -32,7 +32,7 @@ use Rattle.sqlite.proofs.Callers.{IsPlain, command_of, reads_as}
 use Rattle.std.specs.FinMap.{find, entries, entries_sorted, get-entries, is_sorted}
 use Rattle.std.specs.FinMap.Entries.{below_all}
 use Rattle.om_stable.specs.Content.{Records, Content, between}
-use Rattle.om_tables.specs.Tables.{store_schema, row_of, shown}
+use Rattle.om_tables.specs.Tables.{store_schema, stored_row, shown}
 use Rattle.om_tables.specs.Store.{rows_for, Holds}
 use Rattle.om_tables.specs.steps.Statements.{ShowsAny}
 
@@ -58,12 +58,12 @@ and_true true = refl
 and_true false = refl
 
 -- ---- the rows of one table that pass a test of their intervals
-module _ (terms : List Term) (params : Row) (p : ℕ → Bool) (passes : (e : ℕ × List ℕ) → list_all (holds (params ∷ row_of e ∷ [])) terms ≡ p e.0) where
-  pub matched : (es : List (ℕ × List ℕ)) → flat_map (λ r. cond (list_all (holds (params ∷ r ∷ [])) terms) ((params ∷ r ∷ []) ∷ []) []) (map row_of es) ≡ map (λ e. params ∷ row_of e ∷ []) (filter (λ e. p e.0) es)
+module _ (terms : List Term) (params : Row) (p : ℕ → Bool) (passes : (e : ℕ × List ℕ) → list_all (holds (params ∷ stored_row e ∷ [])) terms ≡ p e.0) where
+  pub matched : (es : List (ℕ × List ℕ)) → flat_map (λ r. cond (list_all (holds (params ∷ r ∷ [])) terms) ((params ∷ r ∷ []) ∷ []) []) (map stored_row es) ≡ map (λ e. params ∷ stored_row e ∷ []) (filter (λ e. p e.0) es)
   matched [] = refl
   matched (e ∷ es) = rw (passes e, matched es) (split (p e.0))
     where
-      split : (t : Bool) → cond t ((params ∷ row_of e ∷ []) ∷ []) [] ++ map (λ e. params ∷ row_of e ∷ []) (filter (λ e. p e.0) es) ≡ map (λ e. params ∷ row_of e ∷ []) (cond t (e ∷ filter (λ e. p e.0) es) (filter (λ e. p e.0) es))
+      split : (t : Bool) → cond t ((params ∷ stored_row e ∷ []) ∷ []) [] ++ map (λ e. params ∷ stored_row e ∷ []) (filter (λ e. p e.0) es) ≡ map (λ e. params ∷ stored_row e ∷ []) (cond t (e ∷ filter (λ e. p e.0) es) (filter (λ e. p e.0) es))
       split true = refl
       split false = refl
 
@@ -137,7 +137,7 @@ any_query t = record {
 abbrev pub two : ℕ → ℕ → Row
 two a b = Int (pos a) ∷ Int (pos b) ∷ []
 
-within_is : (a b : ℕ) (e : ℕ × List ℕ) → list_all (holds (two a b ∷ row_of e ∷ [])) within ≡ from_to a b e.0
+within_is : (a b : ℕ) (e : ℕ × List ℕ) → list_all (holds (two a b ∷ stored_row e ∷ [])) within ≡ from_to a b e.0
 within_is a b e = rw (from_on e.0 a, up_to e.0 b) (ap (λ t. nat_le a e.0 && t) (and_true (nat_le e.0 b)))
 
 abbrev pub any_receipt_text : List ℕ
@@ -166,10 +166,10 @@ answers_any : (t : ℕ) (db : Trees) (held : Records) (first last : ℕ) (rows :
 answers_any t db held first last rows are answer =
     let q = any_query t in
     let fs = filter (λ e. from_to first last e.0) (entries held) in
-    let staged : answer.staged ≡ map (λ e. two first last ∷ row_of e ∷ []) fs = answer.grouped ∙ rw are (matched within (two first last) (from_to first last) (within_is first last) (entries held)) in
-    let kept : answer.kept ≡ map (λ e. output q (two first last ∷ row_of e ∷ [])) fs = answer.distinct ∙ ap (map (output q)) staged ∙ map-map (output q) (λ e. two first last ∷ row_of e ∷ []) fs in
+    let staged : answer.staged ≡ map (λ e. two first last ∷ stored_row e ∷ []) fs = answer.grouped ∙ rw are (matched within (two first last) (from_to first last) (within_is first last) (entries held)) in
+    let kept : answer.kept ≡ map (λ e. output q (two first last ∷ stored_row e ∷ [])) fs = answer.distinct ∙ ap (map (output q)) staged ∙ map-map (output q) (λ e. two first last ∷ stored_row e ∷ []) fs in
     let os = map (λ (o : Output). o.1) answer.ordered in
-    let size : length os ≡ length fs = length-map answer.ordered (λ (o : Output). o.1) ∙ length_permutation answer.kept answer.ordered answer.same ∙ ap length kept ∙ length-map fs (λ e. output q (two first last ∷ row_of e ∷ [])) in
+    let size : length os ≡ length fs = length-map answer.ordered (λ (o : Output). o.1) ∙ length_permutation answer.kept answer.ordered answer.same ∙ ap length kept ∙ length-map fs (λ e. output q (two first last ∷ stored_row e ∷ [])) in
     decides_by held first last rows fs refl os size answer.shown
 
 pub any_receipt : (old new : State) (c : Content) (first last : ℕ) (rows : List Row) → Holds old.now c
@@ -202,7 +202,7 @@ range_query = record {
 abbrev is_ranged : ℕ → ℕ → ℕ → Bool
 is_ranged a b x = nat_lt a x && nat_le x b
 
-ranged_is : (a b : ℕ) (e : ℕ × List ℕ) → list_all (holds (two a b ∷ row_of e ∷ [])) ranged ≡ is_ranged a b e.0
+ranged_is : (a b : ℕ) (e : ℕ × List ℕ) → list_all (holds (two a b ∷ stored_row e ∷ [])) ranged ≡ is_ranged a b e.0
 ranged_is a b e = rw (over e.0 a, up_to e.0 b) (ap (λ t. nat_lt a e.0 && t) (and_true (nat_le e.0 b)))
 
 abbrev pub range_text : List ℕ
@@ -259,7 +259,7 @@ ranges old new c a b rows has h =
     let answer : IsAnswer range_query (overlay old.now.trees []) (two a b) rows = got.answer Null in
     let es = entries c.receipts in
     let fs = filter (λ e. is_ranged a b e.0) es in
-    let staged : answer.staged ≡ map (λ e. two a b ∷ row_of e ∷ []) fs = answer.grouped ∙ rw has.receipts (matched ranged (two a b) (is_ranged a b) (ranged_is a b) es) in
-    let kept : answer.kept ≡ map out fs = answer.distinct ∙ ap (map (output range_query)) staged ∙ map-map (output range_query) (λ e. two a b ∷ row_of e ∷ []) fs in
+    let staged : answer.staged ≡ map (λ e. two a b ∷ stored_row e ∷ []) fs = answer.grouped ∙ rw has.receipts (matched ranged (two a b) (is_ranged a b) (ranged_is a b) es) in
+    let kept : answer.kept ≡ map out fs = answer.distinct ∙ ap (map (output range_query)) staged ∙ map-map (output range_query) (λ e. two a b ∷ stored_row e ∷ []) fs in
     let ordered : answer.ordered ≡ map out fs = sorted_unique (output_cmp range_query) (output_cmp_total range_query) (map out fs) answer.ordered (rises fs (ascending-filter _ (λ e. is_ranged a b e.0) es (entries_rise c.receipts))) (subst (λ k. IsPermutation k answer.ordered) kept answer.same) answer.sorted in
     answer.shown ∙ ap (λ (os : List Output). map (λ (o : Output). o.1) os) ordered ∙ map-map (λ (o : Output). o.1) out fs

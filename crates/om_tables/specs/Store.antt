@@ -11,7 +11,7 @@ use Rattle.sqlite.specs.Schema.{Schema}
 use Rattle.sqlite.specs.State.{State}
 use Rattle.sqlite.specs.Table.{Table}
 use Rattle.om_stable.specs.Content.{Records, Content}
-use Rattle.om_tables.specs.Tables.{store_schema, row_of}
+use Rattle.om_tables.specs.Tables.{store_schema, stored_row}
 
 abbrev pub number_in : Value → ℕ
 number_in (Int (pos n)) = n
@@ -32,7 +32,7 @@ abbrev pub content_in : Database → Content
 content_in db = record { receipts = records_in (db.trees 0); checkpoints = records_in (db.trees 1) }
 
 abbrev pub rows_for : Records → List Row
-rows_for m = map row_of (finite.entries m)
+rows_for m = map stored_row (finite.entries m)
 
 -- the tables are those of `create`, with these records
 pub record Holds (db : Database) (c : Content) : Type 0 where

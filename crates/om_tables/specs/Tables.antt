@@ -44,8 +44,8 @@ store_schema = record { tables = receipts ∷ checkpoints ∷ []; indexes = []; 
 abbrev pub stored : ℕ → List ℕ → Row
 stored x body = Int (pos x) ∷ Null ∷ Bytes body ∷ []
 
-abbrev pub row_of : ℕ × List ℕ → Row
-row_of e = stored e.0 e.1
+abbrev pub stored_row : ℕ × List ℕ → Row
+stored_row e = stored e.0 e.1
 
 -- as a SELECT of both columns shows it
 abbrev pub shown : ℕ × List ℕ → Row

@@ -63,7 +63,8 @@ pub(crate) fn put_receipts<S: Alter>(
     requires fits { first + length recs.now ≤ INTERVALS }
     requires idle { (state S.Store conn.old).in_transaction ≡ false }
     ensures idle { (state S.Store conn.new).in_transaction ≡ false }
-    ensures transacts { Transacts (λ c. with_receipts c first (bytes_of recs.now)) (state S.Store conn.old) (state S.Store conn.new) result }
+    ensures transacts { Transacts (λ c. with_receipts c first (bytes_of recs.now))
+        (state S.Store conn.old) (state S.Store conn.new) result }
 {
     let mut tx = conn.transaction();
     insert_receipts(&mut tx, first, recs)?;

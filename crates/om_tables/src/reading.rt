@@ -147,9 +147,12 @@ fn effective_rows<S: Alter>(conn: &mut Connection<S>, x: u32) -> Result<Vec<Row>
 }
 
 fn first_in(rows: &[Row]) -> Result<Option<(u32, Vec<u8>)>, Error>
-    ensures effective { (held : Records) (x : ℕ) → ShowsEffective held x rows.now → IfOk result (λ found. IfSome found (λ e. IsEffective held x e.0)) }
-    ensures bytes { (held : Records) (x : ℕ) → ShowsEffective held x rows.now → IfOk result (λ found. IfSome found (λ e. finite.get held e.0 ≡ Some e.1.items)) }
-    ensures none { (held : Records) (x : ℕ) → ShowsEffective held x rows.now → IfOk result (λ found. IfNone found (IsFree held 0 (x + 1))) }
+    ensures effective { (held : Records) (x : ℕ) → ShowsEffective held x rows.now
+        → IfOk result (λ found. IfSome found (λ e. IsEffective held x e.0)) }
+    ensures bytes { (held : Records) (x : ℕ) → ShowsEffective held x rows.now
+        → IfOk result (λ found. IfSome found (λ e. finite.get held e.0 ≡ Some e.1.items)) }
+    ensures none { (held : Records) (x : ℕ) → ShowsEffective held x rows.now
+        → IfOk result (λ found. IfNone found (IsFree held 0 (x + 1))) }
 {
     match rows.first() {
         Some(row) => Ok(Some(record_in(row)?)),

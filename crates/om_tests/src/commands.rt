@@ -8,7 +8,7 @@ use std::io;
 use std::io::{Read, Write};
 use std::test::Fail;
 
-/// What the command writes of an input.
+// What the command writes of an input.
 fn answered(alloc: Global, input: &str) -> Result<Vec<u8>, CommandError> {
     let mut written = Vec::new(alloc);
     frontier(alloc, &mut input.as_bytes(), &mut written)?;
@@ -81,7 +81,7 @@ fn has_text(alloc: Global, error: &CommandError, text: &str) -> bool {
     }
 }
 
-/// What `decode` writes of an input, or the text of its error.
+// What `decode` writes of an input, or the text of its error.
 fn decoded(alloc: Global, ext: Ext, input: &str) -> Result<Vec<u8>, Fail> {
     let mut written = Vec::new(alloc);
     match decode(alloc, ext, &mut input.as_bytes(), &mut written) {
@@ -129,7 +129,7 @@ fn words_and_their_texts(rt: HostRuntime) -> Result<(), Fail> {
     Ok(())
 }
 
-/// A stream that refuses after a number of calls.
+// A stream that refuses after a number of calls.
 #[derive(Drop)]
 struct Failing {
     calls: u32,
@@ -173,7 +173,12 @@ fn streams_that_fail(rt: HostRuntime) {
     assert_eq!(rt; read, Err(CommandError::CannotRead));
     assert!(rt; written.is_empty());
     let input = b"00000073";
-    let wrote = decode(rt.alloc(), Ext::I, &mut input.as_slice(), &mut Failing { calls: 3 });
+    let wrote = decode(
+        rt.alloc(),
+        Ext::I,
+        &mut input.as_slice(),
+        &mut Failing { calls: 3 },
+    );
     assert_eq!(rt; wrote, Err(CommandError::CannotWrite));
 }
 

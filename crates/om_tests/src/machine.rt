@@ -2,7 +2,9 @@ use om_isa::{Ext, Reg, WRITABLE_REGISTERS};
 use om_machine::Cause::{
     Break, DataMisaligned, DataOutside, FetchOutside, Illegal, TargetMisaligned, UnknownCall,
 };
-use om_machine::{Cause, EnvCall, Event, LoadFault, MAX_SIZE, MIN_SIZE, Machine, Ran, is_size};
+use om_machine::{
+    Cause, EnvCall, Event, LoadFault, MAX_SIZE, MIN_SIZE, Machine, Ran, is_size, laws,
+};
 use std::alloc::Global;
 use std::test::Fail;
 
@@ -203,6 +205,15 @@ fn machines_are_restored(rt: HostRuntime) -> Result<(), Fail> {
     assert!(rt; machine == same);
     let other = Machine::restore(rt.alloc(), &regs, 4, 9, memory, Ext::I)?;
     assert!(rt; machine != other);
+    // The laws are called for the theorems on them: they do nothing.
+    laws::loading_makes_a_machine();
+    laws::restoring_gives_the_machine();
+    laws::step_is_a_function();
+    laws::step_counts_or_stays();
+    laws::call_has_room();
+    laws::runs_go_on();
+    laws::step_leaves_a_machine();
+    laws::finishing_leaves_a_machine();
     Ok(())
 }
 

@@ -12,10 +12,12 @@ const OUTPUTS_IT: [u32; 10] = [
     0x00200893, 0x04000513, 0x00400593, 0x00000073, 0x00300893, 0x00050593, 0x04000513, 0x00000073,
     0x00000893, 0x00000073,
 ];
+
 const SENDS_IT_ON: [u32; 11] = [
     0x00200893, 0x04000513, 0x00400593, 0x00000073, 0x00100893, 0x00050613, 0x00000513, 0x04000593,
     0x00000073, 0x00000893, 0x00000073,
 ];
+
 const SENDS_FIRST: [u32; 6] = [
     0x00100893, 0x00100513, 0x00400613, 0x00000073, 0x00000893, 0x00000073,
 ];
@@ -47,7 +49,15 @@ fn started(
     let image = image(alloc, words, size)?;
     let mut store = MemStable::new(alloc);
     let pid = process(pid)?;
-    ProcCore::start(alloc, &image.bytes, image.size, image.ext, pid, n, &mut store)
+    ProcCore::start(
+        alloc,
+        &image.bytes,
+        image.size,
+        image.ext,
+        pid,
+        n,
+        &mut store,
+    )
 }
 
 fn x10(core: &ProcCore) -> Option<u32> {
@@ -61,14 +71,25 @@ fn calls_are_carried_out_or_refused(rt: HostRuntime) -> Result<(), Fail> {
     let output = |word: u32| [0x00300893, 0x00800513, word, 0x00000073];
     let bytes = [0x93, 0x05, 0x80, 0x00, 0x73, 0x00, 0x00, 0x00];
     for (words, size, steps, cause, value, made) in [
-        ([0x00100893, 0x00100513, 0x00000073, 0], 12, 3, FetchOutside, u32::MAX, false),
+        (
+            [0x00100893, 0x00100513, 0x00000073, 0],
+            12,
+            3,
+            FetchOutside,
+            u32::MAX,
+            false,
+        ),
         (output(0x00800593), 16, 4, FetchOutside, 0, true),
         (output(0x00900593), 16, 3, BufferOutside, 8, false),
         (output(0x10100593), 16, 4, FetchOutside, u32::MAX, false),
     ] {
         let mut core = started(rt.alloc(), &words[..size / 4], size as u32, 0, 1)?;
         let status = Status::Trapped(cause);
-        assert_eq!(rt; core.run(rt.alloc(), 10)?, Ran { steps, status }, "{words:?}");
+        assert_eq!(rt;
+            core.run(rt.alloc(), 10)?,
+            Ran { steps, status },
+            "{words:?}"
+        );
         assert_eq!(rt; core.status(), status, "{words:?}");
         assert_eq!(rt; x10(&core), Some(value), "{words:?}");
         assert!(rt; core.outbox(Pid::at(0)).is_empty(), "{words:?}");
@@ -83,13 +104,7 @@ fn calls_are_carried_out_or_refused(rt: HostRuntime) -> Result<(), Fail> {
     Ok(())
 }
 
-fn message(
-    alloc: Global,
-    from: u32,
-    to: u32,
-    tag: Tag,
-    ssn: u32,
-) -> Result<Message, StartFault> {
+fn message(alloc: Global, from: u32, to: u32, tag: Tag, ssn: u32) -> Result<Message, StartFault> {
     let bytes = Vec::from_slice(alloc, &[1, 2, 3, 4])?;
     Ok(Message {
         from: process(from)?,
@@ -118,7 +133,11 @@ fn messages_are_taken_or_refused(rt: HostRuntime) -> Result<(), Fail> {
         core.run(rt.alloc(), fuel)?;
         let tag = Tag { inc, interval: 7 };
         let offered = message(rt.alloc(), from, to, tag, ssn)?;
-        assert_eq!(rt; core.accept(rt.alloc(), &offered), answer, "{from} {to} {inc} {ssn}");
+        assert_eq!(rt;
+            core.accept(rt.alloc(), &offered),
+            answer,
+            "{from} {to} {inc} {ssn}"
+        );
     }
     assert_eq!(rt; core.interval(), 1);
     assert_eq!(rt; core.vec().as_slice(), [1, 7].as_slice());
@@ -153,7 +172,13 @@ fn a_message_goes_through_a_cluster(rt: HostRuntime) -> Result<(), Fail> {
     let Some(to_a) = b.frame(rt.alloc(), Pid::at(0), 0)? else {
         return Err(Fail::from("no frame"));
     };
-    assert_eq!(rt; to_a.tag, Tag { inc: 0, interval: 1 });
+    assert_eq!(rt;
+        to_a.tag,
+        Tag {
+            inc: 0,
+            interval: 1
+        }
+    );
     assert_eq!(rt; to_a.ssn, 0);
     assert_eq!(rt; a.accept(rt.alloc(), &to_a), Accept::Taken(1));
     assert_eq!(rt; a.run(rt.alloc(), 100)?, steps(5, ended));

@@ -32,7 +32,7 @@ fn row(kind: RowKind, pid: u32, interval: u32, vec: &[u32], got: &[u32]) -> Resu
     })
 }
 
-/// Notes a row by the call for its kind, and compares the answer and the recovery state then.
+// Notes a row by the call for its kind, and compares the answer and the recovery state then.
 fn assert_note(
     rt: &impl Abort,
     alloc: Global,
@@ -57,7 +57,7 @@ fn assert_note(
     assert_eq!(rt; records.recovery().as_slice(), recovery, "{row:?}");
 }
 
-/// The effective checkpoint of a process, and what it had got, where the cluster has it.
+// The effective checkpoint of a process, and what it had got, where the cluster has it.
 fn used(records: &Records, pid: u32) -> Option<(u32, DepVec)> {
     let pid = Pid::new(pid)?;
     if pid.index() < records.n() {
@@ -67,8 +67,8 @@ fn used(records: &Records, pid: u32) -> Option<(u32, DepVec)> {
     }
 }
 
-/// The answers of a cluster of two processes, one row of each kind of answer but want of memory, each with the vectors
-/// and with the recovery state after it.
+// The answers of a cluster of two processes, one row of each kind of answer but want of memory, each with the vectors
+// and with the recovery state after it.
 #[test]
 fn answers_and_recovery_states(rt: HostRuntime) -> Result<(), Fail> {
     let heap = rt.alloc();
@@ -185,7 +185,7 @@ fn answers_and_recovery_states(rt: HostRuntime) -> Result<(), Fail> {
     Ok(())
 }
 
-/// Sixteen processes are a cluster, and the last of them is a process of it.
+// Sixteen processes are a cluster, and the last of them is a process of it.
 #[test]
 fn sixteen_processes_are_recovered(rt: HostRuntime) -> Result<(), Fail> {
     let heap = rt.alloc();
@@ -219,8 +219,8 @@ fn sixteen_processes_are_recovered(rt: HostRuntime) -> Result<(), Fail> {
     Ok(())
 }
 
-/// A chain of needs over three processes closes with its last note. After a cut and a prune the same notes are known
-/// where their rows were kept, and noted anew where they went.
+// A chain of needs over three processes closes with its last note. After a cut and a prune the same notes are known
+// where their rows were kept, and noted anew where they went.
 #[test]
 fn a_chain_is_cut_and_pruned(rt: HostRuntime) -> Result<(), Fail> {
     let heap = rt.alloc();
@@ -352,7 +352,7 @@ fn a_chain_is_cut_and_pruned(rt: HostRuntime) -> Result<(), Fail> {
     Ok(())
 }
 
-/// What the rows that the recovery state uses had got, and which checkpoints it uses.
+// What the rows that the recovery state uses had got, and which checkpoints it uses.
 #[test]
 fn checkpoints_and_counts_of_the_state(rt: HostRuntime) -> Result<(), Fail> {
     let heap = rt.alloc();

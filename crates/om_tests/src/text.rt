@@ -16,7 +16,7 @@ use std::io;
 use std::io::{ErrorKind, Read};
 use std::test::Fail;
 
-/// The sum of the numbers N of the lines `add N`.
+// The sum of the numbers N of the lines `add N`.
 #[derive(Debug, Drop)]
 struct Sum(u64);
 
@@ -131,8 +131,8 @@ fn faults_are_named(rt: HostRuntime) -> Result<(), Fail> {
     Ok(())
 }
 
-/// A reader that gives its bytes one at a time, after so many interruptions, and may refuse in place
-/// of ending.
+// A reader that gives its bytes one at a time, after so many interruptions, and may refuse in place
+// of ending.
 #[derive(Drop)]
 struct Drip<'a> {
     bytes: &'a [u8],

@@ -1,13 +1,13 @@
 -- Which line of a script is the first faulty one.
-use Rattle.std.specs.Prelude.{◌≡◌, ℕ, ◌+◌, List, ◌∷◌, ◌++◌, length, Result, Ok, Err, false}
-use Rattle.om_text.specs.declared.error.LineError.{LineError}
+use Rattle.std.specs.Prelude.{◌≡◌, ℕ, ◌+◌, List, ◌∷◌, ◌++◌, length, Ok, Err, false}
 use Rattle.om_text.specs.declared.error.ScriptError.{ScriptError}
 use Rattle.om_text.specs.Words.{is_passed_over}
-use Rattle.om_text.specs.Script.{script_from}
+use Rattle.om_text.specs.Script.{Meaning, script_from}
 
 -- The lines before are all read, and the line whose number is told is not passed over and means the
 -- error that is told, at the state that they give. The first of the lines has this number.
-pub record IsFirstFaulty {State : Type 0} (meaning : State → List (List ℕ) → Result State LineError) (number : ℕ) (state : State) (lines : List (List (List ℕ))) (error : ScriptError) : Type 0 where
+pub record IsFirstFaulty {State : Type 0} (meaning : Meaning State) (number : ℕ) (state : State)
+    (lines : List (List (List ℕ))) (error : ScriptError) : Type 0 where
   pub before : List (List (List ℕ))
   pub line : List (List ℕ)
   pub after : List (List (List ℕ))

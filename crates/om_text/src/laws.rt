@@ -1,14 +1,13 @@
 //! What holds of every script, whatever its lines mean.
 
-ghost use Rattle.std.specs.Prelude.{◌≡◌, ℕ, ◌↔◌, List, Result, Err};
-ghost use Rattle.om_text.specs.declared.error.LineError.{LineError};
+ghost use Rattle.std.specs.Prelude.{◌≡◌, ℕ, ◌↔◌, List, Err};
 ghost use Rattle.om_text.specs.declared.error.ScriptError.{ScriptError};
 ghost use Rattle.om_text.specs.FirstFaulty.{IsFirstFaulty};
-ghost use Rattle.om_text.specs.Script.{script_from};
+ghost use Rattle.om_text.specs.Script.{Meaning, script_from};
 
 /// A script's error is that of its first faulty line, and where there is one, it is the script's.
 pub fn first_faulty_line_counts<State>()
-    ensures { (meaning : State → List (List ℕ) → Result State LineError) (number : ℕ)
+    ensures { (meaning : Meaning State) (number : ℕ)
         (state : State) (lines : List (List (List ℕ))) (error : ScriptError)
         → (script_from meaning number state lines ≡ Err error)
         ↔ IsFirstFaulty meaning number state lines error }

@@ -4,10 +4,10 @@ ghost use Rattle.std.specs.Prelude.{◌≡◌, ◌≤◌, ◌^◌, ◌&&◌, nat
 ghost use Rattle.std.specs.Str.Parse.{digits_value};
 ghost use Rattle.om_text.specs.Numbers.{are_digits, below, hex_word, number_of};
 
-/// The least number that is too large for 32 bits.
+// The least number that is too large for 32 bits.
 const NUMBER_END: u64 = 1 << 32;
 
-/// How many hexadecimal digits a word of the machine has.
+// How many hexadecimal digits a word of the machine has.
 const HEX_WORD_DIGITS: usize = 8;
 
 /// A number in decimal digits, below 2^32: with any number of leading zeros, and no sign.

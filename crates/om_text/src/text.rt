@@ -16,7 +16,7 @@ pub const MAX_BYTES: usize = 16_777_216;
 /// At most so many times a reader is asked for bytes.
 pub const MAX_TURNS: u32 = 33_554_432;
 
-/// How many bytes a reader is asked for at a time.
+// How many bytes a reader is asked for at a time.
 const CHUNK_BYTES: usize = 65_536;
 
 /// Why an input was not read.

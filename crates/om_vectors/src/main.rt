@@ -20,7 +20,7 @@ fn main(rt: HostRuntime) -> ExitCode {
     }
 }
 
-/// Compares all files. Answers whether all their lines agree.
+// Compares all files. Answers whether all their lines agree.
 fn compare_all(rt: &HostRuntime) -> io::Result<bool> {
     let words = compare(rt, "words", words::agrees)?;
     let words_m = compare(rt, "words-m", words::agrees_with_m_alone)?;
@@ -29,7 +29,7 @@ fn compare_all(rt: &HostRuntime) -> io::Result<bool> {
     Ok(words && words_m && steps && steps_m)
 }
 
-/// Prints each line of a file that does not agree, and how many do. Answers whether all do.
+// Prints each line of a file that does not agree, and how many do. Answers whether all do.
 fn compare<F: Fn(Global, &str) -> Result<bool, AllocError>>(
     rt: &HostRuntime,
     name: &str,

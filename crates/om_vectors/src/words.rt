@@ -33,13 +33,13 @@ pub fn agrees_with_m_alone(alloc: Global, line: &str) -> Result<bool, AllocError
     }
 }
 
-/// The word and the text of a line.
+// The word and the text of a line.
 fn parts(line: &str) -> Option<(u32, &str)> {
     let (word, text) = line.split_once(' ')?;
     Some((u32::from_str_radix(word, 16).ok()?, text))
 }
 
-/// Whether this is the text of the word's instruction, or `none` where it is no instruction.
+// Whether this is the text of the word's instruction, or `none` where it is no instruction.
 fn has_text(alloc: Global, word: u32, ext: Ext, text: &[u8]) -> Result<bool, AllocError>
     ensures instruction { (i : Inst) → Decodes ext word i → IfOk result (λ same. (same ≡ true) ↔ (text.now ≡ text_of i)) }
     ensures none { ((i : Inst) → Decodes ext word i → ⊥) → IfOk result (λ same. (same ≡ true) ↔ (text.now ≡ codes "none")) }

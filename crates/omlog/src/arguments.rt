@@ -142,7 +142,7 @@ fn frontier_command<'a>(alloc: Global) -> Command<'a> {
         .after_help(FRONTIER_HELP)
 }
 
-/// Ends a command. A error goes to standard error as one line.
+// Ends a command. An error goes to standard error as one line; where that cannot be written, the status tells it alone.
 fn end<R: Runtime>(rt: &R, outcome: Result<(), CommandError>) -> ExitCode {
     match outcome {
         Ok(()) => ExitCode::SUCCESS,

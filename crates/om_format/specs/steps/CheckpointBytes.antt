@@ -8,13 +8,13 @@ use Rattle.om_format.specs.Formats.{four}
 use Rattle.om_format.specs.Spelling.{numbers}
 use Rattle.om_format.specs.Queues.{QueueRecord}
 use Rattle.om_format.specs.Pages.{Page, kept_pages}
-use Rattle.om_format.specs.Versions.{kind_of, number_of}
+use Rattle.om_format.specs.Versions.{kind_of, version_number}
 use Rattle.om_format.specs.Checkpoints.{CheckpointRecord}
 
 -- the fields before the registers
 abbrev pub head_bytes : CheckpointRecord → List ℕ
 head_bytes r =
-    (kind_of r.ext ∷ number_of V2 ∷ r.n ∷ r.pid ∷ []) ++ to_le_bytes w32 r.interval
+    (kind_of r.ext ∷ version_number V2 ∷ r.n ∷ r.pid ∷ []) ++ to_le_bytes w32 r.interval
     ++ to_le_bytes w64 r.count ++ to_le_bytes w32 r.pc
 
 -- the registers and the vectors

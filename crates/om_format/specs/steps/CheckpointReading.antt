@@ -2,7 +2,8 @@
 use Rattle.std.specs.Prelude.{ℕ, zero, suc, ◌+◌, ◌-◌, ◌*◌, ◌%◌, ◌==◌, ◌&&◌, List, [], ◌∷◌, ◌++◌, length, replicate, sum, slice_index, Result, Ok, nat_lt, nat_le}
 use Rattle.om_format.specs.declared.error.DecodeError.{DecodeError}
 use Rattle.om_format.specs.declared.error.DecodeError.TheVariants.{Field}
-use Rattle.om_format.specs.declared.limits.TheConstants.{PAGE, REGISTERS}
+use Rattle.om_format.specs.declared.limits.TheConstants.{PAGE}
+use Rattle.om_isa.specs.declared.registers.TheConstants.{WRITABLE_REGISTERS}
 use Rattle.om_format.specs.declared.version.Version.{Version}
 use Rattle.om_format.specs.declared.version.Version.TheVariants.{V1, V2}
 use Rattle.om_format.specs.declared.checkpoint_reading.Head.{Head}
@@ -56,7 +57,7 @@ vectors_at n pid interval bytes = do
 unfoldable pub front_at : List ℕ → Result (Front × List ℕ) DecodeError
 front_at bytes = do
   head ← head_at bytes
-  regs ← numbers_at four REGISTERS head.1
+  regs ← numbers_at four WRITABLE_REGISTERS head.1
   vectors ← vectors_at head.0.n head.0.pid head.0.interval regs.1
   made ← number_at eight vectors.1
   is_made ← allow (nat_le made.0 head.0.count) (Field (144 + 12 * head.0.n))

@@ -9,10 +9,10 @@ use om_stable::{FuseStable, INTERVALS, MemStable, Stable, StoreError};
 use std::alloc::Global;
 use std::process::Abort;
 
-/// The receipts before, and the checkpoint that is kept.
+// The receipts before, and the checkpoint that is kept.
 type Left = (Vec<(u32, Vec<u8>)>, Option<(u32, Vec<u8>)>);
 
-/// Puts receipts, and at `x` a checkpoint that takes the place of all that is stored.
+// Puts receipts, and at `x` a checkpoint that takes the place of all that is stored.
 fn replace_all<S: Stable>(
     store: &mut S,
     alloc: Global,
@@ -47,7 +47,7 @@ fn replace_all<S: Stable>(
     Ok((before, kept))
 }
 
-/// Receipts 1 to 3, then a checkpoint at 2: receipts 1 and 2 stood before, checkpoint 2 is kept.
+// Receipts 1 to 3, then a checkpoint at 2: receipts 1 and 2 stood before, checkpoint 2 is kept.
 fn check_at<S: Stable>(rt: &impl Abort, alloc: Global, mut store: S) -> Result<(), StoreError> {
     let recs = receipts_from(alloc, 1, 3)?;
     assert_eq!(rt; recs.len(), 3);

@@ -10,7 +10,7 @@ use std::process::Abort;
 
 type Stopping = FileStore<Fuse<Memory>>;
 
-/// The call that a stop falls into, over a store with receipts 1 to 3 and checkpoints 0 and 2.
+// The call that a stop falls into, over a store with receipts 1 to 3 and checkpoints 0 and 2.
 #[derive(Clone, Copy, Debug, PartialEq, Eq)]
 enum Change {
     PutReceipts,
@@ -19,14 +19,14 @@ enum Change {
     Prune,
 }
 
-/// Which of the two files stops.
+// Which of the two files stops.
 #[derive(Clone, Copy, Debug, PartialEq, Eq)]
 enum Which {
     Log,
     Database,
 }
 
-/// How a run ended.
+// How a run ended.
 #[derive(Clone, Copy, Debug, PartialEq, Eq)]
 enum Ended {
     /// Before the call.
@@ -39,7 +39,7 @@ enum Ended {
     Torn,
 }
 
-/// What a store holds.
+// What a store holds.
 #[derive(Debug, PartialEq, Drop)]
 struct Held {
     receipts: Vec<(u32, Vec<u8>)>,
@@ -90,7 +90,7 @@ fn apply<S: Stable>(alloc: Global, store: &mut S, change: Change) -> Result<(), 
     }
 }
 
-/// What the store in memory holds after the change, or before it.
+// What the store in memory holds after the change, or before it.
 fn expected(alloc: Global, change: Option<Change>) -> Result<Held, StoreError> {
     let mut store = MemStable::new(alloc);
     fill(alloc, &mut store)?;
@@ -100,7 +100,7 @@ fn expected(alloc: Global, change: Option<Change>) -> Result<Held, StoreError> {
     content_of(alloc, &mut store)
 }
 
-/// Opens files with these bytes, which stop after so many calls of each.
+// Opens files with these bytes, which stop after so many calls of each.
 fn open(alloc: Global, bytes: (&[u8], &[u8]), calls: (u64, u64)) -> Option<Connection<Stopping>> {
     let mut log = Memory::new(alloc);
     let mut db = Memory::new(alloc);
@@ -120,7 +120,7 @@ fn open(alloc: Global, bytes: (&[u8], &[u8]), calls: (u64, u64)) -> Option<Conne
     }
 }
 
-/// Makes a store over the connection, and fills it.
+// Makes a store over the connection, and fills it.
 fn fill_new<S: Alter + Drop>(alloc: Global, conn: Connection<S>) -> Option<Connection<S>> {
     if !conn.is_autocommit() {
         return None;
@@ -130,14 +130,14 @@ fn fill_new<S: Alter + Drop>(alloc: Global, conn: Connection<S>) -> Option<Conne
     Some(store.into_connection())
 }
 
-/// What a change answered, and whether it was counted as a failure.
+// What a change answered, and whether it was counted as a failure.
 #[derive(Clone, Copy, Debug, PartialEq, Eq)]
 struct Changed {
     answer: Result<(), StoreError>,
     counted: bool,
 }
 
-/// Makes the change in a store over the connection.
+// Makes the change in a store over the connection.
 fn change_over<S: Alter + Drop>(
     alloc: Global,
     conn: Connection<S>,
@@ -152,7 +152,7 @@ fn change_over<S: Alter + Drop>(
     Some((Changed { answer, counted }, store.into_connection()))
 }
 
-/// What a store over the connection holds.
+// What a store over the connection holds.
 fn content_over<S: Alter + Drop>(alloc: Global, conn: Connection<S>) -> Option<Held> {
     if !conn.is_autocommit() {
         return None;
@@ -161,24 +161,24 @@ fn content_over<S: Alter + Drop>(alloc: Global, conn: Connection<S>) -> Option<H
     content_of(alloc, &mut store).ok()
 }
 
-/// The files of a connection.
+// The files of a connection.
 fn files_of(conn: Connection<Stopping>) -> Files<Fuse<Memory>> {
     conn.into_store().close()
 }
 
-/// The files of a store that was filled without a stop.
+// The files of a store that was filled without a stop.
 fn filled(alloc: Global) -> Option<Files<Fuse<Memory>>> {
     let conn = open(alloc, (&[], &[]), (u64::MAX, u64::MAX))?;
     Some(files_of(fill_new(alloc, conn)?))
 }
 
-/// What the files hold, opened and adopted without a stop.
+// What the files hold, opened and adopted without a stop.
 fn found(alloc: Global, files: &Files<Fuse<Memory>>) -> Option<Held> {
     let bytes = (files.log.inner().bytes(), files.db.inner().bytes());
     content_over(alloc, open(alloc, bytes, (u64::MAX, u64::MAX))?)
 }
 
-/// Opens the files and makes the change, as far as the stop lets it.
+// Opens the files and makes the change, as far as the stop lets it.
 fn change_files(
     alloc: Global,
     start: &Files<Fuse<Memory>>,
@@ -190,7 +190,7 @@ fn change_files(
     Some((changed, files_of(conn)))
 }
 
-/// Makes the change with a stop, and looks at what is there afterwards.
+// Makes the change with a stop, and looks at what is there afterwards.
 fn run(
     alloc: Global,
     start: &Files<Fuse<Memory>>,
@@ -218,7 +218,7 @@ fn check_stops(rt: &impl Abort, alloc: Global, change: Change) {
     assert!(rt; in_database <= in_log);
 }
 
-/// Stops at each call of one file in turn, until a run ends without a stop: how many stops fell into the change.
+// Stops at each call of one file in turn, until a run ends without a stop: how many stops fell into the change.
 fn stops(rt: &impl Abort, alloc: Global, change: Change, which: Which) -> u64 {
     let start = filled(alloc).expect(rt, "files without a stop");
     let mut stopped = 0;

@@ -89,4 +89,5 @@ ShowsAny held first last rows =
 -- no row, where nothing stands at or below x, or that of the greatest record there
 abbrev pub ShowsEffective : Records → ℕ → List Row → Type 0
 ShowsEffective held x rows =
-    ((rows ≡ []) × IsFree held 0 (x + 1)) ⊎ ((e : ℕ × List ℕ) × (rows ≡ shown e ∷ []) × IsEffective held x e.0 × (finite.get held e.0 ≡ Some e.1))
+    ((rows ≡ []) × IsFree held 0 (x + 1))
+    ⊎ ((e : ℕ × List ℕ) × (rows ≡ shown e ∷ []) × IsEffective held x e.0 × (finite.get held e.0 ≡ Some e.1))

@@ -84,7 +84,11 @@ fn processes_and_memories_have_their_limits(rt: HostRuntime) -> Result<(), Fail>
     ] {
         let bytes = checkpoint(rt.alloc(), version, n, size)?;
         let fault = checkpoint_fault(rt.alloc(), &bytes);
-        assert_eq!(rt; fault, want, "version {version}, {n} processes, {size} bytes");
+        assert_eq!(rt;
+            fault,
+            want,
+            "version {version}, {n} processes, {size} bytes"
+        );
         assert_spelled(&rt, rt.alloc(), &bytes)?;
     }
     Ok(())
