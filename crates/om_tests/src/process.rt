@@ -34,17 +34,21 @@ fn image(alloc: Global, words: &[u32], size: u32) -> Result<Image, AllocError> {
     })
 }
 
+fn process(number: u32) -> Result<Pid, StartFault> {
+    Pid::new(number).ok_or(StartFault::BadPlace)
+}
+
 // Process `pid` of `n` with this program, over a store of its own.
 fn started(
     alloc: Global,
     words: &[u32],
     size: u32,
-    pid: usize,
+    pid: u32,
     n: usize,
 ) -> Result<ProcCore, StartFault> {
     let image = image(alloc, words, size)?;
     let mut store = MemStable::new(alloc);
-    let pid = Pid::new(pid as u32).ok_or(StartFault::BadPlace)?;
+    let pid = process(pid)?;
     ProcCore::start(
         alloc,
         &image.bytes,
@@ -100,17 +104,11 @@ fn calls_are_carried_out_or_refused(rt: HostRuntime) -> Result<(), Fail> {
     Ok(())
 }
 
-fn message(
-    alloc: Global,
-    from: usize,
-    to: usize,
-    tag: Tag,
-    ssn: u32,
-) -> Result<Message, AllocError> {
+fn message(alloc: Global, from: u32, to: u32, tag: Tag, ssn: u32) -> Result<Message, StartFault> {
     let bytes = Vec::from_slice(alloc, &[1, 2, 3, 4])?;
     Ok(Message {
-        from: Pid::at(from),
-        to: Pid::at(to),
+        from: process(from)?,
+        to: process(to)?,
         tag,
         ssn,
         body: Body::from_vec(bytes),
