@@ -1,5 +1,5 @@
 use om_format::{Body, Message};
-use om_interval::{Bounds, DepVec, Pid, Tag};
+use om_interval::{Pid, Tag};
 use om_isa::{Ext, Reg};
 use om_machine::Cause::{BufferOutside, FetchOutside};
 use om_process::{Accept, Image, LAST_INTERVAL, ProcCore, Ran, StartFault, Status, laws};
@@ -7,15 +7,10 @@ use om_stable::MemStable;
 use std::alloc::{AllocError, Global};
 use std::test::Fail;
 
-// Receives, and outputs what came; receives, and sends it to process 0; sends its first 4 bytes to process 1.
+// Receives, and outputs what came; sends its first 4 bytes to process 1.
 const OUTPUTS_IT: [u32; 10] = [
     0x00200893, 0x04000513, 0x00400593, 0x00000073, 0x00300893, 0x00050593, 0x04000513, 0x00000073,
     0x00000893, 0x00000073,
-];
-
-const SENDS_IT_ON: [u32; 11] = [
-    0x00200893, 0x04000513, 0x00400593, 0x00000073, 0x00100893, 0x00050613, 0x00000513, 0x04000593,
-    0x00000073, 0x00000893, 0x00000073,
 ];
 
 const SENDS_FIRST: [u32; 6] = [
@@ -144,67 +139,6 @@ fn messages_are_taken_or_refused(rt: HostRuntime) -> Result<(), Fail> {
     assert_eq!(rt; core.got().as_slice(), [0, 1].as_slice());
     assert_eq!(rt; core.machine().bytes(64, 4), Some([1, 2, 3, 4].as_slice()));
     assert_eq!(rt; LAST_INTERVAL, u32::MAX);
-    Ok(())
-}
-
-// Process 2 sends its first bytes to 1, which sends them on to 0, which outputs them; then nothing of it is kept.
-#[test]
-fn a_message_goes_through_a_cluster(rt: HostRuntime) -> Result<(), Fail> {
-    let mut a = started(rt.alloc(), &OUTPUTS_IT, 128, 0, 3)?;
-    let mut b = started(rt.alloc(), &SENDS_IT_ON, 128, 1, 3)?;
-    let mut c = started(rt.alloc(), &SENDS_FIRST, 64, 2, 3)?;
-    let (waiting, ended) = (Status::Waiting, Status::Ended(0));
-    let bytes = [0x93, 0x08, 0x10, 0x00];
-    let steps = |steps, status| Ran { steps, status };
-    assert_eq!(rt; a.run(rt.alloc(), 100)?, steps(3, waiting));
-    assert_eq!(rt; b.run(rt.alloc(), 100)?, steps(3, waiting));
-    assert_eq!(rt; c.run(rt.alloc(), 4)?, steps(4, Status::Ready));
-    assert_eq!(rt; c.run(rt.alloc(), 100)?, steps(1, ended));
-    assert_eq!(rt; c.outbox(Pid::at(1)).len(), 1);
-    assert_eq!(rt; c.outbox(Pid::at(1))[0].interval, 0);
-    assert_eq!(rt; c.outbox(Pid::at(1))[0].body.as_slice(), bytes.as_slice());
-    assert!(rt; c.frame(rt.alloc(), Pid::at(1), 1)?.is_none());
-    let Some(to_b) = c.frame(rt.alloc(), Pid::at(1), 0)? else {
-        return Err(Fail::from("no frame"));
-    };
-    assert_eq!(rt; b.accept(rt.alloc(), &to_b), Accept::Taken(1));
-    assert_eq!(rt; b.run(rt.alloc(), 100)?, steps(6, ended));
-    let Some(to_a) = b.frame(rt.alloc(), Pid::at(0), 0)? else {
-        return Err(Fail::from("no frame"));
-    };
-    assert_eq!(rt;
-        to_a.tag,
-        Tag {
-            inc: 0,
-            interval: 1
-        }
-    );
-    assert_eq!(rt; to_a.ssn, 0);
-    assert_eq!(rt; a.accept(rt.alloc(), &to_a), Accept::Taken(1));
-    assert_eq!(rt; a.run(rt.alloc(), 100)?, steps(5, ended));
-    assert_eq!(rt; a.outputs_from(0).len(), 1);
-    assert_eq!(rt; a.outputs_from(0)[0].interval, 1);
-    assert_eq!(rt; a.outputs_from(0)[0].bytes.as_slice(), bytes.as_slice());
-    assert!(rt; a.outputs_from(1).is_empty());
-    assert!(rt; a.pending().is_empty());
-    a.noted(0);
-    assert_eq!(rt; (a.inc(), a.round()), (0, 0));
-    for (released, kept) in [(0, 1), (1, 0), (u64::MAX, 0)] {
-        let Some(got) = DepVec::zeros(3) else {
-            return Err(Fail::from("no vector"));
-        };
-        a.trim(&Bounds { got, released });
-        assert_eq!(rt; a.outputs_from(0).len(), kept, "{released}");
-    }
-    for (bound, kept) in [(0, 1), (1, 0), (u32::MAX, 0)] {
-        let Some(got) = DepVec::from_slice(&[bound, 0, 0]) else {
-            return Err(Fail::from("no vector"));
-        };
-        b.trim(&Bounds { got, released: 0 });
-        assert_eq!(rt; b.outbox(Pid::at(0)).len(), kept, "{bound}");
-    }
-    let down = b.fail();
-    assert_eq!(rt; (down.pid, down.n), (Pid::at(1), 3));
     Ok(())
 }
 
