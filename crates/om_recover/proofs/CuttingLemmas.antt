@@ -1,21 +1,16 @@
-use Rattle.std.proofs.Common.{◌≡◌, ℕ, ◌+◌, ◌<◌, ◌≤◌, ◌&&◌, ◌||◌, inl, inr, refl, sym, ◌∙◌, ap, subst, arith, cond, Bool, true, false, true≢false, List, [], ◌∷◌, length, slice_index, slice_index_or, Option, None, All, get_or}
-use Rattle.std.specs.List.{filter, AllWithin, HoldsAt}
-use Rattle.std.proofs.lemmas.Bool.{cases_order, leb-true, le-leb}
-use Rattle.std.proofs.lemmas.List.{get_or_default}
+use Rattle.std.proofs.Common.{◌≡◌, ℕ, ◌<◌, ◌≤◌, ◌&&◌, ◌||◌, inl, inr, refl, sym, ◌∙◌, ap, subst, arith, Bool, true, false, true≢false, List, length, slice_index, slice_index_or, Option, None}
+use Rattle.std.proofs.lemmas.Bool.{leb-true, le-leb}
 use Rattle.std.specs.FinSet as set
-use Rattle.std.specs.Ordering.{eq_by_cmp}
-use Rattle.std.specs.Cmp.{Equal-is}
-use Rattle.om_recover.specs.Rows.{Rows, HasRow, Has, IsLawful, row_cmp}
-use Rattle.om_recover.specs.Recoverable.{IsStable, IsGreatest}
+use Rattle.om_recover.specs.Rows.{Rows, HasRow, Has, IsLawful}
+use Rattle.om_recover.specs.Recoverable.{IsGreatest}
 use Rattle.om_recover.specs.steps.AsKept.{AreKept}
-use Rattle.om_recover.specs.steps.Search.{AreInOrder, IsCheckpointWithin, IsOfInterval}
-use Rattle.om_recover.specs.Cutting.{IsEffective, AreEffective, IsPruned, cut_to, pruned_to}
+use Rattle.om_recover.specs.Cutting.{AreEffective, IsPruned, cut_to, pruned_to}
 use Rattle.om_recover.specs.declared.row.RowKind.{RowKind}
 use Rattle.om_recover.specs.declared.row.RowKind.TheVariants.{Checkpoint, Log}
 use Rattle.om_recover.specs.declared.row.Row.{Row}
-use Rattle.om_recover.proofs.RowsLemmas.{rows_total, exact_rows, in_list, of_list}
+use Rattle.om_recover.proofs.RowsLemmas.{exact_rows}
 use Rattle.om_recover.proofs.StableLemmas.{stable_by_records, record_of_stable}
-use Rattle.om_recover.proofs.OrderLemmas.{lawful_part}
+use Rattle.om_recover.proofs.LawfulLemmas.{lawful_part}
 use Rattle.om_recover.proofs.ClimbLemmas.{at_most_or_more}
 use Rattle.om_recover.proofs.MemoryLemmas.{all_alike, none_remembered}
 use Rattle.om_recover.specs.steps.Memory.{AreRemembered}
@@ -25,40 +20,17 @@ kept_one : (e c t : Bool) → (e ≡ true → t ≡ true) → (e || (c && t)) �
 kept_one true c t tested = sym (tested refl)
 kept_one false c t tested = refl
 
-dropped_one : (e c t : Bool) → (e ≡ true → t ≡ false) → (c && t) ≡ ((e || c) && t)
-dropped_one true true t tested = refl
-dropped_one true false t tested = sym (tested refl)
-dropped_one false c t tested = refl
-
-contains-filter : (test : Row → Bool) (rows : List Row) (q : Row) → set.contains (set.from_list {R = row_cmp} (filter test rows)) q ≡ (set.contains (set.from_list {R = row_cmp} rows) q && test q)
-contains-filter test [] q = set.contains-empty row_cmp q ∙ sym (ap (λ b. b && test q) (set.contains-empty row_cmp q))
-contains-filter test (x ∷ rows) q =
-    let tested : (b : Bool) → test x ≡ b → eq_by_cmp row_cmp q x ≡ true → test q ≡ b = λ b is same. ap test (exact_rows q x ((Equal-is (row_cmp q x)).0 same)) ∙ is in
-    elim (test x) as (λ b. test x ≡ b → set.contains (set.from_list {R = row_cmp} (cond b (x ∷ filter test rows) (filter test rows))) q ≡ (set.contains (set.insert (set.from_list {R = row_cmp} rows) x) q && test q)) [
-      | true ↦ λ is. set.contains-insert rows_total (set.from_list (filter test rows)) x q
-          ∙ ap (λ b. eq_by_cmp row_cmp q x || b) (contains-filter test rows q)
-          ∙ kept_one (eq_by_cmp row_cmp q x) (set.contains (set.from_list {R = row_cmp} rows) q) (test q) (tested true is)
-          ∙ sym (ap (λ b. b && test q) (set.contains-insert rows_total (set.from_list rows) x q))
-      | false ↦ λ is. contains-filter test rows q
-          ∙ dropped_one (eq_by_cmp row_cmp q x) (set.contains (set.from_list {R = row_cmp} rows) q) (test q) (tested false is)
-          ∙ sym (ap (λ b. b && test q) (set.contains-insert rows_total (set.from_list rows) x q))
-    ] refl
-
 contains-retain : (rows : Rows) (test : Row → Bool) (q : Row) → set.contains (set.retain rows test) q ≡ (set.contains rows q && test q)
 contains-retain rows test q = set.contains-retain rows test q (λ x tie. ap test (sym (exact_rows q x tie)))
-
--- what a test leaves of a list is what it leaves of its rows
-pub from_list-filter : (test : Row → Bool) (rows : List Row) → set.from_list {R = row_cmp} (filter test rows) ≡ set.retain (set.from_list rows) test
-from_list-filter test rows = set.same_set rows_total exact_rows _ _ (λ q. contains-filter test rows q ∙ sym (contains-retain (set.from_list rows) test q))
 
 both : (a b : Bool) → (a && b) ≡ true → (a ≡ true) × (b ≡ true)
 both true b is = (refl, is)
 both false b is = absurd (true≢false (sym is))
 
-of_retained : (rows : Rows) (test : Row → Bool) (row : Row) → HasRow (set.retain rows test) row → HasRow rows row × (test row ≡ true)
+pub of_retained : (rows : Rows) (test : Row → Bool) (row : Row) → HasRow (set.retain rows test) row → HasRow rows row × (test row ≡ true)
 of_retained rows test row there = both _ _ (sym (contains-retain rows test row) ∙ there)
 
-retained : (rows : Rows) (test : Row → Bool) (row : Row) → HasRow rows row → test row ≡ true → HasRow (set.retain rows test) row
+pub retained : (rows : Rows) (test : Row → Bool) (row : Row) → HasRow rows row → test row ≡ true → HasRow (set.retain rows test) row
 retained rows test row there passes = contains-retain rows test row ∙ ap (λ b. b && test row) there ∙ passes
 
 -- a row after a cut
@@ -75,10 +47,10 @@ of_pruned rows checkpoints row there = let found = of_retained rows _ row there 
 pub to_pruned : (rows : Rows) (checkpoints : List ℕ) (row : Row) → HasRow rows row → slice_index checkpoints row.pid ≤ row.interval → HasRow (pruned_to rows checkpoints) row
 to_pruned rows checkpoints row there within = retained rows _ row there (le-leb _ _ within)
 
-has_among : (part rows : Rows) (kind : RowKind) (p y : ℕ) → ((row : Row) → HasRow part row → HasRow rows row) → Has part kind p y → Has rows kind p y
+pub has_among : (part rows : Rows) (kind : RowKind) (p y : ℕ) → ((row : Row) → HasRow part row → HasRow rows row) → Has part kind p y → Has rows kind p y
 has_among part rows kind p y among has = record { row = has.row; there = among has.row has.there; kind_is = has.kind_is; pid_is = has.pid_is; interval_is = has.interval_is }
 
-has_after_cut : (rows : Rows) (state : List ℕ) (kind : RowKind) (p y : ℕ) → y ≤ slice_index state p → Has rows kind p y → Has (cut_to rows state) kind p y
+pub has_after_cut : (rows : Rows) (state : List ℕ) (kind : RowKind) (p y : ℕ) → y ≤ slice_index state p → Has rows kind p y → Has (cut_to rows state) kind p y
 has_after_cut rows state kind p y within has = record {
   row = has.row;
   there = to_cut rows state has.row has.there (subst (λ q. has.row.interval ≤ slice_index state q) (sym has.pid_is) (omega (arith, has.interval_is, within)));
@@ -185,46 +157,3 @@ kept_after_prune rows new state places kept pruned = subst (λ rows. AreKept row
               ];
           new = λ j z _ stable. inl (stable_by_records (pruned_to rows checkpoints) rows j z (λ kind y _. has_among (pruned_to rows checkpoints) rows kind j y (λ row there. (of_pruned rows checkpoints row there).0)) stable);
         })
-
--- a stable interval has a checkpoint within
-pub some_checkpoint : (rows : List Row) (p x : ℕ) → IsStable (set.from_list rows) p x → All (λ row. IsCheckpointWithin p x row → ⊥) rows → ⊥
-some_checkpoint rows p x stable none =
-    let has = stable.checkpoint in
-    let found = in_list rows has.row has.there in
-    none found.0 has.row found.1 (subst (IsCheckpointWithin p x) (sym found.2) (record { pid = has.pid_is; kind = has.kind_is; within = omega (arith, has.interval_is, stable.below) }))
-
--- of rows in order, the last checkpoint within is the greatest
-pub last_is_effective : (rows : List Row) (p x place : ℕ) → AreInOrder rows → place < length rows → HoldsAt (IsCheckpointWithin p x) rows place
-    → AllWithin (λ row. IsCheckpointWithin p x row → ⊥) rows (place + 1) (length rows) → (d : Row) → IsEffective (set.from_list rows) p x (get_or rows place d).interval
-last_is_effective rows p x place in_order within holds later d =
-    let here : IsCheckpointWithin p x (get_or rows place d) = holds d in
-    record {
-      there = record { row = get_or rows place d; there = of_list rows place d within; kind_is = here.kind; pid_is = here.pid; interval_is = refl };
-      below = here.within;
-      greatest = λ other has under.
-          let found = in_list rows has.row has.there in
-          let fits : IsCheckpointWithin p x has.row = record { pid = has.pid_is; kind = has.kind_is; within = omega (arith, has.interval_is, under) } in
-          let is : get_or rows found.0 d ≡ has.row = get_or_default rows found.0 d has.row found.1 ∙ found.2 in
-          elim (cases_order found.0 place) [
-            | inl same ↦
-                let one : get_or rows place d ≡ has.row = ap (λ k. get_or rows k d) (sym same) ∙ is in
-                omega (arith, ap (λ (r : Row). r.interval) one, has.interval_is)
-            | inr apart ↦ elim apart [
-              | inl before ↦ elim (in_order found.0 place d before within) [
-                | inl lower ↦ absurd (omega (arith, lower, here.pid, ap (λ (r : Row). r.pid) is, has.pid_is))
-                | inr earlier ↦ omega (arith, earlier.1, ap (λ (r : Row). r.interval) is, has.interval_is)
-              ]
-              | inr after ↦ absurd (later found.0 has.row (omega arith) found.1 (subst (IsCheckpointWithin p x) (sym found.2) fits))
-            ]
-          ];
-    }
-
--- a record of the interval is one of the list
-pub some_of : (rows : List Row) (p x : ℕ) (kind : RowKind) → Has (set.from_list rows) kind p x → All (λ row. IsOfInterval p x row → ⊥) rows → ⊥
-some_of rows p x kind has none =
-    let found = in_list rows has.row has.there in
-    none found.0 has.row found.1 (subst (IsOfInterval p x) (sym found.2) (record { pid = has.pid_is; interval = has.interval_is }))
-
--- a stable interval has a record
-pub some_record : (rows : List Row) (p x : ℕ) → IsStable (set.from_list rows) p x → All (λ row. IsOfInterval p x row → ⊥) rows → ⊥
-some_record rows p x stable = let found = record_of_stable (set.from_list rows) p x stable in some_of rows p x found.0 found.1

@@ -1,28 +1,17 @@
-use Rattle.std.proofs.Common.{◌≡◌, ℕ, ◌+◌, ◌-◌, ◌<◌, ◌≤◌, ◌⊎◌, inl, inr, sym, subst, arith, List, slice_index}
+use Rattle.std.proofs.Common.{◌≡◌, ℕ, ◌+◌, ◌-◌, ◌<◌, ◌≤◌, inl, inr, sym, subst, arith, List, slice_index}
 use Rattle.std.proofs.lemmas.Bool.{cases_order}
 use Rattle.std.proofs.lemmas.List.{get_or_past}
 use Rattle.std.specs.FinSet as set
 use Rattle.om_interval.specs.Vectors.{IsBelow}
 use Rattle.om_recover.specs.Rows.{Rows, Has, IsLawful}
 use Rattle.om_recover.specs.Recoverable.{IsStable, IsRecoverable}
-use Rattle.om_recover.specs.Climb.{IsLeastStable, IsNeeded, starts, follows}
+use Rattle.om_recover.specs.Climb.{IsNeeded, starts, follows}
 use Rattle.om_recover.specs.Counted.{IsLeastNew}
 use Rattle.om_recover.specs.declared.row.RowKind.{RowKind}
 use Rattle.om_recover.specs.declared.row.RowKind.TheVariants.{Checkpoint, Log}
 use Rattle.om_recover.specs.declared.row.Row.{Row}
-use Rattle.om_recover.proofs.RowsLemmas.{kept}
 use Rattle.om_recover.proofs.StableLemmas.{has_before, has_inserted, stable_before, stable_kept}
 use Rattle.om_recover.proofs.ClimbLemmas.{at_most_or_more, vec_below}
-
--- an interval is stable where it has a checkpoint, or a log after a stable one
-pub stable_unrolled : (rows : Rows) (p y : ℕ) → IsStable rows p (y + 1) → Has rows Checkpoint p (y + 1) ⊎ (IsStable rows p y × Has rows Log p (y + 1))
-stable_unrolled rows p y stable = elim (cases_order stable.from (y + 1)) [
-  | inl is ↦ inl (subst (λ z. Has rows Checkpoint p z) is stable.checkpoint)
-  | inr apart ↦ elim apart [
-    | inl less ↦ inr (record { from = stable.from; checkpoint = stable.checkpoint; below = omega (arith, less); logged = λ z above below. stable.logged z above (omega (arith, below)) }, stable.logged (y + 1) less (omega arith))
-    | inr over ↦ absurd (omega (arith, over, stable.below))
-  ]
-]
 
 pub stable_at_checkpoint : (rows : Rows) (p y : ℕ) → Has rows Checkpoint p y → IsStable rows p y
 stable_at_checkpoint rows p y has = record { from = y; checkpoint = has; below = omega arith; logged = λ z above below. absurd (omega (arith, above, below)) }
@@ -103,57 +92,6 @@ needed_forced n rows state other p x q y lawful of_other started (follows row _ 
       | inr within ↦ least.least (slice_index other q) (of_other.stable q within) (read.each q (omega (arith, within, (lawful.fair row there).vec_places)))
       | inl past ↦ absurd (omega (arith, beyond, get_or_past row.vec q 0 (omega (arith, past, (lawful.fair row there).vec_places))))
     ]
-
--- what is needed from a state is needed from a higher one, where it is above it
-pub needed_raised : (n : ℕ) (rows : Rows) (state higher : List ℕ) (p x q y : ℕ) → IsLawful n rows → IsRecoverable n rows higher → q < n → slice_index higher q < y → IsNeeded rows state p x q y → IsNeeded rows higher p x q y
-needed_raised n rows state higher p x q y lawful recoverable within above starts = starts
-needed_raised n rows state higher p x q y lawful recoverable within above (follows row _ _ before there beyond least) =
-    let more : slice_index higher q < slice_index row.vec q = elim (at_most_or_more (slice_index row.vec q) (slice_index higher q)) [
-      | inl at_most ↦ absurd (omega (arith, above, least.least (slice_index higher q) (recoverable.stable q within) at_most))
-      | inr less ↦ less
-    ] in
-    let source : slice_index higher row.pid < row.interval = elim (at_most_or_more row.interval (slice_index higher row.pid)) [
-      | inl at_most ↦ absurd (omega (arith, more, (vec_below n rows higher row lawful recoverable there at_most).each q (omega (arith, within, (lawful.fair row there).vec_places))))
-      | inr less ↦ less
-    ] in
-    follows row q y (needed_raised n rows state higher p x row.pid row.interval lawful recoverable (lawful.known row there) source before) there more least
-
--- a row that makes stable only what is above all stable intervals of its process, or nothing, leaves the least stable ones
-pub least_kept : (rows : Rows) (row : Row) (j v y : ℕ) → ((z : ℕ) → IsStable (set.insert rows row) j z → (w : ℕ) → IsStable rows j w → IsStable rows j z ⊎ (w ≤ z)) → IsLeastStable rows j v y → IsLeastStable (set.insert rows row) j v y
-least_kept rows row j v y in_order least = record {
-  stable = stable_kept rows row j y least.stable;
-  above = least.above;
-  least = λ z is at_least. elim (in_order z is y least.stable) [
-    | inl old ↦ least.least z old at_least
-    | inr beyond ↦ beyond
-  ];
-}
-
--- and so what is needed
-pub needed_kept : (rows : Rows) (row : Row) (state : List ℕ) (p x q y : ℕ) → ((j z : ℕ) → IsStable (set.insert rows row) j z → (w : ℕ) → IsStable rows j w → IsStable rows j z ⊎ (w ≤ z))
-    → IsNeeded rows state p x q y → IsNeeded (set.insert rows row) state p x q y
-needed_kept rows row state p x q y in_order starts = starts
-needed_kept rows row state p x q y in_order (follows other _ _ before there beyond least) =
-    follows other q y (needed_kept rows row state p x other.pid other.interval in_order before) (kept rows row other there) beyond (least_kept rows row q (slice_index other.vec q) y (in_order q) least)
-
--- what a row makes stable: a run from its interval up to one behind which no log follows that was not stable before
-pub newly_stable_run : (rows : Rows) (row : Row) (last : ℕ) → row.interval ≤ last → (Has (set.insert rows row) Log row.pid (last + 1) → IsStable rows row.pid (last + 1))
-    → (y : ℕ) → IsStable (set.insert rows row) row.pid y → IsStable rows row.pid y ⊎ ((row.interval ≤ y) × (y ≤ last))
-newly_stable_run rows row last at_least ends y stable = elim (at_most_or_more row.interval y) [
-  | inr below ↦ inl (stable_before rows row row.pid y (λ _. below) stable)
-  | inl from_here ↦ elim (at_most_or_more y last) [
-    | inl within ↦ inr (from_here, within)
-    | inr past ↦ elim (at_most_or_more stable.from last) [
-      | inl from_below ↦ inl (stable_beyond rows row row.pid (last + 1) y (λ _. omega (arith, at_least)) (ends (stable.logged (last + 1) (omega (arith, from_below)) (omega (arith, past)))) (omega (arith, past)) stable)
-      | inr from_above ↦ inl (record {
-        from = stable.from;
-        checkpoint = has_before rows row Checkpoint row.pid stable.from (λ _ _ at. absurd (omega (arith, at, at_least, from_above))) stable.checkpoint;
-        below = stable.below;
-        logged = λ z above below. has_before rows row Log row.pid z (λ _ _ at. absurd (omega (arith, at, at_least, from_above, above))) (stable.logged z above below);
-      })
-    ]
-  ]
-]
 
 -- and all of the run is stable
 pub stable_run : (rows : Rows) (p x last : ℕ) → IsStable rows p x → ((z : ℕ) → x < z → z ≤ last → Has rows Log p z) → (y : ℕ) → x ≤ y → y ≤ last → IsStable rows p y

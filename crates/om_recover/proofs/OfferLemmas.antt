@@ -16,7 +16,7 @@ use Rattle.om_recover.specs.declared.note.NoteError.{NoteError}
 use Rattle.om_recover.specs.declared.note.NoteError.TheVariants.{Stranger, BadVector, Differs, Disorder, Memory}
 use Rattle.om_recover.proofs.RowsLemmas.{of_inserted, inserted, kept}
 use Rattle.om_recover.proofs.StableLemmas.{has_kept}
-use Rattle.om_recover.proofs.OrderLemmas.{lawful_part}
+use Rattle.om_recover.proofs.LawfulLemmas.{lawful_part}
 use Rattle.om_recover.proofs.NoteLemmas.{lawful_with_new, recoverable_with_new}
 use Rattle.om_interval.proofs.VectorLemmas.{below_through, below_each_other, below_itself}
 use Rattle.om_recover.proofs.CuttingLemmas.{of_pruned, to_pruned, has_after_prune}

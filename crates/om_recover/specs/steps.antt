@@ -5,3 +5,5 @@ pub mod AsKept
 pub mod Climbing
 pub mod Memory
 pub mod Indexed
+pub mod Nearest
+pub mod Held

@@ -7,16 +7,20 @@ ghost use Rattle.om_recover.specs.Recoverable.{IsStable, IsRecoverable};
 ghost use Rattle.om_recover.specs.Offered.{IsNew};
 ghost use Rattle.om_recover.specs.Cutting.{IsEffective, IsGotAt, IsPruned, cut_to};
 ghost use Rattle.om_recover.specs.steps.Search.{IsAnswered, IsQuiet};
+ghost use Rattle.om_recover.specs.steps.Held.{IsFree};
 ghost use Rattle.om_recover.specs.steps.Indexed.{MakesStable, MakesNothingStable};
 ghost use Rattle.om_recover.specs.declared.row.RowKind.TheVariants.{Checkpoint, Log};
 
+use crate::adding::add;
 use crate::answer::answer_without_change;
 use crate::climb::Shelf;
-use crate::cutting::{cut_rows, effective_of, effective_of_all, got_at, prune_rows, vec_at};
+use crate::cutting::{cut_rows, effective_of_all, prune_rows};
+use crate::first::{add_first, no_rows};
+use crate::lookup::{effective_of, got_at, vec_at};
 use crate::note::{Note, NoteError};
-use crate::order::add;
 use crate::row::{Row, RowKind};
-use crate::scan::least_stable_of;
+use crate::stable::{is_stable_in, least_stable_of};
+use crate::trees::Trees;
 use crate::work::Work;
 use om_interval::{DepVec, Pid};
 use std::alloc::{AllocError, Global};
@@ -25,22 +29,22 @@ use std::marker::Model;
 /// The rows of a cluster. A search is lent it as a [`Shelf`], and reads a vector by `look` alone.
 #[derive(Debug, Drop)]
 pub struct Index {
-    rows: Vec<Row>,
+    trees: Trees,
 }
 
 impl Model for Index {
     ghost use Rattle.std.specs.FinSet as set;
     ghost use Rattle.om_recover.specs.Rows.{Rows};
     ghost use Rattle.om_recover.specs.steps.RowCode.{coded_row};
-    ghost use Rattle.om_recover.specs.steps.Search.{AreInOrder};
+    ghost use Rattle.om_recover.specs.steps.Held.{AreIndexed, held};
 
     ghost Value = { Rows };
 
     ghost coded = { set.code coded_row };
 
-    ghost view = { λ index. set.from_list index.rows.items };
+    ghost view = { λ index. held index.trees };
 
-    ghost invariant = { λ index. AreInOrder index.rows.items };
+    ghost invariant = { λ index. AreIndexed index.trees };
 }
 
 impl Shelf for Index {
@@ -48,11 +52,11 @@ impl Shelf for Index {
 
     fn look(&self, pid: Pid, x: u32, work: &mut Work) -> DepVec {
         work.add_look(pid, x);
-        vec_at(&self.rows, pid, x)
+        vec_at(&self.trees, pid, x)
     }
 
     fn least_stable(&self, pid: Pid, from: u32) -> Option<u32> {
-        least_stable_of(&self.rows, pid, from)
+        least_stable_of(&self.trees, pid, from)
     }
 }
 
@@ -63,18 +67,11 @@ impl Index {
         requires within { n ≤ MAX_PROCESSES }
         ensures { IfOk result (λ index. (row : _) → HasRow index row ↔ ((row.pid < n) × (row ≡ first_row n row.pid))) }
     {
-        let zeros = DepVec::zeros(n).unwrap();
-        let mut rows = Vec::with_capacity(alloc, n)?;
+        let mut trees = no_rows(alloc);
         for p in 0..n {
-            rows.push_reserved(Row {
-                kind: RowKind::Checkpoint,
-                pid: Pid::at(p),
-                interval: 0,
-                vec: zeros,
-                got: zeros,
-            });
+            add_first(&mut trees, Pid::at(p), n)?;
         }
-        Ok(Index { rows })
+        Ok(Index { trees })
     }
 
     /// The answer to a row that is not added, or `None` where the row is new.
@@ -83,7 +80,7 @@ impl Index {
         ensures answer { MatchOption result (IsNew n self.now row.now) (IsAnswered n self.now row.now) }
         ensures quiet { IfSome result IsQuiet }
     {
-        answer_without_change(&self.rows, n, row)
+        answer_without_change(&self.trees, n, row)
     }
 
     /// Whether the row's interval is not stable, and will be once the row is added.
@@ -107,15 +104,17 @@ impl Index {
         ensures yes { IsTrue result → IsStable self.now pid x }
         ensures none { result ≡ false → IsStable self.now pid x → ⊥ }
     {
-        self.least_stable(pid, x) == Some(x)
+        is_stable_in(&self.trees, pid, x)
     }
 
     /// Adds a row.
     pub fn add(&mut self, row: &Row) -> Result<(), AllocError>
+        requires lawful { (n : ℕ) × IsLawful n self.old }
+        requires free { IsFree self.old row.now }
         ensures ok { OnOk result (self.new ≡ set.insert self.old row.now) }
         ensures err { OnErr result (self.new ≡ self.old) }
     {
-        add(&mut self.rows, row)
+        add(&mut self.trees, row)
     }
 
     /// The checkpoint that is used for a stable interval of a process.
@@ -123,7 +122,7 @@ impl Index {
         requires { IsStable self.now pid x }
         ensures { IsEffective self.now pid x result }
     {
-        effective_of(&self.rows, pid, x)
+        effective_of(&self.trees, pid, x)
     }
 
     /// What a process had got in a stable interval.
@@ -131,14 +130,14 @@ impl Index {
         requires { IsStable self.now pid x }
         ensures { IsGotAt self.now pid x result }
     {
-        got_at(&self.rows, pid, x)
+        got_at(&self.trees, pid, x)
     }
 
     /// Drops the rows above a state.
     pub fn cut(&mut self, state: &DepVec)
         ensures { self.new ≡ cut_to self.old state.now }
     {
-        cut_rows(&mut self.rows, state);
+        cut_rows(&mut self.trees, state);
     }
 
     /// Drops the rows below the checkpoints that are used for a state.
@@ -146,8 +145,8 @@ impl Index {
         requires { IsRecoverable (length state.now) self.old state.now }
         ensures { IsPruned self.old state.now self.new }
     {
-        let checkpoints = effective_of_all(&self.rows, state);
-        prune_rows(&mut self.rows, &checkpoints);
+        let checkpoints = effective_of_all(&self.trees, state);
+        prune_rows(&mut self.trees, &checkpoints);
     }
 }
 

@@ -2,20 +2,24 @@
 //! vectors after Johnson and Zwaenepoel 1990; stable intervals may have gaps).
 #![tactic(auto)]
 
+mod adding;
 mod answer;
 mod climb;
 mod cutting;
+mod first;
 mod index;
 pub mod laws;
+mod lookup;
 mod memory;
+mod nearest;
 mod note;
-mod order;
 mod raise;
 mod records;
 mod row;
-mod scan;
 mod search;
+mod stable;
 mod step;
+mod trees;
 mod work;
 
 pub use note::{Note, NoteError};

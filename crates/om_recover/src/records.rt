@@ -194,3 +194,6 @@ impl Records {
         self.index.prune(&self.state);
     }
 }
+
+#[cfg(test)]
+mod looks;

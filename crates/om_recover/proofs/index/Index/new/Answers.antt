@@ -1,13 +1,18 @@
-use Rattle.std.proofs.Common.{arith}
-use Rattle.om_recover.proofs.FirstLemmas.{AreFirst, first_in_order, of_first, to_first}
+use Rattle.std.proofs.Common.{arith, ◌∙◌, ap}
+use Rattle.std.specs.FinSet as set
+use Rattle.om_recover.specs.Records.{first_row}
+use Rattle.om_recover.specs.steps.Held.{held}
+use Rattle.om_recover.proofs.FirstLemmas.{first_lawful, first_more, none_first}
 use Rattle.om_recover.proofs.index.Index.new.Goals as goal
 
-pub invariant_of-result : goal.invariant_of-result
-invariant_of-result c =
-    let first : AreFirst c.args.n c.loop-p.rows.items = record { many = omega (arith, c.loop-p.invariant.len); each = λ q d below. c.loop-p.invariant.each q d (omega arith) } in
-    first_in_order _ _ first
+pub loop-p-init : goal.loop-p-init
+loop-p-init c = record { indexed = c.no_rows-trees.ensures.indexed; first = none_first _ _ c.no_rows-trees.ensures.are }
 
-pub returns : goal.returns
-returns c =
-    let first : AreFirst c.args.n c.loop-p.rows.items = record { many = omega (arith, c.loop-p.invariant.len); each = λ q d below. c.loop-p.invariant.each q d (omega arith) } in
-    λ row. (of_first _ _ first row, λ is. to_first _ _ first row is.0 is.1)
+pub add_first-requires-clause-lawful : goal.add_first-requires-clause-lawful
+add_first-requires-clause-lawful c = (c.args.n, first_lawful c.args.n c.loop-p.p _ (omega arith) c.loop-p.invariant.first)
+
+pub loop-p-preserved : goal.loop-p-preserved
+loop-p-preserved c = record {
+  indexed = c.in_ok-add_first.ensures.indexed;
+  first = first_more _ _ (held c.loop-p.trees) _ c.loop-p.invariant.first (c.in_ok-add_first.ensures.are ∙ ap (λ p. set.insert (held c.loop-p.trees) (first_row c.args.n p)) c.at.ensures);
+}

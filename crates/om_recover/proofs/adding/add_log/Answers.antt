@@ -1,0 +1,52 @@
+use Rattle.std.proofs.Common.{◌≡◌, ◌+◌, ◌<◌, ◌^◌, refl, sym, ap, is_some, subst, arith, true≢false}
+use Rattle.std.specs.FinSet as set
+use Rattle.om_recover.specs.steps.Held.{held, Hold, IsFree}
+use Rattle.om_recover.specs.declared.trees.Vectors.{Vectors}
+use Rattle.om_recover.specs.declared.trees.Base.{Base}
+use Rattle.om_recover.specs.declared.trees.Trees.{Trees}
+use Rattle.om_recover.specs.declared.row.Row.{Row}
+use Rattle.om_recover.specs.declared.row.RowKind.TheVariants.{Log}
+use Rattle.om_recover.proofs.PlaceLemmas.{put_of, one_nearest}
+use Rattle.om_recover.proofs.AddingLemmas.{hold_with_log, hold_with_log_reached, of_kind}
+use Rattle.om_recover.proofs.adding.add_log.Goals as goal
+
+pub returns-then-is_next-clause-ok : goal.returns-then-is_next-clause-ok
+returns-then-is_next-clause-ok c =
+    let row = c.args.row.now in
+    let vectors : Vectors = record { vec = row.vec; got = row.got } in
+    let middle : Trees = record { logs = c.insert.new.self; bases = c.args.trees.now.bases } in
+    let after : Trees = record { logs = c.insert.new.self; bases = c.set_last.new.bases } in
+    let is = of_kind row Log c.requires.kind in
+    let updates = c.in_ok-insert.ensures.updates in
+    let in_range : row.interval < 2 ^ 32 = omega arith in
+    subst (λ (r : Row). Hold after (set.insert (held c.args.trees.now) r)) (sym is)
+    (hold_with_log_reached c.requires.lawful.0 c.args.trees.now middle after row.pid row.interval c.in-Some.x c.last_of_run-last.result vectors c.in-Some.base
+    c.requires.lawful.1 in_range c.requires.indexed (subst (IsFree (held c.args.trees.now)) is c.requires.free)
+    (put_of _ _ _ _ vectors c.in_ok-insert.ensures.ordered updates.1 updates.2) refl c.in-Some.ensures (c.if-is_next.ensures.0 refl)
+    c.last_of_run-last.ensures (c.set_last.ensures c.in-Some.base c.in-Some.ensures.there) refl)
+
+pub returns-else-is_next-clause-ok : goal.returns-else-is_next-clause-ok
+returns-else-is_next-clause-ok c =
+    let row = c.args.row.now in
+    let vectors : Vectors = record { vec = row.vec; got = row.got } in
+    let after : Trees = record { logs = c.insert.new.self; bases = c.args.trees.now.bases } in
+    let is = of_kind row Log c.requires.kind in
+    let updates = c.in_ok-insert.ensures.updates in
+    subst (λ (r : Row). Hold after (set.insert (held c.args.trees.now) r)) (sym is)
+    (hold_with_log c.args.trees.now after row.pid row.interval vectors c.requires.indexed (subst (IsFree (held c.args.trees.now)) is c.requires.free)
+    (put_of _ _ _ _ vectors c.in_ok-insert.ensures.ordered updates.1 updates.2) refl
+    (λ y b near next.
+    let same = one_nearest _ _ _ _ _ b c.in-Some.base near c.in-Some.ensures in
+    true≢false (sym (c.if-is_next.ensures.1 (subst (λ (b : Base). b.last + 1 ≡ row.interval) same next)))))
+
+pub returns-in_default-clause-ok : goal.returns-in_default-clause-ok
+returns-in_default-clause-ok c =
+    let row = c.args.row.now in
+    let vectors : Vectors = record { vec = row.vec; got = row.got } in
+    let after : Trees = record { logs = c.insert.new.self; bases = c.args.trees.now.bases } in
+    let is = of_kind row Log c.requires.kind in
+    let updates = c.in_ok-insert.ensures.updates in
+    subst (λ (r : Row). Hold after (set.insert (held c.args.trees.now) r)) (sym is)
+    (hold_with_log c.args.trees.now after row.pid row.interval vectors c.requires.indexed (subst (IsFree (held c.args.trees.now)) is c.requires.free)
+    (put_of _ _ _ _ vectors c.in_ok-insert.ensures.ordered updates.1 updates.2) refl
+    (λ y b near _. c.in_default.ensures y (ap is_some near.there) near.within))

@@ -1,0 +1,43 @@
+ghost use Rattle.std.specs.Prelude.{◌≡◌, ℕ, ◌<◌, ◌≤◌, OnOk};
+ghost use Rattle.std.specs.FinSet as set;
+ghost use Rattle.om_interval.specs.declared.pid.TheConstants.{MAX_PROCESSES};
+ghost use Rattle.om_recover.specs.Records.{first_row};
+ghost use Rattle.om_recover.specs.Rows.{Has, IsLawful};
+ghost use Rattle.om_recover.specs.steps.Held.{AreIndexed, Hold, IsFree, held};
+
+use crate::adding::add;
+use crate::row::{Row, RowKind};
+use crate::trees::Trees;
+use om_interval::{DepVec, Pid};
+use std::alloc::{AllocError, Global};
+use std::collections::BTreeMap;
+
+/// The trees of no rows.
+pub fn no_rows(alloc: Global) -> Trees
+    ensures { Hold result set.empty }
+{
+    Trees {
+        logs: BTreeMap::new(alloc),
+        bases: BTreeMap::new(alloc),
+    }
+}
+
+/// Adds checkpoint 0 of a process of `n`.
+pub fn add_first(trees: &mut Trees, pid: Pid, n: usize) -> Result<(), AllocError>
+    requires some { 1 ≤ n }
+    requires within { n ≤ MAX_PROCESSES }
+    requires indexed { AreIndexed trees.old }
+    requires lawful { (n : ℕ) × IsLawful n (held trees.old) }
+    requires free { IsFree (held trees.old) (first_row n pid) }
+    ensures { OnOk result (Hold trees.new (set.insert (held trees.old) (first_row n pid))) }
+{
+    let zeros = DepVec::zeros(n).unwrap();
+    let row = Row {
+        kind: RowKind::Checkpoint,
+        pid,
+        interval: 0,
+        vec: zeros,
+        got: zeros,
+    };
+    add(trees, &row)
+}

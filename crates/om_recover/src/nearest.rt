@@ -1,0 +1,41 @@
+ghost use Rattle.std.specs.Prelude.{◌≡◌, ℕ, MatchOption};
+ghost use Rattle.om_recover.specs.steps.Nearest.{IsNearestTo, IsNearestFrom, HasNoneTo, HasNoneFrom};
+
+use om_interval::Pid;
+use std::collections::BTreeMap;
+
+/// Of a process's entries at or below an interval, the nearest.
+pub fn nearest_to<V: Copy>(entries: &BTreeMap<(Pid, u32), V>, pid: Pid, to: u32) -> Option<(u32, V)>
+    ensures { MatchOption result (HasNoneTo entries.now.entries pid to) (λ found. IsNearestTo entries.now.entries pid to found.0 found.1) }
+{
+    match entries.range(..=(pid, to)).next_back() {
+        None => None,
+        Some((place, value)) => {
+            if place.0 == pid {
+                Some((place.1, *value))
+            } else {
+                None
+            }
+        }
+    }
+}
+
+/// Of a process's entries at or above an interval, the nearest.
+pub fn nearest_from<V: Copy>(
+    entries: &BTreeMap<(Pid, u32), V>,
+    pid: Pid,
+    from: u32,
+) -> Option<(u32, V)>
+    ensures { MatchOption result (HasNoneFrom entries.now.entries pid from) (λ found. IsNearestFrom entries.now.entries pid from found.0 found.1) }
+{
+    match entries.range((pid, from)..).next() {
+        None => None,
+        Some((place, value)) => {
+            if place.0 == pid {
+                Some((place.1, *value))
+            } else {
+                None
+            }
+        }
+    }
+}
