@@ -140,6 +140,10 @@ last_more interval next log l is at last =
     one_more : (a n j : ℕ) → a + n ≡ j → range_with_len a (n + 1) ≡ range_with_len a n ++ j ∷ []
     one_more a n j is = sym (map-id (range_with_len a (n + 1))) ∙ map-range_with_len_more (λ (x : ℕ). x) a n j is ∙ ap (λ xs. xs ++ j ∷ []) (map-id (range_with_len a n))
 
+-- there may be none
+pub last_of_none : (interval : ℕ) → AreLast interval []
+last_of_none interval = record { within = omega arith; intervals = refl }
+
 -- a delivery
 pub core_delivered : (c : CoreParts) (count interval from x : ℕ) (log : List LoggedRecord) (vec got : List ℕ) → count ≡ c.count + 1 → interval ≡ c.interval + 1 → from < length c.vec → AreLast interval log
     → vec ≡ set (raised c.vec from x) c.own interval → got ≡ set c.got from (get_or c.got from 0 + 1) → IsCore c → IsCore (record c { count = count; interval = interval; vec = vec; got = got; log = log })

@@ -9,3 +9,8 @@ pub mod Numbering
 pub mod QueueLemmas
 pub mod CoreLemmas
 pub mod Accepting
+pub mod Logging
+pub mod Fitting
+pub mod RowLemmas
+pub mod StoredLemmas
+pub mod Exactly

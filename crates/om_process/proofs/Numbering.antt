@@ -151,3 +151,19 @@ has_numbered form number entry qs place seq i values x back all at =
     let n : number x ≡ max q.first seq + i = ap number there.2 ∙ (back (max q.first seq + i) there.0).0 in
     let e : entry x ≡ there.0 = ap entry there.2 ∙ (back (max q.first seq + i) there.0).1 in
     has_entry_at qs place (seq - q.first + i) (number x) (entry x) (omega arith) (sym (get_dropped (seq - q.first) i q.entries) ∙ there.1 ∙ ap (λ (d : Entry). Some d) (sym e))
+
+-- ---- values that are made of entries
+-- what is numbered are the entries
+pub numbered_entries : {A : Type 0} (form : ℕ → Entry → A) (entry : A → Entry) (first : ℕ) (es : List Entry) → ((k : ℕ) (e : Entry) → entry (form k e) ≡ e) → map entry (numbered form first es) ≡ es
+numbered_entries form entry first [] back = refl
+numbered_entries form entry first (e ∷ es) back = ap (λ (d : Entry). d ∷ map entry (numbered form (first + 1) es)) (back first e) ∙ ap (λ ds. e ∷ ds) (numbered_entries form entry (first + 1) es back)
+
+pub are_numbered : {A : Type 0} (form : ℕ → Entry → A) (entry : A → Entry) (last first : ℕ) (es : List Entry) (values : List A) → ((k : ℕ) (e : Entry) → entry (form k e) ≡ e)
+    → values ≡ numbered form first es → first + length es ≤ last → AreNumbered form last (record { first = first; entries = map entry values }) values
+are_numbered form entry last first es values back all within =
+    let same : map entry values ≡ es = ap (map entry) all ∙ numbered_entries form entry first es back in
+    let long : length (map entry values) ≡ length es = ap length same in
+    record {
+      numbers = all ∙ ap (numbered form first) (sym same);
+      within = omega arith;
+    }

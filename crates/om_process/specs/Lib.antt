@@ -12,4 +12,6 @@ pub mod Accepts
 pub mod Frames
 pub mod Starting
 pub mod Stores
+pub mod Stored
+pub mod Resumes
 pub mod steps

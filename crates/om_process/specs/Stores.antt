@@ -1,11 +1,42 @@
 -- What a process stores.
-use Rattle.std.specs.Prelude.{◌≡◌, ℕ, List}
+use Rattle.std.specs.Prelude.{◌≡◌, ℕ, ◌+◌, ◌-◌, List, [], ◌∷◌, ◌++◌, length, map, Some, true, false}
+use Rattle.std.specs.FinMap.{get}
+use Rattle.om_format.specs.Receipts.{SpellsReceipt}
 use Rattle.om_format.specs.Checkpoints.{CheckpointRecord, SpellsCheckpoint}
 use Rattle.om_format.specs.declared.version.Version.TheVariants.{V2}
-use Rattle.om_stable.specs.Content.{Content, with_checkpoint}
+use Rattle.om_stable.specs.Content.{Content, with_receipts, with_checkpoint}
+use Rattle.om_process.specs.declared.row.Row.{Row}
 use Rattle.om_process.specs.Process.{Process}
 use Rattle.om_process.specs.Replays.{process_of}
-use Rattle.om_process.specs.Core.{CoreState, size_of}
+use Rattle.om_process.specs.Core.{CoreState, LoggedRecord, size_of}
+
+-- the bytes spell the receipts of a log, one by one
+abbrev pub SpellLog : List LoggedRecord → List (List ℕ) → Type 0
+SpellLog [] [] = Unit {0}
+SpellLog (l ∷ ls) (b ∷ bs) = SpellsReceipt l.receipt b × SpellLog ls bs
+SpellLog [] (b ∷ bs) = ⊥
+SpellLog (l ∷ ls) [] = ⊥
+
+-- the interval of the first receipt of the log, which ends with that of the present interval
+abbrev pub first_logged : CoreState → ℕ
+first_logged c = c.now.interval + 1 - length c.log
+
+-- the store has gained the spelling of each receipt of the log, and nothing else
+abbrev pub HasGainedLog : CoreState → Content → Content → Type 0
+HasGainedLog c old new =
+    (bytes : List (List ℕ)) × SpellLog c.log bytes × (new ≡ with_receipts old (first_logged c) bytes)
+
+-- the spelling of the receipt stands in the store, at the interval that it begins
+abbrev pub IsLogged : Content → LoggedRecord → Type 0
+IsLogged held l = (bytes : List ℕ) × SpellsReceipt l.receipt bytes × (get held.receipts l.receipt.interval ≡ Some bytes)
+
+-- the row of a receipt of the log
+abbrev pub log_row : LoggedRecord → Row
+log_row l = record { ckpt = false; x = l.receipt.interval; vec = l.vec; got = l.got }
+
+-- the core once its log is stored: the log is empty, and its rows are pending
+abbrev pub flushed : CoreState → CoreState
+flushed c = record c { log = []; pending = c.pending ++ map log_row c.log }
 
 -- the record is a checkpoint of this process
 pub record IsOf (own : ℕ) (p : Process) (r : CheckpointRecord) : Type 0 where
@@ -18,3 +49,11 @@ abbrev pub HasGainedCheckpoint : CoreState → Content → Content → Type 0
 HasGainedCheckpoint c old new =
     (r : CheckpointRecord) × IsOf c.own c.now r
     × (bytes : List ℕ) × SpellsCheckpoint V2 r bytes × (new ≡ with_checkpoint old c.now.interval bytes)
+
+-- the row of a checkpoint of now
+abbrev pub checkpoint_row : CoreState → Row
+checkpoint_row c = record { ckpt = true; x = c.now.interval; vec = c.now.vec; got = c.now.got }
+
+-- the core once a checkpoint of now is stored: its row is pending
+abbrev pub checkpointed : CoreState → CoreState
+checkpointed c = record c { pending = c.pending ++ checkpoint_row c ∷ [] }

@@ -1,10 +1,19 @@
-//! Processes that are down.
+//! Processes that are down, and how processes go on after a round of recovery.
 
-ghost use Rattle.std.specs.Prelude.{◌≡◌};
+ghost use Rattle.std.specs.Prelude.{◌≡◌, ◌≤◌, [], IfErr, IfOk, IsTrue, OnErr, OnOk, length};
+ghost use Rattle.om_stable.specs.Calls.{IsKnown};
+ghost use Rattle.om_stable.specs.Content.{kept_by_cut};
+ghost use Rattle.om_stable.specs.Count.{Rose};
 ghost use Rattle.om_process.specs.Core.{size_of};
+ghost use Rattle.om_process.specs.Resumes.{resumed};
+ghost use Rattle.om_process.specs.Stored.{CanReplay, IsNoMatterOfContent, IsReplay, Refuses, TheProcess};
+ghost use Rattle.om_process.specs.declared.replay.ReplayFault.{ReplayFault};
 
 use crate::proc_core::ProcCore;
-use om_interval::Pid;
+use crate::replay::{ReplayFault, beginning, fault_of};
+use om_interval::{Pid, Starts, Verdict};
+use om_stable::Stable;
+use std::alloc::{AllocError, Global};
 
 /// A process that has failed: its number and the number of processes are all that is left.
 #[derive(Clone, Copy, Debug)]
@@ -24,5 +33,135 @@ impl ProcCore {
             pid: self.pid,
             n: self.vec.n(),
         }
+    }
+
+    /// Goes on after a finished round of recovery that does not roll the process back: it knows the round and the starts.
+    pub fn resume(
+        &mut self,
+        alloc: Global,
+        starts: &Starts,
+        verdict: &Verdict,
+    ) -> Result<(), AllocError>
+        requires { length starts.now ≡ size_of self.old.now }
+        ensures ok { OnOk result (self.new ≡ resumed self.old verdict.now.round starts.now) }
+        ensures err { OnErr result (self.new ≡ self.old) }
+    {
+        self.starts = starts.copy(alloc)?;
+        self.round = verdict.round;
+        Ok(())
+    }
+}
+
+impl Down {
+    /// Comes back after a finished round of recovery that rolls the process back: as it was in the verdict's interval,
+    /// replayed from its store, which is cut to there; with the verdict's incarnation and round, and the starts.
+    ///
+    /// Refused as a replay is, and with `Damaged` where the checkpoint is of another process or of another number of
+    /// processes. A refusal hands the process that is down back, and leaves the store's content.
+    pub fn roll_back<S: Stable>(
+        self,
+        alloc: Global,
+        store: &mut S,
+        starts: &Starts,
+        verdict: &Verdict,
+    ) -> Result<ProcCore, (Down, ReplayFault)>
+        requires { length starts.now ≡ self.n }
+        ensures back { IsKnown S.is_clean S.IsSound store.old store.new
+            → IfOk result (λ core. IsReplay (S.content store.old) verdict.now.r core) }
+        ensures cut { IsKnown S.is_clean S.IsSound store.old store.new
+            → OnOk result (S.content store.new ≡ kept_by_cut (S.content store.old) verdict.now.r) }
+        ensures own { IfOk result (λ core. core.own ≡ self.pid) }
+        ensures size { IfOk result (λ core. size_of core.now ≡ self.n) }
+        ensures log { IfOk result (λ core. core.log ≡ []) }
+        ensures pending { IfOk result (λ core. core.pending ≡ []) }
+        ensures inc { IfOk result (λ core. core.inc ≡ verdict.now.inc) }
+        ensures round { IfOk result (λ core. core.round ≡ verdict.now.round) }
+        ensures starts { IfOk result (λ core. core.starts ≡ starts.now) }
+        ensures down { IfErr result (λ refusal. refusal.0 ≡ self) }
+        ensures refused { IsKnown S.is_clean S.IsSound store.old store.new
+            → IfErr result (λ refusal. Refuses (TheProcess self.pid self.n) (S.content store.old) verdict.now.r refusal.1) }
+        ensures only { IsKnown S.is_clean S.IsSound store.old store.new
+            → CanReplay (TheProcess self.pid self.n) (S.content store.old) verdict.now.r
+            → IfErr result (λ refusal. IsNoMatterOfContent refusal.1) }
+        ensures same { IsKnown S.is_clean S.IsSound store.old store.new
+            → OnErr result (S.content store.new ≡ S.content store.old) }
+        ensures fault { IfErr result (λ refusal. refusal.1 ≡ ReplayFault.Fault → Rose (S.failed store.old) (S.failed store.new)) }
+        ensures count { S.failed store.old ≤ S.failed store.new }
+        ensures clean { IsTrue (S.is_clean store.new) → IsTrue (S.is_clean store.old) }
+        ensures sound { IsTrue (S.is_clean store.new) → S.IsSound store.old → S.IsSound store.new }
+    {
+        match self.come_back(alloc, store, starts, verdict) {
+            Ok(core) => Ok(core),
+            Err(fault) => Err((self, fault)),
+        }
+    }
+
+    // Comes back. The starts are copied before the store is cut, so that nothing is refused after it.
+    fn come_back<S: Stable>(
+        &self,
+        alloc: Global,
+        store: &mut S,
+        starts: &Starts,
+        verdict: &Verdict,
+    ) -> Result<ProcCore, ReplayFault>
+        requires { length starts.now ≡ self.now.n }
+        ensures back { IsKnown S.is_clean S.IsSound store.old store.new
+            → IfOk result (λ core. IsReplay (S.content store.old) verdict.now.r core) }
+        ensures cut { IsKnown S.is_clean S.IsSound store.old store.new
+            → OnOk result (S.content store.new ≡ kept_by_cut (S.content store.old) verdict.now.r) }
+        ensures own { IfOk result (λ core. core.own ≡ self.now.pid) }
+        ensures size { IfOk result (λ core. size_of core.now ≡ self.now.n) }
+        ensures log { IfOk result (λ core. core.log ≡ []) }
+        ensures pending { IfOk result (λ core. core.pending ≡ []) }
+        ensures inc { IfOk result (λ core. core.inc ≡ verdict.now.inc) }
+        ensures round { IfOk result (λ core. core.round ≡ verdict.now.round) }
+        ensures starts { IfOk result (λ core. core.starts ≡ starts.now) }
+        ensures refused { IsKnown S.is_clean S.IsSound store.old store.new
+            → IfErr result (λ fault. Refuses (TheProcess self.now.pid self.now.n) (S.content store.old) verdict.now.r fault) }
+        ensures same { IsKnown S.is_clean S.IsSound store.old store.new
+            → OnErr result (S.content store.new ≡ S.content store.old) }
+        ensures fault { IfErr result (λ fault. fault ≡ ReplayFault.Fault → Rose (S.failed store.old) (S.failed store.new)) }
+        ensures count { S.failed store.old ≤ S.failed store.new }
+        ensures clean { IsTrue (S.is_clean store.new) → IsTrue (S.is_clean store.old) }
+        ensures sound { IsTrue (S.is_clean store.new) → S.IsSound store.old → S.IsSound store.new }
+    {
+        let mut core = self.replayed(alloc, store, verdict.r)?;
+        core.resume(alloc, starts, verdict)?;
+        core.inc = verdict.inc;
+        match store.cut(alloc, verdict.r) {
+            Ok(()) => Ok(core),
+            Err(error) => Err(fault_of(error)),
+        }
+    }
+
+    // The process as it was right after receipt `x`, from a checkpoint of its own.
+    fn replayed<S: Stable>(
+        &self,
+        alloc: Global,
+        store: &mut S,
+        x: u32,
+    ) -> Result<ProcCore, ReplayFault>
+        ensures back { IsKnown S.is_clean S.IsSound store.old store.new
+            → IfOk result (λ core. IsReplay (S.content store.old) x core) }
+        ensures own { IfOk result (λ core. core.own ≡ self.now.pid) }
+        ensures size { IfOk result (λ core. size_of core.now ≡ self.now.n) }
+        ensures log { IfOk result (λ core. core.log ≡ []) }
+        ensures pending { IfOk result (λ core. core.pending ≡ []) }
+        ensures refused { IsKnown S.is_clean S.IsSound store.old store.new
+            → IfErr result (λ fault. Refuses (TheProcess self.now.pid self.now.n) (S.content store.old) x fault) }
+        ensures same { IsKnown S.is_clean S.IsSound store.old store.new → S.content store.new ≡ S.content store.old }
+        ensures fault { IfErr result (λ fault. fault ≡ ReplayFault.Fault → Rose (S.failed store.old) (S.failed store.new)) }
+        ensures count { S.failed store.old ≤ S.failed store.new }
+        ensures clean { IsTrue (S.is_clean store.new) → IsTrue (S.is_clean store.old) }
+        ensures sound { IsTrue (S.is_clean store.new) → S.IsSound store.old → S.IsSound store.new }
+    {
+        let checkpoint = beginning(alloc, store, x)?;
+        if checkpoint.pid != self.pid {
+            return Err(ReplayFault::Damaged(checkpoint.interval));
+        }
+        if checkpoint.vec.n() != self.n {
+            return Err(ReplayFault::Damaged(checkpoint.interval));
+        }
+        ProcCore::replay_from(alloc, store, x, checkpoint)
     }
 }

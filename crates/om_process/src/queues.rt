@@ -1,6 +1,6 @@
 //! Queues of what a process made: the messages to one process, and the outputs.
 
-ghost use Rattle.std.specs.Prelude.{◌≡◌, ◌+◌, ◌-◌, ◌<◌, drop, max, IfOk, OnOk, OnErr};
+ghost use Rattle.std.specs.Prelude.{◌≡◌, ◌+◌, ◌-◌, ◌<◌, ◌≤◌, drop, max, IfOk, OnOk, OnErr};
 ghost use Rattle.om_format.specs.Queues.{queue_end, queue_record};
 ghost use Rattle.om_process.specs.Kept.{numbered, sent_as, made_as};
 ghost use Rattle.om_process.specs.Process.{empty_queue, with_entry};
@@ -12,7 +12,7 @@ use std::alloc::{AllocError, Global};
 use std::marker::Model;
 
 /// A message that was sent.
-#[derive(Debug, Drop)]
+#[derive(Debug, PartialEq, Eq, Drop)]
 pub struct Sent {
     /// Its number among the messages to the same process, from 0.
     pub ssn: u32,
@@ -22,7 +22,7 @@ pub struct Sent {
 }
 
 /// An output that was made.
-#[derive(Debug, Drop)]
+#[derive(Debug, PartialEq, Eq, Drop)]
 pub struct Made {
     /// Its number among the outputs, from 0.
     pub seq: u64,
@@ -61,6 +61,25 @@ impl Messages {
             first: 0,
             kept: Vec::new(alloc),
         }
+    }
+
+    /// The messages of a queue of a checkpoint that ends at the number `stop`.
+    pub fn of(alloc: Global, queue: Queue, stop: u32) -> Result<Messages, AllocError>
+        requires { queue_end (queue_record queue) ≡ stop }
+        ensures { IfOk result (λ messages. messages ≡ queue_record queue) }
+    {
+        let first = stop - queue.entries.len() as u32;
+        let mut ssn = first;
+        let mut kept = Vec::with_capacity(alloc, queue.entries.len())?;
+        for entry in queue.entries {
+            kept.push(Sent {
+                ssn,
+                interval: entry.interval,
+                body: entry.body,
+            })?;
+            ssn += 1;
+        }
+        Ok(Messages { first, kept })
     }
 
     /// The messages, with their numbers.
@@ -142,6 +161,25 @@ impl Outputs {
             first: 0,
             kept: Vec::new(alloc),
         }
+    }
+
+    /// The outputs of a queue of a checkpoint.
+    pub fn of(alloc: Global, queue: Queue) -> Result<Outputs, AllocError>
+        requires { queue_end (queue_record queue) ≤ LAST_OUTPUT }
+        ensures { IfOk result (λ outputs. outputs ≡ queue_record queue) }
+    {
+        let first = queue.first;
+        let mut seq = first;
+        let mut kept = Vec::with_capacity(alloc, queue.entries.len())?;
+        for entry in queue.entries {
+            kept.push(Made {
+                seq,
+                interval: entry.interval,
+                bytes: entry.body,
+            })?;
+            seq += 1;
+        }
+        Ok(Outputs { first, kept })
     }
 
     /// The outputs numbered `seq` and above, with their numbers.

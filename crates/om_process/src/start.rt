@@ -2,20 +2,17 @@
 
 ghost use Rattle.std.specs.Prelude.{◌≡◌, ◌≢◌, ◌<◌, ◌≤◌, ◌↔◌, ◌++◌, ◌∷◌, [], IfOk, IsErrOf, IsSome, IsTrue, None, OnErr, OnOk, length, map, replicate};
 ghost use Rattle.std.specs.FinMap.{get};
-ghost use Rattle.om_format.specs.CheckpointViews.{checkpoint_record};
-ghost use Rattle.om_format.specs.Queues.{queue_record};
 ghost use Rattle.om_machine.specs.State.{IsSize};
 ghost use Rattle.om_stable.specs.Calls.{IsKnown};
 ghost use Rattle.om_stable.specs.Count.{Rose};
 ghost use Rattle.om_stable.specs.declared.error.StoreError.{StoreError};
 ghost use Rattle.om_process.specs.Process.{empty_queue, started_with};
 ghost use Rattle.om_process.specs.Starting.{IsPlace, fault_of_loading, fault_of_storing, started_core};
-ghost use Rattle.om_process.specs.Stores.{HasGainedCheckpoint, IsOf};
+ghost use Rattle.om_process.specs.Stores.{HasGainedCheckpoint};
 ghost use Rattle.om_process.specs.Turns.{Along};
 
 use crate::proc_core::ProcCore;
 use crate::queues::{Messages, Outputs};
-use om_format::{Checkpoint, MemoryBytes, Queue, encode_checkpoint};
 use om_interval::{DepVec, MAX_PROCESSES, Pid, Starts};
 use om_isa::Ext;
 use om_machine::{LoadFault, Machine};
@@ -173,49 +170,6 @@ impl ProcCore {
             starts: Starts::new(alloc, n)?,
         })
     }
-
-    // Puts a checkpoint of now into the store.
-    fn store_checkpoint<S: Stable>(&self, alloc: Global, store: &mut S) -> Result<(), StoreError>
-        ensures stored { IsKnown S.is_clean S.IsSound store.old store.new
-            → OnOk result (HasGainedCheckpoint self.now (S.content store.old) (S.content store.new)) }
-        ensures free { IsKnown S.is_clean S.IsSound store.old store.new
-            → OnOk result (get (S.content store.old).checkpoints self.now.now.interval ≡ None) }
-        ensures present { IsKnown S.is_clean S.IsSound store.old store.new
-            → IsErrOf result StoreError.Present → IsSome (get (S.content store.old).checkpoints self.now.now.interval) }
-        ensures refused { IsKnown S.is_clean S.IsSound store.old store.new
-            → OnErr result (S.content store.new ≡ S.content store.old) }
-        ensures fault { IsErrOf result StoreError.Fault → Rose (S.failed store.old) (S.failed store.new) }
-        ensures count { S.failed store.old ≤ S.failed store.new }
-        ensures clean { IsTrue (S.is_clean store.new) → IsTrue (S.is_clean store.old) }
-        ensures sound { IsTrue (S.is_clean store.new) → S.IsSound store.old → S.IsSound store.new }
-    {
-        let bytes = encode_checkpoint(alloc, &self.picture(alloc)?)?;
-        store.put_checkpoint(alloc, self.interval, &bytes)
-    }
-
-    // The process as a checkpoint.
-    fn picture(&self, alloc: Global) -> Result<Checkpoint, AllocError>
-        ensures { IfOk result (λ c. IsOf self.now.own self.now.now (checkpoint_record c)) }
-    {
-        let memory = Vec::from_slice(alloc, self.machine.memory())?;
-        let kept = queues_of(alloc, &self.outbox)?;
-        let outputs = self.outputs.queue(alloc)?;
-        Ok(Checkpoint {
-            ext: self.machine.ext(),
-            pid: self.pid,
-            interval: self.interval,
-            count: self.machine.count(),
-            pc: self.machine.pc(),
-            regs: self.machine.regs(),
-            vec: self.vec,
-            got: self.got,
-            sent: self.sent,
-            made: self.made,
-            memory: MemoryBytes::from_vec(memory),
-            kept,
-            outputs,
-        })
-    }
 }
 
 // So many queues of no messages.
@@ -228,15 +182,4 @@ fn empty_outbox(alloc: Global, n: usize) -> Result<Vec<Messages>, AllocError>
         outbox.push(Messages::new(alloc))?;
     }
     Ok(outbox)
-}
-
-// The messages as queues of a checkpoint.
-fn queues_of(alloc: Global, outbox: &Vec<Messages>) -> Result<Vec<Queue>, AllocError>
-    ensures { IfOk result (λ queues. map queue_record queues.items ≡ outbox.now.items) }
-{
-    let mut queues = Vec::with_capacity(alloc, outbox.len())?;
-    for messages in outbox.iter() {
-        queues.push(messages.queue(alloc)?)?;
-    }
-    Ok(queues)
 }

@@ -1,0 +1,131 @@
+-- A content has one outcome: what is refused is not replayed.
+use Rattle.std.proofs.Common.{◌≡◌, ◌⊎◌, inl, inr, ℕ, suc, ◌+◌, ◌<◌, ◌≤◌, List, [], ◌∷◌, length, refl, sym, ap, ◌∙◌, subst, get_or, arith}
+use Rattle.std.specs.Prelude.{Option, Some, None, IsSome}
+use Rattle.std.specs.FinMap.{get}
+use Rattle.om_format.specs.Receipts.{ReceiptRecord, SpellsReceipt}
+use Rattle.om_format.specs.Checkpoints.{CheckpointRecord, SpellsCheckpoint}
+use Rattle.om_format.proofs.Receipts.{one_receipt}
+use Rattle.om_format.proofs.Checkpoints.{one_checkpoint}
+use Rattle.om_stable.specs.Content.{Content, IsEffective, Records}
+use Rattle.om_process.specs.declared.replay.ReplayFault.{ReplayFault}
+use Rattle.om_process.specs.declared.replay.ReplayFault.TheVariants.{NoCheckpoint, Damaged, MissingReceipt, Mismatch, Fault, Memory}
+use Rattle.om_process.specs.Process.{Process, delivered}
+use Rattle.om_process.specs.Turns.{Turns}
+use Rattle.om_process.specs.Replays.{FitsReceipt, Replayed, process_of, received_of}
+use Rattle.om_process.specs.Stored.{Anyone, AreReceiptsAfter, BeginsWith, CanReplay, DoesNotFit, IsCheckpointAt, IsNoMatterOfContent, IsReceiptAt, Refuses, StandsAfter}
+use Rattle.om_process.proofs.Basics.{some_once}
+use Rattle.om_process.proofs.Going.{stays_turns}
+use Rattle.om_process.proofs.Runs.{waits_once}
+
+-- ---- one record at an interval
+one_receipt_at : (held : Records) (y : ℕ) (a b : ReceiptRecord) → IsReceiptAt held y a → IsReceiptAt held y b → a ≡ b
+one_receipt_at held y a b first second =
+    let same : second.bytes ≡ first.bytes = some_once second.bytes first.bytes (sym second.stands ∙ first.stands) in
+    one_receipt first.bytes a b first.spelled (subst (SpellsReceipt b) same second.spelled)
+
+one_checkpoint_at : (held : Records) (y : ℕ) (a b : CheckpointRecord) → IsCheckpointAt held y a → IsCheckpointAt held y b → a ≡ b
+one_checkpoint_at held y a b first second =
+    let same : second.bytes ≡ first.bytes = some_once second.bytes first.bytes (sym second.stands ∙ first.stands) in
+    (one_checkpoint first.bytes first.spelled.0 second.spelled.0 a b first.spelled.1 (subst (SpellsCheckpoint second.spelled.0 b) same second.spelled.1)).1
+
+one_effective : (held : Records) (x b c : ℕ) → IsEffective held x b → IsEffective held x c → b ≡ c
+one_effective held x b c first second =
+    let low : b ≤ c = second.greatest b first.within first.has in
+    let high : c ≤ b = first.greatest c second.within second.has in
+    omega arith
+
+receipt_there : (held : Records) (after y : ℕ) (rs : List ReceiptRecord) → AreReceiptsAfter held after rs → after < y → y ≤ after + length rs → (r : ReceiptRecord) × IsReceiptAt held y r
+receipt_there held after y [] stored low high = absurd (omega arith)
+receipt_there held after y (r ∷ rs) stored low high = first (cases y (after + 1) (omega arith)) (λ above. receipt_there held (after + 1) y rs stored.1 above (omega arith))
+  where
+    cases : (a b : ℕ) → b ≤ a → (a ≡ b) ⊎ (b < a)
+    cases a b le = grind arith
+
+    first : (y ≡ after + 1) ⊎ (after + 1 < y) → (after + 1 < y → (q : ReceiptRecord) × IsReceiptAt held y q) → (q : ReceiptRecord) × IsReceiptAt held y q
+    first (inl at) later = (r, subst (λ z. IsReceiptAt held z r) (sym at) stored.0)
+    first (inr above) later = later above
+
+-- ---- what fits does not fail to
+fits_not : (own n k : ℕ) (s w : Process) (r : ReceiptRecord) → Turns own n k s w → FitsReceipt own n w r → DoesNotFit own n s r → ⊥
+fits_not own n k s w r turns fits (inl other) = other fits.to
+fits_not own n k s w r turns fits (inr (inl above)) = let within = fits.from in absurd (omega arith)
+fits_not own n k s w r turns fits (inr (inr (inl other))) = other (fits.number ∙ ap (λ (p : Process). get_or p.got r.from 0) (stays_turns own n k s w turns))
+fits_not own n k s w r turns fits (inr (inr (inr never))) = never (k, w, turns, fits.waits, sym fits.count)
+
+-- a receipt that does not fit is not replayed, after the same receipts
+not_replayed : (own n : ℕ) (held : Records) (after : ℕ) (before rs : List ReceiptRecord) (c s t : Process) (r : ReceiptRecord) → AreReceiptsAfter held after before → AreReceiptsAfter held after rs → length before < length rs
+    → IsReceiptAt held (after + length before + 1) r → Replayed own n c before s → Replayed own n c rs t → DoesNotFit own n s r → ⊥
+not_replayed own n held after before [] c s t r stored all shorter is first replayed not = absurd (omega arith)
+not_replayed own n held after [] (q ∷ rs) c s t r stored all shorter is first replayed not =
+    let here : after + 0 + 1 ≡ after + 1 = omega arith in
+    let same : q ≡ r = one_receipt_at held (after + 1) q r all.0 (subst (λ y. IsReceiptAt held y r) here is) in
+    let fits = subst (FitsReceipt own n replayed.1) same replayed.3 in
+    fits_not own n replayed.0 s replayed.1 r (subst (λ p. Turns own n replayed.0 p replayed.1) (sym first) replayed.2) fits not
+not_replayed own n held after (p ∷ before) (q ∷ rs) c s t r stored all shorter is first replayed not =
+    let same : q ≡ p = one_receipt_at held (after + 1) q p all.0 stored.0 in
+    let one : replayed.1 ≡ first.1 = waits_once own n replayed.0 first.0 c replayed.1 first.1 replayed.2 replayed.3.waits first.2 first.3.waits in
+    let next : after + (length before + 1) + 1 ≡ after + 1 + length before + 1 = omega arith in
+    let long : length (p ∷ before) ≡ length before + 1 = omega arith in
+    let rest = subst (λ w. Replayed own n (delivered own w (received_of p)) rs t) one (subst (λ g. Replayed own n (delivered own replayed.1 (received_of g)) rs t) same replayed.4) in
+    not_replayed own n held (after + 1) before rs (delivered own first.1 (received_of p)) s t r stored.1 all.1 (omega arith)
+    (subst (λ y. IsReceiptAt held y r) next (subst (λ k. IsReceiptAt held (after + k + 1) r) long is)) first.4 rest not
+
+-- where it can be replayed, a refusal is no matter of the content
+pub only_refused : (Meant : ℕ → ℕ → Type 0) (held : Content) (x : ℕ) (fault : ReplayFault) → Refuses Meant held x fault → CanReplay Meant held x → IsNoMatterOfContent fault
+only_refused Meant held x NoCheckpoint why can =
+    let effective = can.3.all.begins.effective in
+    let within : can.3.checkpoint.interval ≤ x = effective.within in
+    absurd (nothing (get held.checkpoints can.3.checkpoint.interval) effective.has (why can.3.checkpoint.interval (omega arith) (omega arith)))
+  where
+    nothing : (o : Option (List ℕ)) → IsSome o → o ≡ None → ⊥
+    nothing None some none = cc
+    nothing (Some bytes) some none = cc
+only_refused Meant held x (Damaged y) (inl why) can =
+    let begins = can.3.all.begins in
+    let same = one_effective held.checkpoints x can.3.checkpoint.interval y begins.effective why.effective in
+    absurd (why.damaged can.3.checkpoint (subst (λ z. IsCheckpointAt held.checkpoints z can.3.checkpoint) same begins.stored) begins.meant)
+only_refused Meant held x (Damaged y) (inr why) can =
+    let stands = can.3 in
+    let before = why.3.stands in
+    let same = one_effective held.checkpoints x before.checkpoint.interval stands.checkpoint.interval before.all.begins.effective stands.all.begins.effective in
+    let at : why.3.before ≡ before.checkpoint.interval + length before.receipts = before.last in
+    let next : y ≡ why.3.before + 1 = why.3.next in
+    let within : y ≤ x = why.3.within in
+    let last : x ≡ stands.checkpoint.interval + length stands.receipts = stands.last in
+    let there = receipt_there held.receipts stands.checkpoint.interval y stands.receipts stands.stored (omega arith) (omega arith) in
+    absurd (why.4 there.0 there.1)
+only_refused Meant held x (MissingReceipt y) why can =
+    let stands = can.3 in
+    let same = one_effective held.checkpoints x why.checkpoint.interval stands.checkpoint.interval why.begins.effective stands.all.begins.effective in
+    let above : why.checkpoint.interval < y = why.above in
+    absurd (nothing (get held.receipts y) (stands.all.receipts y (omega arith) why.within) why.none)
+  where
+    nothing : (o : Option (List ℕ)) → IsSome o → o ≡ None → ⊥
+    nothing None some none = cc
+    nothing (Some bytes) some none = cc
+only_refused Meant held x (Mismatch y) why can =
+    let stands = can.3 in
+    let before = why.3.stands in
+    let same = one_effective held.checkpoints x before.checkpoint.interval stands.checkpoint.interval before.all.begins.effective stands.all.begins.effective in
+    let record_same : before.checkpoint ≡ stands.checkpoint = one_checkpoint_at held.checkpoints stands.checkpoint.interval before.checkpoint stands.checkpoint (subst (λ z. IsCheckpointAt held.checkpoints z before.checkpoint) same before.all.begins.stored) stands.all.begins.stored in
+    let own : why.0 ≡ can.0 = sym before.pid ∙ ap (λ (c : CheckpointRecord). c.pid) record_same ∙ stands.pid in
+    let size : why.1 ≡ can.1 = sym before.size ∙ ap (λ (c : CheckpointRecord). c.n) record_same ∙ stands.size in
+    let at : why.3.before ≡ before.checkpoint.interval + length before.receipts = before.last in
+    let next : y ≡ why.3.before + 1 = why.3.next in
+    let within : y ≤ x = why.3.within in
+    let last : x ≡ stands.checkpoint.interval + length stands.receipts = stands.last in
+    let here : y ≡ stands.checkpoint.interval + length before.receipts + 1 = omega arith in
+    let first = subst (λ o. Replayed o can.1 (process_of stands.checkpoint) before.receipts why.2) own
+    (subst (λ n. Replayed why.0 n (process_of stands.checkpoint) before.receipts why.2) size (subst (λ (c : CheckpointRecord). Replayed why.0 why.1 (process_of c) before.receipts why.2) record_same before.replayed)) in
+    let not = subst (λ o. DoesNotFit o can.1 why.2 why.4) own (subst (λ n. DoesNotFit why.0 n why.2 why.4) size why.6) in
+    absurd (not_replayed can.0 can.1 held.receipts stands.checkpoint.interval before.receipts stands.receipts (process_of stands.checkpoint) why.2 can.2 why.4
+    (subst (λ z. AreReceiptsAfter held.receipts z before.receipts) same before.stored) stands.stored (omega arith) (subst (λ z. IsReceiptAt held.receipts z why.4) here why.5) first stands.replayed not)
+only_refused Meant held x Fault why can = inl refl
+only_refused Meant held x Memory why can = inr refl
+
+-- the effective checkpoint is of a process that is not meant
+pub another_process : (Meant : ℕ → ℕ → Type 0) (held : Content) (x : ℕ) (c : CheckpointRecord) → BeginsWith Anyone held x c → (Meant c.pid c.n → ⊥) → Refuses Meant held x (Damaged c.interval)
+another_process Meant held x c begins other = inl (record {
+  effective = begins.effective;
+  damaged = λ d is meant. let same = one_checkpoint_at held.checkpoints c.interval d c is begins.stored in other (subst (λ (e : CheckpointRecord). Meant e.pid e.n) same meant);
+})

@@ -1,0 +1,126 @@
+-- Replays from a store: which process stands where, and why there is none.
+use Rattle.std.specs.Prelude.{◌≡◌, ◌≢◌, ℕ, ◌+◌, ◌<◌, ◌≤◌, ◌⊎◌, List, [], ◌∷◌, length, slice_index, Some, None, IsSome}
+use Rattle.std.specs.FinMap.{get}
+use Rattle.om_format.specs.Receipts.{ReceiptRecord, SpellsReceipt}
+use Rattle.om_format.specs.Checkpoints.{CheckpointRecord, IsSpelled}
+use Rattle.om_stable.specs.Content.{Content, Records, IsEffective, IsFree}
+use Rattle.om_process.specs.declared.replay.ReplayFault.{ReplayFault}
+use Rattle.om_process.specs.declared.replay.ReplayFault.TheVariants.{NoCheckpoint, Damaged, MissingReceipt, Mismatch, Fault, Memory}
+use Rattle.om_process.specs.Process.{Process}
+use Rattle.om_process.specs.Turns.{Turns, IsWaiting}
+use Rattle.om_process.specs.Replays.{Replayed, process_of}
+use Rattle.om_process.specs.Core.{CoreState, size_of}
+
+-- the record is stored at an interval, and names it
+pub record IsReceiptAt (held : Records) (y : ℕ) (r : ReceiptRecord) : Type 0 where
+  pub bytes : List ℕ
+  pub stands : get held y ≡ Some bytes
+  pub spelled : SpellsReceipt r bytes
+  pub named : r.interval ≡ y
+
+pub record IsCheckpointAt (held : Records) (y : ℕ) (c : CheckpointRecord) : Type 0 where
+  pub bytes : List ℕ
+  pub stands : get held y ≡ Some bytes
+  pub spelled : IsSpelled c bytes
+  pub named : c.interval ≡ y
+
+-- these receipts are stored, each at the interval after that of the one before
+abbrev pub AreReceiptsAfter : Records → ℕ → List ReceiptRecord → Type 0
+AreReceiptsAfter held y [] = Unit {0}
+AreReceiptsAfter held y (r ∷ rs) = IsReceiptAt held (y + 1) r × AreReceiptsAfter held (y + 1) rs
+
+-- whose checkpoints are meant: those of any process of any cluster, or of this process of n
+abbrev pub Anyone : ℕ → ℕ → Type 0
+Anyone pid size = Unit {0}
+
+abbrev pub TheProcess : ℕ → ℕ → ℕ → ℕ → Type 0
+TheProcess own n pid size = (pid ≡ own) × (size ≡ n)
+
+-- a replay to x begins with this checkpoint: it is the effective one of x, and of a process that is meant
+pub record BeginsWith (Meant : ℕ → ℕ → Type 0) (held : Content) (x : ℕ) (c : CheckpointRecord) : Type 0 where
+  pub effective : IsEffective held.checkpoints x c.interval
+  pub stored : IsCheckpointAt held.checkpoints c.interval c
+  pub meant : Meant c.pid c.n
+
+-- and each receipt after it is there
+pub record HasAll (Meant : ℕ → ℕ → Type 0) (held : Content) (x : ℕ) (c : CheckpointRecord) : Type 0 where
+  pub begins : BeginsWith Meant held x c
+  pub receipts : (y : ℕ) → c.interval < y → y ≤ x → IsSome (get held.receipts y)
+
+-- on a replay to x, process own of n is in this state right after receipt y, or where y is the checkpoint's interval, as
+-- the checkpoint says
+pub record StandsAfter (Meant : ℕ → ℕ → Type 0) (held : Content) (x y own n : ℕ) (t : Process) : Type 0 where
+  pub checkpoint : CheckpointRecord
+  pub all : HasAll Meant held x checkpoint
+  pub pid : checkpoint.pid ≡ own
+  pub size : checkpoint.n ≡ n
+  pub receipts : List ReceiptRecord
+  pub stored : AreReceiptsAfter held.receipts checkpoint.interval receipts
+  pub last : y ≡ checkpoint.interval + length receipts
+  pub replayed : Replayed own n (process_of checkpoint) receipts t
+
+-- the content can be replayed to x
+abbrev pub CanReplay : (ℕ → ℕ → Type 0) → Content → ℕ → Type 0
+CanReplay Meant held x = (own : ℕ) × (n : ℕ) × (t : Process) × StandsAfter Meant held x x own n t
+
+-- the core is what is replayed to x
+abbrev pub IsReplay : Content → ℕ → CoreState → Type 0
+IsReplay held x core = StandsAfter Anyone held x x core.own (size_of core.now) core.now
+
+-- the effective checkpoint of x is that of y, and it does not decode, names another interval, or is of a process that is not
+-- meant
+pub record IsDamagedCheckpoint (Meant : ℕ → ℕ → Type 0) (held : Content) (x y : ℕ) : Type 0 where
+  pub effective : IsEffective held.checkpoints x y
+  pub damaged : (c : CheckpointRecord) → IsCheckpointAt held.checkpoints y c → Meant c.pid c.n → ⊥
+
+-- the receipt of y is not there, and each before it is
+pub record IsLeastMissing (Meant : ℕ → ℕ → Type 0) (held : Content) (x y : ℕ) : Type 0 where
+  pub checkpoint : CheckpointRecord
+  pub begins : BeginsWith Meant held x checkpoint
+  pub above : checkpoint.interval < y
+  pub within : y ≤ x
+  pub none : get held.receipts y ≡ None
+  pub before : (z : ℕ) → checkpoint.interval < z → z < y → IsSome (get held.receipts z)
+
+-- a replay to x comes to receipt y: process own of n is in this state after the one before
+pub record ComesTo (Meant : ℕ → ℕ → Type 0) (held : Content) (x y own n : ℕ) (s : Process) : Type 0 where
+  pub before : ℕ
+  pub next : y ≡ before + 1
+  pub within : y ≤ x
+  pub stands : StandsAfter Meant held x before own n s
+
+-- it comes to receipt y, which does not decode or names another interval
+abbrev pub IsDamagedReceipt : (ℕ → ℕ → Type 0) → Content → ℕ → ℕ → Type 0
+IsDamagedReceipt Meant held x y =
+    (own : ℕ) × (n : ℕ) × (s : Process) × ComesTo Meant held x y own n s
+    × ((r : ReceiptRecord) → IsReceiptAt held.receipts y r → ⊥)
+
+-- turns lead to a wait, at this count
+abbrev pub WaitsAt : ℕ → ℕ → Process → ℕ → Type 0
+WaitsAt own n s count = (k : ℕ) × (w : Process) × Turns own n k s w × IsWaiting own n w × (w.machine.count ≡ count)
+
+-- the receipt does not fit process own of n in this state: it is another receiver's, of a sender that is not there, or not the
+-- next of its sender, or the process does not wait at the stored count
+abbrev pub DoesNotFit : ℕ → ℕ → Process → ReceiptRecord → Type 0
+DoesNotFit own n s r =
+    (r.to ≢ own) ⊎ ((n ≤ r.from) ⊎ ((r.ssn ≢ slice_index s.got r.from) ⊎ (WaitsAt own n s r.count → ⊥)))
+
+-- it comes to receipt y, which does not fit
+abbrev pub IsMismatch : (ℕ → ℕ → Type 0) → Content → ℕ → ℕ → Type 0
+IsMismatch Meant held x y =
+    (own : ℕ) × (n : ℕ) × (s : Process) × ComesTo Meant held x y own n s
+    × (r : ReceiptRecord) × IsReceiptAt held.receipts y r × DoesNotFit own n s r
+
+-- why the content is not replayed to x: the first thing that speaks against it. The store's failures and want of memory are
+-- not a matter of the content
+abbrev pub Refuses : (ℕ → ℕ → Type 0) → Content → ℕ → ReplayFault → Type 0
+Refuses Meant held x NoCheckpoint = IsFree held.checkpoints 0 (x + 1)
+Refuses Meant held x (Damaged y) = IsDamagedCheckpoint Meant held x y ⊎ IsDamagedReceipt Meant held x y
+Refuses Meant held x (MissingReceipt y) = IsLeastMissing Meant held x y
+Refuses Meant held x (Mismatch y) = IsMismatch Meant held x y
+Refuses Meant held x Fault = Unit {0}
+Refuses Meant held x Memory = Unit {0}
+
+-- the faults that the content does not tell
+abbrev pub IsNoMatterOfContent : ReplayFault → Type 0
+IsNoMatterOfContent fault = (fault ≡ Fault) ⊎ (fault ≡ Memory)

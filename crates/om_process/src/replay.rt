@@ -1,0 +1,182 @@
+//! Replays: a process as it was right after a receipt, from what its store holds.
+
+ghost use Rattle.std.specs.Prelude.{◌≡◌, ◌≢◌, ◌≤◌, ◌∷◌, [], IfErr, IfOk, IsErrOf, IsTrue, length, replicate};
+ghost use Rattle.om_format.specs.CheckpointViews.{checkpoint_record};
+ghost use Rattle.om_format.specs.Checkpoints.{IsSpelled};
+ghost use Rattle.om_stable.specs.Calls.{IsKnown};
+ghost use Rattle.om_stable.specs.Count.{Rose};
+ghost use Rattle.om_stable.specs.declared.error.StoreError.{StoreError};
+ghost use Rattle.om_process.specs.Core.{size_of};
+ghost use Rattle.om_process.specs.Stored.{Anyone, BeginsWith, CanReplay, IsNoMatterOfContent, IsReplay, Refuses};
+ghost use Rattle.om_process.specs.steps.Rows.{IsReplayFrom, RefusesCheckpoint, RefusesFrom, RefusesStart, damage};
+
+use crate::proc_core::ProcCore;
+use crate::repeating::missing;
+use om_format::{Checkpoint, DecodeError, decode_checkpoint};
+use om_stable::{Stable, StoreError};
+use std::alloc::{AllocError, Global};
+use thiserror::Error;
+
+/// Why a process was not replayed.
+#[derive(Clone, Copy, Debug, PartialEq, Eq, Error)]
+pub enum ReplayFault {
+    /// The store has no checkpoint at the interval or below.
+    #[error("no checkpoint")]
+    NoCheckpoint,
+    /// The checkpoint or the receipt of this interval does not decode, or names another interval; or the checkpoint is of
+    /// another process than the one that failed, or of another number of processes.
+    #[error("damaged {0}")]
+    Damaged(u32),
+    /// The store has no receipt of this interval, the least that is missing.
+    #[error("missing receipt {0}")]
+    MissingReceipt(u32),
+    /// The receipt of this interval is another receiver's, of a sender that is not there, or not the next of its sender, or
+    /// the process does not wait at its count.
+    #[error("mismatch {0}")]
+    Mismatch(u32),
+    /// The store failed, and its count of failures rose.
+    #[error("the store failed")]
+    Fault,
+    /// Memory ran out.
+    #[error("no memory")]
+    Memory,
+}
+
+impl From<AllocError> for ReplayFault {
+    ghost use Rattle.om_process.specs.declared.replay.ReplayFault.TheVariants.{Memory};
+
+    ghost from_gives = { λ _ fault. fault ≡ Memory };
+
+    fn from(_e: AllocError) -> ReplayFault {
+        ReplayFault::Memory
+    }
+}
+
+// Why a store that read or cut refused to; neither answers `Present`.
+pub(crate) fn fault_of(error: StoreError) -> ReplayFault
+    requires { error ≢ StoreError.Present }
+    ensures no_matter { IsNoMatterOfContent result }
+    ensures fault { result ≡ ReplayFault.Fault → error ≡ StoreError.Fault }
+{
+    match error {
+        StoreError::Present => unreachable!(),
+        StoreError::Fault => ReplayFault::Fault,
+        StoreError::Memory => ReplayFault::Memory,
+    }
+}
+
+// Why bytes of interval `y` that were not decoded are refused.
+pub(crate) fn damaged(y: u32, error: DecodeError) -> ReplayFault
+    ensures { result ≡ damage y error }
+{
+    match error {
+        DecodeError::Memory => ReplayFault::Memory,
+        _ => ReplayFault::Damaged(y),
+    }
+}
+
+// The checkpoint of interval `c` that these bytes spell.
+fn checkpoint_at(alloc: Global, c: u32, bytes: &[u8]) -> Result<Checkpoint, ReplayFault>
+    ensures found { IfOk result (λ checkpoint. IsSpelled (checkpoint_record checkpoint) bytes.now) }
+    ensures named { IfOk result (λ checkpoint. checkpoint.interval ≡ c) }
+    ensures refused { IfErr result (λ fault. RefusesCheckpoint c bytes.now fault) }
+{
+    let checkpoint = match decode_checkpoint(alloc, bytes) {
+        Ok(checkpoint) => checkpoint,
+        Err(error) => return Err(damaged(c, error)),
+    };
+    if checkpoint.interval == c {
+        Ok(checkpoint)
+    } else {
+        Err(ReplayFault::Damaged(c))
+    }
+}
+
+// The checkpoint with which a replay to `x` begins.
+pub(crate) fn beginning<S: Stable>(
+    alloc: Global,
+    store: &mut S,
+    x: u32,
+) -> Result<Checkpoint, ReplayFault>
+    ensures begins { IsKnown S.is_clean S.IsSound store.old store.new
+        → IfOk result (λ checkpoint. BeginsWith Anyone (S.content store.old) x (checkpoint_record checkpoint)) }
+    ensures refused { IsKnown S.is_clean S.IsSound store.old store.new
+        → IfErr result (λ fault. RefusesStart (S.content store.old) x fault) }
+    ensures same { IsKnown S.is_clean S.IsSound store.old store.new → S.content store.new ≡ S.content store.old }
+    ensures fault { IsErrOf result ReplayFault.Fault → Rose (S.failed store.old) (S.failed store.new) }
+    ensures count { S.failed store.old ≤ S.failed store.new }
+    ensures clean { IsTrue (S.is_clean store.new) → IsTrue (S.is_clean store.old) }
+    ensures sound { IsTrue (S.is_clean store.new) → S.IsSound store.old → S.IsSound store.new }
+{
+    match store.effective(alloc, x) {
+        Ok(Some((c, bytes))) => checkpoint_at(alloc, c, &bytes),
+        Ok(None) => Err(ReplayFault::NoCheckpoint),
+        Err(error) => Err(fault_of(error)),
+    }
+}
+
+impl ProcCore {
+    // The process as it was right after receipt `x`, from this checkpoint.
+    pub(crate) fn replay_from<S: Stable>(
+        alloc: Global,
+        store: &mut S,
+        x: u32,
+        checkpoint: Checkpoint,
+    ) -> Result<ProcCore, ReplayFault>
+        ensures replayed { IsKnown S.is_clean S.IsSound store.old store.new → checkpoint.interval ≤ x
+            → IfOk result (λ core. IsReplayFrom (S.content store.old) x (checkpoint_record checkpoint) core) }
+        ensures refused { IsKnown S.is_clean S.IsSound store.old store.new → checkpoint.interval ≤ x
+            → IfErr result (λ fault. RefusesFrom (S.content store.old) x (checkpoint_record checkpoint) fault) }
+        ensures own { IfOk result (λ core. core.own ≡ checkpoint.pid) }
+        ensures size { IfOk result (λ core. size_of core.now ≡ length checkpoint.vec) }
+        ensures log { IfOk result (λ core. core.log ≡ []) }
+        ensures pending { IfOk result (λ core. core.pending ≡ []) }
+        ensures inc { IfOk result (λ core. core.inc ≡ 0) }
+        ensures round { IfOk result (λ core. core.round ≡ 0) }
+        ensures starts { IfOk result (λ core. core.starts ≡ replicate (size_of core.now) (0 ∷ [])) }
+        ensures same { IsKnown S.is_clean S.IsSound store.old store.new → S.content store.new ≡ S.content store.old }
+        ensures fault { IsErrOf result ReplayFault.Fault → Rose (S.failed store.old) (S.failed store.new) }
+        ensures count { S.failed store.old ≤ S.failed store.new }
+        ensures clean { IsTrue (S.is_clean store.new) → IsTrue (S.is_clean store.old) }
+        ensures sound { IsTrue (S.is_clean store.new) → S.IsSound store.old → S.IsSound store.new }
+    {
+        let found = match store.receipts(alloc, checkpoint.interval, x) {
+            Ok(found) => found,
+            Err(error) => return Err(fault_of(error)),
+        };
+        if let Some(y) = missing(checkpoint.interval, x, &found) {
+            return Err(ReplayFault::MissingReceipt(y));
+        }
+        let mut core = ProcCore::restored(alloc, checkpoint)?;
+        core.repeat_all(alloc, &found)?;
+        Ok(core)
+    }
+
+    /// The process as it was right after receipt `x`, from the effective checkpoint of `x` and the receipts after it; where
+    /// the checkpoint is that of `x`, as the checkpoint says. Its incarnation and its round are 0.
+    ///
+    /// Refused, in this order, with `NoCheckpoint`, with `Damaged` for the checkpoint, with the least `MissingReceipt`, and
+    /// then for each receipt ascending with `Damaged` and `Mismatch`; with `Fault` and `Memory` where they arise. The
+    /// store's content stays in any case.
+    pub fn replay<S: Stable>(alloc: Global, store: &mut S, x: u32) -> Result<ProcCore, ReplayFault>
+        ensures replayed { IsKnown S.is_clean S.IsSound store.old store.new
+            → IfOk result (λ core. IsReplay (S.content store.old) x core) }
+        ensures refused { IsKnown S.is_clean S.IsSound store.old store.new
+            → IfErr result (λ fault. Refuses Anyone (S.content store.old) x fault) }
+        ensures only { IsKnown S.is_clean S.IsSound store.old store.new → CanReplay Anyone (S.content store.old) x
+            → IfErr result (λ fault. IsNoMatterOfContent fault) }
+        ensures log { IfOk result (λ core. core.log ≡ []) }
+        ensures pending { IfOk result (λ core. core.pending ≡ []) }
+        ensures inc { IfOk result (λ core. core.inc ≡ 0) }
+        ensures round { IfOk result (λ core. core.round ≡ 0) }
+        ensures starts { IfOk result (λ core. core.starts ≡ replicate (size_of core.now) (0 ∷ [])) }
+        ensures same { IsKnown S.is_clean S.IsSound store.old store.new → S.content store.new ≡ S.content store.old }
+        ensures fault { IsErrOf result ReplayFault.Fault → Rose (S.failed store.old) (S.failed store.new) }
+        ensures count { S.failed store.old ≤ S.failed store.new }
+        ensures clean { IsTrue (S.is_clean store.new) → IsTrue (S.is_clean store.old) }
+        ensures sound { IsTrue (S.is_clean store.new) → S.IsSound store.old → S.IsSound store.new }
+    {
+        let checkpoint = beginning(alloc, store, x)?;
+        ProcCore::replay_from(alloc, store, x, checkpoint)
+    }
+}

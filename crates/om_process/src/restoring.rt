@@ -1,0 +1,76 @@
+//! Processes from their checkpoints.
+
+ghost use Rattle.std.specs.Prelude.{◌≡◌, ◌∷◌, [], IfOk, map, replicate};
+ghost use Rattle.om_format.specs.CheckpointViews.{checkpoint_record};
+ghost use Rattle.om_format.specs.Queues.{queue_end, queue_record};
+ghost use Rattle.om_process.specs.Core.{size_of};
+ghost use Rattle.om_process.specs.Replays.{process_of};
+
+use crate::proc_core::ProcCore;
+use crate::queues::{Messages, Outputs};
+use om_format::{Checkpoint, Queue};
+use om_interval::Starts;
+use om_machine::Machine;
+use std::alloc::{AllocError, Global};
+
+impl ProcCore {
+    // The process of a checkpoint, which knows of no failure.
+    pub(crate) fn restored(alloc: Global, checkpoint: Checkpoint) -> Result<ProcCore, AllocError>
+        ensures own { IfOk result (λ core. core.own ≡ checkpoint.pid) }
+        ensures now { IfOk result (λ core. core.now ≡ process_of (checkpoint_record checkpoint)) }
+        ensures log { IfOk result (λ core. core.log ≡ []) }
+        ensures pending { IfOk result (λ core. core.pending ≡ []) }
+        ensures inc { IfOk result (λ core. core.inc ≡ 0) }
+        ensures round { IfOk result (λ core. core.round ≡ 0) }
+        ensures starts { IfOk result (λ core. core.starts ≡ replicate (size_of core.now) (0 ∷ [])) }
+    {
+        let machine = machine_of(alloc, &checkpoint)?;
+        let starts = Starts::new(alloc, checkpoint.vec.n())?;
+        Ok(ProcCore {
+            pid: checkpoint.pid,
+            machine,
+            interval: checkpoint.interval,
+            vec: checkpoint.vec,
+            got: checkpoint.got,
+            sent: checkpoint.sent,
+            made: checkpoint.made,
+            outbox: outbox_of(alloc, checkpoint.kept, checkpoint.sent.as_slice())?,
+            outputs: Outputs::of(alloc, checkpoint.outputs)?,
+            log: Vec::new(alloc),
+            pending: Vec::new(alloc),
+            inc: 0,
+            round: 0,
+            starts,
+        })
+    }
+}
+
+// The machine of a checkpoint.
+fn machine_of(alloc: Global, checkpoint: &Checkpoint) -> Result<Machine, AllocError>
+    ensures { IfOk result (λ machine. machine ≡ (process_of (checkpoint_record checkpoint.now)).machine) }
+{
+    match Machine::restore(
+        alloc,
+        &checkpoint.regs,
+        checkpoint.pc,
+        checkpoint.count,
+        checkpoint.memory.as_slice(),
+        checkpoint.ext,
+    ) {
+        Ok(machine) => Ok(machine),
+        Err(_) => Err(AllocError),
+    }
+}
+
+// The queues of a checkpoint, which end at these numbers, as messages.
+fn outbox_of(alloc: Global, kept: Vec<Queue>, stops: &[u32]) -> Result<Vec<Messages>, AllocError>
+    requires { map queue_end (map queue_record kept.items) ≡ stops.now }
+    ensures { IfOk result (λ outbox. outbox.items ≡ map queue_record kept.items) }
+{
+    let mut outbox = Vec::with_capacity(alloc, kept.len())?;
+    for queue in kept {
+        let stop = stops[outbox.len()];
+        outbox.push(Messages::of(alloc, queue, stop)?)?;
+    }
+    Ok(outbox)
+}

@@ -1,0 +1,169 @@
+//! What a process puts into its store.
+
+ghost use Rattle.std.specs.Prelude.{◌≡◌, ◌+◌, ◌≤◌, ◌++◌, ℕ, IfOk, IsErrOf, IsSome, IsTrue, None, OnErr, OnOk, Some, length, map, slice_get, vec_capacity, vec_len};
+ghost use Rattle.std.specs.FinMap.{get};
+ghost use Rattle.om_format.specs.CheckpointViews.{checkpoint_record};
+ghost use Rattle.om_format.specs.Queues.{queue_record};
+ghost use Rattle.om_stable.specs.Calls.{IsKnown};
+ghost use Rattle.om_stable.specs.Content.{IsFree, IsTaken, bytes_of};
+ghost use Rattle.om_stable.specs.Count.{Rose};
+ghost use Rattle.om_process.specs.Core.{LoggedRecord};
+ghost use Rattle.om_process.specs.Stores.{HasGainedCheckpoint, HasGainedLog, IsLogged, IsOf, SpellLog, checkpointed, first_logged, flushed, log_row};
+ghost use Rattle.om_process.specs.Views.{logged_record};
+
+use crate::log::Logged;
+use crate::proc_core::ProcCore;
+use crate::queues::Messages;
+use crate::row::Row;
+use om_format::{Checkpoint, MemoryBytes, Queue, encode_checkpoint, encode_receipt};
+use om_stable::{Stable, StoreError};
+use std::alloc::{AllocError, Global};
+
+impl ProcCore {
+    /// Stores the whole volatile log, or nothing of it. Stored, its receipts are pending rows, and the log is empty.
+    ///
+    /// Refused with what the store answers, or with `Memory`. A refusal leaves the process, and the store's content.
+    pub fn flush<S: Stable>(&mut self, alloc: Global, store: &mut S) -> Result<(), StoreError>
+        ensures core { OnOk result (self.new ≡ flushed self.old) }
+        ensures same { OnErr result (self.new ≡ self.old) }
+        ensures stored { IsKnown S.is_clean S.IsSound store.old store.new
+            → OnOk result (HasGainedLog self.old (S.content store.old) (S.content store.new)) }
+        ensures each { IsKnown S.is_clean S.IsSound store.old store.new
+            → OnOk result ((i : ℕ) (l : LoggedRecord) → slice_get self.old.log i ≡ Some l → IsLogged (S.content store.new) l) }
+        ensures free { IsKnown S.is_clean S.IsSound store.old store.new
+            → OnOk result (IsFree (S.content store.old).receipts (first_logged self.old) (length self.old.log)) }
+        ensures present { IsKnown S.is_clean S.IsSound store.old store.new → IsErrOf result StoreError.Present
+            → IsTaken (S.content store.old).receipts (first_logged self.old) (length self.old.log) }
+        ensures refused { IsKnown S.is_clean S.IsSound store.old store.new
+            → OnErr result (S.content store.new ≡ S.content store.old) }
+        ensures fault { IsErrOf result StoreError.Fault → Rose (S.failed store.old) (S.failed store.new) }
+        ensures count { S.failed store.old ≤ S.failed store.new }
+        ensures clean { IsTrue (S.is_clean store.new) → IsTrue (S.is_clean store.old) }
+        ensures sound { IsTrue (S.is_clean store.new) → S.IsSound store.old → S.IsSound store.new }
+    {
+        let Some(oldest) = self.log.first() else {
+            return Ok(());
+        };
+        let first = oldest.receipt.interval;
+        let bytes = spelled(alloc, &self.log)?;
+        self.pending.try_reserve(self.log.len())?;
+        store.put_receipts(alloc, first, &bytes)?;
+        add_rows(&mut self.pending, &self.log);
+        self.log.clear();
+        Ok(())
+    }
+
+    /// Stores a checkpoint of now. Stored, it is a pending row.
+    ///
+    /// Refused with what the store answers, or with `Memory`. A refusal leaves the process, and the store's content.
+    pub fn checkpoint<S: Stable>(&mut self, alloc: Global, store: &mut S) -> Result<(), StoreError>
+        ensures core { OnOk result (self.new ≡ checkpointed self.old) }
+        ensures same { OnErr result (self.new ≡ self.old) }
+        ensures stored { IsKnown S.is_clean S.IsSound store.old store.new
+            → OnOk result (HasGainedCheckpoint self.old (S.content store.old) (S.content store.new)) }
+        ensures free { IsKnown S.is_clean S.IsSound store.old store.new
+            → OnOk result (get (S.content store.old).checkpoints self.old.now.interval ≡ None) }
+        ensures present { IsKnown S.is_clean S.IsSound store.old store.new → IsErrOf result StoreError.Present
+            → IsSome (get (S.content store.old).checkpoints self.old.now.interval) }
+        ensures refused { IsKnown S.is_clean S.IsSound store.old store.new
+            → OnErr result (S.content store.new ≡ S.content store.old) }
+        ensures fault { IsErrOf result StoreError.Fault → Rose (S.failed store.old) (S.failed store.new) }
+        ensures count { S.failed store.old ≤ S.failed store.new }
+        ensures clean { IsTrue (S.is_clean store.new) → IsTrue (S.is_clean store.old) }
+        ensures sound { IsTrue (S.is_clean store.new) → S.IsSound store.old → S.IsSound store.new }
+    {
+        self.pending.try_reserve(1)?;
+        self.store_checkpoint(alloc, store)?;
+        self.pending.push_reserved(Row {
+            ckpt: true,
+            x: self.interval,
+            vec: self.vec,
+            got: self.got,
+        });
+        Ok(())
+    }
+
+    // Puts a checkpoint of now into the store.
+    pub(crate) fn store_checkpoint<S: Stable>(
+        &self,
+        alloc: Global,
+        store: &mut S,
+    ) -> Result<(), StoreError>
+        ensures stored { IsKnown S.is_clean S.IsSound store.old store.new
+            → OnOk result (HasGainedCheckpoint self.now (S.content store.old) (S.content store.new)) }
+        ensures free { IsKnown S.is_clean S.IsSound store.old store.new
+            → OnOk result (get (S.content store.old).checkpoints self.now.now.interval ≡ None) }
+        ensures present { IsKnown S.is_clean S.IsSound store.old store.new
+            → IsErrOf result StoreError.Present → IsSome (get (S.content store.old).checkpoints self.now.now.interval) }
+        ensures refused { IsKnown S.is_clean S.IsSound store.old store.new
+            → OnErr result (S.content store.new ≡ S.content store.old) }
+        ensures fault { IsErrOf result StoreError.Fault → Rose (S.failed store.old) (S.failed store.new) }
+        ensures count { S.failed store.old ≤ S.failed store.new }
+        ensures clean { IsTrue (S.is_clean store.new) → IsTrue (S.is_clean store.old) }
+        ensures sound { IsTrue (S.is_clean store.new) → S.IsSound store.old → S.IsSound store.new }
+    {
+        let bytes = encode_checkpoint(alloc, &self.picture(alloc)?)?;
+        store.put_checkpoint(alloc, self.interval, &bytes)
+    }
+
+    // The process as a checkpoint.
+    fn picture(&self, alloc: Global) -> Result<Checkpoint, AllocError>
+        ensures { IfOk result (λ c. IsOf self.now.own self.now.now (checkpoint_record c)) }
+    {
+        let memory = Vec::from_slice(alloc, self.machine.memory())?;
+        let kept = queues_of(alloc, &self.outbox)?;
+        let outputs = self.outputs.queue(alloc)?;
+        Ok(Checkpoint {
+            ext: self.machine.ext(),
+            pid: self.pid,
+            interval: self.interval,
+            count: self.machine.count(),
+            pc: self.machine.pc(),
+            regs: self.machine.regs(),
+            vec: self.vec,
+            got: self.got,
+            sent: self.sent,
+            made: self.made,
+            memory: MemoryBytes::from_vec(memory),
+            kept,
+            outputs,
+        })
+    }
+}
+
+// The bytes of each receipt of the log.
+fn spelled(alloc: Global, log: &Vec<Logged>) -> Result<Vec<Vec<u8>>, AllocError>
+    ensures { IfOk result (λ recs. SpellLog (map logged_record log.now.items) (bytes_of recs.items)) }
+{
+    let mut recs = Vec::with_capacity(alloc, log.len())?;
+    for logged in log {
+        recs.push(encode_receipt(alloc, &logged.receipt)?)?;
+    }
+    Ok(recs)
+}
+
+// Adds the rows of the log, for which there is room.
+fn add_rows(rows: &mut Vec<Row>, log: &Vec<Logged>)
+    requires { vec_len rows.old + vec_len log.now ≤ vec_capacity rows.old }
+    ensures { rows.new.items ≡ rows.old.items ++ map log_row (map logged_record log.now.items) }
+{
+    for logged in log {
+        rows.push_reserved(Row {
+            ckpt: false,
+            x: logged.receipt.interval,
+            vec: logged.vec,
+            got: logged.got,
+        });
+    }
+}
+
+// The messages as queues of a checkpoint.
+fn queues_of(alloc: Global, outbox: &Vec<Messages>) -> Result<Vec<Queue>, AllocError>
+    ensures { IfOk result (λ queues. map queue_record queues.items ≡ outbox.now.items) }
+{
+    let mut queues = Vec::with_capacity(alloc, outbox.len())?;
+    for messages in outbox.iter() {
+        queues.push(messages.queue(alloc)?)?;
+    }
+    Ok(queues)
+}
