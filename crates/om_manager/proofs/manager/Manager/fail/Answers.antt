@@ -1,0 +1,32 @@
+use Rattle.std.proofs.Common.{◌≡◌, ◌≢◌, ◌∙◌, ap, rules, slice_set, subst}
+use Rattle.om_manager.specs.Gatherings.{presence_of, presences_of}
+use Rattle.om_manager.specs.Notes.{IsCurrent}
+use Rattle.om_manager.specs.Rounds.{IsSpent, Gathers, Fails, with_failed}
+use Rattle.om_manager.specs.declared.presence.Presence.TheVariants.{Failed}
+use Rattle.om_manager.specs.Sound.{IsManager}
+use Rattle.om_manager.proofs.ManagerLemmas.{whole}
+use Rattle.om_manager.proofs.manager.Manager.fail.Goals as goal
+
+pub returns-then-index-n-clause-sound : goal.returns-then-index-n-clause-sound
+returns-then-index-n-clause-sound c = subst IsManager c.self.view_is (whole _ _ _ _ _ _ _ _ c.self.invariant)
+
+pub returns-then-round-self-clause-sound : goal.returns-then-round-self-clause-sound
+returns-then-round-self-clause-sound c = subst IsManager c.self.view_is (whole _ _ _ _ _ _ _ _ c.self.invariant)
+
+pub returns-in-None-clause-sound : goal.returns-in-None-clause-sound
+returns-in-None-clause-sound c = subst IsManager c.self.view_is (whole _ _ _ _ _ _ _ _ c.self.invariant)
+
+pub returns-then-eq-clause-sound : goal.returns-then-eq-clause-sound
+returns-then-eq-clause-sound c = subst IsManager c.self.view_is (whole _ _ _ _ _ _ _ _ c.self.invariant)
+
+pub returns-in-Ok-clause-answer : goal.returns-in-Ok-clause-answer
+returns-in-Ok-clause-answer c =
+    let current : IsCurrent c.args.self.now c.args.pid c.args.round = search rules in
+    let unspent : IsSpent c.args.self.now → ⊥ = search rules in
+    let before : c.match-self.presences ≡ presences_of c.args.self.now.gathering = search rules in
+    let first : presence_of (presences_of c.args.self.now.gathering) c.args.pid ≢ Failed = search rules in
+    let gathers : Gathers (with_failed c.args.self.now c.args.pid) c.args.self.now c.in-Ok.gathered c.gather.new.self =
+    subst (λ all. Gathers all c.args.self.now c.in-Ok.gathered c.gather.new.self)
+    (ap (λ all. slice_set all c.index-3.result Failed) before ∙ ap (λ p. slice_set (presences_of c.args.self.now.gathering) p Failed) c.index-3.ensures.place)
+    (c.gather.ensures.gathered c.in-Ok.gathered c.in-Ok.is) in
+    (current, unspent, Fails.first first gathers)

@@ -1,0 +1,7 @@
+use Rattle.std.proofs.Common.{subst}
+use Rattle.om_manager.specs.Sound.{IsManager}
+use Rattle.om_manager.proofs.ManagerLemmas.{whole}
+use Rattle.om_manager.proofs.manager.Manager.recovery.Goals as goal
+
+pub returns-clause-sound : goal.returns-clause-sound
+returns-clause-sound c = subst IsManager c.self.view_is (whole _ _ _ _ _ _ _ _ c.self.invariant)

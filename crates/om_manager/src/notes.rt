@@ -1,0 +1,153 @@
+ghost use Rattle.std.specs.Prelude.{◌≡◌, ◌≤◌, map};
+ghost use Rattle.om_interval.specs.Vectors.{IsBelow};
+ghost use Rattle.om_recover.specs.Records.{log_of, checkpoint_of};
+ghost use Rattle.om_manager.specs.Sound.{IsManager, GoesOn, KeepsReleased};
+ghost use Rattle.om_manager.specs.Notes.{Notes, NotesOutput};
+
+use crate::answers::{OutputError, OutputNote, RecordError};
+use crate::manager::Manager;
+use crate::output_log::OutputLog;
+use om_interval::{DepVec, Pid};
+use om_recover::{Note, Row, RowKind, Work};
+use std::alloc::Global;
+
+impl Manager {
+    /// Notes that the receipt which began interval `x` of a process is logged.
+    ///
+    /// Refused, the first that holds, are a process that the cluster has not (`Stranger`), another round than the manager's
+    /// (`Stale`), and then what [`Records::note_logged`](om_recover::Records::note_logged) refuses, in its order.
+    pub fn note_logged(
+        &mut self,
+        alloc: Global,
+        pid: Pid,
+        round: u32,
+        x: u32,
+        vec: &DepVec,
+        got: &DepVec,
+    ) -> Result<Note, RecordError>
+        ensures answer { Notes self.old round (log_of pid x vec.now got.now) result self.new }
+        ensures sound { IsManager self.new }
+        ensures front { GoesOn self.old self.new }
+        ensures not_lowered { IsBelow self.old.recovery self.new.recovery }
+        ensures released { KeepsReleased self.old self.new }
+    {
+        let row = Row {
+            kind: RowKind::Log,
+            pid,
+            interval: x,
+            vec: *vec,
+            got: *got,
+        };
+        self.note(alloc, round, row)
+    }
+
+    /// Notes that the state of a process in interval `x` is stored. The refusals are those of [`Manager::note_logged`], in the
+    /// same order.
+    pub fn note_checkpoint(
+        &mut self,
+        alloc: Global,
+        pid: Pid,
+        round: u32,
+        x: u32,
+        vec: &DepVec,
+        got: &DepVec,
+    ) -> Result<Note, RecordError>
+        ensures answer { Notes self.old round (checkpoint_of pid x vec.now got.now) result self.new }
+        ensures sound { IsManager self.new }
+        ensures front { GoesOn self.old self.new }
+        ensures not_lowered { IsBelow self.old.recovery self.new.recovery }
+        ensures released { KeepsReleased self.old self.new }
+    {
+        let row = Row {
+            kind: RowKind::Checkpoint,
+            pid,
+            interval: x,
+            vec: *vec,
+            got: *got,
+        };
+        self.note(alloc, round, row)
+    }
+
+    fn note(&mut self, alloc: Global, round: u32, row: Row) -> Result<Note, RecordError>
+        ensures answer { Notes self.old round row result self.new }
+        ensures sound { IsManager self.new }
+        ensures front { GoesOn self.old self.new }
+        ensures not_lowered { IsBelow self.old.recovery self.new.recovery }
+        ensures released { KeepsReleased self.old self.new }
+    {
+        if row.pid.index() < self.records.n() && round != self.round {
+            return Err(RecordError::Stale { round: self.round });
+        }
+        let note = match self.records.note(alloc, row, &mut Work::new()) {
+            Ok(note) => note,
+            Err(fault) => return Err(RecordError::Refused(fault)),
+        };
+        if note == (Note::Noted { raised: true }) {
+            raise_all(&mut self.logs, &self.records.recovery());
+            self.version += 1;
+        }
+        Ok(note)
+    }
+
+    /// Hands in the output of a process with the number `seq`, which it made in interval `x`. It is released where `x` is
+    /// within the recovery state, and else held until it is.
+    ///
+    /// Refused, the first that holds, are a process that the cluster has not (`Stranger`), another round than the manager's
+    /// (`Stale`), and a number that has another output (`Differs`). An output that is there is `Known`. Then a number above
+    /// the next one (`Gap`), an interval below that of the output before (`Differs`), and last want of memory (`Memory`).
+    pub fn note_output(
+        &mut self,
+        alloc: Global,
+        pid: Pid,
+        round: u32,
+        x: u32,
+        seq: u64,
+        bytes: &[u8],
+    ) -> Result<OutputNote, OutputError>
+        ensures answer { NotesOutput self.old (record { pid = pid; round = round; seq = seq; output = record { interval = x; bytes = bytes.now } }) result self.new }
+        ensures sound { IsManager self.new }
+        ensures front { GoesOn self.old self.new }
+        ensures not_lowered { IsBelow self.old.recovery self.new.recovery }
+        ensures released { KeepsReleased self.old self.new }
+    {
+        if pid.index() >= self.records.n() {
+            return Err(OutputError::Stranger);
+        }
+        if round != self.round {
+            return Err(OutputError::Stale { round: self.round });
+        }
+        let place = self.records.recovery().get(pid);
+        let log = &mut self.logs[pid.index()];
+        let next = log.next() as u64;
+        if seq < next {
+            return if log.is_at(seq as usize, x, bytes) {
+                Ok(OutputNote::Known)
+            } else {
+                Err(OutputError::Differs)
+            };
+        }
+        if seq > next {
+            return Err(OutputError::Gap(next));
+        }
+        if !log.is_up_to(x) {
+            return Err(OutputError::Differs);
+        }
+        match log.push(alloc, x, bytes) {
+            Err(_) => Err(OutputError::Memory),
+            Ok(()) if x <= place => Ok(OutputNote::Released),
+            Ok(()) => Ok(OutputNote::Held),
+        }
+    }
+}
+
+// Releases the outputs within a higher recovery state.
+fn raise_all(logs: &mut Vec<OutputLog>, state: &DepVec)
+    requires { IsBelow (map (λ log. log.limit) logs.old.items) state.now }
+    ensures held { map (λ log. log.held) logs.new.items ≡ map (λ log. log.held) logs.old.items }
+    ensures limits { map (λ log. log.limit) logs.new.items ≡ state.now }
+{
+    for p in 0..state.n() {
+        let log = &mut logs[p];
+        log.raise(state.get(Pid::at(p)));
+    }
+}
