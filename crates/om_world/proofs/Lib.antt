@@ -1,0 +1,4 @@
+pub mod FramesCut
+pub mod Finish
+pub mod Legal
+pub mod Released
