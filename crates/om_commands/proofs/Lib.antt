@@ -1,3 +1,4 @@
 pub mod DecodeLemmas
 pub mod ReportLemmas
 pub mod ScriptLemmas
+pub mod TextLemmas

@@ -4,8 +4,10 @@ use Rattle.om_text.specs.declared.error.BuildError.TheVariants as building
 use Rattle.om_text.specs.declared.error.ScriptError.{ScriptError}
 use Rattle.om_text.specs.declared.text.ReadError.{ReadError}
 use Rattle.om_text.specs.declared.text.ReadError.TheVariants as reading
+use Rattle.om_process.specs.declared.replay.ReplayFault.{ReplayFault}
+use Rattle.om_process.specs.declared.replay.ReplayFault.TheVariants as replaying
 use Rattle.om_commands.specs.declared.error.CommandError.{CommandError}
-use Rattle.om_commands.specs.declared.error.CommandError.TheVariants.{TooLong, CannotRead, NoMemory, Script}
+use Rattle.om_commands.specs.declared.error.CommandError.TheVariants.{TooLong, CannotRead, NoMemory, Script, NoCheckpoint, Damaged, MissingReceipt, Mismatch, StoreFault}
 
 -- the input could not be had
 abbrev pub error_of_reading : ReadError → CommandError
@@ -17,3 +19,12 @@ error_of_reading reading.Memory = NoMemory
 abbrev pub error_of_building : BuildError ScriptError → CommandError
 error_of_building (building.Invalid error) = Script error
 error_of_building building.Memory = NoMemory
+
+-- the process could not be replayed
+abbrev pub error_of_replay : ReplayFault → CommandError
+error_of_replay replaying.NoCheckpoint = NoCheckpoint
+error_of_replay (replaying.Damaged y) = Damaged y
+error_of_replay (replaying.MissingReceipt y) = MissingReceipt y
+error_of_replay (replaying.Mismatch y) = Mismatch y
+error_of_replay replaying.Fault = StoreFault
+error_of_replay replaying.Memory = NoMemory

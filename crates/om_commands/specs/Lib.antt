@@ -2,6 +2,9 @@ pub mod Command
 pub mod Decode
 pub mod Errors
 pub mod Frontier
+pub mod Hex
 pub mod RecordScript
+pub mod Replay
 pub mod Report
+pub mod StateText
 pub mod WordScript

@@ -1,13 +1,15 @@
 ghost use Rattle.std.specs.Prelude.{◌≡◌};
 ghost use Rattle.om_text.specs.declared.text.ReadError.TheVariants as reading;
 ghost use Rattle.om_text.specs.declared.error.BuildError.TheVariants as errors;
-ghost use Rattle.om_commands.specs.Errors.{error_of_reading, error_of_building};
+ghost use Rattle.om_commands.specs.Errors.{error_of_reading, error_of_building, error_of_replay};
 
+use om_process::ReplayFault;
 use om_text::{BuildError, ReadError, ScriptError};
 use std::alloc::AllocError;
 use thiserror::Error;
 
-/// Why a command was refused. The bytes that are read determine all but `CannotRead`, `CannotWrite` and `NoMemory`.
+/// Why a command was refused. What is read, or what a store holds, determines all but `CannotRead`, `CannotWrite`,
+/// `NoMemory` and `StoreFault`.
 #[derive(Clone, Copy, Debug, PartialEq, Eq, Error)]
 pub enum CommandError {
     #[error("too long")]
@@ -22,6 +24,16 @@ pub enum CommandError {
     EmptyScript,
     #[error("{0}")]
     Script(ScriptError),
+    #[error("no checkpoint")]
+    NoCheckpoint,
+    #[error("damaged {0}")]
+    Damaged(u32),
+    #[error("missing receipt {0}")]
+    MissingReceipt(u32),
+    #[error("mismatch {0}")]
+    Mismatch(u32),
+    #[error("store fault")]
+    StoreFault,
 }
 
 impl From<ReadError> for CommandError {
@@ -43,6 +55,21 @@ impl From<BuildError<ScriptError>> for CommandError {
         match error {
             BuildError::Invalid(error) => CommandError::Script(error),
             BuildError::Memory => CommandError::NoMemory,
+        }
+    }
+}
+
+impl From<ReplayFault> for CommandError {
+    ghost from_gives = { λ fault e. e ≡ error_of_replay fault };
+
+    fn from(fault: ReplayFault) -> CommandError {
+        match fault {
+            ReplayFault::NoCheckpoint => CommandError::NoCheckpoint,
+            ReplayFault::Damaged(y) => CommandError::Damaged(y),
+            ReplayFault::MissingReceipt(y) => CommandError::MissingReceipt(y),
+            ReplayFault::Mismatch(y) => CommandError::Mismatch(y),
+            ReplayFault::Fault => CommandError::StoreFault,
+            ReplayFault::Memory => CommandError::NoMemory,
         }
     }
 }

@@ -6,7 +6,9 @@ pub mod decode;
 mod error;
 pub mod frontier;
 mod record_script;
+pub mod replay;
 mod report;
+mod state_text;
 mod word_script;
 
 pub use error::CommandError;

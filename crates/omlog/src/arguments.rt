@@ -3,12 +3,14 @@
 ghost use Rattle.std.specs.Prelude.{◌≡◌};
 ghost use Rattle.omlog.specs.Requests.{request_named};
 
+use crate::store_file::replay_file;
 use clap::error::ErrorKind;
 use clap::{Arg, ArgAction, Command, Error};
 use om_commands::CommandError;
 use om_commands::decode::decode;
 use om_commands::frontier::frontier;
 use om_isa::Ext;
+use om_text::number_of;
 use std::alloc::Global;
 use std::process::ExitCode;
 use std::rt::Runtime;
@@ -57,30 +59,59 @@ Answers:
   stranger     there is no process P
 A faulty script is refused whole: 'line N: ..' on standard error, status 1.";
 
+const REPLAY: &str = "replay";
+
+const REPLAY_HELP: &str = "\
+Writes the state that a process had right after its receipt INTERVAL, from the
+checkpoints and receipts that its store FILE holds:
+
+  interval X
+  count C             the instructions that it had finished
+  pc HHHHHHHH
+  x0 HHHHHHHH         a line for each register, to x31
+  HHHHHHHH BB..       an address, and up to 16 bytes of memory from there on
+  status STATUS       ready, waiting, ended CODE or trapped CAUSE
+
+Refused, on standard error, status 1:
+  no checkpoint       none is stored at INTERVAL or below
+  damaged Y           the record of interval Y cannot be read
+  missing receipt Y   the receipt of interval Y is not stored, the least such
+  mismatch Y          the receipt of interval Y does not fit the process
+  store fault         FILE is not there, or is no store
+
+FILE is neither made nor changed.";
+
+const FILE: &str = "FILE";
+
+const INTERVAL: &str = "INTERVAL";
+
 // What the words of the command line ask for.
 #[derive(Clone, Copy, Debug, PartialEq, Eq)]
-pub(crate) enum Request {
+pub(crate) enum Request<'a> {
     Decode(Ext),
     Frontier,
+    Replay { file: &'a str, interval: u32 },
 }
 
 // Runs the program on its arguments and standard streams: the status is 0 where it is done, 1 where a command was
 // refused, and 2 where the arguments were.
-pub(crate) fn run<R: Runtime + AllocGlobal>(rt: &R) -> ExitCode {
+pub(crate) fn run(rt: &HostRuntime) -> ExitCode {
     let words = match words(rt) {
         Ok(words) => words,
         Err(error) => return refuse_words(rt, &error),
     };
     match chosen(rt.alloc(), &words) {
-        Ok(Request::Decode(ext)) => end(
-            rt,
-            decode(rt.alloc(), ext, &mut rt.reader(), &mut io::writer(rt)),
-        ),
-        Ok(Request::Frontier) => end(
-            rt,
-            frontier(rt.alloc(), &mut rt.reader(), &mut io::writer(rt)),
-        ),
+        Ok(request) => end(rt, carry_out(rt, request)),
         Err(error) => refuse_request(rt, &error),
+    }
+}
+
+fn carry_out(rt: &HostRuntime, request: Request<'_>) -> Result<(), CommandError> {
+    let writer = &mut io::writer(rt);
+    match request {
+        Request::Decode(ext) => decode(rt.alloc(), ext, &mut rt.reader(), writer),
+        Request::Frontier => frontier(rt.alloc(), &mut rt.reader(), writer),
+        Request::Replay { file, interval } => replay_file(rt, file, interval, writer),
     }
 }
 
@@ -88,21 +119,28 @@ fn words<R: Runtime + AllocGlobal>(rt: &R) -> io::Result<Vec<String>> {
     Ok(env::args(rt)?.collect(rt.alloc())?)
 }
 
-fn chosen(alloc: Global, words: &[String]) -> Result<Request, Error> {
+fn chosen<'a>(alloc: Global, words: &'a [String]) -> Result<Request<'a>, Error> {
     let mut command = command(alloc)?;
     let matches = command.try_get_matches_from_mut(words)?;
-    let request = match matches.subcommand() {
-        Some((name, found)) => request_named(name, found.get_flag(M)),
-        None => None,
+    let Some((name, found)) = matches.subcommand() else {
+        return Err(command.error(ErrorKind::MissingSubcommand, "a subcommand is missing")?);
+    };
+    let request = if name == REPLAY {
+        replay_request(found.get_str(FILE), found.get_str(INTERVAL))
+    } else {
+        request_named(name, found.get_flag(M))
     };
     match request {
         Some(request) => Ok(request),
-        None => Err(command.error(ErrorKind::MissingSubcommand, "a subcommand is missing")?),
+        None => Err(command.error(
+            ErrorKind::ValueValidation,
+            "INTERVAL is a number of 32 bits",
+        )?),
     }
 }
 
 // The request of a subcommand, and of its flag `--m`.
-fn request_named(name: &str, with_m: bool) -> Option<Request>
+fn request_named<'a>(name: &str, with_m: bool) -> Option<Request<'a>>
     ensures { result ≡ request_named name.now with_m }
 {
     match name {
@@ -110,6 +148,14 @@ fn request_named(name: &str, with_m: bool) -> Option<Request>
         FRONTIER => Some(Request::Frontier),
         _ => None,
     }
+}
+
+// The request to replay from a file to an interval, where that is a number.
+fn replay_request<'a>(file: Option<&'a str>, interval: Option<&'a str>) -> Option<Request<'a>> {
+    Some(Request::Replay {
+        file: file?,
+        interval: number_of(interval?.as_bytes())?,
+    })
 }
 
 fn command<'a>(alloc: Global) -> Result<Command<'a>, Error> {
@@ -120,7 +166,8 @@ fn command<'a>(alloc: Global) -> Result<Command<'a>, Error> {
         )
         .subcommand_required(true)
         .subcommand(decode_command(alloc)?)?
-        .subcommand(frontier_command(alloc))?;
+        .subcommand(frontier_command(alloc))?
+        .subcommand(replay_command(alloc)?)?;
     Ok(command)
 }
 
@@ -140,6 +187,21 @@ fn frontier_command<'a>(alloc: Global) -> Command<'a> {
     Command::new(alloc, FRONTIER)
         .about("The greatest recoverable state after each note of a record script")
         .after_help(FRONTIER_HELP)
+}
+
+fn replay_command<'a>(alloc: Global) -> Result<Command<'a>, Error> {
+    let file = Arg::new(alloc, FILE)
+        .help("The store of the process")
+        .required(true);
+    let interval = Arg::new(alloc, INTERVAL)
+        .help("The interval, 0 to 4294967295")
+        .required(true);
+    let command = Command::new(alloc, REPLAY)
+        .about("The state of a process in an interval, from its store")
+        .after_help(REPLAY_HELP)
+        .arg(file)?
+        .arg(interval)?;
+    Ok(command)
 }
 
 // Ends a command. An error goes to standard error as one line; where that cannot be written, the status tells it alone.

@@ -2,6 +2,7 @@
 #![tactic(auto)]
 
 mod arguments;
+mod store_file;
 
 use std::process::ExitCode;
 

@@ -1,0 +1,43 @@
+-- What the command `replay` answers to the content of a store and an interval.
+use Rattle.std.specs.Prelude.{◌≡◌, ℕ, List}
+use Rattle.om_stable.specs.Content.{Content}
+use Rattle.om_process.specs.Core.{CoreState}
+use Rattle.om_process.specs.Stored.{Anyone, CanReplay, IsReplay, Refuses}
+use Rattle.om_process.specs.declared.replay.ReplayFault.TheVariants as replaying
+use Rattle.om_commands.specs.StateText.{state_text}
+use Rattle.om_commands.specs.declared.error.CommandError.{CommandError}
+use Rattle.om_commands.specs.declared.error.CommandError.TheVariants as errors
+
+-- the text of the process that is replayed to the interval
+pub record IsReplayText (held : Content) (x : ℕ) (text : List ℕ) : Type 0 where
+  pub core : CoreState
+  pub replayed : IsReplay held x core
+  pub is_text : text ≡ state_text core
+
+-- The error is that of the content. Those of the store, the writer and memory may come whatever it is.
+abbrev pub IsReplayError : Content → ℕ → CommandError → Type 0
+IsReplayError held x errors.NoCheckpoint = Refuses Anyone held x replaying.NoCheckpoint
+IsReplayError held x (errors.Damaged y) = Refuses Anyone held x (replaying.Damaged y)
+IsReplayError held x (errors.MissingReceipt y) = Refuses Anyone held x (replaying.MissingReceipt y)
+IsReplayError held x (errors.Mismatch y) = Refuses Anyone held x (replaying.Mismatch y)
+IsReplayError held x errors.StoreFault = Unit {0}
+IsReplayError held x errors.NoMemory = Unit {0}
+IsReplayError held x errors.CannotWrite = CanReplay Anyone held x
+IsReplayError held x errors.CannotRead = ⊥
+IsReplayError held x errors.TooLong = ⊥
+IsReplayError held x errors.EmptyScript = ⊥
+IsReplayError held x (errors.Script error) = ⊥
+
+-- the errors that the content does not tell
+abbrev pub IsNoMatterOfContent : CommandError → Type 0
+IsNoMatterOfContent errors.StoreFault = Unit {0}
+IsNoMatterOfContent errors.NoMemory = Unit {0}
+IsNoMatterOfContent errors.CannotWrite = Unit {0}
+IsNoMatterOfContent errors.NoCheckpoint = ⊥
+IsNoMatterOfContent (errors.Damaged y) = ⊥
+IsNoMatterOfContent (errors.MissingReceipt y) = ⊥
+IsNoMatterOfContent (errors.Mismatch y) = ⊥
+IsNoMatterOfContent errors.CannotRead = ⊥
+IsNoMatterOfContent errors.TooLong = ⊥
+IsNoMatterOfContent errors.EmptyScript = ⊥
+IsNoMatterOfContent (errors.Script error) = ⊥

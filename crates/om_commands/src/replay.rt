@@ -1,0 +1,63 @@
+//! The command `replay`: the state of a process in an interval, from what its store holds.
+
+ghost use Rattle.std.specs.Prelude.{◌≡◌, ◌≤◌, ℕ, List, IsTrue, IfOk, IfErr, OnOk, IsErrOf, Err, ◌≢◌, string_bytes};
+ghost use Rattle.std.specs.Io.KnownBytes.{Appends, Keeps};
+ghost use Rattle.om_stable.specs.Calls.{IsKnown};
+ghost use Rattle.om_stable.specs.Count.{Rose};
+ghost use Rattle.om_process.specs.Stored.{Anyone, CanReplay};
+ghost use Rattle.om_commands.specs.Command.{IsSilent};
+ghost use Rattle.om_commands.specs.Replay.{IsNoMatterOfContent, IsReplayError, IsReplayText};
+
+use crate::command::write_answer;
+use crate::error::CommandError;
+use crate::state_text::state_text;
+use om_process::ProcCore;
+use om_stable::Stable;
+use std::alloc::Global;
+use std::io::Write;
+
+/// Replays the process whose records a store holds to an interval, and then writes its state: the interval, the count of
+/// instructions, pc, registers, memory, and what it is about to do. The store keeps its content. Refused, nothing is
+/// written, unless it was the writer that refused.
+pub fn replay<S: Stable, W: Write>(
+    alloc: Global,
+    store: &mut S,
+    interval: u32,
+    writer: &mut W,
+) -> Result<(), CommandError>
+    ensures text { IsKnown S.is_clean S.IsSound store.old store.new
+        → OnOk result ((text : List ℕ) × IsReplayText (S.content store.old) interval text
+        × Appends (W.contents writer.old) (W.contents writer.new) text) }
+    ensures error { IsKnown S.is_clean S.IsSound store.old store.new
+        → IfErr result (IsReplayError (S.content store.old) interval) }
+    ensures only { IsKnown S.is_clean S.IsSound store.old store.new → CanReplay Anyone (S.content store.old) interval
+        → IfErr result IsNoMatterOfContent }
+    ensures silent { IfErr result (λ error. IsSilent error (Keeps (W.contents writer.old) (W.contents writer.new))) }
+    ensures same { IsKnown S.is_clean S.IsSound store.old store.new → S.content store.new ≡ S.content store.old }
+    ensures fault { IsErrOf result CommandError.StoreFault → Rose (S.failed store.old) (S.failed store.new) }
+    ensures count { S.failed store.old ≤ S.failed store.new }
+    ensures clean { IsTrue (S.is_clean store.new) → IsTrue (S.is_clean store.old) }
+    ensures sound { IsTrue (S.is_clean store.new) → S.IsSound store.old → S.IsSound store.new }
+{
+    let text = replayed(alloc, store, interval)?;
+    write_answer(writer, text.as_bytes())
+}
+
+// The text of the process that is replayed.
+fn replayed<S: Stable>(alloc: Global, store: &mut S, interval: u32) -> Result<String, CommandError>
+    ensures text { IsKnown S.is_clean S.IsSound store.old store.new
+        → IfOk result (λ text. IsReplayText (S.content store.old) interval (string_bytes text)) }
+    ensures error { IsKnown S.is_clean S.IsSound store.old store.new
+        → IfErr result (IsReplayError (S.content store.old) interval) }
+    ensures only { IsKnown S.is_clean S.IsSound store.old store.new → CanReplay Anyone (S.content store.old) interval
+        → IfErr result IsNoMatterOfContent }
+    ensures silent { result ≢ Err CommandError.CannotWrite }
+    ensures same { IsKnown S.is_clean S.IsSound store.old store.new → S.content store.new ≡ S.content store.old }
+    ensures fault { IsErrOf result CommandError.StoreFault → Rose (S.failed store.old) (S.failed store.new) }
+    ensures count { S.failed store.old ≤ S.failed store.new }
+    ensures clean { IsTrue (S.is_clean store.new) → IsTrue (S.is_clean store.old) }
+    ensures sound { IsTrue (S.is_clean store.new) → S.IsSound store.old → S.IsSound store.new }
+{
+    let core = ProcCore::replay(alloc, store, interval)?;
+    Ok(state_text(alloc, &core)?)
+}
