@@ -2,4 +2,6 @@
 #![tactic(auto)]
 
 #[cfg(test)]
+mod replay;
+#[cfg(test)]
 mod rows;

@@ -3,6 +3,8 @@
 #![tactic(auto)]
 
 #[cfg(test)]
+mod batch;
+#[cfg(test)]
 mod commands;
 #[cfg(test)]
 mod format;
@@ -13,8 +15,14 @@ mod isa;
 #[cfg(test)]
 mod machine;
 #[cfg(test)]
+mod manager;
+#[cfg(test)]
 mod process;
 #[cfg(test)]
 mod recover;
 #[cfg(test)]
+mod runner;
+#[cfg(test)]
 mod text;
+#[cfg(test)]
+mod world;

@@ -1,5 +1,5 @@
 use om_format::{Body, Message};
-use om_interval::{Pid, Tag};
+use om_interval::{Bounds, Pid, Tag};
 use om_isa::{Ext, Reg};
 use om_machine::Cause::{BufferOutside, FetchOutside};
 use om_process::{Accept, Image, LAST_INTERVAL, ProcCore, Ran, StartFault, Status, laws};
@@ -16,6 +16,9 @@ const OUTPUTS_IT: [u32; 10] = [
 const SENDS_FIRST: [u32; 6] = [
     0x00100893, 0x00100513, 0x00400613, 0x00000073, 0x00000893, 0x00000073,
 ];
+
+// Puts out 8 bytes.
+const OUTPUTS_EIGHT: [u32; 4] = [0x00300893, 0x00800513, 0x00800593, 0x00000073];
 
 fn image(alloc: Global, words: &[u32], size: u32) -> Result<Image, AllocError> {
     let mut bytes = Vec::new(alloc);
@@ -139,6 +142,66 @@ fn messages_are_taken_or_refused(rt: HostRuntime) -> Result<(), Fail> {
     assert_eq!(rt; core.got().as_slice(), [0, 1].as_slice());
     assert_eq!(rt; core.machine().bytes(64, 4), Some([1, 2, 3, 4].as_slice()));
     assert_eq!(rt; LAST_INTERVAL, u32::MAX);
+    Ok(())
+}
+
+// The `k`-th message to a process that is kept, where there are so many processes.
+fn frame(alloc: Global, core: &ProcCore, to: Pid, k: usize) -> Result<Option<Message>, AllocError> {
+    if to.index() >= core.vec().n() {
+        return Ok(None);
+    }
+    core.frame(alloc, to, k)
+}
+
+// Drops the messages to a process below a number, and the outputs below one.
+fn trim(core: &mut ProcCore, to: Pid, number: u32, released: u64) {
+    let mut got = *core.vec();
+    if to.index() < got.n() {
+        got.set(to, number);
+        core.trim(&Bounds { got, released });
+    }
+}
+
+// The third of three processes sends to the second.
+#[test]
+fn messages_are_framed_until_they_are_trimmed(rt: HostRuntime) -> Result<(), Fail> {
+    let mut core = started(rt.alloc(), &SENDS_FIRST, 64, 2, 3)?;
+    let to = Pid::at(1);
+    let status = Status::Ended(0);
+    assert_eq!(rt; core.run(rt.alloc(), 10)?, Ran { steps: 5, status });
+    let framed = frame(rt.alloc(), &core, to, 0)?.expect(&rt, "a message");
+    assert_eq!(rt; (framed.from, framed.to), (Pid::at(2), to));
+    let tag = Tag {
+        inc: 0,
+        interval: 0,
+    };
+    assert_eq!(rt; (framed.tag, framed.ssn), (tag, 0));
+    assert_eq!(rt; framed.body.as_slice(), [0x93, 0x08, 0x10, 0x00].as_slice());
+    assert!(rt; frame(rt.alloc(), &core, to, 1)?.is_none());
+    trim(&mut core, to, 0, 0);
+    assert!(rt; frame(rt.alloc(), &core, to, 0)?.is_some());
+    trim(&mut core, to, 1, 0);
+    assert!(rt; frame(rt.alloc(), &core, to, 0)?.is_none());
+    Ok(())
+}
+
+// A process that puts out one text of 8 bytes: a bound above what was made drops all there is.
+#[test]
+fn outputs_are_kept_until_they_are_trimmed(rt: HostRuntime) -> Result<(), Fail> {
+    for (released, left) in [(0, 1), (1, 0), (9, 0)] {
+        let mut core = started(rt.alloc(), &OUTPUTS_EIGHT, 16, 0, 1)?;
+        core.run(rt.alloc(), 10)?;
+        trim(&mut core, Pid::at(0), 0, released);
+        assert_eq!(rt; core.outputs_from(0).len(), left, "{released}");
+        assert_eq!(rt; core.outputs_from(1).len(), 0, "{released}");
+    }
+    Ok(())
+}
+
+#[test]
+fn a_failed_process_keeps_its_place(rt: HostRuntime) -> Result<(), Fail> {
+    let down = started(rt.alloc(), &SENDS_FIRST, 64, 2, 3)?.fail();
+    assert_eq!(rt; (down.pid, down.n), (Pid::at(2), 3));
     Ok(())
 }
 

@@ -1,0 +1,118 @@
+use super::parts::{are_same, begun, go_on, passing_on, ten};
+use super::replaying::stored;
+use om_interval::{Pid, Starts, Verdict};
+use om_process::{Down, ProcCore, ReplayFault, StartFault};
+use om_stable::{FuseStable, MemStable, Stable};
+use std::alloc::Global;
+use std::process::Abort;
+
+fn verdict(r: u32, back: bool) -> Verdict {
+    Verdict {
+        round: 1,
+        inc: u32::from(back),
+        r,
+        back,
+    }
+}
+
+fn starts(rt: &impl Abort, alloc: Global, n: usize) -> Starts {
+    assert!(rt; 1 <= n && n <= 16);
+    Starts::new(alloc, n).expect(rt, "memory")
+}
+
+// Rolls a process back to an interval, as its first incarnation.
+fn roll_back<S: Stable>(
+    rt: &impl Abort,
+    alloc: Global,
+    down: Down,
+    store: &mut S,
+    r: u32,
+) -> Result<ProcCore, (Down, ReplayFault)> {
+    let starts = starts(rt, alloc, down.n);
+    assert!(rt; starts.n() == down.n);
+    down.roll_back(alloc, store, &starts, &verdict(r, true))
+}
+
+#[test]
+fn a_process_that_comes_back_comes_to_the_same_end(rt: HostRuntime) {
+    let mut store = MemStable::new(rt.alloc());
+    let core = ten(&rt, rt.alloc(), &mut store);
+    let down = ten(&rt, rt.alloc(), &mut MemStable::new(rt.alloc())).fail();
+    let mut back = roll_back(&rt, rt.alloc(), down, &mut store, 6).expect(&rt, "a process");
+    assert_eq!(rt; (back.interval(), back.inc(), back.round()), (6, 1, 1));
+    let left = store.receipts(rt.alloc(), 6, 10).expect(&rt, "a store");
+    assert!(rt; left.is_empty());
+    for ssn in 6..10 {
+        go_on(&rt, rt.alloc(), &mut back, ssn);
+    }
+    assert!(rt; are_same(&back, &core));
+}
+
+#[test]
+fn a_process_that_is_not_rolled_back_goes_on(rt: HostRuntime) {
+    let mut core = passing_on(&rt, rt.alloc(), &mut MemStable::new(rt.alloc()));
+    let starts = starts(&rt, rt.alloc(), 2);
+    assert_eq!(rt; core.vec().n(), starts.n());
+    assert!(rt; core.resume(rt.alloc(), &starts, &verdict(0, false)).is_ok());
+    assert_eq!(rt; (core.round(), core.inc()), (1, 0));
+}
+
+// Over the store of process 1 of 3 with receipt 1: why a process of that number, of so many, does not come back to interval 2. The
+// checkpoint of another process is told before a receipt that is missing, and what is refused stays.
+#[test]
+fn a_checkpoint_of_another_process_is_damaged(rt: HostRuntime) {
+    let mut store = stored(&rt, rt.alloc());
+    for (pid, n, fault) in [
+        (0, 3, ReplayFault::Damaged(0)),
+        (1, 2, ReplayFault::Damaged(0)),
+        (1, 3, ReplayFault::MissingReceipt(2)),
+    ] {
+        let pid = Pid::new(pid).expect(&rt, "a process");
+        let refused = roll_back(&rt, rt.alloc(), Down { pid, n }, &mut store, 2);
+        let told = refused.err().map(|refusal| refusal.1);
+        assert_eq!(rt; told, Some(fault), "{pid:?} {n}");
+    }
+    let left = store.receipts(rt.alloc(), 0, 9).expect(&rt, "a store");
+    assert_eq!(rt; left.len(), 1);
+}
+
+// Stores all, once more what was refused once.
+fn store_all<S: Stable>(rt: &impl Abort, alloc: Global, core: &mut ProcCore, store: &mut S) {
+    let flushed = core.flush(alloc, store).is_ok() || core.flush(alloc, store).is_ok();
+    let stored = core.checkpoint(alloc, store).is_ok() || core.checkpoint(alloc, store).is_ok();
+    assert!(rt; flushed && stored);
+}
+
+fn start_again<S: Stable>(rt: &impl Abort, alloc: Global, store: &mut S) -> ProcCore {
+    let first = match begun(rt, alloc, store) {
+        Err(StartFault::Fault) => begun(rt, alloc, store),
+        other => other,
+    };
+    first.expect(rt, "a start")
+}
+
+// The process that comes back to interval 6, at once or where the first time was refused.
+fn come_back<S: Stable>(rt: &impl Abort, alloc: Global, down: Down, store: &mut S) -> ProcCore {
+    let second = match roll_back(rt, alloc, down, store, 6) {
+        Ok(core) => Ok(core),
+        Err((again, _)) => roll_back(rt, alloc, again, store, 6),
+    };
+    second.map_err(|refusal| refusal.1).expect(rt, "a process")
+}
+
+// A fuse at each call of a store in turn, until none is reached: start, flush, checkpoint and the three of a roll back.
+#[test]
+fn what_a_store_refused_is_done_again(rt: HostRuntime) {
+    for calls in 0..7 {
+        let mut store = FuseStable::new(MemStable::new(rt.alloc()), calls);
+        let mut core = start_again(&rt, rt.alloc(), &mut store);
+        for ssn in 0..6 {
+            go_on(&rt, rt.alloc(), &mut core, ssn);
+        }
+        store_all(&rt, rt.alloc(), &mut core, &mut store);
+        assert_eq!(rt; core.pending().len(), 7, "{calls}");
+        let back = come_back(&rt, rt.alloc(), core.fail(), &mut store);
+        assert_eq!(rt; back.interval(), 6, "{calls}");
+        assert_eq!(rt; store.failures(), u64::from(calls < 6), "{calls}");
+    }
+}

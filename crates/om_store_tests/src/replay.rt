@@ -1,0 +1,259 @@
+//! The rows of the command `replay`, over both kinds of store: the process receives what another sent and sends it on.
+
+use om_commands::CommandError;
+use om_commands::replay::replay;
+use om_interval::Pid;
+use om_isa::Ext;
+use om_process::ProcCore;
+use om_stable::{FuseStable, MemStable, Stable};
+use om_tables::SqlStable;
+use sqlite::Connection;
+use std::alloc::Global;
+use std::process::Abort;
+
+const PROGRAM: [u32; 11] = [
+    0x00200893, 0x04000513, 0x00400593, 0x00000073, 0x00100893, 0x00050613, 0x00000513, 0x04000593,
+    0x00000073, 0x00000893, 0x00000073,
+];
+
+// The receipt of 4 bytes that began interval 1 of process 1 of 3.
+const RECEIPT: [u8; 30] = [
+    0x52, 1, 1, 2, 1, 0, 0, 0, 0, 0, 0, 0, 0, 0, 0, 0, 3, 0, 0, 0, 0, 0, 0, 0, 4, 0, 0x93, 0x08,
+    0x10, 0x00,
+];
+
+const AT_START: &str = "\
+interval 0
+count 0
+pc 00000000
+x0 00000000
+x1 00000000
+x2 00000000
+x3 00000000
+x4 00000000
+x5 00000000
+x6 00000000
+x7 00000000
+x8 00000000
+x9 00000000
+x10 00000000
+x11 00000000
+x12 00000000
+x13 00000000
+x14 00000000
+x15 00000000
+x16 00000000
+x17 00000000
+x18 00000000
+x19 00000000
+x20 00000000
+x21 00000000
+x22 00000000
+x23 00000000
+x24 00000000
+x25 00000000
+x26 00000000
+x27 00000000
+x28 00000000
+x29 00000000
+x30 00000000
+x31 00000000
+00000000 93082000130500049305400073000000
+00000010 93081000130605001305000093050004
+00000020 73000000930800007300000000000000
+00000030 00000000000000000000000000000000
+00000040 00000000000000000000000000000000
+00000050 00000000000000000000000000000000
+00000060 00000000000000000000000000000000
+00000070 00000000000000000000000000000000
+status ready
+";
+
+const AFTER_RECEIPT: &str = "\
+interval 1
+count 4
+pc 00000010
+x0 00000000
+x1 00000000
+x2 00000000
+x3 00000000
+x4 00000000
+x5 00000000
+x6 00000000
+x7 00000000
+x8 00000000
+x9 00000000
+x10 00000004
+x11 00000002
+x12 00000000
+x13 00000000
+x14 00000000
+x15 00000000
+x16 00000000
+x17 00000002
+x18 00000000
+x19 00000000
+x20 00000000
+x21 00000000
+x22 00000000
+x23 00000000
+x24 00000000
+x25 00000000
+x26 00000000
+x27 00000000
+x28 00000000
+x29 00000000
+x30 00000000
+x31 00000000
+00000000 93082000130500049305400073000000
+00000010 93081000130605001305000093050004
+00000020 73000000930800007300000000000000
+00000030 00000000000000000000000000000000
+00000040 93081000000000000000000000000000
+00000050 00000000000000000000000000000000
+00000060 00000000000000000000000000000000
+00000070 00000000000000000000000000000000
+status ready
+";
+
+// The process has started over the store, and these bytes are its receipt of interval 1.
+fn fill<S: Stable>(rt: &impl Abort, alloc: Global, store: &mut S, receipt: &[u8]) {
+    let mut image = Vec::new(alloc);
+    for word in PROGRAM {
+        image
+            .extend_from_slice(&word.to_le_bytes())
+            .expect(rt, "memory");
+    }
+    let core = ProcCore::start(alloc, &image, 128, Ext::I, Pid::at(1), 3, store);
+    assert!(rt; core.is_ok());
+    put(rt, alloc, store, receipt);
+}
+
+fn put<S: Stable>(rt: &impl Abort, alloc: Global, store: &mut S, receipt: &[u8]) {
+    let bytes = Vec::from_slice(alloc, receipt).expect(rt, "memory");
+    let mut receipts = Vec::new(alloc);
+    receipts.push(bytes).expect(rt, "memory");
+    assert_eq!(rt; receipts.len(), 1);
+    assert_eq!(rt; store.put_receipts(alloc, 1, &receipts), Ok(()));
+}
+
+// What the command writes, and its answer.
+fn check<S: Stable>(
+    rt: &impl Abort,
+    alloc: Global,
+    store: &mut S,
+    interval: u32,
+    written: &str,
+    answer: Result<(), CommandError>,
+) {
+    let mut text = Vec::new(alloc);
+    assert_eq!(rt;
+        replay(alloc, store, interval, &mut text),
+        answer,
+        "{interval}"
+    );
+    assert_eq!(rt; text.as_slice(), written.as_bytes(), "{interval}");
+}
+
+fn check_store<S: Stable>(rt: &impl Abort, alloc: Global, store: &mut S) {
+    fill(rt, alloc, store, &RECEIPT);
+    check(rt, alloc, store, 0, AT_START, Ok(()));
+    check(rt, alloc, store, 1, AFTER_RECEIPT, Ok(()));
+    check(
+        rt,
+        alloc,
+        store,
+        2,
+        "",
+        Err(CommandError::MissingReceipt(2)),
+    );
+    check(
+        rt,
+        alloc,
+        store,
+        u32::MAX,
+        "",
+        Err(CommandError::MissingReceipt(2)),
+    );
+}
+
+#[test]
+fn rows_in_memory(rt: HostRuntime) {
+    let mut store = MemStable::new(rt.alloc());
+    check(
+        &rt,
+        rt.alloc(),
+        &mut store,
+        0,
+        "",
+        Err(CommandError::NoCheckpoint),
+    );
+    check_store(&rt, rt.alloc(), &mut store);
+}
+
+#[test]
+fn rows_in_tables(rt: HostRuntime) {
+    let conn = Connection::open_in_memory(rt.alloc()).expect(&rt, "memory");
+    assert!(rt; conn.is_autocommit());
+    match SqlStable::create(rt.alloc(), conn) {
+        Ok(mut store) => check_store(&rt, rt.alloc(), &mut store),
+        Err((error, _conn)) => panic!(rt; "{error:?}"),
+    }
+}
+
+// A receipt that is cut, and one with another byte at a place.
+#[test]
+fn records_that_are_altered(rt: HostRuntime) {
+    for (place, byte, answer) in [
+        (4, 2, CommandError::Damaged(1)),
+        (2, 0, CommandError::Mismatch(1)),
+        (3, 3, CommandError::Mismatch(1)),
+        (16, 2, CommandError::Mismatch(1)),
+    ] {
+        let mut store = MemStable::new(rt.alloc());
+        let mut receipt = RECEIPT;
+        receipt[place] = byte;
+        fill(&rt, rt.alloc(), &mut store, &receipt);
+        check(&rt, rt.alloc(), &mut store, 1, "", Err(answer));
+    }
+    let mut store = MemStable::new(rt.alloc());
+    fill(&rt, rt.alloc(), &mut store, &RECEIPT[..29]);
+    check(
+        &rt,
+        rt.alloc(),
+        &mut store,
+        1,
+        "",
+        Err(CommandError::Damaged(1)),
+    );
+}
+
+// The two calls that fill the store pass.
+#[test]
+fn a_store_that_fails(rt: HostRuntime) {
+    let mut store = FuseStable::new(MemStable::new(rt.alloc()), 2);
+    fill(&rt, rt.alloc(), &mut store, &RECEIPT);
+    check(
+        &rt,
+        rt.alloc(),
+        &mut store,
+        1,
+        "",
+        Err(CommandError::StoreFault),
+    );
+    check(&rt, rt.alloc(), &mut store, 1, AFTER_RECEIPT, Ok(()));
+}
+
+#[test]
+fn texts_of_refusals(rt: HostRuntime) {
+    for (error, text) in [
+        (CommandError::NoCheckpoint, "no checkpoint"),
+        (CommandError::Damaged(7), "damaged 7"),
+        (CommandError::MissingReceipt(8), "missing receipt 8"),
+        (CommandError::Mismatch(9), "mismatch 9"),
+        (CommandError::StoreFault, "store fault"),
+    ] {
+        let told = format!(in rt.alloc(); "{error}").expect(&rt, "memory");
+        assert_eq!(rt; told.as_str(), text);
+    }
+}

@@ -1,0 +1,300 @@
+//! Records against a plain search over a list of rows, on scripts of clusters of 2 to 16 processes.
+use om_interval::{DepVec, Pid};
+use om_recover::{Note, Records, Row, RowKind, Work};
+use std::alloc::{AllocError, Global};
+use std::ops::Range;
+use std::process::Abort;
+use std::test::Fail;
+
+// Numbers that look random: the generator of Knuth's MMIX.
+#[derive(Drop)]
+struct Numbers(u64);
+
+impl Numbers {
+    fn below(&mut self, bound: usize) -> usize {
+        self.0 = self
+            .0
+            .wrapping_mul(6_364_136_223_846_793_005)
+            .wrapping_add(1_442_695_040_888_963_407);
+        if bound == 0 {
+            return 0;
+        }
+        (self.0 >> 33) as usize % bound
+    }
+}
+
+fn is_there(rows: &[Row], kind: RowKind, pid: Pid, x: u32) -> bool {
+    rows.iter().any(|row| row.kind == kind && row.pid == pid && row.interval == x)
+}
+
+// Whether a checkpoint stands at or below the interval, and a log of each interval between.
+fn is_stable(rows: &[Row], pid: Pid, x: u32) -> bool {
+    for y in (0..=x).rev() {
+        if is_there(rows, RowKind::Checkpoint, pid, y) {
+            return true;
+        }
+        if !is_there(rows, RowKind::Log, pid, y) {
+            return false;
+        }
+    }
+    false
+}
+
+fn greatest_stable(rows: &[Row], pid: Pid, bound: u32) -> u32 {
+    for x in (0..=bound).rev() {
+        if is_stable(rows, pid, x) {
+            return x;
+        }
+    }
+    0
+}
+
+fn process(p: usize) -> Option<Pid> {
+    Pid::new(u32::try_from(p).ok()?)
+}
+
+fn place(state: &DepVec, pid: Pid) -> u32 {
+    state.as_slice().get(pid.index()).copied().unwrap_or(0)
+}
+
+fn with_place(state: &DepVec, pid: Pid, x: u32) -> DepVec {
+    let mut changed = *state;
+    if pid.index() < changed.n() {
+        changed.set(pid, x);
+    }
+    changed
+}
+
+// A process whose row at the state depends on an interval beyond the state.
+fn blocked(rows: &[Row], state: &DepVec) -> Option<Pid> {
+    for row in rows {
+        if row.interval == place(state, row.pid) && !row.vec.leq(state) {
+            return Some(row.pid);
+        }
+    }
+    None
+}
+
+fn top(rows: &[Row], pid: Pid) -> u32 {
+    let mut highest = 0;
+    for row in rows {
+        if row.pid == pid {
+            highest = row.interval.max(highest);
+        }
+    }
+    highest
+}
+
+// The greatest recoverable state, from the tops downwards.
+fn recovered(rows: &[Row], n: usize) -> Option<DepVec> {
+    let mut state = DepVec::zeros(n)?;
+    for p in 0..n {
+        let pid = process(p)?;
+        let stable = greatest_stable(rows, pid, top(rows, pid));
+        state = with_place(&state, pid, stable);
+    }
+    for _ in 0..100_000 {
+        let Some(pid) = blocked(rows, &state) else {
+            return Some(state);
+        };
+        let lower = place(&state, pid).saturating_sub(1);
+        state = with_place(&state, pid, greatest_stable(rows, pid, lower));
+    }
+    None
+}
+
+fn greatest_checkpoint(rows: &[Row], pid: Pid, bound: u32) -> u32 {
+    for x in (0..=bound).rev() {
+        if is_there(rows, RowKind::Checkpoint, pid, x) {
+            return x;
+        }
+    }
+    0
+}
+
+// By process, the checkpoint that is used for its place of the state.
+fn used_checkpoints(rows: &[Row], state: &DepVec) -> Option<DepVec> {
+    let mut checkpoints = *state;
+    for p in 0..state.n() {
+        let pid = process(p)?;
+        let used = greatest_checkpoint(rows, pid, place(state, pid));
+        checkpoints = with_place(&checkpoints, pid, used);
+    }
+    Some(checkpoints)
+}
+
+// The vectors of a process after it received a message from another.
+fn received(
+    vecs: &[DepVec],
+    gots: &[DepVec],
+    receiver: usize,
+    sender: usize,
+) -> Option<(DepVec, DepVec)> {
+    let at = process(receiver)?;
+    let from = process(sender)?;
+    let before = vecs.get(receiver)?;
+    let counts = gots.get(receiver)?;
+    let tag = place(vecs.get(sender)?, from);
+    let vec = with_place(before, from, place(before, from).max(tag));
+    let vec = with_place(&vec, at, place(&vec, at).saturating_add(1));
+    let got = with_place(counts, from, place(counts, from).saturating_add(1));
+    Some((vec, got))
+}
+
+// The rows of a run of so many receipts, each a log, a checkpoint or both.
+fn rows_of_a_run(
+    alloc: Global,
+    numbers: &mut Numbers,
+    n: usize,
+    receipts: usize,
+) -> Result<Vec<Row>, Fail> {
+    let zeros = DepVec::zeros(n).ok_or("a cluster")?;
+    let mut vecs = vec![in alloc; zeros; n]?;
+    let mut gots = vec![in alloc; zeros; n]?;
+    let mut rows = Vec::new(alloc);
+    for _ in 0..receipts {
+        let receiver = numbers.below(n);
+        let sender = numbers.below(n);
+        let (vec, got) = received(&vecs, &gots, receiver, sender).ok_or("a process")?;
+        put(&mut vecs, receiver, vec);
+        put(&mut gots, receiver, got);
+        let pid = process(receiver).ok_or("a process")?;
+        let log = Row {
+            kind: RowKind::Log,
+            pid,
+            interval: place(&vec, pid),
+            vec,
+            got,
+        };
+        push_records(&mut rows, &log, numbers.below(8))?;
+    }
+    shuffle(&mut rows, numbers);
+    Ok(rows)
+}
+
+fn put(vectors: &mut [DepVec], at: usize, vector: DepVec) {
+    if let Some(there) = vectors.get_mut(at) {
+        *there = vector;
+    }
+}
+
+fn push_records(rows: &mut Vec<Row>, log: &Row, choice: usize) -> Result<(), AllocError> {
+    if choice != 0 {
+        rows.push(*log)?;
+    }
+    if choice < 3 {
+        rows.push(Row {
+            kind: RowKind::Checkpoint,
+            ..*log
+        })?;
+    }
+    Ok(())
+}
+
+// Moves each row up to eight places.
+fn shuffle(rows: &mut [Row], numbers: &mut Numbers) {
+    for i in 0..rows.len() {
+        let j = i.saturating_add(numbers.below(9));
+        if j < rows.len() {
+            rows.swap(i, j);
+        }
+    }
+}
+
+fn assert_offer(
+    rt: &impl Abort,
+    alloc: Global,
+    records: &mut Records,
+    rows: &mut Vec<Row>,
+    row: Row,
+) -> Result<(), Fail> {
+    let told = records.note(alloc, row, &mut Work::new());
+    let is_known = told == Ok(Note::Known);
+    assert!(rt; told.is_ok(), "{row:?}");
+    assert_eq!(rt; is_known, rows.contains(&row), "{row:?}");
+    if !is_known {
+        rows.push(row)?;
+    }
+    Ok(())
+}
+
+fn assert_recovered(rt: &impl Abort, records: &Records, rows: &[Row]) {
+    let state = recovered(rows, records.n());
+    assert_eq!(rt; Some(records.recovery()), state, "{rows:?}");
+}
+
+fn cut(records: &mut Records, rows: &mut Vec<Row>) {
+    let state = records.recovery();
+    records.cut();
+    rows.retain(|row| row.interval <= place(&state, row.pid));
+}
+
+fn prune(records: &mut Records, rows: &mut Vec<Row>) -> Result<(), Fail> {
+    let state = records.recovery();
+    records.prune();
+    let used = used_checkpoints(rows, &state).ok_or("a cluster")?;
+    rows.retain(|row| place(&used, row.pid) <= row.interval);
+    Ok(())
+}
+
+fn first_rows(alloc: Global, n: usize) -> Result<Vec<Row>, Fail> {
+    let zeros = DepVec::zeros(n).ok_or("a cluster")?;
+    let mut rows = Vec::new(alloc);
+    for p in 0..n {
+        rows.push(Row {
+            kind: RowKind::Checkpoint,
+            pid: process(p).ok_or("a process")?,
+            interval: 0,
+            vec: zeros,
+            got: zeros,
+        })?;
+    }
+    Ok(rows)
+}
+
+// A script twice over, with a cut or a prune now and then: after each step the state is that of the plain search.
+fn assert_script(rt: &impl Abort, alloc: Global, seed: u64) -> Result<(), Fail> {
+    let mut numbers = Numbers(seed);
+    let n = 2 + (seed % 15) as usize;
+    let script = rows_of_a_run(alloc, &mut numbers, n, 24)?;
+    let mut records = Records::new(alloc, n)?;
+    let mut rows = first_rows(alloc, n)?;
+    for row in script.iter().chain(&script) {
+        assert_offer(rt, alloc, &mut records, &mut rows, *row)?;
+        match numbers.below(12) {
+            0 => cut(&mut records, &mut rows),
+            1 => prune(&mut records, &mut rows)?,
+            _ => {}
+        }
+        assert_recovered(rt, &records, &rows);
+    }
+    Ok(())
+}
+
+fn assert_scripts(rt: &impl Abort, alloc: Global, seeds: Range<u64>) -> Result<(), Fail> {
+    for seed in seeds {
+        assert_script(rt, alloc, seed)?;
+    }
+    Ok(())
+}
+
+// A thousand scripts, in four tests for the time that one test is given.
+#[test]
+fn scripts_to_250(rt: HostRuntime) -> Result<(), Fail> {
+    assert_scripts(&rt, rt.alloc(), 0..250)
+}
+
+#[test]
+fn scripts_to_500(rt: HostRuntime) -> Result<(), Fail> {
+    assert_scripts(&rt, rt.alloc(), 250..500)
+}
+
+#[test]
+fn scripts_to_750(rt: HostRuntime) -> Result<(), Fail> {
+    assert_scripts(&rt, rt.alloc(), 500..750)
+}
+
+#[test]
+fn scripts_to_1_000(rt: HostRuntime) -> Result<(), Fail> {
+    assert_scripts(&rt, rt.alloc(), 750..1_000)
+}
