@@ -42,7 +42,17 @@ impl Model for Manager {
 
     ghost coded = { coded_manager };
 
-    ghost view = { λ m. record { rows = m.records.rows; recovery = m.records.state; outputs = map (λ log. log.held) m.logs.items; starts = m.starts; round = m.round; gathering = m.gathering; last = m.last; backs = m.backs; version = m.version } };
+    ghost view = { λ m. record {
+      rows = m.records.rows;
+      recovery = m.records.state;
+      outputs = map (λ log. log.held) m.logs.items;
+      starts = m.starts;
+      round = m.round;
+      gathering = m.gathering;
+      last = m.last;
+      backs = m.backs;
+      version = m.version;
+    } };
 
     ghost invariant = { λ m. AreParts m.records m.logs.items m.starts m.round m.gathering m.last m.backs m.version };
 }

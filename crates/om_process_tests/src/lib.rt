@@ -1,6 +1,8 @@
-//! Tests of a process that is stored, replayed and rolled back.
+//! Tests of a process: its calls, and how it is stored, replayed and rolled back.
 #![tactic(auto)]
 
+#[cfg(test)]
+mod calls;
 #[cfg(test)]
 mod parts;
 #[cfg(test)]

@@ -89,7 +89,8 @@ fn is_next(last: u32, x: u32) -> bool
 // Lets the checkpoint of an interval reach to another.
 fn set_last(bases: &mut BTreeMap<(Pid, u32), Base>, pid: Pid, x: u32, last: u32)
     requires { IsSome (at bases.old.entries pid x) }
-    ensures { (base : Base) → at bases.old.entries pid x ≡ Some base → IsPut bases.old.entries bases.new.entries pid x (record base { last = last }) }
+    ensures { (base : Base) → at bases.old.entries pid x ≡ Some base
+        → IsPut bases.old.entries bases.new.entries pid x (record base { last = last }) }
 {
     if let Some(base) = bases.get_mut(&(pid, x)) {
         base.last = last;

@@ -26,7 +26,9 @@ pub fn nearest_from<V: Copy>(
     pid: Pid,
     from: u32,
 ) -> Option<(u32, V)>
-    ensures { MatchOption result (HasNoneFrom entries.now.entries pid from) (λ found. IsNearestFrom entries.now.entries pid from found.0 found.1) }
+    ensures { MatchOption result
+        (HasNoneFrom entries.now.entries pid from)
+        (λ found. IsNearestFrom entries.now.entries pid from found.0 found.1) }
 {
     match entries.range((pid, from)..).next() {
         None => None,

@@ -3,8 +3,6 @@
 #![tactic(auto)]
 
 #[cfg(test)]
-mod batch;
-#[cfg(test)]
 mod commands;
 #[cfg(test)]
 mod format;
@@ -14,12 +12,6 @@ mod interval;
 mod isa;
 #[cfg(test)]
 mod machine;
-#[cfg(test)]
-mod manager;
-#[cfg(test)]
-mod process;
-#[cfg(test)]
-mod recover;
 #[cfg(test)]
 mod runner;
 #[cfg(test)]

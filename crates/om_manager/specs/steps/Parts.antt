@@ -7,7 +7,9 @@ use Rattle.om_manager.specs.steps.OutputLog.{LogState}
 use Rattle.om_manager.specs.declared.presence.Presence.{Presence}
 
 -- how a manager keeps its parts together
-pub record AreParts (kept : Kept) (logs : List LogState) (starts : List (List ℕ)) (round : ℕ) (gathering : Option (List Presence)) (last_state : List ℕ) (backs : List Bool) (version : ℕ) : Type 0 where
+pub record AreParts
+    (kept : Kept) (logs : List LogState) (starts : List (List ℕ)) (round : ℕ) (gathering : Option (List Presence))
+    (last_state : List ℕ) (backs : List Bool) (version : ℕ) : Type 0 where
   pub some : 0 < length kept.state
   pub few : length kept.state ≤ MAX_PROCESSES
   pub records : IsSound kept

@@ -1,0 +1,9 @@
+//! Tests of the records and of the manager over them; the records also against a plain search.
+#![tactic(auto)]
+
+#[cfg(test)]
+mod batch;
+#[cfg(test)]
+mod manager;
+#[cfg(test)]
+mod records;
