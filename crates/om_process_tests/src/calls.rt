@@ -1,213 +1,209 @@
-use om_format::{Body, Message};
+use crate::parts::{bytes_of, message};
+use om_format::Message;
 use om_interval::{Bounds, Pid, Tag};
 use om_isa::{Ext, Reg};
 use om_machine::Cause::{BufferOutside, FetchOutside};
-use om_process::{Accept, Image, LAST_INTERVAL, ProcCore, Ran, StartFault, Status, laws};
+use om_process::{Accept, LAST_INTERVAL, ProcCore, Ran, StartFault, Status, laws};
 use om_stable::MemStable;
-use std::alloc::{AllocError, Global};
-use std::test::Fail;
+use std::alloc::Global;
+use std::process::Abort;
 
-// Receives, and outputs what came; sends its first 4 bytes to process 1.
-const OUTPUTS_IT: [u32; 10] = [
-    0x00200893, 0x04000513, 0x00400593, 0x00000073, 0x00300893, 0x00050593, 0x04000513, 0x00000073,
-    0x00000893, 0x00000073,
-];
+// Receives, and puts out what came.
+const OUTPUTS_IT: &str =
+    "93082000130500049305400073000000930830009305050013050004730000009308000073000000";
 
-const SENDS_FIRST: [u32; 6] = [
-    0x00100893, 0x00100513, 0x00400613, 0x00000073, 0x00000893, 0x00000073,
-];
+// Sends its first 4 bytes to process 1.
+const SENDS_FIRST: &str = "930810001305100013064000730000009308000073000000";
 
-// Puts out 8 bytes.
-const OUTPUTS_EIGHT: [u32; 4] = [0x00300893, 0x00800513, 0x00800593, 0x00000073];
+// Puts out the 8 bytes from address 8 on.
+const OUTPUTS_EIGHT: &str = "93083000130580009305800073000000";
 
-fn image(alloc: Global, words: &[u32], size: u32) -> Result<Image, AllocError> {
-    let mut bytes = Vec::new(alloc);
-    for word in words {
-        bytes.extend_from_slice(&word.to_le_bytes())?;
-    }
-    Ok(Image {
-        bytes,
-        size,
-        ext: Ext::I,
-    })
-}
+// Puts out the 9 bytes from address 8 on.
+const OUTPUTS_NINE: &str = "93083000130580009305900073000000";
 
-fn process(number: u32) -> Result<Pid, StartFault> {
-    Pid::new(number).ok_or(StartFault::BadPlace)
-}
+// Puts out the 257 bytes from address 8 on.
+const OUTPUTS_TOO_LONG: &str = "93083000130580009305101073000000";
 
-// Process `pid` of `n` with this program, over a store of its own.
-fn started(
+// Sends to process 1.
+const SENDS: &str = "930810001305100073000000";
+
+// The start of process `pid` of `n` with this program, over a store of its own.
+fn start(
+    rt: &impl Abort,
     alloc: Global,
-    words: &[u32],
+    program: &str,
     size: u32,
-    pid: u32,
-    n: usize,
+    (pid, n): (u32, usize),
 ) -> Result<ProcCore, StartFault> {
-    let image = image(alloc, words, size)?;
-    let mut store = MemStable::new(alloc);
-    let pid = process(pid)?;
+    let image = bytes_of(rt, alloc, program);
+    let pid = Pid::new(pid).expect(rt, "a process");
     ProcCore::start(
         alloc,
-        &image.bytes,
-        image.size,
-        image.ext,
+        &image,
+        size,
+        Ext::I,
         pid,
         n,
-        &mut store,
+        &mut MemStable::new(alloc),
     )
+}
+
+fn started(
+    rt: &impl Abort,
+    alloc: Global,
+    program: &str,
+    size: u32,
+    place: (u32, usize),
+) -> ProcCore {
+    start(rt, alloc, program, size, place).expect(rt, "a start")
+}
+
+fn run(rt: &impl Abort, alloc: Global, core: &mut ProcCore, fuel: u64) -> Ran {
+    core.run(alloc, fuel).expect(rt, "memory")
 }
 
 fn x10(core: &ProcCore) -> Option<u32> {
     Reg::new(10).map(|r| core.machine().reg(r))
 }
 
-// Words, size, the steps, the status, x10, and the output that is made, if any: a send to a process that is not there, an
-// output of 8 bytes, one of which a byte lies outside memory, and one that is too long.
-#[test]
-fn calls_are_carried_out_or_refused(rt: HostRuntime) -> Result<(), Fail> {
-    let output = |word: u32| [0x00300893, 0x00800513, word, 0x00000073];
-    let bytes = [0x93, 0x05, 0x80, 0x00, 0x73, 0x00, 0x00, 0x00];
-    for (words, size, steps, cause, value, made) in [
-        (
-            [0x00100893, 0x00100513, 0x00000073, 0],
-            12,
-            3,
-            FetchOutside,
-            u32::MAX,
-            false,
-        ),
-        (output(0x00800593), 16, 4, FetchOutside, 0, true),
-        (output(0x00900593), 16, 3, BufferOutside, 8, false),
-        (output(0x10100593), 16, 4, FetchOutside, u32::MAX, false),
-    ] {
-        let mut core = started(rt.alloc(), &words[..size / 4], size as u32, 0, 1)?;
-        let status = Status::Trapped(cause);
-        assert_eq!(rt;
-            core.run(rt.alloc(), 10)?,
-            Ran { steps, status },
-            "{words:?}"
-        );
-        assert_eq!(rt; core.status(), status, "{words:?}");
-        assert_eq!(rt; x10(&core), Some(value), "{words:?}");
-        assert!(rt; core.outbox(Pid::at(0)).is_empty(), "{words:?}");
-        let outputs = core.outputs_from(0);
-        assert_eq!(rt; outputs.len(), usize::from(made), "{words:?}");
-        if made {
-            assert_eq!(rt; outputs[0].seq, 0);
-            assert_eq!(rt; outputs[0].interval, 0);
-            assert_eq!(rt; outputs[0].bytes.as_slice(), bytes.as_slice());
-        }
+// Compares the outputs from a number on: how many there are, and the bytes of the first.
+fn assert_outputs(rt: &impl Abort, core: &ProcCore, from: u64, count: usize, bytes: &[u8]) {
+    let outputs = core.outputs_from(from);
+    assert_eq!(rt; outputs.len(), count);
+    if let Some(output) = outputs.first() {
+        assert_eq!(rt; (output.seq, output.interval), (from, 0));
+        assert_eq!(rt; output.bytes.as_slice(), bytes);
     }
-    Ok(())
 }
 
-fn message(alloc: Global, from: u32, to: u32, tag: Tag, ssn: u32) -> Result<Message, StartFault> {
-    let bytes = Vec::from_slice(alloc, &[1, 2, 3, 4])?;
-    Ok(Message {
-        from: process(from)?,
-        to: process(to)?,
-        tag,
-        ssn,
-        body: Body::from_vec(bytes),
-    })
+// Program, size, the steps, why it stops, x10, and how many outputs it makes: a send to a process that is not there, an output
+// of 8 bytes, one of which a byte lies outside memory, and one that is too long.
+#[test]
+fn calls_are_carried_out_or_refused(rt: HostRuntime) {
+    let bytes = bytes_of(&rt, rt.alloc(), "9305800073000000");
+    for (program, size, steps, cause, value, made) in [
+        (SENDS, 12, 3, FetchOutside, u32::MAX, 0),
+        (OUTPUTS_EIGHT, 16, 4, FetchOutside, 0, 1),
+        (OUTPUTS_NINE, 16, 3, BufferOutside, 8, 0),
+        (OUTPUTS_TOO_LONG, 16, 4, FetchOutside, u32::MAX, 0),
+    ] {
+        let mut core = started(&rt, rt.alloc(), program, size, (0, 1));
+        let status = Status::Trapped(cause);
+        let ran = run(&rt, rt.alloc(), &mut core, 10);
+        assert_eq!(rt; ran, Ran { steps, status }, "{program}");
+        assert_eq!(rt; core.status(), status, "{program}");
+        assert_eq!(rt; x10(&core), Some(value), "{program}");
+        assert!(rt; core.outbox(Pid::at(0)).is_empty(), "{program}");
+        assert_outputs(&rt, &core, 0, made, &bytes);
+    }
+}
+
+// Runs, offers a message, and compares the answer.
+fn assert_accept(
+    rt: &impl Abort,
+    alloc: Global,
+    core: &mut ProcCore,
+    fuel: u64,
+    (from, to, inc, ssn): (u32, u32, u32, u32),
+    answer: Accept,
+) {
+    run(rt, alloc, core, fuel);
+    let mut offered = message(rt, alloc, from, to, ssn, "01020304");
+    offered.tag = Tag { inc, interval: 7 };
+    assert_eq!(rt;
+        core.accept(alloc, &offered),
+        answer,
+        "{from} {to} {inc} {ssn}"
+    );
 }
 
 // Sender, receiver, incarnation and number of a message to process 0 of 2, and its answer: before the process waits, as it
 // waits, and after it took the first message from 1.
 #[test]
-fn messages_are_taken_or_refused(rt: HostRuntime) -> Result<(), Fail> {
-    let mut core = started(rt.alloc(), &OUTPUTS_IT, 128, 0, 2)?;
-    for (fuel, from, to, inc, ssn, answer) in [
-        (0, 1, 0, 0, 0, Accept::NotWaiting),
-        (10, 1, 1, 0, 0, Accept::Stranger),
-        (10, 2, 0, 0, 0, Accept::Stranger),
-        (10, 1, 0, 1, 0, Accept::Stranger),
-        (10, 1, 0, 0, 1, Accept::Ahead),
-        (10, 1, 0, 0, 0, Accept::Taken(1)),
-        (0, 1, 0, 0, 0, Accept::Repeat),
-        (0, 0, 0, 0, 0, Accept::NotWaiting),
+fn messages_are_taken_or_refused(rt: HostRuntime) {
+    let heap = rt.alloc();
+    let mut core = started(&rt, heap, OUTPUTS_IT, 128, (0, 2));
+    for (fuel, offered, answer) in [
+        (0, (1, 0, 0, 0), Accept::NotWaiting),
+        (10, (1, 1, 0, 0), Accept::Stranger),
+        (10, (2, 0, 0, 0), Accept::Stranger),
+        (10, (1, 0, 1, 0), Accept::Stranger),
+        (10, (1, 0, 0, 1), Accept::Ahead),
+        (10, (1, 0, 0, 0), Accept::Taken(1)),
+        (0, (1, 0, 0, 0), Accept::Repeat),
+        (0, (0, 0, 0, 0), Accept::NotWaiting),
     ] {
-        core.run(rt.alloc(), fuel)?;
-        let tag = Tag { inc, interval: 7 };
-        let offered = message(rt.alloc(), from, to, tag, ssn)?;
-        assert_eq!(rt;
-            core.accept(rt.alloc(), &offered),
-            answer,
-            "{from} {to} {inc} {ssn}"
-        );
+        assert_accept(&rt, heap, &mut core, fuel, offered, answer);
     }
     assert_eq!(rt; core.interval(), 1);
     assert_eq!(rt; core.vec().as_slice(), [1, 7].as_slice());
     assert_eq!(rt; core.got().as_slice(), [0, 1].as_slice());
     assert_eq!(rt; core.machine().bytes(64, 4), Some([1, 2, 3, 4].as_slice()));
     assert_eq!(rt; LAST_INTERVAL, u32::MAX);
-    Ok(())
 }
 
-// The `k`-th message to a process that is kept, where there are so many processes.
-fn frame(alloc: Global, core: &ProcCore, to: Pid, k: usize) -> Result<Option<Message>, AllocError> {
-    if to.index() >= core.vec().n() {
-        return Ok(None);
-    }
-    core.frame(alloc, to, k)
+// The `k`-th message to process 1 that is kept.
+fn frame(rt: &impl Abort, alloc: Global, core: &ProcCore, k: usize) -> Option<Message> {
+    assert!(rt; core.vec().n() > 1);
+    core.frame(alloc, Pid::at(1), k).expect(rt, "memory")
 }
 
 // Drops the messages to a process below a number, and the outputs below one.
-fn trim(core: &mut ProcCore, to: Pid, number: u32, released: u64) {
+fn trim(rt: &impl Abort, core: &mut ProcCore, to: u32, number: u32, released: u64) {
     let mut got = *core.vec();
-    if to.index() < got.n() {
-        got.set(to, number);
-        core.trim(&Bounds { got, released });
-    }
+    let to = Pid::new(to).expect(rt, "a process");
+    assert!(rt; to.index() < got.n());
+    got.set(to, number);
+    core.trim(&Bounds { got, released });
 }
 
 // The third of three processes sends to the second.
 #[test]
-fn messages_are_framed_until_they_are_trimmed(rt: HostRuntime) -> Result<(), Fail> {
-    let mut core = started(rt.alloc(), &SENDS_FIRST, 64, 2, 3)?;
-    let to = Pid::at(1);
+fn messages_are_framed_until_they_are_trimmed(rt: HostRuntime) {
+    let heap = rt.alloc();
+    let mut core = started(&rt, heap, SENDS_FIRST, 64, (2, 3));
     let status = Status::Ended(0);
-    assert_eq!(rt; core.run(rt.alloc(), 10)?, Ran { steps: 5, status });
-    let framed = frame(rt.alloc(), &core, to, 0)?.expect(&rt, "a message");
-    assert_eq!(rt; (framed.from, framed.to), (Pid::at(2), to));
+    assert_eq!(rt; run(&rt, heap, &mut core, 10), Ran { steps: 5, status });
+    let framed = frame(&rt, heap, &core, 0).expect(&rt, "a message");
+    assert_eq!(rt; (framed.from, framed.to), (Pid::at(2), Pid::at(1)));
     let tag = Tag {
         inc: 0,
         interval: 0,
     };
     assert_eq!(rt; (framed.tag, framed.ssn), (tag, 0));
-    assert_eq!(rt; framed.body.as_slice(), [0x93, 0x08, 0x10, 0x00].as_slice());
-    assert!(rt; frame(rt.alloc(), &core, to, 1)?.is_none());
-    trim(&mut core, to, 0, 0);
-    assert!(rt; frame(rt.alloc(), &core, to, 0)?.is_some());
-    trim(&mut core, to, 1, 0);
-    assert!(rt; frame(rt.alloc(), &core, to, 0)?.is_none());
-    Ok(())
+    assert_eq!(rt;
+        framed.body.as_slice(),
+        bytes_of(&rt, heap, "93081000").as_slice()
+    );
+    assert!(rt; frame(&rt, heap, &core, 1).is_none());
+    trim(&rt, &mut core, 1, 0, 0);
+    assert!(rt; frame(&rt, heap, &core, 0).is_some());
+    trim(&rt, &mut core, 1, 1, 0);
+    assert!(rt; frame(&rt, heap, &core, 0).is_none());
 }
 
 // A process that puts out one text of 8 bytes: a bound above what was made drops all there is.
 #[test]
-fn outputs_are_kept_until_they_are_trimmed(rt: HostRuntime) -> Result<(), Fail> {
+fn outputs_are_kept_until_they_are_trimmed(rt: HostRuntime) {
+    let bytes = bytes_of(&rt, rt.alloc(), "9305800073000000");
     for (released, left) in [(0, 1), (1, 0), (9, 0)] {
-        let mut core = started(rt.alloc(), &OUTPUTS_EIGHT, 16, 0, 1)?;
-        core.run(rt.alloc(), 10)?;
-        trim(&mut core, Pid::at(0), 0, released);
-        assert_eq!(rt; core.outputs_from(0).len(), left, "{released}");
-        assert_eq!(rt; core.outputs_from(1).len(), 0, "{released}");
+        let mut core = started(&rt, rt.alloc(), OUTPUTS_EIGHT, 16, (0, 1));
+        run(&rt, rt.alloc(), &mut core, 10);
+        trim(&rt, &mut core, 0, 0, released);
+        assert_outputs(&rt, &core, 0, left, &bytes);
+        assert_outputs(&rt, &core, 1, 0, &bytes);
     }
-    Ok(())
 }
 
 #[test]
-fn a_failed_process_keeps_its_place(rt: HostRuntime) -> Result<(), Fail> {
-    let down = started(rt.alloc(), &SENDS_FIRST, 64, 2, 3)?.fail();
+fn a_failed_process_keeps_its_place(rt: HostRuntime) {
+    let down = started(&rt, rt.alloc(), SENDS_FIRST, 64, (2, 3)).fail();
     assert_eq!(rt; (down.pid, down.n), (Pid::at(2), 3));
-    Ok(())
 }
 
 // Both sides of each limit, in the order of the refusals.
 #[test]
-fn starts_are_refused_in_their_order(rt: HostRuntime) -> Result<(), Fail> {
+fn starts_are_refused_in_their_order(rt: HostRuntime) {
     for (pid, n, size, fault) in [
         (0, 0, 6, Some(StartFault::BadPlace)),
         (0, 17, 6, Some(StartFault::BadPlace)),
@@ -218,16 +214,20 @@ fn starts_are_refused_in_their_order(rt: HostRuntime) -> Result<(), Fail> {
         (15, 16, 24, None),
         (0, 1, 65_536, None),
     ] {
-        let answer = started(rt.alloc(), &SENDS_FIRST, size, pid, n);
+        let answer = start(&rt, rt.alloc(), SENDS_FIRST, size, (pid, n));
         assert_eq!(rt; answer.err(), fault, "{pid} {n} {size}");
     }
+}
+
+#[test]
+fn a_store_takes_one_start(rt: HostRuntime) {
     let mut store = MemStable::new(rt.alloc());
-    let pid = Pid::at(0);
-    let word = [0x73, 0, 0, 0];
-    assert!(rt; ProcCore::start(rt.alloc(), &word, 4, Ext::I, pid, 1, &mut store).is_ok());
-    let again = ProcCore::start(rt.alloc(), &word, 4, Ext::I, pid, 1, &mut store);
-    assert_eq!(rt; again.err(), Some(StartFault::Present));
-    Ok(())
+    let image = bytes_of(&rt, rt.alloc(), "73000000");
+    for fault in [None, Some(StartFault::Present)] {
+        let pid = Pid::at(0);
+        let answer = ProcCore::start(rt.alloc(), &image, 4, Ext::I, pid, 1, &mut store);
+        assert_eq!(rt; answer.err(), fault);
+    }
 }
 
 #[test]
