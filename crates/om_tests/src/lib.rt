@@ -13,6 +13,8 @@ mod isa;
 #[cfg(test)]
 mod machine;
 #[cfg(test)]
+mod programs;
+#[cfg(test)]
 mod runner;
 #[cfg(test)]
 mod text;

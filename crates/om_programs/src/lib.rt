@@ -1,0 +1,9 @@
+//! The programs of a cluster and its processes, as the lines of a script give them.
+#![tactic(auto)]
+
+mod image;
+mod named;
+mod names;
+mod programs;
+
+pub use programs::Programs;

@@ -1,0 +1,173 @@
+//! Programs and processes: what their lines build.
+
+ghost use Rattle.std.specs.Prelude.{◌≡◌, ◌++◌, ◌∷◌, [], map, length, slice_get, true, None, OnOk};
+ghost use Rattle.std.specs.Option.{option_map};
+ghost use Rattle.om_text.specs.Reading.{Gives};
+ghost use Rattle.om_programs.specs.Named.{place_of};
+ghost use Rattle.om_programs.specs.Programs.{no_programs, program, program_line, process_line};
+
+use crate::image::{bytes_of, words_in};
+use crate::named::Named;
+use crate::names::name_of;
+use om_format::MemoryBytes;
+use om_interval::MAX_PROCESSES;
+use om_isa::Ext;
+use om_process::Image;
+use om_text::{BuildError, LineError, number_of};
+use std::alloc::{AllocError, Global};
+use std::marker::Model;
+
+/// The programs of a cluster and its processes, as far as they have been read.
+#[derive(Drop)]
+pub struct Programs {
+    programs: Named<Image>,
+    processes: Named<usize>,
+    is_closed: bool,
+}
+
+impl Model for Programs {
+    ghost use Rattle.std.specs.Prelude.{map};
+    ghost use Rattle.om_programs.specs.Named.{place_of};
+    ghost use Rattle.om_programs.specs.Programs.{Cluster, program};
+
+    ghost Value = { Cluster };
+
+    ghost view = { λ p. record {
+      programs = map (λ e. (e.0, program e.1)) p.programs;
+      processes = p.processes;
+      is_closed = p.is_closed;
+    } };
+}
+
+impl Programs {
+    pub fn new(alloc: Global) -> Programs
+        ensures { result ≡ no_programs }
+    {
+        Programs {
+            programs: Named::new(alloc),
+            processes: Named::new(alloc),
+            is_closed: false,
+        }
+    }
+
+    /// The number of processes.
+    pub fn n(&self) -> usize
+        ensures { result ≡ length self.now.processes }
+    {
+        self.processes.len()
+    }
+
+    /// The name of a process.
+    pub fn name(&self, place: usize) -> Option<&str>
+        ensures { option_map (λ name. name.now) result ≡ option_map (λ e. e.0) (slice_get self.now.processes place) }
+    {
+        let (name, _) = self.processes.get(place)?;
+        Some(name)
+    }
+
+    /// The number of the process of a name.
+    pub fn place(&self, name: &str) -> Option<usize>
+        ensures { result ≡ place_of name.now self.now.processes }
+    {
+        self.processes.place(name)
+    }
+
+    /// The image of a program, by its place among the programs.
+    pub fn image(&self, place: usize) -> Option<&Image>
+        ensures { option_map (λ image. program image.now) result ≡ option_map (λ e. e.1) (slice_get self.now.programs place) }
+    {
+        let (_, image) = self.programs.get(place)?;
+        Some(image)
+    }
+
+    /// Other lines begin: what is given from now on is out of place.
+    pub fn close(&mut self)
+        ensures { self.new ≡ record self.old { is_closed = true } }
+    {
+        self.is_closed = true;
+    }
+
+    /// Takes in a line `program NAME SIZE WORD ..`, by the words behind its first. `ext` says which instructions the program
+    /// may use.
+    pub fn add_program(
+        &mut self,
+        alloc: Global,
+        ext: Ext,
+        words: &[&[u8]],
+    ) -> Result<(), BuildError<LineError>>
+        ensures { Gives (λ _. self.new) result (program_line ext self.old (map (λ word. word.now) words.now)) }
+    {
+        let [name, size, words @ ..] = words else {
+            return Err(LineError::WrongCount.into());
+        };
+        let Some(size) = number_of(size) else {
+            return Err(LineError::BadNumber.into());
+        };
+        let words = words_in(alloc, words)?;
+        let Some(name) = name_of(name) else {
+            return Err(LineError::BadName.into());
+        };
+        if self.program_place(name).is_some() {
+            return Err(LineError::NameTaken.into());
+        }
+        if self.is_closed {
+            return Err(LineError::OutOfPlace.into());
+        }
+        if !MemoryBytes::is_size(size as usize) {
+            return Err(LineError::BadSize.into());
+        }
+        if (size as usize) < 4 * words.len() {
+            return Err(LineError::ImageTooLong.into());
+        }
+        let bytes = bytes_of(alloc, &words)?;
+        self.push_program(alloc, name, Image { bytes, size, ext })?;
+        Ok(())
+    }
+
+    // A program by a new name.
+    fn push_program(&mut self, alloc: Global, name: &str, image: Image) -> Result<(), AllocError>
+        requires new { place_of name.now self.old.programs ≡ None }
+        ensures added { OnOk result (self.new ≡ record self.old {
+          programs = self.old.programs ++ (name.now, program image) ∷ [];
+        }) }
+    {
+        self.programs.add(alloc, name, image)
+    }
+
+    // The place of a program.
+    fn program_place(&self, name: &str) -> Option<usize>
+        ensures { result ≡ place_of name.now self.now.programs }
+    {
+        self.programs.place(name)
+    }
+
+    /// Takes in a line `proc NAME PROGRAM`, by the words behind its first.
+    pub fn add_process(
+        &mut self,
+        alloc: Global,
+        words: &[&[u8]],
+    ) -> Result<(), BuildError<LineError>>
+        ensures { Gives (λ _. self.new) result (process_line self.old (map (λ word. word.now) words.now)) }
+    {
+        let [name, program] = words else {
+            return Err(LineError::WrongCount.into());
+        };
+        let (Some(name), Some(program)) = (name_of(name), name_of(program)) else {
+            return Err(LineError::BadName.into());
+        };
+        if self.processes.place(name).is_some() {
+            return Err(LineError::NameTaken.into());
+        }
+        let Some(place) = self.program_place(program) else {
+            return Err(LineError::NoSuchName.into());
+        };
+        if self.is_closed {
+            return Err(LineError::OutOfPlace.into());
+        }
+        if self.processes.len() >= MAX_PROCESSES {
+            return Err(LineError::TooMany.into());
+        }
+        self.processes.add(alloc, name, place)?;
+        Ok(())
+    }
+}
