@@ -13,7 +13,11 @@ fn assert_program(
     want: Result<(), LineError>,
 ) {
     let told = programs.add_program(alloc, Ext::I, words);
-    assert_eq!(rt; told, want.map_err(|error| BuildError::Invalid(error)), "{words:?}");
+    assert_eq!(rt;
+        told,
+        want.map_err(|error| BuildError::Invalid(error)),
+        "{words:?}"
+    );
 }
 
 // The same of a process.
@@ -25,7 +29,11 @@ fn assert_process(
     want: Result<(), LineError>,
 ) {
     let told = programs.add_process(alloc, words);
-    assert_eq!(rt; told, want.map_err(|error| BuildError::Invalid(error)), "{words:?}");
+    assert_eq!(rt;
+        told,
+        want.map_err(|error| BuildError::Invalid(error)),
+        "{words:?}"
+    );
 }
 
 #[test]
@@ -37,14 +45,20 @@ fn lines_of_programs_are_taken_or_refused(rt: HostRuntime) {
         (&[b"a-b", b"4", b"13"], Err(LineError::BadWord)),
         (&[b"a-b", b"4"], Err(LineError::BadName)),
         (&[b"a", b"6"], Err(LineError::BadSize)),
-        (&[b"a", b"4", b"00000013", b"00000013"], Err(LineError::ImageTooLong)),
+        (
+            &[b"a", b"4", b"00000013", b"00000013"],
+            Err(LineError::ImageTooLong),
+        ),
         (&[b"a", b"0"], Err(LineError::BadSize)),
         (&[b"a", b"65540"], Err(LineError::BadSize)),
         (&[b"a", b"4", b"00500093"], Ok(())),
         (&[b"a", b"6"], Err(LineError::NameTaken)),
         (&[b"B_9", b"65536"], Ok(())),
         (&[b"aaaaaaaaaabbbbbbbbbbccccccccccdd", b"4"], Ok(())),
-        (&[b"aaaaaaaaaabbbbbbbbbbccccccccccddd", b"4"], Err(LineError::BadName)),
+        (
+            &[b"aaaaaaaaaabbbbbbbbbbccccccccccddd", b"4"],
+            Err(LineError::BadName),
+        ),
         (&[b"", b"4"], Err(LineError::BadName)),
     ];
     for (words, want) in cases {
@@ -71,7 +85,10 @@ fn lines_of_processes_are_taken_or_refused(rt: HostRuntime) {
     for (words, want) in cases {
         assert_process(&rt, rt.alloc(), &mut programs, words, want);
     }
-    assert_eq!(rt; (programs.n(), programs.place("a"), programs.place("b")), (2, Some(1), None));
+    assert_eq!(rt;
+        (programs.n(), programs.place("a"), programs.place("b")),
+        (2, Some(1), None)
+    );
     assert_eq!(rt; (programs.name(0), programs.name(2)), (Some("x"), None));
     programs.close();
     let late = Err(LineError::OutOfPlace);
