@@ -1,5 +1,5 @@
 -- A content has one outcome: what is refused is not replayed.
-use Rattle.std.proofs.Common.{◌≡◌, ◌⊎◌, inl, inr, ℕ, suc, ◌+◌, ◌<◌, ◌≤◌, List, [], ◌∷◌, length, refl, sym, ap, ◌∙◌, subst, get_or, arith}
+use Rattle.std.proofs.Common.{◌≡◌, ◌⊎◌, inl, inr, ℕ, ◌+◌, ◌<◌, ◌≤◌, List, [], ◌∷◌, length, refl, sym, ap, ◌∙◌, subst, get_or, arith}
 use Rattle.std.specs.Prelude.{Option, Some, None, IsSome}
 use Rattle.std.specs.FinMap.{get}
 use Rattle.om_format.specs.Receipts.{ReceiptRecord, SpellsReceipt}
@@ -12,7 +12,7 @@ use Rattle.om_process.specs.declared.replay.ReplayFault.TheVariants.{NoCheckpoin
 use Rattle.om_process.specs.Process.{Process, delivered}
 use Rattle.om_process.specs.Turns.{Turns}
 use Rattle.om_process.specs.Replays.{FitsReceipt, Replayed, process_of, received_of}
-use Rattle.om_process.specs.Stored.{Anyone, AreReceiptsAfter, BeginsWith, CanReplay, DoesNotFit, IsCheckpointAt, IsNoMatterOfContent, IsReceiptAt, Refuses, StandsAfter}
+use Rattle.om_process.specs.Stored.{Anyone, AreReceiptsAfter, BeginsWith, CanReplay, DoesNotFit, IsCheckpointAt, IsNoMatterOfContent, IsReceiptAt, Refuses}
 use Rattle.om_process.proofs.Basics.{some_once}
 use Rattle.om_process.proofs.Going.{stays_turns}
 use Rattle.om_process.proofs.Runs.{waits_once}

@@ -1,5 +1,5 @@
 -- Receipts that fit a process, and those that do not.
-use Rattle.std.proofs.Common.{◌≡◌, ◌≢◌, ◌⊎◌, inl, inr, ℕ, zero, suc, ◌+◌, ◌<◌, ◌≤◌, [], ◌∷◌, Some, None, refl, sym, ap, ◌∙◌, subst, get_or, arith}
+use Rattle.std.proofs.Common.{◌≡◌, ◌≢◌, ℕ, zero, suc, ◌+◌, ◌<◌, [], ◌∷◌, None, sym, ap, ◌∙◌, subst, get_or, arith}
 use Rattle.om_format.specs.Receipts.{ReceiptRecord}
 use Rattle.om_process.specs.declared.status.Status.{Status}
 use Rattle.om_process.specs.declared.status.Status.TheVariants.{Waiting}
@@ -7,7 +7,7 @@ use Rattle.om_process.specs.Process.{Process, delivered}
 use Rattle.om_process.specs.Turns.{IsWaiting, Turns, next_turn}
 use Rattle.om_process.specs.Replays.{Replayed, received_of}
 use Rattle.om_process.specs.Core.{CoreState, move_of, size_of, status_of}
-use Rattle.om_process.specs.Stored.{WaitsAt, DoesNotFit}
+use Rattle.om_process.specs.Stored.{WaitsAt}
 use Rattle.om_process.specs.steps.Fitting.{MayTake}
 use Rattle.om_process.proofs.Basics.{some_none}
 use Rattle.om_process.proofs.Going.{counts_turns, stays_turns}

@@ -1,8 +1,7 @@
 -- Rows as they are found, one after another.
-use Rattle.std.proofs.Common.{◌≡◌, ◌≢◌, ◌⊎◌, inl, inr, ℕ, zero, suc, ◌+◌, ◌<◌, ◌≤◌, List, [], ◌∷◌, ◌++◌, Vec, length, map, take, drop, get_or, refl, sym, ap, ◌∙◌, subst, arith}
+use Rattle.std.proofs.Common.{◌≡◌, ◌≢◌, ℕ, zero, suc, ◌+◌, ◌<◌, ◌≤◌, List, [], ◌∷◌, ◌++◌, Vec, length, take, drop, get_or, refl, sym, ap, ◌∙◌, subst, arith}
 use Rattle.std.specs.declared.alloc.Global.{Global}
-use Rattle.std.proofs.lemmas.List.{map_more, map-append, length-map, length-take-le, take-append-drop, append_assoc, length-append}
-use Rattle.std.proofs.Math.Seq.{drop-cons}
+use Rattle.std.proofs.lemmas.List.{map_more, map-append, length-map, length-take-le, take-append-drop}
 use Rattle.om_format.specs.Receipts.{ReceiptRecord, SpellsReceipt}
 use Rattle.om_stable.specs.Content.{rows_of}
 use Rattle.om_process.specs.Process.{Process, delivered}

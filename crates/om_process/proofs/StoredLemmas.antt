@@ -8,7 +8,6 @@ use Rattle.om_format.specs.Outcomes.{Fails}
 use Rattle.om_format.specs.declared.error.DecodeError.{DecodeError}
 use Rattle.om_format.specs.declared.error.DecodeError.TheVariants as decoding
 use Rattle.om_format.specs.declared.version.Version.{Version}
-use Rattle.om_stable.specs.Between.{AreAllBetween}
 use Rattle.om_stable.specs.Content.{Content, IsEffective, Records, between}
 use Rattle.om_stable.proofs.BetweenLemmas.{between-AreAllBetween}
 use Rattle.om_process.specs.declared.replay.ReplayFault.{ReplayFault}
@@ -16,9 +15,9 @@ use Rattle.om_process.specs.declared.replay.ReplayFault.TheVariants.{NoCheckpoin
 use Rattle.om_process.specs.Process.{Process}
 use Rattle.om_process.specs.Replays.{Replayed, process_of}
 use Rattle.om_process.specs.Core.{CoreState, size_of}
-use Rattle.om_process.specs.Stored.{Anyone, AreReceiptsAfter, BeginsWith, HasAll, StandsAfter, ComesTo, IsDamagedCheckpoint, IsReceiptAt, IsCheckpointAt, IsNoMatterOfContent, Refuses}
+use Rattle.om_process.specs.Stored.{Anyone, AreReceiptsAfter, BeginsWith, StandsAfter, ComesTo, IsReceiptAt, IsNoMatterOfContent, Refuses}
 use Rattle.om_process.specs.steps.Rows.{Ascend, AreGapless, ComesFrom, HasReceipts, IsFirstGap, IsReplayFrom, RefusesBytes, RefusesCheckpoint, RefusesFrom, RefusesRow, RefusesRows, RefusesStart, SpellRows, damage}
-use Rattle.om_process.proofs.Basics.{some_once, some_none}
+use Rattle.om_process.proofs.Basics.{some_once}
 use Rattle.om_process.proofs.RowLemmas.{ascend_within, rows_long}
 
 abbrev Row : Type 0

@@ -10,18 +10,18 @@ use crate::trees::{Trees, Vectors};
 use om_interval::{DepVec, Pid};
 
 /// The vectors of a record.
-pub fn vectors_of(trees: &Trees, kind: RowKind, pid: Pid, x: u32) -> Option<Vectors>
+pub fn vectors_of(trees: &Trees, kind: RowKind, pid: Pid, x: u32) -> Option<&Vectors>
     requires { AreTrees trees.now }
-    ensures { MatchOption result (Has (held trees.now) kind pid x → ⊥) (λ vectors. HasRow (held trees.now) (row_of kind pid x vectors)) }
+    ensures { MatchOption result (Has (held trees.now) kind pid x → ⊥) (λ vectors. HasRow (held trees.now) (row_of kind pid x vectors.now)) }
 {
     match kind {
         RowKind::Checkpoint => match trees.bases.get(&(pid, x)) {
             None => None,
-            Some(base) => Some(base.vectors),
+            Some(base) => Some(&base.vectors),
         },
         RowKind::Log => match trees.logs.get(&(pid, x)) {
             None => None,
-            Some(vectors) => Some(*vectors),
+            Some(vectors) => Some(vectors),
         },
     }
 }
@@ -34,7 +34,7 @@ pub fn record_to(trees: &Trees, kind: RowKind, pid: Pid, to: u32) -> Option<Row>
     match kind {
         RowKind::Checkpoint => match nearest_to(&trees.bases, pid, to) {
             None => None,
-            Some((x, base)) => Some(row(kind, pid, x, base.vectors)),
+            Some((x, base)) => Some(row(kind, pid, x, &base.vectors)),
         },
         RowKind::Log => match nearest_to(&trees.logs, pid, to) {
             None => None,
@@ -51,7 +51,7 @@ pub fn record_from(trees: &Trees, kind: RowKind, pid: Pid, from: u32) -> Option<
     match kind {
         RowKind::Checkpoint => match nearest_from(&trees.bases, pid, from) {
             None => None,
-            Some((x, base)) => Some(row(kind, pid, x, base.vectors)),
+            Some((x, base)) => Some(row(kind, pid, x, &base.vectors)),
         },
         RowKind::Log => match nearest_from(&trees.logs, pid, from) {
             None => None,
@@ -60,8 +60,8 @@ pub fn record_from(trees: &Trees, kind: RowKind, pid: Pid, from: u32) -> Option<
     }
 }
 
-fn row(kind: RowKind, pid: Pid, interval: u32, vectors: Vectors) -> Row
-    ensures { result ≡ row_of kind pid interval vectors }
+fn row(kind: RowKind, pid: Pid, interval: u32, vectors: &Vectors) -> Row
+    ensures { result ≡ row_of kind pid interval vectors.now }
 {
     Row {
         kind,
@@ -73,10 +73,10 @@ fn row(kind: RowKind, pid: Pid, interval: u32, vectors: Vectors) -> Row
 }
 
 // The vectors of an interval that has a record.
-fn vectors_at(trees: &Trees, pid: Pid, x: u32) -> Vectors
+fn vectors_at(trees: &Trees, pid: Pid, x: u32) -> &Vectors
     requires in_order { AreTrees trees.now }
     requires there { (kind : _) × Has (held trees.now) kind pid x }
-    ensures { (kind : _) × HasRow (held trees.now) (row_of kind pid x result) }
+    ensures { (kind : _) × HasRow (held trees.now) (row_of kind pid x result.now) }
 {
     if let Some(vectors) = vectors_of(trees, RowKind::Log, pid, x) {
         return vectors;

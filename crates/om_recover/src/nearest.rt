@@ -5,14 +5,16 @@ use om_interval::Pid;
 use std::collections::BTreeMap;
 
 /// Of a process's entries at or below an interval, the nearest.
-pub fn nearest_to<V: Copy>(entries: &BTreeMap<(Pid, u32), V>, pid: Pid, to: u32) -> Option<(u32, V)>
-    ensures { MatchOption result (HasNoneTo entries.now.entries pid to) (λ found. IsNearestTo entries.now.entries pid to found.0 found.1) }
+pub fn nearest_to<V>(entries: &BTreeMap<(Pid, u32), V>, pid: Pid, to: u32) -> Option<(u32, &V)>
+    ensures { MatchOption result
+        (HasNoneTo entries.now.entries pid to)
+        (λ found. IsNearestTo entries.now.entries pid to found.0 found.1.now) }
 {
     match entries.range(..=(pid, to)).next_back() {
         None => None,
         Some((place, value)) => {
             if place.0 == pid {
-                Some((place.1, *value))
+                Some((place.1, value))
             } else {
                 None
             }
@@ -21,20 +23,16 @@ pub fn nearest_to<V: Copy>(entries: &BTreeMap<(Pid, u32), V>, pid: Pid, to: u32)
 }
 
 /// Of a process's entries at or above an interval, the nearest.
-pub fn nearest_from<V: Copy>(
-    entries: &BTreeMap<(Pid, u32), V>,
-    pid: Pid,
-    from: u32,
-) -> Option<(u32, V)>
+pub fn nearest_from<V>(entries: &BTreeMap<(Pid, u32), V>, pid: Pid, from: u32) -> Option<(u32, &V)>
     ensures { MatchOption result
         (HasNoneFrom entries.now.entries pid from)
-        (λ found. IsNearestFrom entries.now.entries pid from found.0 found.1) }
+        (λ found. IsNearestFrom entries.now.entries pid from found.0 found.1.now) }
 {
     match entries.range((pid, from)..).next() {
         None => None,
         Some((place, value)) => {
             if place.0 == pid {
-                Some((place.1, *value))
+                Some((place.1, value))
             } else {
                 None
             }

@@ -1,5 +1,5 @@
 -- Rows of a store as they are found, and what is replayed of them.
-use Rattle.std.specs.Prelude.{◌≡◌, ℕ, ◌+◌, ◌<◌, ◌≤◌, ◌⊎◌, List, [], ◌∷◌, ◌++◌, length, None, IsSome}
+use Rattle.std.specs.Prelude.{◌≡◌, ℕ, ◌+◌, ◌<◌, ◌≤◌, List, [], ◌∷◌, ◌++◌, length, None, IsSome}
 use Rattle.std.specs.FinMap.{get}
 use Rattle.om_format.specs.Receipts.{ReceiptRecord, SpellsReceipt}
 use Rattle.om_format.specs.Checkpoints.{CheckpointRecord, IsSpelled}

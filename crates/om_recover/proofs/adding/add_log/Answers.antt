@@ -20,10 +20,10 @@ returns-then-is_next-clause-ok c =
     let updates = c.in_ok-insert.ensures.updates in
     let in_range : row.interval < 2 ^ 32 = omega arith in
     subst (λ (r : Row). Hold after (set.insert (held c.args.trees.now) r)) (sym is)
-    (hold_with_log_reached c.requires.lawful.0 c.args.trees.now middle after row.pid row.interval c.in-Some.x c.last_of_run-last.result vectors c.in-Some.base
+    (hold_with_log_reached c.requires.lawful.0 c.args.trees.now middle after row.pid row.interval c.in-Some.x c.last_of_run-last.result vectors c.in-Some.base.now
     c.requires.lawful.1 in_range c.requires.indexed (subst (IsFree (held c.args.trees.now)) is c.requires.free)
     (put_of _ _ _ _ vectors c.in_ok-insert.ensures.ordered updates.1 updates.2) refl c.in-Some.ensures (c.if-is_next.ensures.0 refl)
-    c.last_of_run-last.ensures (c.set_last.ensures c.in-Some.base c.in-Some.ensures.there) refl)
+    c.last_of_run-last.ensures (c.set_last.ensures c.in-Some.base.now c.in-Some.ensures.there) refl)
 
 pub returns-else-is_next-clause-ok : goal.returns-else-is_next-clause-ok
 returns-else-is_next-clause-ok c =
@@ -36,7 +36,7 @@ returns-else-is_next-clause-ok c =
     (hold_with_log c.args.trees.now after row.pid row.interval vectors c.requires.indexed (subst (IsFree (held c.args.trees.now)) is c.requires.free)
     (put_of _ _ _ _ vectors c.in_ok-insert.ensures.ordered updates.1 updates.2) refl
     (λ y b near next.
-    let same = one_nearest _ _ _ _ _ b c.in-Some.base near c.in-Some.ensures in
+    let same = one_nearest _ _ _ _ _ b c.in-Some.base.now near c.in-Some.ensures in
     true≢false (sym (c.if-is_next.ensures.1 (subst (λ (b : Base). b.last + 1 ≡ row.interval) same next)))))
 
 pub returns-in_default-clause-ok : goal.returns-in_default-clause-ok

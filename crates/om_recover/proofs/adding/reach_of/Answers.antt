@@ -4,7 +4,7 @@ use Rattle.om_recover.proofs.ReachLemmas.{reaches_its_run}
 use Rattle.om_recover.proofs.adding.reach_of.Goals as goal
 
 pub returns-in-Some : goal.returns-in-Some
-returns-in-Some c = reaches_nearest c.args.trees.now _ _ c.in-Some.base c.requires.indexed c.in-Some.ensures (omega (arith, c.if-row-base.true))
+returns-in-Some c = reaches_nearest c.args.trees.now _ _ c.in-Some.base.now c.requires.indexed c.in-Some.ensures (omega (arith, c.if-row-base.true))
 
 pub returns-in_default : goal.returns-in_default
 returns-in_default c = reaches_its_run c.requires.lawful.0 _ _ _ c.requires.lawful.1 c.requires.kind c.last_of_run.ensures

@@ -12,8 +12,8 @@ returns-in-None c = λ x has within. c.in-None.ensures x (some_base _ _ _ c.requ
 pub returns-in-Some : goal.returns-in-Some
 returns-in-Some c =
     subst (λ (row : Row). IsRecordFrom (held c.args.trees.now) c.args.kind c.args.pid c.args.from row) (sym c.row.ensures)
-    (subst (λ kind. IsRecordFrom (held c.args.trees.now) kind c.args.pid c.args.from (row_of kind c.args.pid c.in-Some.x c.in-Some.base.vectors)) (sym c.in-Checkpoint.is)
-    (base_from _ _ _ _ c.in-Some.base c.requires c.in-Some.ensures))
+    (subst (λ kind. IsRecordFrom (held c.args.trees.now) kind c.args.pid c.args.from (row_of kind c.args.pid c.in-Some.x c.in-Some.base.now.vectors)) (sym c.in-Checkpoint.is)
+    (base_from _ _ _ _ c.in-Some.base.now c.requires c.in-Some.ensures))
 
 pub returns-in-None-nearest_from : goal.returns-in-None-nearest_from
 returns-in-None-nearest_from c = λ x has within. c.in-None-nearest_from.ensures x (some_log _ _ _ c.requires (subst (λ kind. Has (held c.args.trees.now) kind c.args.pid x) c.in-Log.is has)) within
@@ -21,5 +21,5 @@ returns-in-None-nearest_from c = λ x has within. c.in-None-nearest_from.ensures
 pub returns-in-Some-nearest_from : goal.returns-in-Some-nearest_from
 returns-in-Some-nearest_from c =
     subst (λ (row : Row). IsRecordFrom (held c.args.trees.now) c.args.kind c.args.pid c.args.from row) (sym c.row-in-Some-nearest_from.ensures)
-    (subst (λ kind. IsRecordFrom (held c.args.trees.now) kind c.args.pid c.args.from (row_of kind c.args.pid c.in-Some-nearest_from.x c.in-Some-nearest_from.vectors)) (sym c.in-Log.is)
-    (log_from _ _ _ _ c.in-Some-nearest_from.vectors c.requires c.in-Some-nearest_from.ensures))
+    (subst (λ kind. IsRecordFrom (held c.args.trees.now) kind c.args.pid c.args.from (row_of kind c.args.pid c.in-Some-nearest_from.x c.in-Some-nearest_from.vectors.now)) (sym c.in-Log.is)
+    (log_from _ _ _ _ c.in-Some-nearest_from.vectors.now c.requires c.in-Some-nearest_from.ensures))

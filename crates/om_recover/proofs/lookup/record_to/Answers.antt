@@ -12,8 +12,8 @@ returns-in-None c = λ x has within. c.in-None.ensures x (some_base _ _ _ c.requ
 pub returns-in-Some : goal.returns-in-Some
 returns-in-Some c =
     subst (λ (row : Row). IsRecordTo (held c.args.trees.now) c.args.kind c.args.pid c.args.to row) (sym c.row.ensures)
-    (subst (λ kind. IsRecordTo (held c.args.trees.now) kind c.args.pid c.args.to (row_of kind c.args.pid c.in-Some.x c.in-Some.base.vectors)) (sym c.in-Checkpoint.is)
-    (base_to _ _ _ _ c.in-Some.base c.requires c.in-Some.ensures))
+    (subst (λ kind. IsRecordTo (held c.args.trees.now) kind c.args.pid c.args.to (row_of kind c.args.pid c.in-Some.x c.in-Some.base.now.vectors)) (sym c.in-Checkpoint.is)
+    (base_to _ _ _ _ c.in-Some.base.now c.requires c.in-Some.ensures))
 
 pub returns-in-None-nearest_to : goal.returns-in-None-nearest_to
 returns-in-None-nearest_to c = λ x has within. c.in-None-nearest_to.ensures x (some_log _ _ _ c.requires (subst (λ kind. Has (held c.args.trees.now) kind c.args.pid x) c.in-Log.is has)) within
@@ -21,5 +21,5 @@ returns-in-None-nearest_to c = λ x has within. c.in-None-nearest_to.ensures x (
 pub returns-in-Some-nearest_to : goal.returns-in-Some-nearest_to
 returns-in-Some-nearest_to c =
     subst (λ (row : Row). IsRecordTo (held c.args.trees.now) c.args.kind c.args.pid c.args.to row) (sym c.row-in-Some-nearest_to.ensures)
-    (subst (λ kind. IsRecordTo (held c.args.trees.now) kind c.args.pid c.args.to (row_of kind c.args.pid c.in-Some-nearest_to.x c.in-Some-nearest_to.vectors)) (sym c.in-Log.is)
-    (log_to _ _ _ _ c.in-Some-nearest_to.vectors c.requires c.in-Some-nearest_to.ensures))
+    (subst (λ kind. IsRecordTo (held c.args.trees.now) kind c.args.pid c.args.to (row_of kind c.args.pid c.in-Some-nearest_to.x c.in-Some-nearest_to.vectors.now)) (sym c.in-Log.is)
+    (log_to _ _ _ _ c.in-Some-nearest_to.vectors.now c.requires c.in-Some-nearest_to.ensures))

@@ -8,7 +8,7 @@ pub returns-in-None-clause-none : goal.returns-in-None-clause-none
 returns-in-None-clause-none c = λ _ stable. some_nearest _ _ _ c.requires.sorted c.in-None.ensures stable
 
 pub returns-in-Some-clause-yes : goal.returns-in-Some-clause-yes
-returns-in-Some-clause-yes c = λ yes. stable_within _ _ _ _ c.in-Some.base c.requires c.in-Some.ensures (leb-true _ _ yes)
+returns-in-Some-clause-yes c = λ yes. stable_within _ _ _ _ c.in-Some.base.now c.requires c.in-Some.ensures (leb-true _ _ yes)
 
 pub returns-in-Some-clause-none : goal.returns-in-Some-clause-none
-returns-in-Some-clause-none c = λ none stable. true≢false (sym (le-leb _ _ (reached_by _ _ _ _ c.in-Some.base c.requires c.in-Some.ensures stable)) ∙ none)
+returns-in-Some-clause-none c = λ none stable. true≢false (sym (le-leb _ _ (reached_by _ _ _ _ c.in-Some.base.now c.requires c.in-Some.ensures stable)) ∙ none)

@@ -1,4 +1,4 @@
-use Rattle.std.proofs.Common.{◌≡◌, ◌≢◌, rules, sym, subst, refl, length}
+use Rattle.std.proofs.Common.{◌≡◌, ◌≢◌, rules, sym, subst, length}
 use Rattle.std.specs.Prelude.{Err, IfErr}
 use Rattle.std.proofs.lemmas.Result.{IfErr-weaker}
 use Rattle.om_format.specs.CheckpointViews.{checkpoint_record}

@@ -1,8 +1,7 @@
-use Rattle.std.proofs.Common.{◌≡◌, ◌≢◌, ◌+◌, ◌-◌, ◌<◌, ◌≤◌, ◌∙◌, inr, rules, sym, ap, arith}
+use Rattle.std.proofs.Common.{◌≡◌, ◌≢◌, ◌-◌, ◌≤◌, ◌∙◌, inr, rules, sym, ap, arith}
 use Rattle.om_format.specs.Receipts.{receipt_record}
 use Rattle.om_process.specs.declared.status.Status.TheVariants.{Waiting}
 use Rattle.om_process.specs.Process.{Process, delivered}
-use Rattle.om_process.specs.Core.{size_of, with_now}
 use Rattle.om_process.specs.steps.Fitting.{MayTake}
 use Rattle.om_process.proofs.Going.{stays_turns}
 use Rattle.om_process.proofs.Fitting.{delivered_again, stands_at, stands_before}

@@ -1,5 +1,4 @@
-use Rattle.std.proofs.Common.{◌≡◌, ◌+◌, ap, sym, ◌∙◌, subst, length, rules, arith}
-use Rattle.std.specs.Prelude.{IsErrOf}
+use Rattle.std.proofs.Common.{◌≡◌, ◌+◌, ap, ◌∙◌, subst, length, rules, arith}
 use Rattle.om_stable.specs.Content.{IsFree, IsTaken}
 use Rattle.om_process.specs.Core.{AreLast, CoreState}
 use Rattle.om_process.specs.Stores.{first_logged}
