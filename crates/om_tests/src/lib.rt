@@ -21,8 +21,6 @@ mod process;
 #[cfg(test)]
 mod recover;
 #[cfg(test)]
-mod runner;
-#[cfg(test)]
 mod text;
 #[cfg(test)]
 mod world;
