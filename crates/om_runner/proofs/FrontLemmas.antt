@@ -1,4 +1,5 @@
 -- Lists of fronts, and the fronts that words spell.
+use Rattle.std.specs.Prelude.{Contains}
 use Rattle.std.proofs.Common.{◌≡◌, ◌≢◌, ℕ, zero, suc, ◌+◌, ◌-◌, ◌<◌, ◌≤◌, List, [], ◌∷◌, ◌++◌, length, get_or, take, drop, slice_index, refl, sym, ap, ◌∙◌, subst, ⊎_elim, arith, append-nil, All, replicate}
 use mathlib.Core.List.{IsPrefix, map-append}
 use Rattle.std.proofs.lemmas.List.{get_or_append_left, get_or_push, length_push, same_from_push, get_or_past, get_or_default, get_or-take, get_or-drop, get_or-map, length-map, length-take, length-drop, length-replicate, replicate-append-replicate}
@@ -27,6 +28,9 @@ at_most_itself front = record { version = omega arith; round = omega arith; vec 
 pub one_last : (fronts : List Front) (a b : Front) → EndsWith fronts a → EndsWith fronts b → a ≡ b
 one_last fronts a b ends ends' = (same_from_push ends.0 ends'.0 a b (ends.1 ∙ sym ends'.1)).1
 
+begins_within : (xs ys : List Front) → IsPrefix xs ys → (i : ℕ) → i < length xs → i < length ys
+begins_within xs ys p i h = subst (λ l. i < length l) p.1 (grind (arith, common_steps))
+
 -- what was seen before is at most what was posted last
 pub none_behind : (seen fronts : List Front) (last : Front) → IsPrefix seen fronts → EndsWith fronts last → IsPosted fronts → All (λ front. IsAtMost front last) seen
 none_behind seen fronts last begins ends posted k d within =
@@ -38,9 +42,31 @@ none_behind seen fronts last begins ends posted k d within =
     (λ (early : k < length ends.0). subst (λ f. IsAtMost (get_or fronts k d) f) at_end (posted k (length ends.0) d early (omega (arith, long))).at_most)
     (λ (here : k ≡ length ends.0). subst (λ i. IsAtMost (get_or fronts i d) last) (sym here) (subst (λ f. IsAtMost f last) (sym at_end) (at_most_itself last)))
     (early_or_last k (length ends.0) (omega (arith, in_list, long))))
-  where
-    begins_within : (xs ys : List Front) → IsPrefix xs ys → (i : ℕ) → i < length xs → i < length ys
-    begins_within xs ys p i h = subst (λ l. i < length l) p.1 (grind (arith, common_steps))
+
+pub stands_in : (seen board : List Front) (a : Front) → IsPrefix seen board → Contains seen a → Contains board a
+stands_in seen board a begins here = (
+  here.0,
+  begins_within seen board begins here.0 here.1,
+  ap (λ l. get_or l here.0 a) (sym begins.1) ∙ get_or_append_left seen begins.0 a here.0 here.1 ∙ here.2,
+)
+
+version_rises : (x y a b : Front) → x ≡ a → y ≡ b → Rises x y → a.version < b.version
+version_rises x y a b e f up = subst (λ (z : Front). z.version < b.version) e (subst (λ (z : Front). x.version < z.version) f up.version)
+
+-- a posted list has one front for each version
+pub one_front : (board : List Front) (a b : Front) → IsPosted board → Contains board a → Contains board b → a.version ≡ b.version → a ≡ b
+one_front board a b posted here there same =
+    let b_is : get_or board there.0 a ≡ b = get_or_default board there.0 a b there.1 ∙ there.2 in
+    ⊎_elim
+    (λ (early : here.0 < there.0).
+    let rises = version_rises _ _ a b here.2 b_is (posted here.0 there.0 a early there.1) in absurd (omega arith))
+    (λ (late : there.0 ≤ here.0). ⊎_elim
+    (λ (behind : there.0 < here.0).
+    let rises = version_rises _ _ b a b_is here.2 (posted there.0 here.0 a behind here.1) in absurd (omega arith))
+    (λ (not_behind : here.0 ≤ there.0).
+    let place : here.0 ≡ there.0 = omega arith in sym here.2 ∙ ap (λ k. get_or board k a) place ∙ b_is)
+    (cases_lt there.0 here.0))
+    (cases_lt here.0 there.0)
 
 -- fronts and their words
 

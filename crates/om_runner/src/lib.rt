@@ -8,6 +8,7 @@ mod front;
 mod frontier;
 mod hand;
 mod inbox;
+pub mod laws;
 mod order;
 mod shared;
 

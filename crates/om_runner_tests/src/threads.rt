@@ -1,7 +1,7 @@
 ghost use Rattle.std.specs.Prelude.{◌≡◌};
 
 use crate::rows::noted;
-use om_runner::{Blank, Front, Naming, Shared};
+use om_runner::{Blank, Front, Naming, Shared, laws};
 use std::alloc::Global;
 use std::marker::Brand;
 use std::process::Abort;
@@ -54,6 +54,7 @@ fn meet_then_read(rt: HostRuntime) -> Result<(), Fail> {
     assert_eq!(&rt; met.round, 0);
     assert_eq!(&rt; met.vec.as_slice(), [1, 0].as_slice());
     assert_eq!(&rt; read, met);
+    laws::each_version_has_one_front();
     Ok(())
 }
 
