@@ -1,10 +1,10 @@
-ghost use Rattle.std.specs.Prelude.{◌≡◌, ℕ, ◌+◌, ◌-◌, ◌<◌, ◌≤◌, ◌↔◌, ◌++◌, List, length, take, replicate, max, slice_index, slice_set, nat_eq, IsTrue, IsSome, IfSome};
+ghost use Rattle.std.specs.Prelude.{◌≡◌, ℕ, ◌+◌, ◌-◌, ◌^◌, ◌<◌, ◌≤◌, ◌↔◌, ◌++◌, All, List, length, take, replicate, max, slice_index, slice_set, nat_eq, IsTrue, IsSome, IfSome};
 ghost use Rattle.std.specs.Cmp.Lexicographic.{pointwise};
 ghost use Rattle.std.specs.Cmp.Rules.{comparing};
 ghost use Rattle.std.proofs.Common.{rules};
 ghost use Rattle.om_interval.specs.steps.InUse.{AreInUse};
 ghost use Rattle.om_interval.specs.steps.InUseLaws.{length-in_use, padded-in_use};
-ghost use Rattle.om_interval.specs.Vectors.{IsBelow};
+ghost use Rattle.om_interval.specs.Vectors.{IsBelow, words_of};
 ghost use Rattle.om_interval.specs.declared.pid.TheConstants.{MAX_PROCESSES};
 
 use crate::pid::{MAX_PROCESSES, Pid};
@@ -63,6 +63,29 @@ impl DepVec {
         Some(DepVec { count, places })
     }
 
+    /// The vector of these words.
+    pub fn from_words(words: &[u64]) -> DepVec
+        requires some { 1 ≤ length words.now }
+        requires within { length words.now ≤ MAX_PROCESSES }
+        requires fit { All (λ word. word < 2 ^ 32) words.now }
+        ensures { result ≡ words.now }
+    {
+        let count = words.len();
+        let mut places = [0; MAX_PROCESSES];
+        narrow(words, &mut places[..count]);
+        DepVec { count, places }
+    }
+
+    /// The numbers as words, by process, and zeros up to the limit of processes.
+    pub fn to_words(&self) -> [u64; MAX_PROCESSES]
+        ensures words { result ≡ words_of self.now }
+        ensures fit { All (λ word. word < 2 ^ 32) result }
+    {
+        let mut words = [0; MAX_PROCESSES];
+        widen(&self.places, &mut words);
+        words
+    }
+
     /// The number of processes, from 1 to the limit.
     pub fn n(&self) -> usize
         ensures places { result ≡ length self.now }
@@ -111,6 +134,28 @@ impl DepVec {
     {
         let mut pairs = self.as_slice().iter().zip(other.as_slice());
         self.count == other.count && pairs.all(|(low, high)| *low <= *high)
+    }
+}
+
+// Writes words that are numbers of 32 bits as such numbers.
+fn narrow(words: &[u64], numbers: &mut [u32])
+    requires same_places { length words.now ≡ length numbers.old }
+    requires fit { All (λ word. word < 2 ^ 32) words.now }
+    ensures { numbers.new ≡ words.now }
+{
+    for place in 0..words.len() {
+        numbers[place] = words[place] as u32;
+    }
+}
+
+// Writes numbers as words.
+fn widen(numbers: &[u32], words: &mut [u64])
+    requires { length numbers.now ≡ length words.old }
+    ensures same { words.new ≡ numbers.now }
+    ensures fit { All (λ word. word < 2 ^ 32) words.new }
+{
+    for place in 0..numbers.len() {
+        words[place] = u64::from(numbers[place]);
     }
 }
 

@@ -1,1 +1,3 @@
 pub mod OrderLemmas
+pub mod PostingLemmas
+pub mod FrontLemmas

@@ -89,6 +89,12 @@ gets port v may x items views h at =
       (refl, (pair.0 ∙ sym known.2, pair.1 ∙ sym known.3)),
     )
 
+-- what is left of what was put, where the taker knows that
+pub left : (port : ℕ) (v : Hand) → v.takes ≡ true → Learns Relayed port v (λ items. v.puts ≡ true → v.put ≡ v.taken ++ items)
+left port v takes items views h at puts =
+    let mine = h.8 port v at in
+    (mine.0 puts).1 ∙ h.6 ∙ ap (λ l. l ++ items) (sym (mine.1 takes).1)
+
 -- the first pass is cut in two, and the pair is fixed
 pub forks : (port : ℕ) (v : Hand) (from to : ℕ) → v ≡ hand true true 0 0 [] [] → Forks Relayed port v (hand true false from to v.put []) (hand false true from to [] v.taken)
 forks port v from to first items views h at =
@@ -143,6 +149,4 @@ merges port v other u b a items views h at two at' =
     (port, h.1, h.2, h.3, h.4, h.5, h.6, h.7, all_set (Fits port h.1 h.2 h.3 h.4 h.5) vs other (hand false false 0 0 [] []) ((λ p. absurd (off p)), λ p. absurd (off p)) (λ j y apart e. now j y e apart))
 
 pub totals : (port : ℕ) (v : Hand) → v.puts ≡ true → v.takes ≡ true → Learns Relayed port v (λ items. v.put ≡ v.taken ++ items)
-totals port v a b items views h at =
-    let mine = h.8 port v at in
-    (mine.0 a).1 ∙ h.6 ∙ ap (λ l. l ++ items) (sym (mine.1 b).1)
+totals port v puts takes items views h at = left port v takes items views h at puts

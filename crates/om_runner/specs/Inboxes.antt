@@ -1,4 +1,4 @@
-use Rattle.std.specs.Prelude.{◌≡◌, ℕ, List, [], ◌∷◌, ◌++◌, Option, None, Some}
+use Rattle.std.specs.Prelude.{◌≡◌, ℕ, List, [], ◌∷◌, ◌++◌, Option, None, Some, IfSome}
 use Rattle.atomic_table.specs.Seated.{TableId}
 use Rattle.atomic_table.specs.declared.badge.Badge.{Badge}
 use Rattle.crossbeam_channel.specs.declared.flavors.array.Key.{Key}
@@ -18,10 +18,17 @@ pub record Line : Type 0 where
   pub from : ℕ
   pub to : ℕ
 
--- what went through an inbox by one pass, oldest first
+-- what was put into an inbox by one pass, oldest first
 pub record Traffic : Type 0 where
   pub line : Line
   pub messages : List Message
+
+-- what was taken from an inbox by one pass, oldest first; and all that was put, where its holder has taken in the pass that
+-- put
+pub record Takings : Type 0 where
+  pub line : Line
+  pub messages : List Message
+  pub put : Option (List Message)
 
 -- the message goes from the one process of the pair to the other
 pub record IsOfLine (line : Line) (message : Message) : Type 0 where
@@ -43,7 +50,16 @@ MatchPut Put message old new = new ≡ with_message old message
 MatchPut (Full back) message old new = (back ≡ message) × (new ≡ old) × Held CAPACITY (IsEndOf old.messages)
 MatchPut (Gone back) message old new = (back ≡ message) × (new ≡ old)
 
--- the answer to a take, and what has been taken after it
-abbrev pub MatchTake : Option Message → Traffic → Traffic → Type 0
-MatchTake None old new = new ≡ old
-MatchTake (Some message) old new = (new ≡ with_message old message) × IsOfLine old.line message
+-- these are left of what was put, as far as that is known
+abbrev pub AreLeft : Takings → List Message → Type 0
+AreLeft taken left = IfSome taken.put (λ put. put ≡ taken.messages ++ left)
+
+-- with one message more
+abbrev pub with_taken : Takings → Message → Takings
+with_taken taken message = record taken { messages = taken.messages ++ message ∷ [] }
+
+-- the answer to a take, and what has been taken after it: where there was none, nothing was left in the inbox at a moment of
+-- the call
+abbrev pub MatchTake : Option Message → Takings → Takings → Type 0
+MatchTake None old new = (new ≡ old) × Held 0 (AreLeft old)
+MatchTake (Some message) old new = (new ≡ with_taken old message) × IsOfLine old.line message

@@ -1,2 +1,5 @@
 pub mod Inboxes
+pub mod Fronts
+pub mod CellNames
+pub mod Boards
 pub mod steps

@@ -1,4 +1,4 @@
-ghost use Rattle.std.specs.Prelude.{◌≡◌, [], true, false, IfOk};
+ghost use Rattle.std.specs.Prelude.{◌≡◌, [], true, false, None, Some, IfOk};
 ghost use mathlib.Core.List.{IsPrefix};
 ghost use Rattle.crossbeam_channel.specs.Claims.{view as knows, IsSeatAt};
 ghost use Rattle.crossbeam_channel.specs.Ends.{sends_on};
@@ -76,7 +76,8 @@ impl Model for PutPass {
     ghost invariant = { λ p. (p.ticket.me.1 ≡ []) × ((knows p.ticket).puts ≡ true) };
 }
 
-/// The leave to take from one inbox. To a contract it is the inbox's line and what its holder has taken.
+/// The leave to take from one inbox. To a contract it is the inbox's line, what its holder has taken, and all that was put,
+/// once the pass that put is taken in.
 #[derive(Drop)]
 pub struct TakePass {
     ticket: Ticket,
@@ -85,11 +86,12 @@ pub struct TakePass {
 impl Model for TakePass {
     ghost use Rattle.std.specs.Prelude.{◌≡◌, [], true};
     ghost use Rattle.crossbeam_channel.specs.Claims.{view as knows};
-    ghost use Rattle.om_runner.specs.Inboxes.{Traffic};
+    ghost use Rattle.om_runner.specs.Inboxes.{Takings};
+    ghost use Rattle.om_runner.specs.steps.Order.{known_put};
 
-    ghost Value = { Traffic };
+    ghost Value = { Takings };
 
-    ghost view = { λ p. record { line = record { channel = (p.ticket.table_id, p.ticket.me.0.of); from = (knows p.ticket).from; to = (knows p.ticket).to }; messages = (knows p.ticket).taken } };
+    ghost view = { λ p. record { line = record { channel = (p.ticket.table_id, p.ticket.me.0.of); from = (knows p.ticket).from; to = (knows p.ticket).to }; messages = (knows p.ticket).taken; put = known_put (knows p.ticket).puts (knows p.ticket).put } };
 
     ghost invariant = { λ p. (p.ticket.me.1 ≡ []) × ((knows p.ticket).takes ≡ true) };
 }
@@ -112,7 +114,7 @@ impl Inbox {
         ensures from { IfOk result (λ made. made.0.from ≡ from) }
         ensures to { IfOk result (λ made. made.0.to ≡ to) }
         ensures put { IfOk result (λ made. made.1 ≡ record { line = made.0; messages = [] }) }
-        ensures taken { IfOk result (λ made. made.2 ≡ record { line = made.0; messages = [] }) }
+        ensures taken { IfOk result (λ made. made.2 ≡ record { line = made.0; messages = []; put = None }) }
     {
         let (sender, receiver, mut put) = bounded_with(alloc, CAPACITY)?;
         let take = roles::<Brand>(&sender, &mut put, from, to);
@@ -155,11 +157,11 @@ impl Inbox {
         }
     }
 
-    /// Takes in the pass of a sender that has ended: what was taken so far begins what was put.
+    /// Takes in the pass of a sender that has ended: what was taken so far begins what was put. Takes go on as before.
     pub fn settle<R: Wait>(&self, _rt: &R, pass: &mut TakePass, put: PutPass)
         requires own { pass.old.line ≡ self.now }
         requires same_line { put.line ≡ self.now }
-        ensures same { pass.new ≡ pass.old }
+        ensures known { pass.new ≡ record pass.old { put = Some put.messages } }
         ensures settled { IsPrefix pass.old.messages put.messages }
     {
         let PutPass { ticket } = put;

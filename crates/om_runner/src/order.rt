@@ -72,7 +72,7 @@ impl Lesson<Message, Hand> for PutStep {
     ghost fact = { λ v items. IsEndOf v.put items };
 }
 
-/// A message is taken. An empty queue tells nothing.
+/// A message is taken. Where the queue is empty, all that was put is taken, as far as that is known.
 pub struct TakeStep;
 
 impl Outcome<Message, Hand> for TakeStep {
@@ -82,7 +82,9 @@ impl Outcome<Message, Hand> for TakeStep {
 }
 
 impl Lesson<Message, Hand> for TakeStep {
-    ghost fact = { λ v items. Unit {0} };
+    ghost use Rattle.std.specs.Prelude.{◌≡◌, ◌++◌, true};
+
+    ghost fact = { λ v items. v.puts ≡ true → v.put ≡ v.taken ++ items };
 }
 
 /// One pass knows both lists: what was put is what was taken, and then the queue.

@@ -15,8 +15,6 @@ mod machine;
 #[cfg(test)]
 mod programs;
 #[cfg(test)]
-mod runner;
-#[cfg(test)]
 mod text;
 #[cfg(test)]
 mod world;

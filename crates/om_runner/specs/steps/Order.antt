@@ -1,4 +1,4 @@
-use Rattle.std.specs.Prelude.{◌≡◌, ℕ, List, [], ◌∷◌, ◌++◌, Bool, true, All}
+use Rattle.std.specs.Prelude.{◌≡◌, ℕ, List, [], ◌∷◌, ◌++◌, Bool, true, false, Option, None, Some, All}
 use mathlib.Core.Option.{some}
 use lib.ListN.{get_elem?}
 use Rattle.om_format.specs.declared.message.Message.{Message}
@@ -31,3 +31,8 @@ Puts v x w = w ≡ hand v.puts v.takes v.from v.to (v.put ++ x ∷ []) v.taken
 -- the pass has taken one message more, which is of its pair
 abbrev pub Takes : Hand → Message → Hand → Type 0
 Takes v x w = (w ≡ hand v.puts v.takes v.from v.to v.put (v.taken ++ x ∷ [])) × IsOfPair v.from v.to x
+
+-- what is known of all that was put: it is where the pass that put was taken in
+abbrev pub known_put : Bool → List Message → Option (List Message)
+known_put true put = Some put
+known_put false put = None

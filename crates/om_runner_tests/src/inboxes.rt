@@ -3,7 +3,7 @@ ghost use Rattle.om_runner.specs.Inboxes.{IsOfLine};
 
 use om_format::{Body, Message};
 use om_interval::{Pid, Tag};
-use om_runner::{CAPACITY, Inbox, PutAnswer, PutPass};
+use om_runner::{CAPACITY, Inbox, PutAnswer, PutPass, TakePass};
 use std::alloc::{AllocError, Global};
 use std::sync::Wait;
 use std::test::Fail;
@@ -62,6 +62,19 @@ fn fill(
     Ok(filled)
 }
 
+// How many messages are left, taken one by one.
+fn drain(rt: &impl Wait, inbox: &Inbox, pass: &mut TakePass) -> usize
+    requires { pass.old.line ≡ inbox.now }
+{
+    let mut taken = 0;
+    for _ in 0..2 * CAPACITY {
+        if inbox.take(rt, pass).is_some() {
+            taken += 1;
+        }
+    }
+    taken
+}
+
 #[test]
 fn full_inbox(rt: HostRuntime) -> Result<(), Fail> {
     let heap = rt.alloc();
@@ -73,5 +86,6 @@ fn full_inbox(rt: HostRuntime) -> Result<(), Fail> {
     assert_eq!(&rt; put_back(&rt, heap, &inbox, &mut put, 64)?, None);
     inbox.settle(&rt, &mut take, put);
     assert_eq!(&rt; inbox.take(&rt, &mut take).ok_or("a message")?.ssn, 1);
+    assert_eq!(&rt; drain(&rt, &inbox, &mut take), 63);
     Ok(())
 }

@@ -1,0 +1,35 @@
+use om_interval::{DepVec, Pid};
+use om_recover::Note;
+use om_runner::{Board, Front, Frontier, Naming};
+use std::alloc::Global;
+use std::process::Abort;
+use std::sync::Wait;
+
+pub fn process(rt: &impl Abort, number: u32) -> Pid {
+    Pid::new(number).expect(rt, "a process")
+}
+
+pub fn vector(rt: &impl Abort, numbers: &[u32]) -> DepVec {
+    DepVec::from_slice(numbers).expect(rt, "a vector")
+}
+
+// Notes the receipt of interval 1 of process 0 of 2, which depends on no other: the recovery state is raised.
+pub fn noted<K: Naming, R: Wait + Abort>(
+    rt: &R,
+    alloc: Global,
+    board: &mut Board<K>,
+    frontier: &Frontier<K>,
+) {
+    let (vec, got) = (vector(rt, &[1, 0]), vector(rt, &[0, 1]));
+    let told = board.note_logged(rt, alloc, process(rt, 0), 0, 1, &vec, &got, frontier);
+    assert_eq!(rt; told, Ok(Note::Noted { raised: true }));
+}
+
+pub fn assert_front(rt: &impl Abort, front: Front, version: u64, round: u32, vec: &[u32]) {
+    let want = Front {
+        version,
+        round,
+        vec: vector(rt, vec),
+    };
+    assert_eq!(rt; front, want);
+}
