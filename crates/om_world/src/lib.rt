@@ -2,6 +2,10 @@
 #![tactic(auto)]
 
 pub use entry::Entry;
+pub use event::{Answer, Event, Refusal};
+pub use place::Place;
 
 mod entry;
+mod event;
 pub mod laws;
+mod place;

@@ -1,0 +1,1 @@
+-- What a call makes of the cores.
