@@ -89,8 +89,8 @@ sound_core w p c d s at run know = record {
   backed = s.backed;
   running = λ q e held f holds runs. elim (at_change w.cores p q (Some e) (Some d) f) [
     | inl is ↦ subst (λ o. IsRunning (past_of w) o held e) (sym is.0)
-    (subst (IsRunning (past_of w) p held) (sym (once e d is.1))
-    (run held (s.running p c held at (subst (λ o. slice_get w.contents o ≡ Some held) is.0 holds) (subst (Runs w) is.0 runs))))
+        (subst (IsRunning (past_of w) p held) (sym (once e d is.1))
+        (run held (s.running p c held at (subst (λ o. slice_get w.contents o ≡ Some held) is.0 holds) (subst (Runs w) is.0 runs))))
     | inr is ↦ s.running q e held is.1 holds runs
   ];
   up = λ q e f place. elim (at_change w.cores p q (Some e) (Some d) f) [
@@ -277,7 +277,7 @@ running_taken v e held c m within is own size due r =
       state = subst (CheckpointOf program e.to n (taken c m).now) same here;
       kept = kept_more v e e.to c.now.queues within r.kept;
       log = subst (LogOf program e.to n (taken c m).log) same
-      (log_of_more program e.to n h c.log (record { receipt = receipt_for c m; vec = (taken c m).now.vec; got = (taken c m).now.got }) r.log (r.state.0, r.state.1, fits) (row_of program e.to n (taken c m).now (h ++ offers.received m ∷ []) here));
+          (log_of_more program e.to n h c.log (record { receipt = receipt_for c m; vec = (taken c m).now.vec; got = (taken c m).now.got }) r.log (r.state.0, r.state.1, fits) (row_of program e.to n (taken c m).now (h ++ offers.received m ∷ []) here));
       pending = λ i row at. let old = r.pending i row at in record { row_of = at_entry v e e.to row.x (RowOf e.to n row.vec row.got) old.row_of; begun = old.begun; backed = old.backed };
       above = let le = longer v e e.to in record { receipts = λ y le. r.above.receipts y (same_first c.now.interval (length c.log) (length (c.log ++ record { receipt = receipt_for c m; vec = (taken c m).now.vec; got = (taken c m).now.got } ∷ [])) y (length-append c.log (record { receipt = receipt_for c m; vec = (taken c m).now.vec; got = (taken c m).now.got } ∷ [])) le); checkpoints = λ y lt. r.above.checkpoints y (further (length h) (length (history (with_entry v e) e.to)) y le lt) };
     }
@@ -333,8 +333,8 @@ sound_taken w i m e c h s within frame is place at due =
       backed = s.backed;
       running = λ q d held f holds runs. elim (at_change w.cores p q (Some d) (Some (taken c m)) f) [
         | inl same ↦ subst (λ o. IsRunning (with_entry v e) o held d) (sym same.0)
-        (subst (IsRunning (with_entry v e) p held) (sym (once d (taken c m) same.1))
-        (running_taken v e held c m within is own.own own.size due (s.running p c held at (subst (λ o. slice_get w.contents o ≡ Some held) same.0 holds) (subst (Runs w) same.0 runs))))
+            (subst (IsRunning (with_entry v e) p held) (sym (once d (taken c m) same.1))
+            (running_taken v e held c m within is own.own own.size due (s.running p c held at (subst (λ o. slice_get w.contents o ≡ Some held) same.0 holds) (subst (Runs w) same.0 runs))))
         | inr other ↦ running_other v e q held d within other.0 (s.running q d held other.1 holds runs)
       ];
       up = λ q d f stands. elim (at_change w.cores p q (Some d) (Some (taken c m)) f) [

@@ -88,4 +88,3 @@ pub same_map : {S X : Type 0} (f : S → X) (xs : List S) (i : ℕ) (s t : S) �
 same_map f [] i s t at e = refl
 same_map f (x ∷ xs) zero s t at e = ap (λ y. y ∷ map f xs) (ap f (once x s at) ∙ sym e)
 same_map f (x ∷ xs) (suc i) s t at e = ap (λ ys. f x ∷ ys) (same_map f xs i s t at e)
-

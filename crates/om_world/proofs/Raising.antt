@@ -83,9 +83,10 @@ with_manager v m = record { programs = v.programs; live = v.live; manager = m }
 
 kept_raised : (v : Past) (m : ManagerState) (p : ℕ) (qs : List QueueRecord) → GoesOn v.manager m → KeptWithin v p qs → KeptWithin (with_manager v m) p qs
 kept_raised v m p qs g k q queue at =
-    let old = k q queue at in
-    ((λ lt. further queue.first (count_from p (take (recovered v.manager q) (history v q))) (count_from p (take (recovered m q) (history v q))) (old.0 lt) (count_take p (recovered v.manager q) (recovered m q) (history v q) (g.rises q))),
-      (λ is. further queue.first (length (released_by v.manager p)) (length (released_by m p)) (old.1 is) (g.released p)))
+    let old = k q queue at in (
+      (λ lt. further queue.first (count_from p (take (recovered v.manager q) (history v q))) (count_from p (take (recovered m q) (history v q))) (old.0 lt) (count_take p (recovered v.manager q) (recovered m q) (history v q) (g.rises q))),
+      (λ is. further queue.first (length (released_by v.manager p)) (length (released_by m p)) (old.1 is) (g.released p)),
+    )
 
 pub stored_raised : (v : Past) (m : ManagerState) (p : ℕ) (held : Content) → GoesOn v.manager m → IsStored v p held → IsStored (with_manager v m) p held
 stored_raised v m p held g s = record {
@@ -105,7 +106,7 @@ running_raised v m p held c g r = record {
 pub sound_manager : (w : WorldState) (m : ManagerState) → Sound w → GoesOn w.manager m
     → ((p i : ℕ) (o : HeldOutput) → slice_get (held_by m p) i ≡ Some o → AtInterval (history (past_of w) p) o.interval (Makes (program_at w.programs p) p (length w.programs) (length w.programs) i (output_entry o)))
     → ((row : noted.Row) → HasRow m.rows row → HasRow w.manager.rows row
-      ⊎ (AtInterval (history (past_of w) row.pid) row.interval (RowOf row.pid (length w.programs) row.vec row.got) × ((held : Content) → slice_get w.contents row.pid ≡ Some held → HasRecord held row.kind row.interval ⊎ IsOld w.manager row.pid row.kind row.interval)))
+    ⊎ (AtInterval (history (past_of w) row.pid) row.interval (RowOf row.pid (length w.programs) row.vec row.got) × ((held : Content) → slice_get w.contents row.pid ≡ Some held → HasRecord held row.kind row.interval ⊎ IsOld w.manager row.pid row.kind row.interval)))
     → Sound (remade w w.live w.frames w.cores m w.contents w.clean)
 sound_manager w m s g outputs rows = record {
   legal = s.legal;

@@ -4,8 +4,11 @@
 pub use entry::Entry;
 pub use event::{Answer, Event, Refusal};
 pub use place::Place;
+pub use world::World;
 
 mod entry;
 mod event;
 pub mod laws;
 mod place;
+mod run;
+mod world;
