@@ -1,4 +1,5 @@
 pub mod FramesCut
+pub mod Giving
 pub mod Kept
 pub mod Lists
 pub mod Moved

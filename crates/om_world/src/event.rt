@@ -1,4 +1,7 @@
+ghost use Rattle.std.specs.Prelude.{◌≡◌};
+
 use om_process::{Accept, Status};
+use std::alloc::AllocError;
 
 /// What is to happen to a world. A process is told by its number, a frame by its place among those that were made.
 #[derive(Clone, Copy, Debug, PartialEq, Eq)]
@@ -61,4 +64,14 @@ pub enum Refusal {
     Damaged,
     /// Memory ran out.
     Memory,
+}
+
+impl From<AllocError> for Refusal {
+    ghost use Rattle.om_world.specs.declared.event.Refusal.TheVariants.{Memory};
+
+    ghost from_gives = { λ _ why. why ≡ Memory };
+
+    fn from(_e: AllocError) -> Refusal {
+        Refusal::Memory
+    }
 }

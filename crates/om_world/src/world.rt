@@ -1,10 +1,10 @@
 //! The world.
 
-ghost use Rattle.std.specs.Prelude.{◌≡◌, ◌<◌, ◌≤◌, length, map, slice_get, IfSome, IfNone, Option, Some, None};
-ghost use Rattle.om_interval.specs.declared.pid.TheConstants.{MAX_PROCESSES};
-ghost use Rattle.om_process.specs.Core.{CoreState};
+ghost use Rattle.std.specs.Prelude.{◌≡◌, ◌<◌, ◌≤◌, length, map, slice_get, IfOk, IfErr, Some};
+ghost use Rattle.om_world.specs.Happened.{IsUp, NotRunning};
 
 use crate::entry::Entry;
+use crate::event::Refusal;
 use crate::place::Place;
 use om_format::Message;
 use om_manager::Manager;
@@ -76,5 +76,21 @@ impl<S: Stable> World<S> {
         ensures { result.now ≡ self.now.manager }
     {
         &self.manager
+    }
+}
+
+impl<S: Stable> World<S> {
+    // Whether the process is there and up.
+    pub(crate) fn is_up(&self, p: usize) -> Result<(), Refusal>
+        ensures up { IfOk result (λ _. IsUp self.now p) }
+        ensures not_running { IfErr result (λ why. NotRunning self.now p why self.now) }
+    {
+        if p >= self.images.len() {
+            return Err(Refusal::NoProcess);
+        }
+        if self.places[p] != Place::Up {
+            return Err(Refusal::NotUp);
+        }
+        Ok(())
     }
 }
