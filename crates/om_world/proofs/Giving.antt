@@ -54,9 +54,13 @@ after_give IsSound xs w p f x m e cs live i up frame is offer more =
 
 pub given_taken : (w : WorldState) (p f x : ℕ) (m : Message) (e : Entry) (cs : List (Option CoreState)) (live : List Entry) → IsUp w p
     → slice_get w.frames f ≡ Some m → e ≡ entry_of m → IsOffered w.cores p m (accepts.Taken x) cs → live ≡ w.live ++ e ∷ [] → GiveHappened w p f (accepts.Taken x) (remade w live w.frames cs w.manager w.contents w.clean)
-given_taken w p f x m e cs live up frame is offer more =
-    (m, offer.core, record { up = up; frame = frame; core = offer.there }, offer.answers,
-      ap (λ l. remade w l w.frames cs w.manager w.contents w.clean) (more ∙ ap (λ (d : Entry). w.live ++ d ∷ []) is) ∙ ap (λ l. remade w (w.live ++ entry_of m ∷ []) w.frames l w.manager w.contents w.clean) offer.cores)
+given_taken w p f x m e cs live up frame is offer more = (
+  m,
+  offer.core,
+  record { up = up; frame = frame; core = offer.there },
+  offer.answers,
+  ap (λ l. remade w l w.frames cs w.manager w.contents w.clean) (more ∙ ap (λ (d : Entry). w.live ++ d ∷ []) is) ∙ ap (λ l. remade w (w.live ++ entry_of m ∷ []) w.frames l w.manager w.contents w.clean) offer.cores,
+)
 
 pub not_given : (w : WorldState) (p f : ℕ) (m : Message) (a : Accept) (cs : List (Option CoreState)) → IsUp w p → slice_get w.frames f ≡ Some m → ((x : ℕ) → a ≢ accepts.Taken x) → a ≢ accepts.Memory → IsOffered w.cores p m a cs
     → GiveHappened w p f a (remade w w.live w.frames cs w.manager w.contents w.clean)

@@ -4,6 +4,7 @@ pub mod Kept
 pub mod Lists
 pub mod Moved
 pub mod Raising
+pub mod Telling
 pub mod Finish
 pub mod Legal
 pub mod Released

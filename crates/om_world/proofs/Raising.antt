@@ -26,12 +26,12 @@ use Rattle.om_world.specs.Holds.{HasRecord}
 use Rattle.om_world.specs.steps.Sound.{Sound, HasShape, IsFrame, KeptWithin, IsStored, IsPending, IsRunning, IsUpIn, IsOld, Runs}
 use Rattle.om_world.proofs.Kept.{remade}
 
-beyond : (xs : List ℕ) (i : ℕ) → length xs ≤ i → get_or xs i 0 ≡ 0
+pub beyond : (xs : List ℕ) (i : ℕ) → length xs ≤ i → get_or xs i 0 ≡ 0
 beyond [] i le = refl
 beyond (x ∷ xs) zero le = absurd (omega arith)
 beyond (x ∷ xs) (suc i) le = beyond xs i (omega arith)
 
-less : (x y : ℕ) → (x < y) ⊎ (y ≤ x)
+pub less : (x y : ℕ) → (x < y) ⊎ (y ≤ x)
 less x y = grind arith
 
 -- a stable interval has a row
@@ -75,7 +75,7 @@ count_take q (suc x) (suc y) (r ∷ h) le = go (nat_eq r.from q) refl (count_tak
     go true e le = rw e (omega arith)
     go false e le = rw e le
 
-further : (a b y : ℕ) → a ≤ b → b ≤ y → a ≤ y
+pub further : (a b y : ℕ) → a ≤ b → b ≤ y → a ≤ y
 further a b y le lt = omega arith
 
 abbrev with_manager : Past → ManagerState → Past

@@ -19,6 +19,8 @@ use Rattle.om_recover.specs.Records.{log_of, checkpoint_of}
 use Rattle.om_recover.specs.Cutting.{IsEffective, IsPruned}
 use Rattle.om_recover.specs.declared.row.Row as noted
 use Rattle.om_recover.specs.declared.note.Note.{Note}
+use Rattle.om_recover.specs.declared.row.RowKind.{RowKind}
+use Rattle.om_recover.specs.declared.row.RowKind.TheVariants.{Checkpoint, Log}
 use Rattle.om_manager.specs.Bounds.{AreGotFrom}
 use Rattle.om_manager.specs.Notes.{Notes}
 use Rattle.om_manager.specs.Outputs.{HeldOutput}
@@ -141,37 +143,37 @@ NotesAll old p [] new = new ≡ old
 NotesAll old p (row ∷ rows) new =
     (mid : ManagerState) × (note : Note) × Notes old old.round (row_for p row) (Ok note) mid × NotesAll mid p rows new
 
--- the store of process p gained what this core put there
-abbrev pub HasStored : (CoreState → Content → Content → Type 0) → WorldState → ℕ → CoreState → WorldState → Type 0
-HasStored HasGained old p c new =
-    (before : Content) × (after : Content) × (slice_get old.contents p ≡ Some before) × HasGained c before after
+-- the store has gained what the core keeps of its kind: the receipts of its log, or a checkpoint of now
+abbrev pub HasGained : RowKind → CoreState → Content → Content → Type 0
+HasGained Log c before after = HasGainedLog c before after
+HasGained Checkpoint c before after = HasGainedCheckpoint c before after
+
+-- the core once that is stored
+abbrev pub stored : RowKind → CoreState → CoreState
+stored Log c = flushed c
+stored Checkpoint c = checkpointed c
+
+-- the store of process p gained it
+abbrev pub HasStored : RowKind → WorldState → ℕ → CoreState → WorldState → Type 0
+HasStored kind old p c new =
+    (before : Content) × (after : Content) × (slice_get old.contents p ≡ Some before) × HasGained kind c before after
     × (new.contents ≡ slice_set old.contents p after)
 
 -- the first so many of the pending rows of the core, as it was once it had stored, are noted and no longer pending
-pub record HasNoted (old : WorldState) (p : ℕ) (c stored : CoreState) (count : ℕ) (new : WorldState) : Type 0 where
-  pub changes : Changes old p c (with_pending stored (drop count stored.pending)) new
-  pub within : count ≤ length stored.pending
-  pub manager : NotesAll old.manager p (take count stored.pending) new.manager
+pub record HasNoted (old : WorldState) (p : ℕ) (c d : CoreState) (count : ℕ) (new : WorldState) : Type 0 where
+  pub changes : Changes old p c (with_pending d (drop count d.pending)) new
+  pub within : count ≤ length d.pending
+  pub manager : NotesAll old.manager p (take count d.pending) new.manager
   pub frames : new.frames ≡ old.frames
 
-abbrev pub FlushHappened : WorldState → ℕ → ℕ → WorldState → Type 0
-FlushHappened old p count new =
-    (c : CoreState) × HasStored HasGainedLog old p c new × HasNoted old p c (flushed c) count new × (count ≡ length (flushed c).pending)
-
-abbrev pub CheckpointHappened : WorldState → ℕ → ℕ → WorldState → Type 0
-CheckpointHappened old p count new =
-    (c : CoreState) × HasStored HasGainedCheckpoint old p c new × HasNoted old p c (checkpointed c) count new
-    × (count ≡ length (checkpointed c).pending)
+abbrev pub StoreHappened : RowKind → WorldState → ℕ → ℕ → WorldState → Type 0
+StoreHappened kind old p count new =
+    (c : CoreState) × HasStored kind old p c new × HasNoted old p c (stored kind c) count new × (count ≡ length (stored kind c).pending)
 
 -- memory was refused: nothing is stored, or all of it, and some of the pending rows are noted
-abbrev pub FlushStopped : WorldState → ℕ → WorldState → Type 0
-FlushStopped old p new = IsSame old new ⊎ ((c : CoreState) × (count : ℕ)
-    × HasStored HasGainedLog old p c new × HasNoted old p c (flushed c) count new × (count < length (flushed c).pending))
-
-abbrev pub CheckpointStopped : WorldState → ℕ → WorldState → Type 0
-CheckpointStopped old p new = IsSame old new ⊎ ((c : CoreState) × (count : ℕ)
-    × HasStored HasGainedCheckpoint old p c new × HasNoted old p c (checkpointed c) count new
-    × (count < length (checkpointed c).pending))
+abbrev pub StoreStopped : RowKind → WorldState → ℕ → WorldState → Type 0
+StoreStopped kind old p new = IsSame old new ⊎ ((c : CoreState) × (count : ℕ)
+    × HasStored kind old p c new × HasNoted old p c (stored kind c) count new × (count < length (stored kind c).pending))
 
 -- the store of process p has a checkpoint of its interval
 pub record HasCheckpoint (w : WorldState) (p : ℕ) : Type 0 where
@@ -233,10 +235,10 @@ Refused old (Event.Run p fuel) why new = NotRunning old p why new
 Refused old (Event.Give p f) refusals.NoFrame new = IsUp old p × (length old.frames ≤ f) × (new ≡ old)
 Refused old (Event.Give p f) refusals.Memory new = (m : Message) × (c : CoreState) × IsOffer old p f m c × (new ≡ old)
 Refused old (Event.Give p f) why new = NotRunning old p why new
-Refused old (Event.Flush p) refusals.Memory new = IsUp old p × FlushStopped old p new
+Refused old (Event.Flush p) refusals.Memory new = IsUp old p × StoreStopped Log old p new
 Refused old (Event.Flush p) refusals.Fault new = IsUp old p × IsSame old new
 Refused old (Event.Flush p) why new = NotRunning old p why new
-Refused old (Event.Checkpoint p) refusals.Memory new = IsUp old p × CheckpointStopped old p new
+Refused old (Event.Checkpoint p) refusals.Memory new = IsUp old p × StoreStopped Checkpoint old p new
 Refused old (Event.Checkpoint p) refusals.Fault new = IsUp old p × IsSame old new
 Refused old (Event.Checkpoint p) refusals.Present new = IsUp old p × HasCheckpoint old p × IsSame old new
 Refused old (Event.Checkpoint p) why new = NotRunning old p why new
@@ -252,8 +254,8 @@ abbrev pub Happened : WorldState → Event → Answer → WorldState → Type 0
 Happened old event (answers.Refused why) new = Refused old event why new
 Happened old (Event.Run p fuel) (answers.Ran steps status sent made) new = RunHappened old p fuel steps status sent made new
 Happened old (Event.Give p f) (answers.Given answer) new = GiveHappened old p f answer new
-Happened old (Event.Flush p) (answers.Noted count) new = FlushHappened old p count new
-Happened old (Event.Checkpoint p) (answers.Noted count) new = CheckpointHappened old p count new
+Happened old (Event.Flush p) (answers.Noted count) new = StoreHappened Log old p count new
+Happened old (Event.Checkpoint p) (answers.Noted count) new = StoreHappened Checkpoint old p count new
 Happened old (Event.Resend p) (answers.Resent count) new = ResendHappened old p count new
 Happened old (Event.Trim p) answers.Trimmed new = TrimHappened old p new
 Happened old Event.Prune answers.Pruned new = PruneHappened old new

@@ -12,4 +12,5 @@ mod give;
 pub mod laws;
 mod place;
 mod run;
+mod storing;
 mod world;

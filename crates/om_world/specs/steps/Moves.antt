@@ -1,5 +1,19 @@
 -- What a call makes of the cores.
-use Rattle.std.specs.Prelude.{◌≡◌, ℕ, ◌<◌, ◌≤◌, List, length, slice_get, slice_set, Option, Some, Result, Ok, Err}
+use Rattle.std.specs.Prelude.{◌≡◌, ℕ, ◌<◌, ◌≤◌, List, [], ◌∷◌, length, take, slice_get, slice_set, Bool, IsTrue, IsSome, Option, Some, Result, Ok, Err, OnOk, IfErr}
+use Rattle.std.specs.FinMap.{get}
+use Rattle.om_interval.specs.Vectors.{IsBelow}
+use Rattle.om_stable.specs.Content.{Content, IsTaken}
+use Rattle.om_stable.specs.declared.error.StoreError.{StoreError}
+use Rattle.om_stable.specs.declared.error.StoreError.TheVariants.{Present}
+use Rattle.om_process.specs.declared.row.Row.{Row}
+use Rattle.om_process.specs.Stores.{first_logged}
+use Rattle.om_recover.specs.declared.note.Note.{Note}
+use Rattle.om_recover.specs.declared.row.RowKind.{RowKind}
+use Rattle.om_recover.specs.declared.row.RowKind.TheVariants.{Checkpoint, Log}
+use Rattle.om_manager.specs.Notes.{Notes}
+use Rattle.om_manager.specs.Sound.{IsManager, KeepsReleased}
+use Rattle.om_manager.specs.State.{ManagerState}
+use Rattle.om_manager.specs.declared.answers.RecordError.{RecordError}
 use Rattle.om_format.specs.declared.message.Message.{Message}
 use Rattle.om_process.specs.declared.accept.Accept.{Accept}
 use Rattle.om_process.specs.declared.accept.Accept.TheVariants as accepts
@@ -9,7 +23,7 @@ use Rattle.om_world.specs.declared.event.Answer.{Answer}
 use Rattle.om_world.specs.declared.event.Answer.TheVariants as answers
 use Rattle.om_world.specs.declared.event.Refusal.{Refusal}
 use Rattle.om_process.specs.Core.{CoreState, CoreTurns, with_now}
-use Rattle.om_world.specs.Happened.{HasRun}
+use Rattle.om_world.specs.Happened.{HasGained, HasRun, row_for, stored}
 
 -- there is a core at this place
 abbrev pub HasCore : List (Option CoreState) → ℕ → Type 0
@@ -47,3 +61,46 @@ pub record IsOffered (old : List (Option CoreState)) (p : ℕ) (m : Message) (an
 abbrev pub answered : Result Answer Refusal → Answer
 answered (Ok answer) = answer
 answered (Err why) = answers.Refused why
+
+-- ---- stores
+-- what a store answered: it gained what was put there, or nothing, and then it was present only where one was there
+abbrev pub Gained : RowKind → CoreState → Result (Unit {0}) StoreError → Content → Content → Type 0
+Gained kind c (Ok done) before after = HasGained kind c before after
+Gained Log c (Err fault) before after =
+    (after ≡ before) × (fault ≡ Present → IsTaken before.receipts (first_logged c) (length c.log))
+Gained Checkpoint c (Err fault) before after = (after ≡ before) × (fault ≡ Present → IsSome (get before.checkpoints c.now.interval))
+
+abbrev pub after_store : RowKind → CoreState → Result (Unit {0}) StoreError → CoreState
+after_store kind c (Ok done) = stored kind c
+after_store kind c (Err fault) = c
+
+-- one of the stores took a call, which did this to its content
+pub record IsCalled {S : Type 0} (content : S → Content) (is_clean : S → Bool) (IsSound : S → Type 0) (old new : List S) (p : ℕ) (Did : Content → Content → Type 0) : Type 0 where
+  pub before : S
+  pub after : S
+  pub there : slice_get old p ≡ Some before
+  pub stores : new ≡ slice_set old p after
+  pub clean : IsTrue (is_clean after) → IsTrue (is_clean before)
+  pub sound : IsTrue (is_clean after) → IsSound before → IsSound after
+  pub did : IsTrue (is_clean after) → IsSound before → Did (content before) (content after)
+
+-- ---- the manager
+-- a row is offered to the manager
+pub record IsTold (old : ManagerState) (round p : ℕ) (row : Row) (answer : Result Note RecordError) (new : ManagerState) : Type 0 where
+  pub answers : Notes old round (row_for p row) answer new
+  pub sound : IsManager new
+  pub below : IsBelow old.recovery new.recovery
+  pub released : KeepsReleased old new
+
+-- rows are offered in order, and none is refused
+abbrev pub AreTold : ManagerState → ℕ → ℕ → List Row → ManagerState → Type 0
+AreTold old round p [] new = new ≡ old
+AreTold old round p (row ∷ rows) new =
+    (mid : ManagerState) × (note : Note) × IsTold old round p row (Ok note) mid × AreTold mid round p rows new
+
+-- the rows are offered up to the first that is refused
+pub record IsToldUpTo (old : ManagerState) (round p : ℕ) (rows : List Row) (count : ℕ) (end : Result (Unit {0}) RecordError) (new : ManagerState) : Type 0 where
+  pub within : count ≤ length rows
+  pub told : AreTold old round p (take count rows) new
+  pub all : OnOk end (count ≡ length rows)
+  pub refused : IfErr end (λ fault. (row : Row) × (slice_get rows count ≡ Some row) × Notes new round (row_for p row) (Err fault) new)

@@ -67,7 +67,7 @@ returns-in_default g c =
     let w : WorldState = record { programs = map program_of s.images.items; live = s.live.items; frames = s.frames.items; cores = s.cores.items; places = s.places.items; rounds = s.rounds.items; manager = s.manager; contents = map g.S.Stable.content s.stores.items; clean = map g.S.Stable.is_clean s.stores.items } in
     record {
       happened = subst (λ (v : WorldState). GiveHappened v c.args.p c.args.f c.offer_at.result (remade w c.try_reserve.new.self.items w.frames c.offer_at.new.cores.items w.manager w.contents w.clean)) c.self.view_is
-      (subst (λ l. GiveHappened w c.args.p c.args.f c.offer_at.result (remade w l w.frames c.offer_at.new.cores.items w.manager w.contents w.clean)) (sym c.in_ok-try_reserve.ensures.items)
-      (not_given w c.args.p c.args.f c.index-message.result.now c.offer_at.result c.offer_at.new.cores.items up frame c.in_default.not-Taken c.in_default.not-Memory c.offer_at.ensures));
+          (subst (λ l. GiveHappened w c.args.p c.args.f c.offer_at.result (remade w l w.frames c.offer_at.new.cores.items w.manager w.contents w.clean)) (sym c.in_ok-try_reserve.ensures.items)
+          (not_given w c.args.p c.args.f c.index-message.result.now c.offer_at.result c.offer_at.new.cores.items up frame c.in_default.not-Taken c.in_default.not-Memory c.offer_at.ensures));
       manager = ap (λ (v : WorldState). v.manager) c.self.view_is;
     }

@@ -1,0 +1,71 @@
+//! Records that are stored, and rows that are noted.
+
+ghost use Rattle.std.specs.Prelude.{◌≡◌, ◌<◌, ◌≤◌, length, slice_get, slice_set, Some};
+ghost use Rattle.om_process.specs.Core.{CoreState};
+ghost use Rattle.om_world.specs.steps.Moves.{AreTold, Gained, HasCore, IsCalled, IsTold, IsToldUpTo, after_store};
+
+use om_interval::Pid;
+use om_manager::{Manager, RecordError};
+use om_process::{ProcCore, Row};
+use om_recover::{Note, RowKind};
+use om_stable::{Stable, StoreError};
+use std::alloc::Global;
+
+// Stores what the process at a place keeps of a kind: its log, or a checkpoint of now.
+pub(crate) fn store_at<S: Stable>(
+    cores: &mut Vec<Option<ProcCore>>,
+    stores: &mut Vec<S>,
+    p: usize,
+    alloc: Global,
+    kind: RowKind,
+) -> Result<(), StoreError>
+    requires core { HasCore cores.old.items p }
+    requires store { p < length stores.old.items }
+    ensures { (c : CoreState) × (slice_get cores.old.items p ≡ Some (Some c))
+        × (cores.new.items ≡ slice_set cores.old.items p (Some (after_store kind c result)))
+        × IsCalled S.content S.is_clean S.IsSound stores.old.items stores.new.items p (Gained kind c result) }
+{
+    let store = &mut stores[p];
+    match &mut cores[p] {
+        Some(core) => match kind {
+            RowKind::Log => core.flush(alloc, store),
+            RowKind::Checkpoint => core.checkpoint(alloc, store),
+        },
+        None => unreachable!(),
+    }
+}
+
+// Offers a row to the manager.
+fn tell(
+    manager: &mut Manager,
+    alloc: Global,
+    pid: Pid,
+    round: u32,
+    row: &Row,
+) -> Result<Note, RecordError>
+    ensures { IsTold manager.old round pid row.now result manager.new }
+{
+    if row.ckpt {
+        manager.note_checkpoint(alloc, pid, round, row.x, &row.vec, &row.got)
+    } else {
+        manager.note_logged(alloc, pid, round, row.x, &row.vec, &row.got)
+    }
+}
+
+// Offers rows in order, up to the first that is refused, and says how many were not.
+fn tell_all(
+    manager: &mut Manager,
+    alloc: Global,
+    pid: Pid,
+    round: u32,
+    rows: &[Row],
+) -> (usize, Result<(), RecordError>)
+    ensures { IsToldUpTo manager.old round pid rows.now result.0 result.1 manager.new }
+{
+    for count in 0..rows.len() {
+        if let Err(fault) = tell(manager, alloc, pid, round, &rows[count]) {
+            return (count, Err(fault));
+        }
+    }
+    (rows.len(), Ok(()))
+}
