@@ -3,7 +3,9 @@ pub mod Giving
 pub mod Kept
 pub mod Lists
 pub mod Moved
+pub mod Ordered
 pub mod Raising
+pub mod Gaining
 pub mod Telling
 pub mod Finish
 pub mod Legal

@@ -65,7 +65,7 @@ pub record GoesOn (m new : ManagerState) : Type 0 where
   pub released : (p : ℕ) → length (released_by m p) ≤ length (released_by new p)
   pub old : (p : ℕ) (kind : RowKind) (x : ℕ) → IsOld m p kind x → IsOld new p kind x
 
-count_take : (q x y : ℕ) (h : List Received) → x ≤ y → count_from q (take x h) ≤ count_from q (take y h)
+pub count_take : (q x y : ℕ) (h : List Received) → x ≤ y → count_from q (take x h) ≤ count_from q (take y h)
 count_take q zero y h le = omega arith
 count_take q (suc x) zero h le = absurd (omega arith)
 count_take q (suc x) (suc y) [] le = omega arith

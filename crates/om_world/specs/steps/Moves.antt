@@ -72,7 +72,7 @@ Gained Checkpoint c (Err fault) before after = (after ≡ before) × (fault ≡ 
 
 abbrev pub after_store : RowKind → CoreState → Result (Unit {0}) StoreError → CoreState
 after_store kind c (Ok done) = stored kind c
-after_store kind c (Err fault) = c
+after_store kind c (Err why) = c
 
 -- one of the stores took a call, which did this to its content
 pub record IsCalled {S : Type 0} (content : S → Content) (is_clean : S → Bool) (IsSound : S → Type 0) (old new : List S) (p : ℕ) (Did : Content → Content → Type 0) : Type 0 where
