@@ -202,10 +202,14 @@ checkpoint_stored v p a b c own g r s = record {
         → (d : CheckpointRecord) × IsSpelled d bytes × (d.pid ≡ p) × (d.n ≡ length v.programs) × AtInterval (history v p) x (CheckpointOf (program_at v.programs p) p (length v.programs) (process_of d)) × KeptWithin v p (process_of d).queues
     go x bytes le at (inr other) = s.checkpoints x bytes le (sym (get-insert_apart a.checkpoints c.now.interval g.2 x other) ∙ at)
     go x bytes le at (inl same) =
-        let is : g.2 ≡ bytes = once g.2 bytes (sym (get-insert_here a.checkpoints c.now.interval g.2) ∙ ap (get (insert a.checkpoints c.now.interval g.2)) (sym same) ∙ at) in
-        (g.0, subst (IsSpelled g.0) is (V2, g.3), g.1.pid ∙ own.own, g.1.n ∙ own.size,
+        let is : g.2 ≡ bytes = once g.2 bytes (sym (get-insert_here a.checkpoints c.now.interval g.2) ∙ ap (get (insert a.checkpoints c.now.interval g.2)) (sym same) ∙ at) in (
+          g.0,
+          subst (IsSpelled g.0) is (V2, g.3),
+          g.1.pid ∙ own.own,
+          g.1.n ∙ own.size,
           at_all (history v p) x (CheckpointOf (program_at v.programs p) p (length v.programs) (process_of g.0)) (same ∙ interval_is v p a c r) (subst (λ (d : Process). CheckpointOf (program_at v.programs p) p (length v.programs) d (history v p)) (sym g.1.process) r.state),
-          subst (λ (d : Process). KeptWithin v p d.queues) (sym g.1.process) r.kept)
+          subst (λ (d : Process). KeptWithin v p d.queues) (sym g.1.process) r.kept,
+        )
 
 apart_bools : true ≡ false → ⊥
 apart_bools e = cc
@@ -227,10 +231,10 @@ checkpoint_running v p a b c g r = record {
   pending = λ i row e. elim (row_last c.pending (checkpoint_row c) row i e) [
     | inl old ↦ let k = r.pending i row old in record { row_of = k.row_of; begun = k.begun; backed = elim k.backed [ inl has ↦ inl (gained_record Checkpoint c a b (kind_of row) row.x g has) | inr is ↦ inr is ] }
     | inr new ↦ subst (λ (x : Row). IsPending v p b x) (sym new) (record {
-        row_of = at_all (history v p) c.now.interval (RowOf p (length v.programs) c.now.vec c.now.got) (interval_is v p a c r) (row_of (program_at v.programs p) p (length v.programs) c.now (history v p) r.state);
-        begun = λ e. absurd (apart_bools e);
-        backed = inl (g.2, ap (λ (d : Content). get d.checkpoints c.now.interval) g.4 ∙ get-insert_here a.checkpoints c.now.interval g.2);
-      })
+      row_of = at_all (history v p) c.now.interval (RowOf p (length v.programs) c.now.vec c.now.got) (interval_is v p a c r) (row_of (program_at v.programs p) p (length v.programs) c.now (history v p) r.state);
+      begun = λ e. absurd (apart_bools e);
+      backed = inl (g.2, ap (λ (d : Content). get d.checkpoints c.now.interval) g.4 ∙ get-insert_here a.checkpoints c.now.interval g.2);
+    })
   ];
   above = record {
     receipts = λ y lt. ap (λ (d : Content). get d.receipts y) g.4 ∙ r.above.receipts y lt;

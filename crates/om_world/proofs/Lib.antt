@@ -3,6 +3,7 @@ pub mod Giving
 pub mod Kept
 pub mod Lists
 pub mod Moved
+pub mod Noting
 pub mod Ordered
 pub mod Raising
 pub mod Gaining

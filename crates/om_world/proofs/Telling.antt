@@ -105,7 +105,10 @@ released_all old new is keeps p = elim (less p (managers.size_of old)) [
 pub goes_on_by : (old new : ManagerState) → IsManager old → IsBelow old.recovery new.recovery → KeepsReleased old new → ((other : noted.Row) → HasRow old.rows other → HasRow new.rows other)
     → new.starts ≡ old.starts → new.round ≡ old.round → new.gathering ≡ old.gathering → new.backs ≡ old.backs → GoesOn old new
 goes_on_by old new is below keeps rows starts round gathering backs = record {
-  starts = starts; round = round; gathering = gathering; backs = backs;
+  starts = starts;
+  round = round;
+  gathering = gathering;
+  backs = backs;
   rises = λ q. below_all old.recovery new.recovery q below;
   released = released_all old new is keeps;
   old = λ p kind x o.

@@ -1,9 +1,12 @@
 //! Records that are stored, and rows that are noted.
 
-ghost use Rattle.std.specs.Prelude.{◌≡◌, ◌<◌, ◌≤◌, length, slice_get, slice_set, Some};
-ghost use Rattle.om_process.specs.Core.{CoreState};
-ghost use Rattle.om_world.specs.steps.Moves.{AreTold, Gained, HasCore, IsCalled, IsTold, IsToldUpTo, after_store};
+ghost use Rattle.std.specs.Prelude.{◌≡◌, ◌<◌, drop, length, slice_get, slice_set, Some};
+ghost use Rattle.om_interval.specs.declared.pid.TheConstants.{MAX_PROCESSES};
+ghost use Rattle.om_world.specs.Happened.{IsUp};
+ghost use Rattle.om_process.specs.Core.{CoreState, with_pending};
+ghost use Rattle.om_world.specs.steps.Moves.{Gained, HasCalled, HasCore, HasTold, IsCalled, IsTold, IsToldUpTo, after_store};
 
+use crate::world::World;
 use om_interval::Pid;
 use om_manager::{Manager, RecordError};
 use om_process::{ProcCore, Row};
@@ -12,7 +15,7 @@ use om_stable::{Stable, StoreError};
 use std::alloc::Global;
 
 // Stores what the process at a place keeps of a kind: its log, or a checkpoint of now.
-pub(crate) fn store_at<S: Stable>(
+fn store_at<S: Stable>(
     cores: &mut Vec<Option<ProcCore>>,
     stores: &mut Vec<S>,
     p: usize,
@@ -68,4 +71,45 @@ fn tell_all(
         }
     }
     (rows.len(), Ok(()))
+}
+
+// Offers the pending rows of the process at a place, and drops those that were not refused.
+fn note_at(
+    cores: &mut Vec<Option<ProcCore>>,
+    manager: &mut Manager,
+    p: usize,
+    alloc: Global,
+) -> (usize, Result<(), RecordError>)
+    requires core { HasCore cores.old.items p }
+    requires few { p < MAX_PROCESSES }
+    ensures { (c : CoreState) × (slice_get cores.old.items p ≡ Some (Some c))
+        × IsToldUpTo manager.old c.round p c.pending result.0 result.1 manager.new
+        × (cores.new.items ≡ slice_set cores.old.items p (Some (with_pending c (drop result.0 c.pending)))) }
+{
+    match &mut cores[p] {
+        Some(core) => {
+            let (count, end) = tell_all(manager, alloc, Pid::at(p), core.round(), core.pending());
+            core.noted(count);
+            (count, end)
+        }
+        None => unreachable!(),
+    }
+}
+
+impl<S: Stable> World<S> {
+    // Stores what a process that is up keeps of a kind.
+    fn store(&mut self, alloc: Global, p: usize, kind: RowKind) -> Result<(), StoreError>
+        requires { IsUp self.old p }
+        ensures { HasCalled kind self.old p result self.new }
+    {
+        store_at(&mut self.cores, &mut self.stores, p, alloc, kind)
+    }
+
+    // Notes the pending rows of a process that is up.
+    fn note(&mut self, alloc: Global, p: usize) -> (usize, Result<(), RecordError>)
+        requires { IsUp self.old p }
+        ensures { HasTold self.old p result.0 result.1 self.new }
+    {
+        note_at(&mut self.cores, &mut self.manager, p, alloc)
+    }
 }

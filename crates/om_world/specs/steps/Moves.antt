@@ -1,5 +1,5 @@
 -- What a call makes of the cores.
-use Rattle.std.specs.Prelude.{◌≡◌, ℕ, ◌<◌, ◌≤◌, List, [], ◌∷◌, length, take, slice_get, slice_set, Bool, IsTrue, IsSome, Option, Some, Result, Ok, Err, OnOk, IfErr}
+use Rattle.std.specs.Prelude.{◌≡◌, ℕ, ◌<◌, ◌≤◌, List, [], ◌∷◌, length, take, drop, slice_get, slice_set, Bool, true, IsTrue, IsSome, Option, Some, Result, Ok, Err, OnOk, IfErr}
 use Rattle.std.specs.FinMap.{get}
 use Rattle.om_interval.specs.Vectors.{IsBelow}
 use Rattle.om_stable.specs.Content.{Content, IsTaken}
@@ -13,7 +13,10 @@ use Rattle.om_recover.specs.declared.row.RowKind.TheVariants.{Checkpoint, Log}
 use Rattle.om_manager.specs.Notes.{Notes}
 use Rattle.om_manager.specs.Sound.{IsManager, KeepsReleased}
 use Rattle.om_manager.specs.State.{ManagerState}
+use Rattle.om_recover.specs.declared.note.NoteError.TheVariants as refusals
 use Rattle.om_manager.specs.declared.answers.RecordError.{RecordError}
+use Rattle.om_manager.specs.declared.answers.RecordError.TheVariants.{Refused}
+use Rattle.om_world.specs.World.{WorldState, all_clean}
 use Rattle.om_format.specs.declared.message.Message.{Message}
 use Rattle.om_process.specs.declared.accept.Accept.{Accept}
 use Rattle.om_process.specs.declared.accept.Accept.TheVariants as accepts
@@ -22,7 +25,7 @@ use Rattle.om_process.specs.Accepts.{Answers, taken}
 use Rattle.om_world.specs.declared.event.Answer.{Answer}
 use Rattle.om_world.specs.declared.event.Answer.TheVariants as answers
 use Rattle.om_world.specs.declared.event.Refusal.{Refusal}
-use Rattle.om_process.specs.Core.{CoreState, CoreTurns, with_now}
+use Rattle.om_process.specs.Core.{CoreState, CoreTurns, with_now, with_pending}
 use Rattle.om_world.specs.Happened.{HasGained, HasRun, row_for, stored}
 
 -- there is a core at this place
@@ -104,3 +107,20 @@ pub record IsToldUpTo (old : ManagerState) (round p : ℕ) (rows : List Row) (co
   pub told : AreTold old round p (take count rows) new
   pub all : OnOk end (count ≡ length rows)
   pub refused : IfErr end (λ fault. (row : Row) × (slice_get rows count ≡ Some row) × Notes new round (row_for p row) (Err fault) new)
+
+-- a process stored what it keeps of a kind, or its store refused; a log's receipts are never there already
+pub record HasCalled (kind : RowKind) (old : WorldState) (p : ℕ) (answer : Result (Unit {0}) StoreError) (new : WorldState) : Type 0 where
+  pub core : CoreState
+  pub there : slice_get old.cores p ≡ Some (Some core)
+  pub others : new ≡ record old { cores = slice_set old.cores p (Some (after_store kind core answer)); contents = new.contents; clean = new.clean }
+  pub did : all_clean new.clean ≡ true → (before : Content) × (after : Content) × (slice_get old.contents p ≡ Some before)
+      × (new.contents ≡ slice_set old.contents p after) × Gained kind core answer before after
+  pub free : all_clean new.clean ≡ true → kind ≡ Log → answer ≡ Err Present → ⊥
+
+-- the pending rows of a process were offered up to the first that was refused, which was for want of memory
+pub record HasTold (old : WorldState) (p count : ℕ) (end : Result (Unit {0}) RecordError) (new : WorldState) : Type 0 where
+  pub core : CoreState
+  pub there : slice_get old.cores p ≡ Some (Some core)
+  pub told : IsToldUpTo old.manager core.round p core.pending count end new.manager
+  pub others : new ≡ record old { cores = slice_set old.cores p (Some (with_pending core (drop count core.pending))); manager = new.manager }
+  pub memory : all_clean old.clean ≡ true → IfErr end (λ fault. fault ≡ Refused refusals.Memory)
