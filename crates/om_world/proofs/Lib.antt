@@ -7,6 +7,7 @@ pub mod Noting
 pub mod Ordered
 pub mod Raising
 pub mod Gaining
+pub mod Recording
 pub mod Telling
 pub mod Finish
 pub mod Legal

@@ -1,5 +1,5 @@
 -- A world whose process stores, and whose manager is told.
-use Rattle.std.proofs.Common.{◌≡◌, ◌≢◌, ◌⊎◌, inl, inr, ℕ, zero, suc, ◌+◌, ◌-◌, ◌≤◌, ◌<◌, List, [], ◌∷◌, length, take, drop, map, set, Option, Some, Bool, true, false, Result, Ok, Err, refl, sym, ap, ◌∙◌, subst, arith, length-set, length-append}
+use Rattle.std.proofs.Common.{◌≡◌, ◌≢◌, ◌⊎◌, inl, inr, ℕ, zero, suc, ◌+◌, ◌-◌, ◌≤◌, ◌<◌, List, [], ◌∷◌, length, take, drop, map, set, Option, Some, None, Bool, true, false, Result, Ok, Err, refl, sym, ap, ◌∙◌, subst, arith, length-set, length-append}
 use Rattle.std.specs.Prelude.{slice_get, slice_index_or, IfErr, if◌then◌else◌, IsTrue, IsSome}
 use Rattle.std.specs.FinMap.{get}
 use Rattle.om_stable.specs.Content.{Content, IsTaken}
@@ -110,7 +110,7 @@ at_drop (r ∷ rows) (suc k) i row at = ap (slice_get (r ∷ rows)) (next k i) �
     next k i = omega arith
 
 -- a core whose first pending rows were noted
-abbrev IsNotedIn : WorldState → ℕ → ℕ → Result (Unit {0}) RecordError → ManagerState → List (Option CoreState) → Type 0
+abbrev pub IsNotedIn : WorldState → ℕ → ℕ → Result (Unit {0}) RecordError → ManagerState → List (Option CoreState) → Type 0
 IsNotedIn w p count end m cs = (c : CoreState) × (slice_get w.cores p ≡ Some (Some c)) × IsToldUpTo w.manager c.round p c.pending count end m
     × (cs ≡ set w.cores p (Some (with_pending c (drop count c.pending))))
 
@@ -135,9 +135,11 @@ after_note IsSound xs w p count end m cs i up n =
     subst (λ l. IsWorld IsSound xs (remade w w.live w.frames l m w.contents w.clean)) (sym n.3) (record {
       shape = shape_core (with_m w m) p c d w.live w.frames m w.contents w.clean h at refl refl refl h.manager refl;
       clean = λ all.
-          let s = i.clean all in let k = known_after w p count end m c i.shape s.1 up at t in
-          (s.0, sound_core (with_m w m) p c d k.1 at (λ held r. record { state = r.state; kept = r.kept; log = r.log; pending = λ j row f. r.pending (count + j) row (at_drop c.pending count j row f); above = record { receipts = r.above.receipts; checkpoints = r.above.checkpoints } })
-          (λ u. record { round = u.round; starts = u.starts; inc = u.inc; away = u.away }));
+          let s = i.clean all in let k = known_after w p count end m c i.shape s.1 up at t in (
+            s.0,
+            sound_core (with_m w m) p c d k.1 at (λ held r. record { state = r.state; kept = r.kept; log = r.log; pending = λ j row f. r.pending (count + j) row (at_drop c.pending count j row f); above = record { receipts = r.above.receipts; checkpoints = r.above.checkpoints } })
+                (λ u. record { round = u.round; starts = u.starts; inc = u.inc; away = u.away }),
+          );
     })
 
 refused_memory : (w : WorldState) (p count : ℕ) (end : Result (Unit {0}) RecordError) (m : ManagerState) (c : CoreState) → HasShape w → Sound w → IsUp w p → slice_get w.cores p ≡ Some (Some c) → IsToldUpTo w.manager c.round p c.pending count end m → IfErr end (λ fault. fault ≡ Refused Memory)
@@ -162,16 +164,18 @@ refused_memory w p count (Err fault) m c h s up at t =
 pub has_told : {S : Type 0} (IsSound : S → Type 0) (xs : List S) (w : WorldState) (p count : ℕ) (end : Result (Unit {0}) RecordError) (m : ManagerState) (cs : List (Option CoreState)) → IsWorld IsSound xs w → IsUp w p → IsNotedIn w p count end m cs
     → HasTold w p count end (remade w w.live w.frames cs m w.contents w.clean)
 has_told IsSound xs w p count end m cs i up n = record {
-  core = n.0; there = n.1; told = n.2;
+  core = n.0;
+  there = n.1;
+  told = n.2;
   others = ap (λ l. remade w w.live w.frames l m w.contents w.clean) n.3;
   memory = λ all. let s = i.clean all in refused_memory w p count end m n.0 i.shape s.1 up n.1 n.2;
 }
 
 -- ---- a store that was called
-abbrev IsCalledIn : {S : Type 0} → (S → Content) → (S → Bool) → (S → Type 0) → RowKind → List (Option CoreState) → ℕ → Result (Unit {0}) StoreError → List S → List S → List (Option CoreState) → Type 0
+abbrev pub IsCalledIn : {S : Type 0} → (S → Content) → (S → Bool) → (S → Type 0) → RowKind → List (Option CoreState) → ℕ → Result (Unit {0}) StoreError → List S → List S → List (Option CoreState) → Type 0
 IsCalledIn content clean IsSound kind cores p answer xs ys cs = (c : CoreState) × (slice_get cores p ≡ Some (Some c)) × (cs ≡ set cores p (Some (after_store kind c answer))) × IsCalled content clean IsSound xs ys p (Gained kind c answer)
 
-abbrev over : {S : Type 0} → (S → Content) → (S → Bool) → WorldState → List S → List (Option CoreState) → WorldState
+abbrev pub over : {S : Type 0} → (S → Content) → (S → Bool) → WorldState → List S → List (Option CoreState) → WorldState
 over content clean w xs cs = remade w w.live w.frames cs w.manager (map content xs) (map clean xs)
 
 same_stored : (kind : RowKind) (c : CoreState) → ((stored kind c).own ≡ c.own) × ((stored kind c).now ≡ c.now)
@@ -189,10 +193,11 @@ after_called content clean IsSound kind w p (Ok done) xs ys cs i up n =
       clean = λ all.
           let before = clean_before clean xs p k.before k.after k.there k.clean all in
           let s = i.clean before.0 in
-          let was = sound_at IsSound xs p k.before s.0 k.there in
-          (sound_set IsSound xs p k.after s.0 (k.sound before.1 was),
+          let was = sound_at IsSound xs p k.before s.0 k.there in (
+            sound_set IsSound xs p k.after s.0 (k.sound before.1 was),
             subst (λ l. Sound (remade w w.live w.frames (set w.cores p (Some (stored kind c))) w.manager l (map clean (set xs p k.after)))) (map_set content xs p k.after)
-            (sound_store kind (over content clean w xs w.cores) p (content k.before) (content k.after) c (map clean (set xs p k.after)) i.shape s.1 at (map_at content xs p k.before k.there) (inl up) (k.did before.1 was)));
+                (sound_store kind (over content clean w xs w.cores) p (content k.before) (content k.after) c (map clean (set xs p k.after)) i.shape s.1 at (map_at content xs p k.before k.there) (inl up) (k.did before.1 was)),
+          );
     }))
 after_called content clean IsSound kind w p (Err why) xs ys cs i up n =
     let c = n.0 in let at = n.1 in let k = n.3 in
@@ -203,12 +208,45 @@ after_called content clean IsSound kind w p (Err why) xs ys cs i up n =
       clean = λ all.
           let before = clean_before clean xs p k.before k.after k.there k.clean all in
           let s = i.clean before.0 in
-          let was = sound_at IsSound xs p k.before s.0 k.there in
-          (sound_set IsSound xs p k.after s.0 (k.sound before.1 was),
+          let was = sound_at IsSound xs p k.before s.0 k.there in (
+            sound_set IsSound xs p k.after s.0 (k.sound before.1 was),
             subst (λ l. Sound (remade w w.live w.frames w.cores w.manager l (map clean (set xs p k.after)))) (same_map content xs p k.before k.after k.there (same_content kind c why (content k.before) (content k.after) (k.did before.1 was)))
-            (sound_clean (over content clean w xs w.cores) (map content xs) (map clean xs) (map clean (set xs p k.after)) s.1));
+                (sound_clean (over content clean w xs w.cores) (map content xs) (map clean xs) (map clean (set xs p k.after)) s.1),
+          );
     }))
   where
     same_content : (kind : RowKind) (c : CoreState) (why : StoreError) (a b : Content) → Gained kind c (Err why) a b → b ≡ a
     same_content Log c why a b g = g.0
     same_content Checkpoint c why a b g = g.0
+
+-- what the call did, as the world is told it
+pub has_called : {S : Type 0} (content : S → Content) (clean : S → Bool) (IsSound : S → Type 0) (kind : RowKind) (w : WorldState) (p : ℕ) (answer : Result (Unit {0}) StoreError) (xs ys : List S) (cs : List (Option CoreState))
+    → IsWorld IsSound xs (over content clean w xs w.cores) → IsUp w p → IsCalledIn content clean IsSound kind w.cores p answer xs ys cs → HasCalled kind (over content clean w xs w.cores) p answer (over content clean w ys cs)
+has_called content clean IsSound kind w p answer xs ys cs i up n = record {
+  core = n.0;
+  there = n.1;
+  others = ap (λ l. over content clean w ys l) n.2;
+  did = λ all. let d = done all in (content n.3.before, content n.3.after, d.0, d.1, d.2);
+  was_clean = λ all. let k = n.3 in (clean_before clean xs p k.before k.after k.there k.clean (subst (λ zs. all_clean (map clean zs) ≡ true) k.stores all)).0;
+  free = λ all log present. let d = done all in taken (d.2) log present (d.3 (length n.0.log));
+}
+  where
+    done : all_clean (map clean ys) ≡ true → (slice_get (map content xs) p ≡ Some (content n.3.before)) × (map content ys ≡ set (map content xs) p (content n.3.after)) × Gained kind n.0 answer (content n.3.before) (content n.3.after)
+        × ((k : ℕ) → IsTaken (content n.3.before).receipts (first_logged n.0) k → ⊥)
+    done all =
+        let k = n.3 in let at = n.1 in
+        let before = clean_before clean xs p k.before k.after k.there k.clean (subst (λ zs. all_clean (map clean zs) ≡ true) k.stores all) in
+        let s = i.clean before.0 in
+        let was = sound_at IsSound xs p k.before s.0 k.there in
+        let here = map_at content xs p k.before k.there in (
+          here,
+          ap (map content) k.stores ∙ sym (map_set content xs p k.after),
+          k.did before.1 was,
+          λ j t. let r = s.1.running p n.0 (content k.before) at here (inl up) in some_none (get (content k.before).receipts t.0) (r.above.receipts t.0 t.1) t.3,
+        )
+      where
+        some_none : (o : Option (List ℕ)) → o ≡ None → IsSome o → ⊥
+        some_none o e f = cc
+
+    taken : Gained kind n.0 answer (content n.3.before) (content n.3.after) → kind ≡ Log → answer ≡ Err Present → (IsTaken (content n.3.before).receipts (first_logged n.0) (length n.0.log) → ⊥) → ⊥
+    taken g log present none = none ((subst (λ a. Gained Log n.0 a (content n.3.before) (content n.3.after)) present (subst (λ k. Gained k n.0 answer (content n.3.before) (content n.3.after)) log g)).1 refl)

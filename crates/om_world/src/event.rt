@@ -1,6 +1,9 @@
 ghost use Rattle.std.specs.Prelude.{◌≡◌};
 
+use om_manager::RecordError;
 use om_process::{Accept, Status};
+use om_recover::NoteError;
+use om_stable::StoreError;
 use std::alloc::AllocError;
 
 /// What is to happen to a world. A process is told by its number, a frame by its place among those that were made.
@@ -73,5 +76,32 @@ impl From<AllocError> for Refusal {
 
     fn from(_e: AllocError) -> Refusal {
         Refusal::Memory
+    }
+}
+
+impl From<StoreError> for Refusal {
+    ghost use Rattle.om_world.specs.steps.Moves.{refusal_of_store};
+
+    ghost from_gives = { λ fault why. why ≡ refusal_of_store fault };
+
+    fn from(fault: StoreError) -> Refusal {
+        match fault {
+            StoreError::Present => Refusal::Present,
+            StoreError::Fault => Refusal::Fault,
+            StoreError::Memory => Refusal::Memory,
+        }
+    }
+}
+
+impl From<RecordError> for Refusal {
+    ghost use Rattle.om_world.specs.steps.Moves.{refusal_of_record};
+
+    ghost from_gives = { λ fault why. why ≡ refusal_of_record fault };
+
+    fn from(fault: RecordError) -> Refusal {
+        match fault {
+            RecordError::Refused(NoteError::Memory) => Refusal::Memory,
+            _ => Refusal::Damaged,
+        }
     }
 }

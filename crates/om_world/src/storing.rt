@@ -1,11 +1,13 @@
 //! Records that are stored, and rows that are noted.
 
-ghost use Rattle.std.specs.Prelude.{◌≡◌, ◌<◌, drop, length, slice_get, slice_set, Some};
+ghost use Rattle.std.specs.Prelude.{◌≡◌, ◌<◌, drop, length, slice_get, slice_set, true, Some};
 ghost use Rattle.om_interval.specs.declared.pid.TheConstants.{MAX_PROCESSES};
-ghost use Rattle.om_world.specs.Happened.{IsUp};
+ghost use Rattle.om_world.specs.Happened.{Happened, IsUp};
+ghost use Rattle.om_world.specs.World.{all_clean};
 ghost use Rattle.om_process.specs.Core.{CoreState, with_pending};
-ghost use Rattle.om_world.specs.steps.Moves.{Gained, HasCalled, HasCore, HasTold, IsCalled, IsTold, IsToldUpTo, after_store};
+ghost use Rattle.om_world.specs.steps.Moves.{Gained, HasCalled, HasCore, HasTold, IsCalled, IsTold, IsToldUpTo, after_store, answered, event_of};
 
+use crate::event::{Answer, Refusal};
 use crate::world::World;
 use om_interval::Pid;
 use om_manager::{Manager, RecordError};
@@ -111,5 +113,24 @@ impl<S: Stable> World<S> {
         ensures { HasTold self.old p result.0 result.1 self.new }
     {
         note_at(&mut self.cores, &mut self.manager, p, alloc)
+    }
+}
+
+impl<S: Stable> World<S> {
+    /// Stores what a process keeps of a kind, and notes its pending rows.
+    pub(crate) fn record(
+        &mut self,
+        alloc: Global,
+        p: usize,
+        kind: RowKind,
+    ) -> Result<Answer, Refusal>
+        ensures happened { all_clean self.new.clean ≡ true → Happened self.old (event_of kind p) (answered result) self.new }
+        ensures clean { all_clean self.new.clean ≡ true → all_clean self.old.clean ≡ true }
+    {
+        self.is_up(p)?;
+        self.store(alloc, p, kind)?;
+        let (count, end) = self.note(alloc, p);
+        end?;
+        Ok(Answer::Noted(count))
     }
 }

@@ -5,6 +5,7 @@ use Rattle.om_interval.specs.Vectors.{IsBelow}
 use Rattle.om_stable.specs.Content.{Content, IsTaken}
 use Rattle.om_stable.specs.declared.error.StoreError.{StoreError}
 use Rattle.om_stable.specs.declared.error.StoreError.TheVariants.{Present}
+use Rattle.om_stable.specs.declared.error.StoreError.TheVariants as store_errors
 use Rattle.om_process.specs.declared.row.Row.{Row}
 use Rattle.om_process.specs.Stores.{first_logged}
 use Rattle.om_recover.specs.declared.note.Note.{Note}
@@ -24,7 +25,9 @@ use Rattle.om_process.specs.declared.turns.Ran.{Ran}
 use Rattle.om_process.specs.Accepts.{Answers, taken}
 use Rattle.om_world.specs.declared.event.Answer.{Answer}
 use Rattle.om_world.specs.declared.event.Answer.TheVariants as answers
+use Rattle.om_world.specs.declared.event.Event.{Event}
 use Rattle.om_world.specs.declared.event.Refusal.{Refusal}
+use Rattle.om_world.specs.declared.event.Refusal.TheVariants as why
 use Rattle.om_process.specs.Core.{CoreState, CoreTurns, with_now, with_pending}
 use Rattle.om_world.specs.Happened.{HasGained, HasRun, row_for, stored}
 
@@ -115,6 +118,7 @@ pub record HasCalled (kind : RowKind) (old : WorldState) (p : ℕ) (answer : Res
   pub others : new ≡ record old { cores = slice_set old.cores p (Some (after_store kind core answer)); contents = new.contents; clean = new.clean }
   pub did : all_clean new.clean ≡ true → (before : Content) × (after : Content) × (slice_get old.contents p ≡ Some before)
       × (new.contents ≡ slice_set old.contents p after) × Gained kind core answer before after
+  pub was_clean : all_clean new.clean ≡ true → all_clean old.clean ≡ true
   pub free : all_clean new.clean ≡ true → kind ≡ Log → answer ≡ Err Present → ⊥
 
 -- the pending rows of a process were offered up to the first that was refused, which was for want of memory
@@ -124,3 +128,18 @@ pub record HasTold (old : WorldState) (p count : ℕ) (end : Result (Unit {0}) R
   pub told : IsToldUpTo old.manager core.round p core.pending count end new.manager
   pub others : new ≡ record old { cores = slice_set old.cores p (Some (with_pending core (drop count core.pending))); manager = new.manager }
   pub memory : all_clean old.clean ≡ true → IfErr end (λ fault. fault ≡ Refused refusals.Memory)
+
+-- the event that stores what is kept of a kind
+abbrev pub event_of : RowKind → ℕ → Event
+event_of Log p = Event.Flush p
+event_of Checkpoint p = Event.Checkpoint p
+
+-- what an event that a store or the manager refused is answered
+abbrev pub refusal_of_store : StoreError → Refusal
+refusal_of_store store_errors.Present = why.Present
+refusal_of_store store_errors.Fault = why.Fault
+refusal_of_store store_errors.Memory = why.Memory
+
+abbrev pub refusal_of_record : RecordError → Refusal
+refusal_of_record (Refused refusals.Memory) = why.Memory
+refusal_of_record fault = why.Damaged
