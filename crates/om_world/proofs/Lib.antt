@@ -9,6 +9,7 @@ pub mod Raising
 pub mod Gaining
 pub mod Recording
 pub mod Telling
+pub mod Trimming
 pub mod Finish
 pub mod Legal
 pub mod Released

@@ -13,4 +13,5 @@ pub mod laws;
 mod place;
 mod run;
 mod storing;
+mod trim;
 mod world;

@@ -83,6 +83,7 @@ impl<S: Stable> World<S> {
     // Whether the process is there and up.
     pub(crate) fn is_up(&self, p: usize) -> Result<(), Refusal>
         ensures up { IfOk result (λ _. IsUp self.now p) }
+        ensures there { IfOk result (λ _. p < length self.now.programs) }
         ensures not_running { IfErr result (λ why. NotRunning self.now p why self.now) }
     {
         if p >= self.images.len() {

@@ -1,5 +1,5 @@
 -- What a call makes of the cores.
-use Rattle.std.specs.Prelude.{◌≡◌, ℕ, ◌<◌, ◌≤◌, List, [], ◌∷◌, length, take, drop, slice_get, slice_set, Bool, true, IsTrue, IsSome, Option, Some, Result, Ok, Err, OnOk, IfErr}
+use Rattle.std.specs.Prelude.{◌≡◌, ℕ, ◌<◌, ◌≤◌, List, [], ◌∷◌, ◌++◌, length, take, drop, slice_get, slice_set, Bool, true, IsTrue, IsSome, Option, Some, Result, Ok, Err, OnOk, IfErr}
 use Rattle.std.specs.FinMap.{get}
 use Rattle.om_interval.specs.Vectors.{IsBelow}
 use Rattle.om_stable.specs.Content.{Content, IsTaken}
@@ -8,6 +8,7 @@ use Rattle.om_stable.specs.declared.error.StoreError.TheVariants.{Present}
 use Rattle.om_stable.specs.declared.error.StoreError.TheVariants as store_errors
 use Rattle.om_process.specs.declared.row.Row.{Row}
 use Rattle.om_process.specs.Stores.{first_logged}
+use Rattle.om_process.specs.Trims.{trimmed}
 use Rattle.om_recover.specs.declared.note.Note.{Note}
 use Rattle.om_recover.specs.declared.row.RowKind.{RowKind}
 use Rattle.om_recover.specs.declared.row.RowKind.TheVariants.{Checkpoint, Log}
@@ -143,3 +144,7 @@ refusal_of_store store_errors.Memory = why.Memory
 abbrev pub refusal_of_record : RecordError → Refusal
 refusal_of_record (Refused refusals.Memory) = why.Memory
 refusal_of_record fault = why.Damaged
+
+-- a core that keeps nothing below these numbers
+abbrev pub trimmed_core : CoreState → List ℕ → ℕ → CoreState
+trimmed_core c got released = with_now c (trimmed (got ++ released ∷ []) c.now)
