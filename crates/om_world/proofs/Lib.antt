@@ -1,3 +1,4 @@
+pub mod Framing
 pub mod FramesCut
 pub mod Giving
 pub mod Kept
@@ -8,6 +9,7 @@ pub mod Ordered
 pub mod Raising
 pub mod Gaining
 pub mod Recording
+pub mod Resending
 pub mod Telling
 pub mod Trimming
 pub mod Finish

@@ -8,6 +8,7 @@ pub use world::World;
 
 mod entry;
 mod event;
+mod frames;
 mod give;
 pub mod laws;
 mod place;
