@@ -1,32 +1,30 @@
 -- What a store gains, and what stays true.
-use Rattle.std.proofs.Common.{◌≡◌, ◌≢◌, ◌⊎◌, inl, inr, ℕ, zero, suc, ◌+◌, ◌-◌, ◌≤◌, ◌<◌, List, [], ◌∷◌, ◌++◌, length, take, map, set, Option, Some, None, Bool, true, false, refl, sym, ap, ◌∙◌, subst, arith, length-append, length-set}
-use Rattle.std.specs.Prelude.{slice_get, slice_index}
+use Rattle.std.proofs.Common.{◌≡◌, ◌≢◌, ◌⊎◌, inl, inr, ℕ, zero, suc, ◌+◌, ◌-◌, ◌≤◌, ◌<◌, List, [], ◌∷◌, ◌++◌, length, take, map, set, Some, Bool, true, false, refl, sym, ap, ◌∙◌, subst, arith, length-append}
+use Rattle.std.specs.Prelude.{slice_get}
 use Rattle.std.specs.FinMap.{get, insert}
 use Rattle.std.proofs.lemmas.List.{take_all}
 use Rattle.om_format.specs.Checkpoints.{CheckpointRecord, IsSpelled}
-use Rattle.om_format.specs.Receipts.{ReceiptRecord, SpellsReceipt}
+use Rattle.om_format.specs.Receipts.{SpellsReceipt}
 use Rattle.om_format.specs.declared.version.Version.TheVariants.{V2}
-use Rattle.om_stable.specs.Content.{Content, Records, with_all}
+use Rattle.om_stable.specs.Content.{Content}
 use Rattle.om_stable.proofs.RecordLemmas.{get-insert_here, get-insert_apart, get-with_all_above, get-with_all_at, with_all_from, with_all_keeps}
 use Rattle.om_process.specs.declared.row.Row.{Row}
 use Rattle.om_process.specs.Process.{Process, Program, Received}
-use Rattle.om_process.specs.Turns.{Reaches}
-use Rattle.om_process.specs.Replays.{FitsReceipt, received_of, process_of}
-use Rattle.om_process.specs.Core.{CoreState, LoggedRecord, size_of}
+use Rattle.om_process.specs.Replays.{received_of, process_of}
+use Rattle.om_process.specs.Core.{CoreState, LoggedRecord}
 use Rattle.om_process.specs.Stores.{SpellLog, log_row, flushed, checkpointed, checkpoint_row, first_logged, HasGainedLog, HasGainedCheckpoint}
 use Rattle.om_process.specs.Claims.{AtInterval, RowOf, CheckpointOf, RecordOf}
 use Rattle.om_process.proofs.Making.{interval_along}
 use Rattle.om_recover.specs.declared.row.RowKind.{RowKind}
 use Rattle.om_recover.specs.declared.row.RowKind.TheVariants.{Checkpoint, Log}
-use Rattle.om_recover.specs.declared.row.Row as noted
 use Rattle.om_world.specs.declared.place.Place.{Place}
 use Rattle.om_world.specs.Happened.{HasGained, stored}
 use Rattle.om_world.specs.Holds.{HasRecord}
 use Rattle.om_world.specs.Live.{program_at}
 use Rattle.om_world.specs.World.{WorldState, Past, past_of, history}
-use Rattle.om_world.specs.steps.Sound.{Sound, HasShape, IsStored, IsPending, KeptWithin, NothingAbove, IsOld, LogAlong, LogOf, receipts_in, IsCoreOf, IsRunning, IsUpIn, Runs, kind_of}
+use Rattle.om_world.specs.steps.Sound.{Sound, HasShape, IsStored, IsPending, KeptWithin, LogAlong, receipts_in, IsCoreOf, IsRunning, IsUpIn, Runs, kind_of}
 use Rattle.om_world.proofs.Kept.{remade, interval_is, row_of}
-use Rattle.om_world.proofs.Lists.{at_change, either, inside, none_in, none_some, once, there}
+use Rattle.om_world.proofs.Lists.{at_change, either, once}
 
 -- ---- the log by its places
 spell_at : (ls : List LoggedRecord) (bs : List (List ℕ)) (i : ℕ) (b : List ℕ) → SpellLog ls bs → slice_get bs i ≡ Some b → (l : LoggedRecord) × (slice_get ls i ≡ Some l) × SpellsReceipt l.receipt b

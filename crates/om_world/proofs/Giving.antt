@@ -1,5 +1,5 @@
 -- Frames that are offered.
-use Rattle.std.proofs.Common.{◌≡◌, ◌≢◌, ◌⊎◌, inl, inr, ℕ, zero, suc, ◌+◌, ◌<◌, List, [], ◌∷◌, ◌++◌, length, Option, Some, Bool, true, Result, Ok, Err, refl, sym, ap, ◌∙◌, subst, set, get_or, length-set, arith}
+use Rattle.std.proofs.Common.{◌≡◌, ◌≢◌, ℕ, zero, suc, List, [], ◌∷◌, ◌++◌, Option, Some, Result, Err, refl, sym, ap, ◌∙◌, subst, set, length-set}
 use Rattle.std.specs.Prelude.{slice_get}
 use Rattle.om_format.specs.declared.message.Message.{Message}
 use Rattle.om_process.specs.declared.accept.Accept.{Accept}
@@ -12,12 +12,12 @@ use Rattle.om_world.specs.declared.event.Event.{Event}
 use Rattle.om_world.specs.declared.event.Refusal.{Refusal}
 use Rattle.om_world.specs.declared.event.Refusal.TheVariants as refusals
 use Rattle.om_world.specs.declared.place.Place.{Place}
-use Rattle.om_world.specs.Happened.{GiveHappened, Happened, IsOffer, IsUp, Refused, NotRunning, with_taken}
-use Rattle.om_world.specs.World.{WorldState, entry_of, past_of}
+use Rattle.om_world.specs.Happened.{GiveHappened, Happened, IsUp}
+use Rattle.om_world.specs.World.{WorldState, entry_of}
 use Rattle.om_world.specs.steps.Moves.{IsOffered, after_offer, answered}
-use Rattle.om_world.specs.steps.Sound.{IsWorld, Sound, HasShape}
+use Rattle.om_world.specs.steps.Sound.{IsWorld, HasShape}
 use Rattle.om_world.proofs.Kept.{remade, shape_core, sound_taken}
-use Rattle.om_world.proofs.Lists.{lent_at, set_lent, once}
+use Rattle.om_world.proofs.Lists.{once}
 use Rattle.om_world.proofs.Raising.{recovery_within}
 
 offered_as : (cs : List (Option CoreState)) (p : ℕ) (c d : CoreState) (m : Message) (a : Accept) → slice_get cs p ≡ Some (Some c) → set cs p (Some c) ≡ cs → Answers c m a

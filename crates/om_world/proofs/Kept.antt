@@ -1,18 +1,18 @@
 -- What the turns of a process and the taking of a message keep.
-use Rattle.std.proofs.Common.{◌≡◌, ◌≢◌, ◌⊎◌, inl, inr, ℕ, zero, suc, ◌+◌, ◌-◌, ◌≤◌, ◌<◌, List, [], ◌∷◌, ◌++◌, length, take, set, get_or, Option, Some, None, Bool, true, false, refl, sym, ap, ◌∙◌, subst, arith, length-append, length-set}
-use Rattle.std.specs.Prelude.{if◌then◌else◌, nat_eq, slice_get, slice_index}
+use Rattle.std.proofs.Common.{◌≡◌, ◌≢◌, ◌⊎◌, inl, inr, ℕ, zero, suc, ◌+◌, ◌-◌, ◌≤◌, ◌<◌, List, [], ◌∷◌, ◌++◌, length, take, set, Option, Some, Bool, true, false, refl, sym, ap, ◌∙◌, subst, arith, length-append, length-set}
+use Rattle.std.specs.Prelude.{nat_eq, slice_get, slice_index}
 use Rattle.std.specs.FinMap.{get}
 use Rattle.std.proofs.lemmas.Bool.Decides.{nat_tests}
 use Rattle.std.proofs.lemmas.List.{take-append-le}
-use Rattle.om_interval.specs.Starts.{IsOrphan, newest_of}
+use Rattle.om_interval.specs.Starts.{IsOrphan}
 use Rattle.om_format.specs.declared.message.Message.{Message}
 use Rattle.om_format.specs.Queues.{QueueRecord}
 use Rattle.om_stable.specs.Content.{Content}
-use Rattle.om_process.specs.Process.{Process, Program, Received, delivered, started, raised}
-use Rattle.om_process.specs.Turns.{Turns, Leads, From, Along, Reaches, IsWaiting}
+use Rattle.om_process.specs.Process.{Process, Program, Received, delivered, started}
+use Rattle.om_process.specs.Turns.{Turns, Reaches, IsWaiting}
 use Rattle.om_process.specs.Replays.{FitsReceipt, received_of, process_of}
-use Rattle.om_process.specs.Parts.{Grow, Keeps}
-use Rattle.om_process.specs.Dependencies.{count_from, Counts}
+use Rattle.om_process.specs.Parts.{Grow}
+use Rattle.om_process.specs.Dependencies.{count_from}
 use Rattle.om_process.specs.Core.{CoreState, LoggedRecord, size_of, with_now}
 use Rattle.om_process.specs.Accepts as offers
 use Rattle.om_process.specs.Accepts.{IsDue, taken, receipt_for}
@@ -30,9 +30,9 @@ use Rattle.om_manager.specs.declared.presence.Presence.{Presence}
 use Rattle.om_manager.specs.declared.presence.Presence.TheVariants.{Away, Joined}
 use Rattle.om_world.specs.declared.entry.Entry.{Entry}
 use Rattle.om_world.specs.declared.place.Place.{Place}
-use Rattle.om_world.specs.Live.{program_at, receipt_of, received, MayFollow, Legal}
+use Rattle.om_world.specs.Live.{program_at, receipt_of, received, MayFollow}
 use Rattle.om_world.specs.World.{WorldState, Past, past_of, history, recovered, entry_of, output_entry}
-use Rattle.om_world.specs.steps.Sound.{Sound, HasShape, Said, IsFrame, KeptWithin, IsStored, IsPending, NothingAbove, LogAlong, LogOf, receipts_in, IsCoreOf, IsRunning, IsUpIn, Runs}
+use Rattle.om_world.specs.steps.Sound.{Sound, HasShape, Said, IsFrame, KeptWithin, IsStored, NothingAbove, LogAlong, LogOf, receipts_in, IsCoreOf, IsRunning, IsUpIn, Runs}
 use Rattle.om_world.proofs.Legal.{at_more, one_more, received-append}
 use Rattle.om_world.proofs.Lists.{none_in, once, at_change, there, inside, either, none_some}
 

@@ -1,10 +1,9 @@
 -- What each move of the world keeps.
-use Rattle.std.proofs.Common.{◌≡◌, ◌⊎◌, inl, inr, ℕ, List, Option, Some, Bool, true, refl, sym, ap, ◌∙◌, subst, set}
-use Rattle.std.specs.Prelude.{slice_get}
-use Rattle.om_process.specs.Core.{CoreState, with_now, size_of}
+use Rattle.std.proofs.Common.{ℕ, List, Option, Some, refl, sym, ap, ◌∙◌, subst, set}
+use Rattle.om_process.specs.Core.{CoreState, with_now}
 use Rattle.om_world.specs.World.{WorldState}
 use Rattle.om_world.specs.steps.Moves as moves
-use Rattle.om_world.specs.steps.Sound.{IsWorld, Sound, HasShape}
+use Rattle.om_world.specs.steps.Sound.{IsWorld}
 use Rattle.om_world.proofs.Kept.{remade, shape_core, sound_turns}
 
 pub after_turns : {S : Type 0} (IsSound : S → Type 0) (xs : List S) (w : WorldState) (p fuel : ℕ) (cs : List (Option CoreState)) → IsWorld IsSound xs w → moves.GoesOn w.cores p fuel cs

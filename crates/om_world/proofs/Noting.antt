@@ -1,6 +1,6 @@
 -- A world whose process stores, and whose manager is told.
-use Rattle.std.proofs.Common.{◌≡◌, ◌≢◌, ◌⊎◌, inl, inr, ℕ, zero, suc, ◌+◌, ◌-◌, ◌≤◌, ◌<◌, List, [], ◌∷◌, length, take, drop, map, set, Option, Some, None, Bool, true, false, Result, Ok, Err, refl, sym, ap, ◌∙◌, subst, arith, length-set, length-append}
-use Rattle.std.specs.Prelude.{slice_get, slice_index_or, IfErr, if◌then◌else◌, IsTrue, IsSome}
+use Rattle.std.proofs.Common.{◌≡◌, ◌⊎◌, inl, inr, ℕ, zero, suc, ◌+◌, ◌<◌, List, [], ◌∷◌, length, take, drop, map, set, Option, Some, None, Bool, true, false, Result, Ok, Err, refl, sym, ap, ◌∙◌, subst, arith, length-set}
+use Rattle.std.specs.Prelude.{slice_get, slice_index_or, IfErr, IsSome}
 use Rattle.std.specs.FinMap.{get}
 use Rattle.om_stable.specs.Content.{Content, IsTaken}
 use Rattle.om_stable.specs.declared.error.StoreError.{StoreError}
@@ -9,21 +9,19 @@ use Rattle.om_process.specs.declared.row.Row.{Row}
 use Rattle.om_process.specs.Claims.{AtInterval, RowOf}
 use Rattle.om_process.specs.Core.{CoreState, with_pending}
 use Rattle.om_process.specs.Stores.{first_logged}
-use Rattle.om_recover.specs.Rows.{HasRow}
 use Rattle.om_recover.specs.declared.note.Note.{Note}
 use Rattle.om_recover.specs.declared.note.NoteError.TheVariants.{Memory}
 use Rattle.om_recover.specs.declared.row.Row as noted
 use Rattle.om_recover.specs.declared.row.RowKind.{RowKind}
 use Rattle.om_recover.specs.declared.row.RowKind.TheVariants.{Checkpoint, Log}
-use Rattle.om_manager.specs.Notes.{Notes}
-use Rattle.om_manager.specs.State.{ManagerState, held_by}
+use Rattle.om_manager.specs.State.{ManagerState}
 use Rattle.om_manager.specs.declared.answers.RecordError.{RecordError}
 use Rattle.om_manager.specs.declared.answers.RecordError.TheVariants.{Refused}
 use Rattle.om_world.specs.Happened.{IsUp, row_for, stored}
 use Rattle.om_world.specs.Holds.{HasRecord}
 use Rattle.om_world.specs.World.{WorldState, Past, past_of, history, all_clean}
 use Rattle.om_world.specs.steps.Moves.{AreTold, Gained, IsCalled, IsTold, IsToldUpTo, HasCalled, HasTold, after_store}
-use Rattle.om_world.specs.steps.Sound.{HasShape, IsOld, IsPending, IsRunning, IsUpIn, IsWorld, Runs, Sound, all_sound, kind_of}
+use Rattle.om_world.specs.steps.Sound.{HasShape, IsOld, IsPending, IsWorld, Sound, kind_of}
 use Rattle.om_world.proofs.Gaining.{sound_store, sound_clean}
 use Rattle.om_world.proofs.Giving.{given_at}
 use Rattle.om_world.proofs.Kept.{remade, shape_core, shape_same, sound_core}

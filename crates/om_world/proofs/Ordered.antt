@@ -1,9 +1,8 @@
 -- Rows of one list of receipts are in order, so the manager refuses none.
-use Rattle.std.proofs.Common.{◌≡◌, ◌≢◌, ◌⊎◌, inl, inr, ℕ, zero, suc, ◌+◌, ◌≤◌, ◌<◌, List, [], ◌∷◌, length, take, set, get_or, Option, Some, Bool, true, false, Result, Ok, Err, refl, sym, ap, ◌∙◌, subst, arith, length-set}
-use Rattle.std.specs.Prelude.{max, nat_eq, slice_get, slice_index, if◌then◌else◌}
+use Rattle.std.proofs.Common.{◌≡◌, inl, inr, ℕ, zero, suc, ◌≤◌, ◌<◌, List, [], ◌∷◌, length, take, get_or, Bool, true, false, Err, refl, sym, ap, ◌∙◌, subst, arith, length-set}
+use Rattle.std.specs.Prelude.{nat_eq, if◌then◌else◌}
 use Rattle.std.proofs.lemmas.Bool.Decides.{nat_tests}
 use Rattle.om_interval.specs.Vectors.{IsBelow}
-use Rattle.om_process.specs.declared.row.Row.{Row}
 use Rattle.om_process.specs.Process.{Received}
 use Rattle.om_process.specs.Claims.{AtInterval, RowOf}
 use Rattle.om_process.specs.Dependencies.{count_from, greatest_from, places, Depends, Counts}
@@ -13,13 +12,12 @@ use Rattle.om_recover.specs.Rows.{HasRow, HaveSameVectors, IsAtMost, IsFair}
 use Rattle.om_recover.specs.declared.note.NoteError.{NoteError}
 use Rattle.om_recover.specs.declared.note.NoteError.TheVariants.{Stranger, BadVector, Differs, Disorder, Memory}
 use Rattle.om_recover.specs.declared.row.Row as noted
-use Rattle.om_recover.specs.declared.row.RowKind.TheVariants.{Checkpoint, Log}
+use Rattle.om_recover.specs.declared.row.RowKind.TheVariants.{Log}
 use Rattle.om_manager.specs.Notes.{Notes}
 use Rattle.om_manager.specs.State as managers
 use Rattle.om_manager.specs.State.{ManagerState}
 use Rattle.om_manager.specs.declared.answers.RecordError.{RecordError}
 use Rattle.om_manager.specs.declared.answers.RecordError.TheVariants.{Stale, Refused}
-use Rattle.om_world.specs.Happened.{row_for}
 use Rattle.om_world.specs.World.{WorldState, past_of, history}
 use Rattle.om_world.specs.steps.Sound.{Sound, HasShape}
 use Rattle.om_world.proofs.Raising.{count_take}

@@ -1,7 +1,6 @@
 -- What a manager that goes on keeps of a world.
-use Rattle.std.proofs.Common.{◌≡◌, ◌≢◌, ◌⊎◌, inl, inr, ℕ, zero, suc, ◌+◌, ◌≤◌, ◌<◌, List, [], ◌∷◌, length, take, get_or, Option, Some, Bool, true, false, refl, sym, ap, ◌∙◌, subst, arith}
-use Rattle.std.specs.Prelude.{nat_eq, slice_get, slice_index, if◌then◌else◌}
-use Rattle.std.proofs.lemmas.Bool.Decides.{nat_tests}
+use Rattle.std.proofs.Common.{◌≡◌, ◌⊎◌, inl, inr, ℕ, zero, suc, ◌≤◌, ◌<◌, List, [], ◌∷◌, length, take, get_or, Some, Bool, true, false, refl, sym, ap, ◌∙◌, subst, arith}
+use Rattle.std.specs.Prelude.{nat_eq, slice_get, slice_index}
 use Rattle.om_interval.specs.Starts.{IsOrphan, is_named, newest_of}
 use Rattle.om_format.specs.Queues.{QueueRecord}
 use Rattle.om_stable.specs.Content.{Content}
@@ -10,20 +9,17 @@ use Rattle.om_process.specs.Core.{CoreState}
 use Rattle.om_process.specs.Replays.{process_of}
 use Rattle.om_process.specs.Dependencies.{count_from}
 use Rattle.om_process.specs.Claims.{AtInterval, Makes, RowOf}
-use Rattle.om_recover.specs.Rows.{HasRow, Has}
+use Rattle.om_recover.specs.Rows.{HasRow}
 use Rattle.om_recover.specs.Recoverable.{IsStable}
 use Rattle.om_recover.specs.declared.row.Row as noted
 use Rattle.om_recover.specs.declared.row.RowKind.{RowKind}
-use Rattle.om_recover.specs.declared.row.RowKind.TheVariants.{Checkpoint, Log}
 use Rattle.om_manager.specs.Gatherings.{presence_of, presences_of}
 use Rattle.om_manager.specs.Outputs.{HeldOutput}
-use Rattle.om_manager.specs.Sound.{IsManager}
-use Rattle.om_manager.specs.State as managers
 use Rattle.om_manager.specs.State.{ManagerState, held_by, released_by}
 use Rattle.om_world.specs.Live.{program_at}
 use Rattle.om_world.specs.World.{WorldState, Past, past_of, history, recovered, output_entry}
 use Rattle.om_world.specs.Holds.{HasRecord}
-use Rattle.om_world.specs.steps.Sound.{Sound, HasShape, IsFrame, KeptWithin, IsStored, IsPending, IsRunning, IsUpIn, IsOld, Runs}
+use Rattle.om_world.specs.steps.Sound.{Sound, HasShape, KeptWithin, IsStored, IsRunning, IsOld}
 use Rattle.om_world.proofs.Kept.{remade}
 
 pub beyond : (xs : List ℕ) (i : ℕ) → length xs ≤ i → get_or xs i 0 ≡ 0

@@ -1,16 +1,15 @@
 -- Frames that are made of what processes keep.
-use Rattle.std.proofs.Common.{◌≡◌, ◌⊎◌, inl, inr, ℕ, zero, suc, ◌+◌, ◌≤◌, ◌<◌, List, [], ◌∷◌, ◌++◌, length, drop, Option, Some, None, Bool, true, refl, sym, ap, ◌∙◌, subst, arith}
+use Rattle.std.proofs.Common.{◌≡◌, ◌⊎◌, inl, inr, ℕ, zero, suc, ◌+◌, ◌≤◌, ◌<◌, List, [], ◌∷◌, ◌++◌, length, drop, Option, Some, None, refl, sym, ◌∙◌, subst, arith}
 use Rattle.std.specs.Prelude.{slice_get}
 use Rattle.om_interval.specs.Starts.{newest_of}
 use Rattle.om_format.specs.declared.message.Message.{Message}
 use Rattle.om_format.specs.declared.queue.Entry as kept
-use Rattle.om_process.specs.Claims.{AtInterval, HasEntry, Makes}
-use Rattle.om_process.specs.Core.{CoreState, size_of}
+use Rattle.om_process.specs.Claims.{AtInterval, Makes}
+use Rattle.om_process.specs.Core.{CoreState}
 use Rattle.om_process.specs.Frames.{IsFrameOf, frame_at, frame_of, messages_to}
 use Rattle.om_process.proofs.Making.{made_at, part_has}
 use Rattle.om_process.proofs.Numbering.{has_entry_at}
-use Rattle.om_world.specs.declared.place.Place.{Place}
-use Rattle.om_world.specs.Happened.{IsUp, all_messages, messages_behind, messages_in}
+use Rattle.om_world.specs.Happened.{IsUp, messages_behind, messages_in}
 use Rattle.om_world.specs.Live.{program_at}
 use Rattle.om_world.specs.World.{WorldState, past_of, history}
 use Rattle.om_world.specs.steps.Sound.{HasShape, IsFrame, IsRunning, IsWorld, Sound}
@@ -65,9 +64,18 @@ pub after_frames : {S : Type 0} (IsSound : S → Type 0) (xs : List S) (w : Worl
     → IsWorld IsSound xs (remade w w.live fs w.cores w.manager w.contents w.clean)
 after_frames IsSound xs w p c few n fs i up at is = subst (λ l. IsWorld IsSound xs (remade w w.live l w.cores w.manager w.contents w.clean)) (sym is) (record {
   shape = shape_same w w.live (w.frames ++ messages_behind c few n) w.manager w.contents w.clean i.shape refl i.shape.manager refl;
-  clean = λ all. let s = i.clean all in (s.0, record {
-    legal = s.1.legal;
-    frames = λ j m f. elim (either_part w.frames (messages_behind c few n) j m f) [ inl old ↦ s.1.frames old.0 m old.1 | inr new ↦ is_frame w p c m i.shape s.1 at up (message_is c few n new.0 m new.1) ];
-    outputs = s.1.outputs; rows = s.1.rows; stored = s.1.stored; backed = s.1.backed; running = s.1.running; up = s.1.up; joined = s.1.joined;
-  });
+  clean = λ all. let s = i.clean all in (
+    s.0,
+    record {
+      legal = s.1.legal;
+      frames = λ j m f. elim (either_part w.frames (messages_behind c few n) j m f) [ inl old ↦ s.1.frames old.0 m old.1 | inr new ↦ is_frame w p c m i.shape s.1 at up (message_is c few n new.0 m new.1) ];
+      outputs = s.1.outputs;
+      rows = s.1.rows;
+      stored = s.1.stored;
+      backed = s.1.backed;
+      running = s.1.running;
+      up = s.1.up;
+      joined = s.1.joined;
+    },
+  );
 })

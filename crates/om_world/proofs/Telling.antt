@@ -1,12 +1,10 @@
 -- Rows that the manager is told.
-use Rattle.std.proofs.Common.{◌≡◌, ◌≢◌, ◌⊎◌, inl, inr, ℕ, zero, suc, ◌+◌, ◌≤◌, ◌<◌, List, [], ◌∷◌, ◌++◌, length, take, get_or, Option, Some, Bool, true, false, Result, Ok, Err, refl, sym, ap, ◌∙◌, subst, arith, length-append}
+use Rattle.std.proofs.Common.{◌≡◌, ◌⊎◌, inl, inr, ℕ, zero, suc, ◌+◌, ◌≤◌, List, [], ◌∷◌, ◌++◌, length, take, get_or, Some, true, false, Ok, Err, refl, sym, ap, ◌∙◌, subst, arith, length-append}
 use Rattle.std.specs.Prelude.{slice_get, slice_index, slice_index_or}
 use Rattle.om_interval.specs.Vectors.{IsBelow}
 use Rattle.om_process.specs.declared.row.Row.{Row}
-use Rattle.om_recover.specs.Rows.{HasRow, Has, Rows}
+use Rattle.om_recover.specs.Rows.{HasRow, Rows}
 use Rattle.om_recover.specs.declared.row.Row as noted
-use Rattle.om_recover.specs.declared.row.RowKind.{RowKind}
-use Rattle.om_recover.specs.declared.row.RowKind.TheVariants.{Checkpoint, Log}
 use Rattle.om_recover.specs.declared.note.Note.{Note}
 use Rattle.om_recover.specs.declared.note.Note.TheVariants.{Noted, Known}
 use Rattle.om_recover.proofs.RowsLemmas.{kept, of_inserted}
@@ -18,9 +16,7 @@ use Rattle.om_manager.specs.State.{ManagerState, held_by, released_by}
 use Rattle.om_manager.specs.declared.answers.RecordError.{RecordError}
 use Rattle.om_manager.specs.declared.answers.RecordError.TheVariants.{Stale, Refused}
 use Rattle.om_world.specs.Happened.{NotesAll, row_for}
-use Rattle.om_world.specs.World.{recovered}
 use Rattle.om_world.specs.steps.Moves.{AreTold, IsTold}
-use Rattle.om_world.specs.steps.Sound.{IsOld}
 use Rattle.om_world.proofs.Lists.{none_in, once}
 use Rattle.om_world.proofs.Raising.{GoesOn, beyond, less}
 

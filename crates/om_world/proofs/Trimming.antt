@@ -1,22 +1,20 @@
 -- What a process need not keep.
-use Rattle.std.proofs.Common.{◌≡◌, ◌⊎◌, inl, inr, ℕ, zero, suc, ◌+◌, ◌-◌, ◌≤◌, ◌<◌, List, [], ◌∷◌, ◌++◌, length, take, set, get_or, Option, Some, Bool, true, refl, sym, ap, ◌∙◌, subst, arith}
+use Rattle.std.proofs.Common.{◌≡◌, ◌⊎◌, inl, inr, ℕ, zero, suc, ◌+◌, ◌-◌, ◌≤◌, ◌<◌, List, [], ◌∷◌, ◌++◌, length, take, set, Option, Some, refl, sym, ap, ◌∙◌, subst, arith}
 use Rattle.std.specs.Prelude.{min, slice_get, slice_index}
 use Rattle.om_format.specs.Queues.{QueueRecord}
-use Rattle.om_stable.specs.Content.{Content}
-use Rattle.om_process.specs.Core.{CoreState, size_of, with_now}
+use Rattle.om_process.specs.Core.{CoreState}
 use Rattle.om_process.specs.Dependencies.{count_from}
-use Rattle.om_process.specs.Trims.{trimmed, trimmed_queue, trimmed_queues}
+use Rattle.om_process.specs.Trims.{trimmed_queue, trimmed_queues}
 use Rattle.om_process.proofs.Replays.{keeps_trim}
 use Rattle.om_process.proofs.Vectors.{places_at}
 use Rattle.om_manager.specs.Bounds.{AreGotFrom}
-use Rattle.om_manager.specs.State as managers
-use Rattle.om_manager.specs.State.{ManagerState, released_by}
-use Rattle.om_world.specs.Happened.{Happened, IsUp, TrimHappened}
-use Rattle.om_world.specs.World.{WorldState, Past, past_of, history, recovered}
+use Rattle.om_manager.specs.State.{released_by}
+use Rattle.om_world.specs.Happened.{IsUp, TrimHappened}
+use Rattle.om_world.specs.World.{WorldState, past_of, history, recovered}
 use Rattle.om_world.specs.steps.Moves.{trimmed_core}
-use Rattle.om_world.specs.steps.Sound.{HasShape, IsWorld, KeptWithin, Sound, IsRunning}
+use Rattle.om_world.specs.steps.Sound.{HasShape, IsWorld, KeptWithin, Sound}
 use Rattle.om_world.proofs.Kept.{remade, shape_core, sound_core}
-use Rattle.om_world.proofs.Lists.{inside, none_in, once}
+use Rattle.om_world.proofs.Lists.{none_in, once}
 
 -- a trimmed queue begins no later than where it did, or at its bound
 low_queue : (b x : ℕ) (a : QueueRecord) → a.first ≤ x → b ≤ x → (trimmed_queue b a).first ≤ x

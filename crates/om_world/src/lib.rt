@@ -1,4 +1,5 @@
-//! All processes of a cluster, their stores and their manager, in one thread: what a run without failures is, as laws.
+//! All processes of a cluster, their stores and their manager, in one thread: a world, and what it is at each point, whatever was
+//! refused: a point of a run without failures.
 #![tactic(auto)]
 
 pub use entry::Entry;

@@ -1,5 +1,5 @@
 -- What a call makes of the cores.
-use Rattle.std.specs.Prelude.{◌≡◌, ℕ, ◌<◌, ◌≤◌, List, [], ◌∷◌, ◌++◌, length, take, drop, slice_get, slice_set, Bool, true, IsTrue, IsSome, Option, Some, Result, Ok, Err, OnOk, IfErr}
+use Rattle.std.specs.Prelude.{◌≡◌, ℕ, ◌≤◌, List, [], ◌∷◌, ◌++◌, length, take, drop, slice_get, slice_set, Bool, true, IsTrue, IsSome, Option, Some, Result, Ok, Err, OnOk, IfErr}
 use Rattle.std.specs.FinMap.{get}
 use Rattle.om_interval.specs.Vectors.{IsBelow}
 use Rattle.om_stable.specs.Content.{Content, IsTaken}

@@ -1,4 +1,4 @@
-use Rattle.std.proofs.Common.{◌≡◌, subst, get_or, Option, Some, sym, ◌∙◌, slice_get}
+use Rattle.std.proofs.Common.{◌≡◌, subst, get_or, Option, Some, slice_get}
 use Rattle.om_process.specs.Core.{CoreState}
 use Rattle.om_world.proofs.Giving.{offered, given_at}
 use Rattle.om_world.proofs.Lists.{inside, lent_at}

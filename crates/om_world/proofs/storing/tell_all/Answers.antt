@@ -1,4 +1,4 @@
-use Rattle.std.proofs.Common.{◌≡◌, ◌∙◌, ap, sym, subst, refl, arith, take, slice_get, Some, Ok, Err, rules, ◌+◌}
+use Rattle.std.proofs.Common.{◌≡◌, sym, subst, take, slice_get, Some, Err}
 use Rattle.om_manager.specs.Notes.{Notes}
 use Rattle.om_manager.specs.State.{ManagerState}
 use Rattle.om_world.specs.Happened.{row_for}

@@ -1,7 +1,5 @@
-use Rattle.std.proofs.Common.{◌≡◌, subst, sym, Ok, Err, true, rules, ◌∙◌}
-use Rattle.om_world.specs.declared.event.Answer.TheVariants as answers
+use Rattle.std.proofs.Common.{◌≡◌, subst, sym, Err, rules}
 use Rattle.om_world.specs.Happened.{Happened}
-use Rattle.om_world.specs.World.{WorldState}
 use Rattle.om_world.specs.steps.Moves.{HasCalled, HasTold, event_of, refusal_of_record, refusal_of_store, answered}
 use Rattle.om_world.proofs.Recording.{all_noted, clean_before_event, some_noted, store_refused}
 use Rattle.om_world.proofs.world.World.record.Goals as goal

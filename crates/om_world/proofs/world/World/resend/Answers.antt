@@ -1,4 +1,4 @@
-use Rattle.std.proofs.Common.{◌≡◌, ◌++◌, ◌∙◌, List, ap, map, subst, sym}
+use Rattle.std.proofs.Common.{◌++◌, ◌∙◌, List, ap, map, subst, sym}
 use Rattle.om_format.specs.declared.message.Message.{Message}
 use Rattle.om_process.specs.Core.{size_of}
 use Rattle.om_world.specs.Happened.{IsUp}
