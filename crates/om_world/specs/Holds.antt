@@ -34,7 +34,8 @@ pub record StandsAt (w : WorldState) (p : ℕ) (c : CoreState) : Type 0 where
 abbrev pub ReleasedFirst : WorldState → ℕ → Type 0
 ReleasedFirst w p =
     (s : Process) × Reaches (program_at w.programs p) p (length w.programs) (history (past_of w) p) s
-    × ((i : ℕ) (o : HeldOutput) → slice_get (released_by w.manager p) i ≡ Some o → HasEntry s.queues (length w.programs) i (output_entry o))
+    × ((i : ℕ) (o : HeldOutput) → slice_get (released_by w.manager p) i ≡ Some o
+    → HasEntry s.queues (length w.programs) i (output_entry o))
 
 -- a store has the record of a row
 abbrev pub HasRecord : Content → RowKind → ℕ → Type 0

@@ -59,7 +59,8 @@ fn frames_at(
     alloc: Global,
 ) -> Result<Vec<Message>, AllocError>
     requires { HasCore cores.now.items p }
-    ensures { IfOk result (λ frames. (c : CoreState) × (slice_get cores.now.items p ≡ Some (Some c)) × (frames.items ≡ all_messages c)) }
+    ensures { IfOk result (λ frames. (c : CoreState) × (slice_get cores.now.items p ≡ Some (Some c))
+        × (frames.items ≡ all_messages c)) }
 {
     match &cores[p] {
         Some(core) => frames_behind(alloc, core, &[0; MAX_PROCESSES]),

@@ -82,7 +82,8 @@ after_store kind c (Ok done) = stored kind c
 after_store kind c (Err why) = c
 
 -- one of the stores took a call, which did this to its content
-pub record IsCalled {S : Type 0} (content : S → Content) (is_clean : S → Bool) (IsSound : S → Type 0) (old new : List S) (p : ℕ) (Did : Content → Content → Type 0) : Type 0 where
+pub record IsCalled {S : Type 0} (content : S → Content) (is_clean : S → Bool) (IsSound : S → Type 0)
+    (old new : List S) (p : ℕ) (Did : Content → Content → Type 0) : Type 0 where
   pub before : S
   pub after : S
   pub there : slice_get old p ≡ Some before
@@ -106,7 +107,8 @@ AreTold old round p (row ∷ rows) new =
     (mid : ManagerState) × (note : Note) × IsTold old round p row (Ok note) mid × AreTold mid round p rows new
 
 -- the rows are offered up to the first that is refused
-pub record IsToldUpTo (old : ManagerState) (round p : ℕ) (rows : List Row) (count : ℕ) (end : Result (Unit {0}) RecordError) (new : ManagerState) : Type 0 where
+pub record IsToldUpTo (old : ManagerState) (round p : ℕ) (rows : List Row) (count : ℕ)
+    (end : Result (Unit {0}) RecordError) (new : ManagerState) : Type 0 where
   pub within : count ≤ length rows
   pub told : AreTold old round p (take count rows) new
   pub all : OnOk end (count ≡ length rows)
