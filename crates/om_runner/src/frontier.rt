@@ -42,7 +42,8 @@ impl Model for Blank {
 
     ghost view = { λ b. record { table = b.cell.table.shared.table_id; n = b.n } };
 
-    ghost invariant = { λ b. (1 ≤ b.n) × (b.n ≤ MAX_PROCESSES) × (b.ticket.table_id ≡ b.cell.table.shared.table_id) × (cell_view b.ticket ≡ writer (zero_words ∷ [])) };
+    ghost invariant = { λ b. (1 ≤ b.n) × (b.n ≤ MAX_PROCESSES) × (b.ticket.table_id ≡ b.cell.table.shared.table_id)
+        × (cell_view b.ticket ≡ writer (zero_words ∷ [])) };
 }
 
 impl Blank {

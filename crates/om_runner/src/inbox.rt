@@ -53,9 +53,14 @@ impl Model for Inbox {
 
     ghost Value = { Line };
 
-    ghost view = { λ b. record { channel = ((sends_on b.sender).stamps.shared.table_id, (sends_on b.sender).stamps.shared.key); from = b.from; to = b.to } };
+    ghost view = { λ b. record {
+      channel = ((sends_on b.sender).stamps.shared.table_id, (sends_on b.sender).stamps.shared.key);
+      from = b.from;
+      to = b.to;
+    } };
 
-    ghost invariant = { λ b. (receives_on b.receiver ≡ sends_on b.sender) × (ruled_capacity (sends_on b.sender) ≡ CAPACITY) × IsKeyed (sends_on b.sender) };
+    ghost invariant = { λ b. (receives_on b.receiver ≡ sends_on b.sender) × (ruled_capacity (sends_on b.sender) ≡ CAPACITY)
+        × IsKeyed (sends_on b.sender) };
 }
 
 /// The leave to put into one inbox. To a contract it is the inbox's line and what its holder has put.
@@ -71,7 +76,14 @@ impl Model for PutPass {
 
     ghost Value = { Traffic };
 
-    ghost view = { λ p. record { line = record { channel = (p.ticket.table_id, p.ticket.me.0.of); from = (knows p.ticket).from; to = (knows p.ticket).to }; messages = (knows p.ticket).put } };
+    ghost view = { λ p. record {
+      line = record {
+        channel = (p.ticket.table_id, p.ticket.me.0.of);
+        from = (knows p.ticket).from;
+        to = (knows p.ticket).to;
+      };
+      messages = (knows p.ticket).put;
+    } };
 
     ghost invariant = { λ p. (p.ticket.me.1 ≡ []) × ((knows p.ticket).puts ≡ true) };
 }
@@ -91,7 +103,15 @@ impl Model for TakePass {
 
     ghost Value = { Takings };
 
-    ghost view = { λ p. record { line = record { channel = (p.ticket.table_id, p.ticket.me.0.of); from = (knows p.ticket).from; to = (knows p.ticket).to }; messages = (knows p.ticket).taken; put = known_put (knows p.ticket).puts (knows p.ticket).put } };
+    ghost view = { λ p. record {
+      line = record {
+        channel = (p.ticket.table_id, p.ticket.me.0.of);
+        from = (knows p.ticket).from;
+        to = (knows p.ticket).to;
+      };
+      messages = (knows p.ticket).taken;
+      put = known_put (knows p.ticket).puts (knows p.ticket).put;
+    } };
 
     ghost invariant = { λ p. (p.ticket.me.1 ≡ []) × ((knows p.ticket).takes ≡ true) };
 }

@@ -6,5 +6,6 @@ ghost use Rattle.om_runner.specs.Fronts.{IsPosted};
 
 /// Two passes that met the same board agree on every version that both have seen.
 pub fn each_version_has_one_front()
-    ensures { (board one other : List Front) (a b : Front) → IsPosted board → IsPrefix one board → IsPrefix other board → Contains one a → Contains other b → a.version ≡ b.version → a ≡ b }
+    ensures { (board one other : List Front) (a b : Front) → IsPosted board → IsPrefix one board → IsPrefix other board
+        → Contains one a → Contains other b → a.version ≡ b.version → a ≡ b }
 {}

@@ -1,4 +1,17 @@
+pub mod Framing
 pub mod FramesCut
+pub mod Giving
+pub mod Kept
+pub mod Lists
+pub mod Moved
+pub mod Noting
+pub mod Ordered
+pub mod Raising
+pub mod Gaining
+pub mod Recording
+pub mod Resending
+pub mod Telling
+pub mod Trimming
 pub mod Finish
 pub mod Legal
 pub mod Released

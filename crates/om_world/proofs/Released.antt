@@ -1,11 +1,11 @@
 -- Entries that are each made at their interval are the first of one state's.
-use Rattle.std.proofs.Common.{◌≡◌, ◌⊎◌, inl, inr, ℕ, zero, suc, ◌+◌, ◌≤◌, ◌<◌, List, [], ◌∷◌, ◌++◌, length, take, Some, Bool, true, false, refl, sym, ap, ◌∙◌, subst, arith}
+use Rattle.std.proofs.Common.{◌≡◌, ◌⊎◌, inl, inr, ℕ, zero, suc, ◌+◌, ◌≤◌, ◌<◌, List, [], ◌∷◌, ◌++◌, length, take, Some, Bool, true, false, refl, sym, ap, subst, arith}
 use Rattle.std.specs.Prelude.{if◌then◌else◌, nat_eq, slice_get}
 use Rattle.std.proofs.lemmas.Bool.Decides.{nat_tests}
 use Rattle.std.proofs.lemmas.List.{take_all}
 use Rattle.om_format.specs.declared.queue.Entry as kept
 use Rattle.om_process.specs.Process.{Process, Program, Received, delivered, started}
-use Rattle.om_process.specs.Turns.{Turns, Leads, From, Along, Reaches, IsWaiting}
+use Rattle.om_process.specs.Turns.{Turns, Leads, Reaches}
 use Rattle.om_process.specs.Claims.{AtInterval, Makes, HasEntry, LeadsToWait}
 use Rattle.om_process.proofs.Runs.{leads_once, turns_between, turns_grow, earlier, leads_more}
 use Rattle.om_process.proofs.Making.{entry_stays}

@@ -1,1 +1,6 @@
 pub mod Live
+pub mod World
+pub mod Holds
+pub mod Happened
+pub mod Played
+pub mod steps

@@ -1,7 +1,19 @@
-//! All processes of a cluster, their stores and their manager, in one thread: what a run without failures is, as laws.
+//! All processes of a cluster, their stores and their manager, in one thread: a world, and what it is at each point, whatever was
+//! refused: a point of a run without failures.
 #![tactic(auto)]
 
 pub use entry::Entry;
+pub use event::{Answer, Event, Refusal};
+pub use place::Place;
+pub use world::World;
 
 mod entry;
+mod event;
+mod frames;
+mod give;
 pub mod laws;
+mod place;
+mod run;
+mod storing;
+mod trim;
+mod world;

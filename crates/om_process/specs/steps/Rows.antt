@@ -26,7 +26,8 @@ AreGapless after (row ∷ rows) = (row.0 ≡ after + 1) × AreGapless (after + 1
 -- y is the least interval above after and at or below x that no row is of
 abbrev pub IsFirstGap : ℕ → ℕ → List (ℕ × List ℕ) → ℕ → Type 0
 IsFirstGap after x rows y =
-    (front : List (ℕ × List ℕ)) × (back : List (ℕ × List ℕ)) × (rows ≡ front ++ back) × AreGapless after front × (y ≡ after + length front + 1) × Ascend y x back
+    (front : List (ℕ × List ℕ)) × (back : List (ℕ × List ℕ)) × (rows ≡ front ++ back) × AreGapless after front
+    × (y ≡ after + length front + 1) × Ascend y x back
 
 -- rows are records of these receipts, each at its interval
 abbrev pub SpellRows : List (ℕ × List ℕ) → List ReceiptRecord → Type 0

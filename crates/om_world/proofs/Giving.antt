@@ -1,0 +1,78 @@
+-- Frames that are offered.
+use Rattle.std.proofs.Common.{◌≡◌, ◌≢◌, ℕ, zero, suc, List, [], ◌∷◌, ◌++◌, Option, Some, Result, Err, refl, sym, ap, ◌∙◌, subst, set, length-set}
+use Rattle.std.specs.Prelude.{slice_get}
+use Rattle.om_format.specs.declared.message.Message.{Message}
+use Rattle.om_process.specs.declared.accept.Accept.{Accept}
+use Rattle.om_process.specs.declared.accept.Accept.TheVariants as accepts
+use Rattle.om_process.specs.Accepts.{Answers, taken}
+use Rattle.om_process.specs.Core.{CoreState}
+use Rattle.om_world.specs.declared.entry.Entry.{Entry}
+use Rattle.om_world.specs.declared.event.Answer.{Answer}
+use Rattle.om_world.specs.declared.event.Event.{Event}
+use Rattle.om_world.specs.declared.event.Refusal.{Refusal}
+use Rattle.om_world.specs.declared.event.Refusal.TheVariants as refusals
+use Rattle.om_world.specs.declared.place.Place.{Place}
+use Rattle.om_world.specs.Happened.{GiveHappened, Happened, IsUp}
+use Rattle.om_world.specs.World.{WorldState, entry_of}
+use Rattle.om_world.specs.steps.Moves.{IsOffered, after_offer, answered}
+use Rattle.om_world.specs.steps.Sound.{IsWorld, HasShape}
+use Rattle.om_world.proofs.Kept.{remade, shape_core, sound_taken}
+use Rattle.om_world.proofs.Lists.{once}
+use Rattle.om_world.proofs.Raising.{recovery_within}
+
+offered_as : (cs : List (Option CoreState)) (p : ℕ) (c d : CoreState) (m : Message) (a : Accept) → slice_get cs p ≡ Some (Some c) → set cs p (Some c) ≡ cs → Answers c m a
+    → ((x : ℕ) → a ≡ accepts.Taken x → d ≡ taken c m) → (((x : ℕ) → a ≢ accepts.Taken x) → d ≡ c) → set cs p (Some d) ≡ after_offer cs p c m a
+offered_as cs p c d m (accepts.Taken x) at back ans took other = ap (λ (e : CoreState). set cs p (Some e)) (took x refl)
+offered_as cs p c d m accepts.Stranger at back ans took other = ap (λ (e : CoreState). set cs p (Some e)) (other (λ x e. cc)) ∙ back
+offered_as cs p c d m accepts.Orphan at back ans took other = ap (λ (e : CoreState). set cs p (Some e)) (other (λ x e. cc)) ∙ back
+offered_as cs p c d m accepts.Repeat at back ans took other = ap (λ (e : CoreState). set cs p (Some e)) (other (λ x e. cc)) ∙ back
+offered_as cs p c d m accepts.Ahead at back ans took other = ap (λ (e : CoreState). set cs p (Some e)) (other (λ x e. cc)) ∙ back
+offered_as cs p c d m accepts.NotWaiting at back ans took other = ap (λ (e : CoreState). set cs p (Some e)) (other (λ x e. cc)) ∙ back
+offered_as cs p c d m accepts.Full at back ans took other = ap (λ (e : CoreState). set cs p (Some e)) (other (λ x e. cc)) ∙ back
+offered_as cs p c d m accepts.Memory at back ans took other = ap (λ (e : CoreState). set cs p (Some e)) (other (λ x e. cc)) ∙ back
+
+pub offered : (cs : List (Option CoreState)) (p : ℕ) (c d : CoreState) (m : Message) (a : Accept) → slice_get cs p ≡ Some (Some c) → set cs p (Some c) ≡ cs → Answers c m a
+    → ((x : ℕ) → a ≡ accepts.Taken x → d ≡ taken c m) → (((x : ℕ) → a ≢ accepts.Taken x) → d ≡ c) → IsOffered cs p m a (set cs p (Some d))
+offered cs p c d m a at back ans took other = record { core = c; there = at; answers = ans; cores = offered_as cs p c d m a at back ans took other }
+
+pub given_at : (cs : List (Option CoreState)) (p : ℕ) (c : CoreState) → slice_get cs p ≡ Some (Some c) → set cs p (Some c) ≡ cs
+given_at [] p c at = refl
+given_at (x ∷ cs) zero c at = ap (λ y. y ∷ cs) (sym (once x (Some c) at))
+given_at (x ∷ cs) (suc p) c at = ap (λ l. x ∷ l) (given_at cs p c at)
+
+pub after_give : {S : Type 0} (IsSound : S → Type 0) (xs : List S) (w : WorldState) (p f x : ℕ) (m : Message) (e : Entry) (cs : List (Option CoreState)) (live : List Entry) → IsWorld IsSound xs w → IsUp w p
+    → slice_get w.frames f ≡ Some m → e ≡ entry_of m → IsOffered w.cores p m (accepts.Taken x) cs → live ≡ w.live ++ e ∷ [] → IsWorld IsSound xs (remade w live w.frames cs w.manager w.contents w.clean)
+after_give IsSound xs w p f x m e cs live i up frame is offer more =
+    let c = offer.core in let at = offer.there in let due = offer.answers.0 in
+    let mine : p ≡ e.to = sym (i.shape.own p c at).own ∙ sym due.next.no_orphan.no_stranger.to ∙ ap (λ (d : Entry). d.to) (sym is) in
+    subst (λ l. IsWorld IsSound xs (remade w l w.frames cs w.manager w.contents w.clean)) (sym more)
+    (subst (λ l. IsWorld IsSound xs (remade w (w.live ++ e ∷ []) w.frames l w.manager w.contents w.clean)) (sym (offer.cores ∙ ap (λ o. set w.cores o (Some (taken c m))) mine))
+    (record {
+      shape = shape_core w e.to c (taken c m) (w.live ++ e ∷ []) w.frames w.manager w.contents w.clean i.shape (subst (λ o. slice_get w.cores o ≡ Some (Some c)) mine at) refl (length-set _ c.own _ ∙ length-set c.now.vec m.from _) refl i.shape.manager refl;
+      clean = λ all. let s = i.clean all in (s.0, sound_taken w f m e c i.shape s.1 (recovery_within w i.shape s.1) frame is (subst (λ o. slice_get w.places o ≡ Some Place.Up) mine up) (subst (λ o. slice_get w.cores o ≡ Some (Some c)) mine at) due);
+    }))
+
+pub given_taken : (w : WorldState) (p f x : ℕ) (m : Message) (e : Entry) (cs : List (Option CoreState)) (live : List Entry) → IsUp w p
+    → slice_get w.frames f ≡ Some m → e ≡ entry_of m → IsOffered w.cores p m (accepts.Taken x) cs → live ≡ w.live ++ e ∷ [] → GiveHappened w p f (accepts.Taken x) (remade w live w.frames cs w.manager w.contents w.clean)
+given_taken w p f x m e cs live up frame is offer more = (
+  m,
+  offer.core,
+  record { up = up; frame = frame; core = offer.there },
+  offer.answers,
+  ap (λ l. remade w l w.frames cs w.manager w.contents w.clean) (more ∙ ap (λ (d : Entry). w.live ++ d ∷ []) is) ∙ ap (λ l. remade w (w.live ++ entry_of m ∷ []) w.frames l w.manager w.contents w.clean) offer.cores,
+)
+
+pub not_given : (w : WorldState) (p f : ℕ) (m : Message) (a : Accept) (cs : List (Option CoreState)) → IsUp w p → slice_get w.frames f ≡ Some m → ((x : ℕ) → a ≢ accepts.Taken x) → a ≢ accepts.Memory → IsOffered w.cores p m a cs
+    → GiveHappened w p f a (remade w w.live w.frames cs w.manager w.contents w.clean)
+not_given w p f m (accepts.Taken x) cs up frame nt nm o = absurd (nt x refl)
+not_given w p f m accepts.Memory cs up frame nt nm o = absurd (nm refl)
+not_given w p f m accepts.Stranger cs up frame nt nm o = (m, o.core, record { up = up; frame = frame; core = o.there }, o.answers, ap (λ l. remade w w.live w.frames l w.manager w.contents w.clean) o.cores)
+not_given w p f m accepts.Orphan cs up frame nt nm o = (m, o.core, record { up = up; frame = frame; core = o.there }, o.answers, ap (λ l. remade w w.live w.frames l w.manager w.contents w.clean) o.cores)
+not_given w p f m accepts.Repeat cs up frame nt nm o = (m, o.core, record { up = up; frame = frame; core = o.there }, o.answers, ap (λ l. remade w w.live w.frames l w.manager w.contents w.clean) o.cores)
+not_given w p f m accepts.Ahead cs up frame nt nm o = (m, o.core, record { up = up; frame = frame; core = o.there }, o.answers, ap (λ l. remade w w.live w.frames l w.manager w.contents w.clean) o.cores)
+not_given w p f m accepts.NotWaiting cs up frame nt nm o = (m, o.core, record { up = up; frame = frame; core = o.there }, o.answers, ap (λ l. remade w w.live w.frames l w.manager w.contents w.clean) o.cores)
+not_given w p f m accepts.Full cs up frame nt nm o = (m, o.core, record { up = up; frame = frame; core = o.there }, o.answers, ap (λ l. remade w w.live w.frames l w.manager w.contents w.clean) o.cores)
+
+-- memory is refused
+pub no_room : (w v : WorldState) (p f : ℕ) (m : Message) (r : Result Answer Refusal) → IsUp w p → HasShape w → slice_get w.frames f ≡ Some m → r ≡ Err refusals.Memory → v ≡ w → Happened w (Event.Give p f) (answered r) v
+no_room w v p f m r up h frame is same = let c = h.there p up in subst (λ a. Happened w (Event.Give p f) (answered a) v) (sym is) (m, c.0, record { up = up; frame = frame; core = c.1 }, same)

@@ -1,0 +1,122 @@
+-- What an event that stores does, by its answer.
+use Rattle.std.proofs.Common.{◌≡◌, inl, inr, ℕ, zero, suc, List, [], ◌∷◌, take, drop, set, Some, true, Result, Ok, Err, refl, sym, ap, ◌∙◌, subst}
+use Rattle.std.specs.Prelude.{slice_get}
+use Rattle.om_stable.specs.Content.{Content}
+use Rattle.om_stable.specs.declared.error.StoreError.{StoreError}
+use Rattle.om_stable.specs.declared.error.StoreError.TheVariants as store_errors
+use Rattle.om_process.specs.Core.{CoreState, with_pending}
+use Rattle.om_recover.specs.declared.row.RowKind.{RowKind}
+use Rattle.om_recover.specs.declared.row.RowKind.TheVariants.{Checkpoint, Log}
+use Rattle.om_manager.specs.declared.answers.RecordError.{RecordError}
+use Rattle.om_world.specs.declared.event.Answer.TheVariants as answers
+use Rattle.om_world.specs.declared.event.Refusal.TheVariants as why
+use Rattle.om_world.specs.Happened as happened
+use Rattle.om_world.specs.Happened.{Changes, Happened, HasCheckpoint, HasNoted, HasStored, IsSame, IsUp, Stays, stored}
+use Rattle.om_world.specs.World.{WorldState, all_clean}
+use Rattle.om_world.specs.steps.Moves.{AreTold, HasCalled, HasTold, IsToldUpTo, Gained, event_of, refusal_of_record, refusal_of_store}
+use Rattle.om_world.proofs.Giving.{given_at}
+use Rattle.om_world.proofs.Lists.{inside, once}
+use Rattle.om_world.proofs.Telling.{told_notes}
+
+-- ---- lists
+set_back : {A : Type 0} (xs : List A) (p : ℕ) (x : A) → slice_get xs p ≡ Some x → set xs p x ≡ xs
+set_back [] p x at = refl
+set_back (y ∷ xs) zero x at = ap (λ z. z ∷ xs) (sym (once y x at))
+set_back (y ∷ xs) (suc p) x at = ap (λ l. y ∷ l) (set_back xs p x at)
+
+set_twice : {A : Type 0} (xs : List A) (p : ℕ) (x y : A) → set (set xs p x) p y ≡ set xs p y
+set_twice [] p x y = refl
+set_twice (z ∷ xs) zero x y = refl
+set_twice (z ∷ xs) (suc p) x y = ap (λ l. z ∷ l) (set_twice xs p x y)
+
+set_there : {A : Type 0} (xs : List A) (p : ℕ) (x y : A) → slice_get xs p ≡ Some x → slice_get (set xs p y) p ≡ Some y
+set_there [] p x y at = absurd (none p at)
+  where
+    none : (p : ℕ) → slice_get [] p ≡ Some x → ⊥
+    none p at = cc
+set_there (z ∷ xs) zero x y at = refl
+set_there (z ∷ xs) (suc p) x y at = set_there xs p x y at
+
+-- ---- the store refused
+same_content : (kind : RowKind) (c : CoreState) (error : StoreError) (a b : Content) → Gained kind c (Err error) a b → b ≡ a
+same_content Log c error a b g = g.0
+same_content Checkpoint c error a b g = g.0
+
+is_same : (kind : RowKind) (w v : WorldState) (p : ℕ) (fault : StoreError) → HasCalled kind w p (Err fault) v → all_clean v.clean ≡ true → IsSame w v
+is_same kind w v p fault h all =
+    let d = h.did all in
+    let contents : v.contents ≡ w.contents = d.3 ∙ ap (set w.contents p) (same_content kind h.core fault d.0 d.1 d.4) ∙ set_back w.contents p d.0 d.2 in
+    h.others ∙ ap (λ cs. record w { cores = cs; contents = v.contents; clean = v.clean }) (given_at w.cores p h.core h.there) ∙ ap (λ l. record w { contents = l; clean = v.clean }) contents
+
+pub store_refused : (kind : RowKind) (w v : WorldState) (p : ℕ) (fault : StoreError) → IsUp w p → HasCalled kind w p (Err fault) v → all_clean v.clean ≡ true → Happened w (event_of kind p) (answers.Refused (refusal_of_store fault)) v
+store_refused Log w v p store_errors.Present up h all = absurd (h.free all refl refl)
+store_refused Log w v p store_errors.Fault up h all = (up, is_same Log w v p store_errors.Fault h all)
+store_refused Log w v p store_errors.Memory up h all = (up, inl (is_same Log w v p store_errors.Memory h all))
+store_refused Checkpoint w v p store_errors.Present up h all =
+    let d = h.did all in
+    (up, record { core = h.core; is_core = h.there; held = d.0; is_held = d.2; there = d.4.1 refl }, is_same Checkpoint w v p store_errors.Present h all)
+store_refused Checkpoint w v p store_errors.Fault up h all = (up, is_same Checkpoint w v p store_errors.Fault h all)
+store_refused Checkpoint w v p store_errors.Memory up h all = (up, inl (is_same Checkpoint w v p store_errors.Memory h all))
+
+-- ---- stored, and some rows noted
+clean_mid : (mid v : WorldState) (p count : ℕ) (end : Result (Unit {0}) RecordError) → HasTold mid p count end v → v.clean ≡ mid.clean
+clean_mid mid v p count end t = ap (λ (x : WorldState). x.clean) t.others
+
+pub clean_before_event : (kind : RowKind) (w mid v : WorldState) (p count : ℕ) (a : Result (Unit {0}) StoreError) (end : Result (Unit {0}) RecordError) → HasCalled kind w p a mid → HasTold mid p count end v → all_clean v.clean ≡ true → all_clean w.clean ≡ true
+clean_before_event kind w mid v p count a end h t all = h.was_clean (ap all_clean (sym (clean_mid mid v p count end t)) ∙ all)
+
+has_stored : (kind : RowKind) (w mid v : WorldState) (p count : ℕ) (end : Result (Unit {0}) RecordError) → HasCalled kind w p (Ok tt) mid → HasTold mid p count end v → (h : HasCalled kind w p (Ok tt) mid) → all_clean mid.clean ≡ true → HasStored kind w p h.core v
+has_stored kind w mid v p count end _ t h all = let d = h.did all in (d.0, d.1, d.2, d.4, ap (λ (x : WorldState). x.contents) t.others ∙ d.3)
+
+has_noted : (kind : RowKind) (w mid v : WorldState) (p count : ℕ) (end : Result (Unit {0}) RecordError) → IsUp w p → (h : HasCalled kind w p (Ok tt) mid) → HasTold mid p count end v
+    → HasNoted w p h.core (stored kind h.core) count v × IsToldUpTo mid.manager (stored kind h.core).round p (stored kind h.core).pending count end v.manager
+has_noted kind w mid v p count end up h t =
+    let d = stored kind h.core in
+    let cores : mid.cores ≡ set w.cores p (Some d) = ap (λ (x : WorldState). x.cores) h.others in
+    let manager : mid.manager ≡ w.manager = ap (λ (x : WorldState). x.manager) h.others in
+    let same : t.core ≡ d = once_some t.core d (once (Some t.core) (Some d) (sym t.there ∙ ap (λ l. slice_get l p) cores ∙ set_there w.cores p (Some h.core) (Some d) h.there)) in
+    let told : IsToldUpTo mid.manager d.round p d.pending count end v.manager = subst (λ (e : CoreState). IsToldUpTo mid.manager e.round p e.pending count end v.manager) same t.told in (
+      record {
+        changes = record {
+          up = up;
+          before = h.there;
+          cores = ap (λ (x : WorldState). x.cores) t.others ∙ ap (λ (e : CoreState). set mid.cores p (Some (with_pending e (drop count e.pending)))) same ∙ ap (λ l. set l p (Some (with_pending d (drop count d.pending)))) cores ∙ set_twice w.cores p (Some d) (Some (with_pending d (drop count d.pending)));
+          stays = record {
+            programs = ap (λ (x : WorldState). x.programs) t.others ∙ ap (λ (x : WorldState). x.programs) h.others;
+            live = ap (λ (x : WorldState). x.live) t.others ∙ ap (λ (x : WorldState). x.live) h.others;
+            places = ap (λ (x : WorldState). x.places) t.others ∙ ap (λ (x : WorldState). x.places) h.others;
+            rounds = ap (λ (x : WorldState). x.rounds) t.others ∙ ap (λ (x : WorldState). x.rounds) h.others;
+          };
+        };
+        within = told.within;
+        manager = told_notes w.manager v.manager d.round p (take count d.pending) (subst (λ m. AreTold m d.round p (take count d.pending) v.manager) manager told.told);
+        frames = ap (λ (x : WorldState). x.frames) t.others ∙ ap (λ (x : WorldState). x.frames) h.others;
+      },
+      told,
+    )
+  where
+    once_some : (a b : CoreState) → Some a ≡ Some b → a ≡ b
+    once_some a b e = cc
+
+pub all_noted : (kind : RowKind) (w mid v : WorldState) (p count : ℕ) → IsUp w p → HasCalled kind w p (Ok tt) mid → HasTold mid p count (Ok tt) v → all_clean v.clean ≡ true → Happened w (event_of kind p) (answers.Noted count) v
+all_noted kind w mid v p count up h t all =
+    let clean = ap all_clean (sym (clean_mid mid v p count (Ok tt) t)) ∙ all in
+    let s = has_stored kind w mid v p count (Ok tt) h t h clean in
+    let n = has_noted kind w mid v p count (Ok tt) up h t in
+    by kind (h.core, s, n.0, n.1.all)
+  where
+    by : (kind : RowKind) → happened.StoreHappened kind w p count v → Happened w (event_of kind p) (answers.Noted count) v
+    by Log x = x
+    by Checkpoint x = x
+
+pub some_noted : (kind : RowKind) (w mid v : WorldState) (p count : ℕ) (fault : RecordError) → IsUp w p → HasCalled kind w p (Ok tt) mid → HasTold mid p count (Err fault) v → all_clean v.clean ≡ true → Happened w (event_of kind p) (answers.Refused (refusal_of_record fault)) v
+some_noted kind w mid v p count fault up h t all =
+    let clean = ap all_clean (sym (clean_mid mid v p count (Err fault) t)) ∙ all in
+    let s = has_stored kind w mid v p count (Err fault) h t h clean in
+    let n = has_noted kind w mid v p count (Err fault) up h t in
+    let row = n.1.refused in
+    subst (λ f. Happened w (event_of kind p) (answers.Refused (refusal_of_record f)) v) (sym (t.memory clean)) (by kind (up, inr (h.core, count, s, n.0, inside (stored kind h.core).pending count row.0 row.1)))
+  where
+    by : (kind : RowKind) → IsUp w p × happened.StoreStopped kind w p v → Happened w (event_of kind p) (answers.Refused why.Memory) v
+    by Log x = x
+    by Checkpoint x = x

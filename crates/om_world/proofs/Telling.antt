@@ -1,0 +1,123 @@
+-- Rows that the manager is told.
+use Rattle.std.proofs.Common.{◌≡◌, ◌⊎◌, inl, inr, ℕ, zero, suc, ◌+◌, ◌≤◌, List, [], ◌∷◌, ◌++◌, length, take, get_or, Some, true, false, Ok, Err, refl, sym, ap, ◌∙◌, subst, arith, length-append}
+use Rattle.std.specs.Prelude.{slice_get, slice_index, slice_index_or}
+use Rattle.om_interval.specs.Vectors.{IsBelow}
+use Rattle.om_process.specs.declared.row.Row.{Row}
+use Rattle.om_recover.specs.Rows.{HasRow, Rows}
+use Rattle.om_recover.specs.declared.row.Row as noted
+use Rattle.om_recover.specs.declared.note.Note.{Note}
+use Rattle.om_recover.specs.declared.note.Note.TheVariants.{Noted, Known}
+use Rattle.om_recover.proofs.RowsLemmas.{kept, of_inserted}
+use Rattle.om_manager.specs.Notes.{Notes, after_note}
+use Rattle.om_manager.specs.Outputs.{HeldOutput, within}
+use Rattle.om_manager.specs.Sound.{IsManager, KeepsReleased}
+use Rattle.om_manager.specs.State as managers
+use Rattle.om_manager.specs.State.{ManagerState, held_by, released_by}
+use Rattle.om_manager.specs.declared.answers.RecordError.{RecordError}
+use Rattle.om_manager.specs.declared.answers.RecordError.TheVariants.{Stale, Refused}
+use Rattle.om_world.specs.Happened.{NotesAll, row_for}
+use Rattle.om_world.specs.steps.Moves.{AreTold, IsTold}
+use Rattle.om_world.proofs.Lists.{none_in, once}
+use Rattle.om_world.proofs.Raising.{GoesOn, beyond, less}
+
+-- ---- one row more
+pub told_more : (old mid new : ManagerState) (round p : ℕ) (rows : List Row) (row : Row) (note : Note) → AreTold old round p rows mid → IsTold mid round p row (Ok note) new → AreTold old round p (rows ++ row ∷ []) new
+told_more old mid new round p [] row note same one = (new, note, subst (λ m. IsTold m round p row (Ok note) new) same one, refl)
+told_more old mid new round p (r ∷ rows) row note told one = (told.0, told.1, told.2, told_more told.0 mid new round p rows row note told.3 one)
+
+pub take_next : (rows : List Row) (i : ℕ) (row : Row) → slice_get rows i ≡ Some row → take i rows ++ row ∷ [] ≡ take (i + 1) rows
+take_next [] i row at = absurd (none_in i row at)
+take_next (r ∷ rows) zero row at = ap (λ x. x ∷ []) (sym (once r row at))
+take_next (r ∷ rows) (suc i) row at = ap (λ l. r ∷ l) (take_next rows i row at) ∙ ap (λ k. take k (r ∷ rows)) (next i)
+  where
+    next : (i : ℕ) → suc (i + 1) ≡ suc i + 1
+    next i = omega arith
+
+-- a refusal leaves the manager
+pub refused_same : (old new : ManagerState) (round : ℕ) (row : noted.Row) (fault : RecordError) → Notes old round row (Err fault) new → new ≡ old
+refused_same old new round row (Stale told) n = n.3
+refused_same old new round row (Refused fault) n = n.2
+
+-- as the rows are said to be noted
+pub told_notes : (old new : ManagerState) (round p : ℕ) (rows : List Row) → AreTold old round p rows new → NotesAll old p rows new
+told_notes old new round p [] same = same
+told_notes old new round p (row ∷ rows) told =
+    let n = told.2.answers in
+    (told.0, told.1, (refl, n.1, n.2, n.3), told_notes told.0 new round p rows told.3)
+
+-- ---- what a note keeps
+after_starts : (m : ManagerState) (note : Note) (rows : Rows) (state : List ℕ) → (after_note m note rows state).starts ≡ m.starts
+after_starts m (Noted true) rows state = refl
+after_starts m (Noted false) rows state = refl
+after_starts m Known rows state = refl
+
+after_round : (m : ManagerState) (note : Note) (rows : Rows) (state : List ℕ) → (after_note m note rows state).round ≡ m.round
+after_round m (Noted true) rows state = refl
+after_round m (Noted false) rows state = refl
+after_round m Known rows state = refl
+
+after_gathering : (m : ManagerState) (note : Note) (rows : Rows) (state : List ℕ) → (after_note m note rows state).gathering ≡ m.gathering
+after_gathering m (Noted true) rows state = refl
+after_gathering m (Noted false) rows state = refl
+after_gathering m Known rows state = refl
+
+after_backs : (m : ManagerState) (note : Note) (rows : Rows) (state : List ℕ) → (after_note m note rows state).backs ≡ m.backs
+after_backs m (Noted true) rows state = refl
+after_backs m (Noted false) rows state = refl
+after_backs m Known rows state = refl
+
+after_outputs : (m : ManagerState) (note : Note) (rows : Rows) (state : List ℕ) → (after_note m note rows state).outputs ≡ m.outputs
+after_outputs m (Noted true) rows state = refl
+after_outputs m (Noted false) rows state = refl
+after_outputs m Known rows state = refl
+
+-- the rows are those before, with the new one
+pub told_kept : (old new : ManagerState) (round p : ℕ) (row : Row) (note : Note) → IsTold old round p row (Ok note) new → (other : noted.Row) → HasRow old.rows other → HasRow new.rows other
+told_kept old new round p row (Noted raised) t other has = subst (λ rows. HasRow rows other) (sym t.answers.1.1) (kept old.rows (row_for p row) other has)
+told_kept old new round p row Known t other has = subst (λ rows. HasRow rows other) (sym t.answers.1.1) has
+
+pub told_rows : (old new : ManagerState) (round p : ℕ) (row : Row) (note : Note) → IsTold old round p row (Ok note) new → (other : noted.Row) → HasRow new.rows other → HasRow old.rows other ⊎ (other ≡ row_for p row)
+told_rows old new round p row (Noted raised) t other has = elim (of_inserted old.rows (row_for p row) other (subst (λ rows. HasRow rows other) t.answers.1.1 has)) [ inl same ↦ inr same | inr old ↦ inl old ]
+told_rows old new round p row Known t other has = inl (subst (λ rows. HasRow rows other) t.answers.1.1 has)
+
+-- ---- a manager of which some is released goes on
+pub below_all : (low high : List ℕ) (q : ℕ) → IsBelow low high → get_or low q 0 ≤ get_or high q 0
+below_all low high q b = elim (less q (length low)) [
+  | inl lt ↦ b.each q lt
+  | inr ge ↦ let same = b.same_places in let x = beyond low q ge in let y = beyond high q (omega arith) in omega arith
+]
+
+no_outputs : (outputs : List (List HeldOutput)) (p : ℕ) → length outputs ≤ p → slice_index_or outputs p [] ≡ []
+no_outputs [] p le = refl
+no_outputs (x ∷ outputs) zero le = absurd (omega arith)
+no_outputs (x ∷ outputs) (suc p) le = no_outputs outputs p (omega arith)
+
+pub released_all : (old new : ManagerState) → IsManager old → KeepsReleased old new → (p : ℕ) → length (released_by old p) ≤ length (released_by new p)
+released_all old new is keeps p = elim (less p (managers.size_of old)) [
+  | inl lt ↦ let b = keeps p lt in let long : length (released_by old p ++ b.0) ≡ length (released_by old p) + length b.0 = length-append (released_by old p) b.0 in let same = ap length b.1 in omega arith
+  | inr ge ↦ let many = is.places in let none : length (released_by old p) ≡ 0 = ap (λ l. length (within l (slice_index old.recovery p))) (no_outputs old.outputs p (omega arith)) in omega arith
+]
+
+pub goes_on_by : (old new : ManagerState) → IsManager old → IsBelow old.recovery new.recovery → KeepsReleased old new → ((other : noted.Row) → HasRow old.rows other → HasRow new.rows other)
+    → new.starts ≡ old.starts → new.round ≡ old.round → new.gathering ≡ old.gathering → new.backs ≡ old.backs → GoesOn old new
+goes_on_by old new is below keeps rows starts round gathering backs = record {
+  starts = starts;
+  round = round;
+  gathering = gathering;
+  backs = backs;
+  rises = λ q. below_all old.recovery new.recovery q below;
+  released = released_all old new is keeps;
+  old = λ p kind x o.
+      let le = below_all old.recovery new.recovery p below in let w = o.within in
+      record { checkpoint = o.checkpoint; there = record { row = o.there.row; there = rows o.there.row o.there.there; kind_is = o.there.kind_is; pid_is = o.there.pid_is; interval_is = o.there.interval_is }; within = omega arith; before = o.before };
+}
+
+pub told_goes_on : (old new : ManagerState) (round p : ℕ) (row : Row) (note : Note) → IsManager old → IsTold old round p row (Ok note) new → GoesOn old new
+told_goes_on old new round p row note is t =
+    let e = t.answers.3 in
+    goes_on_by old new is t.below t.released (told_kept old new round p row note t)
+    (ap (λ (m : ManagerState). m.starts) e ∙ after_starts old note new.rows new.recovery) (ap (λ (m : ManagerState). m.round) e ∙ after_round old note new.rows new.recovery)
+    (ap (λ (m : ManagerState). m.gathering) e ∙ after_gathering old note new.rows new.recovery) (ap (λ (m : ManagerState). m.backs) e ∙ after_backs old note new.rows new.recovery)
+
+pub told_outputs : (old new : ManagerState) (round p : ℕ) (row : Row) (note : Note) → IsTold old round p row (Ok note) new → new.outputs ≡ old.outputs
+told_outputs old new round p row note t = ap (λ (m : ManagerState). m.outputs) t.answers.3 ∙ after_outputs old note new.rows new.recovery

@@ -1,0 +1,21 @@
+use Rattle.std.proofs.Common.{◌++◌, ◌∙◌, List, ap, map, subst, sym}
+use Rattle.om_format.specs.declared.message.Message.{Message}
+use Rattle.om_process.specs.Core.{size_of}
+use Rattle.om_world.specs.Happened.{IsUp}
+use Rattle.om_world.specs.World.{WorldState, program_of}
+use Rattle.om_world.specs.steps.Sound.{IsWorld}
+use Rattle.om_world.proofs.Kept.{remade}
+use Rattle.om_world.proofs.Resending.{after_frames}
+use Rattle.om_world.proofs.world.World.resend.Goals as goal
+
+pub invariant_of-self : goal.invariant_of-self
+invariant_of-self g c =
+    let s = c.self.inside in
+    let w : WorldState = record { programs = map program_of s.images.items; live = s.live.items; frames = s.frames.items; cores = s.cores.items; places = s.places.items; rounds = s.rounds.items; manager = s.manager; contents = map g.S.Stable.content s.stores.items; clean = map g.S.Stable.is_clean s.stores.items } in
+    subst (λ (l : List Message). IsWorld g.S.Stable.IsSound s.stores.items (remade w w.live l w.cores w.manager w.contents w.clean)) (sym c.in_err-append.ensures.items) c.self.invariant
+
+pub invariant_of-self-2 : goal.invariant_of-self-2
+invariant_of-self-2 g c =
+    let core = c.in_ok-frames.ensures in
+    after_frames _ _ _ c.args.p core.0 (λ to. 0) (size_of core.0.now) c.append.new.self.items c.self.invariant (subst (λ (v : WorldState). IsUp v c.args.p) (sym c.self.view_is) c.in_ok-is_up.ensures.up) core.1
+    (c.in_ok-append.ensures.items ∙ ap (λ (l : List Message). c.self.inside.frames.items ++ l) core.2)

@@ -1,0 +1,262 @@
+-- What each event does to a world, by its answer.
+use Rattle.std.specs.Prelude.{◌≡◌, ◌⊎◌, ℕ, zero, suc, ◌+◌, ◌<◌, ◌≤◌, List, [], ◌∷◌, ◌++◌, length, take, drop, slice_get, slice_set, IsSome, Some, None, Ok, if◌then◌else◌}
+use Rattle.std.specs.FinMap.{get}
+use Rattle.om_format.specs.declared.queue.Entry as kept
+use Rattle.om_format.specs.declared.message.Message.{Message}
+use Rattle.om_format.specs.Queues.{queue_end}
+use Rattle.om_stable.specs.Content.{Content, kept_by_prune}
+use Rattle.om_process.specs.declared.accept.Accept.{Accept}
+use Rattle.om_process.specs.declared.accept.Accept.TheVariants as accepts
+use Rattle.om_process.specs.declared.row.Row as pending
+use Rattle.om_process.specs.declared.status.Status.{Status}
+use Rattle.om_process.specs.Core.{CoreState, CoreTurns, core_turn, move_of, size_of, status_of, with_now, with_pending}
+use Rattle.om_process.specs.Accepts.{Answers, taken}
+use Rattle.om_process.specs.Frames.{messages_to, outputs_of}
+use Rattle.om_process.specs.Kept.{numbered}
+use Rattle.om_process.specs.Stores.{HasGainedLog, HasGainedCheckpoint, flushed, checkpointed}
+use Rattle.om_process.specs.Trims.{trimmed}
+use Rattle.om_recover.specs.Records.{log_of, checkpoint_of}
+use Rattle.om_recover.specs.Cutting.{IsEffective, IsPruned}
+use Rattle.om_recover.specs.declared.row.Row as noted
+use Rattle.om_recover.specs.declared.note.Note.{Note}
+use Rattle.om_recover.specs.declared.row.RowKind.{RowKind}
+use Rattle.om_recover.specs.declared.row.RowKind.TheVariants.{Checkpoint, Log}
+use Rattle.om_manager.specs.Bounds.{AreGotFrom}
+use Rattle.om_manager.specs.Notes.{Notes}
+use Rattle.om_manager.specs.Outputs.{HeldOutput}
+use Rattle.om_manager.specs.State.{ManagerState, held_by, released_by}
+use Rattle.om_world.specs.declared.event.Event.{Event}
+use Rattle.om_world.specs.declared.event.Answer.{Answer}
+use Rattle.om_world.specs.declared.event.Answer.TheVariants as answers
+use Rattle.om_world.specs.declared.event.Refusal.{Refusal}
+use Rattle.om_world.specs.declared.event.Refusal.TheVariants as refusals
+use Rattle.om_world.specs.declared.place.Place.{Place}
+use Rattle.om_world.specs.World.{WorldState, recovered, entry_of}
+
+-- what was received stays, and who is up
+pub record Stays (old new : WorldState) : Type 0 where
+  pub programs : new.programs ≡ old.programs
+  pub live : new.live ≡ old.live
+  pub places : new.places ≡ old.places
+  pub rounds : new.rounds ≡ old.rounds
+
+-- all stays but what is known of the stores
+abbrev pub IsSame : WorldState → WorldState → Type 0
+IsSame old new = new ≡ record old { clean = new.clean }
+
+abbrev pub IsUp : WorldState → ℕ → Type 0
+IsUp w p = slice_get w.places p ≡ Some Place.Up
+
+-- process p is up, with the one core before and the other after; no other core changes
+pub record Changes (old : WorldState) (p : ℕ) (c d : CoreState) (new : WorldState) : Type 0 where
+  pub up : IsUp old p
+  pub before : slice_get old.cores p ≡ Some (Some c)
+  pub cores : new.cores ≡ slice_set old.cores p (Some d)
+  pub stays : Stays old new
+
+-- ---- messages and outputs
+-- an entry as a message on its way
+abbrev pub message_of : CoreState → ℕ → ℕ → kept.Entry → Message
+message_of c to ssn e = record { from = c.own; to = to; tag = record { inc = c.inc; interval = e.interval }; ssn = ssn; body = e.body }
+
+-- the messages to a process that are kept, on their way
+abbrev pub messages_in : CoreState → ℕ → List Message
+messages_in c to = numbered (message_of c to) (messages_to c to).first (messages_to c to).entries
+
+-- of the messages to each of the first n processes, those behind the first few, by receiver and then by number
+abbrev pub messages_behind : CoreState → (ℕ → ℕ) → ℕ → List Message
+messages_behind c few zero = []
+messages_behind c few (suc n) = messages_behind c few n ++ drop (few n) (messages_in c n)
+
+-- what a core that sent more keeps of it
+abbrev pub new_messages : CoreState → CoreState → List Message
+new_messages c d = messages_behind d (λ to. length (messages_to c to).entries) (size_of d.now)
+
+abbrev pub all_messages : CoreState → List Message
+all_messages c = messages_behind c (λ to. 0) (size_of c.now)
+
+-- how many outputs the process made
+abbrev pub made_by : CoreState → ℕ
+made_by c = queue_end (outputs_of c)
+
+-- the manager holds more outputs of one process
+abbrev pub HoldsMore : ManagerState → ℕ → ManagerState → Type 0
+HoldsMore old p new = (more : List HeldOutput) × (new ≡ record old { outputs = slice_set old.outputs p (held_by old p ++ more) })
+
+-- ---- a run
+-- the process took as many turns as there are, up to the fuel
+pub record HasRun (c : CoreState) (fuel steps : ℕ) (status : Status) (d : CoreState) : Type 0 where
+  pub within : steps ≤ fuel
+  pub turns : CoreTurns steps c d
+  pub stops : steps < fuel → core_turn d ≡ None
+  pub rest : d ≡ with_now c d.now
+  pub told : status ≡ status_of (move_of d)
+
+pub record RunHappened (old : WorldState) (p fuel steps : ℕ) (status : Status) (sent made : ℕ) (new : WorldState) : Type 0 where
+  pub before : CoreState
+  pub after : CoreState
+  pub changes : Changes old p before after new
+  pub run : HasRun before fuel steps status after
+  pub frames : new.frames ≡ old.frames ++ new_messages before after
+  pub count : sent ≡ length (new_messages before after)
+  pub outputs : made_by after ≡ made_by before + made
+  pub handed_in : made_by after ≤ length (held_by new.manager p)
+  pub manager : HoldsMore old.manager p new.manager
+  pub contents : new.contents ≡ old.contents
+
+-- a run that memory was refused: the turns before stand, and all new messages are frames or none is
+pub record RunStopped (old : WorldState) (p fuel : ℕ) (new : WorldState) : Type 0 where
+  pub before : CoreState
+  pub after : CoreState
+  pub changes : Changes old p before after new
+  pub turns : (k : ℕ) × (k ≤ fuel) × CoreTurns k before after
+  pub rest : after ≡ with_now before after.now
+  pub frames : (new.frames ≡ old.frames) ⊎ (new.frames ≡ old.frames ++ new_messages before after)
+  pub manager : HoldsMore old.manager p new.manager
+  pub contents : new.contents ≡ old.contents
+
+-- ---- a frame that is offered
+-- the frame, and the core to which it is offered
+pub record IsOffer (w : WorldState) (p f : ℕ) (m : Message) (c : CoreState) : Type 0 where
+  pub up : IsUp w p
+  pub frame : slice_get w.frames f ≡ Some m
+  pub core : slice_get w.cores p ≡ Some (Some c)
+
+-- the message is taken, and is an entry of live
+abbrev pub with_taken : WorldState → ℕ → Message → CoreState → WorldState
+with_taken w p m c = record w { live = w.live ++ entry_of m ∷ []; cores = slice_set w.cores p (Some (taken c m)) }
+
+abbrev pub GiveHappened : WorldState → ℕ → ℕ → Accept → WorldState → Type 0
+GiveHappened old p f (accepts.Taken x) new =
+    (m : Message) × (c : CoreState) × IsOffer old p f m c × Answers c m (accepts.Taken x) × (new ≡ with_taken old p m c)
+GiveHappened old p f accepts.Memory new = ⊥
+GiveHappened old p f answer new = (m : Message) × (c : CoreState) × IsOffer old p f m c × Answers c m answer × (new ≡ old)
+
+-- ---- records that are stored and noted
+-- a pending row of a process, as the manager is told it
+abbrev pub row_for : ℕ → pending.Row → noted.Row
+row_for p row = if row.ckpt then checkpoint_of p row.x row.vec row.got else log_of p row.x row.vec row.got
+
+-- the rows are offered in order, and each is noted or known
+abbrev pub NotesAll : ManagerState → ℕ → List pending.Row → ManagerState → Type 0
+NotesAll old p [] new = new ≡ old
+NotesAll old p (row ∷ rows) new =
+    (mid : ManagerState) × (note : Note) × Notes old old.round (row_for p row) (Ok note) mid × NotesAll mid p rows new
+
+-- the store has gained what the core keeps of its kind: the receipts of its log, or a checkpoint of now
+abbrev pub HasGained : RowKind → CoreState → Content → Content → Type 0
+HasGained Log c before after = HasGainedLog c before after
+HasGained Checkpoint c before after = HasGainedCheckpoint c before after
+
+-- the core once that is stored
+abbrev pub stored : RowKind → CoreState → CoreState
+stored Log c = flushed c
+stored Checkpoint c = checkpointed c
+
+-- the store of process p gained it
+abbrev pub HasStored : RowKind → WorldState → ℕ → CoreState → WorldState → Type 0
+HasStored kind old p c new =
+    (before : Content) × (after : Content) × (slice_get old.contents p ≡ Some before) × HasGained kind c before after
+    × (new.contents ≡ slice_set old.contents p after)
+
+-- the first so many of the pending rows of the core, as it was once it had stored, are noted and no longer pending
+pub record HasNoted (old : WorldState) (p : ℕ) (c d : CoreState) (count : ℕ) (new : WorldState) : Type 0 where
+  pub changes : Changes old p c (with_pending d (drop count d.pending)) new
+  pub within : count ≤ length d.pending
+  pub manager : NotesAll old.manager p (take count d.pending) new.manager
+  pub frames : new.frames ≡ old.frames
+
+abbrev pub StoreHappened : RowKind → WorldState → ℕ → ℕ → WorldState → Type 0
+StoreHappened kind old p count new =
+    (c : CoreState) × HasStored kind old p c new × HasNoted old p c (stored kind c) count new × (count ≡ length (stored kind c).pending)
+
+-- memory was refused: nothing is stored, or all of it, and some of the pending rows are noted
+abbrev pub StoreStopped : RowKind → WorldState → ℕ → WorldState → Type 0
+StoreStopped kind old p new = IsSame old new ⊎ ((c : CoreState) × (count : ℕ)
+    × HasStored kind old p c new × HasNoted old p c (stored kind c) count new × (count < length (stored kind c).pending))
+
+-- the store of process p has a checkpoint of its interval
+pub record HasCheckpoint (w : WorldState) (p : ℕ) : Type 0 where
+  pub core : CoreState
+  pub is_core : slice_get w.cores p ≡ Some (Some core)
+  pub held : Content
+  pub is_held : slice_get w.contents p ≡ Some held
+  pub there : IsSome (get held.checkpoints core.now.interval)
+
+-- ---- what is sent again, and what is dropped
+abbrev pub ResendHappened : WorldState → ℕ → ℕ → WorldState → Type 0
+ResendHappened old p count new =
+    IsUp old p × (c : CoreState) × (slice_get old.cores p ≡ Some (Some c))
+    × (count ≡ length (all_messages c)) × (new ≡ record old { frames = old.frames ++ all_messages c })
+
+abbrev pub TrimHappened : WorldState → ℕ → WorldState → Type 0
+TrimHappened old p new =
+    IsUp old p × (c : CoreState) × (slice_get old.cores p ≡ Some (Some c))
+    × (got : List ℕ) × AreGotFrom old.manager.rows old.manager.recovery p got
+    × (new ≡ record old {
+      cores = slice_set old.cores p
+          (Some (with_now c (trimmed (got ++ length (released_by old.manager p) ∷ []) c.now)));
+    })
+
+-- the manager is pruned
+pub record ManagerPruned (old new : ManagerState) : Type 0 where
+  pub rows : IsPruned old.rows old.recovery new.rows
+  pub others : new ≡ record old { rows = new.rows }
+
+-- and a store to its effective checkpoint
+abbrev pub StorePruned : WorldState → ℕ → Content → Content → Type 0
+StorePruned new p before after =
+    (c : ℕ) × IsEffective new.manager.rows p (recovered new.manager p) c × (after ≡ kept_by_prune before c)
+
+pub record PruneHappened (old new : WorldState) : Type 0 where
+  pub manager : ManagerPruned old.manager new.manager
+  pub stores : (p : ℕ) (before : Content) → slice_get old.contents p ≡ Some before
+      → (after : Content) × (slice_get new.contents p ≡ Some after) × StorePruned new p before after
+  pub others : new ≡ record old { manager = new.manager; contents = new.contents; clean = new.clean }
+
+-- a store refused: the manager is pruned, and some of the stores
+pub record PruneStopped (old new : WorldState) : Type 0 where
+  pub manager : ManagerPruned old.manager new.manager
+  pub stores : (p : ℕ) (before : Content) → slice_get old.contents p ≡ Some before
+      → (after : Content) × (slice_get new.contents p ≡ Some after) × ((after ≡ before) ⊎ StorePruned new p before after)
+  pub others : new ≡ record old { manager = new.manager; contents = new.contents; clean = new.clean }
+
+-- ---- all events
+-- an event of a process that is not there, or is not up; no other refusal is meant
+abbrev pub NotRunning : WorldState → ℕ → Refusal → WorldState → Type 0
+NotRunning old p refusals.NoProcess new = (length old.programs ≤ p) × (new ≡ old)
+NotRunning old p refusals.NotUp new = (p < length old.programs) × (IsUp old p → ⊥) × (new ≡ old)
+NotRunning old p why new = ⊥
+
+-- why an event is refused, and what it leaves. Where all stores are clean, none is damaged
+abbrev pub Refused : WorldState → Event → Refusal → WorldState → Type 0
+Refused old (Event.Run p fuel) refusals.Memory new = RunStopped old p fuel new
+Refused old (Event.Run p fuel) why new = NotRunning old p why new
+Refused old (Event.Give p f) refusals.NoFrame new = IsUp old p × (length old.frames ≤ f) × (new ≡ old)
+Refused old (Event.Give p f) refusals.Memory new = (m : Message) × (c : CoreState) × IsOffer old p f m c × (new ≡ old)
+Refused old (Event.Give p f) why new = NotRunning old p why new
+Refused old (Event.Flush p) refusals.Memory new = IsUp old p × StoreStopped Log old p new
+Refused old (Event.Flush p) refusals.Fault new = IsUp old p × IsSame old new
+Refused old (Event.Flush p) why new = NotRunning old p why new
+Refused old (Event.Checkpoint p) refusals.Memory new = IsUp old p × StoreStopped Checkpoint old p new
+Refused old (Event.Checkpoint p) refusals.Fault new = IsUp old p × IsSame old new
+Refused old (Event.Checkpoint p) refusals.Present new = IsUp old p × HasCheckpoint old p × IsSame old new
+Refused old (Event.Checkpoint p) why new = NotRunning old p why new
+Refused old (Event.Resend p) refusals.Memory new = IsUp old p × (new ≡ old)
+Refused old (Event.Resend p) why new = NotRunning old p why new
+Refused old (Event.Trim p) why new = NotRunning old p why new
+Refused old Event.Prune refusals.Memory new = PruneStopped old new
+Refused old Event.Prune refusals.Fault new = PruneStopped old new
+Refused old Event.Prune why new = ⊥
+
+-- what an event does, by its answer
+abbrev pub Happened : WorldState → Event → Answer → WorldState → Type 0
+Happened old event (answers.Refused why) new = Refused old event why new
+Happened old (Event.Run p fuel) (answers.Ran steps status sent made) new = RunHappened old p fuel steps status sent made new
+Happened old (Event.Give p f) (answers.Given answer) new = GiveHappened old p f answer new
+Happened old (Event.Flush p) (answers.Noted count) new = StoreHappened Log old p count new
+Happened old (Event.Checkpoint p) (answers.Noted count) new = StoreHappened Checkpoint old p count new
+Happened old (Event.Resend p) (answers.Resent count) new = ResendHappened old p count new
+Happened old (Event.Trim p) answers.Trimmed new = TrimHappened old p new
+Happened old Event.Prune answers.Pruned new = PruneHappened old new
+Happened old event answer new = ⊥

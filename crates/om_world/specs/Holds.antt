@@ -1,0 +1,64 @@
+-- What holds of a world at each point, whatever was refused or lost: it is a point of a run without failures.
+use Rattle.std.specs.Prelude.{◌≡◌, ℕ, ◌<◌, ◌≤◌, List, length, slice_get, slice_index, Some}
+use Rattle.std.specs.FinMap.{get}
+use Rattle.om_format.specs.declared.queue.Entry as kept
+use Rattle.om_stable.specs.Content.{Content}
+use Rattle.om_process.specs.Process.{Process}
+use Rattle.om_process.specs.Core.{CoreState}
+use Rattle.om_process.specs.Turns.{Reaches}
+use Rattle.om_process.specs.Parts.{Keeps}
+use Rattle.om_process.specs.Dependencies.{count_from}
+use Rattle.om_process.specs.Claims.{HasEntry, RowOf}
+use Rattle.om_recover.specs.Rows.{HasRow}
+use Rattle.om_recover.specs.Cutting.{IsEffective}
+use Rattle.om_recover.specs.declared.row.Row.{Row}
+use Rattle.om_recover.specs.declared.row.RowKind.{RowKind}
+use Rattle.om_recover.specs.declared.row.RowKind.TheVariants.{Checkpoint, Log}
+use Rattle.om_manager.specs.Outputs.{HeldOutput}
+use Rattle.om_manager.specs.State.{released_by}
+use Rattle.om_world.specs.declared.place.Place.{Place}
+use Rattle.om_world.specs.Live.{program_at, Legal}
+use Rattle.om_world.specs.World.{WorldState, past_of, history, recovered, output_entry}
+
+-- a core is where its process's receipts lead, with their dependencies and counts; and of what the process made for others,
+-- it keeps whatever they have not received
+pub record StandsAt (w : WorldState) (p : ℕ) (c : CoreState) : Type 0 where
+  pub whole : Process
+  pub reaches : Reaches (program_at w.programs p) p (length w.programs) (history (past_of w) p) whole
+  pub keeps : Keeps whole c.now
+  pub row : RowOf p (length w.programs) c.now.vec c.now.got (history (past_of w) p)
+  pub undelivered : (q number : ℕ) (e : kept.Entry) → q < length w.programs → count_from p (history (past_of w) q) ≤ number
+      → HasEntry whole.queues q number e → HasEntry c.now.queues q number e
+
+-- the released outputs are the first of those that the process makes along its receipts
+abbrev pub ReleasedFirst : WorldState → ℕ → Type 0
+ReleasedFirst w p =
+    (s : Process) × Reaches (program_at w.programs p) p (length w.programs) (history (past_of w) p) s
+    × ((i : ℕ) (o : HeldOutput) → slice_get (released_by w.manager p) i ≡ Some o
+    → HasEntry s.queues (length w.programs) i (output_entry o))
+
+-- a store has the record of a row
+abbrev pub HasRecord : Content → RowKind → ℕ → Type 0
+HasRecord held Checkpoint x = (bytes : List ℕ) × (get held.checkpoints x ≡ Some bytes)
+HasRecord held Log x = (bytes : List ℕ) × (get held.receipts x ≡ Some bytes)
+
+-- a record that a replay from this checkpoint may want: the checkpoint itself or a later one, or a receipt after it
+abbrev pub IsWanted : ℕ → RowKind → ℕ → Type 0
+IsWanted effective Checkpoint x = effective ≤ x
+IsWanted effective Log x = effective < x
+
+pub record Holds (w : WorldState) : Type 0 where
+  -- what was received and not cut is a run without failures
+  pub legal : Legal w.programs w.live
+  -- each process that is up stands where that run leads it, and knows the manager's round
+  pub up : (p : ℕ) (c : CoreState) → slice_get w.cores p ≡ Some (Some c) → slice_get w.places p ≡ Some Place.Up
+      → StandsAt w p c × (c.round ≡ w.manager.round)
+  -- and so does each that is in, while the gathering that it joined is open
+  pub gathered : (p : ℕ) (c : CoreState) → slice_get w.cores p ≡ Some (Some c) → slice_get w.places p ≡ Some Place.In
+      → slice_index w.rounds p ≡ w.manager.round → StandsAt w p c
+  -- what is released is what that run puts out
+  pub released : (p : ℕ) → p < length w.programs → ReleasedFirst w p
+  -- each row that a replay may want has its record
+  pub backed : (row : Row) (held : Content) (c : ℕ) → HasRow w.manager.rows row → slice_get w.contents row.pid ≡ Some held
+      → IsEffective w.manager.rows row.pid (recovered w.manager row.pid) c → IsWanted c row.kind row.interval
+      → HasRecord held row.kind row.interval

@@ -1,0 +1,58 @@
+-- What is seen of a world.
+use Rattle.std.specs.Prelude.{ℕ, List, [], ◌∷◌, ◌&&◌, slice_index, Bool, true, Option}
+use Rattle.om_format.specs.declared.message.Message.{Message}
+use Rattle.om_format.specs.declared.queue.Entry as kept
+use Rattle.om_stable.specs.Content.{Content}
+use Rattle.om_process.specs.Process.{Program, Received}
+use Rattle.om_process.specs.Core.{CoreState}
+use Rattle.om_process.specs.declared.image.Image.{Image}
+use Rattle.om_manager.specs.Outputs.{HeldOutput}
+use Rattle.om_manager.specs.State.{ManagerState}
+use Rattle.om_world.specs.declared.entry.Entry.{Entry}
+use Rattle.om_world.specs.declared.place.Place.{Place}
+use Rattle.om_world.specs.Live.{received}
+
+pub record WorldState : Type 0 where
+  pub programs : List Program  -- by process
+  pub live : List Entry  -- what was received and not cut, in order
+  pub frames : List Message  -- in the order in which they were made
+  pub cores : List (Option CoreState)  -- by process, none where it is down
+  pub places : List Place  -- by process
+  pub rounds : List ℕ  -- by process, how many rounds were finished when it was last up
+  pub manager : ManagerState
+  pub contents : List Content  -- by process, what its store holds
+  pub clean : List Bool  -- by process, whether that is known
+
+-- an image as a program
+abbrev pub program_of : Image → Program
+program_of image = record { image = image.bytes.items; size = image.size; ext = image.ext }
+
+-- what each store holds is known
+abbrev pub all_clean : List Bool → Bool
+all_clean [] = true
+all_clean (b ∷ bs) = b && all_clean bs
+
+-- what the claims on processes speak of
+pub record Past : Type 0 where
+  pub programs : List Program
+  pub live : List Entry
+  pub manager : ManagerState
+
+abbrev pub past_of : WorldState → Past
+past_of w = record { programs = w.programs; live = w.live; manager = w.manager }
+
+-- what a process received, but for what was cut
+abbrev pub history : Past → ℕ → List Received
+history w p = received p w.live
+
+-- the entry of live that a message becomes
+abbrev pub entry_of : Message → Entry
+entry_of m = record { to = m.to; from = m.from; ssn = m.ssn; interval = m.tag.interval; body = m.body }
+
+-- the place of a process in the recovery state
+abbrev pub recovered : ManagerState → ℕ → ℕ
+recovered m p = slice_index m.recovery p
+
+-- an output that was handed in, as the entry of a queue
+abbrev pub output_entry : HeldOutput → kept.Entry
+output_entry o = record { interval = o.interval; body = o.bytes }

@@ -1,0 +1,152 @@
+-- What a call makes of the cores.
+use Rattle.std.specs.Prelude.{◌≡◌, ℕ, ◌≤◌, List, [], ◌∷◌, ◌++◌, length, take, drop, slice_get, slice_set, Bool, true, IsTrue, IsSome, Option, Some, Result, Ok, Err, OnOk, IfErr}
+use Rattle.std.specs.FinMap.{get}
+use Rattle.om_interval.specs.Vectors.{IsBelow}
+use Rattle.om_stable.specs.Content.{Content, IsTaken}
+use Rattle.om_stable.specs.declared.error.StoreError.{StoreError}
+use Rattle.om_stable.specs.declared.error.StoreError.TheVariants.{Present}
+use Rattle.om_stable.specs.declared.error.StoreError.TheVariants as store_errors
+use Rattle.om_process.specs.declared.row.Row.{Row}
+use Rattle.om_process.specs.Stores.{first_logged}
+use Rattle.om_process.specs.Trims.{trimmed}
+use Rattle.om_recover.specs.declared.note.Note.{Note}
+use Rattle.om_recover.specs.declared.row.RowKind.{RowKind}
+use Rattle.om_recover.specs.declared.row.RowKind.TheVariants.{Checkpoint, Log}
+use Rattle.om_manager.specs.Notes.{Notes}
+use Rattle.om_manager.specs.Sound.{IsManager, KeepsReleased}
+use Rattle.om_manager.specs.State.{ManagerState}
+use Rattle.om_recover.specs.declared.note.NoteError.TheVariants as refusals
+use Rattle.om_manager.specs.declared.answers.RecordError.{RecordError}
+use Rattle.om_manager.specs.declared.answers.RecordError.TheVariants.{Refused}
+use Rattle.om_world.specs.World.{WorldState, all_clean}
+use Rattle.om_format.specs.declared.message.Message.{Message}
+use Rattle.om_process.specs.declared.accept.Accept.{Accept}
+use Rattle.om_process.specs.declared.accept.Accept.TheVariants as accepts
+use Rattle.om_process.specs.declared.turns.Ran.{Ran}
+use Rattle.om_process.specs.Accepts.{Answers, taken}
+use Rattle.om_world.specs.declared.event.Answer.{Answer}
+use Rattle.om_world.specs.declared.event.Answer.TheVariants as answers
+use Rattle.om_world.specs.declared.event.Event.{Event}
+use Rattle.om_world.specs.declared.event.Refusal.{Refusal}
+use Rattle.om_world.specs.declared.event.Refusal.TheVariants as why
+use Rattle.om_process.specs.Core.{CoreState, CoreTurns, with_now, with_pending}
+use Rattle.om_world.specs.Happened.{HasGained, HasRun, row_for, stored}
+
+-- there is a core at this place
+abbrev pub HasCore : List (Option CoreState) → ℕ → Type 0
+HasCore cores p = (c : CoreState) × (slice_get cores p ≡ Some (Some c))
+
+-- the core at this place takes some turns, and no other core changes
+pub record GoesOn (old : List (Option CoreState)) (p fuel : ℕ) (new : List (Option CoreState)) : Type 0 where
+  pub before : CoreState
+  pub after : CoreState
+  pub there : slice_get old p ≡ Some (Some before)
+  pub turns : (k : ℕ) × (k ≤ fuel) × CoreTurns k before after
+  pub rest : after ≡ with_now before after.now
+  pub size : length after.now.vec ≡ length before.now.vec
+  pub cores : new ≡ slice_set old p (Some after)
+
+-- and it has run
+abbrev pub HasRunAt : List (Option CoreState) → ℕ → ℕ → Ran → List (Option CoreState) → Type 0
+HasRunAt old p fuel ran new =
+    (c : CoreState) × (d : CoreState) × (slice_get old p ≡ Some (Some c)) × HasRun c fuel ran.steps ran.status d
+    × (new ≡ slice_set old p (Some d))
+
+-- the cores after one was offered a message, by its answer
+abbrev pub after_offer : List (Option CoreState) → ℕ → CoreState → Message → Accept → List (Option CoreState)
+after_offer old p c m (accepts.Taken x) = slice_set old p (Some (taken c m))
+after_offer old p c m answer = old
+
+-- the core at this place answers to a message
+pub record IsOffered (old : List (Option CoreState)) (p : ℕ) (m : Message) (answer : Accept) (new : List (Option CoreState)) : Type 0 where
+  pub core : CoreState
+  pub there : slice_get old p ≡ Some (Some core)
+  pub answers : Answers core m answer
+  pub cores : new ≡ after_offer old p core m answer
+
+-- what is told of an event
+abbrev pub answered : Result Answer Refusal → Answer
+answered (Ok answer) = answer
+answered (Err why) = answers.Refused why
+
+-- ---- stores
+-- what a store answered: it gained what was put there, or nothing, and then it was present only where one was there
+abbrev pub Gained : RowKind → CoreState → Result (Unit {0}) StoreError → Content → Content → Type 0
+Gained kind c (Ok done) before after = HasGained kind c before after
+Gained Log c (Err fault) before after =
+    (after ≡ before) × (fault ≡ Present → IsTaken before.receipts (first_logged c) (length c.log))
+Gained Checkpoint c (Err fault) before after = (after ≡ before) × (fault ≡ Present → IsSome (get before.checkpoints c.now.interval))
+
+abbrev pub after_store : RowKind → CoreState → Result (Unit {0}) StoreError → CoreState
+after_store kind c (Ok done) = stored kind c
+after_store kind c (Err why) = c
+
+-- one of the stores took a call, which did this to its content
+pub record IsCalled {S : Type 0} (content : S → Content) (is_clean : S → Bool) (IsSound : S → Type 0)
+    (old new : List S) (p : ℕ) (Did : Content → Content → Type 0) : Type 0 where
+  pub before : S
+  pub after : S
+  pub there : slice_get old p ≡ Some before
+  pub stores : new ≡ slice_set old p after
+  pub clean : IsTrue (is_clean after) → IsTrue (is_clean before)
+  pub sound : IsTrue (is_clean after) → IsSound before → IsSound after
+  pub did : IsTrue (is_clean after) → IsSound before → Did (content before) (content after)
+
+-- ---- the manager
+-- a row is offered to the manager
+pub record IsTold (old : ManagerState) (round p : ℕ) (row : Row) (answer : Result Note RecordError) (new : ManagerState) : Type 0 where
+  pub answers : Notes old round (row_for p row) answer new
+  pub sound : IsManager new
+  pub below : IsBelow old.recovery new.recovery
+  pub released : KeepsReleased old new
+
+-- rows are offered in order, and none is refused
+abbrev pub AreTold : ManagerState → ℕ → ℕ → List Row → ManagerState → Type 0
+AreTold old round p [] new = new ≡ old
+AreTold old round p (row ∷ rows) new =
+    (mid : ManagerState) × (note : Note) × IsTold old round p row (Ok note) mid × AreTold mid round p rows new
+
+-- the rows are offered up to the first that is refused
+pub record IsToldUpTo (old : ManagerState) (round p : ℕ) (rows : List Row) (count : ℕ)
+    (end : Result (Unit {0}) RecordError) (new : ManagerState) : Type 0 where
+  pub within : count ≤ length rows
+  pub told : AreTold old round p (take count rows) new
+  pub all : OnOk end (count ≡ length rows)
+  pub refused : IfErr end (λ fault. (row : Row) × (slice_get rows count ≡ Some row) × Notes new round (row_for p row) (Err fault) new)
+
+-- a process stored what it keeps of a kind, or its store refused; a log's receipts are never there already
+pub record HasCalled (kind : RowKind) (old : WorldState) (p : ℕ) (answer : Result (Unit {0}) StoreError) (new : WorldState) : Type 0 where
+  pub core : CoreState
+  pub there : slice_get old.cores p ≡ Some (Some core)
+  pub others : new ≡ record old { cores = slice_set old.cores p (Some (after_store kind core answer)); contents = new.contents; clean = new.clean }
+  pub did : all_clean new.clean ≡ true → (before : Content) × (after : Content) × (slice_get old.contents p ≡ Some before)
+      × (new.contents ≡ slice_set old.contents p after) × Gained kind core answer before after
+  pub was_clean : all_clean new.clean ≡ true → all_clean old.clean ≡ true
+  pub free : all_clean new.clean ≡ true → kind ≡ Log → answer ≡ Err Present → ⊥
+
+-- the pending rows of a process were offered up to the first that was refused, which was for want of memory
+pub record HasTold (old : WorldState) (p count : ℕ) (end : Result (Unit {0}) RecordError) (new : WorldState) : Type 0 where
+  pub core : CoreState
+  pub there : slice_get old.cores p ≡ Some (Some core)
+  pub told : IsToldUpTo old.manager core.round p core.pending count end new.manager
+  pub others : new ≡ record old { cores = slice_set old.cores p (Some (with_pending core (drop count core.pending))); manager = new.manager }
+  pub memory : all_clean old.clean ≡ true → IfErr end (λ fault. fault ≡ Refused refusals.Memory)
+
+-- the event that stores what is kept of a kind
+abbrev pub event_of : RowKind → ℕ → Event
+event_of Log p = Event.Flush p
+event_of Checkpoint p = Event.Checkpoint p
+
+-- what an event that a store or the manager refused is answered
+abbrev pub refusal_of_store : StoreError → Refusal
+refusal_of_store store_errors.Present = why.Present
+refusal_of_store store_errors.Fault = why.Fault
+refusal_of_store store_errors.Memory = why.Memory
+
+abbrev pub refusal_of_record : RecordError → Refusal
+refusal_of_record (Refused refusals.Memory) = why.Memory
+refusal_of_record fault = why.Damaged
+
+-- a core that keeps nothing below these numbers
+abbrev pub trimmed_core : CoreState → List ℕ → ℕ → CoreState
+trimmed_core c got released = with_now c (trimmed (got ++ released ∷ []) c.now)

@@ -1,0 +1,164 @@
+-- What is kept of a world by each call that it makes.
+use Rattle.std.specs.Prelude.{◌≡◌, ◌⊎◌, ℕ, ◌<◌, ◌≤◌, List, [], ◌∷◌, ◌++◌, length, take, slice_get, slice_index, true, false, Some, None, if◌then◌else◌}
+use Rattle.std.specs.FinMap.{get}
+use Rattle.om_interval.specs.declared.pid.TheConstants.{MAX_PROCESSES}
+use Rattle.om_interval.specs.Starts.{IsOrphan, is_named, newest_of}
+use Rattle.om_format.specs.declared.message.Message.{Message}
+use Rattle.om_format.specs.Queues.{QueueRecord}
+use Rattle.om_format.specs.Receipts.{ReceiptRecord, SpellsReceipt}
+use Rattle.om_format.specs.Checkpoints.{CheckpointRecord, IsSpelled}
+use Rattle.om_stable.specs.Content.{Content}
+use Rattle.om_process.specs.declared.row.Row as pending
+use Rattle.om_process.specs.Process.{Program, Process, Received}
+use Rattle.om_process.specs.Core.{CoreState, LoggedRecord, size_of}
+use Rattle.om_process.specs.Turns.{Reaches}
+use Rattle.om_process.specs.Replays.{FitsReceipt, received_of, process_of}
+use Rattle.om_process.specs.Dependencies.{count_from}
+use Rattle.om_process.specs.Claims.{AtInterval, Makes, RowOf, CheckpointOf, RecordOf}
+use Rattle.om_process.specs.Stores.{first_logged}
+use Rattle.om_recover.specs.Rows.{HasRow, Has}
+use Rattle.om_recover.specs.declared.row.Row as noted
+use Rattle.om_recover.specs.declared.row.RowKind.{RowKind}
+use Rattle.om_recover.specs.declared.row.RowKind.TheVariants.{Checkpoint, Log}
+use Rattle.om_manager.specs.Gatherings.{presence_of, presences_of}
+use Rattle.om_manager.specs.Outputs.{HeldOutput}
+use Rattle.om_manager.specs.Sound.{IsManager}
+use Rattle.om_manager.specs.State as managers
+use Rattle.om_manager.specs.State.{ManagerState, held_by, released_by}
+use Rattle.om_manager.specs.declared.presence.Presence.TheVariants.{Away, Joined}
+use Rattle.om_world.specs.declared.place.Place.{Place}
+use Rattle.om_world.specs.Live.{program_at, Legal}
+use Rattle.om_world.specs.World.{WorldState, Past, past_of, history, recovered, output_entry, all_clean}
+use Rattle.om_world.specs.Holds.{HasRecord}
+
+-- the sender made the message in that interval, along what it had then received
+abbrev pub Said : Past → Message → Type 0
+Said w m = AtInterval (history w m.from) m.tag.interval
+    (Makes (program_at w.programs m.from) m.from (length w.programs) m.to m.ssn (record { interval = m.tag.interval; body = m.body }))
+
+-- the manager knows a frame's incarnation, and by its starts the frame is an orphan, or it was said
+pub record IsFrame (w : Past) (m : Message) : Type 0 where
+  pub from : m.from < length w.programs
+  pub known : m.tag.inc ≤ newest_of w.manager.starts m.from
+  pub said : IsOrphan w.manager.starts m.from m.tag.inc m.tag.interval ⊎ Said w m
+
+-- nothing is dropped of these queues of p that a process may want again: what it had not received within the recovery state
+abbrev pub KeptWithin : Past → ℕ → List QueueRecord → Type 0
+KeptWithin w p qs = (q : ℕ) (queue : QueueRecord) → slice_get qs q ≡ Some queue
+    → (q < length w.programs → queue.first ≤ count_from p (take (recovered w.manager q) (history w q)))
+    × (q ≡ length w.programs → queue.first ≤ length (released_by w.manager p))
+
+-- what a store has up to the process's interval is true
+pub record IsStored (w : Past) (p : ℕ) (held : Content) : Type 0 where
+  pub checkpoints : (x : ℕ) (bytes : List ℕ) → x ≤ length (history w p) → get held.checkpoints x ≡ Some bytes
+      → (c : CheckpointRecord) × IsSpelled c bytes × (c.pid ≡ p) × (c.n ≡ length w.programs)
+      × AtInterval (history w p) x (CheckpointOf (program_at w.programs p) p (length w.programs) (process_of c))
+      × KeptWithin w p (process_of c).queues
+  pub receipts : (x : ℕ) (bytes : List ℕ) → 1 ≤ x → x ≤ length (history w p) → get held.receipts x ≡ Some bytes
+      → (r : ReceiptRecord) × SpellsReceipt r bytes
+      × AtInterval (history w p) x (RecordOf (program_at w.programs p) p (length w.programs) r)
+
+-- a store has no receipt of the core's log or of a later interval, and no checkpoint of a later interval
+pub record NothingAbove (held : Content) (c : CoreState) (interval : ℕ) : Type 0 where
+  pub receipts : (y : ℕ) → first_logged c ≤ y → get held.receipts y ≡ None
+  pub checkpoints : (y : ℕ) → interval < y → get held.checkpoints y ≡ None
+
+-- a row that no replay wants any longer: a noted checkpoint within the recovery state stands after it
+abbrev pub IsBefore : RowKind → ℕ → ℕ → Type 0
+IsBefore Checkpoint x c = x < c
+IsBefore Log x c = x ≤ c
+
+pub record IsOld (m : ManagerState) (p : ℕ) (kind : RowKind) (x : ℕ) : Type 0 where
+  pub checkpoint : ℕ
+  pub there : Has m.rows Checkpoint p checkpoint
+  pub within : checkpoint ≤ recovered m p
+  pub before : IsBefore kind x checkpoint
+
+-- logged receipts that come after these, with their rows
+abbrev pub LogAlong : Program → ℕ → ℕ → List Received → List LoggedRecord → Type 0
+LogAlong program own n h [] = Unit {0}
+LogAlong program own n h (l ∷ ls) =
+    ((w : Process) × Reaches program own n h w × FitsReceipt own n w l.receipt)
+    × RowOf own n l.vec l.got (h ++ received_of l.receipt ∷ [])
+    × LogAlong program own n (h ++ received_of l.receipt ∷ []) ls
+
+abbrev pub receipts_in : List LoggedRecord → List Received
+receipts_in [] = []
+receipts_in (l ∷ ls) = received_of l.receipt ∷ receipts_in ls
+
+-- the log is that of the last receipts
+abbrev pub LogOf : Program → ℕ → ℕ → List LoggedRecord → List Received → Type 0
+LogOf program own n log h = (front : List Received) × (h ≡ front ++ receipts_in log) × LogAlong program own n front log
+
+-- a pending row as the manager is told it
+abbrev pub kind_of : pending.Row → RowKind
+kind_of row = if row.ckpt then Checkpoint else Log
+
+-- a pending row is true, and its record stands in the store or is not wanted
+pub record IsPending (w : Past) (p : ℕ) (held : Content) (row : pending.Row) : Type 0 where
+  pub row_of : AtInterval (history w p) row.x (RowOf p (length w.programs) row.vec row.got)
+  pub begun : row.ckpt ≡ false → 0 < row.x
+  pub backed : HasRecord held (kind_of row) row.x ⊎ IsOld w.manager p (kind_of row) row.x
+
+-- a core is one of this cluster's
+pub record IsCoreOf (n p : ℕ) (c : CoreState) : Type 0 where
+  pub own : c.own ≡ p
+  pub size : size_of c.now ≡ n
+
+-- a process that runs
+pub record IsRunning (w : Past) (p : ℕ) (held : Content) (c : CoreState) : Type 0 where
+  pub state : CheckpointOf (program_at w.programs p) p (length w.programs) c.now (history w p)
+  pub kept : KeptWithin w p c.now.queues
+  pub log : LogOf (program_at w.programs p) p (length w.programs) c.log (history w p)
+  pub pending : (i : ℕ) (row : pending.Row) → slice_get c.pending i ≡ Some row → IsPending w p held row
+  pub above : NothingAbove held c (length (history w p))
+
+-- a process that is up knows what the manager knows, and is in no gathering
+pub record IsUpIn (m : ManagerState) (p : ℕ) (c : CoreState) : Type 0 where
+  pub round : c.round ≡ m.round
+  pub starts : c.starts ≡ m.starts
+  pub inc : c.inc ≡ newest_of m.starts p
+  pub away : presence_of (presences_of m.gathering) p ≡ Away
+
+-- the process runs: it is up, or it is in and is not to be rolled back
+abbrev pub Runs : WorldState → ℕ → Type 0
+Runs w p = (slice_get w.places p ≡ Some Place.Up)
+    ⊎ ((slice_get w.places p ≡ Some Place.In) × (slice_index w.rounds p < w.manager.round → is_named w.manager.backs p ≡ false))
+
+-- what holds whether or not the stores are clean
+pub record HasShape (w : WorldState) : Type 0 where
+  pub few : length w.programs ≤ MAX_PROCESSES
+  pub stores : length w.contents ≡ length w.programs
+  pub cores : length w.cores ≡ length w.programs
+  pub places : length w.places ≡ length w.programs
+  pub own : (p : ℕ) (c : CoreState) → slice_get w.cores p ≡ Some (Some c) → IsCoreOf (length w.programs) p c
+  pub there : (p : ℕ) → slice_get w.places p ≡ Some Place.Up → (c : CoreState) × (slice_get w.cores p ≡ Some (Some c))
+  pub manager : IsManager w.manager
+  pub size : managers.size_of w.manager ≡ length w.programs
+
+-- what holds where they are
+pub record Sound (w : WorldState) : Type 0 where
+  pub legal : Legal w.programs w.live
+  pub frames : (i : ℕ) (m : Message) → slice_get w.frames i ≡ Some m → IsFrame (past_of w) m
+  pub outputs : (p i : ℕ) (o : HeldOutput) → slice_get (held_by w.manager p) i ≡ Some o
+      → AtInterval (history (past_of w) p) o.interval
+      (Makes (program_at w.programs p) p (length w.programs) (length w.programs) i (output_entry o))
+  pub rows : (row : noted.Row) → HasRow w.manager.rows row
+      → AtInterval (history (past_of w) row.pid) row.interval (RowOf row.pid (length w.programs) row.vec row.got)
+  pub stored : (p : ℕ) (held : Content) → slice_get w.contents p ≡ Some held → IsStored (past_of w) p held
+  pub backed : (row : noted.Row) (held : Content) → HasRow w.manager.rows row → slice_get w.contents row.pid ≡ Some held
+      → HasRecord held row.kind row.interval ⊎ IsOld w.manager row.pid row.kind row.interval
+  pub running : (p : ℕ) (c : CoreState) (held : Content) → slice_get w.cores p ≡ Some (Some c)
+      → slice_get w.contents p ≡ Some held → Runs w p → IsRunning (past_of w) p held c
+  pub up : (p : ℕ) (c : CoreState) → slice_get w.cores p ≡ Some (Some c) → slice_get w.places p ≡ Some Place.Up
+      → IsUpIn w.manager p c
+  pub joined : (p x : ℕ) → presence_of (presences_of w.manager.gathering) p ≡ Joined x → x ≡ length (history (past_of w) p)
+
+abbrev pub all_sound : {S : Type 0} → (S → Type 0) → List S → Type 0
+all_sound IsSound [] = Unit {0}
+all_sound IsSound (s ∷ ss) = IsSound s × all_sound IsSound ss
+
+-- what a world keeps, over its stores
+pub record IsWorld {S : Type 0} (IsSound : S → Type 0) (stores : List S) (w : WorldState) : Type 0 where
+  pub shape : HasShape w
+  pub clean : all_clean w.clean ≡ true → all_sound IsSound stores × Sound w

@@ -1,0 +1,107 @@
+ghost use Rattle.std.specs.Prelude.{◌≡◌};
+
+use om_manager::RecordError;
+use om_process::{Accept, Status};
+use om_recover::NoteError;
+use om_stable::StoreError;
+use std::alloc::AllocError;
+
+/// What is to happen to a world. A process is told by its number, a frame by its place among those that were made.
+#[derive(Clone, Copy, Debug, PartialEq, Eq)]
+pub enum Event {
+    /// The process runs, at most `fuel` instructions. Its new messages become frames, and its outputs are handed in.
+    Run { process: usize, fuel: u64 },
+    /// The frame is offered to the process. It is not used up.
+    Give { process: usize, frame: usize },
+    /// The process stores its volatile log, and its pending rows are noted.
+    Flush { process: usize },
+    /// The process stores a checkpoint, and its pending rows are noted.
+    Checkpoint { process: usize },
+    /// Each message that the process keeps becomes a new frame.
+    Resend { process: usize },
+    /// The process drops what the manager says that it need not keep.
+    Trim { process: usize },
+    /// The manager drops what it need not keep, and then each store what stands before its effective checkpoint.
+    Prune,
+}
+
+/// What became of an event.
+#[derive(Clone, Copy, Debug, PartialEq, Eq)]
+pub enum Answer {
+    /// The process ran.
+    Ran {
+        /// How many instructions it finished.
+        steps: u64,
+        /// What it is about to do.
+        status: Status,
+        /// How many messages it sent.
+        sent: usize,
+        /// How many outputs it made.
+        made: usize,
+    },
+    /// The process answered to a frame, with anything but want of memory.
+    Given(Accept),
+    /// Its record is stored, and so many rows were noted.
+    Noted(usize),
+    /// So many messages became frames.
+    Resent(usize),
+    Trimmed,
+    Pruned,
+    Refused(Refusal),
+}
+
+/// Why an event was refused. What it did before that stands.
+#[derive(Clone, Copy, Debug, PartialEq, Eq)]
+pub enum Refusal {
+    /// The world has no such process.
+    NoProcess,
+    /// The process has joined a gathering, or is down.
+    NotUp,
+    /// No such frame was made.
+    NoFrame,
+    /// The process's store has a record of that kind of its interval.
+    Present,
+    /// The process's store failed.
+    Fault,
+    /// The manager refused a row or an output. Over stores that held nothing at the start and are clean, it does not.
+    Damaged,
+    /// Memory ran out.
+    Memory,
+}
+
+impl From<AllocError> for Refusal {
+    ghost use Rattle.om_world.specs.declared.event.Refusal.TheVariants.{Memory};
+
+    ghost from_gives = { λ _ why. why ≡ Memory };
+
+    fn from(_e: AllocError) -> Refusal {
+        Refusal::Memory
+    }
+}
+
+impl From<StoreError> for Refusal {
+    ghost use Rattle.om_world.specs.steps.Moves.{refusal_of_store};
+
+    ghost from_gives = { λ fault why. why ≡ refusal_of_store fault };
+
+    fn from(fault: StoreError) -> Refusal {
+        match fault {
+            StoreError::Present => Refusal::Present,
+            StoreError::Fault => Refusal::Fault,
+            StoreError::Memory => Refusal::Memory,
+        }
+    }
+}
+
+impl From<RecordError> for Refusal {
+    ghost use Rattle.om_world.specs.steps.Moves.{refusal_of_record};
+
+    ghost from_gives = { λ fault why. why ≡ refusal_of_record fault };
+
+    fn from(fault: RecordError) -> Refusal {
+        match fault {
+            RecordError::Refused(NoteError::Memory) => Refusal::Memory,
+            _ => Refusal::Damaged,
+        }
+    }
+}

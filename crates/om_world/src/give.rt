@@ -1,0 +1,63 @@
+//! Messages that are offered to the processes.
+
+ghost use Rattle.std.specs.Prelude.{◌≡◌, IfOk};
+ghost use Rattle.om_world.specs.Happened.{Happened};
+ghost use Rattle.om_world.specs.World.{entry_of};
+ghost use Rattle.om_world.specs.declared.event.Event.{Event};
+ghost use Rattle.om_world.specs.steps.Moves.{HasCore, IsOffered, answered};
+
+use crate::entry::Entry;
+use crate::event::{Answer, Refusal};
+use crate::world::World;
+use om_format::Message;
+use om_process::{Accept, ProcCore};
+use om_stable::Stable;
+use std::alloc::{AllocError, Global};
+
+// The entry of a message.
+fn entry_for(alloc: Global, message: &Message) -> Result<Entry, AllocError>
+    ensures { IfOk result (λ entry. entry ≡ entry_of message.now) }
+{
+    Ok(Entry {
+        to: message.to,
+        from: message.from,
+        ssn: message.ssn,
+        interval: message.tag.interval,
+        body: message.body.copy(alloc)?,
+    })
+}
+
+// Offers a message to the process at a place.
+fn offer_at(cores: &mut Vec<Option<ProcCore>>, p: usize, alloc: Global, message: &Message) -> Accept
+    requires { HasCore cores.old.items p }
+    ensures { IsOffered cores.old.items p message.now result cores.new.items }
+{
+    match &mut cores[p] {
+        Some(core) => core.accept(alloc, message),
+        None => unreachable!(),
+    }
+}
+
+impl<S: Stable> World<S> {
+    /// Offers a frame to a process.
+    pub(crate) fn give(&mut self, alloc: Global, p: usize, f: usize) -> Result<Answer, Refusal>
+        ensures happened { Happened self.old (Event.Give p f) (answered result) self.new }
+        ensures manager { self.new.manager ≡ self.old.manager }
+    {
+        self.is_up(p)?;
+        if f >= self.frames.len() {
+            return Err(Refusal::NoFrame);
+        }
+        let message = &self.frames[f];
+        let entry = entry_for(alloc, message)?;
+        self.live.try_reserve(1)?;
+        match offer_at(&mut self.cores, p, alloc, message) {
+            Accept::Taken(x) => {
+                self.live.push_reserved(entry);
+                Ok(Answer::Given(Accept::Taken(x)))
+            }
+            Accept::Memory => Err(Refusal::Memory),
+            answer => Ok(Answer::Given(answer)),
+        }
+    }
+}

@@ -1,0 +1,136 @@
+//! Records that are stored, and rows that are noted.
+
+ghost use Rattle.std.specs.Prelude.{◌≡◌, ◌<◌, drop, length, slice_get, slice_set, true, Some};
+ghost use Rattle.om_interval.specs.declared.pid.TheConstants.{MAX_PROCESSES};
+ghost use Rattle.om_world.specs.Happened.{Happened, IsUp};
+ghost use Rattle.om_world.specs.World.{all_clean};
+ghost use Rattle.om_process.specs.Core.{CoreState, with_pending};
+ghost use Rattle.om_world.specs.steps.Moves.{Gained, HasCalled, HasCore, HasTold, IsCalled, IsTold, IsToldUpTo, after_store, answered, event_of};
+
+use crate::event::{Answer, Refusal};
+use crate::world::World;
+use om_interval::Pid;
+use om_manager::{Manager, RecordError};
+use om_process::{ProcCore, Row};
+use om_recover::{Note, RowKind};
+use om_stable::{Stable, StoreError};
+use std::alloc::Global;
+
+// Stores what the process at a place keeps of a kind: its log, or a checkpoint of now.
+fn store_at<S: Stable>(
+    cores: &mut Vec<Option<ProcCore>>,
+    stores: &mut Vec<S>,
+    p: usize,
+    alloc: Global,
+    kind: RowKind,
+) -> Result<(), StoreError>
+    requires core { HasCore cores.old.items p }
+    requires store { p < length stores.old.items }
+    ensures { (c : CoreState) × (slice_get cores.old.items p ≡ Some (Some c))
+        × (cores.new.items ≡ slice_set cores.old.items p (Some (after_store kind c result)))
+        × IsCalled S.content S.is_clean S.IsSound stores.old.items stores.new.items p (Gained kind c result) }
+{
+    let store = &mut stores[p];
+    match &mut cores[p] {
+        Some(core) => match kind {
+            RowKind::Log => core.flush(alloc, store),
+            RowKind::Checkpoint => core.checkpoint(alloc, store),
+        },
+        None => unreachable!(),
+    }
+}
+
+// Offers a row to the manager.
+fn tell(
+    manager: &mut Manager,
+    alloc: Global,
+    pid: Pid,
+    round: u32,
+    row: &Row,
+) -> Result<Note, RecordError>
+    ensures { IsTold manager.old round pid row.now result manager.new }
+{
+    if row.ckpt {
+        manager.note_checkpoint(alloc, pid, round, row.x, &row.vec, &row.got)
+    } else {
+        manager.note_logged(alloc, pid, round, row.x, &row.vec, &row.got)
+    }
+}
+
+// Offers rows in order, up to the first that is refused, and says how many were not.
+fn tell_all(
+    manager: &mut Manager,
+    alloc: Global,
+    pid: Pid,
+    round: u32,
+    rows: &[Row],
+) -> (usize, Result<(), RecordError>)
+    ensures { IsToldUpTo manager.old round pid rows.now result.0 result.1 manager.new }
+{
+    for count in 0..rows.len() {
+        if let Err(fault) = tell(manager, alloc, pid, round, &rows[count]) {
+            return (count, Err(fault));
+        }
+    }
+    (rows.len(), Ok(()))
+}
+
+// Offers the pending rows of the process at a place, and drops those that were not refused.
+fn note_at(
+    cores: &mut Vec<Option<ProcCore>>,
+    manager: &mut Manager,
+    p: usize,
+    alloc: Global,
+) -> (usize, Result<(), RecordError>)
+    requires core { HasCore cores.old.items p }
+    requires few { p < MAX_PROCESSES }
+    ensures { (c : CoreState) × (slice_get cores.old.items p ≡ Some (Some c))
+        × IsToldUpTo manager.old c.round p c.pending result.0 result.1 manager.new
+        × (cores.new.items ≡ slice_set cores.old.items p (Some (with_pending c (drop result.0 c.pending)))) }
+{
+    match &mut cores[p] {
+        Some(core) => {
+            let (count, end) = tell_all(manager, alloc, Pid::at(p), core.round(), core.pending());
+            core.noted(count);
+            (count, end)
+        }
+        None => unreachable!(),
+    }
+}
+
+impl<S: Stable> World<S> {
+    // Stores what a process that is up keeps of a kind.
+    fn store(&mut self, alloc: Global, p: usize, kind: RowKind) -> Result<(), StoreError>
+        requires { IsUp self.old p }
+        ensures { HasCalled kind self.old p result self.new }
+    {
+        store_at(&mut self.cores, &mut self.stores, p, alloc, kind)
+    }
+
+    // Notes the pending rows of a process that is up.
+    fn note(&mut self, alloc: Global, p: usize) -> (usize, Result<(), RecordError>)
+        requires { IsUp self.old p }
+        ensures { HasTold self.old p result.0 result.1 self.new }
+    {
+        note_at(&mut self.cores, &mut self.manager, p, alloc)
+    }
+}
+
+impl<S: Stable> World<S> {
+    /// Stores what a process keeps of a kind, and notes its pending rows.
+    pub(crate) fn record(
+        &mut self,
+        alloc: Global,
+        p: usize,
+        kind: RowKind,
+    ) -> Result<Answer, Refusal>
+        ensures happened { all_clean self.new.clean ≡ true → Happened self.old (event_of kind p) (answered result) self.new }
+        ensures clean { all_clean self.new.clean ≡ true → all_clean self.old.clean ≡ true }
+    {
+        self.is_up(p)?;
+        self.store(alloc, p, kind)?;
+        let (count, end) = self.note(alloc, p);
+        end?;
+        Ok(Answer::Noted(count))
+    }
+}

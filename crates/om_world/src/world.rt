@@ -1,0 +1,97 @@
+//! The world.
+
+ghost use Rattle.std.specs.Prelude.{◌≡◌, ◌<◌, ◌≤◌, length, map, slice_get, IfOk, IfErr, Some};
+ghost use Rattle.om_world.specs.Happened.{IsUp, NotRunning};
+
+use crate::entry::Entry;
+use crate::event::Refusal;
+use crate::place::Place;
+use om_format::Message;
+use om_manager::Manager;
+use om_process::{Image, ProcCore};
+use om_stable::Stable;
+use std::marker::Model;
+
+/// The processes of a cluster with their stores and their manager, what was received, and the frames that were made.
+#[derive(Drop)]
+pub struct World<S: Stable> {
+    pub(crate) images: Vec<Image>,
+    pub(crate) live: Vec<Entry>,
+    pub(crate) frames: Vec<Message>,
+    // By process, as are the next three.
+    pub(crate) cores: Vec<Option<ProcCore>>,
+    pub(crate) places: Vec<Place>,
+    pub(crate) rounds: Vec<u32>,
+    pub(crate) stores: Vec<S>,
+    pub(crate) manager: Manager,
+}
+
+impl<S: Stable> Model for World<S> {
+    ghost use Rattle.std.specs.Prelude.{map, ◌≡◌, true};
+    ghost use Rattle.om_world.specs.World.{WorldState, program_of};
+    ghost use Rattle.om_world.specs.steps.Sound.{IsWorld};
+    ghost use Rattle.om_stable.specs.Content.{content_code};
+    ghost use Rattle.om_manager.specs.steps.Codes.{coded_manager};
+    ghost use Rattle.std.specs.Coded.{codes};
+
+    ghost Value = { WorldState };
+
+    ghost coded = { Prim.hlevel (codes, content_code, coded_manager) };
+
+    ghost view = { λ w. record {
+      programs = map program_of w.images.items;
+      live = w.live.items;
+      frames = w.frames.items;
+      cores = w.cores.items;
+      places = w.places.items;
+      rounds = w.rounds.items;
+      manager = w.manager;
+      contents = map S.content w.stores.items;
+      clean = map S.is_clean w.stores.items;
+    } };
+
+    ghost invariant = { λ w. IsWorld S.IsSound w.stores.items (record {
+      programs = map program_of w.images.items;
+      live = w.live.items;
+      frames = w.frames.items;
+      cores = w.cores.items;
+      places = w.places.items;
+      rounds = w.rounds.items;
+      manager = w.manager;
+      contents = map S.content w.stores.items;
+      clean = map S.is_clean w.stores.items;
+    }) };
+}
+
+impl<S: Stable> World<S> {
+    /// What was received and not cut, in order.
+    pub fn live(&self) -> &[Entry]
+        ensures { result.now ≡ self.now.live }
+    {
+        &self.live
+    }
+
+    /// The manager.
+    pub fn manager(&self) -> &Manager
+        ensures { result.now ≡ self.now.manager }
+    {
+        &self.manager
+    }
+}
+
+impl<S: Stable> World<S> {
+    // Whether the process is there and up.
+    pub(crate) fn is_up(&self, p: usize) -> Result<(), Refusal>
+        ensures up { IfOk result (λ _. IsUp self.now p) }
+        ensures there { IfOk result (λ _. p < length self.now.programs) }
+        ensures not_running { IfErr result (λ why. NotRunning self.now p why self.now) }
+    {
+        if p >= self.images.len() {
+            return Err(Refusal::NoProcess);
+        }
+        if self.places[p] != Place::Up {
+            return Err(Refusal::NotUp);
+        }
+        Ok(())
+    }
+}
