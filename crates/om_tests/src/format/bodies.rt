@@ -1,28 +1,30 @@
 //! Bodies, entries, queues, messages and memories as values.
 
-use om_format::{Body, Entry, MemoryBytes, Message, Queue};
+use om_format::{Body, Entry, MAX_BODY, MemoryBytes, Message, Queue};
 use om_interval::{Pid, Tag};
-use std::alloc::{AllocError, Global};
-use std::test::Fail;
+use std::alloc::Global;
+use std::process::Abort;
 
-// A body of these bytes, if that is not too many.
-fn body(alloc: Global, bytes: [u8; 2]) -> Result<Body, AllocError> {
-    Ok(Body::from_vec(Vec::from_slice(alloc, &bytes)?))
+// A body of these bytes.
+fn body(rt: &impl Abort, alloc: Global, bytes: &[u8]) -> Body {
+    let bytes = Vec::from_slice(alloc, bytes).expect(rt, "memory");
+    assert!(rt; bytes.len() <= MAX_BODY);
+    Body::from_vec(bytes)
 }
 
 #[test]
-fn bodies_and_memories_give_their_bytes_back(rt: HostRuntime) -> Result<(), Fail> {
-    let bytes = body(rt.alloc(), [1, 2])?.into_vec();
+fn bodies_and_memories_give_their_bytes_back(rt: HostRuntime) {
+    let bytes = body(&rt, rt.alloc(), &[1, 2]).into_vec();
     assert_eq!(rt; bytes.as_slice(), [1, 2].as_slice());
-    let memory = MemoryBytes::from_vec(Vec::from_slice(rt.alloc(), &[1, 2, 3, 4])?);
+    let bytes = Vec::from_slice(rt.alloc(), &[1, 2, 3, 4]).expect(&rt, "memory");
+    assert_eq!(rt; bytes.len(), 4);
+    let memory = MemoryBytes::from_vec(bytes);
     assert_eq!(rt; memory.as_slice(), [1, 2, 3, 4].as_slice());
-    let bytes = memory.into_vec();
-    assert_eq!(rt; bytes.as_slice(), [1, 2, 3, 4].as_slice());
-    Ok(())
+    assert_eq!(rt; memory.into_vec().as_slice(), [1, 2, 3, 4].as_slice());
 }
 
 #[test]
-fn messages_are_copied_whole(rt: HostRuntime) -> Result<(), Fail> {
+fn messages_are_copied_whole(rt: HostRuntime) {
     let message = Message {
         from: Pid::at(0),
         to: Pid::at(15),
@@ -31,32 +33,37 @@ fn messages_are_copied_whole(rt: HostRuntime) -> Result<(), Fail> {
             interval: 3,
         },
         ssn: 7,
-        body: body(rt.alloc(), [1, 2])?,
+        body: body(&rt, rt.alloc(), &[1, 2]),
     };
-    let copy = message.copy(rt.alloc())?;
+    let copy = message.copy(rt.alloc()).expect(&rt, "memory");
     assert_eq!(rt; copy.from, message.from);
     assert_eq!(rt; copy.to, message.to);
     assert_eq!(rt; copy.tag, message.tag);
     assert_eq!(rt; copy.ssn, 7);
     assert_eq!(rt; copy.body, message.body);
     assert_eq!(rt; copy.body.as_slice(), [1, 2].as_slice());
-    assert_eq!(rt; copy.body.copy(rt.alloc())?, copy.body);
-    Ok(())
+    assert_eq!(rt; copy.body.copy(rt.alloc()), Ok(copy.body));
+}
+
+// A queue of two entries.
+fn queue(rt: &impl Abort, alloc: Global) -> Queue {
+    let mut entries = Vec::new(alloc);
+    for (interval, bytes) in [(1, [1, 2]), (3, [3, 4])] {
+        let body = body(rt, alloc, &bytes);
+        entries.push(Entry { interval, body }).expect(rt, "memory");
+    }
+    Queue { first: 5, entries }
 }
 
 #[test]
-fn queues_are_copied_and_compared(rt: HostRuntime) -> Result<(), Fail> {
-    let mut entries = Vec::new(rt.alloc());
-    for (interval, bytes) in [(1, [1, 2]), (3, [3, 4])] {
-        let body = body(rt.alloc(), bytes)?;
-        entries.push(Entry { interval, body })?;
-    }
-    let queue = Queue { first: 5, entries };
-    let mut copy = queue.copy(rt.alloc())?;
+fn queues_are_copied_and_compared(rt: HostRuntime) {
+    let queue = queue(&rt, rt.alloc());
+    let mut copy = queue.copy(rt.alloc()).expect(&rt, "memory");
     assert_eq!(rt; copy, queue);
-    let first = queue.entries.first().ok_or("two entries")?;
-    let last = queue.entries.last().ok_or("two entries")?;
-    assert_eq!(rt; first.copy(rt.alloc())?, *first);
+    let first = queue.entries.first().expect(&rt, "two entries");
+    let last = queue.entries.last().expect(&rt, "two entries");
+    let other = first.copy(rt.alloc()).expect(&rt, "memory");
+    assert_eq!(rt; other, *first);
     assert!(rt; first != last);
     assert!(rt; first.body != last.body);
     copy.first = 6;
@@ -64,5 +71,4 @@ fn queues_are_copied_and_compared(rt: HostRuntime) -> Result<(), Fail> {
     copy.first = 5;
     let _ = copy.entries.pop();
     assert!(rt; copy != queue);
-    Ok(())
 }

@@ -1,41 +1,42 @@
 //! Checkpoints as bytes, in both versions.
 
 use crate::format::records::{
-    assert_spelled, assert_whole, checkpoint_fault, checkpoint_of, first_in_version_1,
-    first_in_version_2, of_16_processes, with_byte, with_entries,
+    FIRST_IN_VERSION_1, FIRST_IN_VERSION_2, OF_16_PROCESSES, WITH_ENTRIES, assert_spelled,
+    assert_whole, bytes_of, checkpoint_fault, checkpoint_of, spelled, with_byte,
 };
-use om_format::{Checkpoint, DecodeError, Queue, encode_checkpoint, laws};
+use om_format::{Checkpoint, DecodeError, Queue, laws};
 use om_isa::Ext;
 use std::alloc::Global;
 use std::process::Abort;
-use std::test::Fail;
+
+// A first checkpoint is read, and is spelled in version 2; and so is that of a machine with the M extension.
+fn assert_first(rt: &impl Abort, alloc: Global, bytes: &[u8], newer: &[u8]) {
+    let checkpoint = checkpoint_of(rt, alloc, bytes);
+    assert_eq!(rt; checkpoint.ext, Ext::I);
+    assert_eq!(rt;
+        checkpoint.memory.as_slice(),
+        [0x73, 0x00, 0x10, 0x00].as_slice()
+    );
+    assert_eq!(rt; spelled(rt, alloc, &checkpoint).as_slice(), newer);
+    assert_whole(rt, alloc, bytes);
+    let other = with_byte(rt, alloc, bytes, 0, 0x4D);
+    let checkpoint = checkpoint_of(rt, alloc, &other);
+    assert_eq!(rt; checkpoint.ext, Ext::Im);
+    let wanted = with_byte(rt, alloc, newer, 0, 0x4D);
+    assert_eq!(rt; spelled(rt, alloc, &checkpoint), wanted);
+}
 
 #[test]
-fn the_first_checkpoint_in_both_versions(rt: HostRuntime) -> Result<(), Fail> {
-    let older = first_in_version_1(rt.alloc())?;
-    let newer = first_in_version_2(rt.alloc())?;
+fn the_first_checkpoint_in_both_versions(rt: HostRuntime) {
+    let older = bytes_of(&rt, rt.alloc(), &FIRST_IN_VERSION_1);
+    let newer = bytes_of(&rt, rt.alloc(), &FIRST_IN_VERSION_2);
     assert_eq!(rt; older.len(), 184);
     assert_eq!(rt; newer.len(), 188);
-    for bytes in [&older, &newer] {
-        let checkpoint = checkpoint_of(rt.alloc(), bytes)?;
-        assert_eq!(rt; checkpoint.ext, Ext::I);
-        assert_eq!(rt;
-            checkpoint.memory.as_slice(),
-            [0x73, 0x00, 0x10, 0x00].as_slice()
-        );
-        let spelled = encode_checkpoint(rt.alloc(), &checkpoint)?;
-        assert_eq!(rt; spelled, newer);
-        assert_whole(&rt, rt.alloc(), bytes)?;
-        let other = with_byte(rt.alloc(), bytes, 0, 0x4D)?;
-        let checkpoint = checkpoint_of(rt.alloc(), &other)?;
-        assert_eq!(rt; checkpoint.ext, Ext::Im);
-        let spelled = encode_checkpoint(rt.alloc(), &checkpoint)?;
-        assert_eq!(rt; spelled, with_byte(rt.alloc(), &newer, 0, 0x4D)?);
-    }
+    assert_first(&rt, rt.alloc(), &older, &newer);
+    assert_first(&rt, rt.alloc(), &newer, &newer);
     laws::one_spelling_of_a_checkpoint();
     laws::one_reading_of_a_checkpoint();
     laws::checkpoint_or_fault();
-    Ok(())
 }
 
 // These bytes, one of which is another, have this fault.
@@ -46,16 +47,15 @@ fn assert_fault(
     offset: usize,
     byte: u8,
     want: DecodeError,
-) -> Result<(), Fail> {
-    let damaged = with_byte(alloc, bytes, offset, byte)?;
+) {
+    let damaged = with_byte(rt, alloc, bytes, offset, byte);
     let fault = checkpoint_fault(alloc, &damaged);
     assert_eq!(rt; fault, Some(want), "byte {offset} made {byte:02x}");
-    Ok(())
 }
 
 #[test]
-fn damaged_first_checkpoints_have_their_faults(rt: HostRuntime) -> Result<(), Fail> {
-    let older = first_in_version_1(rt.alloc())?;
+fn damaged_first_checkpoints_have_their_faults(rt: HostRuntime) {
+    let older = bytes_of(&rt, rt.alloc(), &FIRST_IN_VERSION_1);
     for (offset, byte, want) in [
         (0, 0x52, DecodeError::Kind),
         (1, 0x00, DecodeError::Version),
@@ -63,9 +63,9 @@ fn damaged_first_checkpoints_have_their_faults(rt: HostRuntime) -> Result<(), Fa
         (2, 0x09, DecodeError::Field(2)),
         (16, 0x02, DecodeError::Field(16)),
     ] {
-        assert_fault(&rt, rt.alloc(), &older, offset, byte, want)?;
+        assert_fault(&rt, rt.alloc(), &older, offset, byte, want);
     }
-    let newer = first_in_version_2(rt.alloc())?;
+    let newer = bytes_of(&rt, rt.alloc(), &FIRST_IN_VERSION_2);
     for (offset, byte, want) in [
         (0, 0x52, DecodeError::Kind),
         (1, 0x03, DecodeError::Version),
@@ -74,16 +74,16 @@ fn damaged_first_checkpoints_have_their_faults(rt: HostRuntime) -> Result<(), Fa
         (168, 0x02, DecodeError::Field(168)),
         (170, 0x01, DecodeError::Field(170)),
     ] {
-        assert_fault(&rt, rt.alloc(), &newer, offset, byte, want)?;
+        assert_fault(&rt, rt.alloc(), &newer, offset, byte, want);
     }
-    let blank = with_byte(rt.alloc(), &newer, 172, 0x00)?;
+    let blank = with_byte(&rt, rt.alloc(), &newer, 172, 0x00);
     assert_fault(&rt, rt.alloc(), &blank, 174, 0x00, DecodeError::Field(172))
 }
 
 #[test]
-fn damaged_entries_have_their_faults(rt: HostRuntime) -> Result<(), Fail> {
-    let bytes = with_entries(rt.alloc())?;
-    assert_whole(&rt, rt.alloc(), &bytes)?;
+fn damaged_entries_have_their_faults(rt: HostRuntime) {
+    let bytes = bytes_of(&rt, rt.alloc(), &WITH_ENTRIES);
+    assert_whole(&rt, rt.alloc(), &bytes);
     for (offset, byte, place) in [
         (3, 0x02, 3),
         (8, 0x02, 8),
@@ -98,16 +98,15 @@ fn damaged_entries_have_their_faults(rt: HostRuntime) -> Result<(), Fail> {
         (219, 0x03, 219),
     ] {
         let want = DecodeError::Field(place);
-        assert_fault(&rt, rt.alloc(), &bytes, offset, byte, want)?;
+        assert_fault(&rt, rt.alloc(), &bytes, offset, byte, want);
     }
-    Ok(())
 }
 
 #[test]
-fn damaged_pages_have_their_faults(rt: HostRuntime) -> Result<(), Fail> {
-    let bytes = of_16_processes(rt.alloc())?;
-    assert_whole(&rt, rt.alloc(), &bytes)?;
-    let swapped = with_byte(rt.alloc(), &bytes, 350, 0x01)?;
+fn damaged_pages_have_their_faults(rt: HostRuntime) {
+    let bytes = bytes_of(&rt, rt.alloc(), &OF_16_PROCESSES);
+    assert_whole(&rt, rt.alloc(), &bytes);
+    let swapped = with_byte(&rt, rt.alloc(), &bytes, 350, 0x01);
     for (record, offset, byte, place) in [
         (&bytes, 348, 0x03, 698),
         (&bytes, 348, 0x04, 348),
@@ -119,44 +118,41 @@ fn damaged_pages_have_their_faults(rt: HostRuntime) -> Result<(), Fail> {
         (&swapped, 608, 0x01, 608),
     ] {
         let want = DecodeError::Field(place);
-        assert_fault(&rt, rt.alloc(), record, offset, byte, want)?;
+        assert_fault(&rt, rt.alloc(), record, offset, byte, want);
     }
-    Ok(())
 }
 
 // Each byte of the record made each other byte is refused, or spells another checkpoint.
-fn assert_each_byte(rt: &impl Abort, alloc: Global, record: &[u8]) -> Result<(), Fail> {
+fn assert_each_byte(rt: &impl Abort, alloc: Global, record: &[u8]) {
     for offset in 0..record.len() {
         for byte in 0..=255 {
-            let changed = with_byte(alloc, record, offset, byte)?;
-            assert_spelled(rt, alloc, &changed)?;
+            let changed = with_byte(rt, alloc, record, offset, byte);
+            assert_spelled(rt, alloc, &changed);
         }
     }
-    Ok(())
 }
 
 #[test]
-fn a_changed_byte_of_version_1(rt: HostRuntime) -> Result<(), Fail> {
-    let record = first_in_version_1(rt.alloc())?;
+fn a_changed_byte_of_version_1(rt: HostRuntime) {
+    let record = bytes_of(&rt, rt.alloc(), &FIRST_IN_VERSION_1);
     assert_each_byte(&rt, rt.alloc(), &record)
 }
 
 #[test]
-fn a_changed_byte_of_version_2(rt: HostRuntime) -> Result<(), Fail> {
-    let record = first_in_version_2(rt.alloc())?;
+fn a_changed_byte_of_version_2(rt: HostRuntime) {
+    let record = bytes_of(&rt, rt.alloc(), &FIRST_IN_VERSION_2);
     assert_each_byte(&rt, rt.alloc(), &record)
 }
 
 #[test]
-fn a_changed_byte_among_pages_and_entries(rt: HostRuntime) -> Result<(), Fail> {
-    let record = of_16_processes(rt.alloc())?;
+fn a_changed_byte_among_pages_and_entries(rt: HostRuntime) {
+    let record = bytes_of(&rt, rt.alloc(), &OF_16_PROCESSES);
     for offset in 0..record.len() {
         for byte in [0x00, 0x01, 0x02, 0xFF] {
-            let changed = with_byte(rt.alloc(), &record, offset, byte)?;
-            assert_spelled(&rt, rt.alloc(), &changed)?;
+            let changed = with_byte(&rt, rt.alloc(), &record, offset, byte);
+            assert_spelled(&rt, rt.alloc(), &changed);
         }
     }
-    Ok(())
 }
 
 // The entries of a queue are these: their intervals and their bodies.
@@ -184,10 +180,10 @@ fn assert_fields(rt: &impl Abort, checkpoint: &Checkpoint) {
 }
 
 #[test]
-fn checkpoints_with_entries_are_read_and_written(rt: HostRuntime) -> Result<(), Fail> {
-    let bytes = with_entries(rt.alloc())?;
+fn checkpoints_with_entries_are_read_and_written(rt: HostRuntime) {
+    let bytes = bytes_of(&rt, rt.alloc(), &WITH_ENTRIES);
     assert_eq!(rt; bytes.len(), 234);
-    let checkpoint = checkpoint_of(rt.alloc(), &bytes)?;
+    let checkpoint = checkpoint_of(&rt, rt.alloc(), &bytes);
     assert_fields(&rt, &checkpoint);
     assert_eq!(rt; checkpoint.pid.index(), 0);
     assert_eq!(rt; checkpoint.vec.as_slice(), [3, 1].as_slice());
@@ -201,14 +197,13 @@ fn checkpoints_with_entries_are_read_and_written(rt: HostRuntime) -> Result<(), 
     assert_eq!(rt; kept.len(), 2);
     assert_entries(&rt, &kept[0], 0, &[(1, &[0xAA, 0xBB])]);
     assert_entries(&rt, &kept[1], 2, &[(1, &[]), (3, &[1, 2, 3])]);
-    Ok(())
 }
 
 #[test]
-fn checkpoints_of_16_processes_are_read_and_written(rt: HostRuntime) -> Result<(), Fail> {
-    let bytes = of_16_processes(rt.alloc())?;
+fn checkpoints_of_16_processes_are_read_and_written(rt: HostRuntime) {
+    let bytes = bytes_of(&rt, rt.alloc(), &OF_16_PROCESSES);
     assert_eq!(rt; bytes.len(), 800);
-    let checkpoint = checkpoint_of(rt.alloc(), &bytes)?;
+    let checkpoint = checkpoint_of(&rt, rt.alloc(), &bytes);
     assert_fields(&rt, &checkpoint);
     assert_eq!(rt; checkpoint.ext, Ext::Im);
     assert_eq!(rt; checkpoint.pid.index(), 15);
@@ -228,7 +223,5 @@ fn checkpoints_of_16_processes_are_read_and_written(rt: HostRuntime) -> Result<(
         };
         assert_eq!(rt; *byte, want, "byte {place} of the memory");
     }
-    let spelled = encode_checkpoint(rt.alloc(), &checkpoint)?;
-    assert_eq!(rt; spelled, bytes);
-    Ok(())
+    assert_eq!(rt; spelled(&rt, rt.alloc(), &checkpoint), bytes);
 }

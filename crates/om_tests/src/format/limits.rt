@@ -1,15 +1,15 @@
 //! Both sides of each limit of a record.
 
 use crate::format::records::{
-    RECEIPT, assert_spelled, checkpoint_fault, put_word, receipt_fault, repeat,
+    Part, assert_spelled, bytes_of, checkpoint_fault, receipt_fault, repeat,
 };
 use om_format::{DecodeError, MAX_BODY, MAX_PROCESSES_OF_VERSION_1, MemoryBytes, PAGE};
 use om_interval::MAX_PROCESSES;
-use std::alloc::{AllocError, Global};
-use std::test::Fail;
+use std::alloc::Global;
+use std::process::Abort;
 
 #[test]
-fn the_limits_are_these(rt: HostRuntime) -> Result<(), Fail> {
+fn the_limits_are_these(rt: HostRuntime) {
     assert_eq!(rt; MAX_BODY, 256);
     assert_eq!(rt; MAX_PROCESSES_OF_VERSION_1, 8);
     assert_eq!(rt; MAX_PROCESSES, 16);
@@ -23,50 +23,52 @@ fn the_limits_are_these(rt: HostRuntime) -> Result<(), Fail> {
     ] {
         assert_eq!(rt; MemoryBytes::is_size(len), wanted, "{len} bytes");
     }
-    Ok(())
 }
 
+// The receipt of a body, up to the length of it.
+const BEFORE_BODY: [Part; 1] = [("520101020100000000000000000000000300000000000000", 1)];
+
 // The receipt with another body, of so many bytes.
-fn receipt_with_body(alloc: Global, len: u16) -> Result<Vec<u8>, AllocError> {
-    let mut bytes = Vec::from_slice(alloc, &RECEIPT[..24])?;
-    bytes.extend_from_slice(&len.to_le_bytes())?;
-    repeat(&mut bytes, 0xAB, len as usize)?;
-    Ok(bytes)
+fn receipt_with_body(rt: &impl Abort, alloc: Global, len: u16) -> Vec<u8> {
+    let mut bytes = bytes_of(rt, alloc, &BEFORE_BODY);
+    repeat(rt, &mut bytes, &len.to_le_bytes(), 1);
+    repeat(rt, &mut bytes, &[0xAB], len as usize);
+    bytes
 }
 
 #[test]
-fn bodies_of_receipts_have_at_most_256_bytes(rt: HostRuntime) -> Result<(), Fail> {
+fn bodies_of_receipts_have_at_most_256_bytes(rt: HostRuntime) {
     for (len, want) in [
         (0, None),
         (256, None),
         (257, Some(DecodeError::Field(24))),
         (65_535, Some(DecodeError::Field(24))),
     ] {
-        let bytes = receipt_with_body(rt.alloc(), len)?;
+        let bytes = receipt_with_body(&rt, rt.alloc(), len);
         assert_eq!(rt; receipt_fault(rt.alloc(), &bytes), want, "{len} bytes");
     }
-    Ok(())
 }
 
 // A checkpoint at its start, of n processes and a memory of so many bytes, all zero but the first.
-fn checkpoint(alloc: Global, version: u8, n: u8, size: u32) -> Result<Vec<u8>, AllocError> {
-    let mut bytes = Vec::from_slice(alloc, &[0x43, version, n, 0x00])?;
-    repeat(&mut bytes, 0x00, 148 + 12 * n as usize)?;
-    put_word(&mut bytes, size)?;
+fn checkpoint(rt: &impl Abort, alloc: Global, version: u8, n: u8, size: u32) -> Vec<u8> {
+    let mut bytes = Vec::new(alloc);
+    repeat(rt, &mut bytes, &[0x43, version, n, 0x00], 1);
+    repeat(rt, &mut bytes, &[0x00], 148 + 12 * n as usize);
+    repeat(rt, &mut bytes, &size.to_le_bytes(), 1);
     let rest = (size as usize).saturating_sub(1);
     if version == 1 {
-        bytes.push(0x01)?;
-        repeat(&mut bytes, 0x00, rest)?;
+        repeat(rt, &mut bytes, &[0x01], 1);
+        repeat(rt, &mut bytes, &[0x00], rest);
     } else {
-        bytes.extend_from_slice(&[0x01, 0x00, 0x00, 0x00, 0x01])?;
-        repeat(&mut bytes, 0x00, rest.min(255))?;
+        repeat(rt, &mut bytes, &[0x01, 0x00, 0x00, 0x00, 0x01], 1);
+        repeat(rt, &mut bytes, &[0x00], rest.min(255));
     }
-    repeat(&mut bytes, 0x00, 4 * n as usize + 8)?;
-    Ok(bytes)
+    repeat(rt, &mut bytes, &[0x00], 4 * n as usize + 8);
+    bytes
 }
 
 #[test]
-fn processes_and_memories_have_their_limits(rt: HostRuntime) -> Result<(), Fail> {
+fn processes_and_memories_have_their_limits(rt: HostRuntime) {
     for (version, n, size, want) in [
         (1, 1, 4, None),
         (1, 8, 4, None),
@@ -82,44 +84,45 @@ fn processes_and_memories_have_their_limits(rt: HostRuntime) -> Result<(), Fail>
         (2, 1, 65_540, Some(DecodeError::Field(164))),
         (2, 16, 65_536, None),
     ] {
-        let bytes = checkpoint(rt.alloc(), version, n, size)?;
+        let bytes = checkpoint(&rt, rt.alloc(), version, n, size);
         let fault = checkpoint_fault(rt.alloc(), &bytes);
         assert_eq!(rt;
             fault,
             want,
             "version {version}, {n} processes, {size} bytes"
         );
-        assert_spelled(&rt, rt.alloc(), &bytes)?;
+        assert_spelled(&rt, rt.alloc(), &bytes);
     }
-    Ok(())
 }
 
-// A checkpoint of version 2 of one process that made an output of so many bytes.
-fn checkpoint_with_output(alloc: Global, len: u16) -> Result<Vec<u8>, AllocError> {
-    let mut bytes = Vec::from_slice(alloc, &[0x43, 0x02, 0x01, 0x00])?;
-    put_word(&mut bytes, 0)?;
-    bytes.extend_from_slice(&1u64.to_le_bytes())?;
-    repeat(&mut bytes, 0x00, 140)?;
-    bytes.extend_from_slice(&1u64.to_le_bytes())?;
-    put_word(&mut bytes, 4)?;
-    bytes.extend_from_slice(&[0x00, 0x00])?;
-    repeat(&mut bytes, 0x00, 4 + 8 + 4)?;
-    bytes.extend_from_slice(&len.to_le_bytes())?;
-    repeat(&mut bytes, 0xCD, len as usize)?;
-    Ok(bytes)
+// A checkpoint of version 2 of one process that made an output, up to the length of it: one instruction, one page of zeros.
+const BEFORE_OUTPUT: [Part; 6] = [
+    ("43020100000000000100000000000000", 1),
+    ("00", 140),
+    ("0100000000000000040000000000", 1),
+    ("00000000", 1),
+    ("0000000000000000", 1),
+    ("00000000", 1),
+];
+
+// The same with an output of so many bytes.
+fn checkpoint_with_output(rt: &impl Abort, alloc: Global, len: u16) -> Vec<u8> {
+    let mut bytes = bytes_of(rt, alloc, &BEFORE_OUTPUT);
+    repeat(rt, &mut bytes, &len.to_le_bytes(), 1);
+    repeat(rt, &mut bytes, &[0xCD], len as usize);
+    bytes
 }
 
 #[test]
-fn bodies_of_entries_have_at_most_256_bytes(rt: HostRuntime) -> Result<(), Fail> {
+fn bodies_of_entries_have_at_most_256_bytes(rt: HostRuntime) {
     for (len, want) in [
         (0, None),
         (256, None),
         (257, Some(DecodeError::Field(186))),
         (65_535, Some(DecodeError::Field(186))),
     ] {
-        let bytes = checkpoint_with_output(rt.alloc(), len)?;
+        let bytes = checkpoint_with_output(&rt, rt.alloc(), len);
         assert_eq!(rt; checkpoint_fault(rt.alloc(), &bytes), want, "{len} bytes");
-        assert_spelled(&rt, rt.alloc(), &bytes)?;
+        assert_spelled(&rt, rt.alloc(), &bytes);
     }
-    Ok(())
 }

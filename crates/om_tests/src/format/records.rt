@@ -1,152 +1,103 @@
-//! Records of the tests, as bytes.
+//! Records of the tests, as bytes. Bytes are given as hexadecimal text.
 
 use om_format::{
     Checkpoint, DecodeError, Receipt, decode_checkpoint, decode_receipt, encode_checkpoint,
 };
-use std::alloc::{AllocError, Global};
+use std::alloc::Global;
 use std::process::Abort;
-use std::test::Fail;
+
+// A text, and how many times it stands.
+pub type Part = (&'static str, usize);
 
 // The receipt of the second process in a run of three.
-pub const RECEIPT: [u8; 30] = [
-    0x52, 0x01, 0x01, 0x02, 0x01, 0x00, 0x00, 0x00, 0x00, 0x00, 0x00, 0x00, 0x00, 0x00, 0x00, 0x00,
-    0x03, 0x00, 0x00, 0x00, 0x00, 0x00, 0x00, 0x00, 0x04, 0x00, 0x93, 0x08, 0x10, 0x00,
-];
+pub const RECEIPT: [Part; 1] = [(
+    "520101020100000000000000000000000300000000000000040093081000",
+    1,
+)];
 
-// The first fields of a checkpoint of version 1 with entries, up to the registers.
-const FRONT: [u8; 20] = [
-    0x43, 0x01, 0x02, 0x00, 0x03, 0x00, 0x00, 0x00, 0x14, 0x00, 0x00, 0x00, 0x00, 0x00, 0x00, 0x00,
-    0x08, 0x00, 0x00, 0x00,
-];
-
-// Its vectors, the number of its outputs, and its memory.
-const MIDDLE: [u8; 44] = [
-    0x03, 0x00, 0x00, 0x00, 0x01, 0x00, 0x00, 0x00, 0x01, 0x00, 0x00, 0x00, 0x02, 0x00, 0x00, 0x00,
-    0x01, 0x00, 0x00, 0x00, 0x04, 0x00, 0x00, 0x00, 0x02, 0x00, 0x00, 0x00, 0x00, 0x00, 0x00, 0x00,
-    0x08, 0x00, 0x00, 0x00, 0x73, 0x00, 0x10, 0x00, 0x00, 0x00, 0x00, 0x00,
-];
-
-// Its queues.
-const QUEUES: [u8; 46] = [
-    0x00, 0x00, 0x00, 0x00, 0x01, 0x00, 0x00, 0x00, 0x02, 0x00, 0xAA, 0xBB, 0x02, 0x00, 0x00, 0x00,
-    0x01, 0x00, 0x00, 0x00, 0x00, 0x00, 0x03, 0x00, 0x00, 0x00, 0x03, 0x00, 0x01, 0x02, 0x03, 0x01,
-    0x00, 0x00, 0x00, 0x00, 0x00, 0x00, 0x00, 0x03, 0x00, 0x00, 0x00, 0x01, 0x00, 0x7F,
-];
-
-// Adds a byte so many times.
-pub fn repeat(out: &mut Vec<u8>, byte: u8, count: usize) -> Result<(), AllocError> {
-    for _ in 0..count {
-        out.push(byte)?;
-    }
-    Ok(())
-}
-
-// Adds a number of four bytes.
-pub fn put_word(out: &mut Vec<u8>, word: u32) -> Result<(), AllocError> {
-    out.extend_from_slice(&word.to_le_bytes())
-}
-
-// Adds the registers: each byte of register i is i.
-fn put_registers(out: &mut Vec<u8>) -> Result<(), AllocError> {
-    for register in 1..32 {
-        repeat(out, register, 4)?;
-    }
-    Ok(())
-}
-
-// Adds a vector of which all places but these two are zero.
-fn put_vector(
-    out: &mut Vec<u8>,
-    first: (usize, u32),
-    second: (usize, u32),
-) -> Result<(), AllocError> {
-    for place in 0..16 {
-        let word = if place == first.0 {
-            first.1
-        } else if place == second.0 {
-            second.1
-        } else {
-            0
-        };
-        put_word(out, word)?;
-    }
-    Ok(())
-}
+// The registers: each byte of register i is i.
+const REGISTERS: &str = "\
+0101010102020202030303030404040405050505060606060707070708080808\
+090909090a0a0a0a0b0b0b0b0c0c0c0c0d0d0d0d0e0e0e0e0f0f0f0f10101010\
+1111111112121212131313131414141415151515161616161717171718181818\
+191919191a1a1a1a1b1b1b1b1c1c1c1c1d1d1d1d1e1e1e1e1f1f1f1f";
 
 // The checkpoint, in version 1, of a machine of four bytes at its start: 184 bytes.
-pub fn first_in_version_1(alloc: Global) -> Result<Vec<u8>, AllocError> {
-    let mut bytes = Vec::from_slice(alloc, &[0x43, 0x01, 0x01, 0x00])?;
-    repeat(&mut bytes, 0x00, 160)?;
-    bytes.extend_from_slice(&[0x04, 0x00, 0x00, 0x00, 0x73, 0x00, 0x10, 0x00])?;
-    repeat(&mut bytes, 0x00, 12)?;
-    Ok(bytes)
-}
+pub const FIRST_IN_VERSION_1: [Part; 4] = [
+    ("43010100", 1),
+    ("00", 160),
+    ("0400000073001000", 1),
+    ("00", 12),
+];
 
 // The same in version 2: 188 bytes.
-pub fn first_in_version_2(alloc: Global) -> Result<Vec<u8>, AllocError> {
-    let mut bytes = Vec::from_slice(alloc, &[0x43, 0x02, 0x01, 0x00])?;
-    repeat(&mut bytes, 0x00, 160)?;
-    bytes.extend_from_slice(&[0x04, 0x00, 0x00, 0x00])?;
-    bytes.extend_from_slice(&[0x01, 0x00, 0x00, 0x00, 0x73, 0x00, 0x10, 0x00])?;
-    repeat(&mut bytes, 0x00, 12)?;
-    Ok(bytes)
-}
+pub const FIRST_IN_VERSION_2: [Part; 4] = [
+    ("43020100", 1),
+    ("00", 160),
+    ("040000000100000073001000", 1),
+    ("00", 12),
+];
 
-// A checkpoint of version 1 with entries: 234 bytes.
-pub fn with_entries(alloc: Global) -> Result<Vec<u8>, AllocError> {
-    let mut bytes = Vec::from_slice(alloc, &FRONT)?;
-    put_registers(&mut bytes)?;
-    bytes.extend_from_slice(&MIDDLE)?;
-    bytes.extend_from_slice(&QUEUES)?;
-    Ok(bytes)
-}
-
-// The queues of 16 processes: of messages to processes 0 and 2, and of outputs.
-fn put_queues_of_16(out: &mut Vec<u8>) -> Result<(), AllocError> {
-    out.extend_from_slice(&[0x00, 0x00, 0x00, 0x00])?;
-    out.extend_from_slice(&[0x01, 0x00, 0x00, 0x00, 0x02, 0x00, 0xAA, 0xBB])?;
-    out.extend_from_slice(&[0x00, 0x00, 0x00, 0x00, 0x00, 0x00, 0x00, 0x00])?;
-    out.extend_from_slice(&[0x01, 0x00, 0x00, 0x00, 0x00, 0x00])?;
-    out.extend_from_slice(&[0x03, 0x00, 0x00, 0x00, 0x03, 0x00, 0x01, 0x02, 0x03])?;
-    repeat(out, 0x00, 4 * 13)?;
-    out.extend_from_slice(&[0x01, 0x00, 0x00, 0x00, 0x00, 0x00, 0x00, 0x00])?;
-    out.extend_from_slice(&[0x03, 0x00, 0x00, 0x00, 0x01, 0x00, 0x7F])
-}
+// A checkpoint of version 1 with entries: 234 bytes. Its first fields, the registers, its vectors with the number of its outputs,
+// its memory, its messages to process 0 and to process 1, and its outputs.
+pub const WITH_ENTRIES: [Part; 8] = [
+    ("4301020003000000140000000000000008000000", 1),
+    (REGISTERS, 1),
+    ("03000000010000000100000002000000", 1),
+    ("01000000040000000200000000000000", 1),
+    ("080000007300100000000000", 1),
+    ("00000000010000000200aabb", 1),
+    ("02000000010000000000030000000300010203", 1),
+    ("01000000000000000300000001007f", 1),
+];
 
 // A checkpoint of version 2 of 16 processes, with entries and a memory of 600 bytes: its first page is kept, the second is
 // all zero, and the last has 88 bytes. 800 bytes.
-pub fn of_16_processes(alloc: Global) -> Result<Vec<u8>, AllocError> {
-    let mut bytes = Vec::from_slice(alloc, &[0x4D, 0x02, 0x10, 0x0F])?;
-    put_word(&mut bytes, 3)?;
-    bytes.extend_from_slice(&20u64.to_le_bytes())?;
-    put_word(&mut bytes, 8)?;
-    put_registers(&mut bytes)?;
-    put_vector(&mut bytes, (0, 1), (15, 3))?;
-    put_vector(&mut bytes, (0, 1), (1, 2))?;
-    put_vector(&mut bytes, (0, 1), (2, 2))?;
-    bytes.extend_from_slice(&2u64.to_le_bytes())?;
-    put_word(&mut bytes, 600)?;
-    bytes.extend_from_slice(&[0x02, 0x00, 0x00, 0x00])?;
-    repeat(&mut bytes, 0x11, 256)?;
-    bytes.extend_from_slice(&[0x02, 0x00])?;
-    repeat(&mut bytes, 0x00, 87)?;
-    bytes.push(0x7E)?;
-    put_queues_of_16(&mut bytes)?;
-    Ok(bytes)
+pub const OF_16_PROCESSES: [Part; 19] = [
+    ("4d02100f03000000140000000000000008000000", 1),
+    (REGISTERS, 1),
+    ("01000000", 1),
+    ("00", 56),
+    ("03000000", 1),
+    ("0100000002000000", 1),
+    ("00", 56),
+    ("010000000000000002000000", 1),
+    ("00", 52),
+    ("02000000000000005802000002000000", 1),
+    ("11", 256),
+    ("0200", 1),
+    ("00", 87),
+    ("7e", 1),
+    ("00000000010000000200aabb", 1),
+    ("00000000", 1),
+    ("00000000010000000000030000000300010203", 1),
+    ("00000000", 13),
+    ("01000000000000000300000001007f", 1),
+];
+
+// The bytes that these texts spell, one after the other.
+pub fn bytes_of(rt: &impl Abort, alloc: Global, parts: &[Part]) -> Vec<u8> {
+    let mut bytes = Vec::new(alloc);
+    for (text, times) in parts {
+        let part = hex::decode(alloc, text).expect(rt, "hexadecimal");
+        repeat(rt, &mut bytes, &part, *times);
+    }
+    bytes
+}
+
+// Adds these bytes so many times.
+pub fn repeat(rt: &impl Abort, out: &mut Vec<u8>, bytes: &[u8], times: usize) {
+    for _ in 0..times {
+        out.extend_from_slice(bytes).expect(rt, "memory");
+    }
 }
 
 // These bytes with another one in the place of one of them.
-pub fn with_byte(
-    alloc: Global,
-    bytes: &[u8],
-    offset: usize,
-    byte: u8,
-) -> Result<Vec<u8>, AllocError> {
-    let mut changed = Vec::from_slice(alloc, bytes)?;
-    if let Some(place) = changed.get_mut(offset) {
-        *place = byte;
-    }
-    Ok(changed)
+pub fn with_byte(rt: &impl Abort, alloc: Global, bytes: &[u8], offset: usize, byte: u8) -> Vec<u8> {
+    let mut changed = Vec::from_slice(alloc, bytes).expect(rt, "memory");
+    assert!(rt; offset < changed.len());
+    changed[offset] = byte;
+    changed
 }
 
 // Why bytes are no receipt, None where they are one.
@@ -160,42 +111,45 @@ pub fn checkpoint_fault(alloc: Global, bytes: &[u8]) -> Option<DecodeError> {
 }
 
 // The receipt that the bytes are.
-pub fn receipt_of(alloc: Global, bytes: &[u8]) -> Result<Receipt, Fail> {
-    Ok(decode_receipt(alloc, bytes)?)
+pub fn receipt_of(rt: &impl Abort, alloc: Global, bytes: &[u8]) -> Receipt {
+    decode_receipt(alloc, bytes).expect(rt, "a receipt")
 }
 
 // The checkpoint that the bytes are.
-pub fn checkpoint_of(alloc: Global, bytes: &[u8]) -> Result<Checkpoint, Fail> {
-    Ok(decode_checkpoint(alloc, bytes)?)
+pub fn checkpoint_of(rt: &impl Abort, alloc: Global, bytes: &[u8]) -> Checkpoint {
+    decode_checkpoint(alloc, bytes).expect(rt, "a checkpoint")
+}
+
+// The checkpoint as bytes, in version 2.
+pub fn spelled(rt: &impl Abort, alloc: Global, checkpoint: &Checkpoint) -> Vec<u8> {
+    encode_checkpoint(alloc, checkpoint).expect(rt, "memory")
 }
 
 // A whole checkpoint: cut anywhere it is short, and nothing may follow it.
-pub fn assert_whole(rt: &impl Abort, alloc: Global, bytes: &[u8]) -> Result<(), Fail> {
+pub fn assert_whole(rt: &impl Abort, alloc: Global, bytes: &[u8]) {
     assert_eq!(rt; checkpoint_fault(alloc, bytes), None);
     for cut in 0..bytes.len() {
         let fault = checkpoint_fault(alloc, &bytes[..cut]);
         assert_eq!(rt; fault, Some(DecodeError::Short), "cut to {cut} bytes");
     }
-    let mut longer = Vec::from_slice(alloc, bytes)?;
-    longer.push(0)?;
+    let mut longer = Vec::from_slice(alloc, bytes).expect(rt, "memory");
+    repeat(rt, &mut longer, &[0], 1);
     assert_eq!(rt;
         checkpoint_fault(alloc, &longer),
         Some(DecodeError::Trailing)
     );
-    Ok(())
 }
 
 // Bytes of a checkpoint of version 2 are refused, or spell it; of version 1, they are refused, or what they spell is spelled
 // in version 2 and read again.
-pub fn assert_spelled(rt: &impl Abort, alloc: Global, bytes: &[u8]) -> Result<(), Fail> {
+pub fn assert_spelled(rt: &impl Abort, alloc: Global, bytes: &[u8]) {
     if let Ok(checkpoint) = decode_checkpoint(alloc, bytes) {
-        let spelled = encode_checkpoint(alloc, &checkpoint)?;
+        let newer = spelled(rt, alloc, &checkpoint);
         if bytes.get(1) == Some(&1) {
-            let again = encode_checkpoint(alloc, &checkpoint_of(alloc, &spelled)?)?;
-            assert_eq!(rt; again, spelled);
+            let read = checkpoint_of(rt, alloc, &newer);
+            assert_eq!(rt; spelled(rt, alloc, &read), newer);
         } else {
-            assert_eq!(rt; spelled.as_slice(), bytes);
+            assert_eq!(rt; newer.as_slice(), bytes);
         }
     }
-    Ok(())
 }
