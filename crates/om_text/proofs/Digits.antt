@@ -1,25 +1,58 @@
 -- Values of digits.
-use Rattle.std.proofs.Common.{◌≡◌, ℕ, ◌+◌, ◌*◌, ◌^◌, ◌<◌, ◌≤◌, Bool, true, false, cond, ◌&&◌, eqb, List, [], ◌∷◌, length, Some, None, ⊎_elim, arith, ap, ◌∙◌, sym, refl, subst}
-use Rattle.std.specs.Prelude.{min}
+use Rattle.std.proofs.Common.{◌≡◌, ℕ, ◌^◌, ◌<◌, ◌≤◌, Bool, true, false, cond, ◌&&◌, eqb, ltb, List, [], ◌∷◌, length, take, Some, None, arith, ap, ◌∙◌, sym, refl, subst}
 use Rattle.std.specs.Char.{is_digit, digit_value}
 use Rattle.std.specs.Str.Parse.{AllDigits, digits_value}
-use Rattle.std.proofs.lemmas.Bool.{cases_lt, ltb-true, lt-ltb}
+use Rattle.std.proofs.lemmas.Bool.{ltb-true, ltb-false, lt-ltb, le-ltb}
 use Rattle.std.proofs.lemmas.Int.Digits.{digits_value-lt}
-use Rattle.std.proofs.Math.Nat.{le-mul_of_pos_right}
+use Rattle.std.proofs.lemmas.Str.Parse.{digits_value-take-le}
 use Rattle.om_text.specs.Numbers.{are_digits, below, hex_word}
 
-stops : (whole limit radix digit : ℕ) → limit ≤ limit * radix → limit ≤ whole → whole ≤ whole * radix → min (limit * radix + digit) limit ≡ min (whole * radix + digit) limit
-stops whole limit radix digit large le larger = omega arith
+some-by : (n limit v : ℕ) (b : Bool) → ltb n limit ≡ b → Some v ≡ cond b (Some n) None → (v ≡ n) × (n < limit)
+some-by n limit v true p h = (cc, ltb-true n limit p)
+some-by n limit v false p h = cc
 
--- one more digit, after a value that stopped at the limit
-pub min-digit_more : (value whole limit radix digit : ℕ) → 1 ≤ radix → value ≡ min whole limit → min (value * radix + digit) limit ≡ min (whole * radix + digit) limit
-min-digit_more value whole limit radix digit pos h =
-    let large = le-mul_of_pos_right limit pos in
-    let whole_large = le-mul_of_pos_right whole pos in
-    ⊎_elim (λ lt. let same : value ≡ whole = omega (arith, h) in ap (λ v. min (v * radix + digit) limit) same)
-    (λ le. let same : value ≡ limit = omega (arith, h) in
-    ap (λ v. min (v * radix + digit) limit) same ∙ stops whole limit radix digit large le whole_large)
-    (cases_lt whole limit)
+-- a number that is told is below the limit
+pub below-some : (n limit v : ℕ) → Some v ≡ below limit (Some n) → (v ≡ n) × (n < limit)
+below-some n limit v h = some-by n limit v (ltb n limit) refl h
+
+none-by : (n limit : ℕ) (b : Bool) → ltb n limit ≡ b → None ≡ cond b (Some n) None → limit ≤ n
+none-by n limit true p h = cc
+none-by n limit false p h = ltb-false n limit p
+
+-- one that is not told is not
+pub below-none : (n limit : ℕ) → None ≡ below limit (Some n) → limit ≤ n
+below-none n limit h = none-by n limit (ltb n limit) refl h
+
+too_large : (n limit : ℕ) (b : Bool) → limit ≤ n → cond b (below limit (Some n)) None ≡ None
+too_large n limit true le = ap (λ t. cond t (Some n) None) (le-ltb n limit le)
+too_large n limit false le = refl
+
+-- what is below 2^64 is told of 32 bits where it is below 2^32
+pub narrow-some : (b : Bool) (n v : ℕ) → Some v ≡ cond b (below (2 ^ 64) (Some n)) None → below (2 ^ 32) (Some v) ≡ cond b (below (2 ^ 32) (Some n)) None
+narrow-some true n v h = ap (λ m. below (2 ^ 32) (Some m)) (below-some n (2 ^ 64) v h).0
+narrow-some false n v h = cc
+
+pub narrow-none : (b : Bool) (n : ℕ) → None ≡ cond b (below (2 ^ 64) (Some n)) None → None ≡ cond b (below (2 ^ 32) (Some n)) None
+narrow-none true n h =
+    let large = below-none n (2 ^ 64) h in
+    let larger : 2 ^ 32 ≤ n = omega (arith, large) in
+    sym (too_large n (2 ^ 32) true larger)
+narrow-none false n h = refl
+
+-- digits whose first few write too large a number
+pub none-from_first : (radix limit : ℕ) (word : List ℕ) (i : ℕ) → 1 ≤ radix → limit ≤ digits_value radix (take i word) → cond (are_digits radix word) (below limit (Some (digits_value radix word))) None ≡ None
+none-from_first radix limit word i pos le =
+    let more = digits_value-take-le radix word i pos in
+    let large : limit ≤ digits_value radix word = omega (arith, le, more) in
+    too_large (digits_value radix word) limit (are_digits radix word) large
+
+-- digits that write a number below the limit
+pub all-digits : (radix limit : ℕ) (word : List ℕ) (value : ℕ) → are_digits radix word ≡ true → value ≡ digits_value radix word → value < limit → Some value ≡ cond (are_digits radix word) (below limit (Some (digits_value radix word))) None
+all-digits radix limit word value digits same fits =
+    let inside = subst (λ n. n < limit) same fits in
+    ap Some same
+    ∙ sym (ap (λ t. cond t (Some (digits_value radix word)) None) (lt-ltb (digits_value radix word) limit inside))
+    ∙ sym (ap (λ t. cond t (below limit (Some (digits_value radix word))) None) digits)
 
 both : (a b : Bool) → (a && b) ≡ true → (a ≡ true) × (b ≡ true)
 both true b h = (refl, h)

@@ -17,6 +17,10 @@ abbrev pub below : ℕ → Option ℕ → Option ℕ
 below limit None = None
 below limit (Some number) = if nat_lt number limit then Some number else None
 
+-- a number of 64 bits
+abbrev pub long_number_of : List ℕ → Option ℕ
+long_number_of word = below (2 ^ 64) (decimal_number word)
+
 -- a number of 32 bits
 abbrev pub number_of : List ℕ → Option ℕ
 number_of word = below (2 ^ 32) (decimal_number word)

@@ -11,6 +11,6 @@ mod text;
 mod words;
 
 pub use error::{BuildError, LineError, ScriptError};
-pub use numbers::{hex_word, number_of};
+pub use numbers::{hex_word, long_number_of, number_of};
 pub use script::{Builder, read_script};
 pub use text::{MAX_BYTES, MAX_TURNS, ReadError, read_text};

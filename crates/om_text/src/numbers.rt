@@ -1,11 +1,8 @@
 //! Words that stand for numbers.
 
-ghost use Rattle.std.specs.Prelude.{◌≡◌, ◌≤◌, ◌^◌, ◌&&◌, nat_lt, Some, None, if◌then◌else◌};
+ghost use Rattle.std.specs.Prelude.{◌≡◌, ◌≤◌, ◌+◌, ◌*◌, ◌^◌, Some, None, if◌then◌else◌};
 ghost use Rattle.std.specs.Str.Parse.{digits_value};
-ghost use Rattle.om_text.specs.Numbers.{are_digits, below, hex_word, number_of};
-
-// The least number that is too large for 32 bits.
-const NUMBER_END: u64 = 1 << 32;
+ghost use Rattle.om_text.specs.Numbers.{are_digits, below, hex_word, long_number_of, number_of};
 
 // How many hexadecimal digits a word of the machine has.
 const HEX_WORD_DIGITS: usize = 8;
@@ -13,6 +10,13 @@ const HEX_WORD_DIGITS: usize = 8;
 /// A number in decimal digits, below 2^32: with any number of leading zeros, and no sign.
 pub fn number_of(word: &[u8]) -> Option<u32>
     ensures { result ≡ number_of word.now }
+{
+    narrow(long_number_of(word)?)
+}
+
+/// A number in decimal digits, below 2^64: with any number of leading zeros, and no sign.
+pub fn long_number_of(word: &[u8]) -> Option<u64>
+    ensures { result ≡ long_number_of word.now }
 {
     if word.is_empty() {
         return None;
@@ -27,20 +31,36 @@ pub fn hex_word(word: &[u8]) -> Option<u32>
     if word.len() != HEX_WORD_DIGITS {
         return None;
     }
-    value_of(word, 16)
+    narrow(value_of(word, 16)?)
 }
 
-// What the digits write, where they are digits and that is below 2^32.
-fn value_of(word: &[u8], radix: u32) -> Option<u32>
+// The number, where it is below 2^32.
+fn narrow(number: u64) -> Option<u32>
+    ensures { result ≡ below (2 ^ 32) (Some number) }
+{
+    u32::try_from(number).ok()
+}
+
+// What the digits write, where they are digits and that is below 2^64.
+fn value_of(word: &[u8], radix: u32) -> Option<u64>
     requires least { 2 ≤ radix }
     requires most { radix ≤ 16 }
     ensures { result ≡ (if are_digits radix word.now
-        then below (2 ^ 32) (Some (digits_value radix word.now)) else None) }
+        then below (2 ^ 64) (Some (digits_value radix word.now)) else None) }
 {
     let mut value = 0;
     for byte in word {
         let digit = char::from(*byte).to_digit(radix)?;
-        value = (value * u64::from(radix) + u64::from(digit)).min(NUMBER_END);
+        value = with_digit(value, radix, digit)?;
     }
-    u32::try_from(value).ok()
+    Some(value)
+}
+
+// What the digits write with one more of them, where that is below 2^64.
+fn with_digit(value: u64, radix: u32, digit: u32) -> Option<u64>
+    ensures { result ≡ below (2 ^ 64) (Some (value * radix + digit)) }
+{
+    value
+        .checked_mul(u64::from(radix))?
+        .checked_add(u64::from(digit))
 }

@@ -1,5 +1,4 @@
-use Rattle.std.proofs.Common.{◌≡◌, true, take, ◌^◌}
-use Rattle.std.specs.Prelude.{min}
+use Rattle.std.proofs.Common.{◌≡◌, ◌<◌, ◌^◌, true, take}
 use Rattle.std.specs.Str.Parse.{digits_value}
 use Rattle.om_text.specs.Numbers.{are_digits}
 use Rattle.om_text.proofs.numbers.value_of.Given as goal
@@ -7,5 +6,6 @@ use Rattle.om_text.proofs.numbers.value_of.Given as goal
 abbrev pub invariant-loop-byte : goal.invariant-loop-byte
 invariant-loop-byte l = record {
   digits : are_digits l.radix (take l.byte-index l.word) ≡ true;
-  value : l.value ≡ min (digits_value l.radix (take l.byte-index l.word)) (2 ^ 32);
+  value : l.value ≡ digits_value l.radix (take l.byte-index l.word);
+  fits : l.value < 2 ^ 64;
 }
