@@ -1,10 +1,12 @@
 pub mod Command
 pub mod Decode
 pub mod Errors
+pub mod Events
 pub mod Frontier
 pub mod Hex
 pub mod RecordScript
 pub mod Replay
 pub mod Report
+pub mod SimScript
 pub mod StateText
 pub mod WordScript

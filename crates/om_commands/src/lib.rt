@@ -4,10 +4,12 @@
 mod command;
 pub mod decode;
 mod error;
+mod events;
 pub mod frontier;
 mod record_script;
 pub mod replay;
 mod report;
+mod sim_script;
 mod state_text;
 mod word_script;
 

@@ -1,4 +1,5 @@
 pub mod Process
+pub mod Images
 pub mod Turns
 pub mod Dependencies
 pub mod Replays

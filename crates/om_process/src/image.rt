@@ -1,4 +1,8 @@
+ghost use Rattle.std.specs.Prelude.{◌≡◌, IfOk};
+ghost use Rattle.om_process.specs.Images.{program_of};
+
 use om_isa::Ext;
+use std::alloc::{AllocError, Global};
 
 /// A program.
 #[derive(Debug, Drop)]
@@ -9,4 +13,16 @@ pub struct Image {
     pub size: u32,
     /// The instructions that it may use.
     pub ext: Ext,
+}
+
+impl Image {
+    pub fn copy(&self, alloc: Global) -> Result<Image, AllocError>
+        ensures { IfOk result (λ copy. program_of copy ≡ program_of self.now) }
+    {
+        Ok(Image {
+            bytes: Vec::from_slice(alloc, &self.bytes)?,
+            size: self.size,
+            ext: self.ext,
+        })
+    }
 }

@@ -1,3 +1,4 @@
+pub mod ImageLemmas
 pub mod NameLemmas
 pub mod NamedLemmas
 pub mod ScriptLemmas

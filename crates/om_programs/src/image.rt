@@ -1,10 +1,14 @@
 //! Images, from the words of a line.
 
-ghost use Rattle.std.specs.Prelude.{◌≡◌, ◌*◌, length, map, flat_map, IfOk, OnOk};
+ghost use Rattle.std.specs.Prelude.{◌≡◌, ◌*◌, ◌≤◌, length, map, flat_map, true, IfOk, OnOk};
 ghost use Rattle.std.specs.Int.{to_le_bytes, w32};
-ghost use Rattle.om_programs.specs.Programs.{words_in};
+ghost use Rattle.om_format.specs.Checkpoints.{is_memory_size};
+ghost use Rattle.om_process.specs.Images.{program_of};
+ghost use Rattle.om_programs.specs.Programs.{IsProgram, program_in, words_in};
 ghost use Rattle.om_text.specs.Reading.{Gives};
 
+use om_isa::Ext;
+use om_process::Image;
 use om_text::{BuildError, LineError, hex_word};
 use std::alloc::{AllocError, Global};
 
@@ -22,8 +26,24 @@ pub(crate) fn words_in(alloc: Global, words: &[&[u8]]) -> Result<Vec<u32>, Build
     Ok(all)
 }
 
+// The image of a program in words.
+pub(crate) fn image_of(
+    alloc: Global,
+    ext: Ext,
+    size: u32,
+    words: &[u32],
+) -> Result<Image, AllocError>
+    requires size { is_memory_size size ≡ true }
+    requires fits { 4 * length words.now ≤ size }
+    ensures program { IfOk result (λ image. program_of image ≡ program_in ext size words.now) }
+    ensures right { IfOk result (λ image. IsProgram (program_of image)) }
+{
+    let bytes = bytes_of(alloc, words)?;
+    Ok(Image { bytes, size, ext })
+}
+
 // The bytes of the words, the lowest of each first.
-pub(crate) fn bytes_of(alloc: Global, words: &[u32]) -> Result<Vec<u8>, AllocError>
+fn bytes_of(alloc: Global, words: &[u32]) -> Result<Vec<u8>, AllocError>
     ensures bytes { IfOk result (λ bytes. bytes.items ≡ flat_map (to_le_bytes w32) words.now) }
 {
     let mut bytes = Vec::new(alloc);

@@ -1,6 +1,6 @@
 //! Values by name.
 
-ghost use Rattle.std.specs.Prelude.{◌≡◌, ◌++◌, ◌∷◌, [], None, Some, length, map, slice_get, OnOk, MatchOption};
+ghost use Rattle.std.specs.Prelude.{◌≡◌, ◌++◌, ◌∷◌, [], None, Some, length, map, slice_get, OnOk, OnErr, MatchOption};
 ghost use Rattle.om_programs.specs.Named.{place_of};
 
 use indexmap::IndexMap;
@@ -57,6 +57,7 @@ impl<V: Drop> Named<V> {
     pub(crate) fn add(&mut self, alloc: Global, name: &str, value: V) -> Result<(), AllocError>
         requires new { place_of name.now self.old ≡ None }
         ensures added { OnOk result (self.new ≡ self.old ++ (name.now, value) ∷ []) }
+        ensures refused { OnErr result (self.new ≡ self.old) }
     {
         let name = String::from_str(alloc, name)?;
         match self.entries.insert(name, value) {

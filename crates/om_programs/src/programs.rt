@@ -1,12 +1,14 @@
 //! Programs and processes: what their lines build.
 
-ghost use Rattle.std.specs.Prelude.{◌≡◌, ◌++◌, ◌∷◌, [], map, length, slice_get, true, None, OnOk};
+ghost use Rattle.std.specs.Prelude.{◌≡◌, ◌<◌, ◌≤◌, ◌++◌, ◌∷◌, [], All, map, length, slice_get, true, None, Some, IfOk, OnOk, OnErr};
 ghost use Rattle.std.specs.Option.{option_map};
 ghost use Rattle.om_text.specs.Reading.{Gives};
 ghost use Rattle.om_programs.specs.Named.{place_of};
-ghost use Rattle.om_programs.specs.Programs.{no_programs, program, program_line, process_line};
+ghost use Rattle.om_interval.specs.declared.pid.TheConstants.{MAX_PROCESSES};
+ghost use Rattle.om_process.specs.Images.{program_of};
+ghost use Rattle.om_programs.specs.Programs.{IsProgram, no_programs, program_at, program_line, programs_of, process_line};
 
-use crate::image::{bytes_of, words_in};
+use crate::image::{image_of, words_in};
 use crate::named::Named;
 use crate::names::name_of;
 use om_format::MemoryBytes;
@@ -28,15 +30,22 @@ pub struct Programs {
 impl Model for Programs {
     ghost use Rattle.std.specs.Prelude.{map};
     ghost use Rattle.om_programs.specs.Named.{place_of};
-    ghost use Rattle.om_programs.specs.Programs.{Cluster, program};
+    ghost use Rattle.om_process.specs.Images.{program_of};
+    ghost use Rattle.om_programs.specs.Programs.{Cluster, IsCluster};
 
     ghost Value = { Cluster };
 
     ghost view = { λ p. record {
-      programs = map (λ e. (e.0, program e.1)) p.programs;
+      programs = map (λ e. (e.0, program_of e.1)) p.programs;
       processes = p.processes;
       is_closed = p.is_closed;
     } };
+
+    ghost invariant = { λ p. IsCluster (record {
+      programs = map (λ e. (e.0, program_of e.1)) p.programs;
+      processes = p.processes;
+      is_closed = p.is_closed;
+    }) };
 }
 
 impl Programs {
@@ -52,7 +61,8 @@ impl Programs {
 
     /// The number of processes.
     pub fn n(&self) -> usize
-        ensures { result ≡ length self.now.processes }
+        ensures number { result ≡ length self.now.processes }
+        ensures few { result ≤ MAX_PROCESSES }
     {
         self.processes.len()
     }
@@ -74,10 +84,46 @@ impl Programs {
 
     /// The image of a program, by its place among the programs.
     pub fn image(&self, place: usize) -> Option<&Image>
-        ensures { option_map (λ image. program image.now) result ≡ option_map (λ e. e.1) (slice_get self.now.programs place) }
+        ensures { option_map (λ image. program_of image.now) result ≡ option_map (λ e. e.1) (slice_get self.now.programs place) }
     {
         let (_, image) = self.programs.get(place)?;
         Some(image)
+    }
+
+    /// The images of the processes.
+    pub fn images(&self, alloc: Global) -> Result<Vec<Image>, AllocError>
+        ensures programs { IfOk result (λ images. map program_of images.items ≡ programs_of self.now) }
+        ensures sizes { IfOk result (λ images. All IsProgram (map program_of images.items)) }
+    {
+        let mut images = Vec::new(alloc);
+        for process in 0..self.processes.len() {
+            images.push(self.image_of(alloc, process)?)?;
+        }
+        Ok(images)
+    }
+
+    // The image of a process.
+    fn image_of(&self, alloc: Global, process: usize) -> Result<Image, AllocError>
+        requires { process < length self.now.processes }
+        ensures program { IfOk result (λ image. slice_get (programs_of self.now) process ≡ Some (program_of image)) }
+        ensures size { IfOk result (λ image. IsProgram (program_of image)) }
+    {
+        match self.processes.get(process) {
+            Some((_, place)) => self.copy_at(alloc, *place),
+            None => unreachable!(),
+        }
+    }
+
+    // The image at a place.
+    fn copy_at(&self, alloc: Global, place: usize) -> Result<Image, AllocError>
+        requires { place < length self.now.programs }
+        ensures program { IfOk result (λ image. program_of image ≡ program_at self.now place) }
+        ensures size { IfOk result (λ image. IsProgram (program_of image)) }
+    {
+        match self.programs.get(place) {
+            Some((_, image)) => image.copy(alloc),
+            None => unreachable!(),
+        }
     }
 
     /// Other lines begin: what is given from now on is out of place.
@@ -95,7 +141,8 @@ impl Programs {
         ext: Ext,
         words: &[&[u8]],
     ) -> Result<(), BuildError<LineError>>
-        ensures { Gives (λ _. self.new) result (program_line ext self.old (map (λ word. word.now) words.now)) }
+        ensures line { Gives (λ _. self.new) result (program_line ext self.old (map (λ word. word.now) words.now)) }
+        ensures refused { OnErr result (self.new ≡ self.old) }
     {
         let [name, size, words @ ..] = words else {
             return Err(LineError::WrongCount.into());
@@ -119,16 +166,18 @@ impl Programs {
         if (size as usize) < 4 * words.len() {
             return Err(LineError::ImageTooLong.into());
         }
-        let bytes = bytes_of(alloc, &words)?;
-        self.push_program(alloc, name, Image { bytes, size, ext })?;
+        let image = image_of(alloc, ext, size, &words)?;
+        self.push_program(alloc, name, image)?;
         Ok(())
     }
 
     // A program by a new name.
     fn push_program(&mut self, alloc: Global, name: &str, image: Image) -> Result<(), AllocError>
         requires new { place_of name.now self.old.programs ≡ None }
+        requires right { IsProgram (program_of image) }
+        ensures refused { OnErr result (self.new ≡ self.old) }
         ensures added { OnOk result (self.new ≡ record self.old {
-          programs = self.old.programs ++ (name.now, program image) ∷ [];
+          programs = self.old.programs ++ (name.now, program_of image) ∷ [];
         }) }
     {
         self.programs.add(alloc, name, image)
@@ -147,7 +196,8 @@ impl Programs {
         alloc: Global,
         words: &[&[u8]],
     ) -> Result<(), BuildError<LineError>>
-        ensures { Gives (λ _. self.new) result (process_line self.old (map (λ word. word.now) words.now)) }
+        ensures line { Gives (λ _. self.new) result (process_line self.old (map (λ word. word.now) words.now)) }
+        ensures refused { OnErr result (self.new ≡ self.old) }
     {
         let [name, program] = words else {
             return Err(LineError::WrongCount.into());

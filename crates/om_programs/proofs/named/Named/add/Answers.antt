@@ -1,4 +1,4 @@
-use Rattle.std.proofs.Common.{◌≡◌, ◌∙◌, ◌++◌, ◌∷◌, [], ap, map}
+use Rattle.std.proofs.Common.{◌∙◌, ◌++◌, ◌∷◌, [], ap, map}
 use Rattle.std.specs.String.{string_bytes}
 use Rattle.om_programs.specs.Named.{place_of}
 use Rattle.om_programs.proofs.NamedLemmas.{insert_named}
@@ -12,4 +12,5 @@ returns-in-Ok g c =
       added = ap (map (λ e. (string_bytes e.0, e.1))) c.in-Ok.ensures.entries
           ∙ insert_named string_bytes c.self.inside.entries c.in_ok-name.name c.args.value none
           ∙ (λ j. c.self.view_is j ++ (bytes j, c.args.value) ∷ []);
+      refused = tt;
     }

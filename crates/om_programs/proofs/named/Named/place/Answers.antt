@@ -1,4 +1,4 @@
-use Rattle.std.proofs.Common.{◌≡◌, ◌∙◌, ap}
+use Rattle.std.proofs.Common.{◌∙◌, ap}
 use Rattle.om_programs.specs.Named.{place_of}
 use Rattle.std.specs.String.{string_bytes}
 use Rattle.om_programs.proofs.NamedLemmas.{place_key}

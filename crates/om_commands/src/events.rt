@@ -1,0 +1,95 @@
+//! What is to happen to a world, by the words of a line.
+
+ghost use Rattle.std.specs.Prelude.{◌≡◌, map};
+ghost use Rattle.om_text.specs.Reading.{or_error};
+ghost use Rattle.om_text.specs.Numbers.{number_of};
+ghost use Rattle.om_text.specs.declared.error.LineError.{LineError};
+ghost use Rattle.om_commands.specs.Events.{event_line, give_line, process_in, prune_line, run_line};
+
+use om_text::{LineError, long_number_of, number_of};
+use om_world::Event;
+
+// The event of a line, by its first word and those behind it.
+pub(crate) fn event_of(first: &[u8], words: &[&[u8]]) -> Result<Event, LineError>
+    ensures { result ≡ event_line first.now (map (λ word. word.now) words.now) }
+{
+    if first == b"run".as_slice() {
+        return run_of(words);
+    }
+    if first == b"give".as_slice() {
+        return give_of(words);
+    }
+    if first == b"flush".as_slice() {
+        let process = process_in(words)?;
+        return Ok(Event::Flush { process });
+    }
+    if first == b"checkpoint".as_slice() {
+        let process = process_in(words)?;
+        return Ok(Event::Checkpoint { process });
+    }
+    if first == b"resend".as_slice() {
+        let process = process_in(words)?;
+        return Ok(Event::Resend { process });
+    }
+    if first == b"trim".as_slice() {
+        let process = process_in(words)?;
+        return Ok(Event::Trim { process });
+    }
+    if first == b"prune".as_slice() {
+        return prune_of(words);
+    }
+    Err(LineError::UnknownLine)
+}
+
+// The process that the one word stands for.
+fn process_in(words: &[&[u8]]) -> Result<usize, LineError>
+    ensures { result ≡ process_in (map (λ word. word.now) words.now) }
+{
+    let [word] = words else {
+        return Err(LineError::WrongCount);
+    };
+    place_of(word)
+}
+
+// The number of a process or a frame.
+fn place_of(word: &[u8]) -> Result<usize, LineError>
+    ensures { result ≡ or_error (number_of word.now) LineError.BadNumber }
+{
+    match number_of(word) {
+        Some(number) => Ok(number as usize),
+        None => Err(LineError::BadNumber),
+    }
+}
+
+fn run_of(words: &[&[u8]]) -> Result<Event, LineError>
+    ensures { result ≡ run_line (map (λ word. word.now) words.now) }
+{
+    let [process, fuel] = words else {
+        return Err(LineError::WrongCount);
+    };
+    let process = place_of(process)?;
+    let Some(fuel) = long_number_of(fuel) else {
+        return Err(LineError::BadNumber);
+    };
+    Ok(Event::Run { process, fuel })
+}
+
+fn give_of(words: &[&[u8]]) -> Result<Event, LineError>
+    ensures { result ≡ give_line (map (λ word. word.now) words.now) }
+{
+    let [process, frame] = words else {
+        return Err(LineError::WrongCount);
+    };
+    let process = place_of(process)?;
+    let frame = place_of(frame)?;
+    Ok(Event::Give { process, frame })
+}
+
+fn prune_of(words: &[&[u8]]) -> Result<Event, LineError>
+    ensures { result ≡ prune_line (map (λ word. word.now) words.now) }
+{
+    if !words.is_empty() {
+        return Err(LineError::WrongCount);
+    }
+    Ok(Event::Prune)
+}
