@@ -1,6 +1,7 @@
 pub mod Framing
 pub mod FramesCut
 pub mod Giving
+pub mod Keeping
 pub mod Kept
 pub mod Lists
 pub mod Moved

@@ -2,7 +2,7 @@
 
 ghost use Rattle.std.specs.Prelude.{ℕ, ◌≡◌, ◌≤◌, ◌<◌, ◌++◌, drop, length, slice_get, slice_index, Some, IfOk, OnOk};
 ghost use Rattle.om_world.specs.declared.event.Event.{Event};
-ghost use Rattle.om_world.specs.steps.Moves.{HasCore, answered};
+ghost use Rattle.om_world.specs.steps.Moves.{HasCore, Keeps, answered};
 ghost use Rattle.om_process.specs.Core.{CoreState, size_of};
 ghost use Rattle.om_process.specs.Frames.{messages_to};
 ghost use Rattle.om_world.specs.Happened.{Happened, all_messages, messages_behind, messages_in};
@@ -72,8 +72,7 @@ impl<S: Stable> World<S> {
     /// Makes each message that a process keeps a new frame.
     pub(crate) fn resend(&mut self, alloc: Global, p: usize) -> Result<Answer, Refusal>
         ensures happened { Happened self.old (Event.Resend p) (answered result) self.new }
-        ensures manager { self.new.manager ≡ self.old.manager }
-        ensures clean { self.new.clean ≡ self.old.clean }
+        ensures keeps { Keeps self.old self.new }
     {
         self.is_up(p)?;
         let mut frames = frames_at(&self.cores, p, alloc)?;

@@ -11,6 +11,7 @@ use om_manager::Manager;
 use om_process::{Image, ProcCore};
 use om_stable::Stable;
 use std::marker::Model;
+use std::snapshot::Snapshot;
 
 /// The processes of a cluster with their stores and their manager, what was received, and the frames that were made.
 #[derive(Drop)]
@@ -24,6 +25,8 @@ pub struct World<S: Stable> {
     pub(crate) rounds: Vec<u32>,
     pub(crate) stores: Vec<S>,
     pub(crate) manager: Manager,
+    // What the stores were before the start.
+    pub(crate) origins: Snapshot<Vec<S>>,
 }
 
 impl<S: Stable> Model for World<S> {
@@ -48,6 +51,7 @@ impl<S: Stable> Model for World<S> {
       manager = w.manager;
       contents = map S.content w.stores.items;
       clean = map S.is_clean w.stores.items;
+      origins = map S.content w.origins.value.items;
     } };
 
     ghost invariant = { λ w. IsWorld S.IsSound w.stores.items (record {
@@ -60,6 +64,7 @@ impl<S: Stable> Model for World<S> {
       manager = w.manager;
       contents = map S.content w.stores.items;
       clean = map S.is_clean w.stores.items;
+      origins = map S.content w.origins.value.items;
     }) };
 }
 
