@@ -1,6 +1,7 @@
 pub mod Framing
 pub mod FramesCut
 pub mod Giving
+pub mod Holding
 pub mod Keeping
 pub mod Kept
 pub mod Lists

@@ -2,6 +2,8 @@
 
 ghost use Rattle.std.specs.Prelude.{◌≡◌, ◌<◌, ◌≤◌, length, map, slice_get, IfOk, IfErr, Some};
 ghost use Rattle.om_world.specs.Happened.{IsUp, NotRunning};
+ghost use Rattle.om_world.specs.Holds.{Holds};
+ghost use Rattle.om_world.specs.World.{IsKnown};
 
 use crate::entry::Entry;
 use crate::event::Refusal;
@@ -85,6 +87,13 @@ impl<S: Stable> World<S> {
 }
 
 impl<S: Stable> World<S> {
+    // What holds of a world of which all is known.
+    pub(crate) fn told(&self)
+        ensures { IsKnown self.now → Holds self.now }
+    {
+        let _ = &self.live;
+    }
+
     // Whether the process is there and up.
     pub(crate) fn is_up(&self, p: usize) -> Result<(), Refusal>
         ensures up { IfOk result (λ _. IsUp self.now p) }
