@@ -1,23 +1,19 @@
 -- What is told of a world follows from what it keeps.
 use Rattle.std.proofs.Common.{◌≡◌, ◌⊎◌, inl, inr, ℕ, zero, suc, ◌+◌, ◌-◌, ◌≤◌, ◌<◌, List, [], ◌∷◌, ◌++◌, length, map, take, Some, Bool, true, false, refl, sym, ap, ◌∙◌, subst, arith}
 use Rattle.std.specs.Prelude.{nat_eq, slice_get, slice_index}
-use mathlib.Core.List.{IsPrefix}
 use Rattle.om_format.specs.declared.queue.Entry as kept
 use Rattle.om_format.specs.Queues.{QueueRecord}
 use Rattle.om_stable.specs.Content.{Content}
-use Rattle.om_process.specs.Process.{Process, Received}
+use Rattle.om_process.specs.Process.{Received}
 use Rattle.om_process.specs.Core.{CoreState}
 use Rattle.om_process.specs.Parts.{KeepQueues}
 use Rattle.om_process.specs.Dependencies.{count_from}
 use Rattle.om_process.specs.Claims.{AtInterval, HasEntry, Makes}
-use Rattle.om_recover.specs.Rows.{HasRow}
 use Rattle.om_recover.specs.Cutting.{IsEffective}
 use Rattle.om_recover.specs.declared.row.Row as noted
 use Rattle.om_recover.specs.declared.row.RowKind.{RowKind}
 use Rattle.om_recover.specs.declared.row.RowKind.TheVariants.{Checkpoint, Log}
-use Rattle.om_manager.specs.Outputs.{HeldOutput}
 use Rattle.om_manager.specs.State.{held_by, released_by}
-use Rattle.om_world.specs.declared.place.Place.{Place}
 use Rattle.om_world.specs.Live.{program_at}
 use Rattle.om_world.specs.World.{WorldState, past_of, history, recovered, output_entry, IsKnown}
 use Rattle.om_world.specs.Holds.{HasRecord, Holds, IsWanted, ReleasedFirst, StandsAt}
@@ -84,7 +80,7 @@ at_front [] ys i x at = absurd (none_in i x at)
 at_front (y ∷ xs) ys zero x at = at
 at_front (y ∷ xs) ys (suc i) x at = at_front xs ys i x at
 
-before_map : {A B : Type 0} (f : A → B) (xs : List A) (i : ℕ) (y : B) → slice_get (map f xs) i ≡ Some y → (x : A) × (slice_get xs i ≡ Some x) × (f x ≡ y)
+pub before_map : {A B : Type 0} (f : A → B) (xs : List A) (i : ℕ) (y : B) → slice_get (map f xs) i ≡ Some y → (x : A) × (slice_get xs i ≡ Some x) × (f x ≡ y)
 before_map f [] i y at = absurd (none_in i y at)
 before_map f (x ∷ xs) zero y at = (x, refl, once (f x) y at)
 before_map f (x ∷ xs) (suc i) y at = before_map f xs i y at
@@ -96,9 +92,9 @@ released w p h s lt =
     let size = h.size in
     let front = h.manager.released p (omega arith) in
     let all = released_first w.programs p w.live (map output_entry outputs) s.legal (λ i e at.
-        let o = before_map output_entry outputs i e at in
-        let held : slice_get (held_by w.manager p) i ≡ Some o.0 = ap (λ l. slice_get l i) (sym front.1) ∙ at_front outputs front.0 i o.0 o.1 in
-        subst (λ (d : kept.Entry). AtInterval (history (past_of w) p) d.interval (Makes (program_at w.programs p) p n n i d)) o.2 (s.outputs p i o.0 held)) in
+    let o = before_map output_entry outputs i e at in
+    let held : slice_get (held_by w.manager p) i ≡ Some o.0 = ap (λ l. slice_get l i) (sym front.1) ∙ at_front outputs front.0 i o.0 o.1 in
+    subst (λ (d : kept.Entry). AtInterval (history (past_of w) p) d.interval (Makes (program_at w.programs p) p n n i d)) o.2 (s.outputs p i o.0 held)) in
     (all.0, all.1, λ i o at. all.2 i (output_entry o) (map_at output_entry outputs i o at))
 
 -- ---- records

@@ -1,3 +1,4 @@
+pub mod Beginning
 pub mod Framing
 pub mod FramesCut
 pub mod Giving
@@ -12,6 +13,7 @@ pub mod Raising
 pub mod Gaining
 pub mod Recording
 pub mod Resending
+pub mod Starting
 pub mod Telling
 pub mod Trimming
 pub mod Finish

@@ -14,6 +14,7 @@ mod give;
 pub mod laws;
 mod place;
 mod run;
+mod start;
 mod storing;
 mod trim;
 mod world;

@@ -1,6 +1,7 @@
 //! The world.
 
-ghost use Rattle.std.specs.Prelude.{◌≡◌, ◌<◌, ◌≤◌, length, map, slice_get, IfOk, IfErr, Some};
+ghost use Rattle.std.specs.Prelude.{◌≡◌, ◌<◌, ◌≤◌, length, map, slice_get, IfOk, IfErr, IfNone, IfSome, Some};
+ghost use Rattle.om_process.specs.Core.{CoreState};
 ghost use Rattle.om_world.specs.Happened.{IsUp, NotRunning};
 ghost use Rattle.om_world.specs.Holds.{Holds};
 ghost use Rattle.om_world.specs.World.{IsKnown};
@@ -9,6 +10,7 @@ use crate::entry::Entry;
 use crate::event::Refusal;
 use crate::place::Place;
 use om_format::Message;
+use om_interval::Pid;
 use om_manager::Manager;
 use om_process::{Image, ProcCore};
 use om_stable::Stable;
@@ -83,6 +85,17 @@ impl<S: Stable> World<S> {
         ensures { result.now ≡ self.now.manager }
     {
         &self.manager
+    }
+
+    /// The core of a process: none where the process is down, and where there is no such process.
+    pub fn core(&self, pid: Pid) -> Option<&ProcCore>
+        ensures some { IfSome result (λ core. slice_get self.now.cores pid ≡ Some (Some core.now)) }
+        ensures none { IfNone result ((core : CoreState) → slice_get self.now.cores pid ≡ Some (Some core) → ⊥) }
+    {
+        match self.cores.get(pid.index()) {
+            Some(Some(core)) => Some(core),
+            _ => None,
+        }
     }
 }
 
