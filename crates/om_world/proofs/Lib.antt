@@ -13,6 +13,9 @@ pub mod Recording
 pub mod Resending
 pub mod Telling
 pub mod Trimming
+pub mod Sending
+pub mod Handing
+pub mod Running
 pub mod Finish
 pub mod Legal
 pub mod Released
