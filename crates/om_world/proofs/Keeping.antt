@@ -17,7 +17,7 @@ prefix_same xs = ([], nothing xs)
     nothing [] = refl
     nothing (x ∷ xs) = ap (λ l. x ∷ l) (nothing xs)
 
-prefix_then : {A : Type 0} (xs ys zs : List A) → IsPrefix xs ys → IsPrefix ys zs → IsPrefix xs zs
+pub prefix_then : {A : Type 0} (xs ys zs : List A) → IsPrefix xs ys → IsPrefix ys zs → IsPrefix xs zs
 prefix_then xs ys zs a b = (a.0 ++ b.0, joined xs a.0 b.0 ∙ ap (λ l. l ++ b.0) a.1 ∙ b.1)
   where
     joined : {A : Type 0} (xs ys zs : List A) → xs ++ (ys ++ zs) ≡ (xs ++ ys) ++ zs

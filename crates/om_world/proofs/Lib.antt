@@ -16,6 +16,9 @@ pub mod Resending
 pub mod Starting
 pub mod Telling
 pub mod Trimming
+pub mod Sending
+pub mod Handing
+pub mod Running
 pub mod Finish
 pub mod Legal
 pub mod Released

@@ -29,7 +29,7 @@ set_twice [] p x y = refl
 set_twice (z ∷ xs) zero x y = refl
 set_twice (z ∷ xs) (suc p) x y = ap (λ l. z ∷ l) (set_twice xs p x y)
 
-set_there : {A : Type 0} (xs : List A) (p : ℕ) (x y : A) → slice_get xs p ≡ Some x → slice_get (set xs p y) p ≡ Some y
+pub set_there : {A : Type 0} (xs : List A) (p : ℕ) (x y : A) → slice_get xs p ≡ Some x → slice_get (set xs p y) p ≡ Some y
 set_there [] p x y at = absurd (none p at)
   where
     none : (p : ℕ) → slice_get [] p ≡ Some x → ⊥
