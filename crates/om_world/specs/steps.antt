@@ -2,3 +2,4 @@
 pub mod Sound
 pub mod Moves
 pub mod Running
+pub mod Pruning
