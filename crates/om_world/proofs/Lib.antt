@@ -19,6 +19,7 @@ pub mod Trimming
 pub mod Sending
 pub mod Handing
 pub mod Running
+pub mod Pruning
 pub mod Finish
 pub mod Legal
 pub mod Released

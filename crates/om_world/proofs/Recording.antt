@@ -19,7 +19,7 @@ use Rattle.om_world.proofs.Lists.{inside, once}
 use Rattle.om_world.proofs.Telling.{told_notes}
 
 -- ---- lists
-set_back : {A : Type 0} (xs : List A) (p : ℕ) (x : A) → slice_get xs p ≡ Some x → set xs p x ≡ xs
+pub set_back : {A : Type 0} (xs : List A) (p : ℕ) (x : A) → slice_get xs p ≡ Some x → set xs p x ≡ xs
 set_back [] p x at = refl
 set_back (y ∷ xs) zero x at = ap (λ z. z ∷ xs) (sym (once y x at))
 set_back (y ∷ xs) (suc p) x at = ap (λ l. y ∷ l) (set_back xs p x at)

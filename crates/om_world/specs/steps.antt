@@ -3,3 +3,4 @@ pub mod Sound
 pub mod Moves
 pub mod Starting
 pub mod Running
+pub mod Pruning
