@@ -9,6 +9,7 @@ pub mod Lists
 pub mod Moved
 pub mod Noting
 pub mod Ordered
+pub mod Playing
 pub mod Raising
 pub mod Gaining
 pub mod Recording

@@ -13,6 +13,7 @@ mod frames;
 mod give;
 pub mod laws;
 mod place;
+mod play;
 mod prune;
 mod run;
 mod start;
