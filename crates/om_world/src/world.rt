@@ -1,12 +1,16 @@
 //! The world.
 
-ghost use Rattle.std.specs.Prelude.{◌≡◌, ◌<◌, ◌≤◌, length, map, slice_get, IfOk, IfErr, Some};
+ghost use Rattle.std.specs.Prelude.{◌≡◌, ◌<◌, ◌≤◌, length, map, slice_get, IfOk, IfErr, IfNone, IfSome, Some};
+ghost use Rattle.om_process.specs.Core.{CoreState};
 ghost use Rattle.om_world.specs.Happened.{IsUp, NotRunning};
+ghost use Rattle.om_world.specs.Holds.{Holds};
+ghost use Rattle.om_world.specs.World.{IsKnown};
 
 use crate::entry::Entry;
 use crate::event::Refusal;
 use crate::place::Place;
 use om_format::Message;
+use om_interval::Pid;
 use om_manager::Manager;
 use om_process::{Image, ProcCore};
 use om_stable::Stable;
@@ -82,9 +86,27 @@ impl<S: Stable> World<S> {
     {
         &self.manager
     }
+
+    /// The core of a process: none where the process is down, and where there is no such process.
+    pub fn core(&self, pid: Pid) -> Option<&ProcCore>
+        ensures some { IfSome result (λ core. slice_get self.now.cores pid ≡ Some (Some core.now)) }
+        ensures none { IfNone result ((core : CoreState) → slice_get self.now.cores pid ≡ Some (Some core) → ⊥) }
+    {
+        match self.cores.get(pid.index()) {
+            Some(Some(core)) => Some(core),
+            _ => None,
+        }
+    }
 }
 
 impl<S: Stable> World<S> {
+    // What holds of a world of which all is known.
+    pub(crate) fn told(&self)
+        ensures { IsKnown self.now → Holds self.now }
+    {
+        let _ = &self.live;
+    }
+
     // Whether the process is there and up.
     pub(crate) fn is_up(&self, p: usize) -> Result<(), Refusal>
         ensures up { IfOk result (λ _. IsUp self.now p) }
