@@ -1,10 +1,9 @@
 -- Outputs that are handed in.
-use Rattle.std.proofs.Common.{◌≡◌, ◌≢◌, ◌⊎◌, inl, inr, ℕ, zero, suc, ◌+◌, ◌-◌, ◌≤◌, ◌<◌, List, [], ◌∷◌, ◌++◌, length, take, drop, replicate, set, get_or, Option, Some, Result, Ok, Err, refl, sym, ap, ◌∙◌, subst, arith, length-append}
-use Rattle.std.specs.Prelude.{max, slice_get, slice_index_or, slice_set, OnOk, IfErr}
-use Rattle.std.proofs.lemmas.List.{append_assoc, append-nil, get_or-set_same, get_or-set_other, length-drop, set-get_or, set-set, take-take, take_all}
-use mathlib.Core.List.{IsPrefix}
+use Rattle.std.proofs.Common.{◌≡◌, ◌⊎◌, inl, inr, ℕ, zero, suc, ◌+◌, ◌-◌, ◌≤◌, ◌<◌, List, [], ◌∷◌, ◌++◌, length, take, drop, replicate, get_or, Some, Result, Ok, Err, refl, sym, ap, ◌∙◌, subst, arith, length-append}
+use Rattle.std.specs.Prelude.{max, slice_get, slice_set, OnOk, IfErr}
+use Rattle.std.proofs.lemmas.List.{append_assoc, append-nil, get_or-set_same, get_or-set_other, length-drop, set-get_or, set-set, take-take}
 use Rattle.om_format.specs.declared.queue.Entry as kept
-use Rattle.om_format.specs.Queues.{QueueRecord, queue_end}
+use Rattle.om_format.specs.Queues.{QueueRecord}
 use Rattle.om_stable.specs.Content.{Content}
 use Rattle.om_process.specs.declared.queues.Made.{Made}
 use Rattle.om_process.specs.Process.{Process, Program, Received, empty_queue, started}
@@ -18,7 +17,7 @@ use Rattle.om_process.proofs.Making.{below_along, made_at, part_has, same_entry}
 use Rattle.om_process.proofs.Numbering.{has_entry_at, length-numbered}
 use Rattle.om_process.proofs.Runs.{leads_grow, turns_grow}
 use Rattle.om_recover.specs.Rows.{HasRow}
-use Rattle.om_manager.specs.Notes.{IsDifferent, IsLatest, IsNext, NotesOutput, Offer, earlier, other, with_output}
+use Rattle.om_manager.specs.Notes.{IsDifferent, IsLatest, NotesOutput, Offer, earlier, other, with_output}
 use Rattle.om_manager.specs.Outputs.{HeldOutput}
 use Rattle.om_manager.specs.Sound.{IsManager, KeepsReleased}
 use Rattle.om_manager.specs.State as managers
@@ -124,7 +123,7 @@ taken old new o notes.Known n = inl (n.1, n.2)
 taken old new o notes.Released n = inr n.2
 taken old new o notes.Held n = inr n.2
 
-pub more_none : (m : ManagerState) (p : ℕ) → HoldsMore m p m
+more_none : (m : ManagerState) (p : ℕ) → HoldsMore m p m
 more_none m p = ([], ap (λ l. record m { outputs = l }) (sym (ap (slice_set m.outputs p) (append-nil (held_by m p)) ∙ set-get_or m.outputs p [])))
 
 more_then : (a b c : ManagerState) (p : ℕ) → p < length a.outputs → HoldsMore a p b → HoldsMore b p c → HoldsMore a p c

@@ -1,6 +1,6 @@
 -- What a prune keeps.
-use Rattle.std.proofs.Common.{◌≡◌, ◌≢◌, ◌⊎◌, inl, inr, ℕ, zero, suc, ◌+◌, ◌≤◌, ◌<◌, List, [], ◌∷◌, length, map, set, cond, Option, Some, None, Bool, true, false, Result, Ok, Err, refl, sym, ap, ◌∙◌, subst, arith, length-set}
-use Rattle.std.specs.Prelude.{All, nat_le, nat_lt, slice_get, slice_index, slice_index_or}
+use Rattle.std.proofs.Common.{◌≡◌, ◌≢◌, ◌⊎◌, inl, inr, ℕ, zero, suc, ◌+◌, ◌≤◌, ◌<◌, List, [], ◌∷◌, length, map, set, cond, Some, None, Bool, true, false, Result, Ok, Err, refl, sym, ap, ◌∙◌, subst, arith, length-set}
+use Rattle.std.specs.Prelude.{All, nat_le, nat_lt, slice_get, slice_index}
 use Rattle.std.specs.FinMap.{get}
 use Rattle.std.proofs.lemmas.Bool.Decides.{nat_tests}
 use mathlib.Core.List.{IsPrefix}
@@ -8,15 +8,13 @@ use Rattle.om_stable.specs.Content.{Content, Records, kept_by_prune}
 use Rattle.om_stable.specs.declared.error.StoreError.{StoreError}
 use Rattle.om_stable.specs.declared.error.StoreError.TheVariants as store_errors
 use Rattle.om_stable.proofs.RecordLemmas.{get-retained}
-use Rattle.om_process.specs.declared.row.Row as pending
 use Rattle.om_process.specs.Core.{CoreState}
-use Rattle.om_recover.specs.Cutting.{IsEffective, IsPruned, pruned_to}
+use Rattle.om_recover.specs.Cutting.{IsEffective}
 use Rattle.om_recover.specs.Rows.{Has, HasRow}
-use Rattle.om_recover.specs.declared.row.Row as noted
 use Rattle.om_recover.specs.declared.row.RowKind.{RowKind}
 use Rattle.om_recover.specs.declared.row.RowKind.TheVariants.{Checkpoint, Log}
 use Rattle.om_recover.proofs.CuttingLemmas.{has_after_prune, of_pruned}
-use Rattle.om_manager.specs.Sound.{IsManager, KeepsReleased}
+use Rattle.om_manager.specs.Sound.{IsManager}
 use Rattle.om_manager.specs.State as managers
 use Rattle.om_manager.specs.State.{ManagerState, held_by, released_by}
 use Rattle.om_world.specs.declared.event.Event.{Event}
@@ -26,11 +24,11 @@ use Rattle.om_world.specs.Holds.{HasRecord}
 use Rattle.om_world.specs.World.{WorldState, Past, IsEmpty, IsKnown, past_of, recovered, all_clean}
 use Rattle.om_world.specs.steps.Moves.{IsCalled, Keeps, refusal_of_store}
 use Rattle.om_world.specs.steps.Pruning.{AllPruned, ArePruned, HasPruned, WasPruned}
-use Rattle.om_world.specs.steps.Sound.{HasShape, IsBefore, IsOld, IsRunning, IsStored, IsWorld, Runs, Sound, kind_of}
+use Rattle.om_world.specs.steps.Sound.{IsBefore, IsOld, IsRunning, IsStored, IsWorld, Runs, Sound, kind_of}
 use Rattle.om_world.proofs.Gaining.{sound_clean}
 use Rattle.om_world.proofs.Keeping.{keeps_same}
 use Rattle.om_world.proofs.Kept.{remade, shape_same}
-use Rattle.om_world.proofs.Lists.{at_change, clean_before, either, inside, length-map, map_at, map_set, none_some, once, same_map, sound_at, sound_set, there}
+use Rattle.om_world.proofs.Lists.{at_change, clean_before, either, inside, length-map, map_at, map_set, once, sound_at, sound_set}
 use Rattle.om_world.proofs.Noting.{over}
 use Rattle.om_world.proofs.Raising.{GoesOn, less, sound_manager}
 use Rattle.om_world.proofs.Recording.{set_back, set_there}

@@ -1,5 +1,5 @@
 -- What a run does, by its calls.
-use Rattle.std.proofs.Common.{◌≡◌, ◌⊎◌, inl, inr, ℕ, ◌+◌, ◌-◌, ◌≤◌, ◌<◌, List, ◌++◌, length, set, Option, Some, Result, Ok, Err, refl, sym, ap, ◌∙◌, subst, arith}
+use Rattle.std.proofs.Common.{◌≡◌, inr, ℕ, ◌-◌, ◌≤◌, List, ◌++◌, length, Option, Some, Result, Ok, Err, sym, ap, ◌∙◌, subst, arith}
 use Rattle.std.specs.Prelude.{slice_get, slice_index}
 use Rattle.om_process.specs.declared.turns.Ran.{Ran}
 use Rattle.om_process.specs.Core.{CoreState, size_of}
@@ -12,13 +12,10 @@ use Rattle.om_manager.specs.Sound.{KeepsReleased}
 use Rattle.om_manager.specs.State.{held_by}
 use Rattle.om_world.specs.declared.event.Event.{Event}
 use Rattle.om_world.specs.declared.event.Answer.TheVariants as answers
-use Rattle.om_world.specs.declared.event.Refusal.TheVariants as why
-use Rattle.om_world.specs.Happened.{Changes, Happened, HasRun, HoldsMore, IsUp, RunHappened, RunStopped, made_by, new_messages}
+use Rattle.om_world.specs.Happened.{Changes, Happened, HasRun, HoldsMore, IsUp, made_by, new_messages}
 use Rattle.om_world.specs.World.{WorldState, IsKnown, all_clean}
 use Rattle.om_world.specs.steps.Moves.{GoesOn, HasRunAt, Keeps}
 use Rattle.om_world.specs.steps.Running.{AreKept, HasHandedIn, HasSent, KeepsMore, messages_past, refusal_of_output}
-use Rattle.om_world.proofs.Handing.{more_none}
-use Rattle.om_world.proofs.Keeping.{keeps_same}
 use Rattle.om_world.proofs.Lists.{once}
 use Rattle.om_world.proofs.Recording.{set_there}
 use Rattle.om_world.proofs.Sending.{behind_same, grown_at}

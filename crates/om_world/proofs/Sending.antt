@@ -2,14 +2,13 @@
 use Rattle.std.proofs.Common.{◌≡◌, ◌⊎◌, inl, inr, ℕ, zero, suc, ◌+◌, ◌-◌, ◌≤◌, ◌<◌, List, [], ◌∷◌, ◌++◌, length, drop, set, refl, sym, ap, ◌∙◌, subst, arith, length-append}
 use Rattle.std.specs.Prelude.{max, slice_index}
 use Rattle.std.proofs.lemmas.List.{get_or-set_same, get_or-set_other, length-drop}
-use Rattle.om_format.specs.Queues.{QueueRecord, queue_end}
-use Rattle.om_process.specs.Core.{CoreState, size_of}
-use Rattle.om_process.specs.Frames.{messages_to, outputs_of}
+use Rattle.om_format.specs.Queues.{QueueRecord}
+use Rattle.om_process.specs.Core.{CoreState}
+use Rattle.om_process.specs.Frames.{messages_to}
 use Rattle.om_process.specs.Kept.{made_as, numbered, queue_at}
 use Rattle.om_process.specs.Parts.{Grow}
 use Rattle.om_process.proofs.Numbering.{length-numbered}
 use Rattle.om_world.specs.Happened.{messages_behind, messages_in}
-use Rattle.om_world.specs.steps.Running.{AreKept}
 
 -- ---- counts
 abbrev pub AreCounted : CoreState → List ℕ → ℕ → Type 0

@@ -1,11 +1,12 @@
 //! What the manager and the stores need not keep.
 
-ghost use Rattle.std.specs.Prelude.{◌≡◌, ◌≢◌, ◌<◌, length, Err};
+ghost use Rattle.std.specs.Prelude.{ℕ, ◌≡◌, ◌≢◌, ◌<◌, length, Err};
 ghost use Rattle.om_interval.specs.declared.pid.TheConstants.{MAX_PROCESSES};
 ghost use Rattle.om_manager.specs.State as managers;
 ghost use Rattle.om_stable.specs.declared.error.StoreError.{StoreError};
 ghost use Rattle.om_world.specs.Happened.{Happened, ManagerPruned};
-ghost use Rattle.om_world.specs.World.{IsKnown};
+ghost use Rattle.om_recover.specs.Cutting.{IsEffective};
+ghost use Rattle.om_world.specs.World.{IsKnown, recovered};
 ghost use Rattle.om_world.specs.declared.event.Event.{Event};
 ghost use Rattle.om_world.specs.steps.Moves.{IsCalled, Keeps, answered};
 ghost use Rattle.om_world.specs.steps.Pruning.{AllPruned, HasPruned, WasPruned};
@@ -13,22 +14,26 @@ ghost use Rattle.om_world.specs.steps.Pruning.{AllPruned, HasPruned, WasPruned};
 use crate::event::{Answer, Refusal};
 use crate::world::World;
 use om_interval::Pid;
+use om_manager::Manager;
 use om_stable::{Stable, StoreError};
 use std::alloc::Global;
 
-// Removes from the store at a place what stands before a checkpoint.
+// Removes from the store at a place what stands before the effective checkpoint of its process.
 fn prune_at<S: Stable>(
     stores: &mut Vec<S>,
+    manager: &Manager,
     p: usize,
     alloc: Global,
-    checkpoint: u32,
 ) -> Result<(), StoreError>
-    requires { p < length stores.old.items }
-    ensures called { IsCalled S.content S.is_clean S.IsSound stores.old.items stores.new.items p (WasPruned checkpoint result) }
+    requires store { p < length stores.old.items }
+    requires few { p < MAX_PROCESSES }
+    requires known { p < managers.size_of manager.now }
+    ensures called { (c : ℕ) × IsEffective manager.now.rows p (recovered manager.now p) c
+        × IsCalled S.content S.is_clean S.IsSound stores.old.items stores.new.items p (WasPruned c result) }
     ensures never_present { result ≢ Err StoreError.Present }
 {
     let store = &mut stores[p];
-    store.prune(alloc, checkpoint)
+    store.prune(alloc, manager.effective(Pid::at(p)))
 }
 
 impl<S: Stable> World<S> {
@@ -53,8 +58,7 @@ impl<S: Stable> World<S> {
         requires { p < length self.old.programs }
         ensures { HasPruned self.old p result self.new }
     {
-        let checkpoint = self.manager.effective(Pid::at(p));
-        prune_at(&mut self.stores, p, alloc, checkpoint)
+        prune_at(&mut self.stores, &self.manager, p, alloc)
     }
 
     // Prunes the stores in order, up to the first that refuses.

@@ -1,5 +1,4 @@
-use Rattle.std.proofs.Common.{◌≡◌, subst, sym, Err, Ok, rules}
-use Rattle.om_process.specs.declared.turns.Ran.{Ran}
+use Rattle.std.proofs.Common.{◌≡◌, subst, sym, Err, rules}
 use Rattle.om_world.specs.declared.event.Event.{Event}
 use Rattle.om_world.specs.Happened.{Happened}
 use Rattle.om_world.specs.steps.Moves.{answered}
