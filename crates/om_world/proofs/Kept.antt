@@ -38,7 +38,7 @@ use Rattle.om_world.proofs.Lists.{none_in, once, at_change, there, inside, eithe
 
 -- a world with these parts changed
 abbrev pub remade : WorldState → List Entry → List Message → List (Option CoreState) → ManagerState → List Content → List Bool → WorldState
-remade w live frames cores manager contents clean = record { programs = w.programs; live = live; frames = frames; cores = cores; places = w.places; rounds = w.rounds; manager = manager; contents = contents; clean = clean }
+remade w live frames cores manager contents clean = record { programs = w.programs; live = live; frames = frames; cores = cores; places = w.places; rounds = w.rounds; manager = manager; contents = contents; clean = clean; origins = w.origins }
 
 -- ---- the shape
 pub shape_same : (w : WorldState) (live : List Entry) (frames : List Message) (m : ManagerState) (contents : List Content) (clean : List Bool) → HasShape w → length contents ≡ length w.contents → IsManager m → managers.size_of m ≡ managers.size_of w.manager

@@ -19,7 +19,7 @@ use Rattle.om_manager.specs.declared.answers.RecordError.{RecordError}
 use Rattle.om_manager.specs.declared.answers.RecordError.TheVariants.{Refused}
 use Rattle.om_world.specs.Happened.{IsUp, row_for, stored}
 use Rattle.om_world.specs.Holds.{HasRecord}
-use Rattle.om_world.specs.World.{WorldState, Past, past_of, history, all_clean}
+use Rattle.om_world.specs.World.{WorldState, Past, past_of, history, IsKnown, all_clean}
 use Rattle.om_world.specs.steps.Moves.{AreTold, Gained, IsCalled, IsTold, IsToldUpTo, HasCalled, HasTold, after_store}
 use Rattle.om_world.specs.steps.Sound.{HasShape, IsOld, IsPending, IsWorld, Sound, kind_of}
 use Rattle.om_world.proofs.Gaining.{sound_store, sound_clean}
@@ -189,8 +189,8 @@ after_called content clean IsSound kind w p (Ok done) xs ys cs i up n =
       shape = shape_core (over content clean w xs w.cores) p c (stored kind c) w.live w.frames w.manager (map content (set xs p k.after)) (map clean (set xs p k.after)) i.shape at same.0 (ap (λ (q : _). length q.vec) same.1)
           (length-map content (set xs p k.after) ∙ length-set xs p k.after ∙ sym (length-map content xs)) i.shape.manager refl;
       clean = λ all.
-          let before = clean_before clean xs p k.before k.after k.there k.clean all in
-          let s = i.clean before.0 in
+          let before = clean_before clean xs p k.before k.after k.there k.clean all.1 in
+          let s = i.clean (all.0, before.0) in
           let was = sound_at IsSound xs p k.before s.0 k.there in (
             sound_set IsSound xs p k.after s.0 (k.sound before.1 was),
             subst (λ l. Sound (remade w w.live w.frames (set w.cores p (Some (stored kind c))) w.manager l (map clean (set xs p k.after)))) (map_set content xs p k.after)
@@ -204,8 +204,8 @@ after_called content clean IsSound kind w p (Err why) xs ys cs i up n =
       shape = shape_same (over content clean w xs w.cores) w.live w.frames w.manager (map content (set xs p k.after)) (map clean (set xs p k.after)) i.shape
           (length-map content (set xs p k.after) ∙ length-set xs p k.after ∙ sym (length-map content xs)) i.shape.manager refl;
       clean = λ all.
-          let before = clean_before clean xs p k.before k.after k.there k.clean all in
-          let s = i.clean before.0 in
+          let before = clean_before clean xs p k.before k.after k.there k.clean all.1 in
+          let s = i.clean (all.0, before.0) in
           let was = sound_at IsSound xs p k.before s.0 k.there in (
             sound_set IsSound xs p k.after s.0 (k.sound before.1 was),
             subst (λ l. Sound (remade w w.live w.frames w.cores w.manager l (map clean (set xs p k.after)))) (same_map content xs p k.before k.after k.there (same_content kind c why (content k.before) (content k.after) (k.did before.1 was)))
@@ -229,12 +229,12 @@ has_called content clean IsSound kind w p answer xs ys cs i up n = record {
   free = λ all log present. let d = done all in taken (d.2) log present (d.3 (length n.0.log));
 }
   where
-    done : all_clean (map clean ys) ≡ true → (slice_get (map content xs) p ≡ Some (content n.3.before)) × (map content ys ≡ set (map content xs) p (content n.3.after)) × Gained kind n.0 answer (content n.3.before) (content n.3.after)
+    done : IsKnown (over content clean w ys cs) → (slice_get (map content xs) p ≡ Some (content n.3.before)) × (map content ys ≡ set (map content xs) p (content n.3.after)) × Gained kind n.0 answer (content n.3.before) (content n.3.after)
         × ((k : ℕ) → IsTaken (content n.3.before).receipts (first_logged n.0) k → ⊥)
     done all =
         let k = n.3 in let at = n.1 in
-        let before = clean_before clean xs p k.before k.after k.there k.clean (subst (λ zs. all_clean (map clean zs) ≡ true) k.stores all) in
-        let s = i.clean before.0 in
+        let before = clean_before clean xs p k.before k.after k.there k.clean (subst (λ zs. all_clean (map clean zs) ≡ true) k.stores all.1) in
+        let s = i.clean (all.0, before.0) in
         let was = sound_at IsSound xs p k.before s.0 k.there in
         let here = map_at content xs p k.before k.there in (
           here,

@@ -1,6 +1,6 @@
 -- What an event that stores does, by its answer.
-use Rattle.std.proofs.Common.{◌≡◌, inl, inr, ℕ, zero, suc, List, [], ◌∷◌, take, drop, set, Some, true, Result, Ok, Err, refl, sym, ap, ◌∙◌, subst}
-use Rattle.std.specs.Prelude.{slice_get}
+use Rattle.std.proofs.Common.{◌≡◌, inl, inr, ℕ, zero, suc, List, [], ◌∷◌, take, drop, set, Some, Result, Ok, Err, refl, sym, ap, ◌∙◌, subst}
+use Rattle.std.specs.Prelude.{All, slice_get}
 use Rattle.om_stable.specs.Content.{Content}
 use Rattle.om_stable.specs.declared.error.StoreError.{StoreError}
 use Rattle.om_stable.specs.declared.error.StoreError.TheVariants as store_errors
@@ -12,14 +12,14 @@ use Rattle.om_world.specs.declared.event.Answer.TheVariants as answers
 use Rattle.om_world.specs.declared.event.Refusal.TheVariants as why
 use Rattle.om_world.specs.Happened as happened
 use Rattle.om_world.specs.Happened.{Changes, Happened, HasCheckpoint, HasNoted, HasStored, IsSame, IsUp, Stays, stored}
-use Rattle.om_world.specs.World.{WorldState, all_clean}
+use Rattle.om_world.specs.World.{WorldState, IsEmpty, IsKnown, all_clean}
 use Rattle.om_world.specs.steps.Moves.{AreTold, HasCalled, HasTold, IsToldUpTo, Gained, event_of, refusal_of_record, refusal_of_store}
 use Rattle.om_world.proofs.Giving.{given_at}
 use Rattle.om_world.proofs.Lists.{inside, once}
 use Rattle.om_world.proofs.Telling.{told_notes}
 
 -- ---- lists
-set_back : {A : Type 0} (xs : List A) (p : ℕ) (x : A) → slice_get xs p ≡ Some x → set xs p x ≡ xs
+pub set_back : {A : Type 0} (xs : List A) (p : ℕ) (x : A) → slice_get xs p ≡ Some x → set xs p x ≡ xs
 set_back [] p x at = refl
 set_back (y ∷ xs) zero x at = ap (λ z. z ∷ xs) (sym (once y x at))
 set_back (y ∷ xs) (suc p) x at = ap (λ l. y ∷ l) (set_back xs p x at)
@@ -29,7 +29,7 @@ set_twice [] p x y = refl
 set_twice (z ∷ xs) zero x y = refl
 set_twice (z ∷ xs) (suc p) x y = ap (λ l. z ∷ l) (set_twice xs p x y)
 
-set_there : {A : Type 0} (xs : List A) (p : ℕ) (x y : A) → slice_get xs p ≡ Some x → slice_get (set xs p y) p ≡ Some y
+pub set_there : {A : Type 0} (xs : List A) (p : ℕ) (x y : A) → slice_get xs p ≡ Some x → slice_get (set xs p y) p ≡ Some y
 set_there [] p x y at = absurd (none p at)
   where
     none : (p : ℕ) → slice_get [] p ≡ Some x → ⊥
@@ -42,13 +42,13 @@ same_content : (kind : RowKind) (c : CoreState) (error : StoreError) (a b : Cont
 same_content Log c error a b g = g.0
 same_content Checkpoint c error a b g = g.0
 
-is_same : (kind : RowKind) (w v : WorldState) (p : ℕ) (fault : StoreError) → HasCalled kind w p (Err fault) v → all_clean v.clean ≡ true → IsSame w v
+is_same : (kind : RowKind) (w v : WorldState) (p : ℕ) (fault : StoreError) → HasCalled kind w p (Err fault) v → IsKnown v → IsSame w v
 is_same kind w v p fault h all =
     let d = h.did all in
     let contents : v.contents ≡ w.contents = d.3 ∙ ap (set w.contents p) (same_content kind h.core fault d.0 d.1 d.4) ∙ set_back w.contents p d.0 d.2 in
     h.others ∙ ap (λ cs. record w { cores = cs; contents = v.contents; clean = v.clean }) (given_at w.cores p h.core h.there) ∙ ap (λ l. record w { contents = l; clean = v.clean }) contents
 
-pub store_refused : (kind : RowKind) (w v : WorldState) (p : ℕ) (fault : StoreError) → IsUp w p → HasCalled kind w p (Err fault) v → all_clean v.clean ≡ true → Happened w (event_of kind p) (answers.Refused (refusal_of_store fault)) v
+pub store_refused : (kind : RowKind) (w v : WorldState) (p : ℕ) (fault : StoreError) → IsUp w p → HasCalled kind w p (Err fault) v → IsKnown v → Happened w (event_of kind p) (answers.Refused (refusal_of_store fault)) v
 store_refused Log w v p store_errors.Present up h all = absurd (h.free all refl refl)
 store_refused Log w v p store_errors.Fault up h all = (up, is_same Log w v p store_errors.Fault h all)
 store_refused Log w v p store_errors.Memory up h all = (up, inl (is_same Log w v p store_errors.Memory h all))
@@ -62,10 +62,10 @@ store_refused Checkpoint w v p store_errors.Memory up h all = (up, inl (is_same 
 clean_mid : (mid v : WorldState) (p count : ℕ) (end : Result (Unit {0}) RecordError) → HasTold mid p count end v → v.clean ≡ mid.clean
 clean_mid mid v p count end t = ap (λ (x : WorldState). x.clean) t.others
 
-pub clean_before_event : (kind : RowKind) (w mid v : WorldState) (p count : ℕ) (a : Result (Unit {0}) StoreError) (end : Result (Unit {0}) RecordError) → HasCalled kind w p a mid → HasTold mid p count end v → all_clean v.clean ≡ true → all_clean w.clean ≡ true
-clean_before_event kind w mid v p count a end h t all = h.was_clean (ap all_clean (sym (clean_mid mid v p count end t)) ∙ all)
+known_mid : (mid v : WorldState) (p count : ℕ) (end : Result (Unit {0}) RecordError) → HasTold mid p count end v → IsKnown v → IsKnown mid
+known_mid mid v p count end t all = (subst (All IsEmpty) (ap (λ (x : WorldState). x.origins) t.others) all.0, ap all_clean (sym (clean_mid mid v p count end t)) ∙ all.1)
 
-has_stored : (kind : RowKind) (w mid v : WorldState) (p count : ℕ) (end : Result (Unit {0}) RecordError) → HasCalled kind w p (Ok tt) mid → HasTold mid p count end v → (h : HasCalled kind w p (Ok tt) mid) → all_clean mid.clean ≡ true → HasStored kind w p h.core v
+has_stored : (kind : RowKind) (w mid v : WorldState) (p count : ℕ) (end : Result (Unit {0}) RecordError) → HasCalled kind w p (Ok tt) mid → HasTold mid p count end v → (h : HasCalled kind w p (Ok tt) mid) → IsKnown mid → HasStored kind w p h.core v
 has_stored kind w mid v p count end _ t h all = let d = h.did all in (d.0, d.1, d.2, d.4, ap (λ (x : WorldState). x.contents) t.others ∙ d.3)
 
 has_noted : (kind : RowKind) (w mid v : WorldState) (p count : ℕ) (end : Result (Unit {0}) RecordError) → IsUp w p → (h : HasCalled kind w p (Ok tt) mid) → HasTold mid p count end v
@@ -86,6 +86,7 @@ has_noted kind w mid v p count end up h t =
             live = ap (λ (x : WorldState). x.live) t.others ∙ ap (λ (x : WorldState). x.live) h.others;
             places = ap (λ (x : WorldState). x.places) t.others ∙ ap (λ (x : WorldState). x.places) h.others;
             rounds = ap (λ (x : WorldState). x.rounds) t.others ∙ ap (λ (x : WorldState). x.rounds) h.others;
+            origins = ap (λ (x : WorldState). x.origins) t.others ∙ ap (λ (x : WorldState). x.origins) h.others;
           };
         };
         within = told.within;
@@ -98,9 +99,9 @@ has_noted kind w mid v p count end up h t =
     once_some : (a b : CoreState) → Some a ≡ Some b → a ≡ b
     once_some a b e = cc
 
-pub all_noted : (kind : RowKind) (w mid v : WorldState) (p count : ℕ) → IsUp w p → HasCalled kind w p (Ok tt) mid → HasTold mid p count (Ok tt) v → all_clean v.clean ≡ true → Happened w (event_of kind p) (answers.Noted count) v
+pub all_noted : (kind : RowKind) (w mid v : WorldState) (p count : ℕ) → IsUp w p → HasCalled kind w p (Ok tt) mid → HasTold mid p count (Ok tt) v → IsKnown v → Happened w (event_of kind p) (answers.Noted count) v
 all_noted kind w mid v p count up h t all =
-    let clean = ap all_clean (sym (clean_mid mid v p count (Ok tt) t)) ∙ all in
+    let clean = known_mid mid v p count (Ok tt) t all in
     let s = has_stored kind w mid v p count (Ok tt) h t h clean in
     let n = has_noted kind w mid v p count (Ok tt) up h t in
     by kind (h.core, s, n.0, n.1.all)
@@ -109,9 +110,9 @@ all_noted kind w mid v p count up h t all =
     by Log x = x
     by Checkpoint x = x
 
-pub some_noted : (kind : RowKind) (w mid v : WorldState) (p count : ℕ) (fault : RecordError) → IsUp w p → HasCalled kind w p (Ok tt) mid → HasTold mid p count (Err fault) v → all_clean v.clean ≡ true → Happened w (event_of kind p) (answers.Refused (refusal_of_record fault)) v
+pub some_noted : (kind : RowKind) (w mid v : WorldState) (p count : ℕ) (fault : RecordError) → IsUp w p → HasCalled kind w p (Ok tt) mid → HasTold mid p count (Err fault) v → IsKnown v → Happened w (event_of kind p) (answers.Refused (refusal_of_record fault)) v
 some_noted kind w mid v p count fault up h t all =
-    let clean = ap all_clean (sym (clean_mid mid v p count (Err fault) t)) ∙ all in
+    let clean = known_mid mid v p count (Err fault) t all in
     let s = has_stored kind w mid v p count (Err fault) h t h clean in
     let n = has_noted kind w mid v p count (Err fault) up h t in
     let row = n.1.refused in

@@ -14,13 +14,13 @@ use Rattle.om_world.specs.declared.entry.Entry.{Entry}
 use Rattle.om_world.specs.Live.{program_at, receipt_of, received, MayFollow, LegalAfter, Legal}
 use Rattle.om_world.proofs.Legal.{append_none, append_apart, received_more}
 
-split_at : (x : ℕ) (h : List Received) → x < length h → (r : Received) × (rest : List Received) × (h ≡ take x h ++ r ∷ rest)
+pub split_at : (x : ℕ) (h : List Received) → x < length h → (r : Received) × (rest : List Received) × (h ≡ take x h ++ r ∷ rest)
 split_at x [] lt = absurd (omega arith)
 split_at zero (r ∷ h) lt = (r, h, refl)
 split_at (suc x) (r ∷ h) lt = let s = split_at x h (omega arith) in (s.0, s.1, ap (λ l. r ∷ l) s.2)
 
 -- what is made along fewer receipts stands in each state along more
-made_stays : (program : Program) (own n place number : ℕ) (g rest : List Received) (r : Received) (e : kept.Entry) (s : Process) → Makes program own n place number e g → Reaches program own n (g ++ r ∷ rest) s → HasEntry s.queues place number e
+pub made_stays : (program : Program) (own n place number : ℕ) (g rest : List Received) (r : Received) (e : kept.Entry) (s : Process) → Makes program own n place number e g → Reaches program own n (g ++ r ∷ rest) s → HasEntry s.queues place number e
 made_stays program own n place number g rest r e s m a =
     let w = earlier own n (started program n) s g rest r a.0 a.1 in
     let u = m.1.1 in let v = w.2 in

@@ -39,6 +39,7 @@ pub record Stays (old new : WorldState) : Type 0 where
   pub live : new.live ≡ old.live
   pub places : new.places ≡ old.places
   pub rounds : new.rounds ≡ old.rounds
+  pub origins : new.origins ≡ old.origins
 
 -- all stays but what is known of the stores
 abbrev pub IsSame : WorldState → WorldState → Type 0

@@ -3,4 +3,5 @@ pub mod World
 pub mod Holds
 pub mod Happened
 pub mod Played
+pub mod Started
 pub mod steps

@@ -1,5 +1,6 @@
 -- What is seen of a world.
-use Rattle.std.specs.Prelude.{ℕ, List, [], ◌∷◌, ◌&&◌, slice_index, Bool, true, Option}
+use Rattle.std.specs.Prelude.{◌≡◌, ℕ, List, [], ◌∷◌, ◌&&◌, All, slice_index, Bool, true, Option}
+use Rattle.std.specs.FinMap.{empty}
 use Rattle.om_format.specs.declared.message.Message.{Message}
 use Rattle.om_format.specs.declared.queue.Entry as kept
 use Rattle.om_stable.specs.Content.{Content}
@@ -22,6 +23,7 @@ pub record WorldState : Type 0 where
   pub manager : ManagerState
   pub contents : List Content  -- by process, what its store holds
   pub clean : List Bool  -- by process, whether that is known
+  pub origins : List Content  -- by process, what its store held before the start
 
 -- an image as a program
 abbrev pub program_of : Image → Program
@@ -31,6 +33,14 @@ program_of image = record { image = image.bytes.items; size = image.size; ext = 
 abbrev pub all_clean : List Bool → Bool
 all_clean [] = true
 all_clean (b ∷ bs) = b && all_clean bs
+
+-- a store holds nothing
+abbrev pub IsEmpty : Content → Type 0
+IsEmpty held = held ≡ record { receipts = empty; checkpoints = empty }
+
+-- the stores held nothing before the start, and what each holds now is known
+abbrev pub IsKnown : WorldState → Type 0
+IsKnown w = All IsEmpty w.origins × (all_clean w.clean ≡ true)
 
 -- what the claims on processes speak of
 pub record Past : Type 0 where

@@ -1,3 +1,6 @@
 -- What only the crate's own parts rest on: no public clause cites these.
 pub mod Sound
 pub mod Moves
+pub mod Starting
+pub mod Running
+pub mod Pruning

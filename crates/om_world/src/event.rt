@@ -1,6 +1,6 @@
 ghost use Rattle.std.specs.Prelude.{◌≡◌};
 
-use om_manager::RecordError;
+use om_manager::{OutputError, RecordError};
 use om_process::{Accept, Status};
 use om_recover::NoteError;
 use om_stable::StoreError;
@@ -101,6 +101,19 @@ impl From<RecordError> for Refusal {
     fn from(fault: RecordError) -> Refusal {
         match fault {
             RecordError::Refused(NoteError::Memory) => Refusal::Memory,
+            _ => Refusal::Damaged,
+        }
+    }
+}
+
+impl From<OutputError> for Refusal {
+    ghost use Rattle.om_world.specs.steps.Running.{refusal_of_output};
+
+    ghost from_gives = { λ fault why. why ≡ refusal_of_output fault };
+
+    fn from(fault: OutputError) -> Refusal {
+        match fault {
+            OutputError::Memory => Refusal::Memory,
             _ => Refusal::Damaged,
         }
     }

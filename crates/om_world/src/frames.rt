@@ -1,11 +1,12 @@
 //! Messages that become frames.
 
-ghost use Rattle.std.specs.Prelude.{ℕ, ◌≡◌, ◌≤◌, ◌<◌, ◌++◌, drop, length, slice_get, slice_index, Some, IfOk, OnOk};
+ghost use Rattle.std.specs.Prelude.{ℕ, ◌≡◌, ◌≤◌, ◌<◌, ◌++◌, drop, length, slice_get, slice_index, Some, IfOk, OnErr, OnOk};
 ghost use Rattle.om_world.specs.declared.event.Event.{Event};
-ghost use Rattle.om_world.specs.steps.Moves.{HasCore, answered};
+ghost use Rattle.om_world.specs.steps.Moves.{HasCore, Keeps, answered};
+ghost use Rattle.om_world.specs.steps.Running.{HasSent, KeepsMore, messages_past};
 ghost use Rattle.om_process.specs.Core.{CoreState, size_of};
 ghost use Rattle.om_process.specs.Frames.{messages_to};
-ghost use Rattle.om_world.specs.Happened.{Happened, all_messages, messages_behind, messages_in};
+ghost use Rattle.om_world.specs.Happened.{Happened, IsUp, all_messages, messages_behind, messages_in};
 
 use crate::event::{Answer, Refusal};
 use crate::world::World;
@@ -68,12 +69,46 @@ fn frames_at(
     }
 }
 
+// Of the messages that the process at a place keeps, those behind the first few to each process, on their way.
+fn new_frames_at(
+    cores: &Vec<Option<ProcCore>>,
+    p: usize,
+    alloc: Global,
+    few: &[usize; MAX_PROCESSES],
+) -> Result<Vec<Message>, AllocError>
+    requires { KeepsMore cores.now.items p few.now }
+    ensures { IfOk result (λ frames. (c : CoreState) × (slice_get cores.now.items p ≡ Some (Some c))
+        × (frames.items ≡ messages_past c few.now)) }
+{
+    match &cores[p] {
+        Some(core) => frames_behind(alloc, core, few),
+        None => unreachable!(),
+    }
+}
+
 impl<S: Stable> World<S> {
+    // Makes the messages of a process behind the first few to each process new frames, and says how many they are.
+    pub(crate) fn send(
+        &mut self,
+        alloc: Global,
+        p: usize,
+        few: &[usize; MAX_PROCESSES],
+    ) -> Result<usize, AllocError>
+        requires up { IsUp self.old p }
+        requires more { KeepsMore self.old.cores p few.now }
+        ensures sent { IfOk result (λ sent. HasSent self.old p few.now sent self.new) }
+        ensures refused { OnErr result (self.new ≡ self.old) }
+    {
+        let mut frames = new_frames_at(&self.cores, p, alloc, few)?;
+        let sent = frames.len();
+        self.frames.append(&mut frames)?;
+        Ok(sent)
+    }
+
     /// Makes each message that a process keeps a new frame.
     pub(crate) fn resend(&mut self, alloc: Global, p: usize) -> Result<Answer, Refusal>
         ensures happened { Happened self.old (Event.Resend p) (answered result) self.new }
-        ensures manager { self.new.manager ≡ self.old.manager }
-        ensures clean { self.new.clean ≡ self.old.clean }
+        ensures keeps { Keeps self.old self.new }
     {
         self.is_up(p)?;
         let mut frames = frames_at(&self.cores, p, alloc)?;

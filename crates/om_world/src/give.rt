@@ -4,7 +4,7 @@ ghost use Rattle.std.specs.Prelude.{◌≡◌, IfOk};
 ghost use Rattle.om_world.specs.Happened.{Happened};
 ghost use Rattle.om_world.specs.World.{entry_of};
 ghost use Rattle.om_world.specs.declared.event.Event.{Event};
-ghost use Rattle.om_world.specs.steps.Moves.{HasCore, IsOffered, answered};
+ghost use Rattle.om_world.specs.steps.Moves.{HasCore, IsOffered, Keeps, answered};
 
 use crate::entry::Entry;
 use crate::event::{Answer, Refusal};
@@ -42,7 +42,7 @@ impl<S: Stable> World<S> {
     /// Offers a frame to a process.
     pub(crate) fn give(&mut self, alloc: Global, p: usize, f: usize) -> Result<Answer, Refusal>
         ensures happened { Happened self.old (Event.Give p f) (answered result) self.new }
-        ensures manager { self.new.manager ≡ self.old.manager }
+        ensures keeps { Keeps self.old self.new }
     {
         self.is_up(p)?;
         if f >= self.frames.len() {

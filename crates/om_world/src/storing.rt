@@ -3,9 +3,9 @@
 ghost use Rattle.std.specs.Prelude.{◌≡◌, ◌<◌, drop, length, slice_get, slice_set, true, Some};
 ghost use Rattle.om_interval.specs.declared.pid.TheConstants.{MAX_PROCESSES};
 ghost use Rattle.om_world.specs.Happened.{Happened, IsUp};
-ghost use Rattle.om_world.specs.World.{all_clean};
+ghost use Rattle.om_world.specs.World.{IsKnown};
 ghost use Rattle.om_process.specs.Core.{CoreState, with_pending};
-ghost use Rattle.om_world.specs.steps.Moves.{Gained, HasCalled, HasCore, HasTold, IsCalled, IsTold, IsToldUpTo, after_store, answered, event_of};
+ghost use Rattle.om_world.specs.steps.Moves.{Gained, HasCalled, HasCore, HasTold, IsCalled, IsTold, IsToldUpTo, Keeps, after_store, answered, event_of};
 
 use crate::event::{Answer, Refusal};
 use crate::world::World;
@@ -124,8 +124,8 @@ impl<S: Stable> World<S> {
         p: usize,
         kind: RowKind,
     ) -> Result<Answer, Refusal>
-        ensures happened { all_clean self.new.clean ≡ true → Happened self.old (event_of kind p) (answered result) self.new }
-        ensures clean { all_clean self.new.clean ≡ true → all_clean self.old.clean ≡ true }
+        ensures happened { IsKnown self.new → Happened self.old (event_of kind p) (answered result) self.new }
+        ensures keeps { Keeps self.old self.new }
     {
         self.is_up(p)?;
         self.store(alloc, p, kind)?;

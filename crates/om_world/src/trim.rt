@@ -4,7 +4,7 @@ ghost use Rattle.std.specs.Prelude.{◌≡◌, ◌++◌, ◌∷◌, [], length, 
 ghost use Rattle.om_process.specs.Core.{CoreState, size_of};
 ghost use Rattle.om_world.specs.Happened.{Happened};
 ghost use Rattle.om_world.specs.declared.event.Event.{Event};
-ghost use Rattle.om_world.specs.steps.Moves.{answered, trimmed_core};
+ghost use Rattle.om_world.specs.steps.Moves.{Keeps, answered, trimmed_core};
 
 use crate::event::{Answer, Refusal};
 use crate::world::World;
@@ -28,8 +28,7 @@ impl<S: Stable> World<S> {
     /// Drops what the manager says that a process need not keep.
     pub(crate) fn trim(&mut self, p: usize) -> Result<Answer, Refusal>
         ensures happened { Happened self.old (Event.Trim p) (answered result) self.new }
-        ensures manager { self.new.manager ≡ self.old.manager }
-        ensures clean { self.new.clean ≡ self.old.clean }
+        ensures keeps { Keeps self.old self.new }
     {
         self.is_up(p)?;
         let bounds = self.manager.bounds(Pid::at(p));

@@ -1,16 +1,21 @@
 //! The world.
 
-ghost use Rattle.std.specs.Prelude.{◌≡◌, ◌<◌, ◌≤◌, length, map, slice_get, IfOk, IfErr, Some};
+ghost use Rattle.std.specs.Prelude.{◌≡◌, ◌<◌, ◌≤◌, length, map, slice_get, IfOk, IfErr, IfNone, IfSome, Some};
+ghost use Rattle.om_process.specs.Core.{CoreState};
 ghost use Rattle.om_world.specs.Happened.{IsUp, NotRunning};
+ghost use Rattle.om_world.specs.Holds.{Holds};
+ghost use Rattle.om_world.specs.World.{IsKnown};
 
 use crate::entry::Entry;
 use crate::event::Refusal;
 use crate::place::Place;
 use om_format::Message;
+use om_interval::Pid;
 use om_manager::Manager;
 use om_process::{Image, ProcCore};
 use om_stable::Stable;
 use std::marker::Model;
+use std::snapshot::Snapshot;
 
 /// The processes of a cluster with their stores and their manager, what was received, and the frames that were made.
 #[derive(Drop)]
@@ -24,6 +29,8 @@ pub struct World<S: Stable> {
     pub(crate) rounds: Vec<u32>,
     pub(crate) stores: Vec<S>,
     pub(crate) manager: Manager,
+    // What the stores were before the start.
+    pub(crate) origins: Snapshot<Vec<S>>,
 }
 
 impl<S: Stable> Model for World<S> {
@@ -48,6 +55,7 @@ impl<S: Stable> Model for World<S> {
       manager = w.manager;
       contents = map S.content w.stores.items;
       clean = map S.is_clean w.stores.items;
+      origins = map S.content w.origins.value.items;
     } };
 
     ghost invariant = { λ w. IsWorld S.IsSound w.stores.items (record {
@@ -60,6 +68,7 @@ impl<S: Stable> Model for World<S> {
       manager = w.manager;
       contents = map S.content w.stores.items;
       clean = map S.is_clean w.stores.items;
+      origins = map S.content w.origins.value.items;
     }) };
 }
 
@@ -77,9 +86,27 @@ impl<S: Stable> World<S> {
     {
         &self.manager
     }
+
+    /// The core of a process: none where the process is down, and where there is no such process.
+    pub fn core(&self, pid: Pid) -> Option<&ProcCore>
+        ensures some { IfSome result (λ core. slice_get self.now.cores pid ≡ Some (Some core.now)) }
+        ensures none { IfNone result ((core : CoreState) → slice_get self.now.cores pid ≡ Some (Some core) → ⊥) }
+    {
+        match self.cores.get(pid.index()) {
+            Some(Some(core)) => Some(core),
+            _ => None,
+        }
+    }
 }
 
 impl<S: Stable> World<S> {
+    // What holds of a world of which all is known.
+    pub(crate) fn told(&self)
+        ensures { IsKnown self.now → Holds self.now }
+    {
+        let _ = &self.live;
+    }
+
     // Whether the process is there and up.
     pub(crate) fn is_up(&self, p: usize) -> Result<(), Refusal>
         ensures up { IfOk result (λ _. IsUp self.now p) }

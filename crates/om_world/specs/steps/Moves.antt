@@ -18,7 +18,7 @@ use Rattle.om_manager.specs.State.{ManagerState}
 use Rattle.om_recover.specs.declared.note.NoteError.TheVariants as refusals
 use Rattle.om_manager.specs.declared.answers.RecordError.{RecordError}
 use Rattle.om_manager.specs.declared.answers.RecordError.TheVariants.{Refused}
-use Rattle.om_world.specs.World.{WorldState, all_clean}
+use Rattle.om_world.specs.World.{WorldState, IsKnown, all_clean}
 use Rattle.om_format.specs.declared.message.Message.{Message}
 use Rattle.om_process.specs.declared.accept.Accept.{Accept}
 use Rattle.om_process.specs.declared.accept.Accept.TheVariants as accepts
@@ -119,10 +119,10 @@ pub record HasCalled (kind : RowKind) (old : WorldState) (p : ℕ) (answer : Res
   pub core : CoreState
   pub there : slice_get old.cores p ≡ Some (Some core)
   pub others : new ≡ record old { cores = slice_set old.cores p (Some (after_store kind core answer)); contents = new.contents; clean = new.clean }
-  pub did : all_clean new.clean ≡ true → (before : Content) × (after : Content) × (slice_get old.contents p ≡ Some before)
+  pub did : IsKnown new → (before : Content) × (after : Content) × (slice_get old.contents p ≡ Some before)
       × (new.contents ≡ slice_set old.contents p after) × Gained kind core answer before after
   pub was_clean : all_clean new.clean ≡ true → all_clean old.clean ≡ true
-  pub free : all_clean new.clean ≡ true → kind ≡ Log → answer ≡ Err Present → ⊥
+  pub free : IsKnown new → kind ≡ Log → answer ≡ Err Present → ⊥
 
 -- the pending rows of a process were offered up to the first that was refused, which was for want of memory
 pub record HasTold (old : WorldState) (p count : ℕ) (end : Result (Unit {0}) RecordError) (new : WorldState) : Type 0 where
@@ -130,12 +130,18 @@ pub record HasTold (old : WorldState) (p count : ℕ) (end : Result (Unit {0}) R
   pub there : slice_get old.cores p ≡ Some (Some core)
   pub told : IsToldUpTo old.manager core.round p core.pending count end new.manager
   pub others : new ≡ record old { cores = slice_set old.cores p (Some (with_pending core (drop count core.pending))); manager = new.manager }
-  pub memory : all_clean old.clean ≡ true → IfErr end (λ fault. fault ≡ Refused refusals.Memory)
+  pub memory : IsKnown old → IfErr end (λ fault. fault ≡ Refused refusals.Memory)
 
 -- the event that stores what is kept of a kind
 abbrev pub event_of : RowKind → ℕ → Event
 event_of Log p = Event.Flush p
 event_of Checkpoint p = Event.Checkpoint p
+
+-- what each event leaves: what was released still is; and where what the stores hold is known, it was
+pub record Keeps (old new : WorldState) : Type 0 where
+  pub released : KeepsReleased old.manager new.manager
+  pub clean : all_clean new.clean ≡ true → all_clean old.clean ≡ true
+  pub origins : new.origins ≡ old.origins
 
 -- what an event that a store or the manager refused is answered
 abbrev pub refusal_of_store : StoreError → Refusal

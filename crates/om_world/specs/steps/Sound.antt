@@ -1,5 +1,5 @@
 -- What is kept of a world by each call that it makes.
-use Rattle.std.specs.Prelude.{◌≡◌, ◌⊎◌, ℕ, ◌<◌, ◌≤◌, List, [], ◌∷◌, ◌++◌, length, take, slice_get, slice_index, true, false, Some, None, if◌then◌else◌}
+use Rattle.std.specs.Prelude.{◌≡◌, ◌⊎◌, ℕ, ◌<◌, ◌≤◌, List, [], ◌∷◌, ◌++◌, length, take, slice_get, slice_index, false, Some, None, if◌then◌else◌}
 use Rattle.std.specs.FinMap.{get}
 use Rattle.om_interval.specs.declared.pid.TheConstants.{MAX_PROCESSES}
 use Rattle.om_interval.specs.Starts.{IsOrphan, is_named, newest_of}
@@ -28,7 +28,7 @@ use Rattle.om_manager.specs.State.{ManagerState, held_by, released_by}
 use Rattle.om_manager.specs.declared.presence.Presence.TheVariants.{Away, Joined}
 use Rattle.om_world.specs.declared.place.Place.{Place}
 use Rattle.om_world.specs.Live.{program_at, Legal}
-use Rattle.om_world.specs.World.{WorldState, Past, past_of, history, recovered, output_entry, all_clean}
+use Rattle.om_world.specs.World.{WorldState, Past, past_of, history, recovered, output_entry, IsKnown}
 use Rattle.om_world.specs.Holds.{HasRecord}
 
 -- the sender made the message in that interval, along what it had then received
@@ -136,7 +136,7 @@ pub record HasShape (w : WorldState) : Type 0 where
   pub manager : IsManager w.manager
   pub size : managers.size_of w.manager ≡ length w.programs
 
--- what holds where they are
+-- what holds where they are, and held nothing before the start
 pub record Sound (w : WorldState) : Type 0 where
   pub legal : Legal w.programs w.live
   pub frames : (i : ℕ) (m : Message) → slice_get w.frames i ≡ Some m → IsFrame (past_of w) m
@@ -161,4 +161,4 @@ all_sound IsSound (s ∷ ss) = IsSound s × all_sound IsSound ss
 -- what a world keeps, over its stores
 pub record IsWorld {S : Type 0} (IsSound : S → Type 0) (stores : List S) (w : WorldState) : Type 0 where
   pub shape : HasShape w
-  pub clean : all_clean w.clean ≡ true → all_sound IsSound stores × Sound w
+  pub clean : IsKnown w → all_sound IsSound stores × Sound w

@@ -1,7 +1,8 @@
 use Rattle.std.proofs.Common.{◌≡◌, subst, sym, Err, rules}
 use Rattle.om_world.specs.Happened.{Happened}
 use Rattle.om_world.specs.steps.Moves.{HasCalled, HasTold, event_of, refusal_of_record, refusal_of_store, answered}
-use Rattle.om_world.proofs.Recording.{all_noted, clean_before_event, some_noted, store_refused}
+use Rattle.om_world.proofs.Keeping.{keeps_called, keeps_recorded}
+use Rattle.om_world.proofs.Recording.{all_noted, some_noted, store_refused}
 use Rattle.om_world.proofs.world.World.record.Goals as goal
 
 pub returns-in_err-store : goal.returns-in_err-store
@@ -10,7 +11,7 @@ returns-in_err-store g c =
     let is : c.from_residual-in_err-store.result ≡ Err (refusal_of_store c.in_err-store.field-0.0) = search rules in
     record {
       happened = λ all. subst (λ r. Happened c.args.self.now (event_of c.args.kind c.args.p) (answered r) c.store.new.self) (sym is) (store_refused c.args.kind c.args.self.now c.store.new.self c.args.p c.in_err-store.field-0.0 c.in_ok-is_up.ensures.up h all);
-      clean = h.was_clean;
+      keeps = keeps_called c.args.kind c.args.self.now c.store.new.self c.args.p _ c.store.ensures;
     }
 
 pub returns-in_err-end-clause-happened : goal.returns-in_err-end-clause-happened
@@ -21,8 +22,8 @@ returns-in_err-end-clause-happened g c = λ all.
     let is : c.from_residual-in_err-end.result ≡ Err (refusal_of_record c.in_err-end.field-0.0) = search rules in
     subst (λ r. Happened w (event_of c.args.kind c.args.p) (answered r) v) (sym is) (some_noted c.args.kind w mid v c.args.p c.note-count.result.0 c.in_err-end.field-0.0 c.in_ok-is_up.ensures.up h t all)
 
-pub returns-in_err-end-clause-clean : goal.returns-in_err-end-clause-clean
-returns-in_err-end-clause-clean g c = clean_before_event c.args.kind c.args.self.now c.store.new.self c.note-count.new.self c.args.p c.note-count.result.0 c.store.result c.note-count.result.1 c.store.ensures c.note-count.ensures
+pub returns-in_err-end-clause-keeps : goal.returns-in_err-end-clause-keeps
+returns-in_err-end-clause-keeps g c = keeps_recorded c.args.kind c.args.self.now c.store.new.self c.note-count.new.self c.args.p c.note-count.result.0 c.store.result c.note-count.result.1 c.store.ensures c.note-count.ensures
 
 pub returns-clause-happened : goal.returns-clause-happened
 returns-clause-happened g c = λ all.
@@ -31,5 +32,5 @@ returns-clause-happened g c = λ all.
     let t = subst (λ a. HasTold mid c.args.p c.note-count.result.0 a v) c.in_ok-end.was c.note-count.ensures in
     all_noted c.args.kind w mid v c.args.p c.note-count.result.0 c.in_ok-is_up.ensures.up h t all
 
-pub returns-clause-clean : goal.returns-clause-clean
-returns-clause-clean g c = clean_before_event c.args.kind c.args.self.now c.store.new.self c.note-count.new.self c.args.p c.note-count.result.0 c.store.result c.note-count.result.1 c.store.ensures c.note-count.ensures
+pub returns-clause-keeps : goal.returns-clause-keeps
+returns-clause-keeps g c = keeps_recorded c.args.kind c.args.self.now c.store.new.self c.note-count.new.self c.args.p c.note-count.result.0 c.store.result c.note-count.result.1 c.store.ensures c.note-count.ensures

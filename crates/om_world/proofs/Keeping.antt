@@ -1,0 +1,57 @@
+-- What each event leaves.
+use Rattle.std.proofs.Common.{◌≡◌, ℕ, List, [], ◌∷◌, ◌++◌, Result, refl, sym, ap, ◌∙◌, subst, arith}
+use mathlib.Core.List.{IsPrefix}
+use Rattle.om_stable.specs.declared.error.StoreError.{StoreError}
+use Rattle.om_process.specs.declared.row.Row.{Row}
+use Rattle.om_recover.specs.declared.row.RowKind.{RowKind}
+use Rattle.om_manager.specs.Sound.{KeepsReleased}
+use Rattle.om_manager.specs.State.{ManagerState, released_by}
+use Rattle.om_manager.specs.declared.answers.RecordError.{RecordError}
+use Rattle.om_world.specs.World.{WorldState, all_clean}
+use Rattle.om_world.specs.steps.Moves.{AreTold, HasCalled, HasTold, Keeps}
+
+prefix_same : {A : Type 0} (xs : List A) → IsPrefix xs xs
+prefix_same xs = ([], nothing xs)
+  where
+    nothing : {A : Type 0} (xs : List A) → xs ++ [] ≡ xs
+    nothing [] = refl
+    nothing (x ∷ xs) = ap (λ l. x ∷ l) (nothing xs)
+
+pub prefix_then : {A : Type 0} (xs ys zs : List A) → IsPrefix xs ys → IsPrefix ys zs → IsPrefix xs zs
+prefix_then xs ys zs a b = (a.0 ++ b.0, joined xs a.0 b.0 ∙ ap (λ l. l ++ b.0) a.1 ∙ b.1)
+  where
+    joined : {A : Type 0} (xs ys zs : List A) → xs ++ (ys ++ zs) ≡ (xs ++ ys) ++ zs
+    joined [] ys zs = refl
+    joined (x ∷ xs) ys zs = ap (λ l. x ∷ l) (joined xs ys zs)
+
+pub keeps_same : (m : ManagerState) → KeepsReleased m m
+keeps_same m p lt = prefix_same (released_by m p)
+
+told_keeps : (old new : ManagerState) (round p : ℕ) (rows : List Row) → AreTold old round p rows new → KeepsReleased old new
+told_keeps old new round p [] same = subst (λ m. KeepsReleased old m) (sym same) (keeps_same old)
+told_keeps old new round p (row ∷ rows) told = λ q lt.
+    let places = told.2.below.same_places in
+    prefix_then (released_by old q) (released_by told.0 q) (released_by new q) (told.2.released q lt) (told_keeps told.0 new round p rows told.3 q (omega arith))
+
+-- an event that leaves the manager and the stores
+pub keeps_by : (old new : WorldState) → new.manager ≡ old.manager → new.clean ≡ old.clean → new.origins ≡ old.origins → Keeps old new
+keeps_by old new manager clean origins = record {
+  released = subst (λ m. KeepsReleased old.manager m) (sym manager) (keeps_same old.manager);
+  clean = λ all. ap all_clean (sym clean) ∙ all;
+  origins = origins;
+}
+
+pub keeps_called : (kind : RowKind) (w v : WorldState) (p : ℕ) (a : Result (Unit {0}) StoreError) → HasCalled kind w p a v → Keeps w v
+keeps_called kind w v p a h = record {
+  released = subst (λ m. KeepsReleased w.manager m) (sym (ap (λ (x : WorldState). x.manager) h.others)) (keeps_same w.manager);
+  clean = h.was_clean;
+  origins = ap (λ (x : WorldState). x.origins) h.others;
+}
+
+-- a process stored, and its rows were told
+pub keeps_recorded : (kind : RowKind) (w mid v : WorldState) (p count : ℕ) (a : Result (Unit {0}) StoreError) (end : Result (Unit {0}) RecordError) → HasCalled kind w p a mid → HasTold mid p count end v → Keeps w v
+keeps_recorded kind w mid v p count a end h t = record {
+  released = subst (λ m. KeepsReleased m v.manager) (ap (λ (x : WorldState). x.manager) h.others) (told_keeps mid.manager v.manager t.core.round p _ t.told.told);
+  clean = λ all. h.was_clean (ap all_clean (sym (ap (λ (x : WorldState). x.clean) t.others)) ∙ all);
+  origins = ap (λ (x : WorldState). x.origins) t.others ∙ ap (λ (x : WorldState). x.origins) h.others;
+}

@@ -1,0 +1,37 @@
+use Rattle.std.proofs.Common.{◌≡◌, subst, sym, Err, rules}
+use Rattle.om_world.specs.declared.event.Event.{Event}
+use Rattle.om_world.specs.Happened.{Happened}
+use Rattle.om_world.specs.steps.Moves.{answered}
+use Rattle.om_world.specs.steps.Running.{HasHandedIn, refusal_of_output}
+use Rattle.om_world.proofs.Running.{hand_keeps, hand_stopped, has_run, keeps_more, made_grows}
+use Rattle.om_world.proofs.world.World.run.Goals as goal
+
+pub send-requires-clause-more : goal.send-requires-clause-more
+send-requires-clause-more g c =
+    keeps_more c.args.self.now c.turns.new.self c.args.p c.args.fuel c.messages-messages.result c.messages-messages.ensures (c.turns.ensures.goes_on, c.turns.ensures.rest)
+
+pub overflow_sub-made : goal.overflow_sub-made
+overflow_sub-made g c =
+    made_grows c.args.self.now c.turns.new.self c.send.new.self c.args.p c.args.fuel c.in_ok-sent.sent c.outputs-outputs.result c.outputs.result c.messages-messages.result c.outputs-outputs.ensures (c.turns.ensures.goes_on, c.turns.ensures.rest) c.in_ok-sent.ensures.sent c.outputs.ensures
+
+pub returns-in_err-hand_in-clause-happened : goal.returns-in_err-hand_in-clause-happened
+returns-in_err-hand_in-clause-happened g c = λ known.
+    let w = c.args.self.now in let z = c.hand_in.new.self in let fault = c.in_err-hand_in.field-0.0 in
+    let h = subst (λ a. HasHandedIn c.send.new.self c.args.p a z) c.in_err-hand_in.was c.hand_in.ensures in
+    let is : c.from_residual-in_err-hand_in.result ≡ Err (refusal_of_output fault) = search rules in
+    subst (λ r. Happened w (Event.Run c.args.p c.args.fuel) (answered r) z) (sym is)
+    (hand_stopped w c.turns.new.self c.send.new.self z c.args.p c.args.fuel c.in_ok-sent.sent c.messages-messages.result fault c.in_ok-is_up.ensures.up c.messages-messages.ensures (c.turns.ensures.goes_on, c.turns.ensures.rest) c.in_ok-sent.ensures.sent h known)
+
+pub returns-in_err-hand_in-clause-keeps : goal.returns-in_err-hand_in-clause-keeps
+returns-in_err-hand_in-clause-keeps g c =
+    hand_keeps c.args.self.now c.turns.new.self c.send.new.self c.hand_in.new.self c.args.p c.args.fuel c.in_ok-sent.sent c.messages-messages.result c.hand_in.result (c.turns.ensures.goes_on, c.turns.ensures.rest) c.in_ok-sent.ensures.sent c.hand_in.ensures
+
+pub returns-clause-happened : goal.returns-clause-happened
+returns-clause-happened g c = λ known.
+    let h = subst (λ a. HasHandedIn c.send.new.self c.args.p a c.hand_in.new.self) c.in_ok-hand_in.was c.hand_in.ensures in
+    has_run c.args.self.now c.turns.new.self c.send.new.self c.hand_in.new.self c.args.p c.args.fuel c.in_ok-sent.sent c.outputs-outputs.result c.outputs.result c.messages-messages.result c.in_ok-ran.ran
+    c.in_ok-is_up.ensures.up c.messages-messages.ensures c.outputs-outputs.ensures (c.turns.ensures.goes_on, c.turns.ensures.rest) c.in_ok-ran.ensures.ran c.in_ok-sent.ensures.sent c.outputs.ensures h known
+
+pub returns-clause-keeps : goal.returns-clause-keeps
+returns-clause-keeps g c =
+    hand_keeps c.args.self.now c.turns.new.self c.send.new.self c.hand_in.new.self c.args.p c.args.fuel c.in_ok-sent.sent c.messages-messages.result c.hand_in.result (c.turns.ensures.goes_on, c.turns.ensures.rest) c.in_ok-sent.ensures.sent c.hand_in.ensures

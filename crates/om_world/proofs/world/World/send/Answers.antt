@@ -1,0 +1,14 @@
+use Rattle.std.proofs.Common.{◌++◌, ◌∙◌, List, ap, subst, sym}
+use Rattle.std.specs.Prelude.{slice_index}
+use Rattle.om_format.specs.declared.message.Message.{Message}
+use Rattle.om_process.specs.Core.{size_of}
+use Rattle.om_world.specs.Happened.{IsUp}
+use Rattle.om_world.specs.World.{WorldState}
+use Rattle.om_world.proofs.Resending.{after_frames}
+use Rattle.om_world.proofs.world.World.send.Goals as goal
+
+pub invariant_of-self-2 : goal.invariant_of-self-2
+invariant_of-self-2 g c =
+    let core = c.in_ok-frames.ensures in
+    after_frames _ _ _ c.args.p core.0 (λ to. slice_index c.args.few.now to) (size_of core.0.now) c.append.new.self.items c.self.invariant (subst (λ (v : WorldState). IsUp v c.args.p) (sym c.self.view_is) c.requires.up) core.1
+    (c.in_ok-append.ensures.items ∙ ap (λ (l : List Message). c.self.inside.frames.items ++ l) core.2)

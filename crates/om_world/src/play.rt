@@ -1,0 +1,76 @@
+//! Events that are played.
+
+ghost use Rattle.std.specs.Prelude.{◌≡◌, IfOk, OnErr, length, true};
+ghost use Rattle.om_world.specs.Happened.{Happened};
+ghost use Rattle.om_world.specs.Holds.{Holds};
+ghost use Rattle.om_world.specs.Played.{Played, Step};
+ghost use Rattle.om_world.specs.World.{IsKnown, all_clean};
+ghost use Rattle.om_world.specs.steps.Moves.{Keeps, answered};
+
+use crate::event::{Answer, Event, Refusal};
+use crate::world::World;
+use om_recover::RowKind;
+use om_stable::Stable;
+use std::alloc::{AllocError, Global};
+
+// What is told of an event.
+fn answer_of(told: Result<Answer, Refusal>) -> Answer
+    ensures { result ≡ answered told }
+{
+    match told {
+        Ok(answer) => answer,
+        Err(why) => Answer::Refused(why),
+    }
+}
+
+impl<S: Stable> World<S> {
+    // What an event comes to.
+    fn outcome(&mut self, alloc: Global, event: Event) -> Result<Answer, Refusal>
+        ensures happened { IsKnown self.new → Happened self.old event (answered result) self.new }
+        ensures keeps { Keeps self.old self.new }
+    {
+        match event {
+            Event::Run { process, fuel } => self.run(alloc, process, fuel),
+            Event::Give { process, frame } => self.give(alloc, process, frame),
+            Event::Flush { process } => self.record(alloc, process, RowKind::Log),
+            Event::Checkpoint { process } => self.record(alloc, process, RowKind::Checkpoint),
+            Event::Resend { process } => self.resend(alloc, process),
+            Event::Trim { process } => self.trim(process),
+            Event::Prune => self.prune(alloc),
+        }
+    }
+
+    // Plays one event.
+    fn happen(&mut self, alloc: Global, event: Event) -> Answer
+        ensures step { IsKnown self.new → Step self.old event result self.new }
+        ensures keeps { Keeps self.old self.new }
+    {
+        let answer = answer_of(self.outcome(alloc, event));
+        self.told();
+        answer
+    }
+
+    /// Plays events in order, and answers each. What is refused, for want of memory too, is an answer; refused as a whole is
+    /// only room for the answers, and then no event is played.
+    ///
+    /// Where the stores held nothing before the start and are clean as the call ends, each event did what its answer says,
+    /// the world is a point of a run without failures after each (`Holds`), and what was released still is.
+    pub fn play(&mut self, alloc: Global, events: &[Event]) -> Result<Vec<Answer>, AllocError>
+        ensures played { IsKnown self.new → IfOk result (λ answers. Played self.old events.now answers.items self.new) }
+        ensures count { IfOk result (λ answers. length answers.items ≡ length events.now) }
+        ensures holds { IsKnown self.new → Holds self.new }
+        ensures clean { all_clean self.new.clean ≡ true → all_clean self.old.clean ≡ true }
+        ensures origins { self.new.origins ≡ self.old.origins }
+        ensures refused { OnErr result (self.new ≡ self.old) }
+    {
+        self.told();
+        let mut answers = Vec::with_capacity(alloc, events.len())?;
+        for k in 0..events.len() {
+            let event = events[k];
+            let answer = self.happen(alloc, event);
+            answers.push_reserved(answer);
+        }
+        self.told();
+        Ok(answers)
+    }
+}
