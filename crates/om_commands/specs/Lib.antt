@@ -8,5 +8,6 @@ pub mod RecordScript
 pub mod Replay
 pub mod Report
 pub mod SimScript
+pub mod SimText
 pub mod StateText
 pub mod WordScript

@@ -10,6 +10,7 @@ mod record_script;
 pub mod replay;
 mod report;
 mod sim_script;
+mod sim_text;
 mod state_text;
 mod word_script;
 

@@ -1,0 +1,6 @@
+use Rattle.std.proofs.Common.{◌≡◌, ◌++◌, take, string_bytes}
+use Rattle.om_commands.specs.SimText.{answers_text}
+use Rattle.om_commands.proofs.sim_text.push_answers.Given as goal
+
+abbrev pub invariant-loop-answer : goal.invariant-loop-answer
+invariant-loop-answer l = string_bytes l.text ≡ string_bytes l.initial.text ++ answers_text (take l.answer-index l.answers)

@@ -1,0 +1,255 @@
+//! The text of a world: the answer to each event, and how it stands in the end.
+
+ghost use Rattle.std.specs.Prelude.{◌≡◌, ◌++◌, ◌∷◌, ◌<◌, ◌≤◌, [], length, map, slice_get, IfOk, OnOk, Some, string_bytes};
+ghost use Rattle.std.specs.List.{flat_map, range_with_len};
+ghost use Rattle.om_interval.specs.declared.pid.TheConstants.{MAX_PROCESSES};
+ghost use Rattle.om_manager.specs.Outputs.{held_of};
+ghost use Rattle.om_manager.specs.State as managers;
+ghost use Rattle.om_commands.specs.SimText.{accept_text, answer_text, answers_text, bytes_text, core_text, end_text, name_at, output_line, outputs_text, process_line, released_text, refusal_text};
+
+use crate::report::push_state;
+use crate::state_text::push_status;
+use om_interval::Pid;
+use om_manager::{Manager, Output};
+use om_process::{Accept, ProcCore};
+use om_programs::Programs;
+use om_stable::Stable;
+use om_world::{Answer, Refusal, World};
+use std::alloc::{AllocError, Global};
+use std::fmt::Write;
+
+// Writes what a process answers to a frame.
+fn push_accept(text: &mut String, accept: Accept) -> Result<(), AllocError>
+    ensures { OnOk result (string_bytes text.new ≡ string_bytes text.old ++ accept_text accept) }
+{
+    match accept {
+        Accept::Taken(x) => write!(text, "taken {x}"),
+        Accept::Repeat => text.push_str("repeat"),
+        Accept::Ahead => text.push_str("ahead"),
+        Accept::Orphan => text.push_str("orphan"),
+        Accept::NotWaiting => text.push_str("not-waiting"),
+        Accept::Stranger => text.push_str("stranger"),
+        Accept::Full => text.push_str("full"),
+        Accept::Memory => text.push_str("memory"),
+    }
+}
+
+fn refusal_word(why: Refusal) -> &'static str
+    ensures { result.now ≡ refusal_text why }
+{
+    match why {
+        Refusal::NoProcess => "no-process",
+        Refusal::NotUp => "not-up",
+        Refusal::NoFrame => "no-frame",
+        Refusal::Present => "present",
+        Refusal::Fault => "fault",
+        Refusal::Damaged => "damaged",
+        Refusal::Memory => "memory",
+    }
+}
+
+// Writes what is answered to an event.
+fn push_answer(text: &mut String, answer: Answer) -> Result<(), AllocError>
+    ensures { OnOk result (string_bytes text.new ≡ string_bytes text.old ++ answer_text answer) }
+{
+    match answer {
+        Answer::Ran {
+            steps,
+            status,
+            sent,
+            made,
+        } => {
+            write!(text, "ran {steps} ")?;
+            push_status(text, status)?;
+            write!(text, " sent {sent} made {made}")
+        }
+        Answer::Given(accept) => push_accept(text, accept),
+        Answer::Noted(count) => write!(text, "noted {count}"),
+        Answer::Resent(count) => write!(text, "sent {count}"),
+        Answer::Trimmed => text.push_str("trimmed"),
+        Answer::Pruned => text.push_str("pruned"),
+        Answer::Refused(why) => text.push_str(refusal_word(why)),
+    }
+}
+
+// Writes the line of an answer.
+fn push_line(text: &mut String, answer: Answer) -> Result<(), AllocError>
+    ensures { OnOk result (string_bytes text.new ≡ string_bytes text.old ++ answer_text answer ++ 10 ∷ []) }
+{
+    push_answer(text, answer)?;
+    text.push('\n')
+}
+
+// Writes a line for each answer.
+fn push_answers(text: &mut String, answers: &[Answer]) -> Result<(), AllocError>
+    ensures { OnOk result (string_bytes text.new ≡ string_bytes text.old ++ answers_text answers.now) }
+{
+    for answer in answers {
+        push_line(text, *answer)?;
+    }
+    Ok(())
+}
+
+// The name of a process.
+fn name_of(programs: &Programs, p: usize) -> &str
+    requires { p < length programs.now.processes }
+    ensures { result.now ≡ name_at programs.now p }
+{
+    match programs.name(p) {
+        Some(name) => name,
+        None => unreachable!(),
+    }
+}
+
+// Writes where a process that is up or in stands.
+fn push_core(text: &mut String, core: &ProcCore) -> Result<(), AllocError>
+    ensures { OnOk result (string_bytes text.new ≡ string_bytes text.old ++ core_text (Some (Some core.now))) }
+{
+    let inc = core.inc();
+    let interval = core.interval();
+    write!(text, "inc {inc} interval {interval} ")?;
+    push_status(text, core.status())
+}
+
+// Writes where a process stands.
+fn push_place<S: Stable>(text: &mut String, world: &World<S>, p: usize) -> Result<(), AllocError>
+    requires { p < MAX_PROCESSES }
+    ensures { OnOk result (string_bytes text.new ≡ string_bytes text.old ++ core_text (slice_get world.now.cores p)) }
+{
+    match world.core(Pid::at(p)) {
+        Some(core) => push_core(text, core),
+        None => text.push_str("down"),
+    }
+}
+
+// Writes the line of a process.
+fn push_process<S: Stable>(
+    text: &mut String,
+    programs: &Programs,
+    world: &World<S>,
+    p: usize,
+) -> Result<(), AllocError>
+    requires process { p < length programs.now.processes }
+    requires few { p < MAX_PROCESSES }
+    ensures { OnOk result (string_bytes text.new ≡ string_bytes text.old ++ process_line programs.now world.now.cores p) }
+{
+    let name = name_of(programs, p);
+    write!(text, "proc {name} ")?;
+    push_place(text, world, p)?;
+    text.push('\n')
+}
+
+// Writes the lines of the first few processes.
+fn push_processes<S: Stable>(
+    text: &mut String,
+    programs: &Programs,
+    world: &World<S>,
+    n: usize,
+) -> Result<(), AllocError>
+    requires processes { n ≤ length programs.now.processes }
+    requires few { n ≤ MAX_PROCESSES }
+    ensures { OnOk result (string_bytes text.new ≡ string_bytes text.old
+        ++ flat_map (process_line programs.now world.now.cores) (range_with_len 0 n)) }
+{
+    for p in 0..n {
+        push_process(text, programs, world, p)?;
+    }
+    Ok(())
+}
+
+// Writes bytes in hexadecimal, and a mark where there is none.
+fn push_bytes(alloc: Global, text: &mut String, bytes: &[u8]) -> Result<(), AllocError>
+    ensures { OnOk result (string_bytes text.new ≡ string_bytes text.old ++ bytes_text bytes.now) }
+{
+    if bytes.is_empty() {
+        return text.push('-');
+    }
+    text.push_str(&hex::encode(alloc, bytes)?)
+}
+
+// Writes the line of an output.
+fn push_output(
+    alloc: Global,
+    text: &mut String,
+    name: &str,
+    number: usize,
+    bytes: &[u8],
+) -> Result<(), AllocError>
+    ensures { OnOk result (string_bytes text.new ≡ string_bytes text.old ++ output_line name.now number bytes.now) }
+{
+    write!(text, "out {name} {number} ")?;
+    push_bytes(alloc, text, bytes)?;
+    text.push('\n')
+}
+
+// Writes a line for each output.
+fn push_outputs(
+    alloc: Global,
+    text: &mut String,
+    name: &str,
+    outputs: &[Output],
+) -> Result<(), AllocError>
+    ensures { OnOk result (string_bytes text.new ≡ string_bytes text.old ++ outputs_text name.now (map held_of outputs.now)) }
+{
+    for number in 0..outputs.len() {
+        push_output(alloc, text, name, number, &outputs[number].bytes)?;
+    }
+    Ok(())
+}
+
+// Writes what is released of the first few processes.
+fn push_released(
+    alloc: Global,
+    text: &mut String,
+    programs: &Programs,
+    manager: &Manager,
+    n: usize,
+) -> Result<(), AllocError>
+    requires processes { n ≤ length programs.now.processes }
+    requires few { n ≤ MAX_PROCESSES }
+    requires managed { n ≤ managers.size_of manager.now }
+    ensures { OnOk result (string_bytes text.new ≡ string_bytes text.old
+        ++ flat_map (released_text programs.now manager.now) (range_with_len 0 n)) }
+{
+    for p in 0..n {
+        let name = name_of(programs, p);
+        push_outputs(alloc, text, name, manager.released(Pid::at(p)))?;
+    }
+    Ok(())
+}
+
+// Writes how a world of so many processes stands.
+fn push_end<S: Stable>(
+    alloc: Global,
+    text: &mut String,
+    programs: &Programs,
+    world: &World<S>,
+    n: usize,
+) -> Result<(), AllocError>
+    requires processes { n ≤ length programs.now.processes }
+    requires few { n ≤ MAX_PROCESSES }
+    requires managed { n ≤ managers.size_of world.now.manager }
+    ensures { OnOk result (string_bytes text.new ≡ string_bytes text.old ++ end_text programs.now n world.now) }
+{
+    text.push_str("recovery")?;
+    push_state(text, &world.manager().recovery())?;
+    push_processes(text, programs, world, n)?;
+    push_released(alloc, text, programs, world.manager(), n)
+}
+
+/// The text of a world whose processes are those of these programs, and that has answered events so.
+pub(crate) fn sim_text<S: Stable>(
+    alloc: Global,
+    programs: &Programs,
+    world: &World<S>,
+    answers: &[Answer],
+) -> Result<String, AllocError>
+    requires managed { length programs.now.processes ≤ managers.size_of world.now.manager }
+    ensures { IfOk result (λ text. string_bytes text ≡ answers_text answers.now
+        ++ end_text programs.now (length programs.now.processes) world.now) }
+{
+    let mut text = String::new(alloc);
+    push_answers(&mut text, answers)?;
+    push_end(alloc, &mut text, programs, world, programs.n())?;
+    Ok(text)
+}
