@@ -307,14 +307,6 @@ take_next (d ∷ ms) (suc i) m at = ap (λ l. d ∷ l) (take_next ms i m at) ∙
     next : (i : ℕ) → suc (i + 1) ≡ suc i + 1
     next i = omega arith
 
--- a refusal leaves the manager
-pub refused_same : (old new : ManagerState) (o : Offer) (fault : OutputError) → NotesOutput old o (Err fault) new → new ≡ old
-refused_same old new o refused.Stranger n = n.1
-refused_same old new o (refused.Stale told) n = n.3
-refused_same old new o refused.Differs n = n.2
-refused_same old new o (refused.Gap next) n = n.3
-refused_same old new o refused.Memory n = n.1
-
 -- ---- a process that is up hands in
 abbrev pub IsHandedIn : WorldState → ℕ → Result (Unit {0}) OutputError → ManagerState → Type 0
 IsHandedIn w p end m = (c : CoreState) × (slice_get w.cores p ≡ Some (Some c)) × AreHandedUpTo w.manager c.round p (outputs_from c (length (held_by w.manager p))) end m

@@ -317,6 +317,7 @@ pub prune_keeps : (w v z : WorldState) (end : Result (Unit {0}) StoreError) → 
 prune_keeps w v z end m e a =
     let n = manager_then w v z m a.pruned.others in
     record {
+      size = ap managers.size_of n.others;
       released = λ p lt. subst (λ l. IsPrefix (released_by w.manager p) l) (sym (same_released w.manager z.manager p n)) (keeps_same w.manager p lt);
       clean = λ all. ap all_clean (sym (ap (λ (x : WorldState). x.clean) e)) ∙ a.pruned.was_clean all;
       origins = ap (λ (x : WorldState). x.origins) a.pruned.others ∙ ap (λ (x : WorldState). x.origins) e;

@@ -9,6 +9,7 @@ use Rattle.om_process.specs.Parts.{Grow}
 use Rattle.om_process.proofs.Runs.{turns_grow}
 use Rattle.om_manager.specs.declared.answers.OutputError.{OutputError}
 use Rattle.om_manager.specs.Sound.{KeepsReleased}
+use Rattle.om_manager.specs.State as managers
 use Rattle.om_manager.specs.State.{held_by}
 use Rattle.om_world.specs.declared.event.Event.{Event}
 use Rattle.om_world.specs.declared.event.Answer.TheVariants as answers
@@ -111,8 +112,9 @@ changes_by w v u z p fuel up t e f = record {
   };
 }
 
-keeps_by : (w v u z : WorldState) (p fuel : ℕ) → HasWent w p fuel v → u ≡ record v { frames = u.frames } → z ≡ record u { manager = z.manager } → KeepsReleased u.manager z.manager → Keeps w z
-keeps_by w v u z p fuel t e f keeps = record {
+keeps_by : (w v u z : WorldState) (p fuel : ℕ) → HasWent w p fuel v → u ≡ record v { frames = u.frames } → z ≡ record u { manager = z.manager } → managers.size_of z.manager ≡ managers.size_of u.manager → KeepsReleased u.manager z.manager → Keeps w z
+keeps_by w v u z p fuel t e f size keeps = record {
+  size = size ∙ ap (λ (x : WorldState). managers.size_of x.manager) e ∙ ap (λ (x : WorldState). managers.size_of x.manager) t.1;
   released = subst (λ m. KeepsReleased m z.manager) (ap (λ (x : WorldState). x.manager) e ∙ ap (λ (x : WorldState). x.manager) t.1) keeps;
   clean = λ all. ap all_clean (sym (ap (λ (x : WorldState). x.clean) f ∙ ap (λ (x : WorldState). x.clean) e ∙ ap (λ (x : WorldState). x.clean) t.1)) ∙ all;
   origins = ap (λ (x : WorldState). x.origins) f ∙ ap (λ (x : WorldState). x.origins) e ∙ ap (λ (x : WorldState). x.origins) t.1;
@@ -142,7 +144,7 @@ hand_stopped w v u z p fuel sent few fault up k t s h known =
     })
 
 pub hand_keeps : (w v u z : WorldState) (p fuel sent : ℕ) (few : List ℕ) (end : Result (Unit {0}) OutputError) → HasWent w p fuel v → HasSent v p few sent u → HasHandedIn u p end z → Keeps w z
-hand_keeps w v u z p fuel sent few end t s h = keeps_by w v u z p fuel t (s.3 ∙ ap (λ l. record v { frames = l }) (sym (ap (λ (x : WorldState). x.frames) s.3))) h.others h.released
+hand_keeps w v u z p fuel sent few end t s h = keeps_by w v u z p fuel t (s.3 ∙ ap (λ l. record v { frames = l }) (sym (ap (λ (x : WorldState). x.frames) s.3))) h.others (ap managers.size_of h.more.1) h.released
 
 pub has_run : (w v u z : WorldState) (p fuel sent a b : ℕ) (few : List ℕ) (ran : Ran) → IsUp w p → WereKept w p few → WereMade w p a → HasWent w p fuel v → HasRunAt w.cores p fuel ran v.cores → HasSent v p few sent u → WereMade u p b
     → HasHandedIn u p (Ok tt) z → IsKnown z → Happened w (Event.Run p fuel) (answers.Ran ran.steps ran.status sent (b - a)) z

@@ -1,6 +1,7 @@
 //! Events that are played.
 
 ghost use Rattle.std.specs.Prelude.{◌≡◌, IfOk, OnErr, length, true};
+ghost use Rattle.om_manager.specs.Sound.{KeepsReleased};
 ghost use Rattle.om_world.specs.Happened.{Happened};
 ghost use Rattle.om_world.specs.Holds.{Holds};
 ghost use Rattle.om_world.specs.Played.{Played, Step};
@@ -59,6 +60,7 @@ impl<S: Stable> World<S> {
         ensures played { IsKnown self.new → IfOk result (λ answers. Played self.old events.now answers.items self.new) }
         ensures count { IfOk result (λ answers. length answers.items ≡ length events.now) }
         ensures holds { IsKnown self.new → Holds self.new }
+        ensures released { KeepsReleased self.old.manager self.new.manager }
         ensures clean { all_clean self.new.clean ≡ true → all_clean self.old.clean ≡ true }
         ensures origins { self.new.origins ≡ self.old.origins }
         ensures refused { OnErr result (self.new ≡ self.old) }

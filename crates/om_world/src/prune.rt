@@ -66,9 +66,7 @@ impl<S: Stable> World<S> {
         ensures { AllPruned self.old result self.new }
     {
         for p in 0..self.size() {
-            if let Err(fault) = self.prune_store(alloc, p) {
-                return Err(fault);
-            }
+            self.prune_store(alloc, p)?;
         }
         Ok(())
     }

@@ -101,9 +101,7 @@ fn hand_all(
     ensures { AreHandedUpTo manager.old round pid outputs.now result manager.new }
 {
     for i in 0..outputs.len() {
-        if let Err(fault) = hand_one(manager, alloc, pid, round, &outputs[i]) {
-            return Err(fault);
-        }
+        hand_one(manager, alloc, pid, round, &outputs[i])?;
     }
     Ok(())
 }

@@ -14,7 +14,7 @@ use Rattle.om_recover.specs.declared.row.RowKind.{RowKind}
 use Rattle.om_recover.specs.declared.row.RowKind.TheVariants.{Checkpoint, Log}
 use Rattle.om_manager.specs.Notes.{Notes}
 use Rattle.om_manager.specs.Sound.{IsManager, KeepsReleased}
-use Rattle.om_manager.specs.State.{ManagerState}
+use Rattle.om_manager.specs.State.{ManagerState, size_of}
 use Rattle.om_recover.specs.declared.note.NoteError.TheVariants as refusals
 use Rattle.om_manager.specs.declared.answers.RecordError.{RecordError}
 use Rattle.om_manager.specs.declared.answers.RecordError.TheVariants.{Refused}
@@ -139,6 +139,7 @@ event_of Checkpoint p = Event.Checkpoint p
 
 -- what each event leaves: what was released still is; and where what the stores hold is known, it was
 pub record Keeps (old new : WorldState) : Type 0 where
+  pub size : size_of new.manager ≡ size_of old.manager
   pub released : KeepsReleased old.manager new.manager
   pub clean : all_clean new.clean ≡ true → all_clean old.clean ≡ true
   pub origins : new.origins ≡ old.origins

@@ -1,5 +1,5 @@
-use Rattle.std.proofs.Common.{ap, subst, Err}
-use Rattle.om_world.specs.steps.Pruning.{HasPruned}
+use Rattle.std.proofs.Common.{◌≡◌, ap, subst, sym, Err, rules}
+use Rattle.om_world.specs.steps.Pruning.{AllPruned, HasPruned}
 use Rattle.om_world.proofs.Pruning.{none_pruned, one_pruned, refused_pruned}
 use Rattle.om_world.proofs.world.World.prune_stores.Goals as goal
 
@@ -7,14 +7,16 @@ pub loop-p-init : goal.loop-p-init
 loop-p-init g c = none_pruned c.args.self.now
 
 pub loop-p-preserved : goal.loop-p-preserved
-loop-p-preserved g c = one_pruned c.args.self.now c.loop-p.self c.prune_store.new.self c.loop-p.p c.loop-p.invariant (subst (λ a. HasPruned c.loop-p.self c.loop-p.p a c.prune_store.new.self) c.in_default.is c.prune_store.ensures)
+loop-p-preserved g c = one_pruned c.args.self.now c.loop-p.self c.prune_store.new.self c.loop-p.p c.loop-p.invariant (subst (λ a. HasPruned c.loop-p.self c.loop-p.p a c.prune_store.new.self) c.in_ok-prune_store.was c.prune_store.ensures)
 
-pub returns-in-Err : goal.returns-in-Err
-returns-in-Err g c =
-    let h = subst (λ a. HasPruned c.loop-p.self c.loop-p.p a c.prune_store.new.self) c.in-Err.is c.prune_store.ensures in
-    record {
+pub returns-in_err-prune_store : goal.returns-in_err-prune_store
+returns-in_err-prune_store g c =
+    let fault = c.in_err-prune_store.field-0.0 in
+    let h = subst (λ a. HasPruned c.loop-p.self c.loop-p.p a c.prune_store.new.self) c.in_err-prune_store.was c.prune_store.ensures in
+    let is : c.from_residual.result ≡ Err fault = search rules in
+    subst (λ r. AllPruned c.args.self.now r c.prune_store.new.self) (sym is) (record {
       count = c.loop-p.p;
-      pruned = refused_pruned c.args.self.now c.loop-p.self c.prune_store.new.self c.loop-p.p c.in-Err.fault c.loop-p.invariant h;
+      pruned = refused_pruned c.args.self.now c.loop-p.self c.prune_store.new.self c.loop-p.p fault c.loop-p.invariant h;
       all = tt;
       refused = λ e. h.never_present (ap Err e);
-    }
+    })
