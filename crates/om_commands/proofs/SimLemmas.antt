@@ -1,12 +1,77 @@
--- What is read of the outputs of a process.
-use Rattle.std.proofs.Common.{◌≡◌, ℕ, ◌<◌, List, [], length, get_or, map, ap, sym, ◌∙◌}
+-- What is read of the outputs of a process, and why a world is not begun.
+use Rattle.std.proofs.Common.{◌≡◌, ◌⊎◌, ℕ, ◌<◌, ◌≤◌, ◌%◌, ◌==◌, nat_le, Option, Some, None, Bool, true, false, ◌&&◌, List, [], length, get_or, map, refl, ap, sym, subst, ◌∙◌, ⊎_elim, arith}
+use Rattle.std.specs.Prelude.{All}
+use Rattle.std.specs.Prelude.{IsSome}
+use Rattle.std.specs.FinMap.{get, get-empty}
+use Rattle.std.specs.Ordering.{nat_cmp}
+use Rattle.std.proofs.lemmas.Bool.{eqb-true, leb-true}
+use Rattle.std.proofs.lemmas.Option.{none-some}
 use Rattle.std.proofs.lemmas.List.{get_or-map}
+use Rattle.std.proofs.lemmas.List.Elements.{All-map}
+use Rattle.om_stable.specs.Count.{Rose}
+use Rattle.om_machine.specs.State.{IsSize}
 use Rattle.om_manager.specs.Outputs.{held_of}
 use Rattle.om_manager.specs.declared.output_log.Output.{Output}
+use Rattle.om_format.specs.Checkpoints.{is_memory_size}
+use Rattle.om_process.specs.Process.{Program}
+use Rattle.om_process.specs.declared.start.StartFault.{StartFault}
+use Rattle.om_process.specs.declared.start.StartFault.TheVariants.{BadPlace, BadSize, ImageTooLong, Present, Fault, Memory}
+use Rattle.om_programs.specs.Programs.{IsProgram}
+use Rattle.om_stable.specs.Content.{Content}
+use Rattle.om_world.proofs.Beginning.{all_at}
+use Rattle.om_world.specs.Started.{IsRefusedAt, IsWhy}
+use Rattle.om_world.specs.World.{IsEmpty}
 use Rattle.om_commands.specs.SimText.{bytes_at}
 
 -- the bytes of an output at its place
 pub held-bytes : (outputs : List Output) (number : ℕ) (o : Output) (bytes : List ℕ) → number < length outputs
     → bytes ≡ (get_or outputs number o).bytes.items → bytes ≡ bytes_at (map held_of outputs) number
 held-bytes outputs number o bytes lt same =
-    same ∙ ap (λ held. held.bytes) (sym (get_or-map held_of outputs number o (record { interval = 0; bytes = [] }) lt))
+    same
+    ∙ ap (λ held. held.bytes) (sym (get_or-map held_of outputs number o (record { interval = 0; bytes = [] }) lt))
+
+both : (a b : Bool) → (a && b) ≡ true → (a ≡ true) × (b ≡ true)
+both true b h = (refl, h)
+both false b h = cc
+
+is_size : (size : ℕ) → is_memory_size size ≡ true → IsSize size
+is_size size h =
+    let outer = both (nat_le 4 size) (nat_le size 65536 && (size % 4 == 0)) h in
+    let inner = both (nat_le size 65536) (size % 4 == 0) outer.1 in
+    record {
+      least = leb-true 4 size outer.0;
+      greatest = leb-true size 65536 inner.0;
+      in_words = eqb-true (size % 4) 0 inner.1;
+    }
+
+not_less : (a b : ℕ) → a ≤ b → b < a → ⊥
+not_less a b le lt = omega (arith, le, lt)
+
+none_there : {A : Type 0} (o : Option A) → o ≡ None → IsSome o → ⊥
+none_there None is some = some
+none_there (Some x) is some = absurd (none-some x (sym is))
+
+not_risen : Rose 0 0 → ⊥
+not_risen rose = ⊎_elim (λ lt. not_less 0 0 (omega arith) lt) (λ last. let no = last.0 in omega (arith, no)) rose
+
+by_why : (fault : StartFault) (program : Program) (before after : Content) → IsProgram program → IsEmpty before
+    → IsWhy (λ s. s) (λ _. 0) (λ _. true) (λ _. Unit {0}) program fault before after → fault ≡ Memory
+by_why BadPlace program before after right empty why = absurd why
+by_why BadSize program before after right empty why = absurd (why (is_size program.size right.size))
+by_why ImageTooLong program before after right empty why = absurd (not_less (length program.image) program.size right.fits why.1)
+by_why Present program before after right empty why =
+    absurd (none_there (get before.checkpoints 0) (ap (λ held. get held.checkpoints 0) empty ∙ get-empty nat_cmp 0) (why (refl, tt)))
+by_why Fault program before after right empty why = absurd (not_risen why)
+by_why Memory program before after right empty why = refl
+
+-- no other fault than want of memory
+pub only_memory : (programs : List Program) (stores : List Content) (fault : StartFault) → All IsProgram programs → All IsEmpty stores
+    → (fault ≡ Memory) ⊎ IsRefusedAt (λ s. s) (λ _. 0) (λ _. true) (λ _. Unit {0}) programs stores fault → fault ≡ Memory
+only_memory programs stores fault sizes empty told = ⊎_elim (λ is. is)
+    (λ r. by_why fault r.program r.store r.after
+    (all_at IsProgram programs r.place r.program sizes r.is_program) (all_at IsEmpty stores r.place r.store empty r.is_store) r.why)
+    told
+
+-- stores in memory are what they hold
+pub all_same : (stores : List Content) → All IsEmpty stores → All IsEmpty (map (λ s. s) stores)
+all_same stores all = All-map IsEmpty (λ s. s) stores all

@@ -7,6 +7,7 @@ pub mod Hex
 pub mod RecordScript
 pub mod Replay
 pub mod Report
+pub mod Sim
 pub mod SimScript
 pub mod SimText
 pub mod StateText

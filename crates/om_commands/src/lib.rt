@@ -9,6 +9,7 @@ pub mod frontier;
 mod record_script;
 pub mod replay;
 mod report;
+pub mod sim;
 mod sim_script;
 mod sim_text;
 mod state_text;

@@ -1,0 +1,35 @@
+-- What the command `sim` answers to the bytes of its input.
+use Rattle.std.specs.Prelude.{◌≡◌, ℕ, List, ◌++◌, length}
+use Rattle.om_process.specs.Process.{Program}
+use Rattle.om_programs.specs.Programs.{programs_of}
+use Rattle.om_world.specs.Played.{Played}
+use Rattle.om_world.specs.Holds.{Holds}
+use Rattle.om_world.specs.Started.{IsStarted}
+use Rattle.om_world.specs.World.{WorldState, IsKnown}
+use Rattle.om_world.specs.declared.event.Answer.{Answer}
+use Rattle.om_commands.specs.Command.{IsScript}
+use Rattle.om_commands.specs.SimScript.{Script, meaning_of, no_lines}
+use Rattle.om_commands.specs.SimText.{answers_text, end_text}
+
+-- a script without a process is empty
+abbrev pub LacksProcesses : Script → Type 0
+LacksProcesses script = length script.cluster.processes ≡ 0
+
+-- a world of these programs at its start, over stores that held nothing
+pub record IsBegun (programs : List Program) (w : WorldState) : Type 0 where
+  pub started : IsStarted programs w
+  pub known : IsKnown w
+  pub holds : Holds w
+
+-- the answers to the events of a script, played from the start of its world, and how that stands in the end
+abbrev pub IsAnswer : Script → List ℕ → Type 0
+IsAnswer script text =
+    (begun : WorldState) × (end : WorldState) × (answers : List Answer)
+    × IsBegun (programs_of script.cluster) begun × Played begun script.events answers end × IsKnown end
+    × (text ≡ answers_text answers ++ end_text script.cluster (length script.cluster.processes) end)
+
+-- the answer to the script that these bytes are
+pub record IsSim (bytes text : List ℕ) : Type 0 where
+  pub script : Script
+  pub is_script : IsScript meaning_of no_lines bytes script
+  pub answer : IsAnswer script text

@@ -1,0 +1,109 @@
+//! The command `sim`: a world of logged processes, played event by event.
+
+ghost use Rattle.std.specs.Prelude.{◌≡◌, ◌⊎◌, ◌≤◌, ℕ, List, All, length, map, Err, IfSome, IfOk, IfErr, OnOk, OnErr, string_bytes};
+ghost use Rattle.std.specs.Io.KnownBytes.{Appends, Keeps};
+ghost use Rattle.om_interval.specs.declared.pid.TheConstants.{MAX_PROCESSES};
+ghost use Rattle.om_manager.specs.State.{size_of};
+ghost use Rattle.om_process.specs.Images.{program_of};
+ghost use Rattle.om_process.specs.declared.start.StartFault.{StartFault};
+ghost use Rattle.om_programs.specs.Programs.{IsProgram, programs_of};
+ghost use Rattle.om_world.specs.Played.{Played};
+ghost use Rattle.om_world.specs.World.{IsEmpty, IsKnown};
+ghost use Rattle.om_commands.specs.Command.{IsErrorOf, IsSilent};
+ghost use Rattle.om_commands.specs.Sim.{IsAnswer, IsBegun, IsSim, LacksProcesses};
+ghost use Rattle.om_commands.specs.SimScript.{meaning_of, no_lines};
+
+use crate::command::{read_input, write_answer};
+use crate::error::CommandError;
+use crate::sim_script::SimScript;
+use crate::sim_text::sim_text;
+use om_process::{Image, StartFault};
+use om_stable::MemStable;
+use om_world::{Answer, Event, World};
+use std::alloc::{AllocError, Global};
+use std::io::{Read, Write};
+
+/// Reads a script of programs, processes and events whole, plays the events over stores in memory, and then writes the
+/// answer to each and how the world stands in the end.
+pub fn sim<R: Read, W: Write>(
+    alloc: Global,
+    reader: &mut R,
+    writer: &mut W,
+) -> Result<(), CommandError>
+    ensures text { IfSome (R.remaining reader.old) (λ bytes. OnOk result ((text : List ℕ) × IsSim bytes text
+        × Appends (W.contents writer.old) (W.contents writer.new) text)) }
+    ensures error { IfSome (R.remaining reader.old) (λ bytes.
+        IfErr result (IsErrorOf meaning_of no_lines LacksProcesses bytes)) }
+    ensures silent { IfErr result (λ error. IsSilent error (Keeps (W.contents writer.old) (W.contents writer.new))) }
+{
+    let script = read_input(alloc, reader, SimScript::new(alloc))?;
+    let text = answer(alloc, &script)?;
+    write_answer(writer, text.as_bytes())
+}
+
+// The text that answers a script.
+fn answer(alloc: Global, script: &SimScript) -> Result<String, CommandError>
+    ensures text { IfOk result (λ text. IsAnswer script.now (string_bytes text)) }
+    ensures error { IfErr result (λ error. (error ≡ CommandError.NoMemory)
+        ⊎ ((error ≡ CommandError.EmptyScript) × LacksProcesses script.now)) }
+{
+    let programs = script.programs();
+    if programs.n() == 0 {
+        return Err(CommandError::EmptyScript);
+    }
+    let images = programs.images(alloc)?;
+    let mut world = begin(alloc, &images)?;
+    let answers = play(alloc, &mut world, script.events())?;
+    Ok(sim_text(alloc, programs, &world, &answers)?)
+}
+
+// So many stores that hold nothing.
+fn empty_stores(alloc: Global, n: usize) -> Result<Vec<MemStable>, AllocError>
+    ensures number { IfOk result (λ stores. length stores.items ≡ n) }
+    ensures empty { IfOk result (λ stores. All IsEmpty stores.items) }
+{
+    let mut stores = Vec::new(alloc);
+    for _ in 0..n {
+        stores.push(MemStable::new(alloc))?;
+    }
+    Ok(stores)
+}
+
+// The world of these images at its start, over stores that hold nothing.
+fn begin(alloc: Global, images: &[Image]) -> Result<World<MemStable>, AllocError>
+    requires some { 1 ≤ length images.now }
+    requires few { length images.now ≤ MAX_PROCESSES }
+    requires sizes { All IsProgram (map program_of images.now) }
+    ensures begun { IfOk result (IsBegun (map program_of images.now)) }
+    ensures size { IfOk result (λ world. size_of world.manager ≡ length images.now) }
+{
+    let stores = empty_stores(alloc, images.len())?;
+    match World::start(alloc, images, stores) {
+        Ok(world) => Ok(world),
+        Err(fault) => Err(memory(fault)),
+    }
+}
+
+// The one fault that programs which can be loaded and stores which are empty leave.
+fn memory(fault: StartFault) -> AllocError
+    requires { fault ≡ StartFault.Memory }
+{
+    match fault {
+        StartFault::Memory => AllocError,
+        _ => unreachable!(),
+    }
+}
+
+// Plays events over stores that never fail.
+fn play(
+    alloc: Global,
+    world: &mut World<MemStable>,
+    events: &[Event],
+) -> Result<Vec<Answer>, AllocError>
+    requires { IsKnown world.old }
+    ensures played { IfOk result (λ answers. Played world.old events.now answers.items world.new) }
+    ensures known { IsKnown world.new }
+    ensures size { size_of world.new.manager ≡ size_of world.old.manager }
+{
+    world.play(alloc, events)
+}
