@@ -51,11 +51,11 @@ impl<S: Stable> World<S> {
         answer
     }
 
-    /// Plays events in order, and answers each. What is refused, for want of memory too, is an answer; refused as a whole is
-    /// only room for the answers, and then no event is played.
+    /// Plays events in order, and answers each. An event that is refused, for want of memory too, is answered so, and the
+    /// next is played. Only where there is no room for the answers is the call refused, and then no event is played.
     ///
     /// Where the stores held nothing before the start and are clean as the call ends, each event did what its answer says,
-    /// the world is a point of a run without failures after each (`Holds`), and what was released still is.
+    /// and after each the world is a point of a run without failures (`Holds`; after Johnson and Zwaenepoel 1990).
     pub fn play(&mut self, alloc: Global, events: &[Event]) -> Result<Vec<Answer>, AllocError>
         ensures played { IsKnown self.new → IfOk result (λ answers. Played self.old events.now answers.items self.new) }
         ensures count { IfOk result (λ answers. length answers.items ≡ length events.now) }
