@@ -91,7 +91,7 @@ clean_at is_clean (x ∷ xs) (suc i) s all at = clean_at is_clean xs i s (second
     second true b e = e
     second false b e = cc
 
-clean_from : {S : Type 0} (is_clean : S → Bool) (xs : List S) → ((i : ℕ) (s : S) → slice_get xs i ≡ Some s → is_clean s ≡ true) → all_clean (map is_clean xs) ≡ true
+pub clean_from : {S : Type 0} (is_clean : S → Bool) (xs : List S) → ((i : ℕ) (s : S) → slice_get xs i ≡ Some s → is_clean s ≡ true) → all_clean (map is_clean xs) ≡ true
 clean_from is_clean [] each = refl
 clean_from is_clean (x ∷ xs) each = ap (λ b. b && all_clean (map is_clean xs)) (each 0 x refl) ∙ clean_from is_clean xs (λ i. each (suc i))
 

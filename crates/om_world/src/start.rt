@@ -131,6 +131,7 @@ impl<S: Stable> World<S> {
         ensures stored { IfOk result (λ w. all_clean w.clean ≡ true → HaveFirst w) }
         ensures origins { IfOk result (λ w. w.origins ≡ map S.content stores.items) }
         ensures clean { IfOk result (λ w. all_clean w.clean ≡ true → all_clean (map S.is_clean stores.items) ≡ true) }
+        ensures always { IfOk result (λ w. ((store : S) → IsTrue (S.is_clean store)) → all_clean w.clean ≡ true) }
         ensures holds { IfOk result (λ w. IsKnown w → Holds w) }
         ensures loadable { OnOk result (All IsLoadable (map program_of images.now)) }
         ensures refused { IfErr result (λ fault. (fault ≡ StartFault.Memory)

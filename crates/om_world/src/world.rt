@@ -1,10 +1,10 @@
 //! The world.
 
-ghost use Rattle.std.specs.Prelude.{◌≡◌, ◌<◌, ◌≤◌, length, map, slice_get, IfOk, IfErr, IfNone, IfSome, Some};
+ghost use Rattle.std.specs.Prelude.{◌≡◌, ◌<◌, ◌≤◌, length, map, slice_get, IfOk, IfErr, IfNone, IfSome, IsTrue, Some, true};
 ghost use Rattle.om_process.specs.Core.{CoreState};
 ghost use Rattle.om_world.specs.Happened.{IsUp, NotRunning};
 ghost use Rattle.om_world.specs.Holds.{Holds};
-ghost use Rattle.om_world.specs.World.{IsKnown};
+ghost use Rattle.om_world.specs.World.{IsKnown, all_clean};
 
 use crate::entry::Entry;
 use crate::event::Refusal;
@@ -100,9 +100,10 @@ impl<S: Stable> World<S> {
 }
 
 impl<S: Stable> World<S> {
-    // What holds of a world of which all is known.
+    // What holds of a world of which all is known; and over stores that are always clean, that all are.
     pub(crate) fn told(&self)
-        ensures { IsKnown self.now → Holds self.now }
+        ensures holds { IsKnown self.now → Holds self.now }
+        ensures always { ((store : S) → IsTrue (S.is_clean store)) → all_clean self.now.clean ≡ true }
     {
         let _ = &self.live;
     }
