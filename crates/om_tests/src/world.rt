@@ -168,6 +168,24 @@ fn events_are_refused(rt: HostRuntime) {
     assert_eq!(&rt; answers.as_slice(), expected.as_slice());
 }
 
+// What a start of one process with a memory of this size, over a store of its own, is refused with.
+fn refused(alloc: Global, size: u32) -> Result<(), StartFault> {
+    let mut images = Vec::with_capacity(alloc, 1)?;
+    images.push_reserved(image(alloc, &SENDS, size)?);
+    let mut stores = Vec::with_capacity(alloc, 1)?;
+    stores.push_reserved(MemStable::new(alloc));
+    let _ = World::start(alloc, &images, stores)?;
+    Ok(())
+}
+
+#[test]
+fn starts_are_refused(rt: HostRuntime) {
+    let alloc = rt.alloc();
+    assert_eq!(&rt; refused(alloc, 24), Ok(()));
+    assert_eq!(&rt; refused(alloc, 20), Err(StartFault::ImageTooLong));
+    assert_eq!(&rt; refused(alloc, 22), Err(StartFault::BadSize));
+}
+
 #[test]
 fn laws_are_called(_rt: HostRuntime) {
     laws::one_more();

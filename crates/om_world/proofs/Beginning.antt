@@ -3,6 +3,7 @@ use Rattle.std.proofs.Common.{◌≡◌, inl, ℕ, zero, suc, ◌+◌, ◌≤◌
 use Rattle.std.proofs.lemmas.List.{length-replicate}
 use Rattle.std.specs.Prelude.{◌&&◌, All, IsTrue, slice_get, slice_index_or}
 use Rattle.std.specs.FinMap.{get, get-empty, empty}
+use Rattle.std.specs.List.{AllByRecursion}
 use Rattle.om_interval.specs.declared.pid.TheConstants.{MAX_PROCESSES}
 use Rattle.om_interval.specs.Starts.{newest_of}
 use Rattle.om_format.specs.Queues.{QueueRecord}
@@ -31,7 +32,7 @@ use Rattle.om_world.specs.Live.{program_at}
 use Rattle.om_world.specs.World.{WorldState, Past, history, IsEmpty, IsKnown, all_clean}
 use Rattle.om_world.specs.Holds.{HasRecord}
 use Rattle.om_world.specs.Started.{HaveFirst, IsLoadable, IsNew, IsStarted}
-use Rattle.om_world.specs.steps.Sound.{HasShape, IsCoreOf, IsRunning, IsStored, IsUpIn, IsWorld, Sound, all_sound}
+use Rattle.om_world.specs.steps.Sound.{HasShape, IsCoreOf, IsRunning, IsStored, IsUpIn, IsWorld, Sound}
 use Rattle.om_world.specs.steps.Starting.{AreStarted}
 use Rattle.om_world.proofs.Gaining.{checkpoint_stored}
 use Rattle.om_world.proofs.Holding.{before_map}
@@ -90,11 +91,11 @@ clean_at is_clean (x ∷ xs) (suc i) s all at = clean_at is_clean xs i s (second
     second true b e = e
     second false b e = cc
 
-clean_from : {S : Type 0} (is_clean : S → Bool) (xs : List S) → ((i : ℕ) (s : S) → slice_get xs i ≡ Some s → is_clean s ≡ true) → all_clean (map is_clean xs) ≡ true
+pub clean_from : {S : Type 0} (is_clean : S → Bool) (xs : List S) → ((i : ℕ) (s : S) → slice_get xs i ≡ Some s → is_clean s ≡ true) → all_clean (map is_clean xs) ≡ true
 clean_from is_clean [] each = refl
 clean_from is_clean (x ∷ xs) each = ap (λ b. b && all_clean (map is_clean xs)) (each 0 x refl) ∙ clean_from is_clean xs (λ i. each (suc i))
 
-sound_from : {S : Type 0} (IsSound : S → Type 0) (xs : List S) → ((i : ℕ) (s : S) → slice_get xs i ≡ Some s → IsSound s) → all_sound IsSound xs
+sound_from : {S : Type 0} (IsSound : S → Type 0) (xs : List S) → ((i : ℕ) (s : S) → slice_get xs i ≡ Some s → IsSound s) → AllByRecursion IsSound xs
 sound_from IsSound [] each = tt
 sound_from IsSound (x ∷ xs) each = (each 0 x refl, sound_from IsSound xs (λ i. each (suc i)))
 
@@ -277,7 +278,7 @@ sound_begun content is_clean IsSound programs cores xs ys m b known = record {
   joined = λ p x at. absurd (not_joined (presence_of (presences_of m.gathering) p) x (nobody_in m p b.fresh.gathering) at);
 }
 
-stores_sound : {S : Type 0} (content : S → Content) (is_clean : S → Bool) (IsSound : S → Type 0) (programs : List Program) (cores : List (Option CoreState)) (xs ys : List S) (m : ManagerState) → IsBegun content is_clean IsSound programs cores xs ys m → all_clean (map is_clean ys) ≡ true → all_sound IsSound ys
+stores_sound : {S : Type 0} (content : S → Content) (is_clean : S → Bool) (IsSound : S → Type 0) (programs : List Program) (cores : List (Option CoreState)) (xs ys : List S) (m : ManagerState) → IsBegun content is_clean IsSound programs cores xs ys m → all_clean (map is_clean ys) ≡ true → AllByRecursion IsSound ys
 stores_sound content is_clean IsSound programs cores xs ys m b all = sound_from IsSound ys (λ p s at.
     let short = inside ys p s at in
     let size = b.started.size in

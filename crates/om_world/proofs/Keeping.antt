@@ -1,6 +1,5 @@
 -- What each event leaves.
-use Rattle.std.proofs.Common.{◌≡◌, ℕ, List, [], ◌∷◌, ◌++◌, ◌&&◌, Bool, true, map, Result, refl, sym, ap, ◌∙◌, subst, arith}
-use Rattle.std.specs.Prelude.{IsTrue}
+use Rattle.std.proofs.Common.{◌≡◌, ℕ, List, [], ◌∷◌, ◌++◌, Result, refl, sym, ap, ◌∙◌, subst, arith}
 use mathlib.Core.List.{IsPrefix}
 use Rattle.om_stable.specs.declared.error.StoreError.{StoreError}
 use Rattle.om_process.specs.declared.row.Row.{Row}
@@ -24,11 +23,6 @@ prefix_then xs ys zs a b = (a.0 ++ b.0, joined xs a.0 b.0 ∙ ap (λ l. l ++ b.0
     joined : {A : Type 0} (xs ys zs : List A) → xs ++ (ys ++ zs) ≡ (xs ++ ys) ++ zs
     joined [] ys zs = refl
     joined (x ∷ xs) ys zs = ap (λ l. x ∷ l) (joined xs ys zs)
-
--- stores that never fail are clean
-pub clean_all : {S : Type 0} (is_clean : S → Bool) → ((store : S) → IsTrue (is_clean store)) → (stores : List S) → all_clean (map is_clean stores) ≡ true
-clean_all is_clean never [] = refl
-clean_all is_clean never (store ∷ stores) = ap (λ b. b && all_clean (map is_clean stores)) (never store) ∙ clean_all is_clean never stores
 
 pub keeps_same : (m : ManagerState) → KeepsReleased m m
 keeps_same m p lt = prefix_same (released_by m p)

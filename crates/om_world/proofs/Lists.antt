@@ -1,9 +1,9 @@
 -- Lists of which one element changes.
 use Rattle.std.proofs.Common.{◌≡◌, ◌≢◌, ◌⊎◌, inl, inr, ℕ, zero, suc, ◌<◌, List, [], ◌∷◌, length, map, set, get_or, Option, Some, None, Bool, true, false, refl, sym, ap, ◌∙◌, subst, arith}
+use Rattle.std.specs.List.{AllByRecursion}
 use Rattle.std.specs.Prelude.{◌&&◌, nat_eq, slice_get}
 use Rattle.std.proofs.lemmas.Bool.Decides.{nat_tests}
 use Rattle.om_world.specs.World.{all_clean}
-use Rattle.om_world.specs.steps.Sound.{all_sound}
 
 pub none_in : {A : Type 0} (i : ℕ) (s : A) → slice_get [] i ≡ Some s → ⊥
 none_in i s h = cc
@@ -64,12 +64,12 @@ clean_before clean [] i s t at was all = absurd (none_in i s at)
 clean_before clean (x ∷ xs) zero s t at was all = let b = both (clean t) (all_clean (map clean xs)) all in (ap (λ c. c && all_clean (map clean xs)) (ap clean (once x s at) ∙ was b.0) ∙ b.1, b.0)
 clean_before clean (x ∷ xs) (suc i) s t at was all = let b = both (clean x) (all_clean (map clean (set xs i t))) all in let r = clean_before clean xs i s t at was b.1 in (ap (λ c. c && all_clean (map clean xs)) b.0 ∙ r.0, r.1)
 
-pub sound_at : {S : Type 0} (IsSound : S → Type 0) (xs : List S) (i : ℕ) (s : S) → all_sound IsSound xs → slice_get xs i ≡ Some s → IsSound s
+pub sound_at : {S : Type 0} (IsSound : S → Type 0) (xs : List S) (i : ℕ) (s : S) → AllByRecursion IsSound xs → slice_get xs i ≡ Some s → IsSound s
 sound_at IsSound [] i s all at = absurd (none_in i s at)
 sound_at IsSound (x ∷ xs) zero s all at = subst IsSound (once x s at) all.0
 sound_at IsSound (x ∷ xs) (suc i) s all at = sound_at IsSound xs i s all.1 at
 
-pub sound_set : {S : Type 0} (IsSound : S → Type 0) (xs : List S) (i : ℕ) (t : S) → all_sound IsSound xs → IsSound t → all_sound IsSound (set xs i t)
+pub sound_set : {S : Type 0} (IsSound : S → Type 0) (xs : List S) (i : ℕ) (t : S) → AllByRecursion IsSound xs → IsSound t → AllByRecursion IsSound (set xs i t)
 sound_set IsSound [] i t all is = tt
 sound_set IsSound (x ∷ xs) zero t all is = (is, all.1)
 sound_set IsSound (x ∷ xs) (suc i) t all is = (all.0, sound_set IsSound xs i t all.1 is)

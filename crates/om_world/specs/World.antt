@@ -1,6 +1,7 @@
 -- What is seen of a world.
-use Rattle.std.specs.Prelude.{◌≡◌, ℕ, List, [], ◌∷◌, ◌&&◌, All, slice_index, Bool, true, Option}
+use Rattle.std.specs.Prelude.{◌≡◌, ℕ, List, All, slice_index, Bool, true, Option}
 use Rattle.std.specs.FinMap.{empty}
+use Rattle.std.specs.List.{list_all}
 use Rattle.om_format.specs.declared.message.Message.{Message}
 use Rattle.om_format.specs.declared.queue.Entry as kept
 use Rattle.om_stable.specs.Content.{Content}
@@ -31,8 +32,7 @@ program_of image = record { image = image.bytes.items; size = image.size; ext = 
 
 -- what each store holds is known
 abbrev pub all_clean : List Bool → Bool
-all_clean [] = true
-all_clean (b ∷ bs) = b && all_clean bs
+all_clean = list_all (λ clean. clean)
 
 -- a store holds nothing
 abbrev pub IsEmpty : Content → Type 0

@@ -2,7 +2,6 @@
 
 ghost use Rattle.std.specs.Prelude.{◌≡◌, IfOk, IsTrue, OnErr, length, true};
 ghost use Rattle.om_manager.specs.Sound.{KeepsReleased};
-ghost use Rattle.om_manager.specs.State.{size_of};
 ghost use Rattle.om_world.specs.Happened.{Happened};
 ghost use Rattle.om_world.specs.Holds.{Holds};
 ghost use Rattle.om_world.specs.Played.{Played, Step};
@@ -52,19 +51,19 @@ impl<S: Stable> World<S> {
         answer
     }
 
-    /// Plays events in order, and answers each. What is refused, for want of memory too, is an answer; refused as a whole is
-    /// only room for the answers, and then no event is played.
+    /// Plays events in order, and answers each. An event that is refused, for want of memory too, is answered so, and the
+    /// next is played. Only where there is no room for the answers is the call refused, and then no event is played.
     ///
     /// Where the stores held nothing before the start and are clean as the call ends, each event did what its answer says,
-    /// the world is a point of a run without failures after each (`Holds`), and what was released still is.
+    /// and after each the world is a point of a run without failures (`Holds`; after Johnson and Zwaenepoel 1990). Stores of
+    /// a type that is always clean are (`always`).
     pub fn play(&mut self, alloc: Global, events: &[Event]) -> Result<Vec<Answer>, AllocError>
         ensures played { IsKnown self.new → IfOk result (λ answers. Played self.old events.now answers.items self.new) }
         ensures count { IfOk result (λ answers. length answers.items ≡ length events.now) }
         ensures holds { IsKnown self.new → Holds self.new }
         ensures released { KeepsReleased self.old.manager self.new.manager }
-        ensures size { size_of self.new.manager ≡ size_of self.old.manager }
         ensures clean { all_clean self.new.clean ≡ true → all_clean self.old.clean ≡ true }
-        ensures never { ((store : S) → IsTrue (S.is_clean store)) → all_clean self.new.clean ≡ true }
+        ensures always { ((store : S) → IsTrue (S.is_clean store)) → all_clean self.new.clean ≡ true }
         ensures origins { self.new.origins ≡ self.old.origins }
         ensures refused { OnErr result (self.new ≡ self.old) }
     {

@@ -115,12 +115,13 @@ fn no_rounds(alloc: Global, n: usize) -> Result<Vec<u32>, AllocError>
 }
 
 impl<S: Stable> World<S> {
-    /// Starts a process of each image over the store at its place: copies the images, and stores checkpoint 0 of each
-    /// process, in order.
+    /// Starts a cluster: of each image a process over the store at its place, with its checkpoint 0 stored, in order.
     ///
-    /// Refused with the fault of the first process that is not started, as `ProcCore::start` is, or with `Memory`; the
-    /// stores are dropped then. What a started world tells, `Holds` above all, it tells where the stores held nothing
-    /// before and what they hold is known (`IsKnown`).
+    /// Refused, with the fault of the first process that is not started, with `BadSize` and then `ImageTooLong` as its
+    /// machine is, then with what its store answers: `Present`, `Fault` or `Memory`; and with `Memory` wherever else
+    /// memory runs out. The stores are dropped then, and those of the processes before may hold their checkpoints.
+    ///
+    /// What holds of a world (`Holds`) is told of one whose stores held nothing before the start, and are clean.
     pub fn start(alloc: Global, images: &[Image], stores: Vec<S>) -> Result<World<S>, StartFault>
         requires some { 1 ≤ length images.now }
         requires few { length images.now ≤ MAX_PROCESSES }
@@ -130,7 +131,7 @@ impl<S: Stable> World<S> {
         ensures stored { IfOk result (λ w. all_clean w.clean ≡ true → HaveFirst w) }
         ensures origins { IfOk result (λ w. w.origins ≡ map S.content stores.items) }
         ensures clean { IfOk result (λ w. all_clean w.clean ≡ true → all_clean (map S.is_clean stores.items) ≡ true) }
-        ensures never { IfOk result (λ w. ((store : S) → IsTrue (S.is_clean store)) → all_clean w.clean ≡ true) }
+        ensures always { IfOk result (λ w. ((store : S) → IsTrue (S.is_clean store)) → all_clean w.clean ≡ true) }
         ensures holds { IfOk result (λ w. IsKnown w → Holds w) }
         ensures loadable { OnOk result (All IsLoadable (map program_of images.now)) }
         ensures refused { IfErr result (λ fault. (fault ≡ StartFault.Memory)

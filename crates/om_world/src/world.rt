@@ -1,6 +1,6 @@
 //! The world.
 
-ghost use Rattle.std.specs.Prelude.{◌≡◌, ◌<◌, ◌≤◌, length, map, slice_get, true, IfOk, IfErr, IfNone, IfSome, IsTrue, Some};
+ghost use Rattle.std.specs.Prelude.{◌≡◌, ◌<◌, ◌≤◌, length, map, slice_get, IfOk, IfErr, IfNone, IfSome, IsTrue, Some, true};
 ghost use Rattle.om_process.specs.Core.{CoreState};
 ghost use Rattle.om_world.specs.Happened.{IsUp, NotRunning};
 ghost use Rattle.om_world.specs.Holds.{Holds};
@@ -100,10 +100,10 @@ impl<S: Stable> World<S> {
 }
 
 impl<S: Stable> World<S> {
-    // What holds of a world of which all is known, and of one whose stores never fail.
+    // What holds of a world of which all is known; and over stores that are always clean, that all are.
     pub(crate) fn told(&self)
         ensures holds { IsKnown self.now → Holds self.now }
-        ensures never { ((store : S) → IsTrue (S.is_clean store)) → all_clean self.now.clean ≡ true }
+        ensures always { ((store : S) → IsTrue (S.is_clean store)) → all_clean self.now.clean ≡ true }
     {
         let _ = &self.live;
     }

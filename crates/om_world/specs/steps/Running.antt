@@ -48,7 +48,8 @@ abbrev pub offer_of : ℕ → ℕ → Made → Offer
 offer_of round p m = record { pid = p; round = round; seq = m.seq; output = record { interval = m.interval; bytes = m.bytes } }
 
 -- an output is handed in
-pub record IsHanded (old : ManagerState) (round p : ℕ) (m : Made) (answer : Result OutputNote OutputError) (new : ManagerState) : Type 0 where
+pub record IsHanded (old : ManagerState) (round p : ℕ) (m : Made) (answer : Result OutputNote OutputError)
+    (new : ManagerState) : Type 0 where
   pub answers : NotesOutput old (offer_of round p m) answer new
   pub sound : IsManager new
   pub below : IsBelow old.recovery new.recovery

@@ -1,6 +1,7 @@
 -- What is kept of a world by each call that it makes.
 use Rattle.std.specs.Prelude.{◌≡◌, ◌⊎◌, ℕ, ◌<◌, ◌≤◌, List, [], ◌∷◌, ◌++◌, length, take, slice_get, slice_index, false, Some, None, if◌then◌else◌}
 use Rattle.std.specs.FinMap.{get}
+use Rattle.std.specs.List.{AllByRecursion}
 use Rattle.om_interval.specs.declared.pid.TheConstants.{MAX_PROCESSES}
 use Rattle.om_interval.specs.Starts.{IsOrphan, is_named, newest_of}
 use Rattle.om_format.specs.declared.message.Message.{Message}
@@ -154,11 +155,7 @@ pub record Sound (w : WorldState) : Type 0 where
       → IsUpIn w.manager p c
   pub joined : (p x : ℕ) → presence_of (presences_of w.manager.gathering) p ≡ Joined x → x ≡ length (history (past_of w) p)
 
-abbrev pub all_sound : {S : Type 0} → (S → Type 0) → List S → Type 0
-all_sound IsSound [] = Unit {0}
-all_sound IsSound (s ∷ ss) = IsSound s × all_sound IsSound ss
-
 -- what a world keeps, over its stores
 pub record IsWorld {S : Type 0} (IsSound : S → Type 0) (stores : List S) (w : WorldState) : Type 0 where
   pub shape : HasShape w
-  pub clean : IsKnown w → all_sound IsSound stores × Sound w
+  pub clean : IsKnown w → AllByRecursion IsSound stores × Sound w

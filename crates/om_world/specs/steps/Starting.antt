@@ -1,5 +1,6 @@
 -- What each process's start does.
-use Rattle.std.specs.Prelude.{◌≡◌, ℕ, ◌<◌, ◌≤◌, List, length, slice_get, slice_set, Bool, IsTrue, Option, None, Some, Result, IfOk, IfErr, OnOk}
+use Rattle.std.specs.Prelude.{◌≡◌, ℕ, ◌<◌, ◌≤◌, List, length, slice_get, slice_set, Bool, IsTrue, Option, None, Some}
+use Rattle.std.specs.Prelude.{Result, IfOk, IfErr, OnOk}
 use Rattle.std.specs.FinMap.{get}
 use Rattle.om_stable.specs.Calls as calls
 use Rattle.om_stable.specs.Content.{Content}

@@ -4,9 +4,8 @@ use Rattle.om_world.specs.Holds.{Holds}
 use Rattle.om_world.specs.Started.{HaveFirst, IsStarted}
 use Rattle.om_world.specs.World.{WorldState, IsKnown, all_clean, program_of}
 use Rattle.om_world.specs.steps.Sound.{IsWorld}
-use Rattle.om_world.proofs.Beginning.{all_at, all_loadable, begun, begun_by, begun_is, clean_begun, have_first, is_started, world_begun}
+use Rattle.om_world.proofs.Beginning.{all_at, all_loadable, begun, begun_by, begun_is, clean_begun, clean_from, have_first, is_started, world_begun}
 use Rattle.om_world.proofs.Holding.{world_holds}
-use Rattle.om_world.proofs.Keeping.{clean_all}
 use Rattle.om_world.proofs.Lists.{length-map}
 use Rattle.om_world.proofs.world.World.start.Goals as goal
 
@@ -68,8 +67,8 @@ returns-clause-clean g c =
     let b = begun_by s.content s.is_clean s.IsSound programs n cores xs ys m size c.requires.few c.requires.stores c.in_ok-cores.ensures.started c.in_ok-manager.ensures.fresh c.in_ok-manager.ensures.sound (λ i x at. all_at (λ store. IsTrue (s.is_clean store) → s.IsSound store) xs i x c.requires.sound at) in
     clean_begun s.content s.is_clean s.IsSound programs cores xs ys m b
 
-pub returns-clause-never : goal.returns-clause-never
-returns-clause-never g c = λ never. clean_all g.S.Stable.is_clean never c.start_all.new.stores.items
+pub returns-clause-always : goal.returns-clause-always
+returns-clause-always g c = λ always. clean_from g.S.Stable.is_clean c.start_all.new.stores.items (λ i store at. always store)
 
 pub returns-clause-holds : goal.returns-clause-holds
 returns-clause-holds g c =
