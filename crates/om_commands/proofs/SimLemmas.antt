@@ -36,19 +36,19 @@ both false b h = cc
 
 is_size : (size : ℕ) → is_memory_size size ≡ true → IsSize size
 is_size size h =
-    let outer = both (nat_le 4 size) (nat_le size 65536 && (size % 4 == 0)) h in
-    let inner = both (nat_le size 65536) (size % 4 == 0) outer.1 in
+    let outer = both (nat_le 4 size && nat_le size 65536) (size % 4 == 0) h in
+    let inner = both (nat_le 4 size) (nat_le size 65536) outer.0 in
     record {
-      least = leb-true 4 size outer.0;
-      greatest = leb-true size 65536 inner.0;
-      in_words = eqb-true (size % 4) 0 inner.1;
+      least = leb-true 4 size inner.0;
+      greatest = leb-true size 65536 inner.1;
+      in_words = eqb-true (size % 4) 0 outer.1;
     }
 
 not_less : (a b : ℕ) → a ≤ b → b < a → ⊥
 not_less a b le lt = omega (arith, le, lt)
 
 none_there : {A : Type 0} (o : Option A) → o ≡ None → IsSome o → ⊥
-none_there None is some = some
+none_there None is some = cc
 none_there (Some x) is some = absurd (none-some x (sym is))
 
 not_risen : Rose 0 0 → ⊥

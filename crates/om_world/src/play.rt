@@ -2,6 +2,7 @@
 
 ghost use Rattle.std.specs.Prelude.{◌≡◌, IfOk, IsTrue, OnErr, length, true};
 ghost use Rattle.om_manager.specs.Sound.{KeepsReleased};
+ghost use Rattle.om_manager.specs.State.{size_of};
 ghost use Rattle.om_world.specs.Happened.{Happened};
 ghost use Rattle.om_world.specs.Holds.{Holds};
 ghost use Rattle.om_world.specs.Played.{Played, Step};
@@ -62,6 +63,7 @@ impl<S: Stable> World<S> {
         ensures count { IfOk result (λ answers. length answers.items ≡ length events.now) }
         ensures holds { IsKnown self.new → Holds self.new }
         ensures released { KeepsReleased self.old.manager self.new.manager }
+        ensures size { size_of self.new.manager ≡ size_of self.old.manager }
         ensures clean { all_clean self.new.clean ≡ true → all_clean self.old.clean ≡ true }
         ensures always { ((store : S) → IsTrue (S.is_clean store)) → all_clean self.new.clean ≡ true }
         ensures origins { self.new.origins ≡ self.old.origins }
