@@ -1,5 +1,5 @@
 -- What is read of the outputs of a process, and why a world is not begun.
-use Rattle.std.proofs.Common.{◌≡◌, ◌⊎◌, ℕ, ◌<◌, ◌≤◌, ◌%◌, ◌==◌, nat_le, Option, Some, None, Bool, true, false, ◌&&◌, List, [], length, get_or, map, refl, ap, sym, subst, ◌∙◌, ⊎_elim, arith}
+use Rattle.std.proofs.Common.{◌≡◌, ◌⊎◌, ℕ, ◌<◌, ◌≤◌, ◌%◌, ◌==◌, nat_le, Option, Some, None, Bool, true, false, ◌&&◌, List, [], ◌++◌, length, get_or, map, refl, ap, sym, subst, ◌∙◌, ⊎_elim, arith}
 use Rattle.std.specs.Prelude.{All}
 use Rattle.std.specs.Prelude.{IsSome}
 use Rattle.std.specs.FinMap.{get, get-empty}
@@ -16,12 +16,17 @@ use Rattle.om_format.specs.Checkpoints.{is_memory_size}
 use Rattle.om_process.specs.Process.{Program}
 use Rattle.om_process.specs.declared.start.StartFault.{StartFault}
 use Rattle.om_process.specs.declared.start.StartFault.TheVariants.{BadPlace, BadSize, ImageTooLong, Present, Fault, Memory}
-use Rattle.om_programs.specs.Programs.{IsProgram}
+use Rattle.om_programs.specs.Programs.{Cluster, IsProgram, programs_of}
 use Rattle.om_stable.specs.Content.{Content}
 use Rattle.om_world.proofs.Beginning.{all_at}
 use Rattle.om_world.specs.Started.{IsRefusedAt, IsWhy}
-use Rattle.om_world.specs.World.{IsEmpty}
-use Rattle.om_commands.specs.SimText.{bytes_at}
+use Rattle.om_world.specs.Played.{Played}
+use Rattle.om_world.specs.World.{WorldState, IsEmpty, IsKnown}
+use Rattle.om_world.specs.declared.event.Answer.{Answer}
+use Rattle.om_world.specs.declared.event.Event.{Event}
+use Rattle.om_commands.specs.Sim.{IsAnswer, IsBegun}
+use Rattle.om_commands.specs.SimScript.{Script}
+use Rattle.om_commands.specs.SimText.{answers_text, bytes_at, end_text}
 
 -- the bytes of an output at its place
 pub held-bytes : (outputs : List Output) (number : ℕ) (o : Output) (bytes : List ℕ) → number < length outputs
@@ -75,3 +80,20 @@ only_memory programs stores fault sizes empty told = ⊎_elim (λ is. is)
 -- stores in memory are what they hold
 pub all_same : (stores : List Content) → All IsEmpty stores → All IsEmpty (map (λ s. s) stores)
 all_same stores all = All-map IsEmpty (λ s. s) stores all
+
+-- a script is answered by what its parts give
+pub is_answer : (script : Script) (cluster : Cluster) (programs : List Program) (begun end : WorldState) (events : List Event) (answers told : List Answer) (text : List ℕ)
+    → cluster ≡ script.cluster → programs ≡ programs_of cluster → events ≡ script.events → told ≡ answers
+    → IsBegun programs begun → Played begun events answers end → IsKnown end
+    → text ≡ answers_text told ++ end_text cluster (length cluster.processes) end → IsAnswer script text
+is_answer script cluster programs begun end events answers told text same_cluster same_programs same_events same_answers is_begun played known written = (
+  begun,
+  end,
+  answers,
+  subst (λ ps. IsBegun ps begun) (same_programs ∙ ap programs_of same_cluster) is_begun,
+  subst (λ es. Played begun es answers end) same_events played,
+  known,
+  written
+      ∙ ap (λ xs. answers_text xs ++ end_text cluster (length cluster.processes) end) same_answers
+      ∙ ap (λ c. answers_text answers ++ end_text c (length c.processes) end) same_cluster,
+)

@@ -1,5 +1,5 @@
 -- What is written of a world: an answer to each event, and how it stands in the end.
-use Rattle.std.specs.Prelude.{ℕ, List, [], ◌∷◌, ◌++◌, length, slice_get, slice_index_or, Option, None, Some, codes, decimal}
+use Rattle.std.specs.Prelude.{ℕ, List, [], ◌∷◌, ◌++◌, length, slice_get, slice_index_or, Option, Some, codes, decimal}
 use Rattle.std.specs.List.{flat_map, range_with_len}
 use Rattle.hex.specs.Hex.{encode_lower}
 use Rattle.om_manager.specs.Outputs.{HeldOutput}

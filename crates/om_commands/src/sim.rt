@@ -36,9 +36,18 @@ pub fn sim<R: Read, W: Write>(
         IfErr result (IsErrorOf meaning_of no_lines LacksProcesses bytes)) }
     ensures silent { IfErr result (λ error. IsSilent error (Keeps (W.contents writer.old) (W.contents writer.new))) }
 {
-    let script = read_input(alloc, reader, SimScript::new(alloc))?;
-    let text = answer(alloc, &script)?;
+    let text = answer_to(alloc, reader)?;
     write_answer(writer, text.as_bytes())
+}
+
+// The text that answers the script of an input.
+fn answer_to<R: Read>(alloc: Global, reader: &mut R) -> Result<String, CommandError>
+    ensures text { IfSome (R.remaining reader.old) (λ bytes. IfOk result (λ text. IsSim bytes (string_bytes text))) }
+    ensures error { IfSome (R.remaining reader.old) (λ bytes.
+        IfErr result (IsErrorOf meaning_of no_lines LacksProcesses bytes)) }
+{
+    let script = read_input(alloc, reader, SimScript::new(alloc))?;
+    answer(alloc, &script)
 }
 
 // The text that answers a script.

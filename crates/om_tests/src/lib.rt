@@ -15,6 +15,8 @@ mod machine;
 #[cfg(test)]
 mod programs;
 #[cfg(test)]
+mod sim;
+#[cfg(test)]
 mod text;
 #[cfg(test)]
 mod world;

@@ -38,7 +38,7 @@ fn run_at(
 }
 
 // How many messages to each process a process keeps.
-fn messages_kept(core: &ProcCore) -> [usize; MAX_PROCESSES]
+pub(crate) fn messages_kept(core: &ProcCore) -> [usize; MAX_PROCESSES]
     ensures { AreKept core.now result }
 {
     let mut counts = [0; MAX_PROCESSES];

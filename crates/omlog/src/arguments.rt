@@ -9,6 +9,7 @@ use clap::{Arg, ArgAction, Command, Error};
 use om_commands::CommandError;
 use om_commands::decode::decode;
 use om_commands::frontier::frontier;
+use om_commands::sim::sim;
 use om_isa::Ext;
 use om_text::number_of;
 use std::alloc::Global;
@@ -59,6 +60,40 @@ Answers:
   stranger     there is no process P
 A faulty script is refused whole: 'line N: ..' on standard error, status 1.";
 
+const SIM: &str = "sim";
+
+const SIM_HELP: &str = "\
+Reads programs, processes and events from standard input, plays the events in
+order over stores in memory, and writes a line for each: what was answered.
+Then it writes how all stands in the end.
+
+  program NAME SIZE WORD ..    a program of RV32I: the bytes of its memory, and
+                               the words at its start in hexadecimal
+  program-m NAME SIZE WORD ..  the same, with RV32M
+  proc NAME PROGRAM            a process of it; they are numbered from 0
+
+  run P K          process P runs, at most K instructions
+  give P F         frame F is offered to P; messages become frames as they are
+                   sent, numbered from 0, and a frame may be given many times
+  flush P          P stores what it received, and notes it to the manager
+  checkpoint P     P stores its state, and notes it
+  resend P         each message that P keeps becomes a new frame
+  trim P           P drops what it need not keep
+  prune            the manager and the stores drop what they need not keep
+
+Answers:
+  ran STEPS STATUS sent M made K   STATUS is ready, waiting, ended CODE or
+                                   trapped CAUSE; M messages, K outputs
+  taken X, repeat, ahead, orphan, not-waiting, stranger, full   to a give;
+                                   X is the interval that begins
+  noted K, sent M, trimmed, pruned
+  no-process, not-up, no-frame, present, fault, damaged, memory
+In the end:
+  recovery X0 ..                   the greatest recoverable state
+  proc NAME inc I interval X STATUS
+  out NAME NUMBER HEX              an output that may be released
+A faulty script is refused whole: 'line N: ..' on standard error, status 1.";
+
 const REPLAY: &str = "replay";
 
 const REPLAY_HELP: &str = "\
@@ -90,6 +125,7 @@ const INTERVAL: &str = "INTERVAL";
 pub(crate) enum Request<'a> {
     Decode(Ext),
     Frontier,
+    Sim,
     Replay { file: &'a str, interval: u32 },
 }
 
@@ -111,6 +147,7 @@ fn carry_out(rt: &HostRuntime, request: Request<'_>) -> Result<(), CommandError>
     match request {
         Request::Decode(ext) => decode(rt.alloc(), ext, &mut rt.reader(), writer),
         Request::Frontier => frontier(rt.alloc(), &mut rt.reader(), writer),
+        Request::Sim => sim(rt.alloc(), &mut rt.reader(), writer),
         Request::Replay { file, interval } => replay_file(rt, file, interval, writer),
     }
 }
@@ -146,6 +183,7 @@ fn request_named<'a>(name: &str, with_m: bool) -> Option<Request<'a>>
     match name {
         DECODE => Some(Request::Decode(if with_m { Ext::Im } else { Ext::I })),
         FRONTIER => Some(Request::Frontier),
+        SIM => Some(Request::Sim),
         _ => None,
     }
 }
@@ -167,6 +205,7 @@ fn command<'a>(alloc: Global) -> Result<Command<'a>, Error> {
         .subcommand_required(true)
         .subcommand(decode_command(alloc)?)?
         .subcommand(frontier_command(alloc))?
+        .subcommand(sim_command(alloc))?
         .subcommand(replay_command(alloc)?)?;
     Ok(command)
 }
@@ -187,6 +226,12 @@ fn frontier_command<'a>(alloc: Global) -> Command<'a> {
     Command::new(alloc, FRONTIER)
         .about("The greatest recoverable state after each note of a record script")
         .after_help(FRONTIER_HELP)
+}
+
+fn sim_command<'a>(alloc: Global) -> Command<'a> {
+    Command::new(alloc, SIM)
+        .about("Logged processes that are played event by event")
+        .after_help(SIM_HELP)
 }
 
 fn replay_command<'a>(alloc: Global) -> Result<Command<'a>, Error> {

@@ -1,4 +1,4 @@
-use Rattle.std.proofs.Common.{◌≡◌, ◌∙◌, length, map, refl, subst, sym, ap}
+use Rattle.std.proofs.Common.{map, refl, subst, sym}
 use Rattle.std.specs.Prelude.{All}
 use Rattle.om_process.specs.Images.{program_of}
 use Rattle.om_world.specs.World.{IsEmpty, IsKnown}

@@ -1,4 +1,4 @@
-use Rattle.std.proofs.Common.{◌≡◌, ◌++◌, ◌∙◌, ap, map, string_bytes}
+use Rattle.std.proofs.Common.{◌++◌, ◌∙◌, ap, map, string_bytes}
 use Rattle.om_manager.specs.Outputs.{held_of}
 use Rattle.om_manager.specs.State.{released_by}
 use Rattle.om_commands.specs.SimText.{name_at, outputs_text, released_text}

@@ -1,5 +1,4 @@
-use Rattle.std.proofs.Common.{◌*◌, ◌∙◌, ap, ◌++◌, string_bytes}
-use Rattle.std.specs.List.{flat_map, range_with_len}
+use Rattle.std.proofs.Common.{◌*◌, string_bytes}
 use Rattle.om_commands.specs.StateText.{memory_line}
 use Rattle.om_commands.specs.declared.state_text.TheConstants.{ROW_BYTES}
 use Rattle.om_commands.proofs.TextLemmas.{text_grows}

@@ -1,0 +1,141 @@
+//! Scripts of worlds, and what the command writes of them.
+
+use om_commands::sim::sim;
+use std::alloc::Global;
+use std::process::Abort;
+
+// What the command writes of an input, or the text of its error.
+fn told(rt: &impl Abort, alloc: Global, input: &str) -> Vec<u8> {
+    let mut written = Vec::new(alloc);
+    match sim(alloc, &mut input.as_bytes(), &mut written) {
+        Ok(()) => written,
+        Err(error) => {
+            assert!(rt; written.is_empty());
+            error.to_string(alloc).expect(rt, "memory").into_bytes()
+        }
+    }
+}
+
+// Three processes: a receives and puts out what came, b receives and sends it to process 0, c sends its first 4 bytes to
+// process 1.
+const THREE: &str = "\
+program pa 128 00200893 04000513 00400593 00000073 00300893 00050593 04000513 00000073 00000893 00000073
+program pb 128 00200893 04000513 00400593 00000073 00100893 00050613 00000513 04000593 00000073 00000893 00000073
+program pc 64 00100893 00100513 00400613 00000073 00000893 00000073
+proc a pa
+proc b pb
+proc c pc
+";
+
+// Events over them, the answers, and the states of the processes in the end. Nothing is recovered or released.
+const EVENTS: [(&str, &str, [&str; 3]); 4] = [
+    (
+        "run 0 100\nrun 1 100\nrun 2 100\ngive 1 0\nrun 1 100\ngive 0 1\nrun 0 100\nflush 0\n",
+        "\
+ran 3 waiting sent 0 made 0
+ran 3 waiting sent 0 made 0
+ran 5 ended 0 sent 1 made 0
+taken 1
+ran 6 ended 0 sent 1 made 0
+taken 1
+ran 5 ended 0 sent 0 made 1
+noted 1
+",
+        [
+            "interval 1 ended 0",
+            "interval 1 ended 0",
+            "interval 0 ended 0",
+        ],
+    ),
+    (
+        "run 0 100\ncheckpoint 0\ngive 0 5\nresend 0\ntrim 0\nrun 3 1\n",
+        "ran 3 waiting sent 0 made 0\npresent\nno-frame\nsent 0\ntrimmed\nno-process\n",
+        ["interval 0 waiting", "interval 0 ready", "interval 0 ready"],
+    ),
+    (
+        "prune\nprune\ncheckpoint 0\ncheckpoint 1\ncheckpoint 2\n",
+        "pruned\npruned\npresent\npresent\npresent\n",
+        ["interval 0 ready", "interval 0 ready", "interval 0 ready"],
+    ),
+    (
+        "run 2 100\nresend 2\ngive 0 0\ngive 1 0\nrun 1 3\ngive 1 1\ngive 1 0\n",
+        "ran 5 ended 0 sent 1 made 0\nsent 1\nstranger\nnot-waiting\nran 3 waiting sent 0 made 0\ntaken 1\nrepeat\n",
+        ["interval 0 ready", "interval 1 ready", "interval 0 ended 0"],
+    ),
+];
+
+#[test]
+fn events_and_their_answers(rt: HostRuntime) {
+    for (events, answers, [a, b, c]) in EVENTS {
+        let input = format!(in rt.alloc(); "{THREE}{events}").expect(&rt, "memory");
+        let wanted = format!(in rt.alloc();
+            "{answers}recovery 0 0 0\nproc a inc 0 {a}\nproc b inc 0 {b}\nproc c inc 0 {c}\n"
+        ).expect(&rt, "memory");
+        let text = told(&rt, rt.alloc(), input.as_str());
+        assert_eq!(rt; text.as_slice(), wanted.as_bytes(), "{events}");
+    }
+}
+
+// One process; what it puts out is released, where it depends on no receipt.
+#[test]
+fn programs_are_those_of_their_flag(rt: HostRuntime) {
+    for (kind, text) in [
+        (
+            "program-m",
+            "ran 8 ended 0 sent 0 made 1\nrecovery 0\nproc d inc 0 interval 0 ended 0\nout d 0 ffffffff\n",
+        ),
+        (
+            "program",
+            "ran 1 trapped 1 sent 0 made 0\nrecovery 0\nproc d inc 0 interval 0 trapped 1\n",
+        ),
+    ] {
+        let input = format!(in rt.alloc();
+            "{kind} dv 128 00700093 0200C1B3 04302023 00300893 04000513 00400593 00000073 00000893 00000073\nproc d dv\nrun 0 100\n"
+        ).expect(&rt, "memory");
+        let written = told(&rt, rt.alloc(), input.as_str());
+        assert_eq!(rt; written.as_slice(), text.as_bytes(), "{kind}");
+    }
+}
+
+const SEVENTEEN: &str = "program a 4
+proc p0 a\nproc p1 a\nproc p2 a\nproc p3 a\nproc p4 a\nproc p5 a\nproc p6 a\nproc p7 a\nproc p8 a
+proc p9 a\nproc p10 a\nproc p11 a\nproc p12 a\nproc p13 a\nproc p14 a\nproc p15 a\nproc p16 a\n";
+
+#[test]
+fn faulty_scripts(rt: HostRuntime) {
+    for (input, text) in [
+        ("", "empty script"),
+        ("program a 4\n", "empty script"),
+        ("run 0 1\n", "empty script"),
+        ("program a 6\n", "line 1: bad size"),
+        ("program a 4 00000013 00000013\n", "line 1: image too long"),
+        ("program a-b 4\n", "line 1: bad name"),
+        ("program a 4 13\n", "line 1: bad word"),
+        ("program a 4\nprogram a 4\n", "line 2: name taken"),
+        ("proc x nosuch\n", "line 1: no such name"),
+        (SEVENTEEN, "line 18: too many"),
+        (
+            "program a 4\nproc p a\nprune\nprogram b 4\n",
+            "line 4: out of place",
+        ),
+        (
+            "program a 4\nproc p a\nprune\nproc q a\n",
+            "line 4: out of place",
+        ),
+        ("fail 0\n", "line 1: unknown line"),
+        ("join 0\n", "line 1: unknown line"),
+        ("resume 0\n", "line 1: unknown line"),
+        ("run 0\n", "line 1: wrong count of words"),
+        ("prune 0\n", "line 1: wrong count of words"),
+        ("flush\n", "line 1: wrong count of words"),
+        ("give 0 4294967296\n", "line 1: bad number"),
+        ("give 0 4294967295\n", "empty script"),
+        ("run 4294967296 1\n", "line 1: bad number"),
+        ("run 0 18446744073709551616\n", "line 1: bad number"),
+        ("run 0 18446744073709551615\n", "empty script"),
+        ("checkpoint x\n", "line 1: bad number"),
+    ] {
+        let told = told(&rt, rt.alloc(), input);
+        assert_eq!(rt; told.as_slice(), text.as_bytes(), "{input}");
+    }
+}
