@@ -2,6 +2,7 @@ use Rattle.std.proofs.Common.{ℕ, refl}
 use Rattle.om_recover.specs.Recoverable.{IsStable}
 use Rattle.om_recover.specs.Cutting.{IsEffective}
 use Rattle.om_recover.specs.steps.Nearest.{IsNearestTo, IsNearestFrom, HasNoneTo}
+use Rattle.om_recover.specs.steps.Logs.{log_entries}
 use Rattle.om_recover.specs.steps.Held.{row_of, held, AreTrees, IsRecordTo, IsRecordFrom}
 use Rattle.om_recover.specs.declared.trees.Vectors.{Vectors}
 use Rattle.om_recover.specs.declared.trees.Base.{Base}
@@ -10,7 +11,7 @@ use Rattle.om_recover.specs.declared.row.RowKind.TheVariants.{Checkpoint, Log}
 use Rattle.om_recover.proofs.HeldLemmas.{held_log, held_base, some_log, some_base}
 
 -- the nearest log, and the nearest checkpoint, at or below a bound
-pub log_to : (trees : Trees) (p to x : ℕ) (vectors : Vectors) → AreTrees trees → IsNearestTo trees.logs.entries p to x vectors → IsRecordTo (held trees) Log p to (row_of Log p x vectors)
+pub log_to : (trees : Trees) (p to x : ℕ) (vectors : Vectors) → AreTrees trees → IsNearestTo (log_entries trees.logs) p to x vectors → IsRecordTo (held trees) Log p to (row_of Log p x vectors)
 log_to trees p to x vectors sorted near = record {
   there = held_log trees p x vectors near.there;
   pid_is = refl;
@@ -27,7 +28,7 @@ base_to trees p to x base sorted near = record {
 }
 
 -- and at or above one
-pub log_from : (trees : Trees) (p from x : ℕ) (vectors : Vectors) → AreTrees trees → IsNearestFrom trees.logs.entries p from x vectors → IsRecordFrom (held trees) Log p from (row_of Log p x vectors)
+pub log_from : (trees : Trees) (p from x : ℕ) (vectors : Vectors) → AreTrees trees → IsNearestFrom (log_entries trees.logs) p from x vectors → IsRecordFrom (held trees) Log p from (row_of Log p x vectors)
 log_from trees p from x vectors sorted near = record {
   there = held_log trees p x vectors near.there;
   pid_is = refl;

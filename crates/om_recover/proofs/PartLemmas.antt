@@ -8,6 +8,7 @@ use Rattle.om_recover.specs.Rows.{Rows, HasRow, Has}
 use Rattle.om_recover.specs.Recoverable.{IsStable}
 use Rattle.om_recover.specs.Cutting.{cut_to, pruned_to}
 use Rattle.om_recover.specs.steps.Nearest.{place_cmp, at}
+use Rattle.om_recover.specs.steps.Logs.{ArePart, log_entries}
 use Rattle.om_recover.specs.steps.Held.{row_of, held, AreTrees, Reaches}
 use Rattle.om_recover.specs.declared.trees.Base.{Base}
 use Rattle.om_recover.specs.declared.trees.Trees.{Trees}
@@ -80,13 +81,13 @@ is_kept {X} test change old new p x value is passes there =
 
 -- the rows that are left where both trees keep the places that pass a test
 pub held_part : (before after : Trees) (test : ℕ × ℕ → Bool) (change : ℕ × ℕ → Base → Base) → ((place : ℕ × ℕ) (base : Base) → (change place base).vectors ≡ base.vectors) → AreTrees before → AreTrees after
-    → after.logs.entries ≡ changed test (λ _ vectors. vectors) before.logs.entries → after.bases.entries ≡ changed test change before.bases.entries
+    → ArePart test before.logs after.logs → after.bases.entries ≡ changed test change before.bases.entries
     → held after ≡ set.retain (held before) (λ row. test (row.pid, row.interval))
 held_part before after test change kept_vectors sorted sorted_after logs_are bases_are = same_rows _ _
     (λ row there. elim (held_at after row sorted_after there) [
       | as_log v kind_is is row_is ↦
-          let was = was_kept test (λ _ vectors. vectors) before.logs.entries after.logs.entries row.pid row.interval v logs_are is in
-          retained (held before) _ row (subst (HasRow (held before)) (sym (row_is ∙ ap (row_of Log row.pid row.interval) (sym was.3))) (held_log before row.pid row.interval was.0 was.2)) was.1
+          let was = passed (test (row.pid, row.interval)) (at (log_entries before.logs) row.pid row.interval) v (sym (logs_are.part row.pid row.interval) ∙ is) in
+          retained (held before) _ row (subst (HasRow (held before)) (sym row_is) (held_log before row.pid row.interval v was.1)) was.0
       | as_base b kind_is is row_is ↦
           let was = was_kept test change before.bases.entries after.bases.entries row.pid row.interval b bases_are is in
           let vectors = ap (λ (b : Base). b.vectors) (sym was.3) ∙ kept_vectors (row.pid, row.interval) was.0 in
@@ -96,7 +97,7 @@ held_part before after test change kept_vectors sorted sorted_after logs_are bas
     let old = of_retained (held before) _ row there in
     elim (held_at before row sorted old.0) [
       | as_log v kind_is is row_is ↦ subst (HasRow (held after)) (sym row_is)
-          (held_log after row.pid row.interval v (is_kept test (λ _ vectors. vectors) before.logs.entries after.logs.entries row.pid row.interval v logs_are old.1 is))
+          (held_log after row.pid row.interval v (logs_are.part row.pid row.interval ∙ ap (λ b. cond b (at (log_entries before.logs) row.pid row.interval) None) old.1 ∙ is))
       | as_base b kind_is is row_is ↦
           subst (HasRow (held after)) (sym (row_is ∙ ap (row_of Checkpoint row.pid row.interval) (sym (kept_vectors (row.pid, row.interval) b))))
           (held_base after row.pid row.interval (change (row.pid, row.interval) b) (is_kept test change before.bases.entries after.bases.entries row.pid row.interval b bases_are old.1 is))

@@ -3,9 +3,12 @@ ghost use Rattle.std.specs.FinSet as set;
 ghost use Rattle.om_recover.specs.Rows.{Has, IsLawful};
 ghost use Rattle.om_recover.specs.steps.Held.{AreIndexed, AreTrees, Hold, IsFree, IsRun, IsNextOfRun, EndsRun, Reaches, held};
 ghost use Rattle.om_recover.specs.steps.Nearest.{at, IsPut};
+ghost use Rattle.om_recover.specs.steps.Logs.{log_entries};
 ghost use Rattle.om_recover.specs.declared.trees.Base.{Base};
 ghost use Rattle.om_recover.specs.declared.row.RowKind.TheVariants.{Checkpoint, Log};
 
+use crate::laying::lay;
+use crate::logs::log_at;
 use crate::nearest::nearest_to;
 use crate::row::{Row, RowKind};
 use crate::trees::{Base, Trees, Vectors};
@@ -57,7 +60,7 @@ fn add_log(trees: &mut Trees, row: &Row) -> Result<(), AllocError>
         vec: row.vec,
         got: row.got,
     };
-    trees.logs.insert((row.pid, row.interval), vectors)?;
+    lay(&mut trees.logs, row.pid, row.interval, vectors)?;
     if let Some((x, base)) = nearest_to(&trees.bases, row.pid, row.interval) {
         if is_next(base.last, row.interval) {
             let last = last_of_run(trees, row.pid, row.interval);
@@ -122,9 +125,12 @@ fn next_of_run(trees: &Trees, pid: Pid, last: u32) -> Option<u32>
 }
 
 fn is_log(trees: &Trees, pid: Pid, x: u32) -> bool
-    ensures { IsTrue result ↔ IsSome (at trees.now.logs.entries pid x) }
+    ensures { IsTrue result ↔ IsSome (at (log_entries trees.now.logs) pid x) }
 {
-    trees.logs.contains_key(&(pid, x))
+    match log_at(&trees.logs, pid, x) {
+        None => false,
+        Some(_) => true,
+    }
 }
 
 fn is_base(trees: &Trees, pid: Pid, x: u32) -> bool

@@ -9,6 +9,8 @@ mod cutting;
 mod first;
 mod index;
 pub mod laws;
+mod laying;
+mod logs;
 mod lookup;
 mod memory;
 mod nearest;

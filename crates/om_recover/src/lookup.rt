@@ -4,6 +4,7 @@ ghost use Rattle.om_recover.specs.Recoverable.{IsStable};
 ghost use Rattle.om_recover.specs.Rows.{HasRow, Has, IsLawful};
 ghost use Rattle.om_recover.specs.steps.Held.{AreTrees, IsRecordTo, IsRecordFrom, held, row_of};
 
+use crate::logs::{log_at, log_from, log_to};
 use crate::nearest::{nearest_from, nearest_to};
 use crate::row::{Row, RowKind};
 use crate::trees::{Trees, Vectors};
@@ -19,7 +20,7 @@ pub fn vectors_of(trees: &Trees, kind: RowKind, pid: Pid, x: u32) -> Option<&Vec
             None => None,
             Some(base) => Some(&base.vectors),
         },
-        RowKind::Log => match trees.logs.get(&(pid, x)) {
+        RowKind::Log => match log_at(&trees.logs, pid, x) {
             None => None,
             Some(vectors) => Some(vectors),
         },
@@ -36,7 +37,7 @@ pub fn record_to(trees: &Trees, kind: RowKind, pid: Pid, to: u32) -> Option<Row>
             None => None,
             Some((x, base)) => Some(row(kind, pid, x, &base.vectors)),
         },
-        RowKind::Log => match nearest_to(&trees.logs, pid, to) {
+        RowKind::Log => match log_to(&trees.logs, pid, to) {
             None => None,
             Some((x, vectors)) => Some(row(kind, pid, x, vectors)),
         },
@@ -53,7 +54,7 @@ pub fn record_from(trees: &Trees, kind: RowKind, pid: Pid, from: u32) -> Option<
             None => None,
             Some((x, base)) => Some(row(kind, pid, x, &base.vectors)),
         },
-        RowKind::Log => match nearest_from(&trees.logs, pid, from) {
+        RowKind::Log => match log_from(&trees.logs, pid, from) {
             None => None,
             Some((x, vectors)) => Some(row(kind, pid, x, vectors)),
         },

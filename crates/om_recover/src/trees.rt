@@ -16,9 +16,24 @@ pub struct Base {
     pub last: u32,
 }
 
+/// Logs of a process that follow on one another, as most of them come.
+#[derive(Debug, Drop)]
+pub struct Run {
+    /// The interval of the first.
+    pub first: u32,
+    pub logs: Vec<Vectors>,
+}
+
+/// Logs: of each process a run, and the others by process and interval.
+#[derive(Debug, Drop)]
+pub struct Logs {
+    pub runs: Vec<Run>,
+    pub others: BTreeMap<(Pid, u32), Vectors>,
+}
+
 /// Rows by process and interval.
 #[derive(Debug, Drop)]
 pub struct Trees {
-    pub logs: BTreeMap<(Pid, u32), Vectors>,
+    pub logs: Logs,
     pub bases: BTreeMap<(Pid, u32), Base>,
 }

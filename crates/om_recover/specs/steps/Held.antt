@@ -5,6 +5,7 @@ use Rattle.om_recover.specs.Rows.{Rows, HasRow, Has, HaveSameVectors}
 use Rattle.om_recover.specs.Offered.{AreOfOneInterval}
 use Rattle.om_recover.specs.Recoverable.{IsStable}
 use Rattle.om_recover.specs.steps.Nearest.{at, AreSorted}
+use Rattle.om_recover.specs.steps.Logs.{AreLogs, log_entries}
 use Rattle.om_recover.specs.declared.trees.Vectors.{Vectors}
 use Rattle.om_recover.specs.declared.trees.Base.{Base}
 use Rattle.om_recover.specs.declared.trees.Trees.{Trees}
@@ -24,11 +25,11 @@ base_row entry = row_of Checkpoint entry.0.0 entry.0.1 entry.1.vectors
 
 -- the rows of the trees
 abbrev pub held : Trees → Rows
-held trees = set.union (set.from_list (map log_row trees.logs.entries)) (set.from_list (map base_row trees.bases.entries))
+held trees = set.union (set.from_list (map log_row (log_entries trees.logs))) (set.from_list (map base_row trees.bases.entries))
 
--- both trees are in order
+-- the logs are in order, and the tree of checkpoints is
 pub record AreTrees (trees : Trees) : Type 0 where
-  pub logs : AreSorted trees.logs.entries
+  pub logs : AreLogs trees.logs
   pub bases : AreSorted trees.bases.entries
 
 -- from a checkpoint on, below the next, the intervals up to the last given are those that are stable
