@@ -287,3 +287,50 @@ laid_in_tree old new p x vectors are free same put =
         | inr outside ↦ outside_at new q y (moved q y outside) ∙ put.others q y elsewhere ∙ sym (outside_at old q y outside)
       ];
     }
+
+-- logs are the same as themselves, and as those that are the same as others
+pub still : (logs : Logs) → AreLogs logs → AreSame logs logs
+still logs are = record { sorted = are; same = λ p x. refl }
+
+pub same_again : (old middle new : Logs) → AreSame old middle → AreSame middle new → AreSame old new
+same_again old middle new first second = record { sorted = second.sorted; same = λ p x. second.same p x ∙ first.same p x }
+
+pub laid_again : (old middle new : Logs) (p x : ℕ) (vectors : Vectors) → IsLaid old middle p x vectors → AreSame middle new → IsLaid old new p x vectors
+laid_again old middle new p x vectors laid same = record {
+  sorted = same.sorted;
+  here = same.same p x ∙ laid.here;
+  others = λ q y elsewhere. same.same q y ∙ laid.others q y elsewhere;
+}
+
+moved_elsewhere : (old new : Logs) (q y : ℕ) → ((q y : ℕ) (other : Vectors) → IsInRuns old.runs.items q y other → IsInRuns new.runs.items q y other)
+    → (IsOutsideRuns old.runs.items q y → IsOutsideRuns new.runs.items q y) → at new.others.entries q y ≡ at old.others.entries q y → at (log_entries new) q y ≡ at (log_entries old) q y
+moved_elsewhere old new q y kept apart same = elim (runs_cases old.runs.items q y) [
+  | inl among ↦ in_runs_at new q y among.0 (kept q y among.0 among.1) ∙ sym (in_runs_at old q y among.0 among.1)
+  | inr outside ↦ outside_at new q y (apart outside) ∙ same ∙ sym (outside_at old q y outside)
+]
+
+-- a log that moved from the tree to a run is still there
+pub moved_to_run : (old new : Logs) (p x : ℕ) (vectors : Vectors) → AreLogs old → at old.others.entries p x ≡ Some vectors → ArePushed old.runs.items new.runs.items p x vectors
+    → AreSorted new.others.entries → at new.others.entries p x ≡ None → ((q y : ℕ) → (q ≡ p → y ≡ x → ⊥) → at new.others.entries q y ≡ at old.others.entries q y) → AreSame old new
+moved_to_run old new p x vectors are there runs sorted gone left = record {
+  sorted = record {
+    sorted = sorted;
+    apart = λ q y some. elim (cases_eq q p) [
+      | inl same_process ↦ elim (cases_eq y x) [
+        | inl here ↦
+            let none : at new.others.entries q y ≡ None = subst (λ q. at new.others.entries q y ≡ None) (sym same_process) (subst (λ y. at new.others.entries p y ≡ None) (sym here) gone) in
+            absurd (true≢false (sym some ∙ ap is_some none))
+        | inr elsewhere ↦ runs.apart q y (are.apart q y (subst IsSome (left q y (λ _ here. elsewhere here)) some)) (λ _ here. elsewhere here)
+      ]
+      | inr elsewhere ↦ runs.apart q y (are.apart q y (subst IsSome (left q y (λ own _. elsewhere own)) some)) (λ own _. elsewhere own)
+    ];
+  };
+  same = λ q y. elim (cases_eq q p) [
+    | inl same_process ↦ elim (cases_eq y x) [
+      | inl here ↦ subst (λ q. at (log_entries new) q y ≡ at (log_entries old) q y) (sym same_process) (subst (λ y. at (log_entries new) p y ≡ at (log_entries old) p y) (sym here)
+          (in_runs_at new p x vectors runs.here ∙ sym (other_there old p x vectors are there)))
+      | inr elsewhere ↦ moved_elsewhere old new q y runs.kept (λ outside. runs.apart q y outside (λ _ here. elsewhere here)) (left q y (λ _ here. elsewhere here))
+    ]
+    | inr elsewhere ↦ moved_elsewhere old new q y runs.kept (λ outside. runs.apart q y outside (λ own _. elsewhere own)) (left q y (λ own _. elsewhere own))
+  ];
+}

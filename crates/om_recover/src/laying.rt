@@ -1,10 +1,11 @@
-ghost use Rattle.std.specs.Prelude.{◌≡◌, None, OnOk, OnErr, IsTrue, false};
+ghost use Rattle.std.specs.Prelude.{◌≡◌, ◌+◌, None, IfSome, OnOk, OnErr, IsTrue};
 ghost use Rattle.om_recover.specs.steps.Nearest.{at};
 ghost use Rattle.om_recover.specs.steps.Logs.{AreLogs, AreSame, IsLaid, IsNextIn, IsNextInRuns, IsLonger, IsSameRun, ArePushed, AreSameRuns, log_entries};
 
 use crate::trees::{Logs, Run, Vectors};
 use om_interval::Pid;
 use std::alloc::AllocError;
+use std::collections::BTreeMap;
 
 /// Adds a log of an interval that has none: or none, where memory is refused.
 pub fn lay(logs: &mut Logs, pid: Pid, x: u32, vectors: Vectors) -> Result<(), AllocError>
@@ -15,10 +16,46 @@ pub fn lay(logs: &mut Logs, pid: Pid, x: u32, vectors: Vectors) -> Result<(), Al
 {
     if may_follow(&logs.runs, pid, x) {
         push(&mut logs.runs, pid, x, vectors)?;
+        gather(logs, pid, x);
         return Ok(());
     }
     logs.others.insert((pid, x), vectors)?;
     Ok(())
+}
+
+// Moves the logs behind an interval from the tree to the run, one on another, as far as memory allows.
+fn gather(logs: &mut Logs, pid: Pid, x: u32)
+    requires { AreLogs logs.old }
+    ensures { AreSame logs.old logs.new }
+{
+    let mut last = x;
+    while let Some(next) = move_next(logs, pid, last) {
+        last = next;
+    }
+}
+
+// Moves the log behind an interval from the tree to the run, if it may come next there.
+fn move_next(logs: &mut Logs, pid: Pid, last: u32) -> Option<u32>
+    requires { AreLogs logs.old }
+    ensures same { AreSame logs.old logs.new }
+    ensures next { IfSome result (λ next. next ≡ last + 1) }
+{
+    let next = last.checked_add(1)?;
+    let vectors = other_at(&logs.others, pid, next)?;
+    if !may_follow(&logs.runs, pid, next) {
+        return None;
+    }
+    let Ok(()) = push(&mut logs.runs, pid, next, vectors) else {
+        return None;
+    };
+    logs.others.remove(&(pid, next));
+    Some(next)
+}
+
+fn other_at(others: &BTreeMap<(Pid, u32), Vectors>, pid: Pid, x: u32) -> Option<Vectors>
+    ensures { result ≡ at others.now.entries pid x }
+{
+    others.get(&(pid, x)).copied()
 }
 
 // Whether an interval may come next in the process's run.
