@@ -4,6 +4,7 @@ pub mod StableLemmas
 pub mod EntryLemmas
 pub mod LogsLemmas
 pub mod RunLemmas
+pub mod BaseLemmas
 pub mod HeldLemmas
 pub mod LookupLemmas
 pub mod ReachLemmas
@@ -16,6 +17,7 @@ pub mod LawLemmas
 pub mod CuttingLemmas
 pub mod PartLemmas
 pub mod RunPartLemmas
+pub mod BaseStepLemmas
 pub mod OfferLemmas
 pub mod NewLemmas
 pub mod ClimbLemmas

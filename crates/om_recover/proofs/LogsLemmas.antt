@@ -1,5 +1,5 @@
-use Rattle.std.proofs.Common.{◌≡◌, ℕ, zero, suc, ◌+◌, ◌-◌, ◌<◌, ◌≤◌, ◌⊎◌, inl, inr, refl, sym, ◌∙◌, ap, subst, arith, true, false, true≢false, is_some, IsSome, Some, None, List, [], ◌∷◌, ◌++◌, cond, map, length, slice_get}
-use Rattle.std.proofs.lemmas.Option.{slice_get_cases, slice_get_within}
+use Rattle.std.proofs.Common.{◌≡◌, ℕ, zero, suc, ◌+◌, ◌-◌, ◌<◌, ◌≤◌, ◌⊎◌, inl, inr, refl, sym, ◌∙◌, ap, subst, arith, true, false, true≢false, is_some, Some, None, List, [], ◌∷◌, ◌++◌, cond, map, length, slice_get}
+use Rattle.std.proofs.lemmas.Option.{slice_get_cases}
 use Rattle.std.proofs.lemmas.Bool.{cases_lt}
 use Rattle.std.specs.FinSet as set
 use Rattle.std.specs.BTreeMap.{is_at}
@@ -16,7 +16,7 @@ use Rattle.om_recover.proofs.RowsLemmas.{of_inserted, inserted, kept}
 use Rattle.om_recover.proofs.EntryLemmas.{here, of_rows}
 
 -- what is found in the first of two lists, and what is not
-at_first : {X : Type 0} (es fs : List ((ℕ × ℕ) × X)) (p x : ℕ) (value : X) → at es p x ≡ Some value → at (es ++ fs) p x ≡ Some value
+pub at_first : {X : Type 0} (es fs : List ((ℕ × ℕ) × X)) (p x : ℕ) (value : X) → at es p x ≡ Some value → at (es ++ fs) p x ≡ Some value
 at_first [] fs p x value is = absurd (cc)
 at_first {X} (e ∷ es) fs p x value is =
     elim (is_at (place_cmp (p, x)) e.0) as (λ b. cond b (Some e.1) (at es p x) ≡ Some value → cond b (Some e.1) (at (es ++ fs) p x) ≡ Some value) [
@@ -24,7 +24,7 @@ at_first {X} (e ∷ es) fs p x value is =
       | false ↦ λ found. at_first es fs p x value found
     ] is
 
-at_second : {X : Type 0} (es fs : List ((ℕ × ℕ) × X)) (p x : ℕ) → at es p x ≡ None → at (es ++ fs) p x ≡ at fs p x
+pub at_second : {X : Type 0} (es fs : List ((ℕ × ℕ) × X)) (p x : ℕ) → at es p x ≡ None → at (es ++ fs) p x ≡ at fs p x
 at_second [] fs p x none = refl
 at_second {X} (e ∷ es) fs p x none =
     elim (is_at (place_cmp (p, x)) e.0) as (λ b. cond b (Some e.1) (at es p x) ≡ None → cond b (Some e.1) (at (es ++ fs) p x) ≡ at fs p x) [
@@ -100,7 +100,7 @@ runs_cases runs p x = elim (slice_get_cases runs p).1 [
 ]
 
 -- rows of two lists are rows of one
-rows_of_both : {X : Type 0} (f : (ℕ × ℕ) × X → Row) (es fs : List ((ℕ × ℕ) × X)) (row : Row) → HasRow (set.from_list (map f (es ++ fs))) row
+pub rows_of_both : {X : Type 0} (f : (ℕ × ℕ) × X → Row) (es fs : List ((ℕ × ℕ) × X)) (row : Row) → HasRow (set.from_list (map f (es ++ fs))) row
     → HasRow (set.from_list (map f es)) row ⊎ HasRow (set.from_list (map f fs)) row
 rows_of_both f [] fs row there = inr there
 rows_of_both f (e ∷ es) fs row there = elim (of_inserted (set.from_list (map f (es ++ fs))) (f e) row there) [

@@ -1,8 +1,8 @@
-use Rattle.std.proofs.Common.{◌≡◌, ℕ, zero, suc, ◌+◌, ◌-◌, ◌<◌, ◌≤◌, ◌⊎◌, inl, inr, refl, sym, ◌∙◌, ap, subst, arith, Bool, true, false, true≢false, is_some, IsSome, IsTrue, Option, Some, None, Result, Ok, Err, OnErr, MatchOption, List, [], ◌∷◌, ◌++◌, cond, length, slice_get, slice_index_or, slice_set, nat_lt}
+use Rattle.std.proofs.Common.{◌≡◌, ℕ, zero, suc, ◌+◌, ◌<◌, ◌≤◌, ◌⊎◌, inl, inr, refl, sym, ◌∙◌, ap, subst, arith, true, true≢false, is_some, IsSome, Option, Some, None, Result, Ok, Err, OnErr, MatchOption, List, [], ◌∷◌, ◌++◌, length, slice_get, slice_index_or, slice_set, nat_lt}
 use Rattle.std.proofs.lemmas.Bool.{cases_order, cases_eq, cases_lt, ltb-true}
-use Rattle.std.proofs.lemmas.Option.{slice_get_read, slice_get_within, get_or_from_slice_get, slice_get-get_or}
+use Rattle.std.proofs.lemmas.Option.{slice_get_read, slice_get_within, get_or_from_slice_get}
 use Rattle.om_recover.specs.steps.Nearest.{at, AreSorted, IsNearestTo, IsNearestFrom, HasNoneTo, HasNoneFrom, IsPut}
-use Rattle.om_recover.specs.steps.Logs.{log_entries, IsInRun, IsOutside, IsInRuns, IsOutsideRuns, AreLogs, IsRunTo, IsRunFrom, HasNoRunTo, HasNoRunFrom, IsLaid, AreSame, ArePart, IsLonger, IsSameRun, ArePushed, AreSameRuns, IsRunPart, AreRunsPart}
+use Rattle.om_recover.specs.steps.Logs.{log_entries, IsInRun, IsOutside, IsInRuns, IsOutsideRuns, AreLogs, IsRunTo, IsRunFrom, HasNoRunTo, HasNoRunFrom, IsLaid, AreSame, IsLonger, IsSameRun, ArePushed, AreSameRuns}
 use Rattle.om_recover.specs.declared.trees.Vectors.{Vectors}
 use Rattle.om_recover.specs.declared.trees.Run.{Run}
 use Rattle.om_recover.specs.declared.trees.Logs.{Logs}
@@ -110,7 +110,7 @@ get_set_same [] i x y there = absurd (cc)
 get_set_same (z ∷ xs) zero x y there = refl
 get_set_same (z ∷ xs) (suc i) x y there = get_set_same xs i x y there
 
-get_set_other : {X : Type 0} (xs : List X) (i j : ℕ) (x : X) → (j ≡ i → ⊥) → slice_get (slice_set xs i x) j ≡ slice_get xs j
+pub get_set_other : {X : Type 0} (xs : List X) (i j : ℕ) (x : X) → (j ≡ i → ⊥) → slice_get (slice_set xs i x) j ≡ slice_get xs j
 get_set_other [] i j x apart = refl
 get_set_other (z ∷ xs) zero zero x apart = absurd (apart refl)
 get_set_other (z ∷ xs) zero (suc j) x apart = refl

@@ -1,11 +1,11 @@
-use Rattle.std.proofs.Common.{◌≡◌, ℕ, zero, suc, ◌+◌, ◌-◌, ◌<◌, ◌≤◌, ◌⊎◌, inl, inr, refl, sym, ◌∙◌, ap, subst, arith, Bool, true, false, true≢false, is_some, IsSome, Option, Some, None, List, [], ◌∷◌, ◌++◌, cond, drop, take, min, length, slice_get, slice_index_or, slice_set, nat_le}
+use Rattle.std.proofs.Common.{◌≡◌, ℕ, zero, suc, ◌+◌, ◌-◌, ◌<◌, ◌≤◌, inl, inr, refl, sym, ◌∙◌, ap, subst, arith, Bool, true, false, true≢false, IsSome, Option, Some, None, List, [], ◌∷◌, ◌++◌, cond, drop, take, min, length, slice_get, slice_index_or, slice_set, nat_le}
 use Rattle.std.specs.Option.{option_map}
 use Rattle.std.proofs.lemmas.Bool.{cases_eq, cases_lt, leb-true, leb-false}
 use Rattle.std.proofs.lemmas.List.{length-drop, drop_min}
 use Rattle.std.proofs.Math.Seq.{take-append_seam}
 use Rattle.std.proofs.lemmas.Option.{slice_get_read, slice_get_within}
 use Rattle.om_recover.specs.steps.Nearest.{at, AreSorted}
-use Rattle.om_recover.specs.steps.Logs.{log_entries, IsInRun, IsOutside, IsInRuns, IsOutsideRuns, AreLogs, ArePart, IsRunPart, AreRunsPart, AreEmpty, HaveNone}
+use Rattle.om_recover.specs.steps.Logs.{log_entries, IsOutside, IsInRuns, IsOutsideRuns, AreLogs, ArePart, IsRunPart, AreRunsPart, AreEmpty, HaveNone}
 use Rattle.om_recover.specs.declared.trees.Vectors.{Vectors}
 use Rattle.om_recover.specs.declared.trees.Run.{Run}
 use Rattle.om_recover.specs.declared.trees.Logs.{Logs}

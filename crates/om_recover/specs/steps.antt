@@ -8,3 +8,4 @@ pub mod Indexed
 pub mod Nearest
 pub mod Held
 pub mod Logs
+pub mod Bases

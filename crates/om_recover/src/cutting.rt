@@ -2,10 +2,11 @@ ghost use Rattle.std.specs.Prelude.{◌≡◌, ℕ, ◌<◌, ◌≤◌, ◌↔�
 ghost use Rattle.om_recover.specs.Cutting.{AreEffective, cut_to, pruned_to};
 ghost use Rattle.om_recover.specs.Recoverable.{IsRecoverable};
 ghost use Rattle.om_recover.specs.steps.Logs.{AreLogs, ArePart, AreRunsPart, IsRunPart};
+ghost use Rattle.om_recover.specs.steps.Bases.{AreBases, AreBasesPart, AreNewestPart, newest_part};
 ghost use Rattle.om_recover.specs.steps.Held.{AreIndexed, AreTrees, Hold, held};
 
 use crate::lookup::effective_of;
-use crate::trees::{Base, Logs, Run, Trees};
+use crate::trees::{Base, Bases, Logs, Newest, Run, Trees};
 use om_interval::{DepVec, Pid};
 
 /// Drops the rows above the state.
@@ -14,9 +15,42 @@ pub fn cut_rows(trees: &mut Trees, state: &DepVec)
     ensures { Hold trees.new (cut_to (held trees.old) state.now) }
 {
     cut_logs(&mut trees.logs, state);
-    trees
-        .bases
+    cut_bases(&mut trees.bases, state);
+}
+
+fn cut_bases(bases: &mut Bases, state: &DepVec)
+    requires { AreBases bases.old }
+    ensures { AreBasesPart (λ place. nat_le place.1 (slice_index state.now place.0))
+        (λ place base. record base { last = min base.last (slice_index state.now place.0) }) bases.old bases.new }
+{
+    cut_newest(&mut bases.newest, state);
+    bases
+        .others
         .retain(|place, base| cut_base(place, base, state));
+}
+
+fn cut_newest(newest: &mut Vec<Option<Newest>>, state: &DepVec)
+    ensures { AreNewestPart (λ place. nat_le place.1 (slice_index state.now place.0))
+        (λ place base. record base { last = min base.last (slice_index state.now place.0) }) newest.old.items newest.new.items }
+{
+    for p in 0..newest.len() {
+        cut_slot(&mut newest[p], number_or_zero(state, p));
+    }
+}
+
+fn cut_slot(slot: &mut Option<Newest>, to: u32)
+    ensures { (p : ℕ) → slot.new ≡ newest_part (λ place. nat_le place.1 to) (λ _ base. record base { last = min base.last to }) p slot.old }
+{
+    let kept = match slot {
+        None => false,
+        Some(newest) => {
+            newest.base.last = newest.base.last.min(to);
+            newest.interval <= to
+        }
+    };
+    if !kept {
+        *slot = None;
+    }
 }
 
 fn cut_logs(logs: &mut Logs, state: &DepVec)
@@ -66,7 +100,35 @@ pub fn prune_rows(trees: &mut Trees, checkpoints: &DepVec)
     ensures { Hold trees.new (pruned_to (held trees.old) checkpoints.now) }
 {
     prune_logs(&mut trees.logs, checkpoints);
-    trees.bases.retain(|place, _| is_from(place, checkpoints));
+    prune_bases(&mut trees.bases, checkpoints);
+}
+
+fn prune_bases(bases: &mut Bases, checkpoints: &DepVec)
+    requires { AreBases bases.old }
+    ensures { AreBasesPart (λ place. nat_le (slice_index checkpoints.now place.0) place.1) (λ _ base. base) bases.old bases.new }
+{
+    prune_newest(&mut bases.newest, checkpoints);
+    bases.others.retain(|place, _| is_from(place, checkpoints));
+}
+
+fn prune_newest(newest: &mut Vec<Option<Newest>>, checkpoints: &DepVec)
+    ensures { AreNewestPart (λ place. nat_le (slice_index checkpoints.now place.0) place.1) (λ _ base. base) newest.old.items newest.new.items }
+{
+    for p in 0..newest.len() {
+        prune_slot(&mut newest[p], number_or_zero(checkpoints, p));
+    }
+}
+
+fn prune_slot(slot: &mut Option<Newest>, from: u32)
+    ensures { (p : ℕ) → slot.new ≡ newest_part (λ place. nat_le from place.1) (λ _ base. base) p slot.old }
+{
+    let kept = match slot {
+        None => false,
+        Some(newest) => from <= newest.interval,
+    };
+    if !kept {
+        *slot = None;
+    }
 }
 
 fn prune_logs(logs: &mut Logs, checkpoints: &DepVec)

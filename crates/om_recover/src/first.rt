@@ -2,13 +2,14 @@ ghost use Rattle.std.specs.Prelude.{◌≡◌, ℕ, ◌<◌, ◌≤◌, IfOk, On
 ghost use Rattle.std.specs.FinSet as set;
 ghost use Rattle.om_interval.specs.declared.pid.TheConstants.{MAX_PROCESSES};
 ghost use Rattle.om_recover.specs.Records.{first_row};
+ghost use Rattle.om_recover.specs.steps.Bases.{HasNoNewest, HaveNoBases};
 ghost use Rattle.om_recover.specs.steps.Logs.{AreEmpty, HaveNone};
 ghost use Rattle.om_recover.specs.Rows.{Has, IsLawful};
 ghost use Rattle.om_recover.specs.steps.Held.{AreIndexed, Hold, IsFree, held};
 
 use crate::adding::add;
 use crate::row::{Row, RowKind};
-use crate::trees::{Logs, Run, Trees};
+use crate::trees::{Bases, Logs, Newest, Run, Trees};
 use om_interval::{DepVec, Pid};
 use std::alloc::{AllocError, Global};
 use std::collections::BTreeMap;
@@ -18,10 +19,28 @@ pub fn no_rows(alloc: Global, n: usize) -> Result<Trees, AllocError>
     ensures { IfOk result (λ trees. Hold trees set.empty) }
 {
     let logs = no_logs(alloc, n)?;
-    Ok(Trees {
-        logs,
-        bases: BTreeMap::new(alloc),
+    let bases = no_bases(alloc, n)?;
+    Ok(Trees { logs, bases })
+}
+
+fn no_bases(alloc: Global, n: usize) -> Result<Bases, AllocError>
+    ensures { IfOk result HaveNoBases }
+{
+    let newest = no_newest(alloc, n)?;
+    Ok(Bases {
+        newest,
+        others: BTreeMap::new(alloc),
     })
+}
+
+fn no_newest(alloc: Global, n: usize) -> Result<Vec<Option<Newest>>, AllocError>
+    ensures { IfOk result (λ newest. (p : ℕ) → HasNoNewest newest.items p) }
+{
+    let mut newest = Vec::with_capacity(alloc, n)?;
+    for _ in 0..n {
+        newest.push_reserved(None);
+    }
+    Ok(newest)
 }
 
 fn no_logs(alloc: Global, n: usize) -> Result<Logs, AllocError>

@@ -4,6 +4,7 @@
 
 mod adding;
 mod answer;
+mod bases;
 mod climb;
 mod cutting;
 mod first;
@@ -21,6 +22,7 @@ mod row;
 mod search;
 mod stable;
 mod step;
+mod storing;
 mod trees;
 mod work;
 

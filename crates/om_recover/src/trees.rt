@@ -16,6 +16,20 @@ pub struct Base {
     pub last: u32,
 }
 
+/// The newest checkpoint of a process.
+#[derive(Clone, Copy, Debug)]
+pub struct Newest {
+    pub interval: u32,
+    pub base: Base,
+}
+
+/// Checkpoints: of each process the newest, and the others by process and interval.
+#[derive(Debug, Drop)]
+pub struct Bases {
+    pub newest: Vec<Option<Newest>>,
+    pub others: BTreeMap<(Pid, u32), Base>,
+}
+
 /// Logs of a process that follow on one another, as most of them come.
 #[derive(Debug, Drop)]
 pub struct Run {
@@ -35,5 +49,5 @@ pub struct Logs {
 #[derive(Debug, Drop)]
 pub struct Trees {
     pub logs: Logs,
-    pub bases: BTreeMap<(Pid, u32), Base>,
+    pub bases: Bases,
 }

@@ -8,7 +8,7 @@ use Rattle.om_recover.specs.declared.row.Row.{Row}
 use Rattle.om_recover.specs.declared.row.RowKind.TheVariants.{Log}
 use Rattle.om_recover.proofs.PlaceLemmas.{one_nearest}
 use Rattle.om_recover.proofs.RunLemmas.{after_error}
-use Rattle.om_recover.proofs.AddingLemmas.{hold_with_log, hold_with_log_reached, hold_same, free_log, of_kind}
+use Rattle.om_recover.proofs.AddingLemmas.{hold_with_log, hold_with_log_reached, hold_same, same_bases, free_log, of_kind}
 use Rattle.om_recover.proofs.adding.add_log.Goals as goal
 
 pub returns-then-is_next-clause-ok : goal.returns-then-is_next-clause-ok
@@ -58,4 +58,7 @@ lay-requires-clause-free c = free_log c.args.trees.now c.args.row.now c.requires
 pub returns-in_err-lay-clause-err : goal.returns-in_err-lay-clause-err
 returns-in_err-lay-clause-err c =
     let after : Trees = record { logs = c.lay.new.logs; bases = c.args.trees.now.bases } in
-    after_error c.from_residual.result _ (hold_same c.args.trees.now after c.requires.indexed c.in_err-lay.ensures.err refl)
+    after_error c.from_residual.result _ (hold_same c.args.trees.now after c.requires.indexed c.in_err-lay.ensures.err (same_bases c.args.trees.now.bases c.requires.indexed.sorted.bases))
+
+pub set_last-requires-clause-bases : goal.set_last-requires-clause-bases
+set_last-requires-clause-bases c = c.requires.indexed.sorted.bases

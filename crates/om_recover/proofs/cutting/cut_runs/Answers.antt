@@ -1,4 +1,4 @@
-use Rattle.std.proofs.Common.{◌≡◌, ℕ, ◌<◌, refl, arith, length, slice_index, nat_le}
+use Rattle.std.proofs.Common.{◌<◌, arith, length, slice_index, nat_le}
 use Rattle.om_recover.proofs.RunPartLemmas.{part_start, part_step, part_ends}
 use Rattle.om_recover.proofs.cutting.cut_runs.Goals as goal
 

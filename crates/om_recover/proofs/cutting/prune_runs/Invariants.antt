@@ -1,4 +1,4 @@
-use Rattle.std.proofs.Common.{◌≡◌, ℕ, slice_index, nat_le, vec_len}
+use Rattle.std.proofs.Common.{◌≡◌, slice_index, nat_le, vec_len}
 use Rattle.om_recover.proofs.RunPartLemmas.{ArePartBelow}
 use Rattle.om_recover.proofs.cutting.prune_runs.Given as goal
 

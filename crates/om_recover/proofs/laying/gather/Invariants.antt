@@ -1,4 +1,4 @@
-use Rattle.std.proofs.Common.{ℕ, ◌-◌, ◌^◌}
+use Rattle.std.proofs.Common.{◌-◌, ◌^◌}
 use Rattle.om_recover.specs.steps.Logs.{AreSame}
 use Rattle.om_recover.proofs.laying.gather.Given as goal
 

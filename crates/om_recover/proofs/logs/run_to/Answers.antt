@@ -1,4 +1,4 @@
-use Rattle.std.proofs.Common.{◌≡◌, ◌<◌, ◌∙◌, arith, length}
+use Rattle.std.proofs.Common.{◌≡◌, ◌<◌, arith, length}
 use Rattle.om_recover.proofs.RunLemmas.{read_at, is_run_to, at_place}
 use Rattle.om_recover.proofs.logs.run_to.Goals as goal
 
