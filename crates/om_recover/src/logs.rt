@@ -53,6 +53,9 @@ pub fn log_to(logs: &Logs, pid: Pid, to: u32) -> Option<(u32, &Vectors)>
     let Some(ran) = run_to(&logs.runs, pid, to) else {
         return nearest_to(&logs.others, pid, to);
     };
+    if ran.0 == to {
+        return Some(ran);
+    }
     let Some(other) = nearest_to(&logs.others, pid, to) else {
         return Some(ran);
     };

@@ -22,3 +22,8 @@ pub returns-else-ran-other : goal.returns-else-ran-other
 returns-else-ran-other c =
     let ran = rw c.deref.ensures.value at c.in-Some.ensures in
     run_to c.args.logs.now _ _ _ _ (λ y some within. omega (arith, c.in-Some-nearest_to.ensures.nearest y some within, c.if-ran-other.false)) ran
+
+pub returns-then-ran-to : goal.returns-then-ran-to
+returns-then-ran-to c =
+    let ran = rw c.deref.ensures.value at c.in-Some.ensures in
+    run_to c.args.logs.now _ _ _ _ (λ y some within. omega (arith, within, c.if-ran-to.true)) ran
