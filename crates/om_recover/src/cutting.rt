@@ -112,7 +112,8 @@ fn prune_bases(bases: &mut Bases, checkpoints: &DepVec)
 }
 
 fn prune_newest(newest: &mut Vec<Option<Newest>>, checkpoints: &DepVec)
-    ensures { AreNewestPart (λ place. nat_le (slice_index checkpoints.now place.0) place.1) (λ _ base. base) newest.old.items newest.new.items }
+    ensures { AreNewestPart (λ place. nat_le (slice_index checkpoints.now place.0) place.1) (λ _ base. base)
+        newest.old.items newest.new.items }
 {
     for p in 0..newest.len() {
         prune_slot(&mut newest[p], number_or_zero(checkpoints, p));

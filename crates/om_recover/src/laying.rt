@@ -1,6 +1,7 @@
 ghost use Rattle.std.specs.Prelude.{◌≡◌, ◌+◌, None, IfSome, OnOk, OnErr, IsTrue};
 ghost use Rattle.om_recover.specs.steps.Nearest.{at};
-ghost use Rattle.om_recover.specs.steps.Logs.{AreLogs, AreSame, IsLaid, IsNextIn, IsNextInRuns, IsLonger, IsSameRun, ArePushed, AreSameRuns, log_entries};
+ghost use Rattle.om_recover.specs.steps.Logs.{AreLogs, AreSame, IsLaid, log_entries};
+ghost use Rattle.om_recover.specs.steps.Logs.{IsNextIn, IsNextInRuns, IsLonger, IsSameRun, ArePushed, AreSameRuns};
 
 use crate::trees::{Logs, Run, Vectors};
 use om_interval::Pid;

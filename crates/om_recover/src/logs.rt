@@ -1,6 +1,7 @@
 ghost use Rattle.std.specs.Prelude.{◌≡◌, ℕ, None, Some, MatchOption};
 ghost use Rattle.om_recover.specs.steps.Nearest.{at, IsNearestTo, IsNearestFrom, HasNoneTo, HasNoneFrom};
-ghost use Rattle.om_recover.specs.steps.Logs.{AreLogs, IsInRun, IsOutside, IsInRuns, IsOutsideRuns, IsRunTo, IsRunFrom, HasNoRunTo, HasNoRunFrom, log_entries};
+ghost use Rattle.om_recover.specs.steps.Logs.{AreLogs, IsInRun, IsOutside, IsInRuns, IsOutsideRuns, log_entries};
+ghost use Rattle.om_recover.specs.steps.Logs.{IsRunTo, IsRunFrom, HasNoRunTo, HasNoRunFrom};
 
 use crate::nearest::{nearest_from, nearest_to};
 use crate::trees::{Logs, Run, Vectors};

@@ -1,6 +1,7 @@
 ghost use Rattle.std.specs.Prelude.{◌≡◌, ◌<◌, None, Some, OnOk, OnErr, IsSome, IsTrue, false, length, slice_get, slice_set, ℕ};
 ghost use Rattle.om_recover.specs.steps.Nearest.{at, IsPut};
-ghost use Rattle.om_recover.specs.steps.Bases.{AreBases, AreSameBases, IsNewest, HasNoNewest, IsStored, IsShelved, IsTop, base_entries, newest_of};
+ghost use Rattle.om_recover.specs.steps.Bases.{AreBases, AreSameBases, IsNewest, HasNoNewest, IsStored, base_entries};
+ghost use Rattle.om_recover.specs.steps.Bases.{IsShelved, IsTop, newest_of};
 ghost use Rattle.om_recover.specs.declared.trees.Base.{Base};
 
 use crate::bases::{base_from, newest_of};
@@ -29,7 +30,8 @@ pub fn store(bases: &mut Bases, pid: Pid, x: u32, base: Base) -> Result<(), Allo
 fn is_top(bases: &Bases, pid: Pid, x: u32) -> bool
     requires { AreBases bases.now }
     ensures yes { IsTrue result → IsTop bases.now pid x }
-    ensures none { result ≡ false → (y : ℕ) (base : Base) → IsNewest bases.now.newest.items pid y base → at (base_entries bases.now) pid x ≡ None → x < y }
+    ensures none { result ≡ false → (y : ℕ) (base : Base) → IsNewest bases.now.newest.items pid y base
+        → at (base_entries bases.now) pid x ≡ None → x < y }
 {
     if bases.newest.len() <= pid.index() {
         return false;
@@ -58,7 +60,8 @@ fn shelve(bases: &mut Bases, pid: Pid) -> Result<(), AllocError>
 pub fn set_last(bases: &mut Bases, pid: Pid, x: u32, last: u32)
     requires bases { AreBases bases.old }
     requires there { IsSome (at (base_entries bases.old) pid x) }
-    ensures { (base : Base) → at (base_entries bases.old) pid x ≡ Some base → IsStored bases.old bases.new pid x (record base { last = last }) }
+    ensures { (base : Base) → at (base_entries bases.old) pid x ≡ Some base
+        → IsStored bases.old bases.new pid x (record base { last = last }) }
 {
     if is_newest(&bases.newest, pid, x) {
         set_newest_last(&mut bases.newest[pid.index()], last);
