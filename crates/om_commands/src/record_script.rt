@@ -134,7 +134,7 @@ fn numbers_in(alloc: Global, words: &[&[u8]]) -> Result<Vec<u32>, BuildError<Lin
     ensures numbers { Gives (λ numbers. numbers.items) result (numbers_in (map (λ word. word.now) words.now)) }
     ensures count { IfOk result (λ numbers. vec_len numbers ≡ length words.now) }
 {
-    let mut numbers = Vec::new(alloc);
+    let mut numbers = Vec::with_capacity(alloc, words.len())?;
     for word in words {
         let Some(number) = number_of(word) else {
             return Err(LineError::BadNumber.into());

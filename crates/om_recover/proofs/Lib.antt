@@ -1,6 +1,10 @@
 pub mod PlaceLemmas
 pub mod RowsLemmas
 pub mod StableLemmas
+pub mod EntryLemmas
+pub mod LogsLemmas
+pub mod RunLemmas
+pub mod BaseLemmas
 pub mod HeldLemmas
 pub mod LookupLemmas
 pub mod ReachLemmas
@@ -12,6 +16,8 @@ pub mod FirstLemmas
 pub mod LawLemmas
 pub mod CuttingLemmas
 pub mod PartLemmas
+pub mod RunPartLemmas
+pub mod BaseStepLemmas
 pub mod OfferLemmas
 pub mod NewLemmas
 pub mod ClimbLemmas

@@ -8,8 +8,11 @@ use Rattle.om_recover.specs.Rows.{Rows, HasRow, Has}
 use Rattle.om_recover.specs.Recoverable.{IsStable}
 use Rattle.om_recover.specs.Cutting.{cut_to, pruned_to}
 use Rattle.om_recover.specs.steps.Nearest.{place_cmp, at}
+use Rattle.om_recover.specs.steps.Bases.{AreBasesPart, base_entries}
+use Rattle.om_recover.specs.steps.Logs.{ArePart, log_entries}
 use Rattle.om_recover.specs.steps.Held.{row_of, held, AreTrees, Reaches}
 use Rattle.om_recover.specs.declared.trees.Base.{Base}
+use Rattle.om_recover.specs.declared.trees.Bases.{Bases}
 use Rattle.om_recover.specs.declared.trees.Trees.{Trees}
 use Rattle.om_recover.specs.declared.row.RowKind.TheVariants.{Checkpoint, Log}
 use Rattle.om_recover.proofs.PlaceLemmas.{exact_places}
@@ -64,31 +67,30 @@ passed : {X : Type 0} (b : Bool) (entry : Option X) (value : X) → cond b entry
 passed true entry value is = (refl, is)
 passed false entry value is = absurd (cc)
 
--- of the entries that were kept, what each was
-pub was_kept : {X : Type 0} (test : ℕ × ℕ → Bool) (change : ℕ × ℕ → X → X) (old new : List ((ℕ × ℕ) × X)) (p x : ℕ) (value : X) → new ≡ changed test change old → at new p x ≡ Some value
-    → (before : X) × (test (p, x) ≡ true) × (at old p x ≡ Some before) × (change (p, x) before ≡ value)
-was_kept {X} test change old new p x value is there =
-    let found = passed (test (p, x)) (option_map (change (p, x)) (at old p x)) value (sym (ap (λ (es : List ((ℕ × ℕ) × X)). at es p x) is ∙ at_changed test change old p x) ∙ there) in
-    let from = mapped (change (p, x)) (at old p x) value found.1 in
+-- of the checkpoints that were kept, what each was
+pub base_was_kept : (test : ℕ × ℕ → Bool) (change : ℕ × ℕ → Base → Base) (old new : Bases) (p x : ℕ) (value : Base) → AreBasesPart test change old new → at (base_entries new) p x ≡ Some value
+    → (before : Base) × (test (p, x) ≡ true) × (at (base_entries old) p x ≡ Some before) × (change (p, x) before ≡ value)
+base_was_kept test change old new p x value part there =
+    let found = passed (test (p, x)) (option_map (change (p, x)) (at (base_entries old) p x)) value (sym (part.part p x) ∙ there) in
+    let from = mapped (change (p, x)) (at (base_entries old) p x) value found.1 in
     (from.0, found.0, from.1, from.2)
 
-pub is_kept : {X : Type 0} (test : ℕ × ℕ → Bool) (change : ℕ × ℕ → X → X) (old new : List ((ℕ × ℕ) × X)) (p x : ℕ) (value : X) → new ≡ changed test change old → test (p, x) ≡ true → at old p x ≡ Some value
-    → at new p x ≡ Some (change (p, x) value)
-is_kept {X} test change old new p x value is passes there =
-    ap (λ (es : List ((ℕ × ℕ) × X)). at es p x) is ∙ at_changed test change old p x
-    ∙ ap (λ b. cond b (option_map (change (p, x)) (at old p x)) None) passes ∙ ap (option_map (change (p, x))) there
+pub base_is_kept : (test : ℕ × ℕ → Bool) (change : ℕ × ℕ → Base → Base) (old new : Bases) (p x : ℕ) (value : Base) → AreBasesPart test change old new → test (p, x) ≡ true → at (base_entries old) p x ≡ Some value
+    → at (base_entries new) p x ≡ Some (change (p, x) value)
+base_is_kept test change old new p x value part passes there =
+    part.part p x ∙ ap (λ b. cond b (option_map (change (p, x)) (at (base_entries old) p x)) None) passes ∙ ap (option_map (change (p, x))) there
 
 -- the rows that are left where both trees keep the places that pass a test
 pub held_part : (before after : Trees) (test : ℕ × ℕ → Bool) (change : ℕ × ℕ → Base → Base) → ((place : ℕ × ℕ) (base : Base) → (change place base).vectors ≡ base.vectors) → AreTrees before → AreTrees after
-    → after.logs.entries ≡ changed test (λ _ vectors. vectors) before.logs.entries → after.bases.entries ≡ changed test change before.bases.entries
+    → ArePart test before.logs after.logs → AreBasesPart test change before.bases after.bases
     → held after ≡ set.retain (held before) (λ row. test (row.pid, row.interval))
 held_part before after test change kept_vectors sorted sorted_after logs_are bases_are = same_rows _ _
     (λ row there. elim (held_at after row sorted_after there) [
       | as_log v kind_is is row_is ↦
-          let was = was_kept test (λ _ vectors. vectors) before.logs.entries after.logs.entries row.pid row.interval v logs_are is in
-          retained (held before) _ row (subst (HasRow (held before)) (sym (row_is ∙ ap (row_of Log row.pid row.interval) (sym was.3))) (held_log before row.pid row.interval was.0 was.2)) was.1
+          let was = passed (test (row.pid, row.interval)) (at (log_entries before.logs) row.pid row.interval) v (sym (logs_are.part row.pid row.interval) ∙ is) in
+          retained (held before) _ row (subst (HasRow (held before)) (sym row_is) (held_log before row.pid row.interval v was.1)) was.0
       | as_base b kind_is is row_is ↦
-          let was = was_kept test change before.bases.entries after.bases.entries row.pid row.interval b bases_are is in
+          let was = base_was_kept test change before.bases after.bases row.pid row.interval b bases_are is in
           let vectors = ap (λ (b : Base). b.vectors) (sym was.3) ∙ kept_vectors (row.pid, row.interval) was.0 in
           retained (held before) _ row (subst (HasRow (held before)) (sym (row_is ∙ ap (row_of Checkpoint row.pid row.interval) vectors)) (held_base before row.pid row.interval was.0 was.2)) was.1
     ])
@@ -96,10 +98,10 @@ held_part before after test change kept_vectors sorted sorted_after logs_are bas
     let old = of_retained (held before) _ row there in
     elim (held_at before row sorted old.0) [
       | as_log v kind_is is row_is ↦ subst (HasRow (held after)) (sym row_is)
-          (held_log after row.pid row.interval v (is_kept test (λ _ vectors. vectors) before.logs.entries after.logs.entries row.pid row.interval v logs_are old.1 is))
+          (held_log after row.pid row.interval v (logs_are.part row.pid row.interval ∙ ap (λ b. cond b (at (log_entries before.logs) row.pid row.interval) None) old.1 ∙ is))
       | as_base b kind_is is row_is ↦
           subst (HasRow (held after)) (sym (row_is ∙ ap (row_of Checkpoint row.pid row.interval) (sym (kept_vectors (row.pid, row.interval) b))))
-          (held_base after row.pid row.interval (change (row.pid, row.interval) b) (is_kept test change before.bases.entries after.bases.entries row.pid row.interval b bases_are old.1 is))
+          (held_base after row.pid row.interval (change (row.pid, row.interval) b) (base_is_kept test change before.bases after.bases row.pid row.interval b bases_are old.1 is))
     ])
 
 -- how far a checkpoint reaches after a cut

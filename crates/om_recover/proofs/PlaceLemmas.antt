@@ -53,7 +53,7 @@ none_is_none None is some = absurd (true≢false (sym some))
 none_is_none (Some value) is some = absurd (cc)
 
 -- places apart are told apart
-apart_places : (p x q y : ℕ) → (q ≡ p → y ≡ x → ⊥) → is_at (place_cmp (p, x)) (q, y) ≡ false
+pub apart_places : (p x q y : ℕ) → (q ≡ p → y ≡ x → ⊥) → is_at (place_cmp (p, x)) (q, y) ≡ false
 apart_places p x q y apart = elim (is_at (place_cmp (p, x)) (q, y)) as (λ b. is_at (place_cmp (p, x)) (q, y) ≡ b → b ≡ false) [
   | true ↦ λ same. let is = exact_places (p, x) (q, y) ((Equal-is (place_cmp (p, x) (q, y))).0 same) in absurd (apart (ap (λ (e : ℕ × ℕ). e.0) (sym is)) (ap (λ (e : ℕ × ℕ). e.1) (sym is)))
   | false ↦ λ _. refl

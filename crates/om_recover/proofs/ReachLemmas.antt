@@ -4,6 +4,7 @@ use Rattle.om_recover.specs.Rows.{Rows, Has, IsLawful}
 use Rattle.om_recover.specs.Recoverable.{IsStable}
 use Rattle.om_recover.specs.Climb.{IsLeastStable}
 use Rattle.om_recover.specs.steps.Nearest.{at, IsNearestTo, IsNearestFrom, HasNoneFrom}
+use Rattle.om_recover.specs.steps.Bases.{base_entries}
 use Rattle.om_recover.specs.steps.Held.{held, AreTrees, AreIndexed, Reaches, IsRun}
 use Rattle.om_recover.specs.declared.trees.Base.{Base}
 use Rattle.om_recover.specs.declared.trees.Trees.{Trees}
@@ -15,15 +16,15 @@ use Rattle.om_recover.proofs.NewLemmas.{stable_at_checkpoint, stable_by_log, not
 use Rattle.om_recover.proofs.ClimbLemmas.{at_most_or_more}
 
 -- an interval is stable where the nearest checkpoint reaches it, and only there
-pub stable_within : (trees : Trees) (p y x : ℕ) (base : Base) → AreIndexed trees → IsNearestTo trees.bases.entries p y x base → y ≤ base.last → IsStable (held trees) p y
+pub stable_within : (trees : Trees) (p y x : ℕ) (base : Base) → AreIndexed trees → IsNearestTo (base_entries trees.bases) p y x base → y ≤ base.last → IsStable (held trees) p y
 stable_within trees p y x base indexed near reached = (indexed.reaches p x base near.there).stable y near.within reached
 
-pub reached_by : (trees : Trees) (p y x : ℕ) (base : Base) → AreIndexed trees → IsNearestTo trees.bases.entries p y x base → IsStable (held trees) p y → y ≤ base.last
+pub reached_by : (trees : Trees) (p y x : ℕ) (base : Base) → AreIndexed trees → IsNearestTo (base_entries trees.bases) p y x base → IsStable (held trees) p y → y ≤ base.last
 reached_by trees p y x base indexed near stable = (indexed.reaches p x base near.there).whole y near.within stable (λ other has below. near.nearest other (some_base trees p other indexed.sorted has) below)
 
 -- above an interval that is not stable, the next stable one is that of the next checkpoint
 pub checkpoint_from : (trees : Trees) (p from y : ℕ) → AreTrees trees → (IsStable (held trees) p from → ⊥) → IsStable (held trees) p y → from ≤ y
-    → (x : ℕ) × IsSome (at trees.bases.entries p x) × (from ≤ x) × (x ≤ y)
+    → (x : ℕ) × IsSome (at (base_entries trees.bases) p x) × (from ≤ x) × (x ≤ y)
 checkpoint_from trees p from y sorted none stable above = elim (at_most_or_more from stable.from) [
   | inl far ↦ (stable.from, some_base trees p stable.from sorted stable.checkpoint, far, stable.below)
   | inr near ↦ absurd (none (record {
@@ -34,7 +35,7 @@ checkpoint_from trees p from y sorted none stable above = elim (at_most_or_more 
   }))
 ]
 
-pub least_at_checkpoint : (trees : Trees) (p from x : ℕ) (base : Base) → AreTrees trees → (IsStable (held trees) p from → ⊥) → IsNearestFrom trees.bases.entries p from x base → IsLeastStable (held trees) p from x
+pub least_at_checkpoint : (trees : Trees) (p from x : ℕ) (base : Base) → AreTrees trees → (IsStable (held trees) p from → ⊥) → IsNearestFrom (base_entries trees.bases) p from x base → IsLeastStable (held trees) p from x
 least_at_checkpoint trees p from x base sorted none near = record {
   stable = stable_at_checkpoint (held trees) p x (has_base trees p x (ap is_some near.there));
   above = near.within;
@@ -43,7 +44,7 @@ least_at_checkpoint trees p from x base sorted none near = record {
       omega (arith, near.nearest next.0 next.1 next.2, next.3);
 }
 
-pub none_from : (trees : Trees) (p from : ℕ) → AreTrees trees → (IsStable (held trees) p from → ⊥) → HasNoneFrom trees.bases.entries p from → (y : ℕ) → IsStable (held trees) p y → from ≤ y → ⊥
+pub none_from : (trees : Trees) (p from : ℕ) → AreTrees trees → (IsStable (held trees) p from → ⊥) → HasNoneFrom (base_entries trees.bases) p from → (y : ℕ) → IsStable (held trees) p y → from ≤ y → ⊥
 none_from trees p from sorted none no_base y stable above =
     let next = checkpoint_from trees p from y sorted none stable above in
     no_base next.0 next.1 next.2

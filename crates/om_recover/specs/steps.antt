@@ -7,3 +7,5 @@ pub mod Memory
 pub mod Indexed
 pub mod Nearest
 pub mod Held
+pub mod Logs
+pub mod Bases

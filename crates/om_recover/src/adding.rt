@@ -2,16 +2,19 @@ ghost use Rattle.std.specs.Prelude.{◌≡◌, ℕ, ◌<◌, ◌≤◌, ◌+◌,
 ghost use Rattle.std.specs.FinSet as set;
 ghost use Rattle.om_recover.specs.Rows.{Has, IsLawful};
 ghost use Rattle.om_recover.specs.steps.Held.{AreIndexed, AreTrees, Hold, IsFree, IsRun, IsNextOfRun, EndsRun, Reaches, held};
-ghost use Rattle.om_recover.specs.steps.Nearest.{at, IsPut};
-ghost use Rattle.om_recover.specs.declared.trees.Base.{Base};
+ghost use Rattle.om_recover.specs.steps.Nearest.{at};
+ghost use Rattle.om_recover.specs.steps.Bases.{AreBases, base_entries};
+ghost use Rattle.om_recover.specs.steps.Logs.{log_entries};
 ghost use Rattle.om_recover.specs.declared.row.RowKind.TheVariants.{Checkpoint, Log};
 
-use crate::nearest::nearest_to;
+use crate::bases::{base_at, base_to};
+use crate::laying::lay;
+use crate::logs::log_at;
 use crate::row::{Row, RowKind};
+use crate::storing::{set_last, store};
 use crate::trees::{Base, Trees, Vectors};
 use om_interval::Pid;
 use std::alloc::AllocError;
-use std::collections::BTreeMap;
 
 /// Adds a row of which there is no record of its kind: or none, where memory is refused.
 pub fn add(trees: &mut Trees, row: &Row) -> Result<(), AllocError>
@@ -41,7 +44,7 @@ fn add_checkpoint(trees: &mut Trees, row: &Row) -> Result<(), AllocError>
         got: row.got,
     };
     let base = Base { vectors, last };
-    trees.bases.insert((row.pid, row.interval), base)?;
+    store(&mut trees.bases, row.pid, row.interval, base)?;
     Ok(())
 }
 
@@ -57,8 +60,8 @@ fn add_log(trees: &mut Trees, row: &Row) -> Result<(), AllocError>
         vec: row.vec,
         got: row.got,
     };
-    trees.logs.insert((row.pid, row.interval), vectors)?;
-    if let Some((x, base)) = nearest_to(&trees.bases, row.pid, row.interval) {
+    lay(&mut trees.logs, row.pid, row.interval, vectors)?;
+    if let Some((x, base)) = base_to(&trees.bases, row.pid, row.interval) {
         if is_next(base.last, row.interval) {
             let last = last_of_run(trees, row.pid, row.interval);
             set_last(&mut trees.bases, row.pid, x, last);
@@ -74,7 +77,7 @@ fn reach_of(trees: &Trees, row: &Row) -> u32
     requires kind { row.now.kind ≡ Checkpoint }
     ensures { Reaches (set.insert (held trees.now) row.now) row.now.pid row.now.interval result }
 {
-    match nearest_to(&trees.bases, row.pid, row.interval) {
+    match base_to(&trees.bases, row.pid, row.interval) {
         Some((_, base)) if row.interval <= base.last => base.last,
         _ => last_of_run(trees, row.pid, row.interval),
     }
@@ -84,17 +87,6 @@ fn is_next(last: u32, x: u32) -> bool
     ensures { IsTrue result ↔ (last + 1 ≡ x) }
 {
     last < x && x - last == 1
-}
-
-// Lets the checkpoint of an interval reach to another.
-fn set_last(bases: &mut BTreeMap<(Pid, u32), Base>, pid: Pid, x: u32, last: u32)
-    requires { IsSome (at bases.old.entries pid x) }
-    ensures { (base : Base) → at bases.old.entries pid x ≡ Some base
-        → IsPut bases.old.entries bases.new.entries pid x (record base { last = last }) }
-{
-    if let Some(base) = bases.get_mut(&(pid, x)) {
-        base.last = last;
-    }
 }
 
 // The last of the logs that follow on an interval, one on another, below the next checkpoint.
@@ -122,13 +114,20 @@ fn next_of_run(trees: &Trees, pid: Pid, last: u32) -> Option<u32>
 }
 
 fn is_log(trees: &Trees, pid: Pid, x: u32) -> bool
-    ensures { IsTrue result ↔ IsSome (at trees.now.logs.entries pid x) }
+    ensures { IsTrue result ↔ IsSome (at (log_entries trees.now.logs) pid x) }
 {
-    trees.logs.contains_key(&(pid, x))
+    match log_at(&trees.logs, pid, x) {
+        None => false,
+        Some(_) => true,
+    }
 }
 
 fn is_base(trees: &Trees, pid: Pid, x: u32) -> bool
-    ensures { IsTrue result ↔ IsSome (at trees.now.bases.entries pid x) }
+    requires { AreBases trees.now.bases }
+    ensures { IsTrue result ↔ IsSome (at (base_entries trees.now.bases) pid x) }
 {
-    trees.bases.contains_key(&(pid, x))
+    match base_at(&trees.bases, pid, x) {
+        None => false,
+        Some(_) => true,
+    }
 }

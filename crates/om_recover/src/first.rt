@@ -1,25 +1,69 @@
-ghost use Rattle.std.specs.Prelude.{◌≡◌, ℕ, ◌<◌, ◌≤◌, OnOk};
+ghost use Rattle.std.specs.Prelude.{◌≡◌, ℕ, ◌<◌, ◌≤◌, IfOk, OnOk};
 ghost use Rattle.std.specs.FinSet as set;
 ghost use Rattle.om_interval.specs.declared.pid.TheConstants.{MAX_PROCESSES};
 ghost use Rattle.om_recover.specs.Records.{first_row};
+ghost use Rattle.om_recover.specs.steps.Bases.{HasNoNewest, HaveNoBases};
+ghost use Rattle.om_recover.specs.steps.Logs.{AreEmpty, HaveNone};
 ghost use Rattle.om_recover.specs.Rows.{Has, IsLawful};
 ghost use Rattle.om_recover.specs.steps.Held.{AreIndexed, Hold, IsFree, held};
 
 use crate::adding::add;
 use crate::row::{Row, RowKind};
-use crate::trees::Trees;
+use crate::trees::{Bases, Logs, Newest, Run, Trees};
 use om_interval::{DepVec, Pid};
 use std::alloc::{AllocError, Global};
 use std::collections::BTreeMap;
 
-/// The trees of no rows.
-pub fn no_rows(alloc: Global) -> Trees
-    ensures { Hold result set.empty }
+/// The trees of no rows of `n` processes.
+pub fn no_rows(alloc: Global, n: usize) -> Result<Trees, AllocError>
+    ensures { IfOk result (λ trees. Hold trees set.empty) }
 {
-    Trees {
-        logs: BTreeMap::new(alloc),
-        bases: BTreeMap::new(alloc),
+    let logs = no_logs(alloc, n)?;
+    let bases = no_bases(alloc, n)?;
+    Ok(Trees { logs, bases })
+}
+
+fn no_bases(alloc: Global, n: usize) -> Result<Bases, AllocError>
+    ensures { IfOk result HaveNoBases }
+{
+    let newest = no_newest(alloc, n)?;
+    Ok(Bases {
+        newest,
+        others: BTreeMap::new(alloc),
+    })
+}
+
+fn no_newest(alloc: Global, n: usize) -> Result<Vec<Option<Newest>>, AllocError>
+    ensures { IfOk result (λ newest. (p : ℕ) → HasNoNewest newest.items p) }
+{
+    let mut newest = Vec::with_capacity(alloc, n)?;
+    for _ in 0..n {
+        newest.push_reserved(None);
     }
+    Ok(newest)
+}
+
+fn no_logs(alloc: Global, n: usize) -> Result<Logs, AllocError>
+    ensures { IfOk result HaveNone }
+{
+    let runs = no_runs(alloc, n)?;
+    Ok(Logs {
+        runs,
+        others: BTreeMap::new(alloc),
+    })
+}
+
+fn no_runs(alloc: Global, n: usize) -> Result<Vec<Run>, AllocError>
+    ensures { IfOk result (λ runs. AreEmpty runs.items) }
+{
+    let mut runs = Vec::with_capacity(alloc, n)?;
+    for _ in 0..n {
+        runs.push_reserved(Run {
+            first: 0,
+            logs: Vec::new(alloc),
+        });
+    }
+    Ok(runs)
 }
 
 /// Adds checkpoint 0 of a process of `n`.

@@ -67,7 +67,7 @@ impl Index {
         requires within { n ≤ MAX_PROCESSES }
         ensures { IfOk result (λ index. (row : _) → HasRow index row ↔ ((row.pid < n) × (row ≡ first_row n row.pid))) }
     {
-        let mut trees = no_rows(alloc);
+        let mut trees = no_rows(alloc, n)?;
         for p in 0..n {
             add_first(&mut trees, Pid::at(p), n)?;
         }

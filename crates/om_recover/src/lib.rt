@@ -4,11 +4,14 @@
 
 mod adding;
 mod answer;
+mod bases;
 mod climb;
 mod cutting;
 mod first;
 mod index;
 pub mod laws;
+mod laying;
+mod logs;
 mod lookup;
 mod memory;
 mod nearest;
@@ -19,6 +22,7 @@ mod row;
 mod search;
 mod stable;
 mod step;
+mod storing;
 mod trees;
 mod work;
 

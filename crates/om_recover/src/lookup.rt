@@ -4,7 +4,8 @@ ghost use Rattle.om_recover.specs.Recoverable.{IsStable};
 ghost use Rattle.om_recover.specs.Rows.{HasRow, Has, IsLawful};
 ghost use Rattle.om_recover.specs.steps.Held.{AreTrees, IsRecordTo, IsRecordFrom, held, row_of};
 
-use crate::nearest::{nearest_from, nearest_to};
+use crate::bases::{base_at, base_from, base_to};
+use crate::logs::{log_at, log_from, log_to};
 use crate::row::{Row, RowKind};
 use crate::trees::{Trees, Vectors};
 use om_interval::{DepVec, Pid};
@@ -15,11 +16,11 @@ pub fn vectors_of(trees: &Trees, kind: RowKind, pid: Pid, x: u32) -> Option<&Vec
     ensures { MatchOption result (Has (held trees.now) kind pid x → ⊥) (λ vectors. HasRow (held trees.now) (row_of kind pid x vectors.now)) }
 {
     match kind {
-        RowKind::Checkpoint => match trees.bases.get(&(pid, x)) {
+        RowKind::Checkpoint => match base_at(&trees.bases, pid, x) {
             None => None,
             Some(base) => Some(&base.vectors),
         },
-        RowKind::Log => match trees.logs.get(&(pid, x)) {
+        RowKind::Log => match log_at(&trees.logs, pid, x) {
             None => None,
             Some(vectors) => Some(vectors),
         },
@@ -32,11 +33,11 @@ pub fn record_to(trees: &Trees, kind: RowKind, pid: Pid, to: u32) -> Option<Row>
     ensures { MatchOption result ((x : ℕ) → Has (held trees.now) kind pid x → x ≤ to → ⊥) (IsRecordTo (held trees.now) kind pid to) }
 {
     match kind {
-        RowKind::Checkpoint => match nearest_to(&trees.bases, pid, to) {
+        RowKind::Checkpoint => match base_to(&trees.bases, pid, to) {
             None => None,
             Some((x, base)) => Some(row(kind, pid, x, &base.vectors)),
         },
-        RowKind::Log => match nearest_to(&trees.logs, pid, to) {
+        RowKind::Log => match log_to(&trees.logs, pid, to) {
             None => None,
             Some((x, vectors)) => Some(row(kind, pid, x, vectors)),
         },
@@ -49,11 +50,11 @@ pub fn record_from(trees: &Trees, kind: RowKind, pid: Pid, from: u32) -> Option<
     ensures { MatchOption result ((x : ℕ) → Has (held trees.now) kind pid x → from ≤ x → ⊥) (IsRecordFrom (held trees.now) kind pid from) }
 {
     match kind {
-        RowKind::Checkpoint => match nearest_from(&trees.bases, pid, from) {
+        RowKind::Checkpoint => match base_from(&trees.bases, pid, from) {
             None => None,
             Some((x, base)) => Some(row(kind, pid, x, &base.vectors)),
         },
-        RowKind::Log => match nearest_from(&trees.logs, pid, from) {
+        RowKind::Log => match log_from(&trees.logs, pid, from) {
             None => None,
             Some((x, vectors)) => Some(row(kind, pid, x, vectors)),
         },
@@ -112,7 +113,7 @@ pub fn effective_of(trees: &Trees, pid: Pid, x: u32) -> u32
     requires stable { IsStable (held trees.now) pid x }
     ensures { IsEffective (held trees.now) pid x result }
 {
-    match nearest_to(&trees.bases, pid, x) {
+    match base_to(&trees.bases, pid, x) {
         Some((checkpoint, _)) => checkpoint,
         None => unreachable!(),
     }

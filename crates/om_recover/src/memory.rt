@@ -1,4 +1,4 @@
-ghost use Rattle.std.specs.Prelude.{◌≡◌, ℕ, ◌<◌, ◌≤◌, ⊤, length, slice_index_or, Option, Some, None, MatchOption};
+ghost use Rattle.std.specs.Prelude.{◌≡◌, ℕ, ◌<◌, ◌≤◌, ⊤, false, length, slice_index, slice_index_or, Option, Some, None, MatchOption};
 ghost use Rattle.om_recover.specs.steps.Memory.{IsKept, IsWithout};
 ghost use Rattle.om_interval.specs.declared.pid.TheConstants.{MAX_PROCESSES};
 
@@ -58,21 +58,28 @@ impl Memories {
         self.put(pid, Some(memory));
     }
 
-    /// The memories of the first `n` processes that came no further, at a process, than to an interval.
-    pub(crate) fn without(&self, n: usize, pid: Pid, x: u32) -> Memories
+    /// Forgets those memories of the first `n` processes that came further, at a process, than to an interval.
+    pub(crate) fn forget(&mut self, n: usize, pid: Pid, x: u32)
         requires within { n ≤ MAX_PROCESSES }
-        requires places { (q : ℕ) → q < n → MatchOption (slice_index_or self.now.places q None) ⊤ (λ memory. pid < length memory.reached) }
-        ensures { IsWithout n self.now.places result.places pid x }
+        requires places { (q : ℕ) → q < n → MatchOption (slice_index_or self.old.places q None) ⊤ (λ memory. pid < length memory.reached) }
+        ensures { IsWithout n self.old.places self.new.places pid x }
     {
-        let mut kept = *self;
         for p in 0..n {
             let q = Pid::at(p);
-            if let Some(memory) = self.get(q) {
-                if x < memory.reached.get(pid) {
-                    kept.put(q, None);
-                }
+            if self.is_beyond(q, pid, x) {
+                self.put(q, None);
             }
         }
-        kept
+    }
+
+    // Whether a climb of a process is remembered that came further, at another, than to an interval.
+    fn is_beyond(&self, of: Pid, pid: Pid, x: u32) -> bool
+        requires { MatchOption (slice_index_or self.now.places of None) ⊤ (λ memory. pid < length memory.reached) }
+        ensures { result ≡ false → MatchOption (slice_index_or self.now.places of None) ⊤ (λ memory. slice_index memory.reached pid ≤ x) }
+    {
+        match &self.places[of.index()] {
+            None => false,
+            Some(memory) => x < memory.reached.get(pid),
+        }
     }
 }

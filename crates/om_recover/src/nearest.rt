@@ -10,6 +10,9 @@ pub fn nearest_to<V>(entries: &BTreeMap<(Pid, u32), V>, pid: Pid, to: u32) -> Op
         (HasNoneTo entries.now.entries pid to)
         (λ found. IsNearestTo entries.now.entries pid to found.0 found.1.now) }
 {
+    if entries.is_empty() {
+        return None;
+    }
     match entries.range(..=(pid, to)).next_back() {
         None => None,
         Some((place, value)) => {
@@ -28,6 +31,9 @@ pub fn nearest_from<V>(entries: &BTreeMap<(Pid, u32), V>, pid: Pid, from: u32) -
         (HasNoneFrom entries.now.entries pid from)
         (λ found. IsNearestFrom entries.now.entries pid from found.0 found.1.now) }
 {
+    if entries.is_empty() {
+        return None;
+    }
     match entries.range((pid, from)..).next() {
         None => None,
         Some((place, value)) => {

@@ -31,6 +31,6 @@ pub fn raised_by<S: Shelf>(
     if row.interval <= state.get(row.pid) {
         return *state;
     }
-    *memories = memories.without(state.n(), row.pid, row.interval);
+    memories.forget(state.n(), row.pid, row.interval);
     greatest_from(after, state, row.pid, row.interval, memories, work)
 }

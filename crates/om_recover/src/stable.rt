@@ -4,7 +4,7 @@ ghost use Rattle.om_recover.specs.Climb.{IsLeastStable};
 ghost use Rattle.om_recover.specs.steps.Climbing.{TellsLeast};
 ghost use Rattle.om_recover.specs.steps.Held.{AreIndexed, held};
 
-use crate::nearest::{nearest_from, nearest_to};
+use crate::bases::{base_from, base_to};
 use crate::trees::Trees;
 use om_interval::Pid;
 
@@ -14,7 +14,7 @@ pub fn is_stable_in(trees: &Trees, pid: Pid, x: u32) -> bool
     ensures yes { IsTrue result → IsStable (held trees.now) pid x }
     ensures none { result ≡ false → IsStable (held trees.now) pid x → ⊥ }
 {
-    match nearest_to(&trees.bases, pid, x) {
+    match base_to(&trees.bases, pid, x) {
         None => false,
         Some((_, base)) => x <= base.last,
     }
@@ -28,7 +28,7 @@ pub fn least_stable_of(trees: &Trees, pid: Pid, from: u32) -> Option<u32>
     if is_stable_in(trees, pid, from) {
         return Some(from);
     }
-    match nearest_from(&trees.bases, pid, from) {
+    match base_from(&trees.bases, pid, from) {
         None => None,
         Some((x, _)) => Some(x),
     }

@@ -16,9 +16,38 @@ pub struct Base {
     pub last: u32,
 }
 
+/// The newest checkpoint of a process.
+#[derive(Clone, Copy, Debug)]
+pub struct Newest {
+    pub interval: u32,
+    pub base: Base,
+}
+
+/// Checkpoints: of each process the newest, and the others by process and interval.
+#[derive(Debug, Drop)]
+pub struct Bases {
+    pub newest: Vec<Option<Newest>>,
+    pub others: BTreeMap<(Pid, u32), Base>,
+}
+
+/// Logs of a process that follow on one another, as most of them come.
+#[derive(Debug, Drop)]
+pub struct Run {
+    /// The interval of the first.
+    pub first: u32,
+    pub logs: Vec<Vectors>,
+}
+
+/// Logs: of each process a run, and the others by process and interval.
+#[derive(Debug, Drop)]
+pub struct Logs {
+    pub runs: Vec<Run>,
+    pub others: BTreeMap<(Pid, u32), Vectors>,
+}
+
 /// Rows by process and interval.
 #[derive(Debug, Drop)]
 pub struct Trees {
-    pub logs: BTreeMap<(Pid, u32), Vectors>,
-    pub bases: BTreeMap<(Pid, u32), Base>,
+    pub logs: Logs,
+    pub bases: Bases,
 }

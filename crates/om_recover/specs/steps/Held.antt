@@ -4,7 +4,9 @@ use Rattle.std.specs.FinSet as set
 use Rattle.om_recover.specs.Rows.{Rows, HasRow, Has, HaveSameVectors}
 use Rattle.om_recover.specs.Offered.{AreOfOneInterval}
 use Rattle.om_recover.specs.Recoverable.{IsStable}
-use Rattle.om_recover.specs.steps.Nearest.{at, AreSorted}
+use Rattle.om_recover.specs.steps.Nearest.{at}
+use Rattle.om_recover.specs.steps.Bases.{AreBases, base_entries}
+use Rattle.om_recover.specs.steps.Logs.{AreLogs, log_entries}
 use Rattle.om_recover.specs.declared.trees.Vectors.{Vectors}
 use Rattle.om_recover.specs.declared.trees.Base.{Base}
 use Rattle.om_recover.specs.declared.trees.Trees.{Trees}
@@ -24,12 +26,12 @@ base_row entry = row_of Checkpoint entry.0.0 entry.0.1 entry.1.vectors
 
 -- the rows of the trees
 abbrev pub held : Trees → Rows
-held trees = set.union (set.from_list (map log_row trees.logs.entries)) (set.from_list (map base_row trees.bases.entries))
+held trees = set.union (set.from_list (map log_row (log_entries trees.logs))) (set.from_list (map base_row (base_entries trees.bases)))
 
--- both trees are in order
+-- the logs and the checkpoints are in order
 pub record AreTrees (trees : Trees) : Type 0 where
-  pub logs : AreSorted trees.logs.entries
-  pub bases : AreSorted trees.bases.entries
+  pub logs : AreLogs trees.logs
+  pub bases : AreBases trees.bases
 
 -- from a checkpoint on, below the next, the intervals up to the last given are those that are stable
 pub record Reaches (rows : Rows) (p x last : ℕ) : Type 0 where
@@ -39,7 +41,7 @@ pub record Reaches (rows : Rows) (p x last : ℕ) : Type 0 where
 -- the trees are in order, and each checkpoint tells how far it reaches
 pub record AreIndexed (trees : Trees) : Type 0 where
   pub sorted : AreTrees trees
-  pub reaches : (p x : ℕ) (base : Base) → at trees.bases.entries p x ≡ Some base → Reaches (held trees) p x base.last
+  pub reaches : (p x : ℕ) (base : Base) → at (base_entries trees.bases) p x ≡ Some base → Reaches (held trees) p x base.last
 
 -- these are the rows of the trees
 pub record Hold (trees : Trees) (rows : Rows) : Type 0 where

@@ -1,7 +1,7 @@
 -- What the steps of the search and of a note promise.
 use Rattle.std.specs.Prelude.{◌≡◌, ℕ, ◌<◌, Result, Ok, Err}
-use Rattle.om_recover.specs.Rows.{Rows, HasRow}
-use Rattle.om_recover.specs.Offered.{offered}
+use Rattle.om_recover.specs.Rows.{Rows, HasRow, IsAtMost}
+use Rattle.om_recover.specs.Offered.{offered, IsNearestBelow}
 use Rattle.om_recover.specs.declared.row.Row.{Row}
 use Rattle.om_recover.specs.declared.note.Note.{Note}
 use Rattle.om_recover.specs.declared.note.Note.TheVariants.{Noted, Known}
@@ -24,3 +24,9 @@ HasNoneAbove rows row = (high : Row) → HasRow rows high → high.pid ≡ row.p
 -- the row has that answer, and is not added
 abbrev pub IsAnswered : ℕ → Rows → Row → Result Note NoteError → Type 0
 IsAnswered n rows row answer = offered n rows row answer rows
+
+-- the nearest of the process's rows below has at most the row's vectors
+pub record FollowsRow (rows : Rows) (row : Row) : Type 0 where
+  pub low : Row
+  pub nearest : IsNearestBelow rows row low
+  pub at_most : IsAtMost low row

@@ -4,5 +4,5 @@ use Rattle.om_recover.proofs.first.no_rows.Goals as goal
 
 pub returns : goal.returns
 returns c =
-    let trees : Trees = record { logs = c.new.result; bases = c.new-2.result } in
-    hold_nothing trees (record { logs = c.new.ensures.ordered; bases = c.new-2.ensures.ordered }) c.new.ensures.empty c.new-2.ensures.empty
+    let trees : Trees = record { logs = c.in_ok-logs.logs; bases = c.in_ok-bases.bases } in
+    hold_nothing trees (record { logs = c.in_ok-logs.ensures.sorted; bases = c.in_ok-bases.ensures.sorted }) c.in_ok-logs.ensures.none c.in_ok-bases.ensures.none

@@ -15,11 +15,11 @@ returns-in-Some c =
     (subst (λ kind. IsRecordFrom (held c.args.trees.now) kind c.args.pid c.args.from (row_of kind c.args.pid c.in-Some.x c.in-Some.base.now.vectors)) (sym c.in-Checkpoint.is)
     (base_from _ _ _ _ c.in-Some.base.now c.requires c.in-Some.ensures))
 
-pub returns-in-None-nearest_from : goal.returns-in-None-nearest_from
-returns-in-None-nearest_from c = λ x has within. c.in-None-nearest_from.ensures x (some_log _ _ _ c.requires (subst (λ kind. Has (held c.args.trees.now) kind c.args.pid x) c.in-Log.is has)) within
+pub returns-in-None-log_from : goal.returns-in-None-log_from
+returns-in-None-log_from c = λ x has within. c.in-None-log_from.ensures x (some_log _ _ _ c.requires (subst (λ kind. Has (held c.args.trees.now) kind c.args.pid x) c.in-Log.is has)) within
 
-pub returns-in-Some-nearest_from : goal.returns-in-Some-nearest_from
-returns-in-Some-nearest_from c =
-    subst (λ (row : Row). IsRecordFrom (held c.args.trees.now) c.args.kind c.args.pid c.args.from row) (sym c.row-in-Some-nearest_from.ensures)
-    (subst (λ kind. IsRecordFrom (held c.args.trees.now) kind c.args.pid c.args.from (row_of kind c.args.pid c.in-Some-nearest_from.x c.in-Some-nearest_from.vectors.now)) (sym c.in-Log.is)
-    (log_from _ _ _ _ c.in-Some-nearest_from.vectors.now c.requires c.in-Some-nearest_from.ensures))
+pub returns-in-Some-log_from : goal.returns-in-Some-log_from
+returns-in-Some-log_from c =
+    subst (λ (row : Row). IsRecordFrom (held c.args.trees.now) c.args.kind c.args.pid c.args.from row) (sym c.row-in-Some-log_from.ensures)
+    (subst (λ kind. IsRecordFrom (held c.args.trees.now) kind c.args.pid c.args.from (row_of kind c.args.pid c.in-Some-log_from.x c.in-Some-log_from.vectors.now)) (sym c.in-Log.is)
+    (log_from _ _ _ _ c.in-Some-log_from.vectors.now c.requires c.in-Some-log_from.ensures))

@@ -15,11 +15,11 @@ returns-in-Some c =
     (subst (λ kind. IsRecordTo (held c.args.trees.now) kind c.args.pid c.args.to (row_of kind c.args.pid c.in-Some.x c.in-Some.base.now.vectors)) (sym c.in-Checkpoint.is)
     (base_to _ _ _ _ c.in-Some.base.now c.requires c.in-Some.ensures))
 
-pub returns-in-None-nearest_to : goal.returns-in-None-nearest_to
-returns-in-None-nearest_to c = λ x has within. c.in-None-nearest_to.ensures x (some_log _ _ _ c.requires (subst (λ kind. Has (held c.args.trees.now) kind c.args.pid x) c.in-Log.is has)) within
+pub returns-in-None-log_to : goal.returns-in-None-log_to
+returns-in-None-log_to c = λ x has within. c.in-None-log_to.ensures x (some_log _ _ _ c.requires (subst (λ kind. Has (held c.args.trees.now) kind c.args.pid x) c.in-Log.is has)) within
 
-pub returns-in-Some-nearest_to : goal.returns-in-Some-nearest_to
-returns-in-Some-nearest_to c =
-    subst (λ (row : Row). IsRecordTo (held c.args.trees.now) c.args.kind c.args.pid c.args.to row) (sym c.row-in-Some-nearest_to.ensures)
-    (subst (λ kind. IsRecordTo (held c.args.trees.now) kind c.args.pid c.args.to (row_of kind c.args.pid c.in-Some-nearest_to.x c.in-Some-nearest_to.vectors.now)) (sym c.in-Log.is)
-    (log_to _ _ _ _ c.in-Some-nearest_to.vectors.now c.requires c.in-Some-nearest_to.ensures))
+pub returns-in-Some-log_to : goal.returns-in-Some-log_to
+returns-in-Some-log_to c =
+    subst (λ (row : Row). IsRecordTo (held c.args.trees.now) c.args.kind c.args.pid c.args.to row) (sym c.row-in-Some-log_to.ensures)
+    (subst (λ kind. IsRecordTo (held c.args.trees.now) kind c.args.pid c.args.to (row_of kind c.args.pid c.in-Some-log_to.x c.in-Some-log_to.vectors.now)) (sym c.in-Log.is)
+    (log_to _ _ _ _ c.in-Some-log_to.vectors.now c.requires c.in-Some-log_to.ensures))

@@ -31,8 +31,8 @@ returns-then-row-get-clause-remembered g c =
 pub returns-then-row-get-clause-counted : goal.returns-then-row-get-clause-counted
 returns-then-row-get-clause-counted g c = λ before all. uncounted (quiet_above _ _ _ _ _ _ all (omega (arith, c.if-row-get.true, c.get.ensures))) refl
 
-pub without-requires-clause-places : goal.without-requires-clause-places
-without-requires-clause-places g c = λ q within. all_places _ _ _ _ _ c.requires.1.process c.requires.2 q (omega (arith, within, c.n.ensures.places))
+pub forget-requires-clause-places : goal.forget-requires-clause-places
+forget-requires-clause-places g c = λ q within. all_places _ _ _ _ _ c.requires.1.process c.requires.2 q (omega (arith, within, c.n.ensures.places))
 
 pub greatest_from-requires-clause-start : goal.greatest_from-requires-clause-start
 greatest_from-requires-clause-start g c = (least _ _ _ _ _ _ c.requires.1 c.if-not-is_new.false (omega (arith, c.if-row-get.false, c.get.ensures))).stable
@@ -46,7 +46,7 @@ pub greatest_from-requires-clause-remembered : goal.greatest_from-requires-claus
 greatest_from-requires-clause-remembered g c =
     let all = c.requires.1 in
     all_without _ _ _ _ _ _ _ all.added all.lawful all.greatest.recoverable
-    (subst (λ n. IsWithout n c.args.memories.now.places c.without.result.places c.args.row.now.pid c.args.row.now.interval) c.n.ensures.places c.without.ensures) c.requires.2
+    (subst (λ n. IsWithout n c.args.memories.now.places c.forget.new.self.places c.args.row.now.pid c.args.row.now.interval) c.n.ensures.places c.forget.ensures) c.requires.2
 
 pub returns-clause-counted : goal.returns-clause-counted
 returns-clause-counted g c = λ before all.

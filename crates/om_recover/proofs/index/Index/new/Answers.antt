@@ -6,7 +6,7 @@ use Rattle.om_recover.proofs.FirstLemmas.{first_lawful, first_more, none_first}
 use Rattle.om_recover.proofs.index.Index.new.Goals as goal
 
 pub loop-p-init : goal.loop-p-init
-loop-p-init c = record { indexed = c.no_rows-trees.ensures.indexed; first = none_first _ _ c.no_rows-trees.ensures.are }
+loop-p-init c = record { indexed = c.in_ok-trees.ensures.indexed; first = none_first _ _ c.in_ok-trees.ensures.are }
 
 pub add_first-requires-clause-lawful : goal.add_first-requires-clause-lawful
 add_first-requires-clause-lawful c = (c.args.n, first_lawful c.args.n c.loop-p.p _ (omega arith) c.loop-p.invariant.first)
