@@ -1,12 +1,13 @@
 //! Images, from the words of a line.
 
-ghost use Rattle.std.specs.Prelude.{◌≡◌, ◌*◌, ◌≤◌, length, map, flat_map, true, IfOk, OnOk};
+ghost use Rattle.std.specs.Prelude.{◌≡◌, ◌*◌, ◌^◌, ◌<◌, ◌≤◌, length, map, flat_map, true, IfOk, OnOk};
 ghost use Rattle.std.specs.Int.{to_le_bytes, w32};
 ghost use Rattle.om_format.specs.Checkpoints.{is_memory_size};
 ghost use Rattle.om_process.specs.Images.{program_of};
 ghost use Rattle.om_programs.specs.Programs.{IsProgram, program_in, words_in};
 ghost use Rattle.om_text.specs.Reading.{Gives};
 
+use byteorder::{ByteOrder, LittleEndian};
 use om_isa::Ext;
 use om_process::Image;
 use om_text::{BuildError, LineError, hex_word};
@@ -44,11 +45,10 @@ pub(crate) fn image_of(
 
 // The bytes of the words, the lowest of each first.
 fn bytes_of(alloc: Global, words: &[u32]) -> Result<Vec<u8>, AllocError>
+    requires { 4 * length words.now < 2 ^ 64 }
     ensures bytes { IfOk result (λ bytes. bytes.items ≡ flat_map (to_le_bytes w32) words.now) }
 {
-    let mut bytes = Vec::new(alloc);
-    for word in words {
-        bytes.extend_from_slice(&word.to_le_bytes())?;
-    }
+    let mut bytes = vec![in alloc; 0; 4 * words.len()]?;
+    LittleEndian::write_u32_into(words, &mut bytes);
     Ok(bytes)
 }
