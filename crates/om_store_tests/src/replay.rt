@@ -201,31 +201,29 @@ fn rows_in_tables(rt: HostRuntime) {
     }
 }
 
+// The command over a store with this receipt has this answer.
+fn check_receipt(rt: &impl Abort, alloc: Global, receipt: &[u8], answer: CommandError) {
+    let mut store = MemStable::new(alloc);
+    fill(rt, alloc, &mut store, receipt);
+    check(rt, alloc, &mut store, 1, "", Err(answer));
+}
+
+fn check_altered(rt: &impl Abort, alloc: Global, place: usize, byte: u8, answer: CommandError) {
+    let mut receipt = RECEIPT;
+    assert!(rt; place < receipt.len());
+    receipt[place] = byte;
+    check_receipt(rt, alloc, &receipt, answer);
+}
+
 // A receipt that is cut, and one with another byte at a place.
 #[test]
 fn records_that_are_altered(rt: HostRuntime) {
-    for (place, byte, answer) in [
-        (4, 2, CommandError::Damaged(1)),
-        (2, 0, CommandError::Mismatch(1)),
-        (3, 3, CommandError::Mismatch(1)),
-        (16, 2, CommandError::Mismatch(1)),
-    ] {
-        let mut store = MemStable::new(rt.alloc());
-        let mut receipt = RECEIPT;
-        receipt[place] = byte;
-        fill(&rt, rt.alloc(), &mut store, &receipt);
-        check(&rt, rt.alloc(), &mut store, 1, "", Err(answer));
-    }
-    let mut store = MemStable::new(rt.alloc());
-    fill(&rt, rt.alloc(), &mut store, &RECEIPT[..29]);
-    check(
-        &rt,
-        rt.alloc(),
-        &mut store,
-        1,
-        "",
-        Err(CommandError::Damaged(1)),
-    );
+    let alloc = rt.alloc();
+    check_altered(&rt, alloc, 4, 2, CommandError::Damaged(1));
+    check_altered(&rt, alloc, 2, 0, CommandError::Mismatch(1));
+    check_altered(&rt, alloc, 3, 3, CommandError::Mismatch(1));
+    check_altered(&rt, alloc, 16, 2, CommandError::Mismatch(1));
+    check_receipt(&rt, alloc, &RECEIPT[..29], CommandError::Damaged(1));
 }
 
 // The two calls that fill the store pass.
@@ -244,16 +242,22 @@ fn a_store_that_fails(rt: HostRuntime) {
     check(&rt, rt.alloc(), &mut store, 1, AFTER_RECEIPT, Ok(()));
 }
 
+fn assert_text(rt: &impl Abort, alloc: Global, error: CommandError, text: &str) {
+    let told = format!(in alloc; "{error}").expect(rt, "memory");
+    assert_eq!(rt; told.as_str(), text);
+}
+
 #[test]
 fn texts_of_refusals(rt: HostRuntime) {
-    for (error, text) in [
-        (CommandError::NoCheckpoint, "no checkpoint"),
-        (CommandError::Damaged(7), "damaged 7"),
-        (CommandError::MissingReceipt(8), "missing receipt 8"),
-        (CommandError::Mismatch(9), "mismatch 9"),
-        (CommandError::StoreFault, "store fault"),
-    ] {
-        let told = format!(in rt.alloc(); "{error}").expect(&rt, "memory");
-        assert_eq!(rt; told.as_str(), text);
-    }
+    let alloc = rt.alloc();
+    assert_text(&rt, alloc, CommandError::NoCheckpoint, "no checkpoint");
+    assert_text(&rt, alloc, CommandError::Damaged(7), "damaged 7");
+    assert_text(
+        &rt,
+        alloc,
+        CommandError::MissingReceipt(8),
+        "missing receipt 8",
+    );
+    assert_text(&rt, alloc, CommandError::Mismatch(9), "mismatch 9");
+    assert_text(&rt, alloc, CommandError::StoreFault, "store fault");
 }

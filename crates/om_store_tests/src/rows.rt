@@ -1,7 +1,6 @@
 use om_stable::{FuseStable, INTERVALS, MemStable, Stable, Stop, StoreError, laws};
 use std::alloc::{AllocError, Global};
 use std::process::Abort;
-use std::test::Fail;
 
 mod caller;
 mod stops;
@@ -149,35 +148,46 @@ fn play<S: Stable>(rt: &impl Abort, alloc: Global, store: &mut S, rows: &[Row]) 
     Refused { fault, memory }
 }
 
+fn play_in_memory(rt: &impl Abort, alloc: Global, rows: &[Row]) {
+    let mut store = MemStable::new(alloc);
+    let refused = play(rt, alloc, &mut store, rows);
+    assert_eq!(rt; refused.fault, None);
+    assert_eq!(rt; store.failures(), 0);
+}
+
 #[test]
 fn rows_in_memory(rt: HostRuntime) {
-    for rows in [CUT_AND_PUT_AGAIN.as_slice(), PRUNE_AND_PUT_LAST.as_slice()] {
-        let mut store = MemStable::new(rt.alloc());
-        let refused = play(&rt, rt.alloc(), &mut store, rows);
-        assert_eq!(rt; refused.fault, None);
-        assert_eq!(rt; store.failures(), 0);
-    }
+    play_in_memory(&rt, rt.alloc(), &CUT_AND_PUT_AGAIN);
+    play_in_memory(&rt, rt.alloc(), &PRUNE_AND_PUT_LAST);
     laws::between_is_all_between();
     laws::with_all_holds_all();
 }
 
+// Plays the rows behind a fuse of so many calls.
+fn play_behind(rt: &impl Abort, alloc: Global, rows: &[Row], calls: usize) {
+    let mut store = FuseStable::new(MemStable::new(alloc), calls as u64);
+    let refused = play(rt, alloc, &mut store, rows);
+    let reached = refused.fault.is_some();
+    assert_eq!(rt; store.failures(), u64::from(reached));
+    assert_eq!(rt; store.stop == Stop::Past, reached);
+    if !refused.memory {
+        let stopped = if calls < rows.len() {
+            Some(calls)
+        } else {
+            None
+        };
+        assert_eq!(rt; refused.fault, stopped);
+    }
+}
+
+fn play_behind_each(rt: &impl Abort, alloc: Global, rows: &[Row]) {
+    for calls in 0..=rows.len() {
+        play_behind(rt, alloc, rows, calls);
+    }
+}
+
 #[test]
 fn rows_behind_a_fuse(rt: HostRuntime) {
-    for rows in [CUT_AND_PUT_AGAIN.as_slice(), PRUNE_AND_PUT_LAST.as_slice()] {
-        for calls in 0..=rows.len() {
-            let mut store = FuseStable::new(MemStable::new(rt.alloc()), calls as u64);
-            let refused = play(&rt, rt.alloc(), &mut store, rows);
-            let reached = refused.fault.is_some();
-            assert_eq!(rt; store.failures(), u64::from(reached));
-            assert_eq!(rt; store.stop == Stop::Past, reached);
-            if !refused.memory {
-                let stopped = if calls < rows.len() {
-                    Some(calls)
-                } else {
-                    None
-                };
-                assert_eq!(rt; refused.fault, stopped);
-            }
-        }
-    }
+    play_behind_each(&rt, rt.alloc(), &CUT_AND_PUT_AGAIN);
+    play_behind_each(&rt, rt.alloc(), &PRUNE_AND_PUT_LAST);
 }

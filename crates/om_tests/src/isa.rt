@@ -2,6 +2,7 @@ use om_isa::{
     Ext, FenceBits, Imm12, Inst, Off13, Off21, Reg, Shamt, Upper, WriteFault, decode, encode,
 };
 use std::alloc::Global;
+use std::process::Abort;
 use std::test::Fail;
 
 // The text of a word, None where it is no instruction.
@@ -48,60 +49,97 @@ fn words_have_their_texts(rt: HostRuntime) -> Result<(), Fail> {
     Ok(())
 }
 
-#[test]
-fn fields_keep_their_ranges(rt: HostRuntime) {
-    for (value, lawful) in [(0, true), (31, true), (32, false), (255, false)] {
-        assert_eq!(rt;
-            Reg::new(value).map(|reg| reg.value()),
-            lawful.then_some(value)
-        );
-        assert_eq!(rt;
-            Shamt::new(value).map(|shamt| shamt.value()),
-            lawful.then_some(value)
-        );
+fn assert_registers(rt: &impl Abort) {
+    for (value, lawful) in &[(0, true), (31, true), (32, false), (255, false)] {
+        let reg = Reg::new(*value);
+        assert_eq!(rt; reg.is_some(), *lawful);
+        if let Some(reg) = reg {
+            assert_eq!(rt; reg.value(), *value);
+        }
     }
-    for (value, lawful) in [(-2049, false), (-2048, true), (2047, true), (2048, false)] {
-        assert_eq!(rt;
-            Imm12::new(value).map(|imm| imm.value()),
-            lawful.then_some(value)
-        );
+}
+
+fn assert_shamts(rt: &impl Abort) {
+    for (value, lawful) in &[(0, true), (31, true), (32, false), (255, false)] {
+        let shamt = Shamt::new(*value);
+        assert_eq!(rt; shamt.is_some(), *lawful);
+        if let Some(shamt) = shamt {
+            assert_eq!(rt; shamt.value(), *value);
+        }
     }
-    for (value, lawful) in [
+}
+
+fn assert_immediates(rt: &impl Abort) {
+    for (value, lawful) in &[(-2049, false), (-2048, true), (2047, true), (2048, false)] {
+        let imm = Imm12::new(*value);
+        assert_eq!(rt; imm.is_some(), *lawful);
+        if let Some(imm) = imm {
+            assert_eq!(rt; imm.value(), *value);
+        }
+    }
+}
+
+fn assert_branches(rt: &impl Abort) {
+    for (value, lawful) in &[
         (-4098, false),
         (-4096, true),
         (4093, false),
         (4094, true),
         (4096, false),
     ] {
-        assert_eq!(rt;
-            Off13::new(value).map(|offset| offset.value()),
-            lawful.then_some(value)
-        );
+        let offset = Off13::new(*value);
+        assert_eq!(rt; offset.is_some(), *lawful);
+        if let Some(offset) = offset {
+            assert_eq!(rt; offset.value(), *value);
+        }
     }
-    for (value, lawful) in [
+}
+
+fn assert_jumps(rt: &impl Abort) {
+    for (value, lawful) in &[
         (-1_048_578, false),
         (-1_048_576, true),
         (1_048_574, true),
         (1_048_575, false),
         (1_048_576, false),
     ] {
-        assert_eq!(rt;
-            Off21::new(value).map(|offset| offset.value()),
-            lawful.then_some(value)
-        );
+        let offset = Off21::new(*value);
+        assert_eq!(rt; offset.is_some(), *lawful);
+        if let Some(offset) = offset {
+            assert_eq!(rt; offset.value(), *value);
+        }
     }
-    for (value, lawful) in [(0, true), (1_048_575, true), (1_048_576, false)] {
-        assert_eq!(rt;
-            Upper::new(value).map(|upper| upper.value()),
-            lawful.then_some(value)
-        );
+}
+
+fn assert_uppers(rt: &impl Abort) {
+    for (value, lawful) in &[(0, true), (1_048_575, true), (1_048_576, false)] {
+        let upper = Upper::new(*value);
+        assert_eq!(rt; upper.is_some(), *lawful);
+        if let Some(upper) = upper {
+            assert_eq!(rt; upper.value(), *value);
+        }
     }
-    for (value, lawful) in [(0, true), (4095, true), (4096, false)] {
-        assert_eq!(rt;
-            FenceBits::new(value).map(|bits| bits.value()),
-            lawful.then_some(value)
-        );
+}
+
+fn assert_fences(rt: &impl Abort) {
+    for (value, lawful) in &[(0, true), (4095, true), (4096, false)] {
+        let bits = FenceBits::new(*value);
+        assert_eq!(rt; bits.is_some(), *lawful);
+        if let Some(bits) = bits {
+            assert_eq!(rt; bits.value(), *value);
+        }
     }
+}
+
+#[test]
+fn fields_keep_their_ranges(rt: HostRuntime) {
+    assert_registers(&rt);
+    assert_shamts(&rt);
+    assert_immediates(&rt);
+    assert_branches(&rt);
+    assert_jumps(&rt);
+    assert_uppers(&rt);
+    assert_fences(&rt);
 }
 
 #[test]

@@ -6,6 +6,7 @@ use om_machine::{
     Cause, EnvCall, Event, LoadFault, MAX_SIZE, MIN_SIZE, Machine, Ran, is_size, laws,
 };
 use std::alloc::Global;
+use std::process::Abort;
 use std::test::Fail;
 
 // A machine of RV32I whose image is these words.
@@ -27,44 +28,54 @@ const BRANCHES: [u32; 3] = [0x00029163, 0x00100293, 0x00029163];
 // The sign bit, shifted right with its copies and then without.
 const SHIFTS: [u32; 3] = [0x80000137, 0x41F15193, 0x01F15213];
 
+type Stop = (&'static [u32], u32, u64, Cause, u32, (u8, u32));
+
 // Image, size, the steps that go, the cause of the trap, pc there, and a register with its number. From the word FFFFFFFF
 // on, one more of each cause: words of no instruction, ebreak, a fetch behind memory, a jump and a taken branch to address
 // 2, 2 bytes at address 1, a byte read and a byte written behind memory, a call with only the topmost bit set, and a word of
 // RV32M, which RV32I does not have.
+const STOPS: [Stop; 20] = [
+    (&BRANCHES, 12, 2, TargetMisaligned, 8, (5, 1)),
+    (&[0x000010B7, 0xFFF0B093], 8, 2, FetchOutside, 8, (1, 1)),
+    (&SHIFTS, 12, 3, FetchOutside, 12, (2, 0x8000_0000)),
+    (&SHIFTS, 12, 3, FetchOutside, 12, (3, 0xFFFF_FFFF)),
+    (&SHIFTS, 12, 3, FetchOutside, 12, (4, 1)),
+    (&[0x002000EF], 8, 0, TargetMisaligned, 0, (1, 0)),
+    (&[0xFFE02083], 8, 0, DataMisaligned, 0, (1, 0)),
+    (&[0xFFC02083], 8, 0, DataOutside, 0, (1, 0)),
+    (&[0x00500893, 0x00000073], 8, 1, UnknownCall, 4, (17, 5)),
+    (&[0xFFFFFFFF], 4, 0, Illegal, 0, (0, 0)),
+    (&[0x00000013], 8, 1, Illegal, 4, (0, 0)),
+    (&[0x00100073], 4, 0, Break, 0, (0, 0)),
+    (&[0x08000067], 8, 1, FetchOutside, 128, (0, 0)),
+    (&[0x002000E7], 8, 0, TargetMisaligned, 0, (1, 0)),
+    (&[0x00000163], 8, 0, TargetMisaligned, 0, (0, 0)),
+    (&[0x00101083], 8, 0, DataMisaligned, 0, (1, 0)),
+    (&[0x00804083], 8, 0, DataOutside, 0, (1, 0)),
+    (&[0x00000423], 8, 0, DataOutside, 0, (0, 0)),
+    (&[0x800008B7, 0x73], 8, 1, UnknownCall, 4, (17, 0x8000_0000)),
+    (&[0x022081B3], 4, 0, Illegal, 0, (3, 0)),
+];
+
+fn assert_stop(rt: &impl Abort, alloc: Global, stop: &Stop) {
+    let (image, size, steps, cause, pc, (r, value)) = *stop;
+    let mut machine = loaded(alloc, image, size).expect(rt, "a machine");
+    let event = Event::Trap(cause);
+    assert_eq!(rt; machine.run(1000), Ran { steps, event }, "{image:?}");
+    assert_eq!(rt;
+        (machine.peek(), machine.step()),
+        (event, event),
+        "{image:?}"
+    );
+    assert_eq!(rt; (machine.pc(), machine.count()), (pc, steps), "{image:?}");
+    assert_eq!(rt; reg(&machine, r), Some(value), "{image:?}");
+}
+
 #[test]
-fn programs_stop_where_the_tables_say(rt: HostRuntime) -> Result<(), Fail> {
-    for (image, size, steps, cause, pc, r, value) in [
-        (BRANCHES.as_slice(), 12, 2, TargetMisaligned, 8, 5, 1),
-        (&[0x000010B7, 0xFFF0B093], 8, 2, FetchOutside, 8, 1, 1),
-        (&SHIFTS, 12, 3, FetchOutside, 12, 2, 0x8000_0000),
-        (&SHIFTS, 12, 3, FetchOutside, 12, 3, 0xFFFF_FFFF),
-        (&SHIFTS, 12, 3, FetchOutside, 12, 4, 1),
-        (&[0x002000EF], 8, 0, TargetMisaligned, 0, 1, 0),
-        (&[0xFFE02083], 8, 0, DataMisaligned, 0, 1, 0),
-        (&[0xFFC02083], 8, 0, DataOutside, 0, 1, 0),
-        (&[0x00500893, 0x00000073], 8, 1, UnknownCall, 4, 17, 5),
-        (&[0xFFFFFFFF], 4, 0, Illegal, 0, 0, 0),
-        (&[0x00000013], 8, 1, Illegal, 4, 0, 0),
-        (&[0x00100073], 4, 0, Break, 0, 0, 0),
-        (&[0x08000067], 8, 1, FetchOutside, 128, 0, 0),
-        (&[0x002000E7], 8, 0, TargetMisaligned, 0, 1, 0),
-        (&[0x00000163], 8, 0, TargetMisaligned, 0, 0, 0),
-        (&[0x00101083], 8, 0, DataMisaligned, 0, 1, 0),
-        (&[0x00804083], 8, 0, DataOutside, 0, 1, 0),
-        (&[0x00000423], 8, 0, DataOutside, 0, 0, 0),
-        (&[0x800008B7, 0x73], 8, 1, UnknownCall, 4, 17, 0x8000_0000),
-        (&[0x022081B3], 4, 0, Illegal, 0, 3, 0),
-    ] {
-        let mut machine = loaded(rt.alloc(), image, size)?;
-        let event = Event::Trap(cause);
-        assert_eq!(rt; machine.run(1000), Ran { steps, event }, "{image:?}");
-        assert_eq!(rt; machine.peek(), event, "{image:?}");
-        assert_eq!(rt; machine.step(), event, "{image:?}");
-        assert_eq!(rt; machine.pc(), pc, "{image:?}");
-        assert_eq!(rt; machine.count(), steps, "{image:?}");
-        assert_eq!(rt; reg(&machine, r), Some(value), "{image:?}");
+fn programs_stop_where_the_tables_say(rt: HostRuntime) {
+    for stop in &STOPS {
+        assert_stop(&rt, rt.alloc(), stop);
     }
-    Ok(())
 }
 
 // A machine with two numbers in x1 and x2 and with one word.
@@ -217,27 +228,36 @@ fn machines_are_restored(rt: HostRuntime) -> Result<(), Fail> {
     Ok(())
 }
 
-// The last instruction that is counted, and the one behind it, wherever pc is.
-#[test]
-fn a_full_count_stops_the_machine(rt: HostRuntime) -> Result<(), Fail> {
+const NOP: [u8; 4] = [0x13, 0, 0, 0];
+
+const FULL: Event = Event::Trap(Cause::CountFull);
+
+// A machine of RV32I at this address and this count, with 7 in x5 and no operation in its memory.
+fn counted(rt: &impl Abort, alloc: Global, pc: u32, count: u64) -> Machine {
+    assert_eq!(rt; pc % 4, 0);
     let mut regs = [0; WRITABLE_REGISTERS];
     regs[4] = 7;
-    let nop = [0x13, 0, 0, 0];
-    let full = Event::Trap(Cause::CountFull);
-    let mut machine = Machine::restore(rt.alloc(), &regs, 0, u64::MAX - 1, &nop, Ext::I)?;
+    Machine::restore(alloc, &regs, pc, count, &NOP, Ext::I).expect(rt, "memory")
+}
+
+fn assert_full(rt: &impl Abort, alloc: Global, pc: u32) {
+    let mut machine = counted(rt, alloc, pc, u64::MAX);
+    assert_eq!(rt; machine.peek(), FULL);
+    assert_eq!(rt; machine.step(), FULL);
+    assert_eq!(rt; machine, counted(rt, alloc, pc, u64::MAX));
+    assert_eq!(rt; (machine.pc(), machine.count()), (pc, u64::MAX));
+    assert_eq!(rt; reg(&machine, 5), Some(7));
+    assert_eq!(rt; machine.memory(), NOP.as_slice());
+}
+
+// The last instruction that is counted, and the one behind it, wherever pc is.
+#[test]
+fn a_full_count_stops_the_machine(rt: HostRuntime) {
+    let mut machine = counted(&rt, rt.alloc(), 0, u64::MAX - 1);
     assert_eq!(rt; machine.step(), Event::Went);
-    assert_eq!(rt; (machine.count(), machine.step()), (u64::MAX, full));
-    for pc in [0, 8] {
-        let mut machine = Machine::restore(rt.alloc(), &regs, pc, u64::MAX, &nop, Ext::I)?;
-        let before = Machine::restore(rt.alloc(), &regs, pc, u64::MAX, &nop, Ext::I)?;
-        assert_eq!(rt; machine.peek(), full);
-        assert_eq!(rt; machine.step(), full);
-        assert_eq!(rt; machine, before);
-        assert_eq!(rt; (machine.pc(), machine.count()), (pc, u64::MAX));
-        assert_eq!(rt; reg(&machine, 5), Some(7));
-        assert_eq!(rt; machine.memory(), nop.as_slice());
-    }
-    Ok(())
+    assert_eq!(rt; (machine.count(), machine.step()), (u64::MAX, FULL));
+    assert_full(&rt, rt.alloc(), 0);
+    assert_full(&rt, rt.alloc(), 8);
 }
 
 // The calls with x10 = 16, x11 = 2 and x12 = 4, by the number in x17.

@@ -10,8 +10,11 @@ use std::process::Abort;
 
 type Stopping = FileStore<Fuse<Memory>>;
 
+// Calls of the two files that never stop.
+const ENDLESS: (u64, u64) = (u64::MAX, u64::MAX);
+
 // The call that a stop falls into, over a store with receipts 1 to 3 and checkpoints 0 and 2.
-#[derive(Clone, Copy, Debug, PartialEq, Eq)]
+#[derive(Clone, Copy, Debug)]
 enum Change {
     PutReceipts,
     PutCheckpoint,
@@ -20,14 +23,14 @@ enum Change {
 }
 
 // Which of the two files stops.
-#[derive(Clone, Copy, Debug, PartialEq, Eq)]
+#[derive(Clone, Copy, Debug)]
 enum Which {
     Log,
     Database,
 }
 
 // How a run ended.
-#[derive(Clone, Copy, Debug, PartialEq, Eq)]
+#[derive(Clone, Copy, Debug)]
 enum Ended {
     /// Before the call.
     Early,
@@ -40,7 +43,7 @@ enum Ended {
 }
 
 // What a store holds.
-#[derive(Debug, PartialEq, Drop)]
+#[derive(PartialEq, Drop)]
 struct Held {
     receipts: Vec<(u32, Vec<u8>)>,
     checkpoints: Vec<(u32, Vec<u8>)>,
@@ -120,74 +123,88 @@ fn open(alloc: Global, bytes: (&[u8], &[u8]), calls: (u64, u64)) -> Option<Conne
     }
 }
 
-// Makes a store over the connection, and fills it.
-fn fill_new<S: Alter + Drop>(alloc: Global, conn: Connection<S>) -> Option<Connection<S>> {
-    if !conn.is_autocommit() {
-        return None;
-    }
-    let mut store = SqlStable::create(alloc, conn).ok()?;
-    fill(alloc, &mut store).ok()?;
-    Some(store.into_connection())
+// What is done with a store.
+#[derive(Clone, Copy)]
+enum Task {
+    /// It is made and filled.
+    Fill,
+    /// It is changed.
+    Apply(Change),
+    /// It is read.
+    Look,
 }
 
-// What a change answered, and whether it was counted as a failure.
-#[derive(Clone, Copy, Debug, PartialEq, Eq)]
-struct Changed {
+// What came of it: the answer, whether it was counted as a failure, and what was read.
+#[derive(Drop)]
+struct Outcome {
     answer: Result<(), StoreError>,
     counted: bool,
+    held: Option<Held>,
 }
 
-// Makes the change in a store over the connection.
-fn change_over<S: Alter + Drop>(
+fn carry_out<S: Alter + Drop>(alloc: Global, store: &mut SqlStable<S>, task: Task) -> Outcome {
+    let mut held = None;
+    let answer = match task {
+        Task::Fill => fill(alloc, store),
+        Task::Apply(change) => apply(alloc, store, change),
+        Task::Look => {
+            held = content_of(alloc, store).ok();
+            Ok(())
+        }
+    };
+    let counted = store.failures() == 1;
+    Outcome {
+        answer,
+        counted,
+        held,
+    }
+}
+
+// Makes or takes the store over the connection, and does the task.
+fn done_over<S: Alter + Drop>(
     alloc: Global,
     conn: Connection<S>,
-    change: Change,
-) -> Option<(Changed, Connection<S>)> {
+    task: Task,
+) -> Option<(Outcome, Connection<S>)> {
     if !conn.is_autocommit() {
         return None;
     }
-    let mut store = SqlStable::adopt(alloc, conn).ok()?;
-    let answer = apply(alloc, &mut store, change);
-    let counted = store.failures() == 1;
-    Some((Changed { answer, counted }, store.into_connection()))
+    let mut store = match task {
+        Task::Fill => SqlStable::create(alloc, conn).ok()?,
+        _ => SqlStable::adopt(alloc, conn).ok()?,
+    };
+    let outcome = carry_out(alloc, &mut store, task);
+    Some((outcome, store.into_connection()))
 }
 
-// What a store over the connection holds.
-fn content_over<S: Alter + Drop>(alloc: Global, conn: Connection<S>) -> Option<Held> {
-    if !conn.is_autocommit() {
-        return None;
-    }
-    let mut store = SqlStable::adopt(alloc, conn).ok()?;
-    content_of(alloc, &mut store).ok()
+// Opens files with these bytes and does the task, as far as the stop lets it. This is the one place where the generic
+// calls meet the files: each such place is dear to prove.
+fn done(
+    alloc: Global,
+    bytes: (&[u8], &[u8]),
+    calls: (u64, u64),
+    task: Task,
+) -> Option<(Outcome, Files<Fuse<Memory>>)> {
+    let (outcome, conn) = done_over(alloc, open(alloc, bytes, calls)?, task)?;
+    Some((outcome, conn.into_store().close()))
 }
 
-// The files of a connection.
-fn files_of(conn: Connection<Stopping>) -> Files<Fuse<Memory>> {
-    conn.into_store().close()
+// The bytes of the files.
+fn bytes_of(files: &Files<Fuse<Memory>>) -> (&[u8], &[u8]) {
+    (files.log.inner().bytes(), files.db.inner().bytes())
 }
 
 // The files of a store that was filled without a stop.
 fn filled(alloc: Global) -> Option<Files<Fuse<Memory>>> {
-    let conn = open(alloc, (&[], &[]), (u64::MAX, u64::MAX))?;
-    Some(files_of(fill_new(alloc, conn)?))
+    let (filled, files) = done(alloc, (&[], &[]), ENDLESS, Task::Fill)?;
+    filled.answer.ok()?;
+    Some(files)
 }
 
 // What the files hold, opened and adopted without a stop.
 fn found(alloc: Global, files: &Files<Fuse<Memory>>) -> Option<Held> {
-    let bytes = (files.log.inner().bytes(), files.db.inner().bytes());
-    content_over(alloc, open(alloc, bytes, (u64::MAX, u64::MAX))?)
-}
-
-// Opens the files and makes the change, as far as the stop lets it.
-fn change_files(
-    alloc: Global,
-    start: &Files<Fuse<Memory>>,
-    change: Change,
-    calls: (u64, u64),
-) -> Option<(Changed, Files<Fuse<Memory>>)> {
-    let bytes = (start.log.inner().bytes(), start.db.inner().bytes());
-    let (changed, conn) = change_over(alloc, open(alloc, bytes, calls)?, change)?;
-    Some((changed, files_of(conn)))
+    let (looked, _files) = done(alloc, bytes_of(files), ENDLESS, Task::Look)?;
+    looked.held
 }
 
 // Makes the change with a stop, and looks at what is there afterwards.
@@ -197,7 +214,8 @@ fn run(
     change: Change,
     calls: (u64, u64),
 ) -> Result<Ended, StoreError> {
-    let Some((changed, files)) = change_files(alloc, start, change, calls) else {
+    let task = Task::Apply(change);
+    let Some((changed, files)) = done(alloc, bytes_of(start), calls, task) else {
         return Ok(Ended::Early);
     };
     let left = found(alloc, &files);

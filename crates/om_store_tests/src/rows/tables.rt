@@ -1,6 +1,6 @@
 //! The rows of the stores over tables in memory, and which connections are taken.
 
-use super::{CUT_AND_PUT_AGAIN, PRUNE_AND_PUT_LAST, play};
+use super::{CUT_AND_PUT_AGAIN, PRUNE_AND_PUT_LAST, Row, play};
 use om_stable::Stable;
 use om_tables::{SqlStable, TablesError};
 use sqlite::{Connection, MemStore};
@@ -51,15 +51,17 @@ fn not_adopted(
     }
 }
 
+fn play_in_tables(rt: &impl Abort, alloc: Global, rows: &[Row]) {
+    let mut store = created(rt, alloc, connected(rt, alloc));
+    let refused = play(rt, alloc, &mut store, rows);
+    assert_eq!(rt; refused.fault, None);
+    assert_eq!(rt; store.failures(), 0);
+}
+
 #[test]
 fn rows_in_tables(rt: HostRuntime) {
-    for rows in [CUT_AND_PUT_AGAIN.as_slice(), PRUNE_AND_PUT_LAST.as_slice()] {
-        let conn = connected(&rt, rt.alloc());
-        let mut store = created(&rt, rt.alloc(), conn);
-        let refused = play(&rt, rt.alloc(), &mut store, rows);
-        assert_eq!(rt; refused.fault, None);
-        assert_eq!(rt; store.failures(), 0);
-    }
+    play_in_tables(&rt, rt.alloc(), &CUT_AND_PUT_AGAIN);
+    play_in_tables(&rt, rt.alloc(), &PRUNE_AND_PUT_LAST);
 }
 
 // A connection that is handed back still works: each is taken by the other call.
