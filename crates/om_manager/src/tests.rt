@@ -9,7 +9,12 @@ fn no_gathering_opens_after_the_last_round(rt: HostRuntime) {
     manager.round = u32::MAX - 1;
     let process = Pid::at(0);
     for (round, answer) in [
-        (u32::MAX, Err(FailError::Stale { round: u32::MAX - 1 })),
+        (
+            u32::MAX,
+            Err(FailError::Stale {
+                round: u32::MAX - 1,
+            }),
+        ),
         (u32::MAX - 1, Ok(Gathered::Finished)),
         (u32::MAX - 1, Err(FailError::Stale { round: u32::MAX })),
         (u32::MAX, Err(FailError::Spent)),
