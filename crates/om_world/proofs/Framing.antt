@@ -10,7 +10,7 @@ use Rattle.om_process.specs.Core.{CoreState, size_of}
 use Rattle.om_process.specs.Frames.{frame_at, frame_of, messages_to}
 use Rattle.om_process.specs.Kept.{numbered}
 use Rattle.om_process.proofs.Numbering.{length-numbered}
-use Rattle.om_world.specs.Happened.{all_messages, message_of, messages_behind, messages_in}
+use Rattle.om_world.specs.Changes.{all_messages, message_of, messages_behind, messages_in}
 use Rattle.om_world.proofs.Lists.{none_in, none_some, once, there}
 
 numbered_get : (c : CoreState) (to first k : ℕ) (es : List Entry) → slice_get (numbered (message_of c to) first es) k ≡ frame_of c to (first + k) (slice_get es k)

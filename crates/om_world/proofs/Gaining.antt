@@ -18,7 +18,7 @@ use Rattle.om_process.proofs.Making.{interval_along}
 use Rattle.om_recover.specs.declared.row.RowKind.{RowKind}
 use Rattle.om_recover.specs.declared.row.RowKind.TheVariants.{Checkpoint, Log}
 use Rattle.om_world.specs.declared.place.Place.{Place}
-use Rattle.om_world.specs.Happened.{HasGained, stored}
+use Rattle.om_world.specs.Changes.{HasGained, stored}
 use Rattle.om_world.specs.Holds.{HasRecord}
 use Rattle.om_world.specs.Live.{program_at}
 use Rattle.om_world.specs.World.{WorldState, Past, past_of, history}

@@ -12,7 +12,8 @@ use Rattle.om_world.specs.declared.event.Event.{Event}
 use Rattle.om_world.specs.declared.event.Refusal.{Refusal}
 use Rattle.om_world.specs.declared.event.Refusal.TheVariants as refusals
 use Rattle.om_world.specs.declared.place.Place.{Place}
-use Rattle.om_world.specs.Happened.{GiveHappened, Happened, IsUp}
+use Rattle.om_world.specs.Changes.{IsUp}
+use Rattle.om_world.specs.Happened.{GiveHappened, Happened}
 use Rattle.om_world.specs.World.{WorldState, entry_of}
 use Rattle.om_world.specs.steps.Moves.{IsOffered, after_offer, answered}
 use Rattle.om_world.specs.steps.Sound.{IsWorld, HasShape}

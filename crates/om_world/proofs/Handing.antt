@@ -26,7 +26,7 @@ use Rattle.om_manager.specs.declared.answers.OutputNote.{OutputNote}
 use Rattle.om_manager.specs.declared.answers.OutputNote.TheVariants as notes
 use Rattle.om_manager.specs.declared.answers.OutputError.{OutputError}
 use Rattle.om_manager.specs.declared.answers.OutputError.TheVariants as refused
-use Rattle.om_world.specs.Happened.{HoldsMore, IsUp, made_by}
+use Rattle.om_world.specs.Changes.{HoldsMore, IsUp, made_by}
 use Rattle.om_world.specs.Live.{program_at}
 use Rattle.om_world.specs.World.{WorldState, Past, past_of, history, output_entry}
 use Rattle.om_world.specs.steps.Running.{AreHanded, AreHandedUpTo, HasHandedIn, IsHanded, offer_of, outputs_from}

@@ -17,7 +17,7 @@ use Rattle.om_recover.specs.declared.row.RowKind.TheVariants.{Checkpoint, Log}
 use Rattle.om_manager.specs.State.{ManagerState}
 use Rattle.om_manager.specs.declared.answers.RecordError.{RecordError}
 use Rattle.om_manager.specs.declared.answers.RecordError.TheVariants.{Refused}
-use Rattle.om_world.specs.Happened.{IsUp, row_for, stored}
+use Rattle.om_world.specs.Changes.{IsUp, row_for, stored}
 use Rattle.om_world.specs.Holds.{HasRecord}
 use Rattle.om_world.specs.World.{WorldState, Past, past_of, history, IsKnown, all_clean}
 use Rattle.om_world.specs.steps.Moves.{AreTold, Gained, IsCalled, IsTold, IsToldUpTo, HasCalled, HasTold, after_store}

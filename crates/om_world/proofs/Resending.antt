@@ -9,7 +9,7 @@ use Rattle.om_process.specs.Core.{CoreState}
 use Rattle.om_process.specs.Frames.{IsFrameOf, frame_at, frame_of, messages_to}
 use Rattle.om_process.proofs.Making.{made_at, part_has}
 use Rattle.om_process.proofs.Numbering.{has_entry_at}
-use Rattle.om_world.specs.Happened.{IsUp, messages_behind, messages_in}
+use Rattle.om_world.specs.Changes.{IsUp, messages_behind, messages_in}
 use Rattle.om_world.specs.Live.{program_at}
 use Rattle.om_world.specs.World.{WorldState, past_of, history}
 use Rattle.om_world.specs.steps.Sound.{HasShape, IsFrame, IsRunning, IsWorld, Sound}

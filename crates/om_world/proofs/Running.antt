@@ -13,7 +13,8 @@ use Rattle.om_manager.specs.State as managers
 use Rattle.om_manager.specs.State.{held_by}
 use Rattle.om_world.specs.declared.event.Event.{Event}
 use Rattle.om_world.specs.declared.event.Answer.TheVariants as answers
-use Rattle.om_world.specs.Happened.{Changes, Happened, HasRun, HoldsMore, IsUp, made_by, new_messages}
+use Rattle.om_world.specs.Changes.{Changes, HoldsMore, IsUp, made_by, new_messages}
+use Rattle.om_world.specs.Happened.{Happened, HasRun}
 use Rattle.om_world.specs.World.{WorldState, IsKnown, all_clean}
 use Rattle.om_world.specs.steps.Moves.{GoesOn, HasRunAt, Keeps}
 use Rattle.om_world.specs.steps.Running.{AreKept, HasHandedIn, HasSent, KeepsMore, messages_past, refusal_of_output}

@@ -15,7 +15,7 @@ use Rattle.om_manager.specs.State as managers
 use Rattle.om_manager.specs.State.{ManagerState, held_by, released_by}
 use Rattle.om_manager.specs.declared.answers.RecordError.{RecordError}
 use Rattle.om_manager.specs.declared.answers.RecordError.TheVariants.{Stale, Refused}
-use Rattle.om_world.specs.Happened.{NotesAll, row_for}
+use Rattle.om_world.specs.Changes.{NotesAll, row_for}
 use Rattle.om_world.specs.steps.Moves.{AreTold, IsTold}
 use Rattle.om_world.proofs.Lists.{none_in, once}
 use Rattle.om_world.proofs.Raising.{GoesOn, beyond, less}

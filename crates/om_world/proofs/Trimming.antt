@@ -9,7 +9,8 @@ use Rattle.om_process.proofs.Replays.{keeps_trim}
 use Rattle.om_process.proofs.Vectors.{places_at}
 use Rattle.om_manager.specs.Bounds.{AreGotFrom}
 use Rattle.om_manager.specs.State.{released_by}
-use Rattle.om_world.specs.Happened.{IsUp, TrimHappened}
+use Rattle.om_world.specs.Changes.{IsUp}
+use Rattle.om_world.specs.Happened.{TrimHappened}
 use Rattle.om_world.specs.World.{WorldState, past_of, history, recovered}
 use Rattle.om_world.specs.steps.Moves.{trimmed_core}
 use Rattle.om_world.specs.steps.Sound.{HasShape, IsWorld, KeptWithin, Sound}

@@ -1,88 +1,29 @@
 -- What each event does to a world, by its answer.
-use Rattle.std.specs.Prelude.{◌≡◌, ◌⊎◌, ℕ, zero, suc, ◌+◌, ◌<◌, ◌≤◌, List, [], ◌∷◌, ◌++◌, length, take, drop, slice_get, slice_set, IsSome, Some, None, Ok, if◌then◌else◌}
+use Rattle.std.specs.Prelude.{◌≡◌, ◌≢◌, ◌⊎◌, ℕ, ◌+◌, ◌<◌, ◌≤◌, List, [], ◌∷◌, ◌++◌, length, slice_get, slice_set, IsSome, Some, None}
 use Rattle.std.specs.FinMap.{get}
-use Rattle.om_format.specs.declared.queue.Entry as kept
 use Rattle.om_format.specs.declared.message.Message.{Message}
-use Rattle.om_format.specs.Queues.{queue_end}
 use Rattle.om_stable.specs.Content.{Content, kept_by_prune}
 use Rattle.om_process.specs.declared.accept.Accept.{Accept}
 use Rattle.om_process.specs.declared.accept.Accept.TheVariants as accepts
-use Rattle.om_process.specs.declared.row.Row as pending
 use Rattle.om_process.specs.declared.status.Status.{Status}
-use Rattle.om_process.specs.Core.{CoreState, CoreTurns, core_turn, move_of, size_of, status_of, with_now, with_pending}
+use Rattle.om_process.specs.Core.{CoreState, CoreTurns, core_turn, move_of, status_of, with_now}
 use Rattle.om_process.specs.Accepts.{Answers, taken}
-use Rattle.om_process.specs.Frames.{messages_to, outputs_of}
-use Rattle.om_process.specs.Kept.{numbered}
-use Rattle.om_process.specs.Stores.{HasGainedLog, HasGainedCheckpoint, flushed, checkpointed}
 use Rattle.om_process.specs.Trims.{trimmed}
-use Rattle.om_recover.specs.Records.{log_of, checkpoint_of}
 use Rattle.om_recover.specs.Cutting.{IsEffective, IsPruned}
-use Rattle.om_recover.specs.declared.row.Row as noted
-use Rattle.om_recover.specs.declared.note.Note.{Note}
 use Rattle.om_recover.specs.declared.row.RowKind.{RowKind}
 use Rattle.om_recover.specs.declared.row.RowKind.TheVariants.{Checkpoint, Log}
 use Rattle.om_manager.specs.Bounds.{AreGotFrom}
-use Rattle.om_manager.specs.Notes.{Notes}
-use Rattle.om_manager.specs.Outputs.{HeldOutput}
-use Rattle.om_manager.specs.State.{ManagerState, held_by, released_by}
+use Rattle.om_manager.specs.Gatherings.{AreAllIn}
+use Rattle.om_manager.specs.Rounds.{IsSpent, with_failed}
+use Rattle.om_manager.specs.State.{ManagerState, held_by, released_by, size_of}
 use Rattle.om_world.specs.declared.event.Event.{Event}
 use Rattle.om_world.specs.declared.event.Answer.{Answer}
 use Rattle.om_world.specs.declared.event.Answer.TheVariants as answers
 use Rattle.om_world.specs.declared.event.Refusal.{Refusal}
 use Rattle.om_world.specs.declared.event.Refusal.TheVariants as refusals
-use Rattle.om_world.specs.declared.place.Place.{Place}
 use Rattle.om_world.specs.World.{WorldState, recovered, entry_of}
-
--- what was received stays, and who is up
-pub record Stays (old new : WorldState) : Type 0 where
-  pub programs : new.programs ≡ old.programs
-  pub live : new.live ≡ old.live
-  pub places : new.places ≡ old.places
-  pub rounds : new.rounds ≡ old.rounds
-  pub origins : new.origins ≡ old.origins
-
--- all stays but what is known of the stores
-abbrev pub IsSame : WorldState → WorldState → Type 0
-IsSame old new = new ≡ record old { clean = new.clean }
-
-abbrev pub IsUp : WorldState → ℕ → Type 0
-IsUp w p = slice_get w.places p ≡ Some Place.Up
-
--- process p is up, with the one core before and the other after; no other core changes
-pub record Changes (old : WorldState) (p : ℕ) (c d : CoreState) (new : WorldState) : Type 0 where
-  pub up : IsUp old p
-  pub before : slice_get old.cores p ≡ Some (Some c)
-  pub cores : new.cores ≡ slice_set old.cores p (Some d)
-  pub stays : Stays old new
-
--- ---- messages and outputs
--- an entry as a message on its way
-abbrev pub message_of : CoreState → ℕ → ℕ → kept.Entry → Message
-message_of c to ssn e = record { from = c.own; to = to; tag = record { inc = c.inc; interval = e.interval }; ssn = ssn; body = e.body }
-
--- the messages to a process that are kept, on their way
-abbrev pub messages_in : CoreState → ℕ → List Message
-messages_in c to = numbered (message_of c to) (messages_to c to).first (messages_to c to).entries
-
--- of the messages to each of the first n processes, those behind the first few, by receiver and then by number
-abbrev pub messages_behind : CoreState → (ℕ → ℕ) → ℕ → List Message
-messages_behind c few zero = []
-messages_behind c few (suc n) = messages_behind c few n ++ drop (few n) (messages_in c n)
-
--- what a core that sent more keeps of it
-abbrev pub new_messages : CoreState → CoreState → List Message
-new_messages c d = messages_behind d (λ to. length (messages_to c to).entries) (size_of d.now)
-
-abbrev pub all_messages : CoreState → List Message
-all_messages c = messages_behind c (λ to. 0) (size_of c.now)
-
--- how many outputs the process made
-abbrev pub made_by : CoreState → ℕ
-made_by c = queue_end (outputs_of c)
-
--- the manager holds more outputs of one process
-abbrev pub HoldsMore : ManagerState → ℕ → ManagerState → Type 0
-HoldsMore old p new = (more : List HeldOutput) × (new ≡ record old { outputs = slice_set old.outputs p (held_by old p ++ more) })
+use Rattle.om_world.specs.Failures.{BackHappened, BackStopped, DownHappened, FailHappened, FailRefused, GoOnHappened, HasNews, IsDeclared, IsToGoOn, JoinHappened, JoinStopped}
+use Rattle.om_world.specs.Changes.{IsSame, IsUp, Changes, new_messages, all_messages, made_by, HoldsMore, stored, HasStored, HasNoted, StoreStopped}
 
 -- ---- a run
 -- the process took as many turns as there are, up to the fuel
@@ -134,47 +75,9 @@ GiveHappened old p f accepts.Memory new = ⊥
 GiveHappened old p f answer new = (m : Message) × (c : CoreState) × IsOffer old p f m c × Answers c m answer × (new ≡ old)
 
 -- ---- records that are stored and noted
--- a pending row of a process, as the manager is told it
-abbrev pub row_for : ℕ → pending.Row → noted.Row
-row_for p row = if row.ckpt then checkpoint_of p row.x row.vec row.got else log_of p row.x row.vec row.got
-
--- the rows are offered in order, and each is noted or known
-abbrev pub NotesAll : ManagerState → ℕ → List pending.Row → ManagerState → Type 0
-NotesAll old p [] new = new ≡ old
-NotesAll old p (row ∷ rows) new =
-    (mid : ManagerState) × (note : Note) × Notes old old.round (row_for p row) (Ok note) mid × NotesAll mid p rows new
-
--- the store has gained what the core keeps of its kind: the receipts of its log, or a checkpoint of now
-abbrev pub HasGained : RowKind → CoreState → Content → Content → Type 0
-HasGained Log c before after = HasGainedLog c before after
-HasGained Checkpoint c before after = HasGainedCheckpoint c before after
-
--- the core once that is stored
-abbrev pub stored : RowKind → CoreState → CoreState
-stored Log c = flushed c
-stored Checkpoint c = checkpointed c
-
--- the store of process p gained it
-abbrev pub HasStored : RowKind → WorldState → ℕ → CoreState → WorldState → Type 0
-HasStored kind old p c new =
-    (before : Content) × (after : Content) × (slice_get old.contents p ≡ Some before) × HasGained kind c before after
-    × (new.contents ≡ slice_set old.contents p after)
-
--- the first so many of the pending rows of the core, as it was once it had stored, are noted and no longer pending
-pub record HasNoted (old : WorldState) (p : ℕ) (c d : CoreState) (count : ℕ) (new : WorldState) : Type 0 where
-  pub changes : Changes old p c (with_pending d (drop count d.pending)) new
-  pub within : count ≤ length d.pending
-  pub manager : NotesAll old.manager p (take count d.pending) new.manager
-  pub frames : new.frames ≡ old.frames
-
 abbrev pub StoreHappened : RowKind → WorldState → ℕ → ℕ → WorldState → Type 0
 StoreHappened kind old p count new =
     (c : CoreState) × HasStored kind old p c new × HasNoted old p c (stored kind c) count new × (count ≡ length (stored kind c).pending)
-
--- memory was refused: nothing is stored, or all of it, and some of the pending rows are noted
-abbrev pub StoreStopped : RowKind → WorldState → ℕ → WorldState → Type 0
-StoreStopped kind old p new = IsSame old new ⊎ ((c : CoreState) × (count : ℕ)
-    × HasStored kind old p c new × HasNoted old p c (stored kind c) count new × (count < length (stored kind c).pending))
 
 -- the store of process p has a checkpoint of its interval
 pub record HasCheckpoint (w : WorldState) (p : ℕ) : Type 0 where
@@ -249,6 +152,21 @@ Refused old (Event.Trim p) why new = NotRunning old p why new
 Refused old Event.Prune refusals.Memory new = PruneStopped old new
 Refused old Event.Prune refusals.Fault new = PruneStopped old new
 Refused old Event.Prune why new = ⊥
+Refused old (Event.Fail p) refusals.NoProcess new = (length old.programs ≤ p) × (new ≡ old)
+Refused old (Event.Fail p) refusals.NotUp new = IsDeclared old p × (new ≡ old)
+Refused old (Event.Fail p) refusals.Spent new = FailRefused (λ w. IsSpent w.manager) old p new
+Refused old (Event.Fail p) refusals.Memory new =
+    FailRefused (λ w. AreAllIn (size_of w.manager) (with_failed w.manager p)) old p new
+Refused old (Event.Fail p) why new = ⊥
+Refused old (Event.Join p) refusals.NoRound new = IsUp old p × (old.manager.gathering ≡ None) × (new ≡ old)
+Refused old (Event.Join p) refusals.Memory new = IsUp old p × (old.manager.gathering ≢ None) × JoinStopped old p new
+Refused old (Event.Join p) refusals.Fault new = IsUp old p × (old.manager.gathering ≢ None) × IsSame old new
+Refused old (Event.Join p) why new = NotRunning old p why new
+Refused old (Event.Resume p) refusals.NoProcess new = (length old.programs ≤ p) × (new ≡ old)
+Refused old (Event.Resume p) refusals.NotIn new = (p < length old.programs) × (HasNews old p → ⊥) × (new ≡ old)
+Refused old (Event.Resume p) refusals.Memory new = BackStopped old p new ⊎ (IsToGoOn old p × (new ≡ old))
+Refused old (Event.Resume p) refusals.Fault new = BackStopped old p new
+Refused old (Event.Resume p) why new = ⊥
 
 -- what an event does, by its answer
 abbrev pub Happened : WorldState → Event → Answer → WorldState → Type 0
@@ -260,4 +178,9 @@ Happened old (Event.Checkpoint p) (answers.Noted count) new = StoreHappened Chec
 Happened old (Event.Resend p) (answers.Resent count) new = ResendHappened old p count new
 Happened old (Event.Trim p) answers.Trimmed new = TrimHappened old p new
 Happened old Event.Prune answers.Pruned new = PruneHappened old new
+Happened old (Event.Fail p) (answers.Gathered answer) new = FailHappened old p answer new
+Happened old (Event.Fail p) answers.Down new = DownHappened old p new
+Happened old (Event.Join p) (answers.Gathered answer) new = JoinHappened old p answer new
+Happened old (Event.Resume p) (answers.Back interval inc) new = BackHappened old p interval inc new
+Happened old (Event.Resume p) answers.GoesOn new = GoOnHappened old p new
 Happened old event answer new = ⊥

@@ -1,6 +1,8 @@
 pub mod Live
 pub mod World
 pub mod Holds
+pub mod Changes
+pub mod Failures
 pub mod Happened
 pub mod Played
 pub mod Started

@@ -1,7 +1,7 @@
 ghost use Rattle.std.specs.Prelude.{◌≡◌};
 
-use om_manager::{OutputError, RecordError};
-use om_process::{Accept, Status};
+use om_manager::{FailError, Gathered, JoinError, OutputError, RecordError};
+use om_process::{Accept, ReplayFault, Status};
 use om_recover::NoteError;
 use om_stable::StoreError;
 use std::alloc::AllocError;
@@ -21,6 +21,15 @@ pub enum Event {
     Resend { process: usize },
     /// The process drops what the manager says that it need not keep.
     Trim { process: usize },
+    /// The process is down, and this is declared: it was up, or in and the gathering that it joined is open, or down with its
+    /// declaration refused and no newer round finished. A process that is in, and the gathering that it joined has
+    /// finished, is down with nothing declared.
+    Fail { process: usize },
+    /// The process stores its volatile log, its pending rows are noted and its outputs handed in, and it joins the gathering.
+    Join { process: usize },
+    /// The process, which is in or down, is up again after a round that is newer than it knows: rolled back where it is down or
+    /// the round says so, else as it was.
+    Resume { process: usize },
     /// The manager drops what it need not keep, and then each store what stands before its effective checkpoint.
     Prune,
 }
@@ -47,6 +56,14 @@ pub enum Answer {
     Resent(usize),
     Trimmed,
     Pruned,
+    /// The failure is declared, or the process is in, and the round is finished where all are.
+    Gathered(Gathered),
+    /// The process is down, and nothing was to be declared.
+    Down,
+    /// The process is up, as it was in this interval, and in this incarnation.
+    Back { interval: u32, inc: u32 },
+    /// The process is up, as it was.
+    GoesOn,
     Refused(Refusal),
 }
 
@@ -59,11 +76,18 @@ pub enum Refusal {
     NotUp,
     /// No such frame was made.
     NoFrame,
+    /// The process is up, or no newer round is finished than it knew.
+    NotIn,
+    /// No gathering is open.
+    NoRound,
+    /// There is no further round.
+    Spent,
     /// The process's store has a record of that kind of its interval.
     Present,
     /// The process's store failed.
     Fault,
-    /// The manager refused a row or an output. Over stores that held nothing at the start and are clean, it does not.
+    /// The manager refused a row, an output, a failure or a join, or the process is not replayed from its store. Over stores that
+    /// held nothing at the start and are clean, this does not come.
     Damaged,
     /// Memory ran out.
     Memory,
@@ -114,6 +138,49 @@ impl From<OutputError> for Refusal {
     fn from(fault: OutputError) -> Refusal {
         match fault {
             OutputError::Memory => Refusal::Memory,
+            _ => Refusal::Damaged,
+        }
+    }
+}
+
+impl From<FailError> for Refusal {
+    ghost use Rattle.om_world.specs.steps.Moves.{refusal_of_failure};
+
+    ghost from_gives = { λ fault why. why ≡ refusal_of_failure fault };
+
+    fn from(fault: FailError) -> Refusal {
+        match fault {
+            FailError::Spent => Refusal::Spent,
+            FailError::Memory => Refusal::Memory,
+            FailError::Stranger => Refusal::Damaged,
+            FailError::Stale { round: _ } => Refusal::Damaged,
+        }
+    }
+}
+
+impl From<JoinError> for Refusal {
+    ghost use Rattle.om_world.specs.steps.Moves.{refusal_of_join};
+
+    ghost from_gives = { λ fault why. why ≡ refusal_of_join fault };
+
+    fn from(fault: JoinError) -> Refusal {
+        match fault {
+            JoinError::NoRound => Refusal::NoRound,
+            JoinError::Memory => Refusal::Memory,
+            _ => Refusal::Damaged,
+        }
+    }
+}
+
+impl From<ReplayFault> for Refusal {
+    ghost use Rattle.om_world.specs.steps.Moves.{refusal_of_replay};
+
+    ghost from_gives = { λ fault why. why ≡ refusal_of_replay fault };
+
+    fn from(fault: ReplayFault) -> Refusal {
+        match fault {
+            ReplayFault::Fault => Refusal::Fault,
+            ReplayFault::Memory => Refusal::Memory,
             _ => Refusal::Damaged,
         }
     }

@@ -6,7 +6,8 @@ ghost use Rattle.om_world.specs.steps.Moves.{HasCore, Keeps, answered};
 ghost use Rattle.om_world.specs.steps.Running.{HasSent, KeepsMore, messages_past};
 ghost use Rattle.om_process.specs.Core.{CoreState, size_of};
 ghost use Rattle.om_process.specs.Frames.{messages_to};
-ghost use Rattle.om_world.specs.Happened.{Happened, IsUp, all_messages, messages_behind, messages_in};
+ghost use Rattle.om_world.specs.Changes.{IsUp, all_messages, messages_behind, messages_in};
+ghost use Rattle.om_world.specs.Happened.{Happened};
 
 use crate::event::{Answer, Refusal};
 use crate::world::World;

@@ -2,7 +2,8 @@
 
 ghost use Rattle.std.specs.Prelude.{◌≡◌, ◌<◌, drop, length, slice_get, slice_set, true, Some};
 ghost use Rattle.om_interval.specs.declared.pid.TheConstants.{MAX_PROCESSES};
-ghost use Rattle.om_world.specs.Happened.{Happened, IsUp};
+ghost use Rattle.om_world.specs.Changes.{IsUp};
+ghost use Rattle.om_world.specs.Happened.{Happened};
 ghost use Rattle.om_world.specs.World.{IsKnown};
 ghost use Rattle.om_process.specs.Core.{CoreState, with_pending};
 ghost use Rattle.om_world.specs.steps.Moves.{Gained, HasCalled, HasCore, HasTold, IsCalled, IsTold, IsToldUpTo, Keeps, after_store, answered, event_of};

@@ -2,7 +2,8 @@
 
 ghost use Rattle.std.specs.Prelude.{◌≡◌, ◌<◌, ◌≤◌, length, map, slice_get, IfOk, IfErr, IfNone, IfSome, IsTrue, Some, true};
 ghost use Rattle.om_process.specs.Core.{CoreState};
-ghost use Rattle.om_world.specs.Happened.{IsUp, NotRunning};
+ghost use Rattle.om_world.specs.Changes.{IsUp};
+ghost use Rattle.om_world.specs.Happened.{NotRunning};
 ghost use Rattle.om_world.specs.Holds.{Holds};
 ghost use Rattle.om_world.specs.World.{IsKnown, all_clean};
 

@@ -17,6 +17,12 @@ use Rattle.om_manager.specs.Sound.{IsManager, KeepsReleased}
 use Rattle.om_manager.specs.State.{ManagerState, size_of}
 use Rattle.om_recover.specs.declared.note.NoteError.TheVariants as refusals
 use Rattle.om_manager.specs.declared.answers.RecordError.{RecordError}
+use Rattle.om_manager.specs.declared.answers.FailError.{FailError}
+use Rattle.om_manager.specs.declared.answers.FailError.TheVariants as failing
+use Rattle.om_manager.specs.declared.answers.JoinError.{JoinError}
+use Rattle.om_manager.specs.declared.answers.JoinError.TheVariants as joining
+use Rattle.om_process.specs.declared.replay.ReplayFault.{ReplayFault}
+use Rattle.om_process.specs.declared.replay.ReplayFault.TheVariants as replays
 use Rattle.om_manager.specs.declared.answers.RecordError.TheVariants.{Refused}
 use Rattle.om_world.specs.World.{WorldState, IsKnown, all_clean}
 use Rattle.om_format.specs.declared.message.Message.{Message}
@@ -30,7 +36,8 @@ use Rattle.om_world.specs.declared.event.Event.{Event}
 use Rattle.om_world.specs.declared.event.Refusal.{Refusal}
 use Rattle.om_world.specs.declared.event.Refusal.TheVariants as why
 use Rattle.om_process.specs.Core.{CoreState, CoreTurns, with_now, with_pending}
-use Rattle.om_world.specs.Happened.{HasGained, HasRun, row_for, stored}
+use Rattle.om_world.specs.Changes.{HasGained, row_for, stored}
+use Rattle.om_world.specs.Happened.{HasRun}
 
 -- there is a core at this place
 abbrev pub HasCore : List (Option CoreState) → ℕ → Type 0
@@ -153,6 +160,21 @@ refusal_of_store store_errors.Memory = why.Memory
 abbrev pub refusal_of_record : RecordError → Refusal
 refusal_of_record (Refused refusals.Memory) = why.Memory
 refusal_of_record fault = why.Damaged
+
+abbrev pub refusal_of_failure : FailError → Refusal
+refusal_of_failure failing.Spent = why.Spent
+refusal_of_failure failing.Memory = why.Memory
+refusal_of_failure fault = why.Damaged
+
+abbrev pub refusal_of_join : JoinError → Refusal
+refusal_of_join joining.NoRound = why.NoRound
+refusal_of_join joining.Memory = why.Memory
+refusal_of_join fault = why.Damaged
+
+abbrev pub refusal_of_replay : ReplayFault → Refusal
+refusal_of_replay replays.Fault = why.Fault
+refusal_of_replay replays.Memory = why.Memory
+refusal_of_replay fault = why.Damaged
 
 -- a core that keeps nothing below these numbers
 abbrev pub trimmed_core : CoreState → List ℕ → ℕ → CoreState

@@ -14,7 +14,7 @@ use Rattle.om_manager.specs.declared.answers.OutputError.{OutputError}
 use Rattle.om_manager.specs.declared.answers.OutputError.TheVariants as refused
 use Rattle.om_world.specs.declared.event.Refusal.{Refusal}
 use Rattle.om_world.specs.declared.event.Refusal.TheVariants as why
-use Rattle.om_world.specs.Happened.{HoldsMore, made_by, messages_behind}
+use Rattle.om_world.specs.Changes.{HoldsMore, made_by, messages_behind}
 use Rattle.om_world.specs.World.{WorldState, IsKnown}
 
 -- ---- messages

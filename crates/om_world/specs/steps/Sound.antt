@@ -1,5 +1,5 @@
 -- What is kept of a world by each call that it makes.
-use Rattle.std.specs.Prelude.{◌≡◌, ◌⊎◌, ℕ, ◌<◌, ◌≤◌, List, [], ◌∷◌, ◌++◌, length, take, slice_get, slice_index, false, Some, None, if◌then◌else◌}
+use Rattle.std.specs.Prelude.{◌≡◌, ◌≢◌, ◌⊎◌, ℕ, ◌<◌, ◌≤◌, List, [], ◌∷◌, ◌++◌, length, take, slice_get, slice_index, true, false, Some, None, if◌then◌else◌}
 use Rattle.std.specs.FinMap.{get}
 use Rattle.std.specs.List.{AllByRecursion}
 use Rattle.om_interval.specs.declared.pid.TheConstants.{MAX_PROCESSES}
@@ -26,10 +26,11 @@ use Rattle.om_manager.specs.Outputs.{HeldOutput}
 use Rattle.om_manager.specs.Sound.{IsManager}
 use Rattle.om_manager.specs.State as managers
 use Rattle.om_manager.specs.State.{ManagerState, held_by, released_by}
-use Rattle.om_manager.specs.declared.presence.Presence.TheVariants.{Away, Joined}
+use Rattle.om_manager.specs.declared.presence.Presence.TheVariants.{Away, Failed, Joined}
 use Rattle.om_world.specs.declared.place.Place.{Place}
 use Rattle.om_world.specs.Live.{program_at, Legal}
 use Rattle.om_world.specs.World.{WorldState, Past, past_of, history, recovered, output_entry, IsKnown}
+use Rattle.om_world.specs.Failures.{HasNews}
 use Rattle.om_world.specs.Holds.{HasRecord}
 
 -- the sender made the message in that interval, along what it had then received
@@ -124,7 +125,7 @@ pub record IsUpIn (m : ManagerState) (p : ℕ) (c : CoreState) : Type 0 where
 -- the process runs: it is up, or it is in and is not to be rolled back
 abbrev pub Runs : WorldState → ℕ → Type 0
 Runs w p = (slice_get w.places p ≡ Some Place.Up)
-    ⊎ ((slice_get w.places p ≡ Some Place.In) × (slice_index w.rounds p < w.manager.round → is_named w.manager.backs p ≡ false))
+    ⊎ ((slice_get w.places p ≡ Some Place.In) × (HasNews w p → is_named w.manager.backs p ≡ false))
 
 -- what holds whether or not the stores are clean
 pub record HasShape (w : WorldState) : Type 0 where
@@ -133,7 +134,9 @@ pub record HasShape (w : WorldState) : Type 0 where
   pub cores : length w.cores ≡ length w.programs
   pub places : length w.places ≡ length w.programs
   pub own : (p : ℕ) (c : CoreState) → slice_get w.cores p ≡ Some (Some c) → IsCoreOf (length w.programs) p c
+  pub rounds : length w.rounds ≡ length w.programs
   pub there : (p : ℕ) → slice_get w.places p ≡ Some Place.Up → (c : CoreState) × (slice_get w.cores p ≡ Some (Some c))
+  pub inside : (p : ℕ) → slice_get w.places p ≡ Some Place.In → (c : CoreState) × (slice_get w.cores p ≡ Some (Some c))
   pub manager : IsManager w.manager
   pub size : managers.size_of w.manager ≡ length w.programs
 
@@ -154,6 +157,18 @@ pub record Sound (w : WorldState) : Type 0 where
   pub up : (p : ℕ) (c : CoreState) → slice_get w.cores p ≡ Some (Some c) → slice_get w.places p ≡ Some Place.Up
       → IsUpIn w.manager p c
   pub joined : (p x : ℕ) → presence_of (presences_of w.manager.gathering) p ≡ Joined x → x ≡ length (history (past_of w) p)
+  -- who failed is down; and who is in the gathering knows the last round, as does who is up, and nobody a later one
+  pub failed : (p : ℕ) → presence_of (presences_of w.manager.gathering) p ≡ Failed → slice_get w.places p ≡ Some (Place.Down true)
+  pub gathered : (p : ℕ) → presence_of (presences_of w.manager.gathering) p ≢ Away → slice_index w.rounds p ≡ w.manager.round
+  pub current : (p : ℕ) → slice_get w.places p ≡ Some Place.Up → slice_index w.rounds p ≡ w.manager.round
+  pub known : (p : ℕ) → slice_index w.rounds p ≤ w.manager.round
+  -- whom the last round found: each stands where it was cut to, until it is up again; who is in and runs has the newest
+  -- incarnation, and who is in and is to be rolled back was beyond
+  pub behind : (p : ℕ) → p < length w.programs → HasNews w p → length (history (past_of w) p) ≡ slice_index w.manager.last p
+  pub inside : (p : ℕ) (c : CoreState) → slice_get w.cores p ≡ Some (Some c) → slice_get w.places p ≡ Some Place.In → Runs w p
+      → c.inc ≡ newest_of w.manager.starts p
+  pub beyond : (p : ℕ) (c : CoreState) → slice_get w.cores p ≡ Some (Some c) → slice_get w.places p ≡ Some Place.In → HasNews w p
+      → is_named w.manager.backs p ≡ true → slice_index w.manager.last p < c.now.interval
 
 -- what a world keeps, over its stores
 pub record IsWorld {S : Type 0} (IsSound : S → Type 0) (stores : List S) (w : WorldState) : Type 0 where

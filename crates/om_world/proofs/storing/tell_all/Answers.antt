@@ -1,7 +1,7 @@
 use Rattle.std.proofs.Common.{◌≡◌, sym, subst, take, slice_get, Some, Err}
 use Rattle.om_manager.specs.Notes.{Notes}
 use Rattle.om_manager.specs.State.{ManagerState}
-use Rattle.om_world.specs.Happened.{row_for}
+use Rattle.om_world.specs.Changes.{row_for}
 use Rattle.om_world.specs.steps.Moves.{AreTold, IsTold}
 use Rattle.om_world.proofs.Lists.{lent_at}
 use Rattle.om_world.proofs.Telling.{told_more, take_next, refused_same}

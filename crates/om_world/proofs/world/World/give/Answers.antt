@@ -2,7 +2,8 @@ use Rattle.std.proofs.Common.{◌≡◌, ◌∙◌, ◌++◌, ◌∷◌, [], ap,
 use Rattle.om_process.specs.declared.accept.Accept.TheVariants as accepts
 use Rattle.om_world.specs.declared.event.Event.{Event}
 use Rattle.om_world.specs.declared.event.Refusal.TheVariants as refusals
-use Rattle.om_world.specs.Happened.{GiveHappened, Happened, IsUp}
+use Rattle.om_world.specs.Changes.{IsUp}
+use Rattle.om_world.specs.Happened.{GiveHappened, Happened}
 use Rattle.om_world.specs.World.{WorldState, program_of}
 use Rattle.om_world.specs.steps.Moves.{IsOffered, answered}
 use Rattle.om_world.proofs.Giving.{after_give, given_taken, not_given, no_room}

@@ -1,5 +1,5 @@
 use Rattle.std.proofs.Common.{sym, subst, map}
-use Rattle.om_world.specs.Happened.{IsUp}
+use Rattle.om_world.specs.Changes.{IsUp}
 use Rattle.om_world.specs.World.{WorldState, program_of}
 use Rattle.om_world.proofs.Noting.{after_note, has_told}
 use Rattle.om_world.specs.steps.Moves.{HasTold}

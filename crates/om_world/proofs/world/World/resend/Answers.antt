@@ -1,7 +1,7 @@
 use Rattle.std.proofs.Common.{◌++◌, ◌∙◌, List, ap, map, subst, sym}
 use Rattle.om_format.specs.declared.message.Message.{Message}
 use Rattle.om_process.specs.Core.{size_of}
-use Rattle.om_world.specs.Happened.{IsUp}
+use Rattle.om_world.specs.Changes.{IsUp}
 use Rattle.om_world.specs.World.{WorldState, program_of}
 use Rattle.om_world.specs.steps.Sound.{IsWorld}
 use Rattle.om_world.proofs.Kept.{remade}

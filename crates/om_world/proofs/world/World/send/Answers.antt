@@ -2,7 +2,7 @@ use Rattle.std.proofs.Common.{◌++◌, ◌∙◌, List, ap, subst, sym}
 use Rattle.std.specs.Prelude.{slice_index}
 use Rattle.om_format.specs.declared.message.Message.{Message}
 use Rattle.om_process.specs.Core.{size_of}
-use Rattle.om_world.specs.Happened.{IsUp}
+use Rattle.om_world.specs.Changes.{IsUp}
 use Rattle.om_world.specs.World.{WorldState}
 use Rattle.om_world.proofs.Resending.{after_frames}
 use Rattle.om_world.proofs.world.World.send.Goals as goal

@@ -1,0 +1,111 @@
+-- What is said of several events: who changes, what is sent, handed in and stored.
+use Rattle.std.specs.Prelude.{◌≡◌, ◌⊎◌, ℕ, zero, suc, ◌+◌, ◌<◌, ◌≤◌, List, [], ◌∷◌, ◌++◌, length, take, drop, slice_get, slice_set, Some, Ok, if◌then◌else◌}
+use Rattle.om_format.specs.declared.queue.Entry as kept
+use Rattle.om_format.specs.declared.message.Message.{Message}
+use Rattle.om_format.specs.Queues.{queue_end}
+use Rattle.om_stable.specs.Content.{Content}
+use Rattle.om_process.specs.declared.row.Row as pending
+use Rattle.om_process.specs.Core.{CoreState, size_of, with_pending}
+use Rattle.om_process.specs.Frames.{messages_to, outputs_of}
+use Rattle.om_process.specs.Kept.{numbered}
+use Rattle.om_process.specs.Stores.{HasGainedLog, HasGainedCheckpoint, flushed, checkpointed}
+use Rattle.om_recover.specs.Records.{log_of, checkpoint_of}
+use Rattle.om_recover.specs.declared.row.Row as noted
+use Rattle.om_recover.specs.declared.note.Note.{Note}
+use Rattle.om_recover.specs.declared.row.RowKind.{RowKind}
+use Rattle.om_recover.specs.declared.row.RowKind.TheVariants.{Checkpoint, Log}
+use Rattle.om_manager.specs.Notes.{Notes}
+use Rattle.om_manager.specs.Outputs.{HeldOutput}
+use Rattle.om_manager.specs.State.{ManagerState, held_by}
+use Rattle.om_world.specs.declared.place.Place.{Place}
+use Rattle.om_world.specs.World.{WorldState}
+
+-- what was received stays, and who is up
+pub record Stays (old new : WorldState) : Type 0 where
+  pub programs : new.programs ≡ old.programs
+  pub live : new.live ≡ old.live
+  pub places : new.places ≡ old.places
+  pub rounds : new.rounds ≡ old.rounds
+  pub origins : new.origins ≡ old.origins
+
+-- all stays but what is known of the stores
+abbrev pub IsSame : WorldState → WorldState → Type 0
+IsSame old new = new ≡ record old { clean = new.clean }
+
+abbrev pub IsUp : WorldState → ℕ → Type 0
+IsUp w p = slice_get w.places p ≡ Some Place.Up
+
+-- process p is up, with the one core before and the other after; no other core changes
+pub record Changes (old : WorldState) (p : ℕ) (c d : CoreState) (new : WorldState) : Type 0 where
+  pub up : IsUp old p
+  pub before : slice_get old.cores p ≡ Some (Some c)
+  pub cores : new.cores ≡ slice_set old.cores p (Some d)
+  pub stays : Stays old new
+
+-- ---- messages and outputs
+-- an entry as a message on its way
+abbrev pub message_of : CoreState → ℕ → ℕ → kept.Entry → Message
+message_of c to ssn e = record { from = c.own; to = to; tag = record { inc = c.inc; interval = e.interval }; ssn = ssn; body = e.body }
+
+-- the messages to a process that are kept, on their way
+abbrev pub messages_in : CoreState → ℕ → List Message
+messages_in c to = numbered (message_of c to) (messages_to c to).first (messages_to c to).entries
+
+-- of the messages to each of the first n processes, those behind the first few, by receiver and then by number
+abbrev pub messages_behind : CoreState → (ℕ → ℕ) → ℕ → List Message
+messages_behind c few zero = []
+messages_behind c few (suc n) = messages_behind c few n ++ drop (few n) (messages_in c n)
+
+-- what a core that sent more keeps of it
+abbrev pub new_messages : CoreState → CoreState → List Message
+new_messages c d = messages_behind d (λ to. length (messages_to c to).entries) (size_of d.now)
+
+abbrev pub all_messages : CoreState → List Message
+all_messages c = messages_behind c (λ to. 0) (size_of c.now)
+
+-- how many outputs the process made
+abbrev pub made_by : CoreState → ℕ
+made_by c = queue_end (outputs_of c)
+
+-- the manager holds more outputs of one process
+abbrev pub HoldsMore : ManagerState → ℕ → ManagerState → Type 0
+HoldsMore old p new = (more : List HeldOutput) × (new ≡ record old { outputs = slice_set old.outputs p (held_by old p ++ more) })
+
+-- ---- records that are stored and noted
+-- a pending row of a process, as the manager is told it
+abbrev pub row_for : ℕ → pending.Row → noted.Row
+row_for p row = if row.ckpt then checkpoint_of p row.x row.vec row.got else log_of p row.x row.vec row.got
+
+-- the rows are offered in order, and each is noted or known
+abbrev pub NotesAll : ManagerState → ℕ → List pending.Row → ManagerState → Type 0
+NotesAll old p [] new = new ≡ old
+NotesAll old p (row ∷ rows) new =
+    (mid : ManagerState) × (note : Note) × Notes old old.round (row_for p row) (Ok note) mid × NotesAll mid p rows new
+
+-- the store has gained what the core keeps of its kind: the receipts of its log, or a checkpoint of now
+abbrev pub HasGained : RowKind → CoreState → Content → Content → Type 0
+HasGained Log c before after = HasGainedLog c before after
+HasGained Checkpoint c before after = HasGainedCheckpoint c before after
+
+-- the core once that is stored
+abbrev pub stored : RowKind → CoreState → CoreState
+stored Log c = flushed c
+stored Checkpoint c = checkpointed c
+
+-- the store of process p gained it
+abbrev pub HasStored : RowKind → WorldState → ℕ → CoreState → WorldState → Type 0
+HasStored kind old p c new =
+    (before : Content) × (after : Content) × (slice_get old.contents p ≡ Some before) × HasGained kind c before after
+    × (new.contents ≡ slice_set old.contents p after)
+
+-- the first so many of the pending rows of the core, as it was once it had stored, are noted and no longer pending
+pub record HasNoted (old : WorldState) (p : ℕ) (c d : CoreState) (count : ℕ) (new : WorldState) : Type 0 where
+  pub changes : Changes old p c (with_pending d (drop count d.pending)) new
+  pub within : count ≤ length d.pending
+  pub manager : NotesAll old.manager p (take count d.pending) new.manager
+  pub frames : new.frames ≡ old.frames
+
+-- memory was refused: nothing is stored, or all of it, and some of the pending rows are noted
+abbrev pub StoreStopped : RowKind → WorldState → ℕ → WorldState → Type 0
+StoreStopped kind old p new = IsSame old new ⊎ ((c : CoreState) × (count : ℕ)
+    × HasStored kind old p c new × HasNoted old p c (stored kind c) count new × (count < length (stored kind c).pending))
