@@ -6,7 +6,7 @@ use Rattle.om_text.specs.Reading.{◌>>=◌, or_error}
 use Rattle.om_text.specs.declared.error.LineError.{LineError}
 use Rattle.om_text.specs.declared.error.LineError.TheVariants.{UnknownLine, WrongCount, BadNumber}
 use Rattle.om_world.specs.declared.event.Event.{Event}
-use Rattle.om_world.specs.declared.event.Event.TheVariants.{Run, Give, Flush, Checkpoint, Resend, Trim, Prune}
+use Rattle.om_world.specs.declared.event.Event.TheVariants.{Run, Give, Flush, Checkpoint, Fail, Join, Resume, Resend, Trim, Prune}
 
 -- the process that the one word stands for
 abbrev pub process_in : List (List ℕ) → Result ℕ LineError
@@ -34,14 +34,22 @@ abbrev pub prune_line : List (List ℕ) → Result Event LineError
 prune_line [] = Ok Prune
 prune_line _ = Err WrongCount
 
+-- the event of a line that names a process alone
+abbrev pub event_at : List ℕ → List (List ℕ) → Result Event LineError
+event_at first words =
+    if bytes_eq first (codes "flush") then (process_in words >>= λ p. Ok (Flush p))
+    else (if bytes_eq first (codes "checkpoint") then (process_in words >>= λ p. Ok (Checkpoint p))
+    else (if bytes_eq first (codes "fail") then (process_in words >>= λ p. Ok (Fail p))
+    else (if bytes_eq first (codes "join") then (process_in words >>= λ p. Ok (Join p))
+    else (if bytes_eq first (codes "resume") then (process_in words >>= λ p. Ok (Resume p))
+    else (if bytes_eq first (codes "resend") then (process_in words >>= λ p. Ok (Resend p))
+    else (if bytes_eq first (codes "trim") then (process_in words >>= λ p. Ok (Trim p))
+    else Err UnknownLine))))))
+
 -- the event of a line, by its first word and those behind it
 abbrev pub event_line : List ℕ → List (List ℕ) → Result Event LineError
 event_line first words =
     if bytes_eq first (codes "run") then run_line words
     else (if bytes_eq first (codes "give") then give_line words
-    else (if bytes_eq first (codes "flush") then (process_in words >>= λ p. Ok (Flush p))
-    else (if bytes_eq first (codes "checkpoint") then (process_in words >>= λ p. Ok (Checkpoint p))
-    else (if bytes_eq first (codes "resend") then (process_in words >>= λ p. Ok (Resend p))
-    else (if bytes_eq first (codes "trim") then (process_in words >>= λ p. Ok (Trim p))
     else (if bytes_eq first (codes "prune") then prune_line words
-    else Err UnknownLine))))))
+    else event_at first words))

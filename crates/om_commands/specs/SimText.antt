@@ -4,13 +4,16 @@ use Rattle.std.specs.List.{flat_map, range_with_len}
 use Rattle.hex.specs.Hex.{encode_lower}
 use Rattle.om_manager.specs.Outputs.{HeldOutput}
 use Rattle.om_manager.specs.State.{ManagerState, released_by}
+use Rattle.om_manager.specs.declared.answers.Gathered.{Gathered}
+use Rattle.om_manager.specs.declared.answers.Gathered.TheVariants.{Waiting, Finished}
 use Rattle.om_process.specs.Core.{CoreState, move_of, status_of}
 use Rattle.om_process.specs.declared.accept.Accept.{Accept}
 use Rattle.om_process.specs.declared.accept.Accept.TheVariants as accepts
 use Rattle.om_programs.specs.Programs.{Cluster}
 use Rattle.om_world.specs.World.{WorldState}
 use Rattle.om_world.specs.declared.event.Answer.{Answer}
-use Rattle.om_world.specs.declared.event.Answer.TheVariants.{Ran, Given, Noted, Resent, Trimmed, Pruned, Refused}
+use Rattle.om_world.specs.declared.event.Answer.TheVariants.{Ran, Given, Noted, Resent, Trimmed, Pruned, Down, Back, GoesOn, Refused}
+use Rattle.om_world.specs.declared.event.Answer.TheVariants as answers
 use Rattle.om_world.specs.declared.event.Refusal.{Refusal}
 use Rattle.om_world.specs.declared.event.Refusal.TheVariants as refusals
 use Rattle.om_commands.specs.Report.{state_text}
@@ -31,10 +34,18 @@ abbrev pub refusal_text : Refusal → List ℕ
 refusal_text refusals.NoProcess = codes "no-process"
 refusal_text refusals.NotUp = codes "not-up"
 refusal_text refusals.NoFrame = codes "no-frame"
+refusal_text refusals.NotIn = codes "not-in"
+refusal_text refusals.NoRound = codes "no-round"
+refusal_text refusals.Spent = codes "spent"
 refusal_text refusals.Present = codes "present"
 refusal_text refusals.Fault = codes "fault"
 refusal_text refusals.Damaged = codes "damaged"
 refusal_text refusals.Memory = codes "memory"
+
+-- where a gathering stands
+abbrev pub gathered_text : Gathered → List ℕ
+gathered_text Waiting = codes "waiting"
+gathered_text Finished = codes "finished"
 
 -- what is answered to an event
 abbrev pub answer_text : Answer → List ℕ
@@ -45,6 +56,10 @@ answer_text (Noted count) = codes "noted " ++ decimal count
 answer_text (Resent count) = codes "sent " ++ decimal count
 answer_text Trimmed = codes "trimmed"
 answer_text Pruned = codes "pruned"
+answer_text (answers.Gathered gathered) = gathered_text gathered
+answer_text Down = codes "down"
+answer_text (Back interval inc) = codes "back " ++ decimal interval ++ codes " inc " ++ decimal inc
+answer_text GoesOn = codes "goes-on"
 answer_text (Refused why) = refusal_text why
 
 -- a line for each answer

@@ -4,7 +4,7 @@ ghost use Rattle.std.specs.Prelude.{◌≡◌, map};
 ghost use Rattle.om_text.specs.Reading.{or_error};
 ghost use Rattle.om_text.specs.Numbers.{number_of};
 ghost use Rattle.om_text.specs.declared.error.LineError.{LineError};
-ghost use Rattle.om_commands.specs.Events.{event_line, give_line, process_in, prune_line, run_line};
+ghost use Rattle.om_commands.specs.Events.{event_at, event_line, give_line, process_in, prune_line, run_line};
 
 use om_text::{LineError, long_number_of, number_of};
 use om_world::Event;
@@ -19,6 +19,16 @@ pub(crate) fn event_of(first: &[u8], words: &[&[u8]]) -> Result<Event, LineError
     if first == b"give".as_slice() {
         return give_of(words);
     }
+    if first == b"prune".as_slice() {
+        return prune_of(words);
+    }
+    event_at(first, words)
+}
+
+// The event of a line that names a process alone.
+fn event_at(first: &[u8], words: &[&[u8]]) -> Result<Event, LineError>
+    ensures { result ≡ event_at first.now (map (λ word. word.now) words.now) }
+{
     if first == b"flush".as_slice() {
         let process = process_in(words)?;
         return Ok(Event::Flush { process });
@@ -27,6 +37,18 @@ pub(crate) fn event_of(first: &[u8], words: &[&[u8]]) -> Result<Event, LineError
         let process = process_in(words)?;
         return Ok(Event::Checkpoint { process });
     }
+    if first == b"fail".as_slice() {
+        let process = process_in(words)?;
+        return Ok(Event::Fail { process });
+    }
+    if first == b"join".as_slice() {
+        let process = process_in(words)?;
+        return Ok(Event::Join { process });
+    }
+    if first == b"resume".as_slice() {
+        let process = process_in(words)?;
+        return Ok(Event::Resume { process });
+    }
     if first == b"resend".as_slice() {
         let process = process_in(words)?;
         return Ok(Event::Resend { process });
@@ -34,9 +56,6 @@ pub(crate) fn event_of(first: &[u8], words: &[&[u8]]) -> Result<Event, LineError
     if first == b"trim".as_slice() {
         let process = process_in(words)?;
         return Ok(Event::Trim { process });
-    }
-    if first == b"prune".as_slice() {
-        return prune_of(words);
     }
     Err(LineError::UnknownLine)
 }

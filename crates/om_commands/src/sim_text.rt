@@ -5,12 +5,12 @@ ghost use Rattle.std.specs.List.{flat_map, range_with_len};
 ghost use Rattle.om_interval.specs.declared.pid.TheConstants.{MAX_PROCESSES};
 ghost use Rattle.om_manager.specs.Outputs.{held_of};
 ghost use Rattle.om_manager.specs.State as managers;
-ghost use Rattle.om_commands.specs.SimText.{accept_text, answer_text, answers_text, bytes_text, core_text, end_text, name_at, output_line, outputs_text, process_line, released_text, refusal_text};
+ghost use Rattle.om_commands.specs.SimText.{accept_text, answer_text, answers_text, bytes_text, core_text, end_text, gathered_text, name_at, output_line, outputs_text, process_line, released_text, refusal_text};
 
 use crate::report::push_state;
 use crate::state_text::push_status;
 use om_interval::Pid;
-use om_manager::{Manager, Output};
+use om_manager::{Gathered, Manager, Output};
 use om_process::{Accept, ProcCore};
 use om_programs::Programs;
 use om_stable::Stable;
@@ -41,10 +41,22 @@ fn refusal_word(why: Refusal) -> &'static str
         Refusal::NoProcess => "no-process",
         Refusal::NotUp => "not-up",
         Refusal::NoFrame => "no-frame",
+        Refusal::NotIn => "not-in",
+        Refusal::NoRound => "no-round",
+        Refusal::Spent => "spent",
         Refusal::Present => "present",
         Refusal::Fault => "fault",
         Refusal::Damaged => "damaged",
         Refusal::Memory => "memory",
+    }
+}
+
+fn gathered_word(gathered: Gathered) -> &'static str
+    ensures { result.now ≡ gathered_text gathered }
+{
+    match gathered {
+        Gathered::Waiting => "waiting",
+        Gathered::Finished => "finished",
     }
 }
 
@@ -68,6 +80,10 @@ fn push_answer(text: &mut String, answer: Answer) -> Result<(), AllocError>
         Answer::Resent(count) => write!(text, "sent {count}"),
         Answer::Trimmed => text.push_str("trimmed"),
         Answer::Pruned => text.push_str("pruned"),
+        Answer::Gathered(gathered) => text.push_str(gathered_word(gathered)),
+        Answer::Down => text.push_str("down"),
+        Answer::Back { interval, inc } => write!(text, "back {interval} inc {inc}"),
+        Answer::GoesOn => text.push_str("goes-on"),
         Answer::Refused(why) => text.push_str(refusal_word(why)),
     }
 }

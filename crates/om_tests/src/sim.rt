@@ -27,8 +27,8 @@ proc b pb
 proc c pc
 ";
 
-// Events over them, the answers, and the states of the processes in the end. Nothing is recovered or released.
-const EVENTS: [(&str, &str, [&str; 3]); 4] = [
+// Events over them, the answers, and how the world stands in the end.
+const EVENTS: [(&str, &str, &str); 7] = [
     (
         "run 0 100\nrun 1 100\nrun 2 100\ngive 1 0\nrun 1 100\ngive 0 1\nrun 0 100\nflush 0\n",
         "\
@@ -41,38 +41,173 @@ taken 1
 ran 5 ended 0 sent 0 made 1
 noted 1
 ",
-        [
-            "interval 1 ended 0",
-            "interval 1 ended 0",
-            "interval 0 ended 0",
-        ],
+        "\
+recovery 0 0 0
+proc a inc 0 interval 1 ended 0
+proc b inc 0 interval 1 ended 0
+proc c inc 0 interval 0 ended 0
+",
     ),
     (
-        "run 0 100\ncheckpoint 0\ngive 0 5\nresend 0\ntrim 0\nrun 3 1\n",
-        "ran 3 waiting sent 0 made 0\npresent\nno-frame\nsent 0\ntrimmed\nno-process\n",
-        ["interval 0 waiting", "interval 0 ready", "interval 0 ready"],
+        "run 0 100\ncheckpoint 0\ngive 0 5\njoin 0\nresume 0\nresend 0\ntrim 0\nrun 3 1\nfail 3\njoin 3\nresume 3\n",
+        "ran 3 waiting sent 0 made 0\npresent\nno-frame\nno-round\nnot-in\nsent 0\ntrimmed\nno-process\nno-process\nno-process\nno-process\n",
+        "\
+recovery 0 0 0
+proc a inc 0 interval 0 waiting
+proc b inc 0 interval 0 ready
+proc c inc 0 interval 0 ready
+",
     ),
     (
         "prune\nprune\ncheckpoint 0\ncheckpoint 1\ncheckpoint 2\n",
         "pruned\npruned\npresent\npresent\npresent\n",
-        ["interval 0 ready", "interval 0 ready", "interval 0 ready"],
+        "\
+recovery 0 0 0
+proc a inc 0 interval 0 ready
+proc b inc 0 interval 0 ready
+proc c inc 0 interval 0 ready
+",
     ),
     (
         "run 2 100\nresend 2\ngive 0 0\ngive 1 0\nrun 1 3\ngive 1 1\ngive 1 0\n",
         "ran 5 ended 0 sent 1 made 0\nsent 1\nstranger\nnot-waiting\nran 3 waiting sent 0 made 0\ntaken 1\nrepeat\n",
-        ["interval 0 ready", "interval 1 ready", "interval 0 ended 0"],
+        "\
+recovery 0 0 0
+proc a inc 0 interval 0 ready
+proc b inc 0 interval 1 ready
+proc c inc 0 interval 0 ended 0
+",
+    ),
+    (
+        "\
+run 0 100\nrun 1 100\nrun 2 100\ngive 1 0\nrun 1 100\ngive 0 1\nrun 0 100\nflush 0\nfail 1\njoin 0\njoin 2
+resume 0\nresume 1\nresume 2\ngive 0 1\nrun 1 100\ngive 1 0\nrun 1 100\nrun 0 100\ngive 0 1\ngive 0 2\nrun 0 100
+flush 1\nflush 0
+",
+        "\
+ran 3 waiting sent 0 made 0
+ran 3 waiting sent 0 made 0
+ran 5 ended 0 sent 1 made 0
+taken 1
+ran 6 ended 0 sent 1 made 0
+taken 1
+ran 5 ended 0 sent 0 made 1
+noted 1
+waiting
+waiting
+finished
+back 0 inc 1
+back 0 inc 1
+goes-on
+orphan
+ran 3 waiting sent 0 made 0
+taken 1
+ran 6 ended 0 sent 1 made 0
+ran 3 waiting sent 0 made 0
+orphan
+taken 1
+ran 5 ended 0 sent 0 made 1
+noted 1
+noted 1
+",
+        "\
+recovery 1 1 0
+proc a inc 1 interval 1 ended 0
+proc b inc 1 interval 1 ended 0
+proc c inc 0 interval 0 ended 0
+out a 0 93081000
+",
+    ),
+    (
+        "\
+run 1 100\nrun 2 100\ngive 1 0\ncheckpoint 1\nflush 1\nprune\nfail 1\njoin 0\njoin 2\nresume 1\nresume 0\nresume 2
+give 1 0\nrun 1 100
+",
+        "\
+ran 3 waiting sent 0 made 0
+ran 5 ended 0 sent 1 made 0
+taken 1
+noted 1
+noted 1
+pruned
+waiting
+waiting
+finished
+back 1 inc 1
+goes-on
+goes-on
+repeat
+ran 6 ended 0 sent 1 made 0
+",
+        "\
+recovery 0 1 0
+proc a inc 0 interval 0 ready
+proc b inc 1 interval 1 ended 0
+proc c inc 0 interval 0 ended 0
+",
+    ),
+    (
+        "\
+fail 0\nfail 1\ngive 2 0\njoin 2\nfail 2\nresume 0\nfail 0\nresume 2\nresume 1\njoin 1\njoin 2\nresume 0\nresume 1
+resume 2\nresume 2
+",
+        "\
+waiting
+waiting
+no-frame
+finished
+down
+back 0 inc 1
+waiting
+back 0 inc 0
+back 0 inc 1
+waiting
+finished
+back 0 inc 2
+goes-on
+goes-on
+not-in
+",
+        "\
+recovery 0 0 0
+proc a inc 2 interval 0 ready
+proc b inc 1 interval 0 ready
+proc c inc 0 interval 0 ready
+",
     ),
 ];
 
 #[test]
 fn events_and_their_answers(rt: HostRuntime) {
-    for (events, answers, [a, b, c]) in EVENTS {
+    for (events, answers, end) in EVENTS {
         let input = format!(in rt.alloc(); "{THREE}{events}").expect(&rt, "memory");
-        let wanted = format!(in rt.alloc();
-            "{answers}recovery 0 0 0\nproc a inc 0 {a}\nproc b inc 0 {b}\nproc c inc 0 {c}\n"
-        ).expect(&rt, "memory");
+        let wanted = format!(in rt.alloc(); "{answers}{end}").expect(&rt, "memory");
         let text = told(&rt, rt.alloc(), input.as_str());
         assert_eq!(rt; text.as_slice(), wanted.as_bytes(), "{events}");
+    }
+}
+
+// Who is in or down is not up.
+#[test]
+fn processes_that_are_not_up(rt: HostRuntime) {
+    for (events, answers) in [
+        ("fail 1\n", "waiting\n"),
+        (
+            "fail 1\nfail 1\nrun 1 1\ngive 1 0\nflush 1\ncheckpoint 1\njoin 1\nresend 1\ntrim 1\nresume 1\n",
+            "waiting\nnot-up\nnot-up\nnot-up\nnot-up\nnot-up\nnot-up\nnot-up\nnot-up\nnot-in\n",
+        ),
+        (
+            "fail 1\njoin 0\nrun 0 1\njoin 0\nresume 0\nfail 0\njoin 2\n",
+            "waiting\nwaiting\nnot-up\nnot-up\nnot-in\nwaiting\nfinished\n",
+        ),
+    ] {
+        let input = format!(in rt.alloc(); "{THREE}{events}").expect(&rt, "memory");
+        let text = told(&rt, rt.alloc(), input.as_str());
+        assert!(rt; text.as_slice().starts_with(answers.as_bytes()), "{events}");
+        assert!(rt;
+            text.as_slice()[answers.len()..].starts_with(b"recovery 0 0 0\n"),
+            "{events}"
+        );
     }
 }
 
@@ -122,9 +257,10 @@ fn faulty_scripts(rt: HostRuntime) {
             "program a 4\nproc p a\nprune\nproc q a\n",
             "line 4: out of place",
         ),
-        ("fail 0\n", "line 1: unknown line"),
-        ("join 0\n", "line 1: unknown line"),
-        ("resume 0\n", "line 1: unknown line"),
+        ("fail\n", "line 1: wrong count of words"),
+        ("join 0 1\n", "line 1: wrong count of words"),
+        ("resume x\n", "line 1: bad number"),
+        ("die 0\n", "line 1: unknown line"),
         ("run 0\n", "line 1: wrong count of words"),
         ("prune 0\n", "line 1: wrong count of words"),
         ("flush\n", "line 1: wrong count of words"),

@@ -2,8 +2,9 @@ ghost use Rattle.std.specs.Prelude.{◌≡◌, IfOk, length};
 
 use om_interval::Pid;
 use om_isa::Ext;
+use om_manager::Gathered;
 use om_process::{Accept, Image, StartFault, Status};
-use om_stable::MemStable;
+use om_stable::{FuseStable, MemStable, Stable};
 use om_world::{Answer, Event, Refusal, World, laws};
 use std::alloc::{AllocError, Global};
 use std::process::Abort;
@@ -166,6 +167,155 @@ fn events_are_refused(rt: HostRuntime) {
         Answer::Refused(Refusal::Present),
     ];
     assert_eq!(&rt; answers.as_slice(), expected.as_slice());
+}
+
+fn give(process: usize, frame: usize) -> Event {
+    Event::Give { process, frame }
+}
+
+// The second process fails once its message has gone on to the first, whose record of it is stored: the message is an
+// orphan, and the first is rolled back.
+fn run_with_a_failure() -> [Event; 24] {
+    [
+        run(0),
+        run(1),
+        run(2),
+        give(1, 0),
+        run(1),
+        give(0, 1),
+        run(0),
+        Event::Flush { process: 0 },
+        Event::Fail { process: 1 },
+        Event::Join { process: 0 },
+        Event::Join { process: 2 },
+        Event::Resume { process: 0 },
+        Event::Resume { process: 1 },
+        Event::Resume { process: 2 },
+        give(0, 1),
+        run(1),
+        give(1, 0),
+        run(1),
+        run(0),
+        give(0, 1),
+        give(0, 2),
+        run(0),
+        Event::Flush { process: 1 },
+        Event::Flush { process: 0 },
+    ]
+}
+
+#[test]
+fn a_process_fails_and_another_is_rolled_back(rt: HostRuntime) {
+    let alloc = rt.alloc();
+    let mut world = line(alloc).expect(&rt, "a world");
+    let answers = world
+        .play(alloc, &run_with_a_failure())
+        .expect(&rt, "memory");
+    let expected = [
+        Answer::Gathered(Gathered::Waiting),
+        Answer::Gathered(Gathered::Waiting),
+        Answer::Gathered(Gathered::Finished),
+        Answer::Back {
+            interval: 0,
+            inc: 1,
+        },
+        Answer::Back {
+            interval: 0,
+            inc: 1,
+        },
+        Answer::GoesOn,
+        Answer::Given(Accept::Orphan),
+    ];
+    assert_eq!(&rt; &answers.as_slice()[8..15], expected.as_slice());
+    assert_eq!(&rt; answers.as_slice()[20], Answer::Given(Accept::Taken(1)));
+    assert_eq!(&rt; world.live().len(), 2);
+    check_the_end(&rt, &world);
+}
+
+// The end of that run.
+fn check_the_end<S: Stable>(rt: &impl Abort, world: &World<S>) {
+    for (p, place, end) in [
+        (0, 1, (1, 1, Status::Ended(0))),
+        (1, 1, (1, 1, Status::Ended(0))),
+        (2, 0, (0, 0, Status::Ended(0))),
+    ] {
+        let core = world.core(Pid::at(p)).expect(rt, "a core");
+        assert_eq!(rt; world.manager().recovery().get(Pid::at(p)), place);
+        assert_eq!(rt; (core.inc(), core.interval(), core.status()), end);
+    }
+    let released = world.manager().released(Pid::at(0));
+    assert_eq!(rt; released.len(), 1);
+    assert_eq!(rt;
+        released[0].bytes.as_slice(),
+        [0x93, 0x08, 0x10, 0x00].as_slice()
+    );
+}
+
+// A store in memory that stops after so many calls, where it is the one that is to.
+fn fused(alloc: Global, stops: bool, calls: u64) -> FuseStable<MemStable> {
+    FuseStable::new(MemStable::new(alloc), if stops { calls } else { u64::MAX })
+}
+
+// The three processes, with one store that stops after so many calls.
+fn fused_line(
+    alloc: Global,
+    store: usize,
+    calls: u64,
+) -> Result<World<FuseStable<MemStable>>, StartFault> {
+    let images = three_images(alloc)?;
+    let mut stores = Vec::with_capacity(alloc, 3)?;
+    stores.push_reserved(fused(alloc, store == 0, calls));
+    stores.push_reserved(fused(alloc, store == 1, calls));
+    stores.push_reserved(fused(alloc, store == 2, calls));
+    World::start(alloc, &images, stores)
+}
+
+// Plays an event, once more where the store stopped it, and says whether it did.
+fn play_twice<S: Stable>(
+    alloc: Global,
+    world: &mut World<S>,
+    event: Event,
+) -> Result<bool, AllocError> {
+    let stopped = world.play(alloc, &[event])?.as_slice()
+        == [Answer::Refused(Refusal::Fault)].as_slice();
+    if stopped {
+        let _ = world.play(alloc, &[event])?;
+    }
+    Ok(stopped)
+}
+
+// Plays the run with a failure, and says whether a store stopped.
+fn play_run<S: Stable>(alloc: Global, world: &mut World<S>) -> Result<bool, AllocError> {
+    let mut stopped = false;
+    for event in run_with_a_failure() {
+        if play_twice(alloc, world, event)? {
+            stopped = true;
+        }
+    }
+    Ok(stopped)
+}
+
+// Plays it with a store that stops at each of its calls in turn, after that of the start, until it stops no more. The third
+// process stores nothing after its start.
+fn stop_at_each_call(rt: &impl Abort, alloc: Global, store: usize) {
+    assert!(rt; fused_line(alloc, store, 0).err() == Some(StartFault::Fault));
+    for calls in 1..100 {
+        let mut world = fused_line(alloc, store, calls).expect(rt, "a world");
+        let stopped = play_run(alloc, &mut world).expect(rt, "memory");
+        check_the_end(rt, &world);
+        if !stopped {
+            assert_eq!(rt; calls > 1, store < 2);
+            return;
+        }
+    }
+    assert!(rt; false, "the store still stops");
+}
+
+#[test]
+fn stores_stop_at_any_call(rt: HostRuntime) {
+    for store in 0..3 {
+        stop_at_each_call(&rt, rt.alloc(), store);
+    }
 }
 
 // What a start of one process with a memory of this size, over a store of its own, is refused with.

@@ -77,6 +77,11 @@ Then it writes how all stands in the end.
                    sent, numbered from 0, and a frame may be given many times
   flush P          P stores what it received, and notes it to the manager
   checkpoint P     P stores its state, and notes it
+  fail P           P is down, and what it had not stored is lost
+  join P           P, which is up, flushes, and joins the round of recovery that
+                   a failure opened; the round is finished when all are in
+  resume P         P, which is down or in, is up again after a finished round:
+                   rolled back to the recovery state, or as it was
   resend P         each message that P keeps becomes a new frame
   trim P           P drops what it need not keep
   prune            the manager and the stores drop what they need not keep
@@ -87,10 +92,15 @@ Answers:
   taken X, repeat, ahead, orphan, not-waiting, stranger, full   to a give;
                                    X is the interval that begins
   noted K, sent M, trimmed, pruned
-  no-process, not-up, no-frame, present, fault, damaged, memory
+  waiting, finished                to a fail or a join; the round, then
+  down                             to a fail of which nobody need know
+  back X inc I, goes-on            to a resume: rolled back to interval X, in
+                                   incarnation I; or as it was
+  no-process, not-up, no-frame, not-in, no-round, spent, present, fault,
+  damaged, memory
 In the end:
   recovery X0 ..                   the greatest recoverable state
-  proc NAME inc I interval X STATUS
+  proc NAME inc I interval X STATUS, or proc NAME down
   out NAME NUMBER HEX              an output that may be released
 A faulty script is refused whole: 'line N: ..' on standard error, status 1.";
 
