@@ -24,3 +24,5 @@ pub mod Pruning
 pub mod Finish
 pub mod Legal
 pub mod Released
+pub mod Counting
+pub mod Gathering

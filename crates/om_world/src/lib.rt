@@ -12,6 +12,7 @@ mod event;
 mod frames;
 mod give;
 pub mod laws;
+mod live;
 mod place;
 mod play;
 mod prune;

@@ -1,0 +1,8 @@
+use Rattle.std.proofs.Common.{◌≡◌, ◌≤◌, ℕ, length, take, drop}
+use Rattle.std.specs.Prelude.{slice_index}
+use Rattle.om_world.specs.Live.{cut_list}
+use Rattle.om_world.specs.steps.Counts.{IsClosed}
+use Rattle.om_world.proofs.live.close_gaps.Given as goal
+
+abbrev pub invariant-loop-i : goal.invariant-loop-i
+invariant-loop-i l = IsClosed (λ p. slice_index l.fn.state p) l.fn.entries.items l.i l.kept l.entries.items l.counts
