@@ -26,3 +26,4 @@ pub mod Legal
 pub mod Released
 pub mod Counting
 pub mod Gathering
+pub mod Declaring

@@ -5,3 +5,4 @@ pub mod Starting
 pub mod Running
 pub mod Pruning
 pub mod Counts
+pub mod Gathering

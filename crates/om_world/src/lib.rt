@@ -8,9 +8,12 @@ pub use place::Place;
 pub use world::World;
 
 mod entry;
+mod down;
 mod event;
+mod failing;
 mod frames;
 mod give;
+mod joining;
 pub mod laws;
 mod live;
 mod place;
