@@ -4,3 +4,4 @@ pub mod Moves
 pub mod Starting
 pub mod Running
 pub mod Pruning
+pub mod Returning
