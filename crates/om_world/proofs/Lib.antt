@@ -14,7 +14,9 @@ pub mod Raising
 pub mod Gaining
 pub mod Recording
 pub mod Resending
+pub mod Returning
 pub mod Starting
+pub mod TakenDown
 pub mod Telling
 pub mod Trimming
 pub mod Sending

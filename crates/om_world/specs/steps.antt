@@ -6,3 +6,4 @@ pub mod Running
 pub mod Pruning
 pub mod Counts
 pub mod Gathering
+pub mod Returning
