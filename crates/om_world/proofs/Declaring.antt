@@ -3,6 +3,7 @@ use Rattle.std.proofs.Common.{◌≡◌, ◌≢◌, ◌⊎◌, inl, inr, ℕ, ze
 use Rattle.std.specs.Prelude.{slice_get, slice_index}
 use Rattle.std.proofs.lemmas.List.{get_or_default}
 use Rattle.om_interval.specs.Starts.{newest_of}
+use Rattle.om_interval.specs.declared.pid.TheConstants.{MAX_PROCESSES}
 use Rattle.om_process.specs.Core.{CoreState}
 use Rattle.om_manager.specs.Gatherings.{presence_of, presences_of}
 use Rattle.om_manager.specs.Rounds.{Failing, Fails, Gathers, Joining, MayJoin, with_failed, with_joined}
@@ -24,7 +25,7 @@ use Rattle.om_world.specs.World.{IsKnown, WorldState, history, past_of}
 use Rattle.om_world.specs.steps.Gathering.{HasDeclared, HasEntered, HasGathered, IsWhyNot, StandsIn, declared}
 use Rattle.om_world.specs.steps.Sound.{HasShape, IsUpIn, IsWorld, Runs, Sound}
 use Rattle.om_world.proofs.Gathering.{IsEntering, now_in, running_interval, sound_gathered}
-use Rattle.om_world.proofs.Lists.{at_change, either, inside, once, there}
+use Rattle.om_world.proofs.Lists.{at_change, either, inside, once, set_apart, there}
 
 -- ---- a process is placed anew
 abbrev pub placed : WorldState → ℕ → Place → WorldState
@@ -51,13 +52,6 @@ here : {A : Type 0} (xs : List A) (i : ℕ) (x : A) → i < length xs → slice_
 here [] i x lt = absurd (omega arith)
 here (y ∷ xs) zero x lt = refl
 here (y ∷ xs) (suc i) x lt = here xs i x (omega arith)
-
-apart : {A : Type 0} (xs : List A) (i j : ℕ) (x : A) → j ≢ i → slice_get (set xs i x) j ≡ slice_get xs j
-apart [] i j x ne = refl
-apart (y ∷ xs) zero zero x ne = absurd (ne refl)
-apart (y ∷ xs) zero (suc j) x ne = refl
-apart (y ∷ xs) (suc i) zero x ne = refl
-apart (y ∷ xs) (suc i) (suc j) x ne = apart xs i j x (omega arith)
 
 -- where a process stands that stands there after one was placed
 stood : (w : WorldState) (p q : ℕ) (place at : Place) → slice_get (set w.places p place) q ≡ Some at → ((q ≡ p) × (place ≡ at)) ⊎ (slice_get w.places q ≡ Some at)
@@ -99,7 +93,7 @@ sound_placed w p place lt s k = record {
   joined = s.joined;
   failed = λ q is. elim (either q p) [
     | inl mine ↦ ap (slice_get (set w.places p place)) mine ∙ here w.places p place lt ∙ ap (λ a. Some a) (k.failed (ap (presence_of (presences_of w.manager.gathering)) (sym mine) ∙ is))
-    | inr other ↦ apart w.places p q place other ∙ s.failed q is
+    | inr other ↦ set_apart w.places p q place other ∙ s.failed q is
   ];
   gathered = s.gathered;
   current = λ q up. elim (stood w p q place Place.Up up) [ inl mine ↦ absurd (k.not_up mine.1) | inr old ↦ s.current q old ];
@@ -315,3 +309,6 @@ not_entered IsSound xs w p at fault m live i up stands j g = record {
   refused = ap (λ l. record w { live = l; manager = m }) g.refused ∙ ap (λ (k : ManagerState). record w { manager = k }) (same_joining w.manager m p at.0 at.1 fault j);
   memory = λ known opened. for_memory w m p at.0 at.1 stands.0 fault i.shape (i.clean known).1 up stands.1 stands.2 opened j;
 }
+
+pub is_few : (w : WorldState) (p : ℕ) (place : Place) → HasShape w → slice_get w.places p ≡ Some place → p < MAX_PROCESSES
+is_few w p place h at = let lt = inside w.places p place at in let long = h.places in let few = h.few in omega arith

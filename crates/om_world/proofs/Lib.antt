@@ -29,3 +29,4 @@ pub mod Released
 pub mod Counting
 pub mod Gathering
 pub mod Declaring
+pub mod Declared
