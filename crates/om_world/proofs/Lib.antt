@@ -30,3 +30,4 @@ pub mod Counting
 pub mod Gathering
 pub mod Declaring
 pub mod Declared
+pub mod Entering

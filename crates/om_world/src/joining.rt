@@ -1,12 +1,13 @@
 //! Processes that join a gathering.
 
-ghost use Rattle.std.specs.Prelude.{ℕ, ◌≡◌, ◌<◌, length, slice_get, Some};
+ghost use Rattle.std.specs.Prelude.{◌≡◌, ◌≢◌, ◌<◌, IfErr, IfOk, None};
 ghost use Rattle.om_interval.specs.declared.pid.TheConstants.{MAX_PROCESSES};
 ghost use Rattle.om_manager.specs.Rounds.{Joining};
 ghost use Rattle.om_world.specs.Changes.{IsUp};
 ghost use Rattle.om_world.specs.Happened.{Happened};
 ghost use Rattle.om_world.specs.World.{IsKnown};
 ghost use Rattle.om_world.specs.declared.event.Event.{Event};
+ghost use Rattle.om_world.specs.declared.event.Refusal.{Refusal};
 ghost use Rattle.om_world.specs.steps.Gathering.{HasEntered, HasGathered, StandsIn};
 ghost use Rattle.om_world.specs.steps.Moves.{HasCore, Keeps, answered};
 
@@ -51,6 +52,18 @@ fn join_to(
 }
 
 impl<S: Stable> World<S> {
+    // Whether a gathering is open.
+    fn is_gathering(&self) -> Result<(), Refusal>
+        ensures open { IfOk result (λ _. self.now.manager.gathering ≢ None) }
+        ensures closed { IfErr result (λ why. (why ≡ Refusal.NoRound) × (self.now.manager.gathering ≡ None)) }
+    {
+        if self.manager.gathering() {
+            Ok(())
+        } else {
+            Err(Refusal::NoRound)
+        }
+    }
+
     // Takes a process that is up into the gathering.
     fn enter(&mut self, alloc: Global, p: usize) -> Result<Gathered, JoinError>
         requires { IsUp self.old p }
@@ -70,9 +83,7 @@ impl<S: Stable> World<S> {
         ensures keeps { Keeps self.old self.new }
     {
         self.is_up(p)?;
-        if !self.manager.gathering() {
-            return Err(Refusal::NoRound);
-        }
+        self.is_gathering()?;
         self.store(alloc, p, RowKind::Log)?;
         let (_, end) = self.note(alloc, p);
         end?;
