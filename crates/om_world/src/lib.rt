@@ -15,6 +15,7 @@ pub mod laws;
 mod place;
 mod play;
 mod prune;
+mod resume;
 mod run;
 mod start;
 mod storing;
