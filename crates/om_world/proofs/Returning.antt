@@ -1,5 +1,5 @@
 -- A process that comes back: what its store has suffices, and what is replayed from it stands where the process was cut to.
-use Rattle.std.proofs.Common.{◌≡◌, ◌≢◌, ◌⊎◌, inl, inr, ℕ, zero, suc, ◌+◌, ◌-◌, ◌≤◌, ◌<◌, List, [], ◌∷◌, ◌++◌, length, take, map, set, Option, Some, None, Bool, true, false, refl, sym, ap, ◌∙◌, subst, arith, length-append, length-set}
+use Rattle.std.proofs.Common.{◌≡◌, ◌≢◌, ◌⊎◌, inl, inr, ℕ, zero, suc, ◌+◌, ◌-◌, ◌≤◌, ◌<◌, List, [], ◌∷◌, ◌++◌, length, take, set, Option, Some, None, Bool, true, false, refl, sym, ap, ◌∙◌, subst, arith, length-append, length-set}
 use Rattle.std.specs.Prelude.{cond, nat_le, slice_get, slice_index, IsSome}
 use Rattle.std.specs.FinMap.{get, retain_keys}
 use Rattle.std.proofs.lemmas.Bool.Decides.{nat_tests}
@@ -8,17 +8,16 @@ use Rattle.std.proofs.Math.Seq.{append_snoc}
 use Rattle.om_format.proofs.Checkpoints.{one_checkpoint}
 use Rattle.om_format.proofs.Receipts.{one_receipt}
 use Rattle.om_format.specs.Checkpoints.{CheckpointRecord, IsSpelled}
-use Rattle.om_format.specs.Queues.{QueueRecord}
-use Rattle.om_format.specs.Receipts.{ReceiptRecord, SpellsReceipt}
+use Rattle.om_format.specs.Receipts.{ReceiptRecord}
 use Rattle.om_stable.specs.Content.{Content, Records, IsEffective, kept_by_cut}
 use Rattle.om_stable.proofs.RecordLemmas.{get-retained}
-use Rattle.om_process.specs.Process.{Process, Received}
+use Rattle.om_process.specs.Process.{Process}
 use Rattle.om_process.specs.Turns.{Reaches}
 use Rattle.om_process.specs.Replays.{FitsReceipt, Replayed, receipts_of, received_of, process_of}
-use Rattle.om_process.specs.Claims.{AtInterval, CheckpointOf, RecordOf, RecordsAlong}
+use Rattle.om_process.specs.Claims.{CheckpointOf, RecordOf, RecordsAlong}
 use Rattle.om_process.specs.Core.{CoreState, size_of}
 use Rattle.om_process.specs.Resumes.{resumed}
-use Rattle.om_process.specs.Stored.{AreReceiptsAfter, BeginsWith, CanReplay, HasAll, IsCheckpointAt, IsReceiptAt, IsReplay, StandsAfter, TheProcess}
+use Rattle.om_process.specs.Stored.{AreReceiptsAfter, CanReplay, IsReceiptAt, IsReplay, TheProcess}
 use Rattle.om_process.proofs.Making.{interval_along}
 use Rattle.om_process.proofs.Replays.{replayed_along, replays}
 use Rattle.om_process.proofs.Runs.{leads_grow, replay_leads}
