@@ -14,6 +14,8 @@ pub mod Raising
 pub mod Gaining
 pub mod Recording
 pub mod Resending
+pub mod Resuming
+pub mod Returned
 pub mod Returning
 pub mod Starting
 pub mod TakenDown

@@ -27,7 +27,7 @@ set_back [] p x at = refl
 set_back (y ∷ xs) zero x at = ap (λ z. z ∷ xs) (sym (once y x at))
 set_back (y ∷ xs) (suc p) x at = ap (λ l. y ∷ l) (set_back xs p x at)
 
-set_twice : {A : Type 0} (xs : List A) (p : ℕ) (x y : A) → set (set xs p x) p y ≡ set xs p y
+pub set_twice : {A : Type 0} (xs : List A) (p : ℕ) (x y : A) → set (set xs p x) p y ≡ set xs p y
 set_twice [] p x y = refl
 set_twice (z ∷ xs) zero x y = refl
 set_twice (z ∷ xs) (suc p) x y = ap (λ l. z ∷ l) (set_twice xs p x y)

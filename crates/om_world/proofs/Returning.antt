@@ -1,5 +1,5 @@
 -- A process that comes back: what its store has suffices, and what is replayed from it stands where the process was cut to.
-use Rattle.std.proofs.Common.{◌≡◌, ◌≢◌, ◌⊎◌, inl, inr, ℕ, zero, suc, ◌+◌, ◌-◌, ◌≤◌, ◌<◌, List, [], ◌∷◌, ◌++◌, length, take, map, set, Option, Some, None, Bool, true, false, refl, sym, ap, ◌∙◌, subst, arith, length-append, length-set}
+use Rattle.std.proofs.Common.{◌≡◌, ◌≢◌, ◌⊎◌, inl, inr, ℕ, zero, suc, ◌+◌, ◌-◌, ◌≤◌, ◌<◌, List, [], ◌∷◌, ◌++◌, length, take, set, Option, Some, None, Bool, true, false, refl, sym, ap, ◌∙◌, subst, arith, length-append, length-set}
 use Rattle.std.specs.Prelude.{cond, nat_le, slice_get, slice_index, IsSome}
 use Rattle.std.specs.FinMap.{get, retain_keys}
 use Rattle.std.proofs.lemmas.Bool.Decides.{nat_tests}
@@ -8,17 +8,16 @@ use Rattle.std.proofs.Math.Seq.{append_snoc}
 use Rattle.om_format.proofs.Checkpoints.{one_checkpoint}
 use Rattle.om_format.proofs.Receipts.{one_receipt}
 use Rattle.om_format.specs.Checkpoints.{CheckpointRecord, IsSpelled}
-use Rattle.om_format.specs.Queues.{QueueRecord}
-use Rattle.om_format.specs.Receipts.{ReceiptRecord, SpellsReceipt}
+use Rattle.om_format.specs.Receipts.{ReceiptRecord}
 use Rattle.om_stable.specs.Content.{Content, Records, IsEffective, kept_by_cut}
 use Rattle.om_stable.proofs.RecordLemmas.{get-retained}
-use Rattle.om_process.specs.Process.{Process, Received}
+use Rattle.om_process.specs.Process.{Process}
 use Rattle.om_process.specs.Turns.{Reaches}
 use Rattle.om_process.specs.Replays.{FitsReceipt, Replayed, receipts_of, received_of, process_of}
-use Rattle.om_process.specs.Claims.{AtInterval, CheckpointOf, RecordOf, RecordsAlong}
+use Rattle.om_process.specs.Claims.{CheckpointOf, RecordOf, RecordsAlong}
 use Rattle.om_process.specs.Core.{CoreState, size_of}
 use Rattle.om_process.specs.Resumes.{resumed}
-use Rattle.om_process.specs.Stored.{AreReceiptsAfter, BeginsWith, CanReplay, HasAll, IsCheckpointAt, IsReceiptAt, IsReplay, StandsAfter, TheProcess}
+use Rattle.om_process.specs.Stored.{AreReceiptsAfter, CanReplay, IsReceiptAt, IsReplay, TheProcess}
 use Rattle.om_process.proofs.Making.{interval_along}
 use Rattle.om_process.proofs.Replays.{replayed_along, replays}
 use Rattle.om_process.proofs.Runs.{leads_grow, replay_leads}
@@ -35,7 +34,7 @@ use Rattle.om_world.specs.Failures.{HasNews, IsToGoOn, put_up}
 use Rattle.om_world.specs.Holds.{HasRecord}
 use Rattle.om_world.specs.Live.{program_at}
 use Rattle.om_world.specs.World.{WorldState, Past, past_of, history, recovered}
-use Rattle.om_world.specs.steps.Returning.{IsBackIn}
+use Rattle.om_world.specs.steps.Returning.{IsBackIn, IsBeyond}
 use Rattle.om_world.specs.steps.Sound.{HasShape, IsCoreOf, IsOld, IsRunning, IsStored, IsUpIn, KeptWithin, LogOf, Runs, Sound}
 use Rattle.om_world.proofs.Kept.{kept_grown}
 use Rattle.om_world.proofs.Legal.{take_take}
@@ -314,7 +313,7 @@ replayed_at w p held core h s lt news at own size r =
     one_reading a b bytes x y = (one_checkpoint bytes x.0 y.0 a b x.1 y.1).1
 
 -- ---- the world in which it is up again
-abbrev come_back : WorldState → ℕ → CoreState → List Content → List Bool → WorldState
+abbrev pub come_back : WorldState → ℕ → CoreState → List Content → List Bool → WorldState
 come_back w p core contents clean = record (put_up w p core) { contents = contents; clean = clean }
 
 round_here : (rounds : List ℕ) (p x : ℕ) → p < length rounds → slice_index (set rounds p x) p ≡ x
@@ -373,6 +372,16 @@ record_kept : (a : Content) (x y : ℕ) (kind : RowKind) → y ≤ x → HasReco
 record_kept a x y Checkpoint le has = (has.0, kept_below a.checkpoints x y le ∙ has.1)
 record_kept a x y Log le has = (has.0, kept_below a.receipts x y le ∙ has.1)
 
+pub back_interval : (w : WorldState) (p : ℕ) (a : Content) (core : CoreState) → HasShape w → Sound w → p < length w.programs → HasNews w p → slice_get w.contents p ≡ Some a → IsBackIn w.manager p core → IsReplay a (slice_index w.manager.last p) core → core.now.interval ≡ slice_index w.manager.last p
+back_interval w p a core h s lt news at b r =
+    let v = past_of w in
+    let n = length w.programs in
+    let state = (replayed_at w p a core h s lt news at b.own (b.size ∙ h.size) r).0 in
+    let behind = s.behind p lt news in
+    let whole : state.0.interval ≡ length (history v p) = interval_along (program_at v.programs p) p n state.1.0 (history v p) state.0 state.1.1 in
+    let part : core.now.interval ≡ state.0.interval = ap (λ (q : Process). q.interval) state.2.same in
+    omega arith
+
 back_running : (w : WorldState) (p : ℕ) (a : Content) (core : CoreState) → HasShape w → Sound w → p < length w.programs → HasNews w p → slice_get w.contents p ≡ Some a → IsBackIn w.manager p core → IsReplay a (slice_index w.manager.last p) core
     → IsRunning (past_of w) p (kept_by_cut a (slice_index w.manager.last p)) core
 back_running w p a core h s lt news at b r =
@@ -381,8 +390,7 @@ back_running w p a core h s lt news at b r =
     let x = slice_index w.manager.last p in
     let stands = replayed_at w p a core h s lt news at b.own (b.size ∙ h.size) r in
     let behind = s.behind p lt news in
-    let whole : stands.0.0.interval ≡ length (history v p) = interval_along (program_at v.programs p) p n stands.0.1.0 (history v p) stands.0.0 stands.0.1.1 in
-    let part : core.now.interval ≡ stands.0.0.interval = ap (λ (q : Process). q.interval) stands.0.2.same in
+    let interval = back_interval w p a core h s lt news at b r in
     let none : length core.log ≡ 0 = ap length b.log in
     record {
       state = stands.0;
@@ -395,7 +403,7 @@ back_running w p a core h s lt news at b r =
       };
     }
 
-shape_back : (w : WorldState) (p : ℕ) (core : CoreState) (contents : List Content) (clean : List Bool) → HasShape w → p < length w.programs → core.own ≡ p → size_of core.now ≡ length w.programs → length contents ≡ length w.contents
+pub shape_back : (w : WorldState) (p : ℕ) (core : CoreState) (contents : List Content) (clean : List Bool) → HasShape w → p < length w.programs → core.own ≡ p → size_of core.now ≡ length w.programs → length contents ≡ length w.contents
     → HasShape (come_back w p core contents clean)
 shape_back w p core contents clean h lt own size long = record {
   few = h.few;
@@ -496,7 +504,7 @@ up_again w p core a b clean h s lt news at up run stored keeps =
     no_more : (a b : ℕ) → a ≡ b → a < b → ⊥
     no_more a b e lt = omega arith
 
-sound_back : (w : WorldState) (p : ℕ) (a : Content) (core : CoreState) (clean : List Bool) → HasShape w → Sound w → p < length w.programs → HasNews w p → slice_get w.contents p ≡ Some a → IsBackIn w.manager p core → IsReplay a (slice_index w.manager.last p) core
+pub sound_back : (w : WorldState) (p : ℕ) (a : Content) (core : CoreState) (clean : List Bool) → HasShape w → Sound w → p < length w.programs → HasNews w p → slice_get w.contents p ≡ Some a → IsBackIn w.manager p core → IsReplay a (slice_index w.manager.last p) core
     → Sound (come_back w p core (set w.contents p (kept_by_cut a (slice_index w.manager.last p))) clean)
 sound_back w p a core clean h s lt news at b r =
     let x = slice_index w.manager.last p in
@@ -505,7 +513,7 @@ sound_back w p a core clean h s lt news at b r =
     (let behind = s.behind p lt news in let le = (s.rows row has).0 in subst (λ k. row.interval ≤ k) behind (subst (λ o. row.interval ≤ length (history (past_of w) o)) same le)) old)
 
 -- it goes on as it was
-sound_on : (w : WorldState) (p : ℕ) (c : CoreState) → HasShape w → Sound w → p < length w.programs → IsToGoOn w p → slice_get w.cores p ≡ Some (Some c) → Sound (put_up w p (resumed c w.manager.round w.manager.starts))
+pub sound_on : (w : WorldState) (p : ℕ) (c : CoreState) → HasShape w → Sound w → p < length w.programs → IsToGoOn w p → slice_get w.cores p ≡ Some (Some c) → Sound (put_up w p (resumed c w.manager.round w.manager.starts))
 sound_on w p c h s lt due at =
     let stores = h.stores in
     let store = there w.contents p (omega arith) in
@@ -515,3 +523,9 @@ sound_on w p c h s lt due at =
     subst (λ l. Sound (come_back w p d l w.clean)) (set_back w.contents p store.0 store.1)
     (up_again w p d store.0 store.0 w.clean h s lt due.news store.1 (record { round = refl; starts = refl; inc = s.inside p c at due.joined runs; away = is_away w p s due.news })
     (record { state = r.state; kept = r.kept; log = r.log; pending = r.pending; above = record { receipts = r.above.receipts; checkpoints = r.above.checkpoints } }) (s.stored p store.0 store.1) (λ row has same old. old))
+
+-- whom the round rolls back without a failure was beyond its place of the recovery state
+pub is_beyond : (w : WorldState) (p : ℕ) → HasShape w → Sound w → p < length w.programs → IsBeyond w p
+is_beyond w p h s lt c joined at news back =
+    let over = s.beyond p c at joined news back in let is = at_recovered w p h s lt news in let behind = s.behind p lt news in
+    omega arith

@@ -1,10 +1,10 @@
 -- A process that is taken down: everything then asks less of it.
-use Rattle.std.proofs.Common.{◌≡◌, ◌≢◌, ◌⊎◌, inl, inr, ℕ, List, set, Option, Some, None, Bool, true, false, refl, sym, ap, ◌∙◌, subst, length-set}
+use Rattle.std.proofs.Common.{◌≡◌, ◌≢◌, inl, inr, ℕ, List, set, Option, Some, None, Bool, true, false, refl, ◌∙◌, subst, length-set}
 use Rattle.std.specs.Prelude.{slice_get}
 use Rattle.om_process.specs.Core.{CoreState}
 use Rattle.om_world.specs.declared.place.Place.{Place}
 use Rattle.om_world.specs.Failures.{taken_down}
-use Rattle.om_world.specs.World.{WorldState, IsKnown}
+use Rattle.om_world.specs.World.{WorldState}
 use Rattle.om_world.specs.steps.Sound.{HasShape, IsWorld, Runs, Sound}
 use Rattle.om_world.proofs.Lists.{at_change, either, none_some, set_apart}
 

@@ -8,7 +8,6 @@ pub use place::Place;
 pub use world::World;
 
 mod entry;
-mod down;
 mod event;
 mod failing;
 mod frames;
@@ -19,6 +18,7 @@ mod live;
 mod place;
 mod play;
 mod prune;
+mod resume;
 mod run;
 mod start;
 mod storing;
