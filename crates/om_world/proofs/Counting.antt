@@ -10,7 +10,7 @@ use Rattle.om_world.specs.declared.entry.Entry.{Entry}
 use Rattle.om_world.specs.Live.{receipt_of, received, cut_after, cut_list}
 use Rattle.om_world.specs.steps.Counts.{AreCounted, AreWithin, IsClosed}
 use Rattle.om_world.proofs.Legal.{append_apart, append_none, received-append, received_more, cut_first, cut_more}
-use Rattle.om_world.proofs.Lists.{either, inside, none_in, once}
+use Rattle.om_world.proofs.Lists.{either, none_in, once}
 
 -- ---- one entry more, or less
 long_more : (p : ℕ) (es : List Entry) (e : Entry) (b : Bool) → nat_eq e.to p ≡ b → length (received p (es ++ e ∷ [])) ≡ length (received p es) + (if b then 1 else 0)
@@ -49,7 +49,7 @@ counted_more es e counts to is lt c = record {
     mine p few same =
         let long = c.places in let here : to < length counts = subst (λ n. to < n) (sym long) (subst (λ q. q < MAX_PROCESSES) same few) in
         let now : slice_index (set counts to (get_or counts to 0 + 1)) p ≡ slice_index counts p + 1 =
-            ap (slice_index (set counts to (get_or counts to 0 + 1))) same ∙ get_or-set_same counts to (get_or counts to 0 + 1) 0 here ∙ ap (λ q. slice_index counts q + 1) (sym same) in
+        ap (slice_index (set counts to (get_or counts to 0 + 1))) same ∙ get_or-set_same counts to (get_or counts to 0 + 1) 0 here ∙ ap (λ q. slice_index counts q + 1) (sym same) in
         now ∙ ap (λ n. n + 1) (c.count p few) ∙ sym (long_mine p es e (sym (same ∙ is)))
 
     apart : (p : ℕ) → p < MAX_PROCESSES → p ≢ to → slice_index (set counts to (get_or counts to 0 + 1)) p ≡ length (received p (es ++ e ∷ []))
@@ -70,7 +70,7 @@ counted_less es e counts to is c = record {
     mine p few same =
         let long = c.places in let here : to < length counts = subst (λ n. to < n) (sym long) (subst (λ q. q < MAX_PROCESSES) same few) in
         let now : slice_index (set counts to (get_or counts to 0 - 1)) p ≡ slice_index counts p - 1 =
-            ap (slice_index (set counts to (get_or counts to 0 - 1))) same ∙ get_or-set_same counts to (get_or counts to 0 - 1) 0 here ∙ ap (λ q. slice_index counts q - 1) (sym same) in
+        ap (slice_index (set counts to (get_or counts to 0 - 1))) same ∙ get_or-set_same counts to (get_or counts to 0 - 1) 0 here ∙ ap (λ q. slice_index counts q - 1) (sym same) in
         let old = c.count p few in let more = long_mine p es e (sym (same ∙ is)) in now ∙ omega arith
 
     apart : (p : ℕ) → p < MAX_PROCESSES → p ≢ to → slice_index (set counts to (get_or counts to 0 - 1)) p ≡ length (received p es)

@@ -1,9 +1,8 @@
 -- What a failure that is declared comes to.
-use Rattle.std.proofs.Common.{◌≡◌, inl, inr, ℕ, ◌≤◌, ◌<◌, List, length, set, Option, Some, Bool, true, false, Result, Ok, Err, refl, sym, ap, ◌∙◌, subst, arith}
-use Rattle.std.specs.Prelude.{All, slice_get, slice_index}
+use Rattle.std.proofs.Common.{◌≡◌, ℕ, ◌<◌, List, true, false, Result, Ok, Err, sym, ap, ◌∙◌, subst, arith}
+use Rattle.std.specs.Prelude.{All, slice_index}
 use Rattle.std.proofs.lemmas.List.{set-set}
-use Rattle.om_manager.specs.Gatherings.{AreAllIn}
-use Rattle.om_manager.specs.Rounds.{Gathers, IsSpent, with_failed}
+use Rattle.om_manager.specs.Rounds.{Gathers, with_failed}
 use Rattle.om_manager.specs.Sound.{KeepsReleased}
 use Rattle.om_manager.specs.State as managers
 use Rattle.om_manager.specs.State.{ManagerState}
@@ -15,7 +14,7 @@ use Rattle.om_world.specs.declared.event.Answer.TheVariants as answers
 use Rattle.om_world.specs.declared.event.Event.{Event}
 use Rattle.om_world.specs.declared.event.Refusal.{Refusal}
 use Rattle.om_world.specs.declared.place.Place.{Place}
-use Rattle.om_world.specs.Failures.{FailHappened, FailRefused, HasNews, IsToDeclare, gathered, taken_down}
+use Rattle.om_world.specs.Failures.{FailHappened, HasNews, IsToDeclare, gathered, taken_down}
 use Rattle.om_world.specs.Happened.{Happened}
 use Rattle.om_world.specs.World.{IsEmpty, IsKnown, WorldState, all_clean}
 use Rattle.om_world.specs.steps.Gathering.{HasDeclared, IsWhyNot, declared}

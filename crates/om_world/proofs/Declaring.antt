@@ -1,5 +1,5 @@
 -- A failure that is declared, and a join.
-use Rattle.std.proofs.Common.{◌≡◌, ◌≢◌, ◌⊎◌, inl, inr, ℕ, zero, suc, ◌≤◌, ◌<◌, List, [], ◌∷◌, length, get_or, set, Option, Some, None, Bool, true, false, Result, Ok, Err, refl, sym, ap, ◌∙◌, subst, arith, length-set}
+use Rattle.std.proofs.Common.{◌≡◌, ◌≢◌, ◌⊎◌, inl, inr, ℕ, zero, suc, ◌≤◌, ◌<◌, List, [], ◌∷◌, length, get_or, set, Option, Some, None, Bool, true, false, Ok, Err, refl, sym, ap, ◌∙◌, subst, arith, length-set}
 use Rattle.std.specs.Prelude.{slice_get, slice_index}
 use Rattle.std.proofs.lemmas.List.{get_or_default}
 use Rattle.om_interval.specs.Starts.{newest_of}
@@ -7,8 +7,6 @@ use Rattle.om_interval.specs.declared.pid.TheConstants.{MAX_PROCESSES}
 use Rattle.om_process.specs.Core.{CoreState}
 use Rattle.om_manager.specs.Gatherings.{presence_of, presences_of}
 use Rattle.om_manager.specs.Rounds.{Failing, Fails, Gathers, Joining, MayJoin, with_failed, with_joined}
-use Rattle.om_manager.specs.Sound.{IsManager}
-use Rattle.om_manager.specs.State as managers
 use Rattle.om_manager.specs.State.{ManagerState}
 use Rattle.om_manager.specs.declared.answers.FailError.{FailError}
 use Rattle.om_manager.specs.declared.answers.FailError.TheVariants as failing
@@ -20,10 +18,10 @@ use Rattle.om_manager.specs.declared.presence.Presence.TheVariants.{Away, Failed
 use Rattle.om_world.specs.declared.entry.Entry.{Entry}
 use Rattle.om_world.specs.declared.place.Place.{Place}
 use Rattle.om_world.specs.Changes.{IsUp}
-use Rattle.om_world.specs.Failures.{HasNews, gathered}
-use Rattle.om_world.specs.World.{IsKnown, WorldState, history, past_of}
-use Rattle.om_world.specs.steps.Gathering.{HasDeclared, HasEntered, HasGathered, IsWhyNot, StandsIn, declared}
-use Rattle.om_world.specs.steps.Sound.{HasShape, IsUpIn, IsWorld, Runs, Sound}
+use Rattle.om_world.specs.Failures.{HasNews}
+use Rattle.om_world.specs.World.{WorldState, past_of}
+use Rattle.om_world.specs.steps.Gathering.{HasDeclared, HasEntered, HasGathered, IsWhyNot, StandsIn}
+use Rattle.om_world.specs.steps.Sound.{HasShape, IsWorld, Runs, Sound}
 use Rattle.om_world.proofs.Gathering.{IsEntering, now_in, running_interval, sound_gathered}
 use Rattle.om_world.proofs.Lists.{at_change, either, inside, once, set_apart, there}
 

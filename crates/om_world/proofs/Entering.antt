@@ -1,5 +1,5 @@
 -- What a join comes to.
-use Rattle.std.proofs.Common.{◌≡◌, ◌≢◌, inl, inr, ℕ, ◌≤◌, ◌<◌, List, [], ◌∷◌, length, take, drop, set, Option, Some, None, Bool, true, false, Result, Ok, Err, refl, sym, ap, ◌∙◌, subst, arith}
+use Rattle.std.proofs.Common.{◌≡◌, ◌≢◌, inl, inr, ℕ, ◌≤◌, List, [], ◌∷◌, length, set, Some, None, true, false, Result, Ok, Err, refl, sym, ap, ◌∙◌, subst, arith}
 use Rattle.std.specs.Prelude.{slice_get}
 use Rattle.std.proofs.lemmas.List.{drop_all, take_all}
 use Rattle.om_stable.specs.declared.error.StoreError.{StoreError}
@@ -14,23 +14,19 @@ use Rattle.om_recover.specs.declared.row.RowKind.TheVariants.{Log}
 use Rattle.om_recover.specs.Rows.{Rows}
 use Rattle.om_manager.specs.Notes.{after_note}
 use Rattle.om_manager.specs.Rounds.{Gathers, with_joined}
-use Rattle.om_manager.specs.Sound.{KeepsReleased}
 use Rattle.om_manager.specs.State as managers
 use Rattle.om_manager.specs.State.{ManagerState, held_by, released_by}
 use Rattle.om_manager.specs.declared.answers.Gathered.{Gathered}
 use Rattle.om_manager.specs.declared.answers.JoinError.{JoinError}
-use Rattle.om_manager.specs.declared.answers.JoinError.TheVariants as joining
 use Rattle.om_manager.specs.declared.answers.OutputError.{OutputError}
-use Rattle.om_manager.specs.declared.answers.OutputError.TheVariants as outputs
 use Rattle.om_manager.specs.declared.answers.RecordError.{RecordError}
 use Rattle.om_manager.specs.declared.answers.RecordError.TheVariants.{Refused}
 use Rattle.om_world.specs.declared.event.Answer.{Answer}
 use Rattle.om_world.specs.declared.event.Answer.TheVariants as answers
 use Rattle.om_world.specs.declared.event.Event.{Event}
 use Rattle.om_world.specs.declared.event.Refusal.{Refusal}
-use Rattle.om_world.specs.declared.event.Refusal.TheVariants as why
-use Rattle.om_world.specs.Changes.{HasStored, HoldsMore, IsUp, NotesAll, StoreStopped, made_by, row_for}
-use Rattle.om_world.specs.Failures.{HasHanded, JoinHappened, gathered, taken_in}
+use Rattle.om_world.specs.Changes.{IsUp, NotesAll, made_by}
+use Rattle.om_world.specs.Failures.{HasHanded, JoinHappened}
 use Rattle.om_world.specs.Happened.{Happened}
 use Rattle.om_world.specs.World.{IsKnown, WorldState, all_clean}
 use Rattle.om_world.specs.steps.Gathering.{HasEntered}
@@ -38,7 +34,7 @@ use Rattle.om_world.specs.steps.Moves.{HasCalled, HasTold, Keeps, answered, refu
 use Rattle.om_world.specs.steps.Running.{HasHandedIn, refusal_of_output}
 use Rattle.om_world.proofs.Declared.{known_by}
 use Rattle.om_world.proofs.Keeping.{keeps_recorded, prefix_then}
-use Rattle.om_world.proofs.Lists.{inside, once}
+use Rattle.om_world.proofs.Lists.{once}
 use Rattle.om_world.proofs.Recording.{has_noted, has_stored, known_mid, set_there, some_noted, store_refused}
 
 -- ---- the gathering stays open while rows and outputs are told
@@ -62,8 +58,8 @@ core_handed w mid v z p count end up h t k =
     let rest = flushed h.core in
     let all = n.1.all in
     once k.core (with_pending rest []) (once (Some k.core) (Some (with_pending rest [])) (
-      sym k.there ∙ ap (λ l. slice_get l p) (n.0.changes.cores ∙ ap (λ rows. set w.cores p (Some (with_pending rest rows))) (drop_all count rest.pending (omega arith)))
-      ∙ set_there w.cores p (Some h.core) (Some (with_pending rest [])) h.there
+    sym k.there ∙ ap (λ l. slice_get l p) (n.0.changes.cores ∙ ap (λ rows. set w.cores p (Some (with_pending rest rows))) (drop_all count rest.pending (omega arith)))
+    ∙ set_there w.cores p (Some h.core) (Some (with_pending rest [])) h.there
     ))
 
 handed_over : (w mid v z : WorldState) (p count : ℕ) (end : Result (Unit {0}) OutputError) → IsUp w p → (h : HasCalled Log w p (Ok tt) mid) → HasTold mid p count (Ok tt) v → HasHandedIn v p end z → IsKnown v → HasHanded w p h.core z

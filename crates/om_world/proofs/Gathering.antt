@@ -1,13 +1,11 @@
 -- The manager takes a process into the gathering, and what a round that this finishes leaves.
-use Rattle.std.proofs.Common.{◌≡◌, ◌≢◌, ◌⊎◌, inl, inr, ℕ, zero, suc, ◌+◌, ◌-◌, ◌≤◌, ◌<◌, List, [], ◌∷◌, ◌++◌, length, take, set, get_or, replicate, Option, Some, None, Bool, true, false, refl, sym, ap, ◌∙◌, subst, arith, length-append}
+use Rattle.std.proofs.Common.{◌≡◌, ◌≢◌, ◌⊎◌, inl, inr, ℕ, zero, suc, ◌+◌, ◌-◌, ◌≤◌, ◌<◌, List, [], ◌∷◌, ◌++◌, length, take, set, get_or, replicate, Option, Some, Bool, true, false, refl, sym, ap, ◌∙◌, subst, arith, length-append}
 use Rattle.std.specs.Prelude.{if◌then◌else◌, cond, nat_eq, nat_le, nat_lt, slice_get, slice_index, slice_index_or}
-use Rattle.std.specs.List.{filter}
 use Rattle.std.proofs.lemmas.Bool.Decides.{nat_tests}
 use Rattle.std.proofs.lemmas.List.{take_all}
-use Rattle.om_interval.specs.Starts.{BeginIncarnations, IsOrphan, is_named, newest_of, starts_of}
+use Rattle.om_interval.specs.Starts.{is_named, newest_of, starts_of}
 use Rattle.om_interval.specs.declared.pid.TheConstants.{MAX_PROCESSES}
 use Rattle.om_format.specs.declared.message.Message.{Message}
-use Rattle.om_format.specs.declared.queue.Entry as kept
 use Rattle.om_format.specs.Queues.{QueueRecord}
 use Rattle.om_stable.specs.Content.{Content}
 use Rattle.om_process.specs.Process.{Process, Program, Received}
@@ -17,15 +15,12 @@ use Rattle.om_process.specs.Dependencies.{Depends, count_from, greatest_from}
 use Rattle.om_process.specs.Claims.{AtInterval, CheckpointOf, Makes, RecordOf, RowOf}
 use Rattle.om_process.proofs.Making.{interval_along}
 use Rattle.om_recover.specs.Rows.{Has, HasRow}
-use Rattle.om_recover.specs.Cutting.{cut_to}
-use Rattle.om_recover.specs.declared.row.Row as noted
 use Rattle.om_recover.specs.declared.row.RowKind.{RowKind}
 use Rattle.om_recover.specs.declared.row.RowKind.TheVariants.{Checkpoint}
 use Rattle.om_recover.proofs.CuttingLemmas.{has_after_cut, of_cut}
 use Rattle.om_manager.specs.Gatherings.{AreAllIn, begins, presence_of, presences_of}
 use Rattle.om_manager.specs.Outputs.{HeldOutput, within}
 use Rattle.om_manager.specs.Rounds.{Finishes, Gathers, gathering_with}
-use Rattle.om_manager.specs.Sound.{IsManager}
 use Rattle.om_manager.specs.State as managers
 use Rattle.om_manager.specs.State.{ManagerState, held_by, released_by}
 use Rattle.om_manager.specs.declared.answers.Gathered.{Gathered}
@@ -35,15 +30,14 @@ use Rattle.om_manager.specs.declared.presence.Presence.TheVariants.{Away, Failed
 use Rattle.om_manager.proofs.ManagerLemmas.{finishes_keeps}
 use Rattle.om_world.specs.declared.entry.Entry.{Entry}
 use Rattle.om_world.specs.declared.place.Place.{Place}
-use Rattle.om_world.specs.Failures.{HasNews, gathered}
-use Rattle.om_world.specs.Live.{Legal, LegalAfter, MayFollow, cut_list, program_at, receipt_of, received}
+use Rattle.om_world.specs.Failures.{gathered}
+use Rattle.om_world.specs.Live.{LegalAfter, cut_list, program_at, receipt_of, received}
 use Rattle.om_world.specs.World.{Past, WorldState, history, output_entry, past_of, recovered}
-use Rattle.om_world.specs.Holds.{HasRecord}
-use Rattle.om_world.specs.steps.Sound.{HasShape, IsFrame, IsOld, IsRunning, IsStored, IsUpIn, KeptWithin, LogOf, NothingAbove, Runs, Said, Sound}
+use Rattle.om_world.specs.steps.Sound.{HasShape, IsFrame, IsOld, IsRunning, IsStored, KeptWithin, LogOf, NothingAbove, Runs, Sound}
 use Rattle.om_world.proofs.Finish.{closed_legal}
 use Rattle.om_world.proofs.FramesCut.{frames_cut}
 use Rattle.om_world.proofs.Legal.{append_apart, append_none, at_cut, cut, cut_first, received_more, take_take}
-use Rattle.om_world.proofs.Lists.{either, inside, none_in, once, there}
+use Rattle.om_world.proofs.Lists.{inside, none_in, once, there}
 use Rattle.om_world.proofs.Ordered.{depends_at, length-depends, take_long}
 use Rattle.om_world.proofs.Raising.{beyond, less, recovery_row, recovery_within}
 use Rattle.om_world.proofs.Telling.{released_all}
@@ -239,7 +233,7 @@ state_closed w p q h s other = elim (less p n) [
         let below = h.manager.greatest.recoverable.closed row.0 row.1 (row.3 ∙ ap (recovered w.manager) (sym row.2)) in
         let long : q < length row.0.vec = subst (λ k. q < k) (sym (ap length vec ∙ length-depends n p (take (recovered w.manager p) (history (past_of w) p)))) few in
         let at : slice_index row.0.vec q ≡ greatest_from q (take (recovered w.manager p) (history (past_of w) p)) =
-            ap (λ v. get_or v q 0) vec ∙ depends_at n p q (take (recovered w.manager p) (history (past_of w) p)) few ∙ apart (nat_eq q p) refl in
+        ap (λ v. get_or v q 0) vec ∙ depends_at n p q (take (recovered w.manager p) (history (past_of w) p)) few ∙ apart (nat_eq q p) refl in
         let le = below.each q long in
         omega arith
   ]
@@ -371,7 +365,7 @@ goes_finished w presences m d =
     record {
       counts = λ p q.
           let same : take (recovered m q) (received q (cut_list R w.live)) ≡ take (R q) (history (past_of w) q) =
-              ap (λ state. take (slice_index state q) (received q (cut_list R w.live))) f.recovery ∙ ap (take (R q)) (cut_first R w.live q) ∙ take_take (R q) (R q) (history (past_of w) q) (omega arith) in
+          ap (λ state. take (slice_index state q) (received q (cut_list R w.live))) f.recovery ∙ ap (take (R q)) (cut_first R w.live q) ∙ take_take (R q) (R q) (history (past_of w) q) (omega arith) in
           subst (λ l. count_from p (take (R q) (history (past_of w) q)) ≤ count_from p l) (sym same) (omega arith);
       released = released_all w.manager m d.shape.manager (finishes_keeps presences w.manager m f);
       old = λ p kind x o. record {

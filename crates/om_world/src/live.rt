@@ -99,11 +99,7 @@ fn are_within(counts: &[usize; MAX_PROCESSES], state: &DepVec) -> bool
 }
 
 // How many entries stand before the first that the state cuts, or fewer; and how many of each process are among those.
-fn first_beyond(
-    entries: &[Entry],
-    counts: &mut [usize; MAX_PROCESSES],
-    state: &DepVec,
-) -> usize
+fn first_beyond(entries: &[Entry], counts: &mut [usize; MAX_PROCESSES], state: &DepVec) -> usize
     requires counted { AreCounted entries.now counts.old }
     ensures within { result ≤ length entries.now }
     ensures counted { AreCounted (take result entries.now) counts.new }

@@ -1,5 +1,5 @@
 -- What the calls of failures and joins do.
-use Rattle.std.specs.Prelude.{◌≡◌, ◌≢◌, ℕ, ◌<◌, ◌≤◌, List, [], length, slice_get, slice_set, true, false, None, Some, Option, Result, Ok, Err, IfOk, IfErr, OnErr}
+use Rattle.std.specs.Prelude.{◌≡◌, ◌≢◌, ℕ, List, slice_get, slice_set, true, None, Some, Option, Result, IfOk, IfErr, OnErr}
 use Rattle.om_process.specs.Core.{CoreState}
 use Rattle.om_manager.specs.Gatherings.{AreAllIn}
 use Rattle.om_manager.specs.Rounds.{Gathers, IsSpent, with_failed, with_joined}

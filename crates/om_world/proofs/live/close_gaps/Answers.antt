@@ -1,7 +1,7 @@
-use Rattle.std.proofs.Common.{◌≡◌, ◌+◌, ◌<◌, ◌≤◌, ◌++◌, ◌∷◌, [], length, set, get_or, sym, subst, ap, ◌∙◌, arith}
+use Rattle.std.proofs.Common.{◌+◌, ◌<◌, ◌≤◌, length, set, get_or, subst, ap, ◌∙◌, arith}
 use Rattle.std.specs.Prelude.{slice_index}
 use Rattle.std.specs.List.{swap}
-use Rattle.om_world.proofs.Counting.{closed_first, closed_as, closed_kept, closed_cut, closed_all}
+use Rattle.om_world.proofs.Counting.{closed_first, closed_as, closed_kept, closed_cut}
 use Rattle.om_world.proofs.live.close_gaps.Goals as goal
 use Rattle.om_world.proofs.live.close_gaps.Goals.{then-counts-to, else-counts-to}
 

@@ -1,6 +1,4 @@
-use Rattle.std.proofs.Common.{◌≡◌, ◌≤◌, ℕ, length, take, drop}
 use Rattle.std.specs.Prelude.{slice_index}
-use Rattle.om_world.specs.Live.{cut_list}
 use Rattle.om_world.specs.steps.Counts.{IsClosed}
 use Rattle.om_world.proofs.live.close_gaps.Given as goal
 

@@ -1,5 +1,4 @@
-use Rattle.std.proofs.Common.{◌≡◌, ◌-◌, ◌+◌, ◌++◌, ◌∷◌, ℕ, List, [], take, get_or, sym, subst, ap, ◌∙◌, arith}
-use Rattle.std.proofs.lemmas.List.{take_more}
+use Rattle.std.proofs.Common.{sym, subst, ap, ◌∙◌}
 use Rattle.om_world.specs.declared.entry.Entry.{Entry}
 use Rattle.om_world.specs.steps.Counts.{AreCounted}
 use Rattle.om_world.proofs.Counting.{some_counted, counted_less, take_less}

@@ -1,10 +1,8 @@
-use Rattle.std.proofs.Common.{◌≡◌, Some, false, true, Ok, Err, Result, map, rules, refl, sym, ap, ◌∙◌, subst}
-use Rattle.std.specs.Prelude.{slice_get, slice_index}
-use Rattle.om_manager.specs.declared.answers.FailError.{FailError}
-use Rattle.om_manager.specs.declared.answers.Gathered.{Gathered}
+use Rattle.std.proofs.Common.{◌≡◌, Some, false, true, Ok, Err, map, rules, sym, subst}
+use Rattle.std.specs.Prelude.{slice_get}
 use Rattle.om_world.specs.declared.place.Place.{Place}
 use Rattle.om_world.specs.World.{WorldState, program_of}
-use Rattle.om_world.specs.steps.Gathering.{HasDeclared, HasGathered}
+use Rattle.om_world.specs.steps.Gathering.{HasDeclared}
 use Rattle.om_world.proofs.Declaring.{after_declare, has_declared, not_declared, placed_with, round_at}
 use Rattle.om_world.proofs.world.World.declare.Goals as goal
 

@@ -1,10 +1,8 @@
-use Rattle.std.proofs.Common.{◌≡◌, Some, Ok, Err, Result, map, rules, refl, sym, ap, ◌∙◌, subst}
-use Rattle.om_manager.specs.declared.answers.JoinError.{JoinError}
-use Rattle.om_manager.specs.declared.answers.Gathered.{Gathered}
+use Rattle.std.proofs.Common.{◌≡◌, Ok, Err, map, rules, sym, subst}
 use Rattle.om_world.specs.Changes.{IsUp}
 use Rattle.om_world.specs.declared.place.Place.{Place}
 use Rattle.om_world.specs.World.{WorldState, program_of}
-use Rattle.om_world.specs.steps.Gathering.{HasEntered, HasGathered}
+use Rattle.om_world.specs.steps.Gathering.{HasEntered}
 use Rattle.om_world.proofs.Declaring.{after_join, has_entered, is_few, not_entered, placed_with}
 use Rattle.om_world.proofs.world.World.enter.Goals as goal
 

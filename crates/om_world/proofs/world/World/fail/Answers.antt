@@ -1,8 +1,8 @@
-use Rattle.std.proofs.Common.{◌≡◌, Err, false, map, rules, refl, sym, ap, ◌∙◌, subst}
+use Rattle.std.proofs.Common.{◌≡◌, Err, false, rules, sym, subst}
 use Rattle.om_world.specs.declared.event.Event.{Event}
 use Rattle.om_world.specs.Failures.{IsToDeclare, taken_down}
 use Rattle.om_world.specs.Happened.{Happened}
-use Rattle.om_world.specs.World.{IsKnown, WorldState}
+use Rattle.om_world.specs.World.{WorldState}
 use Rattle.om_world.specs.steps.Moves.{answered, refusal_of_failure}
 use Rattle.om_world.proofs.Declared.{fail_happened, fail_keeps, fail_refused}
 use Rattle.om_world.proofs.world.World.fail.Goals as goal
