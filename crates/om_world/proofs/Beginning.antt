@@ -1,7 +1,7 @@
 -- What holds of a world at its start.
 use Rattle.std.proofs.Common.{◌≡◌, inl, ℕ, zero, suc, ◌+◌, ◌≤◌, ◌<◌, List, [], ◌∷◌, ◌++◌, length, map, replicate, Option, Some, None, Bool, true, false, refl, sym, ap, ◌∙◌, subst, arith}
 use Rattle.std.proofs.lemmas.List.{length-replicate}
-use Rattle.std.specs.Prelude.{◌&&◌, All, IsTrue, slice_get, slice_index_or}
+use Rattle.std.specs.Prelude.{◌&&◌, All, IsTrue, slice_get, slice_index, slice_index_or}
 use Rattle.std.specs.FinMap.{get, get-empty, empty}
 use Rattle.std.specs.List.{AllByRecursion}
 use Rattle.om_interval.specs.declared.pid.TheConstants.{MAX_PROCESSES}
@@ -25,7 +25,7 @@ use Rattle.om_manager.specs.Gatherings.{presence_of, presences_of}
 use Rattle.om_manager.specs.Sound.{IsManager}
 use Rattle.om_manager.specs.State.{ManagerState}
 use Rattle.om_manager.specs.declared.presence.Presence.{Presence}
-use Rattle.om_manager.specs.declared.presence.Presence.TheVariants.{Away, Joined}
+use Rattle.om_manager.specs.declared.presence.Presence.TheVariants.{Away, Failed, Joined}
 use Rattle.om_world.specs.declared.entry.Entry.{Entry}
 use Rattle.om_world.specs.declared.place.Place.{Place}
 use Rattle.om_world.specs.Live.{program_at}
@@ -202,6 +202,12 @@ held_at content is_clean IsSound programs cores xs ys m p held b known at =
     let none : content before.0 ≡ nothing = all_at IsEmpty (map content xs) p (content before.0) known.0 (map_at content xs p before.0 before.1) in
     (program.0, program.1, subst (HasGainedCheckpoint (started_core program.0 p (length programs)) nothing) is (subst (λ a. HasGainedCheckpoint (started_core program.0 p (length programs)) a (content o.0)) none o.3))
 
+none_joined : (n p : ℕ) → slice_get (replicate n Place.Up) p ≡ Some Place.In → ⊥
+none_joined n p at = apart (same_at n p Place.Up Place.In at)
+  where
+    apart : Place.In ≡ Place.Up → ⊥
+    apart e = cc
+
 shape_begun : {S : Type 0} (content : S → Content) (is_clean : S → Bool) (IsSound : S → Type 0) (programs : List Program) (cores : List (Option CoreState)) (xs ys : List S) (m : ManagerState) → IsBegun content is_clean IsSound programs cores xs ys m → HasShape (begun content is_clean programs cores xs ys m)
 shape_begun content is_clean IsSound programs cores xs ys m b = record {
   few = b.few;
@@ -216,6 +222,8 @@ shape_begun content is_clean IsSound programs cores xs ys m b = record {
       let long : length (replicate (length programs) Place.Up) ≡ length programs = length-replicate (length programs) Place.Up in
       let program = there programs p (omega arith) in
       (started_core program.0 p (length programs), b.started.cores p program.0 (omega arith) program.1);
+  rounds = length-replicate (length programs) 0;
+  inside = λ p at. absurd (none_joined (length programs) p at);
   manager = b.manager;
   size = ap length b.fresh.recovery ∙ length-replicate (length programs) 0;
 }
@@ -225,6 +233,9 @@ nobody_in m p is = ap (λ g. presence_of (presences_of g) p) is ∙ index_same M
 
 not_joined : (a : Presence) (x : ℕ) → a ≡ Away → a ≡ Joined x → ⊥
 not_joined a x e f = cc
+
+not_failed : (a : Presence) → a ≡ Away → a ≡ Failed → ⊥
+not_failed a e f = cc
 
 -- what holds of a row of a new manager
 first_claim : (programs : List Program) (m : ManagerState) (row : Row) → IsNew (length programs) m → HasRow m.rows row → AtInterval (history (at_start programs m) row.pid) row.interval (RowOf row.pid (length programs) row.vec row.got)
@@ -276,7 +287,20 @@ sound_begun content is_clean IsSound programs cores xs ys m b known = record {
       subst (IsRunning (at_start programs m) p held) o.3 (gained_running programs m p held o.0 o.1 (subst (λ x. HasGainedCheckpoint (started_core x p (length programs)) nothing held) is h.2));
   up = λ p c at place. let o = core_at content is_clean IsSound programs cores xs ys m p c b at in subst (IsUpIn m p) o.3 (up_begun (length programs) m p o.0 b.fresh);
   joined = λ p x at. absurd (not_joined (presence_of (presences_of m.gathering) p) x (nobody_in m p b.fresh.gathering) at);
+  failed = λ p at. absurd (not_failed (presence_of (presences_of m.gathering) p) (nobody_in m p b.fresh.gathering) at);
+  gathered = λ p not. absurd (not (nobody_in m p b.fresh.gathering));
+  current = λ p place. index_same (length programs) p 0 ∙ sym b.fresh.round;
+  known = λ p. no_more (slice_index (replicate (length programs) 0) p) m.round (index_same (length programs) p 0);
+  behind = λ p lt news. absurd (no_news p news);
+  inside = λ p c at place. absurd (none_joined (length programs) p place);
+  beyond = λ p c at place. absurd (none_joined (length programs) p place);
 }
+  where
+    no_more : (a b : ℕ) → a ≡ 0 → a ≤ b
+    no_more a b e = omega arith
+
+    no_news : (p : ℕ) → slice_index (replicate (length programs) 0) p < m.round → ⊥
+    no_news p news = let first = b.fresh.round in omega arith
 
 stores_sound : {S : Type 0} (content : S → Content) (is_clean : S → Bool) (IsSound : S → Type 0) (programs : List Program) (cores : List (Option CoreState)) (xs ys : List S) (m : ManagerState) → IsBegun content is_clean IsSound programs cores xs ys m → all_clean (map is_clean ys) ≡ true → AllByRecursion IsSound ys
 stores_sound content is_clean IsSound programs cores xs ys m b all = sound_from IsSound ys (λ p s at.

@@ -1,8 +1,9 @@
 -- What a store gains, and what stays true.
 use Rattle.std.proofs.Common.{◌≡◌, ◌≢◌, ◌⊎◌, inl, inr, ℕ, zero, suc, ◌+◌, ◌-◌, ◌≤◌, ◌<◌, List, [], ◌∷◌, ◌++◌, length, take, map, set, Some, Bool, true, false, refl, sym, ap, ◌∙◌, subst, arith, length-append}
-use Rattle.std.specs.Prelude.{slice_get}
+use Rattle.std.specs.Prelude.{slice_get, slice_index}
 use Rattle.std.specs.FinMap.{get, insert}
 use Rattle.std.proofs.lemmas.List.{take_all}
+use Rattle.om_interval.specs.Starts.{is_named, newest_of}
 use Rattle.om_format.specs.Checkpoints.{CheckpointRecord, IsSpelled}
 use Rattle.om_format.specs.Receipts.{SpellsReceipt}
 use Rattle.om_format.specs.declared.version.Version.TheVariants.{V2}
@@ -19,6 +20,7 @@ use Rattle.om_recover.specs.declared.row.RowKind.{RowKind}
 use Rattle.om_recover.specs.declared.row.RowKind.TheVariants.{Checkpoint, Log}
 use Rattle.om_world.specs.declared.place.Place.{Place}
 use Rattle.om_world.specs.Changes.{HasGained, stored}
+use Rattle.om_world.specs.Failures.{HasNews}
 use Rattle.om_world.specs.Holds.{HasRecord}
 use Rattle.om_world.specs.Live.{program_at}
 use Rattle.om_world.specs.World.{WorldState, Past, past_of, history}
@@ -256,6 +258,14 @@ store_up : (kind : RowKind) (w : WorldState) (p : ℕ) (c : CoreState) → IsUpI
 store_up Log w p c u = record { round = u.round; starts = u.starts; inc = u.inc; away = u.away }
 store_up Checkpoint w p c u = record { round = u.round; starts = u.starts; inc = u.inc; away = u.away }
 
+store_inc : (kind : RowKind) (c : CoreState) → (stored kind c).inc ≡ c.inc
+store_inc Log c = refl
+store_inc Checkpoint c = refl
+
+store_interval : (kind : RowKind) (c : CoreState) → (stored kind c).now.interval ≡ c.now.interval
+store_interval Log c = refl
+store_interval Checkpoint c = refl
+
 pub sound_store : (kind : RowKind) (w : WorldState) (p : ℕ) (a b : Content) (c : CoreState) (clean : List Bool) → HasShape w → Sound w → slice_get w.cores p ≡ Some (Some c) → slice_get w.contents p ≡ Some a → Runs w p → HasGained kind c a b
     → Sound (remade w w.live w.frames (set w.cores p (Some (stored kind c))) w.manager (set w.contents p b) clean)
 sound_store kind w p a b c clean h s at holds runs g =
@@ -291,8 +301,24 @@ sound_store kind w p a b c clean h s at holds runs g =
         | inr other ↦ s.up q d other.1 stands
       ];
       joined = s.joined;
+      failed = s.failed;
+      gathered = s.gathered;
+      current = s.current;
+      known = s.known;
+      behind = s.behind;
+      inside = λ q d f place on. elim (at_change w.cores p q (Some d) (Some (stored kind c)) f) [
+        | inl same ↦ subst (λ o. d.inc ≡ newest_of w.manager.starts o) (sym same.0)
+            (ap (λ (x : CoreState). x.inc) (once d (stored kind c) same.1) ∙ store_inc kind c ∙ s.inside p c at (subst (λ o. slice_get w.places o ≡ Some Place.In) same.0 place) (subst (Runs w) same.0 on))
+        | inr other ↦ s.inside q d other.1 place on
+      ];
+      beyond = λ q d f place news back. elim (at_change w.cores p q (Some d) (Some (stored kind c)) f) [
+        | inl same ↦ subst (λ o. slice_index w.manager.last o < d.now.interval) (sym same.0)
+            (subst (λ x. slice_index w.manager.last p < x) (sym (ap (λ (x : CoreState). x.now.interval) (once d (stored kind c) same.1) ∙ store_interval kind c))
+            (s.beyond p c at (subst (λ o. slice_get w.places o ≡ Some Place.In) same.0 place) (subst (HasNews w) same.0 news) (subst (λ o. is_named w.manager.backs o ≡ true) same.0 back)))
+        | inr other ↦ s.beyond q d other.1 place news back
+      ];
     }
 
 -- what is known of the stores' cleanliness is in no claim
 pub sound_clean : (w : WorldState) (contents : List Content) (old new : List Bool) → Sound (remade w w.live w.frames w.cores w.manager contents old) → Sound (remade w w.live w.frames w.cores w.manager contents new)
-sound_clean w contents old new s = record { legal = s.legal; frames = s.frames; outputs = s.outputs; rows = s.rows; stored = s.stored; backed = s.backed; running = s.running; up = s.up; joined = s.joined }
+sound_clean w contents old new s = record { legal = s.legal; frames = s.frames; outputs = s.outputs; rows = s.rows; stored = s.stored; backed = s.backed; running = s.running; up = s.up; joined = s.joined; failed = s.failed; gathered = s.gathered; current = s.current; known = s.known; behind = s.behind; inside = s.inside; beyond = s.beyond }

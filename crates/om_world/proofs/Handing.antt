@@ -162,7 +162,7 @@ one_handed w mid round p next e note h s lt at made t = elim (taken w.manager mi
       let size = h.size in let places = h.manager.places in let here : p < length w.manager.outputs = omega arith in
       let long : length (held_by mid p) ≡ length (held_by w.manager p) + 1 = ap (λ (m : ManagerState). length (held_by m p)) new ∙ held_long w.manager p out here in
       let g = goes_on_by w.manager mid h.manager t.below t.released (λ row has. subst (λ (m : ManagerState). HasRow m.rows row) (sym new) has)
-      (ap (λ (m : ManagerState). m.starts) new) (ap (λ (m : ManagerState). m.round) new) (ap (λ (m : ManagerState). m.gathering) new) (ap (λ (m : ManagerState). m.backs) new) in (
+      (ap (λ (m : ManagerState). m.starts) new) (ap (λ (m : ManagerState). m.round) new) (ap (λ (m : ManagerState). m.gathering) new) (ap (λ (m : ManagerState). m.backs) new) (ap (λ (m : ManagerState). m.last) new) in (
         shape_same w w.live w.frames mid w.contents w.clean h refl t.sound (sym t.below.same_places),
         sound_manager w mid s g
             (λ q i o f. elim (held_last w.manager p q i out o here (subst (λ (m : ManagerState). slice_get (held_by m q) i ≡ Some o) new f)) [

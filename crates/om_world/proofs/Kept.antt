@@ -4,7 +4,7 @@ use Rattle.std.specs.Prelude.{nat_eq, slice_get, slice_index}
 use Rattle.std.specs.FinMap.{get}
 use Rattle.std.proofs.lemmas.Bool.Decides.{nat_tests}
 use Rattle.std.proofs.lemmas.List.{take-append-le}
-use Rattle.om_interval.specs.Starts.{IsOrphan}
+use Rattle.om_interval.specs.Starts.{IsOrphan, is_named, newest_of}
 use Rattle.om_format.specs.declared.message.Message.{Message}
 use Rattle.om_format.specs.Queues.{QueueRecord}
 use Rattle.om_stable.specs.Content.{Content}
@@ -30,11 +30,12 @@ use Rattle.om_manager.specs.declared.presence.Presence.{Presence}
 use Rattle.om_manager.specs.declared.presence.Presence.TheVariants.{Away, Joined}
 use Rattle.om_world.specs.declared.entry.Entry.{Entry}
 use Rattle.om_world.specs.declared.place.Place.{Place}
+use Rattle.om_world.specs.Failures.{HasNews}
 use Rattle.om_world.specs.Live.{program_at, receipt_of, received, MayFollow}
 use Rattle.om_world.specs.World.{WorldState, Past, past_of, history, recovered, entry_of, output_entry}
 use Rattle.om_world.specs.steps.Sound.{Sound, HasShape, Said, IsFrame, KeptWithin, IsStored, NothingAbove, LogAlong, LogOf, receipts_in, IsCoreOf, IsRunning, IsUpIn, Runs}
 use Rattle.om_world.proofs.Legal.{at_more, one_more, received-append}
-use Rattle.om_world.proofs.Lists.{none_in, once, at_change, there, inside, either, none_some}
+use Rattle.om_world.proofs.Lists.{none_in, once, at_change, set_apart, there, inside, either, none_some}
 
 -- a world with these parts changed
 abbrev pub remade : WorldState → List Entry → List Message → List (Option CoreState) → ManagerState → List Content → List Bool → WorldState
@@ -43,7 +44,7 @@ remade w live frames cores manager contents clean = record { programs = w.progra
 -- ---- the shape
 pub shape_same : (w : WorldState) (live : List Entry) (frames : List Message) (m : ManagerState) (contents : List Content) (clean : List Bool) → HasShape w → length contents ≡ length w.contents → IsManager m → managers.size_of m ≡ managers.size_of w.manager
     → HasShape (remade w live frames w.cores m contents clean)
-shape_same w live frames m contents clean s long is size = record { few = s.few; stores = long ∙ s.stores; cores = s.cores; places = s.places; own = s.own; there = s.there; manager = is; size = size ∙ s.size }
+shape_same w live frames m contents clean s long is size = record { few = s.few; stores = long ∙ s.stores; cores = s.cores; places = s.places; own = s.own; rounds = s.rounds; there = s.there; inside = s.inside; manager = is; size = size ∙ s.size }
 
 pub shape_core : (w : WorldState) (p : ℕ) (c d : CoreState) (live : List Entry) (frames : List Message) (m : ManagerState) (contents : List Content) (clean : List Bool) → HasShape w → slice_get w.cores p ≡ Some (Some c) → d.own ≡ c.own → size_of d.now ≡ size_of c.now
     → length contents ≡ length w.contents → IsManager m → managers.size_of m ≡ managers.size_of w.manager → HasShape (remade w live frames (set w.cores p (Some d)) m contents clean)
@@ -56,10 +57,9 @@ shape_core w p c d live frames m contents clean s at own size long is many = rec
     | inl same ↦ let o = s.own p c at in subst (λ i. IsCoreOf (length w.programs) i e) (sym same.0) (subst (IsCoreOf (length w.programs) p) (sym (once e d same.1)) (record { own = own ∙ o.own; size = size ∙ o.size }))
     | inr other ↦ s.own q e other.1
   ];
-  there = λ q up. elim (either q p) [
-    | inl same ↦ (d, subst (λ i. slice_get (set w.cores p (Some d)) i ≡ Some (Some d)) (sym same) (here w.cores p (inside w.cores p (Some c) at)))
-    | inr other ↦ let t = s.there q up in (t.0, apart w.cores p q (Some d) other ∙ t.1)
-  ];
+  rounds = s.rounds;
+  there = λ q up. still q (s.there q up);
+  inside = λ q joined. still q (s.inside q joined);
   manager = is;
   size = many ∙ s.size;
 }
@@ -69,18 +69,17 @@ shape_core w p c d live frames m contents clean s at own size long is many = rec
     here (x ∷ cs) zero lt = refl
     here (x ∷ cs) (suc p) lt = here cs p (omega arith)
 
-    apart : (cs : List (Option CoreState)) (p q : ℕ) (x : Option CoreState) → q ≢ p → slice_get (set cs p x) q ≡ slice_get cs q
-    apart [] p q x ne = refl
-    apart (y ∷ cs) zero zero x ne = absurd (ne refl)
-    apart (y ∷ cs) zero (suc q) x ne = refl
-    apart (y ∷ cs) (suc p) zero x ne = refl
-    apart (y ∷ cs) (suc p) (suc q) x ne = apart cs p q x (omega arith)
+    still : (q : ℕ) → (e : CoreState) × (slice_get w.cores q ≡ Some (Some e)) → (e : CoreState) × (slice_get (set w.cores p (Some d)) q ≡ Some (Some e))
+    still q t = elim (either q p) [
+      | inl same ↦ (d, subst (λ i. slice_get (set w.cores p (Some d)) i ≡ Some (Some d)) (sym same) (here w.cores p (inside w.cores p (Some c) at)))
+      | inr other ↦ (t.0, set_apart w.cores p q (Some d) other ∙ t.1)
+    ]
 
 -- ---- one core changes
 pub sound_core : (w : WorldState) (p : ℕ) (c d : CoreState) → Sound w → slice_get w.cores p ≡ Some (Some c)
     → ((held : Content) → IsRunning (past_of w) p held c → IsRunning (past_of w) p held d) → (IsUpIn w.manager p c → IsUpIn w.manager p d)
-    → Sound (remade w w.live w.frames (set w.cores p (Some d)) w.manager w.contents w.clean)
-sound_core w p c d s at run know = record {
+    → d.inc ≡ c.inc → d.now.interval ≡ c.now.interval → Sound (remade w w.live w.frames (set w.cores p (Some d)) w.manager w.contents w.clean)
+sound_core w p c d s at run know inc interval = record {
   legal = s.legal;
   frames = s.frames;
   outputs = s.outputs;
@@ -98,6 +97,22 @@ sound_core w p c d s at run know = record {
     | inr is ↦ s.up q e is.1 place
   ];
   joined = s.joined;
+  failed = s.failed;
+  gathered = s.gathered;
+  current = s.current;
+  known = s.known;
+  behind = s.behind;
+  inside = λ q e f place runs. elim (at_change w.cores p q (Some e) (Some d) f) [
+    | inl is ↦ subst (λ o. e.inc ≡ newest_of w.manager.starts o) (sym is.0)
+        (ap (λ (x : CoreState). x.inc) (once e d is.1) ∙ inc ∙ s.inside p c at (subst (λ o. slice_get w.places o ≡ Some Place.In) is.0 place) (subst (Runs w) is.0 runs))
+    | inr is ↦ s.inside q e is.1 place runs
+  ];
+  beyond = λ q e f place news back. elim (at_change w.cores p q (Some e) (Some d) f) [
+    | inl is ↦ subst (λ o. slice_index w.manager.last o < e.now.interval) (sym is.0)
+        (subst (λ x. slice_index w.manager.last p < x) (sym (ap (λ (x : CoreState). x.now.interval) (once e d is.1) ∙ interval))
+        (s.beyond p c at (subst (λ o. slice_get w.places o ≡ Some Place.In) is.0 place) (subst (HasNews w) is.0 news) (subst (λ o. is_named w.manager.backs o ≡ true) is.0 back)))
+    | inr is ↦ s.beyond q e is.1 place news back
+  ];
 }
 
 -- ---- turns
@@ -132,7 +147,7 @@ pub sound_turns : (w : WorldState) (p k : ℕ) (c : CoreState) (t : Process) →
 sound_turns w p k c t h s at turns =
     let own = h.own p c at in
     let mine : Turns p (length w.programs) k c.now t = subst (λ o. Turns o (length w.programs) k c.now t) own.own (subst (λ n. Turns c.own n k c.now t) own.size turns) in
-    sound_core w p c (with_now c t) s at (λ held. running_turns (past_of w) p k held c t mine) (λ u. record { round = u.round; starts = u.starts; inc = u.inc; away = u.away })
+    sound_core w p c (with_now c t) s at (λ held. running_turns (past_of w) p k held c t mine) (λ u. record { round = u.round; starts = u.starts; inc = u.inc; away = u.away }) refl (turns_grow p (length w.programs) k c.now t mine).0
 
 -- ---- a receipt more
 abbrev with_entry : Past → Entry → Past
@@ -345,4 +360,23 @@ sound_taken w i m e c h s within frame is place at due =
         | inl same ↦ absurd (presence_apart x (presence_of (presences_of w.manager.gathering) p) u.away (subst (λ o. presence_of (presences_of w.manager.gathering) o ≡ Joined x) same f))
         | inr other ↦ s.joined q x f ∙ ap length (sym (theirs v e q other))
       ];
+      failed = s.failed;
+      gathered = s.gathered;
+      current = s.current;
+      known = s.known;
+      behind = λ q lt news. elim (either q p) [
+        | inl same ↦ absurd (no_news (subst (HasNews w) same news))
+        | inr other ↦ ap length (theirs v e q other) ∙ s.behind q lt news
+      ];
+      inside = λ q d f stands runs. elim (at_change w.cores p q (Some d) (Some (taken c m)) f) [
+        | inl same ↦ subst (λ o. d.inc ≡ newest_of w.manager.starts o) (sym same.0) (ap (λ (k : CoreState). k.inc) (once d (taken c m) same.1) ∙ u.inc)
+        | inr other ↦ s.inside q d other.1 stands runs
+      ];
+      beyond = λ q d f stands news back. elim (at_change w.cores p q (Some d) (Some (taken c m)) f) [
+        | inl same ↦ absurd (no_news (subst (HasNews w) same.0 news))
+        | inr other ↦ s.beyond q d other.1 stands news back
+      ];
     }
+  where
+    no_news : HasNews w e.to → ⊥
+    no_news news = let same = s.current e.to place in omega arith

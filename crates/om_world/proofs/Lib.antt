@@ -14,7 +14,11 @@ pub mod Raising
 pub mod Gaining
 pub mod Recording
 pub mod Resending
+pub mod Resuming
+pub mod Returned
+pub mod Returning
 pub mod Starting
+pub mod TakenDown
 pub mod Telling
 pub mod Trimming
 pub mod Sending
@@ -24,3 +28,8 @@ pub mod Pruning
 pub mod Finish
 pub mod Legal
 pub mod Released
+pub mod Counting
+pub mod Gathering
+pub mod Declaring
+pub mod Declared
+pub mod Entering

@@ -39,6 +39,13 @@ lent_at [] i x lt e = absurd (omega arith)
 lent_at (y ∷ xs) zero x lt e = ap (λ z. Some z) (sym e)
 lent_at (y ∷ xs) (suc i) x lt e = lent_at xs i x (omega arith) e
 
+pub set_apart : {A : Type 0} (xs : List A) (i j : ℕ) (x : A) → j ≢ i → slice_get (set xs i x) j ≡ slice_get xs j
+set_apart [] i j x ne = refl
+set_apart (y ∷ xs) zero zero x ne = absurd (ne refl)
+set_apart (y ∷ xs) zero (suc j) x ne = refl
+set_apart (y ∷ xs) (suc i) zero x ne = refl
+set_apart (y ∷ xs) (suc i) (suc j) x ne = set_apart xs i j x (omega arith)
+
 pub either : (q p : ℕ) → (q ≡ p) ⊎ (q ≢ p)
 either q p = go (nat_eq q p) refl
   where

@@ -136,7 +136,7 @@ after_note IsSound xs w p count end m cs i up n =
           let s = i.clean all in let k = known_after w p count end m c i.shape s.1 up at t in (
             s.0,
             sound_core (with_m w m) p c d k.1 at (λ held r. record { state = r.state; kept = r.kept; log = r.log; pending = λ j row f. r.pending (count + j) row (at_drop c.pending count j row f); above = record { receipts = r.above.receipts; checkpoints = r.above.checkpoints } })
-                (λ u. record { round = u.round; starts = u.starts; inc = u.inc; away = u.away }),
+                (λ u. record { round = u.round; starts = u.starts; inc = u.inc; away = u.away }) refl refl,
           );
     })
 

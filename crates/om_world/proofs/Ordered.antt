@@ -32,7 +32,7 @@ greatest_take q (suc x) (suc y) (r ∷ h) le = go (nat_eq r.from q) refl (greate
     go true e le = rw e (omega arith)
     go false e le = rw e le
 
-take_long : (x : ℕ) (h : List Received) → x ≤ length h → length (take x h) ≡ x
+pub take_long : (x : ℕ) (h : List Received) → x ≤ length h → length (take x h) ≡ x
 take_long zero h le = refl
 take_long (suc x) [] le = absurd (omega arith)
 take_long (suc x) (r ∷ h) le = ap suc (take_long x h (omega arith))
@@ -41,10 +41,10 @@ length-places : (n : ℕ) (f : ℕ → ℕ) → length (places n f) ≡ n
 length-places zero f = refl
 length-places (suc n) f = ap suc (length-places n (λ i. f (suc i)))
 
-length-depends : (n own : ℕ) (h : List Received) → length (Depends n own h) ≡ n
+pub length-depends : (n own : ℕ) (h : List Received) → length (Depends n own h) ≡ n
 length-depends n own h = length-set (places n (λ j. greatest_from j h)) own (length h) ∙ length-places n (λ j. greatest_from j h)
 
-depends_at : (n own j : ℕ) (h : List Received) → j < n → get_or (Depends n own h) j 0 ≡ (if nat_eq j own then length h else greatest_from j h)
+pub depends_at : (n own j : ℕ) (h : List Received) → j < n → get_or (Depends n own h) j 0 ≡ (if nat_eq j own then length h else greatest_from j h)
 depends_at n own j h lt = ap (λ v. get_or v j 0) (places_set n own (length h) (λ i. greatest_from i h)) ∙ places_at n j (λ i. if nat_eq i own then length h else greatest_from i h) lt
 
 depends_own : (n own : ℕ) (h : List Received) → own < n → get_or (Depends n own h) own 0 ≡ length h

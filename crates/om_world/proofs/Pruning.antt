@@ -1,5 +1,5 @@
 -- What a prune keeps.
-use Rattle.std.proofs.Common.{◌≡◌, ◌≢◌, ◌⊎◌, inl, inr, ℕ, zero, suc, ◌+◌, ◌≤◌, ◌<◌, List, [], ◌∷◌, length, map, set, cond, Some, None, Bool, true, false, Result, Ok, Err, refl, sym, ap, ◌∙◌, subst, arith, length-set}
+use Rattle.std.proofs.Common.{◌≡◌, ◌≢◌, ◌⊎◌, inl, inr, ℕ, ◌+◌, ◌≤◌, ◌<◌, List, length, map, set, cond, Some, None, Bool, true, false, Result, Ok, Err, refl, sym, ap, ◌∙◌, subst, arith, length-set}
 use Rattle.std.specs.Prelude.{All, nat_le, nat_lt, slice_get, slice_index}
 use Rattle.std.specs.FinMap.{get}
 use Rattle.std.proofs.lemmas.Bool.Decides.{nat_tests}
@@ -28,7 +28,7 @@ use Rattle.om_world.specs.steps.Sound.{IsBefore, IsOld, IsRunning, IsStored, IsW
 use Rattle.om_world.proofs.Gaining.{sound_clean}
 use Rattle.om_world.proofs.Keeping.{keeps_same}
 use Rattle.om_world.proofs.Kept.{remade, shape_same}
-use Rattle.om_world.proofs.Lists.{at_change, clean_before, either, inside, length-map, map_at, map_set, once, sound_at, sound_set}
+use Rattle.om_world.proofs.Lists.{at_change, clean_before, either, inside, length-map, map_at, map_set, once, set_apart, sound_at, sound_set}
 use Rattle.om_world.proofs.Noting.{over}
 use Rattle.om_world.proofs.Raising.{GoesOn, less, sound_manager}
 use Rattle.om_world.proofs.Recording.{set_back, set_there}
@@ -60,6 +60,7 @@ goes_on old new is m = record {
   round = ap (λ (k : ManagerState). k.round) m.others;
   gathering = ap (λ (k : ManagerState). k.gathering) m.others;
   backs = ap (λ (k : ManagerState). k.backs) m.others;
+  last = ap (λ (k : ManagerState). k.last) m.others;
   rises = λ q. same_le (recovered old q) (recovered new q) (sym (ap (λ (k : ManagerState). recovered k q) m.others));
   released = λ p. same_le (length (released_by old p)) (length (released_by new p)) (ap length (sym (same_released old new p m)));
   old = λ p kind x o. old_pruned old new p kind x is m o;
@@ -165,6 +166,13 @@ sound_pruned w p c a b clean s at e is =
       ];
       up = s.up;
       joined = s.joined;
+      failed = s.failed;
+      gathered = s.gathered;
+      current = s.current;
+      known = s.known;
+      behind = s.behind;
+      inside = s.inside;
+      beyond = s.beyond;
     }
 
 -- the store at this place is pruned to its effective checkpoint, or refuses
@@ -215,13 +223,6 @@ has_pruned content clean IsSound w p c answer xs ys i n never = record {
 }
 
 -- ---- the stores in order
-set_apart : {A : Type 0} (xs : List A) (i j : ℕ) (x : A) → j ≢ i → slice_get (set xs i x) j ≡ slice_get xs j
-set_apart [] i j x other = refl
-set_apart (y ∷ xs) zero zero x other = absurd (other refl)
-set_apart (y ∷ xs) zero (suc j) x other = refl
-set_apart (y ∷ xs) (suc i) zero x other = refl
-set_apart (y ∷ xs) (suc i) (suc j) x other = set_apart xs i j x (omega arith)
-
 pub none_pruned : (w : WorldState) → ArePruned w 0 w
 none_pruned w = record {
   others = refl;

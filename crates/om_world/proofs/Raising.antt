@@ -18,8 +18,9 @@ use Rattle.om_manager.specs.Outputs.{HeldOutput}
 use Rattle.om_manager.specs.State.{ManagerState, held_by, released_by}
 use Rattle.om_world.specs.Live.{program_at}
 use Rattle.om_world.specs.World.{WorldState, Past, past_of, history, recovered, output_entry}
+use Rattle.om_world.specs.Failures.{HasNews}
 use Rattle.om_world.specs.Holds.{HasRecord}
-use Rattle.om_world.specs.steps.Sound.{Sound, HasShape, KeptWithin, IsStored, IsRunning, IsOld}
+use Rattle.om_world.specs.steps.Sound.{Sound, HasShape, KeptWithin, IsStored, IsRunning, IsOld, Runs}
 use Rattle.om_world.proofs.Kept.{remade}
 
 pub beyond : (xs : List ℕ) (i : ℕ) → length xs ≤ i → get_or xs i 0 ≡ 0
@@ -57,6 +58,7 @@ pub record GoesOn (m new : ManagerState) : Type 0 where
   pub round : new.round ≡ m.round
   pub gathering : new.gathering ≡ m.gathering
   pub backs : new.backs ≡ m.backs
+  pub last : new.last ≡ m.last
   pub rises : (q : ℕ) → recovered m q ≤ recovered new q
   pub released : (p : ℕ) → length (released_by m p) ≤ length (released_by new p)
   pub old : (p : ℕ) (kind : RowKind) (x : ℕ) → IsOld m p kind x → IsOld new p kind x
@@ -111,7 +113,23 @@ sound_manager w m s g outputs rows = record {
   rows = λ row at. elim (rows row at) [ inl old ↦ s.rows row old | inr new ↦ new.0 ];
   stored = λ p held at. stored_raised (past_of w) m p held g (s.stored p held at);
   backed = λ row held at holds. elim (elim (rows row at) as (λ _. HasRecord held row.kind row.interval ⊎ IsOld w.manager row.pid row.kind row.interval) [ inl old ↦ s.backed row held old holds | inr new ↦ new.1 held holds ]) [ inl has ↦ inl has | inr is ↦ inr (g.old row.pid row.kind row.interval is) ];
-  running = λ p c held at holds runs. running_raised (past_of w) m p held c g (s.running p c held at holds (elim runs [ inl up ↦ inl up | inr inside ↦ inr (inside.0, λ lt. subst (λ backs. is_named backs p ≡ false) g.backs (inside.1 (subst (λ r. slice_index w.rounds p < r) (sym g.round) lt))) ]));
+  running = λ p c held at holds runs. running_raised (past_of w) m p held c g (s.running p c held at holds (ran p runs));
   up = λ p c at place. let u = s.up p c at place in record { round = u.round ∙ sym g.round; starts = u.starts ∙ sym g.starts; inc = u.inc ∙ ap (λ starts. newest_of starts p) (sym g.starts); away = ap (λ o. presence_of (presences_of o) p) g.gathering ∙ u.away };
   joined = λ p x at. s.joined p x (ap (λ o. presence_of (presences_of o) p) (sym g.gathering) ∙ at);
+  failed = λ p at. s.failed p (ap (λ o. presence_of (presences_of o) p) (sym g.gathering) ∙ at);
+  gathered = λ p not. s.gathered p (λ away. not (ap (λ o. presence_of (presences_of o) p) g.gathering ∙ away)) ∙ sym g.round;
+  current = λ p place. s.current p place ∙ sym g.round;
+  known = λ p. subst (λ r. slice_index w.rounds p ≤ r) (sym g.round) (s.known p);
+  behind = λ p lt news. s.behind p lt (had_news p news) ∙ ap (λ l. slice_index l p) (sym g.last);
+  inside = λ p c at place runs. s.inside p c at place (ran p runs) ∙ ap (λ starts. newest_of starts p) (sym g.starts);
+  beyond = λ p c at place news back. subst (λ l. slice_index l p < c.now.interval) (sym g.last) (s.beyond p c at place (had_news p news) (subst (λ backs. is_named backs p ≡ true) g.backs back));
 }
+  where
+    had_news : (p : ℕ) → slice_index w.rounds p < m.round → HasNews w p
+    had_news p news = subst (λ r. slice_index w.rounds p < r) g.round news
+
+    ran : (p : ℕ) → Runs (remade w w.live w.frames w.cores m w.contents w.clean) p → Runs w p
+    ran p runs = elim runs [
+      | inl up ↦ inl up
+      | inr joined ↦ inr (joined.0, λ news. subst (λ backs. is_named backs p ≡ false) g.backs (joined.1 (subst (λ r. slice_index w.rounds p < r) (sym g.round) news)))
+    ]

@@ -27,7 +27,7 @@ set_back [] p x at = refl
 set_back (y ∷ xs) zero x at = ap (λ z. z ∷ xs) (sym (once y x at))
 set_back (y ∷ xs) (suc p) x at = ap (λ l. y ∷ l) (set_back xs p x at)
 
-set_twice : {A : Type 0} (xs : List A) (p : ℕ) (x y : A) → set (set xs p x) p y ≡ set xs p y
+pub set_twice : {A : Type 0} (xs : List A) (p : ℕ) (x y : A) → set (set xs p x) p y ≡ set xs p y
 set_twice [] p x y = refl
 set_twice (z ∷ xs) zero x y = refl
 set_twice (z ∷ xs) (suc p) x y = ap (λ l. z ∷ l) (set_twice xs p x y)
@@ -65,13 +65,13 @@ store_refused Checkpoint w v p store_errors.Memory up h all = (up, inl (is_same 
 clean_mid : (mid v : WorldState) (p count : ℕ) (end : Result (Unit {0}) RecordError) → HasTold mid p count end v → v.clean ≡ mid.clean
 clean_mid mid v p count end t = ap (λ (x : WorldState). x.clean) t.others
 
-known_mid : (mid v : WorldState) (p count : ℕ) (end : Result (Unit {0}) RecordError) → HasTold mid p count end v → IsKnown v → IsKnown mid
+pub known_mid : (mid v : WorldState) (p count : ℕ) (end : Result (Unit {0}) RecordError) → HasTold mid p count end v → IsKnown v → IsKnown mid
 known_mid mid v p count end t all = (subst (All IsEmpty) (ap (λ (x : WorldState). x.origins) t.others) all.0, ap all_clean (sym (clean_mid mid v p count end t)) ∙ all.1)
 
-has_stored : (kind : RowKind) (w mid v : WorldState) (p count : ℕ) (end : Result (Unit {0}) RecordError) → HasCalled kind w p (Ok tt) mid → HasTold mid p count end v → (h : HasCalled kind w p (Ok tt) mid) → IsKnown mid → HasStored kind w p h.core v
+pub has_stored : (kind : RowKind) (w mid v : WorldState) (p count : ℕ) (end : Result (Unit {0}) RecordError) → HasCalled kind w p (Ok tt) mid → HasTold mid p count end v → (h : HasCalled kind w p (Ok tt) mid) → IsKnown mid → HasStored kind w p h.core v
 has_stored kind w mid v p count end _ t h all = let d = h.did all in (d.0, d.1, d.2, d.4, ap (λ (x : WorldState). x.contents) t.others ∙ d.3)
 
-has_noted : (kind : RowKind) (w mid v : WorldState) (p count : ℕ) (end : Result (Unit {0}) RecordError) → IsUp w p → (h : HasCalled kind w p (Ok tt) mid) → HasTold mid p count end v
+pub has_noted : (kind : RowKind) (w mid v : WorldState) (p count : ℕ) (end : Result (Unit {0}) RecordError) → IsUp w p → (h : HasCalled kind w p (Ok tt) mid) → HasTold mid p count end v
     → HasNoted w p h.core (stored kind h.core) count v × IsToldUpTo mid.manager (stored kind h.core).round p (stored kind h.core).pending count end v.manager
 has_noted kind w mid v p count end up h t =
     let d = stored kind h.core in

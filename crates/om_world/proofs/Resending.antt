@@ -76,6 +76,13 @@ after_frames IsSound xs w p c few n fs i up at is = subst (λ l. IsWorld IsSound
       running = s.1.running;
       up = s.1.up;
       joined = s.1.joined;
+      failed = s.1.failed;
+      gathered = s.1.gathered;
+      current = s.1.current;
+      known = s.1.known;
+      behind = s.1.behind;
+      inside = s.1.inside;
+      beyond = s.1.beyond;
     },
   );
 })

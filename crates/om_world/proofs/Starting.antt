@@ -16,7 +16,7 @@ use Rattle.om_process.specs.Starting.{IsPlace, started_core}
 use Rattle.om_process.specs.Stores.{HasGainedCheckpoint}
 use Rattle.om_world.specs.Started.{IsLoadable, IsRefusedAt, IsWhy}
 use Rattle.om_world.specs.steps.Starting.{AreStarted, IsStart, IsStartedOver}
-use Rattle.om_world.proofs.Lists.{either, none_in, once}
+use Rattle.om_world.proofs.Lists.{either, none_in, once, set_apart}
 use Rattle.om_world.proofs.Raising.{less}
 
 is_size : (size : ℕ) → IsSize size ⊎ ¬ IsSize size
@@ -92,13 +92,6 @@ set_here : {A : Type 0} (xs : List A) (i : ℕ) (x y : A) → slice_get xs i ≡
 set_here [] i x y at = absurd (none_in i x at)
 set_here (z ∷ xs) zero x y at = refl
 set_here (z ∷ xs) (suc i) x y at = set_here xs i x y at
-
-set_apart : {A : Type 0} (xs : List A) (i j : ℕ) (y : A) → j ≢ i → slice_get (set xs i y) j ≡ slice_get xs j
-set_apart [] i j y ne = refl
-set_apart (x ∷ xs) zero zero y ne = absurd (ne refl)
-set_apart (x ∷ xs) zero (suc j) y ne = refl
-set_apart (x ∷ xs) (suc i) zero y ne = refl
-set_apart (x ∷ xs) (suc i) (suc j) y ne = set_apart xs i j y (omega arith)
 
 at_end : {A : Type 0} (xs : List A) (y : A) → slice_get (xs ++ y ∷ []) (length xs) ≡ Some y
 at_end [] y = refl

@@ -66,6 +66,11 @@ after_backs m (Noted true) rows state = refl
 after_backs m (Noted false) rows state = refl
 after_backs m Known rows state = refl
 
+after_last : (m : ManagerState) (note : Note) (rows : Rows) (state : List ℕ) → (after_note m note rows state).last ≡ m.last
+after_last m (Noted true) rows state = refl
+after_last m (Noted false) rows state = refl
+after_last m Known rows state = refl
+
 after_outputs : (m : ManagerState) (note : Note) (rows : Rows) (state : List ℕ) → (after_note m note rows state).outputs ≡ m.outputs
 after_outputs m (Noted true) rows state = refl
 after_outputs m (Noted false) rows state = refl
@@ -99,12 +104,13 @@ released_all old new is keeps p = elim (less p (managers.size_of old)) [
 ]
 
 pub goes_on_by : (old new : ManagerState) → IsManager old → IsBelow old.recovery new.recovery → KeepsReleased old new → ((other : noted.Row) → HasRow old.rows other → HasRow new.rows other)
-    → new.starts ≡ old.starts → new.round ≡ old.round → new.gathering ≡ old.gathering → new.backs ≡ old.backs → GoesOn old new
-goes_on_by old new is below keeps rows starts round gathering backs = record {
+    → new.starts ≡ old.starts → new.round ≡ old.round → new.gathering ≡ old.gathering → new.backs ≡ old.backs → new.last ≡ old.last → GoesOn old new
+goes_on_by old new is below keeps rows starts round gathering backs last = record {
   starts = starts;
   round = round;
   gathering = gathering;
   backs = backs;
+  last = last;
   rises = λ q. below_all old.recovery new.recovery q below;
   released = released_all old new is keeps;
   old = λ p kind x o.
@@ -118,6 +124,7 @@ told_goes_on old new round p row note is t =
     goes_on_by old new is t.below t.released (told_kept old new round p row note t)
     (ap (λ (m : ManagerState). m.starts) e ∙ after_starts old note new.rows new.recovery) (ap (λ (m : ManagerState). m.round) e ∙ after_round old note new.rows new.recovery)
     (ap (λ (m : ManagerState). m.gathering) e ∙ after_gathering old note new.rows new.recovery) (ap (λ (m : ManagerState). m.backs) e ∙ after_backs old note new.rows new.recovery)
+    (ap (λ (m : ManagerState). m.last) e ∙ after_last old note new.rows new.recovery)
 
 pub told_outputs : (old new : ManagerState) (round p : ℕ) (row : Row) (note : Note) → IsTold old round p row (Ok note) new → new.outputs ≡ old.outputs
 told_outputs old new round p row note t = ap (λ (m : ManagerState). m.outputs) t.answers.3 ∙ after_outputs old note new.rows new.recovery

@@ -92,7 +92,7 @@ after_trim IsSound xs w p got released cs i lt g is t =
                   pending = r.pending;
                   above = record { receipts = r.above.receipts; checkpoints = r.above.checkpoints };
                 })
-                (λ u. record { round = u.round; starts = u.starts; inc = u.inc; away = u.away }),
+                (λ u. record { round = u.round; starts = u.starts; inc = u.inc; away = u.away }) refl refl,
           );
     })
 

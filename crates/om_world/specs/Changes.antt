@@ -1,5 +1,5 @@
 -- What is said of several events: who changes, what is sent, handed in and stored.
-use Rattle.std.specs.Prelude.{◌≡◌, ◌⊎◌, ℕ, zero, suc, ◌+◌, ◌<◌, ◌≤◌, List, [], ◌∷◌, ◌++◌, length, take, drop, slice_get, slice_set, Some, Ok, if◌then◌else◌}
+use Rattle.std.specs.Prelude.{◌≡◌, ◌⊎◌, ℕ, zero, suc, ◌<◌, ◌≤◌, List, [], ◌∷◌, ◌++◌, length, take, drop, slice_get, slice_set, Some, Ok, if◌then◌else◌}
 use Rattle.om_format.specs.declared.queue.Entry as kept
 use Rattle.om_format.specs.declared.message.Message.{Message}
 use Rattle.om_format.specs.Queues.{queue_end}

@@ -7,10 +7,8 @@ use Rattle.om_process.specs.Resumes.{resumed}
 use Rattle.om_process.specs.Stored.{IsReplay}
 use Rattle.om_process.specs.Stores.{flushed}
 use Rattle.om_recover.specs.declared.row.RowKind.TheVariants.{Log}
-use Rattle.om_manager.specs.Gatherings.{AreAllIn}
-use Rattle.om_manager.specs.Rounds.{Gathers, IsSpent, with_failed, with_joined}
+use Rattle.om_manager.specs.Rounds.{Gathers, with_failed, with_joined}
 use Rattle.om_manager.specs.State.{ManagerState, held_by}
-use Rattle.om_manager.specs.State as managers
 use Rattle.om_manager.specs.declared.answers.Gathered.{Gathered}
 use Rattle.om_manager.specs.declared.answers.Gathered.TheVariants.{Waiting, Finished}
 use Rattle.om_world.specs.declared.entry.Entry.{Entry}

@@ -4,3 +4,6 @@ pub mod Moves
 pub mod Starting
 pub mod Running
 pub mod Pruning
+pub mod Counts
+pub mod Gathering
+pub mod Returning

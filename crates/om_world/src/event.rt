@@ -61,7 +61,10 @@ pub enum Answer {
     /// The process is down, and nothing was to be declared.
     Down,
     /// The process is up, as it was in this interval, and in this incarnation.
-    Back { interval: u32, inc: u32 },
+    Back {
+        interval: u32,
+        inc: u32,
+    },
     /// The process is up, as it was.
     GoesOn,
     Refused(Refusal),

@@ -50,10 +50,10 @@ impl<S: Stable> World<S> {
         }
         let message = &self.frames[f];
         let entry = entry_for(alloc, message)?;
-        self.live.try_reserve(1)?;
+        self.live.make_room()?;
         match offer_at(&mut self.cores, p, alloc, message) {
             Accept::Taken(x) => {
-                self.live.push_reserved(entry);
+                self.live.add(entry);
                 Ok(Answer::Given(Accept::Taken(x)))
             }
             Accept::Memory => Err(Refusal::Memory),

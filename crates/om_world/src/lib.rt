@@ -9,12 +9,16 @@ pub use world::World;
 
 mod entry;
 mod event;
+mod failing;
 mod frames;
 mod give;
+mod joining;
 pub mod laws;
+mod live;
 mod place;
 mod play;
 mod prune;
+mod resume;
 mod run;
 mod start;
 mod storing;

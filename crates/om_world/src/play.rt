@@ -38,6 +38,9 @@ impl<S: Stable> World<S> {
             Event::Checkpoint { process } => self.record(alloc, process, RowKind::Checkpoint),
             Event::Resend { process } => self.resend(alloc, process),
             Event::Trim { process } => self.trim(process),
+            Event::Fail { process } => self.fail(alloc, process),
+            Event::Join { process } => self.join(alloc, process),
+            Event::Resume { process } => self.resume(alloc, process),
             Event::Prune => self.prune(alloc),
         }
     }

@@ -10,6 +10,7 @@ ghost use Rattle.om_manager.specs.Sound.{IsManager};
 ghost use Rattle.om_world.specs.Started.{HaveFirst, IsLoadable, IsNew, IsRefusedAt, IsStarted};
 ghost use Rattle.om_world.specs.steps.Starting.{AreStarted, IsStart};
 
+use crate::live::Live;
 use crate::place::Place;
 use crate::world::World;
 use om_interval::Pid;
@@ -147,7 +148,7 @@ impl<S: Stable> World<S> {
         let cores = start_all(alloc, images, &mut stores)?;
         Ok(World {
             images: copies,
-            live: Vec::new(alloc),
+            live: Live::new(alloc),
             frames: Vec::new(alloc),
             cores,
             places,

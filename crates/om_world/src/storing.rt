@@ -101,7 +101,7 @@ fn note_at(
 
 impl<S: Stable> World<S> {
     // Stores what a process that is up keeps of a kind.
-    fn store(&mut self, alloc: Global, p: usize, kind: RowKind) -> Result<(), StoreError>
+    pub(crate) fn store(&mut self, alloc: Global, p: usize, kind: RowKind) -> Result<(), StoreError>
         requires { IsUp self.old p }
         ensures { HasCalled kind self.old p result self.new }
     {
@@ -109,7 +109,7 @@ impl<S: Stable> World<S> {
     }
 
     // Notes the pending rows of a process that is up.
-    fn note(&mut self, alloc: Global, p: usize) -> (usize, Result<(), RecordError>)
+    pub(crate) fn note(&mut self, alloc: Global, p: usize) -> (usize, Result<(), RecordError>)
         requires { IsUp self.old p }
         ensures { HasTold self.old p result.0 result.1 self.new }
     {

@@ -9,6 +9,7 @@ ghost use Rattle.om_world.specs.World.{IsKnown, all_clean};
 
 use crate::entry::Entry;
 use crate::event::Refusal;
+use crate::live::Live;
 use crate::place::Place;
 use om_format::Message;
 use om_interval::Pid;
@@ -22,7 +23,7 @@ use std::snapshot::Snapshot;
 #[derive(Drop)]
 pub struct World<S: Stable> {
     pub(crate) images: Vec<Image>,
-    pub(crate) live: Vec<Entry>,
+    pub(crate) live: Live,
     pub(crate) frames: Vec<Message>,
     // By process, as are the next three.
     pub(crate) cores: Vec<Option<ProcCore>>,
@@ -48,7 +49,7 @@ impl<S: Stable> Model for World<S> {
 
     ghost view = { λ w. record {
       programs = map program_of w.images.items;
-      live = w.live.items;
+      live = w.live.entries;
       frames = w.frames.items;
       cores = w.cores.items;
       places = w.places.items;
@@ -61,7 +62,7 @@ impl<S: Stable> Model for World<S> {
 
     ghost invariant = { λ w. IsWorld S.IsSound w.stores.items (record {
       programs = map program_of w.images.items;
-      live = w.live.items;
+      live = w.live.entries;
       frames = w.frames.items;
       cores = w.cores.items;
       places = w.places.items;
@@ -78,7 +79,7 @@ impl<S: Stable> World<S> {
     pub fn live(&self) -> &[Entry]
         ensures { result.now ≡ self.now.live }
     {
-        &self.live
+        self.live.entries()
     }
 
     /// The manager.

@@ -174,7 +174,7 @@ refusal_of_join fault = why.Damaged
 abbrev pub refusal_of_replay : ReplayFault → Refusal
 refusal_of_replay replays.Fault = why.Fault
 refusal_of_replay replays.Memory = why.Memory
-refusal_of_replay fault = why.Damaged
+refusal_of_replay other = why.Damaged
 
 -- a core that keeps nothing below these numbers
 abbrev pub trimmed_core : CoreState → List ℕ → ℕ → CoreState

@@ -20,52 +20,52 @@ returns-in_err-entry-clause-happened g c =
     subst (λ (w : WorldState). Happened w (Event.Give c.args.p c.args.f) (answered c.from_residual-in_err-entry.result) w) c.self.view_is
     (no_room _ _ c.args.p c.args.f c.index-message.result.now c.from_residual-in_err-entry.result up c.self.invariant.shape frame is refl)
 
-pub returns-in_err-try_reserve-clause-happened : goal.returns-in_err-try_reserve-clause-happened
-returns-in_err-try_reserve-clause-happened g c =
+pub returns-in_err-make_room-clause-happened : goal.returns-in_err-make_room-clause-happened
+returns-in_err-make_room-clause-happened g c =
     let s = c.self.inside in
     let frame : slice_get s.frames.items c.args.f ≡ Some c.index-message.result.now = search (rules, lent_at) in
-    let is : c.from_residual-in_err-try_reserve.result ≡ Err refusals.Memory = search rules in
+    let is : c.from_residual-in_err-make_room.result ≡ Err refusals.Memory = search rules in
     let up = subst (λ (w : WorldState). IsUp w c.args.p) (sym c.self.view_is) c.in_ok-is_up.ensures.up in
-    let w : WorldState = record { programs = map program_of s.images.items; live = s.live.items; frames = s.frames.items; cores = s.cores.items; places = s.places.items; rounds = s.rounds.items; manager = s.manager; contents = map g.S.Stable.content s.stores.items; clean = map g.S.Stable.is_clean s.stores.items; origins = map g.S.Stable.content s.origins.value.items } in
-    subst (λ (v : WorldState). Happened v (Event.Give c.args.p c.args.f) (answered c.from_residual-in_err-try_reserve.result) (remade w c.try_reserve.new.self.items w.frames w.cores w.manager w.contents w.clean)) c.self.view_is
-    (no_room w _ c.args.p c.args.f c.index-message.result.now c.from_residual-in_err-try_reserve.result up c.self.invariant.shape frame is (ap (λ l. remade w l w.frames w.cores w.manager w.contents w.clean) c.in_err-try_reserve.ensures.items))
+    let w : WorldState = record { programs = map program_of s.images.items; live = s.live.entries; frames = s.frames.items; cores = s.cores.items; places = s.places.items; rounds = s.rounds.items; manager = s.manager; contents = map g.S.Stable.content s.stores.items; clean = map g.S.Stable.is_clean s.stores.items; origins = map g.S.Stable.content s.origins.value.items } in
+    subst (λ (v : WorldState). Happened v (Event.Give c.args.p c.args.f) (answered c.from_residual-in_err-make_room.result) (remade w c.make_room.new.self.entries w.frames w.cores w.manager w.contents w.clean)) c.self.view_is
+    (no_room w _ c.args.p c.args.f c.index-message.result.now c.from_residual-in_err-make_room.result up c.self.invariant.shape frame is (ap (λ l. remade w l w.frames w.cores w.manager w.contents w.clean) c.in_err-make_room.ensures.entries))
 
 pub invariant_of-self-in-Taken : goal.invariant_of-self-in-Taken
 invariant_of-self-in-Taken g c =
     let frame : slice_get c.self.inside.frames.items c.args.f ≡ Some c.index-message.result.now = search (rules, lent_at) in
     let up = subst (λ (w : WorldState). IsUp w c.args.p) (sym c.self.view_is) c.in_ok-is_up.ensures.up in
-    after_give _ _ _ c.args.p c.args.f c.in-Taken.x c.index-message.result.now c.in_ok-entry.entry c.offer_at.new.cores.items c.push_reserved.new.self.items c.self.invariant up frame c.in_ok-entry.ensures
+    after_give _ _ _ c.args.p c.args.f c.in-Taken.x c.index-message.result.now c.in_ok-entry.entry c.offer_at.new.cores.items c.add.new.self.entries c.self.invariant up frame c.in_ok-entry.ensures
     (subst (λ a. IsOffered c.self.inside.cores.items c.args.p c.index-message.result.now a c.offer_at.new.cores.items) c.in-Taken.is c.offer_at.ensures)
-    (c.push_reserved.ensures.items ∙ ap (λ l. l ++ c.in_ok-entry.entry ∷ []) c.in_ok-try_reserve.ensures.items)
+    (c.add.ensures ∙ ap (λ l. l ++ c.in_ok-entry.entry ∷ []) c.in_ok-make_room.ensures.entries)
 
 pub returns-in-Taken-clause-happened : goal.returns-in-Taken-clause-happened
 returns-in-Taken-clause-happened g c =
     let s = c.self.inside in
     let frame : slice_get s.frames.items c.args.f ≡ Some c.index-message.result.now = search (rules, lent_at) in
     let up = subst (λ (w : WorldState). IsUp w c.args.p) (sym c.self.view_is) c.in_ok-is_up.ensures.up in
-    let w : WorldState = record { programs = map program_of s.images.items; live = s.live.items; frames = s.frames.items; cores = s.cores.items; places = s.places.items; rounds = s.rounds.items; manager = s.manager; contents = map g.S.Stable.content s.stores.items; clean = map g.S.Stable.is_clean s.stores.items; origins = map g.S.Stable.content s.origins.value.items } in
-    subst (λ (v : WorldState). GiveHappened v c.args.p c.args.f (accepts.Taken c.in-Taken.x) (remade w c.push_reserved.new.self.items w.frames c.offer_at.new.cores.items w.manager w.contents w.clean)) c.self.view_is
-    (given_taken w c.args.p c.args.f c.in-Taken.x c.index-message.result.now c.in_ok-entry.entry c.offer_at.new.cores.items c.push_reserved.new.self.items up frame c.in_ok-entry.ensures
+    let w : WorldState = record { programs = map program_of s.images.items; live = s.live.entries; frames = s.frames.items; cores = s.cores.items; places = s.places.items; rounds = s.rounds.items; manager = s.manager; contents = map g.S.Stable.content s.stores.items; clean = map g.S.Stable.is_clean s.stores.items; origins = map g.S.Stable.content s.origins.value.items } in
+    subst (λ (v : WorldState). GiveHappened v c.args.p c.args.f (accepts.Taken c.in-Taken.x) (remade w c.add.new.self.entries w.frames c.offer_at.new.cores.items w.manager w.contents w.clean)) c.self.view_is
+    (given_taken w c.args.p c.args.f c.in-Taken.x c.index-message.result.now c.in_ok-entry.entry c.offer_at.new.cores.items c.add.new.self.entries up frame c.in_ok-entry.ensures
     (subst (λ a. IsOffered s.cores.items c.args.p c.index-message.result.now a c.offer_at.new.cores.items) c.in-Taken.is c.offer_at.ensures)
-    (c.push_reserved.ensures.items ∙ ap (λ l. l ++ c.in_ok-entry.entry ∷ []) c.in_ok-try_reserve.ensures.items))
+    (c.add.ensures ∙ ap (λ l. l ++ c.in_ok-entry.entry ∷ []) c.in_ok-make_room.ensures.entries))
 
 pub returns-in-Memory-clause-happened : goal.returns-in-Memory-clause-happened
 returns-in-Memory-clause-happened g c =
     let s = c.self.inside in
     let frame : slice_get s.frames.items c.args.f ≡ Some c.index-message.result.now = search (rules, lent_at) in
     let up = subst (λ (w : WorldState). IsUp w c.args.p) (sym c.self.view_is) c.in_ok-is_up.ensures.up in
-    let w : WorldState = record { programs = map program_of s.images.items; live = s.live.items; frames = s.frames.items; cores = s.cores.items; places = s.places.items; rounds = s.rounds.items; manager = s.manager; contents = map g.S.Stable.content s.stores.items; clean = map g.S.Stable.is_clean s.stores.items; origins = map g.S.Stable.content s.origins.value.items } in
+    let w : WorldState = record { programs = map program_of s.images.items; live = s.live.entries; frames = s.frames.items; cores = s.cores.items; places = s.places.items; rounds = s.rounds.items; manager = s.manager; contents = map g.S.Stable.content s.stores.items; clean = map g.S.Stable.is_clean s.stores.items; origins = map g.S.Stable.content s.origins.value.items } in
     let o = subst (λ a. IsOffered s.cores.items c.args.p c.index-message.result.now a c.offer_at.new.cores.items) c.in-Memory.is c.offer_at.ensures in
-    subst (λ (v : WorldState). Happened v (Event.Give c.args.p c.args.f) (answered (Err refusals.Memory)) (remade w c.try_reserve.new.self.items w.frames c.offer_at.new.cores.items w.manager w.contents w.clean)) c.self.view_is
+    subst (λ (v : WorldState). Happened v (Event.Give c.args.p c.args.f) (answered (Err refusals.Memory)) (remade w c.make_room.new.self.entries w.frames c.offer_at.new.cores.items w.manager w.contents w.clean)) c.self.view_is
     (no_room w _ c.args.p c.args.f c.index-message.result.now (Err refusals.Memory) up c.self.invariant.shape frame refl
-    (ap (λ l. remade w l w.frames c.offer_at.new.cores.items w.manager w.contents w.clean) c.in_ok-try_reserve.ensures.items ∙ ap (λ l. remade w w.live w.frames l w.manager w.contents w.clean) o.cores))
+    (ap (λ l. remade w l w.frames c.offer_at.new.cores.items w.manager w.contents w.clean) c.in_ok-make_room.ensures.entries ∙ ap (λ l. remade w w.live w.frames l w.manager w.contents w.clean) o.cores))
 
 pub returns-in_default-clause-happened : goal.returns-in_default-clause-happened
 returns-in_default-clause-happened g c =
     let s = c.self.inside in
     let frame : slice_get s.frames.items c.args.f ≡ Some c.index-message.result.now = search (rules, lent_at) in
     let up = subst (λ (w : WorldState). IsUp w c.args.p) (sym c.self.view_is) c.in_ok-is_up.ensures.up in
-    let w : WorldState = record { programs = map program_of s.images.items; live = s.live.items; frames = s.frames.items; cores = s.cores.items; places = s.places.items; rounds = s.rounds.items; manager = s.manager; contents = map g.S.Stable.content s.stores.items; clean = map g.S.Stable.is_clean s.stores.items; origins = map g.S.Stable.content s.origins.value.items } in
-    subst (λ (v : WorldState). GiveHappened v c.args.p c.args.f c.offer_at.result (remade w c.try_reserve.new.self.items w.frames c.offer_at.new.cores.items w.manager w.contents w.clean)) c.self.view_is
-    (subst (λ l. GiveHappened w c.args.p c.args.f c.offer_at.result (remade w l w.frames c.offer_at.new.cores.items w.manager w.contents w.clean)) (sym c.in_ok-try_reserve.ensures.items)
+    let w : WorldState = record { programs = map program_of s.images.items; live = s.live.entries; frames = s.frames.items; cores = s.cores.items; places = s.places.items; rounds = s.rounds.items; manager = s.manager; contents = map g.S.Stable.content s.stores.items; clean = map g.S.Stable.is_clean s.stores.items; origins = map g.S.Stable.content s.origins.value.items } in
+    subst (λ (v : WorldState). GiveHappened v c.args.p c.args.f c.offer_at.result (remade w c.make_room.new.self.entries w.frames c.offer_at.new.cores.items w.manager w.contents w.clean)) c.self.view_is
+    (subst (λ l. GiveHappened w c.args.p c.args.f c.offer_at.result (remade w l w.frames c.offer_at.new.cores.items w.manager w.contents w.clean)) (sym c.in_ok-make_room.ensures.entries)
     (not_given w c.args.p c.args.f c.index-message.result.now c.offer_at.result c.offer_at.new.cores.items up frame c.in_default.not-Taken c.in_default.not-Memory c.offer_at.ensures))

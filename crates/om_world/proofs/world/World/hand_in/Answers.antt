@@ -11,6 +11,6 @@ invariant_of-self g c = after_handed _ _ _ c.args.p c.hand_at.result c.hand_at.n
 pub returns : goal.returns
 returns g c =
     let s = c.self.inside in
-    let w : WorldState = record { programs = map program_of s.images.items; live = s.live.items; frames = s.frames.items; cores = s.cores.items; places = s.places.items; rounds = s.rounds.items; manager = c.hand_at.new.manager; contents = map g.S.Stable.content s.stores.items; clean = map g.S.Stable.is_clean s.stores.items; origins = map g.S.Stable.content s.origins.value.items } in
+    let w : WorldState = record { programs = map program_of s.images.items; live = s.live.entries; frames = s.frames.items; cores = s.cores.items; places = s.places.items; rounds = s.rounds.items; manager = c.hand_at.new.manager; contents = map g.S.Stable.content s.stores.items; clean = map g.S.Stable.is_clean s.stores.items; origins = map g.S.Stable.content s.origins.value.items } in
     subst (λ (v : WorldState). HasHandedIn v c.args.p c.hand_at.result w) c.self.view_is
     (has_handed _ _ _ c.args.p c.hand_at.result c.hand_at.new.manager c.self.invariant (subst (λ (v : WorldState). IsUp v c.args.p) (sym c.self.view_is) c.requires) c.hand_at.ensures)

@@ -8,14 +8,14 @@ use Rattle.om_world.proofs.world.World.prune_store.Goals as goal
 pub invariant_of-self : goal.invariant_of-self
 invariant_of-self g c =
     let s = c.self.inside in
-    let w : WorldState = record { programs = map program_of s.images.items; live = s.live.items; frames = s.frames.items; cores = s.cores.items; places = s.places.items; rounds = s.rounds.items; manager = s.manager; contents = map g.S.Stable.content s.stores.items; clean = map g.S.Stable.is_clean s.stores.items; origins = map g.S.Stable.content s.origins.value.items } in
+    let w : WorldState = record { programs = map program_of s.images.items; live = s.live.entries; frames = s.frames.items; cores = s.cores.items; places = s.places.items; rounds = s.rounds.items; manager = s.manager; contents = map g.S.Stable.content s.stores.items; clean = map g.S.Stable.is_clean s.stores.items; origins = map g.S.Stable.content s.origins.value.items } in
     let n = c.prune_at.ensures.called in
     after_store g.S.Stable.content g.S.Stable.is_clean g.S.Stable.IsSound w c.args.p n.0 c.prune_at.result s.stores.items c.prune_at.new.stores.items c.self.invariant (n.1, n.2)
 
 pub returns : goal.returns
 returns g c =
     let s = c.self.inside in
-    let w : WorldState = record { programs = map program_of s.images.items; live = s.live.items; frames = s.frames.items; cores = s.cores.items; places = s.places.items; rounds = s.rounds.items; manager = s.manager; contents = map g.S.Stable.content s.stores.items; clean = map g.S.Stable.is_clean s.stores.items; origins = map g.S.Stable.content s.origins.value.items } in
+    let w : WorldState = record { programs = map program_of s.images.items; live = s.live.entries; frames = s.frames.items; cores = s.cores.items; places = s.places.items; rounds = s.rounds.items; manager = s.manager; contents = map g.S.Stable.content s.stores.items; clean = map g.S.Stable.is_clean s.stores.items; origins = map g.S.Stable.content s.origins.value.items } in
     let n = c.prune_at.ensures.called in
     subst (λ (v : WorldState). HasPruned v c.args.p c.prune_at.result (over g.S.Stable.content g.S.Stable.is_clean w c.prune_at.new.stores.items w.cores)) c.self.view_is
     (has_pruned g.S.Stable.content g.S.Stable.is_clean g.S.Stable.IsSound w c.args.p n.0 c.prune_at.result s.stores.items c.prune_at.new.stores.items c.self.invariant (n.1, n.2) c.prune_at.ensures.never_present)

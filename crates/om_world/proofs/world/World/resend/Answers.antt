@@ -11,7 +11,7 @@ use Rattle.om_world.proofs.world.World.resend.Goals as goal
 pub invariant_of-self : goal.invariant_of-self
 invariant_of-self g c =
     let s = c.self.inside in
-    let w : WorldState = record { programs = map program_of s.images.items; live = s.live.items; frames = s.frames.items; cores = s.cores.items; places = s.places.items; rounds = s.rounds.items; manager = s.manager; contents = map g.S.Stable.content s.stores.items; clean = map g.S.Stable.is_clean s.stores.items; origins = map g.S.Stable.content s.origins.value.items } in
+    let w : WorldState = record { programs = map program_of s.images.items; live = s.live.entries; frames = s.frames.items; cores = s.cores.items; places = s.places.items; rounds = s.rounds.items; manager = s.manager; contents = map g.S.Stable.content s.stores.items; clean = map g.S.Stable.is_clean s.stores.items; origins = map g.S.Stable.content s.origins.value.items } in
     subst (λ (l : List Message). IsWorld g.S.Stable.IsSound s.stores.items (remade w w.live l w.cores w.manager w.contents w.clean)) (sym c.in_err-append.ensures.items) c.self.invariant
 
 pub invariant_of-self-2 : goal.invariant_of-self-2

@@ -20,8 +20,8 @@ invariant_of-result g c =
     let ys = c.start_all.new.stores.items in
     let m = c.in_ok-manager.manager in
     let b = begun_by s.content s.is_clean s.IsSound programs n cores xs ys m size c.requires.few c.requires.stores c.in_ok-cores.ensures.started c.in_ok-manager.ensures.fresh c.in_ok-manager.ensures.sound (λ i x at. all_at (λ store. IsTrue (s.is_clean store) → s.IsSound store) xs i x c.requires.sound at) in
-    let is = begun_is s.content s.is_clean programs (map program_of c.in_ok-copies.copies.items) n c.new.result.items c.new-2.result.items cores c.in_ok-places.places.items c.in_ok-rounds.rounds.items xs c.of-origins.result.value.items ys m size
-    c.in_ok-copies.ensures c.new.ensures.items c.new-2.ensures.items c.in_ok-places.ensures c.in_ok-rounds.ensures (ap (λ v. v.items) c.of-origins.ensures) in
+    let is = begun_is s.content s.is_clean programs (map program_of c.in_ok-copies.copies.items) n c.new.result.entries c.new-2.result.items cores c.in_ok-places.places.items c.in_ok-rounds.rounds.items xs c.of-origins.result.value.items ys m size
+    c.in_ok-copies.ensures c.new.ensures c.new-2.ensures.items c.in_ok-places.ensures c.in_ok-rounds.ensures (ap (λ v. v.items) c.of-origins.ensures) in
     subst (IsWorld s.IsSound ys) is (world_begun s.content s.is_clean s.IsSound programs cores xs ys m b)
 
 pub returns-clause-started : goal.returns-clause-started
@@ -35,8 +35,8 @@ returns-clause-started g c =
     let ys = c.start_all.new.stores.items in
     let m = c.in_ok-manager.manager in
     let b = begun_by s.content s.is_clean s.IsSound programs n cores xs ys m size c.requires.few c.requires.stores c.in_ok-cores.ensures.started c.in_ok-manager.ensures.fresh c.in_ok-manager.ensures.sound (λ i x at. all_at (λ store. IsTrue (s.is_clean store) → s.IsSound store) xs i x c.requires.sound at) in
-    let is = begun_is s.content s.is_clean programs (map program_of c.in_ok-copies.copies.items) n c.new.result.items c.new-2.result.items cores c.in_ok-places.places.items c.in_ok-rounds.rounds.items xs c.of-origins.result.value.items ys m size
-    c.in_ok-copies.ensures c.new.ensures.items c.new-2.ensures.items c.in_ok-places.ensures c.in_ok-rounds.ensures (ap (λ v. v.items) c.of-origins.ensures) in
+    let is = begun_is s.content s.is_clean programs (map program_of c.in_ok-copies.copies.items) n c.new.result.entries c.new-2.result.items cores c.in_ok-places.places.items c.in_ok-rounds.rounds.items xs c.of-origins.result.value.items ys m size
+    c.in_ok-copies.ensures c.new.ensures c.new-2.ensures.items c.in_ok-places.ensures c.in_ok-rounds.ensures (ap (λ v. v.items) c.of-origins.ensures) in
     subst (IsStarted programs) is (is_started s.content s.is_clean s.IsSound programs cores xs ys m b)
 
 pub returns-clause-stored : goal.returns-clause-stored
@@ -50,8 +50,8 @@ returns-clause-stored g c =
     let ys = c.start_all.new.stores.items in
     let m = c.in_ok-manager.manager in
     let b = begun_by s.content s.is_clean s.IsSound programs n cores xs ys m size c.requires.few c.requires.stores c.in_ok-cores.ensures.started c.in_ok-manager.ensures.fresh c.in_ok-manager.ensures.sound (λ i x at. all_at (λ store. IsTrue (s.is_clean store) → s.IsSound store) xs i x c.requires.sound at) in
-    let is = begun_is s.content s.is_clean programs (map program_of c.in_ok-copies.copies.items) n c.new.result.items c.new-2.result.items cores c.in_ok-places.places.items c.in_ok-rounds.rounds.items xs c.of-origins.result.value.items ys m size
-    c.in_ok-copies.ensures c.new.ensures.items c.new-2.ensures.items c.in_ok-places.ensures c.in_ok-rounds.ensures (ap (λ v. v.items) c.of-origins.ensures) in
+    let is = begun_is s.content s.is_clean programs (map program_of c.in_ok-copies.copies.items) n c.new.result.entries c.new-2.result.items cores c.in_ok-places.places.items c.in_ok-rounds.rounds.items xs c.of-origins.result.value.items ys m size
+    c.in_ok-copies.ensures c.new.ensures c.new-2.ensures.items c.in_ok-places.ensures c.in_ok-rounds.ensures (ap (λ v. v.items) c.of-origins.ensures) in
     subst (λ (w : WorldState). all_clean w.clean ≡ true → HaveFirst w) is (have_first s.content s.is_clean s.IsSound programs cores xs ys m b)
 
 pub returns-clause-clean : goal.returns-clause-clean
@@ -81,8 +81,8 @@ returns-clause-holds g c =
     let ys = c.start_all.new.stores.items in
     let m = c.in_ok-manager.manager in
     let b = begun_by s.content s.is_clean s.IsSound programs n cores xs ys m size c.requires.few c.requires.stores c.in_ok-cores.ensures.started c.in_ok-manager.ensures.fresh c.in_ok-manager.ensures.sound (λ i x at. all_at (λ store. IsTrue (s.is_clean store) → s.IsSound store) xs i x c.requires.sound at) in
-    let is = begun_is s.content s.is_clean programs (map program_of c.in_ok-copies.copies.items) n c.new.result.items c.new-2.result.items cores c.in_ok-places.places.items c.in_ok-rounds.rounds.items xs c.of-origins.result.value.items ys m size
-    c.in_ok-copies.ensures c.new.ensures.items c.new-2.ensures.items c.in_ok-places.ensures c.in_ok-rounds.ensures (ap (λ v. v.items) c.of-origins.ensures) in
+    let is = begun_is s.content s.is_clean programs (map program_of c.in_ok-copies.copies.items) n c.new.result.entries c.new-2.result.items cores c.in_ok-places.places.items c.in_ok-rounds.rounds.items xs c.of-origins.result.value.items ys m size
+    c.in_ok-copies.ensures c.new.ensures c.new-2.ensures.items c.in_ok-places.ensures c.in_ok-rounds.ensures (ap (λ v. v.items) c.of-origins.ensures) in
     subst (λ (w : WorldState). IsKnown w → Holds w) is (world_holds s.IsSound ys (begun s.content s.is_clean programs cores xs ys m) (world_begun s.content s.is_clean s.IsSound programs cores xs ys m b))
 
 pub returns-clause-loadable : goal.returns-clause-loadable

@@ -1,0 +1,74 @@
+-- A process that is taken down: everything then asks less of it.
+use Rattle.std.proofs.Common.{◌≡◌, ◌≢◌, inl, inr, ℕ, List, set, Option, Some, None, Bool, true, false, refl, ◌∙◌, subst, length-set}
+use Rattle.std.specs.Prelude.{slice_get}
+use Rattle.om_process.specs.Core.{CoreState}
+use Rattle.om_world.specs.declared.place.Place.{Place}
+use Rattle.om_world.specs.Failures.{taken_down}
+use Rattle.om_world.specs.World.{WorldState}
+use Rattle.om_world.specs.steps.Sound.{HasShape, IsWorld, Runs, Sound}
+use Rattle.om_world.proofs.Lists.{at_change, either, none_some, set_apart}
+
+up_or_down : (declared : Bool) → Place.Up ≡ Place.Down declared → ⊥
+up_or_down declared e = cc
+
+in_or_down : (declared : Bool) → Place.In ≡ Place.Down declared → ⊥
+in_or_down declared e = cc
+
+-- who is up or in is another, and was before
+still_up : (places : List Place) (p q : ℕ) (declared : Bool) → slice_get (set places p (Place.Down declared)) q ≡ Some Place.Up → (q ≢ p) × (slice_get places q ≡ Some Place.Up)
+still_up places p q declared at = elim (at_change places p q Place.Up (Place.Down declared) at) [ inl is ↦ absurd (up_or_down declared is.1) | inr other ↦ other ]
+
+still_in : (places : List Place) (p q : ℕ) (declared : Bool) → slice_get (set places p (Place.Down declared)) q ≡ Some Place.In → (q ≢ p) × (slice_get places q ≡ Some Place.In)
+still_in places p q declared at = elim (at_change places p q Place.In (Place.Down declared) at) [ inl is ↦ absurd (in_or_down declared is.1) | inr other ↦ other ]
+
+still_core : (cores : List (Option CoreState)) (p q : ℕ) (c : CoreState) → slice_get (set cores p None) q ≡ Some (Some c) → slice_get cores q ≡ Some (Some c)
+still_core cores p q c at = elim (at_change cores p q (Some c) None at) [ inl is ↦ absurd (none_some (Some c) c is.1 refl) | inr other ↦ other.1 ]
+
+still_runs : (w : WorldState) (p q : ℕ) (declared : Bool) → Runs (taken_down w p declared) q → Runs w q
+still_runs w p q declared runs = elim runs [
+  | inl up ↦ inl (still_up w.places p q declared up).1
+  | inr joined ↦ inr ((still_in w.places p q declared joined.0).1, joined.1)
+]
+
+shape_down : (w : WorldState) (p : ℕ) (declared : Bool) → HasShape w → HasShape (taken_down w p declared)
+shape_down w p declared h = record {
+  few = h.few;
+  stores = h.stores;
+  cores = length-set w.cores p None ∙ h.cores;
+  places = length-set w.places p (Place.Down declared) ∙ h.places;
+  own = λ q c at. h.own q c (still_core w.cores p q c at);
+  rounds = h.rounds;
+  there = λ q up. let was = still_up w.places p q declared up in let core = h.there q was.1 in (core.0, set_apart w.cores p q None was.0 ∙ core.1);
+  inside = λ q joined. let was = still_in w.places p q declared joined in let core = h.inside q was.1 in (core.0, set_apart w.cores p q None was.0 ∙ core.1);
+  manager = h.manager;
+  size = h.size;
+}
+
+sound_down : (w : WorldState) (p : ℕ) → Sound w → slice_get w.places p ≢ Some (Place.Down true) → Sound (taken_down w p false)
+sound_down w p s undeclared = record {
+  legal = s.legal;
+  frames = s.frames;
+  outputs = s.outputs;
+  rows = s.rows;
+  stored = s.stored;
+  backed = s.backed;
+  running = λ q c held at holds runs. s.running q c held (still_core w.cores p q c at) holds (still_runs w p q false runs);
+  up = λ q c at up. s.up q c (still_core w.cores p q c at) (still_up w.places p q false up).1;
+  joined = s.joined;
+  failed = λ q at. elim (either q p) [
+    | inl same ↦ absurd (undeclared (subst (λ o. slice_get w.places o ≡ Some (Place.Down true)) same (s.failed q at)))
+    | inr other ↦ set_apart w.places p q (Place.Down false) other ∙ s.failed q at
+  ];
+  gathered = s.gathered;
+  current = λ q up. s.current q (still_up w.places p q false up).1;
+  known = s.known;
+  behind = s.behind;
+  inside = λ q c at joined runs. s.inside q c (still_core w.cores p q c at) (still_in w.places p q false joined).1 (still_runs w p q false runs);
+  beyond = λ q c at joined news back. s.beyond q c (still_core w.cores p q c at) (still_in w.places p q false joined).1 news back;
+}
+
+pub after_down : {S : Type 0} (IsSound : S → Type 0) (xs : List S) (w : WorldState) (p : ℕ) → IsWorld IsSound xs w → slice_get w.places p ≢ Some (Place.Down true) → IsWorld IsSound xs (taken_down w p false)
+after_down IsSound xs w p i undeclared = record {
+  shape = shape_down w p false i.shape;
+  clean = λ known. let s = i.clean known in (s.0, sound_down w p s.1 undeclared);
+}

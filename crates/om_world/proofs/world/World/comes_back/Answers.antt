@@ -1,0 +1,47 @@
+use Rattle.std.proofs.Common.{◌≡◌, ◌∙◌, ◌<◌, ap, arith, length, map, refl, slice_get, subst, sym, Some}
+use Rattle.om_interval.specs.Starts.{is_named}
+use Rattle.om_world.specs.declared.place.Place.TheVariants as places
+use Rattle.om_world.specs.Failures.{HasNews, down}
+use Rattle.om_world.specs.World.{WorldState, IsKnown, program_of}
+use Rattle.om_world.specs.steps.Returning.{IsBeyond, IsDue}
+use Rattle.om_world.proofs.Lists.{length-map, lent_at}
+use Rattle.om_world.proofs.Resuming.{due_in, no_news, world_beyond}
+use Rattle.om_world.proofs.world.World.comes_back.Goals as goal
+
+pub returns-in-Up-clause-refused : goal.returns-in-Up-clause-refused
+returns-in-Up-clause-refused g c = λ known.
+    let s = c.self.inside in
+    let lt : c.args.p < length (map program_of s.images.items) = let long = length-map program_of s.images.items in omega (arith, c.if-p-len.false, c.len.ensures) in
+    let at : slice_get s.places.items c.args.p ≡ Some places.Up = lent_at s.places.items c.args.p c.index.result.now (let many = c.self.invariant.shape.places in omega arith) c.index.ensures ∙ ap Some c.in-Up.is in
+    let news = subst (λ (w : WorldState). HasNews w c.args.p) (sym c.self.view_is) (c.has_news.ensures.0 c.if-not-has_news.false) in (
+      subst (λ (w : WorldState). c.args.p < length w.programs) c.self.view_is lt,
+      λ _. no_news _ _ _ c.args.p c.self.invariant at news (subst IsKnown (sym c.self.view_is) known),
+      refl,
+    )
+
+pub returns-in-In-clause-due : goal.returns-in-In-clause-due
+returns-in-In-clause-due g c =
+    let s = c.self.inside in
+    let lt : c.args.p < length (map program_of s.images.items) = let long = length-map program_of s.images.items in omega (arith, c.if-p-len.false, c.len.ensures) in
+    let at : slice_get s.places.items c.args.p ≡ Some places.In = lent_at s.places.items c.args.p c.index.result.now (let many = c.self.invariant.shape.places in omega arith) c.index.ensures ∙ ap Some c.in-In.is in
+    let news = subst (λ (w : WorldState). HasNews w c.args.p) (sym c.self.view_is) (c.has_news.ensures.0 c.if-not-has_news.false) in
+    subst (λ (w : WorldState). IsDue w c.args.p c.verdict.result.back) c.self.view_is (due_in _ c.args.p c.verdict.result.back at news (c.verdict.ensures.back ∙ ap (is_named s.manager.backs) c.at.ensures))
+
+pub returns-in-In-clause-beyond : goal.returns-in-In-clause-beyond
+returns-in-In-clause-beyond g c =
+    let s = c.self.inside in
+    let lt : c.args.p < length (map program_of s.images.items) = let long = length-map program_of s.images.items in omega (arith, c.if-p-len.false, c.len.ensures) in
+    subst (λ (w : WorldState). IsKnown w → IsBeyond w c.args.p) c.self.view_is (world_beyond _ _ _ c.args.p c.self.invariant lt)
+
+pub returns-in-Down-clause-due : goal.returns-in-Down-clause-due
+returns-in-Down-clause-due g c =
+    let s = c.self.inside in
+    let lt : c.args.p < length (map program_of s.images.items) = let long = length-map program_of s.images.items in omega (arith, c.if-p-len.false, c.len.ensures) in
+    let at : slice_get s.places.items c.args.p ≡ Some (places.Down c.in-Down.declared) = lent_at s.places.items c.args.p c.index.result.now (let many = c.self.invariant.shape.places in omega arith) c.index.ensures ∙ ap Some c.in-Down.is in
+    down c.in-Down.declared (subst (λ (w : WorldState). slice_get w.places c.args.p ≡ Some (places.Down c.in-Down.declared)) c.self.view_is at) (c.has_news.ensures.0 c.if-not-has_news.false)
+
+pub returns-in-Down-clause-beyond : goal.returns-in-Down-clause-beyond
+returns-in-Down-clause-beyond g c =
+    let s = c.self.inside in
+    let lt : c.args.p < length (map program_of s.images.items) = let long = length-map program_of s.images.items in omega (arith, c.if-p-len.false, c.len.ensures) in
+    subst (λ (w : WorldState). IsKnown w → IsBeyond w c.args.p) c.self.view_is (world_beyond _ _ _ c.args.p c.self.invariant lt)

@@ -1,0 +1,9 @@
+use Rattle.std.proofs.Common.{◌<◌, length, subst, sym}
+use Rattle.om_world.specs.Failures.{IsToGoOn}
+use Rattle.om_world.specs.World.{WorldState}
+use Rattle.om_world.proofs.Returned.{after_on}
+use Rattle.om_world.proofs.world.World.go_on.Goals as goal
+
+pub invariant_of-self-2 : goal.invariant_of-self-2
+invariant_of-self-2 g c = after_on _ _ _ c.args.p c.round.result c.go_on_at.new.cores.items c.self.invariant (subst (λ (v : WorldState). c.args.p < length v.programs) (sym c.self.view_is) c.requires.there)
+    (subst (λ (v : WorldState). IsToGoOn v c.args.p) (sym c.self.view_is) c.requires.due) c.in_ok-go_on_at.ensures.on c.round.ensures

@@ -1,0 +1,66 @@
+use Rattle.std.proofs.Common.{◌≡◌, Err, rules, subst}
+use Rattle.om_recover.specs.declared.row.RowKind.TheVariants.{Log}
+use Rattle.om_world.specs.steps.Gathering.{HasEntered}
+use Rattle.om_world.specs.steps.Moves.{HasCalled, HasTold, refusal_of_join, refusal_of_record, refusal_of_store}
+use Rattle.om_world.specs.steps.Running.{HasHandedIn, refusal_of_output}
+use Rattle.om_world.proofs.Entering.{join_handed_keeps, join_happened, join_keeps, join_not_entered, join_not_handed, join_not_noted, join_not_stored}
+use Rattle.om_world.proofs.Keeping.{keeps_recorded}
+use Rattle.om_world.proofs.world.World.join.Goals as goal
+
+pub returns-in_err-store-clause-happened : goal.returns-in_err-store-clause-happened
+returns-in_err-store-clause-happened g c = λ known.
+    let w = c.args.self.now in let mid = c.store.new.self in
+    let h = subst (λ a. HasCalled Log w c.args.p a mid) c.in_err-store.was c.store.ensures in
+    let is : c.from_residual-in_err-store.result ≡ Err (refusal_of_store c.in_err-store.field-0.0) = search rules in
+    join_not_stored w mid c.args.p c.in_err-store.field-0.0 c.from_residual-in_err-store.result c.in_ok-is_up.ensures.up c.in_ok-is_gathering.ensures.open h is known
+
+pub returns-in_err-end-clause-happened : goal.returns-in_err-end-clause-happened
+returns-in_err-end-clause-happened g c = λ known.
+    let w = c.args.self.now in let mid = c.store.new.self in let v = c.note-end.new.self in
+    let h = subst (λ a. HasCalled Log w c.args.p a mid) c.in_ok-store.was c.store.ensures in
+    let t = subst (λ a. HasTold mid c.args.p c.note-end.result.0 a v) c.in_err-end.was c.note-end.ensures in
+    let is : c.from_residual-in_err-end.result ≡ Err (refusal_of_record c.in_err-end.field-0.0) = search rules in
+    join_not_noted w mid v c.args.p c.note-end.result.0 c.in_err-end.field-0.0 c.from_residual-in_err-end.result c.in_ok-is_up.ensures.up c.in_ok-is_gathering.ensures.open h t is known
+
+pub returns-in_err-end-clause-keeps : goal.returns-in_err-end-clause-keeps
+returns-in_err-end-clause-keeps g c = keeps_recorded Log c.args.self.now c.store.new.self c.note-end.new.self c.args.p c.note-end.result.0 c.store.result c.note-end.result.1 c.store.ensures c.note-end.ensures
+
+pub returns-in_err-hand_in-clause-happened : goal.returns-in_err-hand_in-clause-happened
+returns-in_err-hand_in-clause-happened g c = λ known.
+    let w = c.args.self.now in let mid = c.store.new.self in let v = c.note-end.new.self in let z = c.hand_in.new.self in
+    let h = subst (λ a. HasCalled Log w c.args.p a mid) c.in_ok-store.was c.store.ensures in
+    let t = subst (λ a. HasTold mid c.args.p c.note-end.result.0 a v) c.in_ok-end.was c.note-end.ensures in
+    let k = subst (λ a. HasHandedIn v c.args.p a z) c.in_err-hand_in.was c.hand_in.ensures in
+    let is : c.from_residual-in_err-hand_in.result ≡ Err (refusal_of_output c.in_err-hand_in.field-0.0) = search rules in
+    join_not_handed w mid v z c.args.p c.note-end.result.0 c.in_err-hand_in.field-0.0 c.from_residual-in_err-hand_in.result c.in_ok-is_up.ensures.up c.in_ok-is_gathering.ensures.open h t k is known
+
+pub returns-in_err-hand_in-clause-keeps : goal.returns-in_err-hand_in-clause-keeps
+returns-in_err-hand_in-clause-keeps g c =
+    join_handed_keeps c.args.self.now c.store.new.self c.note-end.new.self c.hand_in.new.self c.args.p c.note-end.result.0 c.store.result c.note-end.result.1 c.hand_in.result c.store.ensures c.note-end.ensures c.hand_in.ensures
+
+pub returns-in_err-told-clause-happened : goal.returns-in_err-told-clause-happened
+returns-in_err-told-clause-happened g c = λ known.
+    let w = c.args.self.now in let mid = c.store.new.self in let v = c.note-end.new.self in let z = c.hand_in.new.self in let u = c.enter.new.self in
+    let h = subst (λ a. HasCalled Log w c.args.p a mid) c.in_ok-store.was c.store.ensures in
+    let t = subst (λ a. HasTold mid c.args.p c.note-end.result.0 a v) c.in_ok-end.was c.note-end.ensures in
+    let k = subst (λ a. HasHandedIn v c.args.p a z) c.in_ok-hand_in.was c.hand_in.ensures in
+    let e = subst (λ a. HasEntered z c.args.p a u) c.in_err-told.was c.enter.ensures in
+    let is : c.from_residual-in_err-told.result ≡ Err (refusal_of_join c.in_err-told.field-0.0) = search rules in
+    join_not_entered w mid v z u c.args.p c.note-end.result.0 c.in_err-told.field-0.0 c.from_residual-in_err-told.result c.in_ok-is_up.ensures.up c.in_ok-is_gathering.ensures.open h t k e is known
+
+pub returns-in_err-told-clause-keeps : goal.returns-in_err-told-clause-keeps
+returns-in_err-told-clause-keeps g c =
+    join_keeps c.args.self.now c.store.new.self c.note-end.new.self c.hand_in.new.self c.enter.new.self c.args.p c.note-end.result.0 c.store.result c.note-end.result.1 c.hand_in.result c.enter.result c.store.ensures c.note-end.ensures c.hand_in.ensures c.enter.ensures
+
+pub returns-clause-happened : goal.returns-clause-happened
+returns-clause-happened g c = λ known.
+    let w = c.args.self.now in let mid = c.store.new.self in let v = c.note-end.new.self in let z = c.hand_in.new.self in let u = c.enter.new.self in
+    let h = subst (λ a. HasCalled Log w c.args.p a mid) c.in_ok-store.was c.store.ensures in
+    let t = subst (λ a. HasTold mid c.args.p c.note-end.result.0 a v) c.in_ok-end.was c.note-end.ensures in
+    let k = subst (λ a. HasHandedIn v c.args.p a z) c.in_ok-hand_in.was c.hand_in.ensures in
+    let e = subst (λ a. HasEntered z c.args.p a u) c.in_ok-told.was c.enter.ensures in
+    join_happened w mid v z u c.args.p c.note-end.result.0 c.in_ok-told.told c.in_ok-is_up.ensures.up c.in_ok-is_gathering.ensures.open h t k e known
+
+pub returns-clause-keeps : goal.returns-clause-keeps
+returns-clause-keeps g c =
+    join_keeps c.args.self.now c.store.new.self c.note-end.new.self c.hand_in.new.self c.enter.new.self c.args.p c.note-end.result.0 c.store.result c.note-end.result.1 c.hand_in.result c.enter.result c.store.ensures c.note-end.ensures c.hand_in.ensures c.enter.ensures

@@ -1,0 +1,119 @@
+//! Processes that fail.
+
+ghost use Rattle.std.specs.Prelude.{ℕ, ◌≡◌, ◌<◌, length, slice_get, slice_index, Some, false};
+ghost use Rattle.om_interval.specs.declared.pid.TheConstants.{MAX_PROCESSES};
+ghost use Rattle.om_manager.specs.Rounds.{Failing};
+ghost use Rattle.om_world.specs.Failures.{live_after};
+ghost use Rattle.om_world.specs.Happened.{Happened};
+ghost use Rattle.om_world.specs.World.{IsKnown};
+ghost use Rattle.om_world.specs.declared.event.Event.{Event};
+ghost use Rattle.om_world.specs.declared.place.Place.{Place};
+ghost use Rattle.om_world.specs.steps.Gathering.{HasDeclared, HasGathered, IsFailure};
+ghost use Rattle.om_world.specs.steps.Moves.{Keeps, answered};
+
+use crate::event::{Answer, Refusal};
+use crate::live::Live;
+use crate::place::Place;
+use crate::world::World;
+use om_interval::Pid;
+use om_manager::{FailError, Gathered, Manager};
+use om_stable::Stable;
+use std::alloc::Global;
+
+// What a failure comes to.
+#[derive(Clone, Copy)]
+pub(crate) enum Failure {
+    // It is declared already, or a round has finished since: nothing happens.
+    Known,
+    // The round that the process joined has finished: it is down, and nothing is declared.
+    Settled,
+    // It is to be declared.
+    New,
+}
+
+// Cuts what was received to the recovery state, where the round is finished.
+pub(crate) fn cut_where_finished(live: &mut Live, manager: &Manager, told: Gathered)
+    ensures { live.new.entries ≡ live_after told manager.now live.old.entries }
+{
+    if told == Gathered::Finished {
+        live.cut(&manager.recovery());
+    }
+}
+
+// Declares a failure to the manager, and cuts what was received where that finishes the round.
+fn declare_to(
+    manager: &mut Manager,
+    live: &mut Live,
+    alloc: Global,
+    p: usize,
+    round: u32,
+) -> Result<Gathered, FailError>
+    requires { p < MAX_PROCESSES }
+    ensures answer { Failing manager.old p round result manager.new }
+    ensures gathered { HasGathered manager.old live.old.entries result manager.new live.new.entries }
+{
+    let told = manager.fail(alloc, Pid::at(p), round)?;
+    cut_where_finished(live, manager, told);
+    Ok(told)
+}
+
+impl<S: Stable> World<S> {
+    // What a failure of the process comes to.
+    fn failure(&self, p: usize) -> Failure
+        requires { p < length self.now.programs }
+        ensures { IsFailure self.now p result }
+    {
+        match self.places[p] {
+            Place::Up => Failure::New,
+            Place::In => {
+                if self.has_news(p) {
+                    Failure::Settled
+                } else {
+                    Failure::New
+                }
+            }
+            Place::Down { declared } => {
+                if declared || self.has_news(p) {
+                    Failure::Known
+                } else {
+                    Failure::New
+                }
+            }
+        }
+    }
+
+    // Declares that a process failed which is down.
+    fn declare(&mut self, alloc: Global, p: usize) -> Result<Gathered, FailError>
+        requires { slice_get self.old.places p ≡ Some (Place.Down false) }
+        ensures { HasDeclared self.old p result self.new }
+    {
+        let round = self.rounds[p];
+        let told = declare_to(&mut self.manager, &mut self.live, alloc, p, round)?;
+        self.places[p] = Place::Down { declared: true };
+        Ok(told)
+    }
+}
+
+impl<S: Stable> World<S> {
+    /// Takes a process down, and declares its failure where that is due.
+    pub(crate) fn fail(&mut self, alloc: Global, p: usize) -> Result<Answer, Refusal>
+        ensures happened { IsKnown self.new → Happened self.old (Event.Fail p) (answered result) self.new }
+        ensures keeps { Keeps self.old self.new }
+    {
+        if p >= self.images.len() {
+            return Err(Refusal::NoProcess);
+        }
+        match self.failure(p) {
+            Failure::Known => Err(Refusal::NotUp),
+            Failure::Settled => {
+                self.take_down(p);
+                Ok(Answer::Down)
+            }
+            Failure::New => {
+                self.take_down(p);
+                let told = self.declare(alloc, p)?;
+                Ok(Answer::Gathered(told))
+            }
+        }
+    }
+}

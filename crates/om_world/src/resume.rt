@@ -1,0 +1,160 @@
+//! Processes that are taken down, and that are up again after a finished round.
+
+ghost use Rattle.std.specs.Prelude.{◌≡◌, ◌≢◌, ◌<◌, ◌↔◌, length, slice_get, false, true, IfErr, IfOk, IsTrue, OnErr, OnOk, Some};
+ghost use Rattle.om_interval.specs.declared.pid.TheConstants.{MAX_PROCESSES};
+ghost use Rattle.om_manager.specs.State as managers;
+ghost use Rattle.om_world.specs.Failures.{HasNews, IsToGoOn, taken_down};
+ghost use Rattle.om_world.specs.Happened.{Happened, Refused};
+ghost use Rattle.om_world.specs.World.{IsKnown};
+ghost use Rattle.om_world.specs.declared.event.Event.{Event};
+ghost use Rattle.om_world.specs.declared.place.Place.TheVariants as places;
+ghost use Rattle.om_world.specs.steps.Moves.{IsCalled, Keeps, answered};
+ghost use Rattle.om_world.specs.steps.Returning.{FitsStarts, HasGoneOn, HasLeft, IsBackIn, IsBeyond, IsDue, IsRolledBack, KnowsRound, Returns};
+
+use crate::event::{Answer, Refusal};
+use crate::place::Place;
+use crate::world::World;
+use om_interval::Pid;
+use om_manager::Manager;
+use om_process::{Down, ProcCore, ReplayFault};
+use om_stable::Stable;
+use std::alloc::{AllocError, Global};
+
+// The process at a place goes on as it was, with what the last round says.
+fn go_on_at(
+    cores: &mut Vec<Option<ProcCore>>,
+    manager: &Manager,
+    p: usize,
+    alloc: Global,
+) -> Result<(), AllocError>
+    requires core { FitsStarts cores.old.items p manager.now.starts }
+    requires few { p < MAX_PROCESSES }
+    requires known { p < managers.size_of manager.now }
+    ensures on { OnOk result (KnowsRound cores.old.items p manager.now cores.new.items) }
+    ensures refused { OnErr result (cores.new.items ≡ cores.old.items) }
+{
+    let verdict = manager.verdict(Pid::at(p));
+    match &mut cores[p] {
+        Some(core) => core.resume(alloc, manager.starts(), &verdict),
+        None => unreachable!(),
+    }
+}
+
+// Replays the process at a place to where the last round cut it, and cuts its store to there.
+fn roll_back_at<S: Stable>(
+    stores: &mut Vec<S>,
+    manager: &Manager,
+    p: usize,
+    alloc: Global,
+) -> Result<ProcCore, ReplayFault>
+    requires store { p < length stores.old.items }
+    requires few { p < MAX_PROCESSES }
+    requires known { p < managers.size_of manager.now }
+    ensures back { IfOk result (λ core. IsBackIn manager.now p core) }
+    ensures called { IsCalled S.content S.is_clean S.IsSound stores.old.items stores.new.items p (IsRolledBack manager.now p result) }
+{
+    let down = Down {
+        pid: Pid::at(p),
+        n: manager.recovery().n(),
+    };
+    let verdict = manager.verdict(Pid::at(p));
+    let store = &mut stores[p];
+    match down.roll_back(alloc, store, manager.starts(), &verdict) {
+        Ok(core) => Ok(core),
+        Err((_, fault)) => Err(fault),
+    }
+}
+
+impl<S: Stable> World<S> {
+    // Whether a round is finished that is newer than those that the process knew when it was last up.
+    pub(crate) fn has_news(&self, p: usize) -> bool
+        requires { p < length self.now.programs }
+        ensures { IsTrue result ↔ HasNews self.now p }
+    {
+        self.rounds[p] < self.manager.round()
+    }
+
+    // Takes a process down, with nothing declared.
+    pub(crate) fn take_down(&mut self, p: usize)
+        requires there { p < length self.old.programs }
+        requires undeclared { slice_get self.old.places p ≢ Some (places.Down true) }
+        ensures { self.new ≡ taken_down self.old p false }
+    {
+        self.cores[p] = None;
+        self.places[p] = Place::Down { declared: false };
+    }
+
+    // Takes a process down that is in.
+    fn leave(&mut self, p: usize)
+        requires { p < length self.old.programs }
+        ensures { HasLeft self.old p self.new }
+    {
+        match self.places[p] {
+            Place::In => self.take_down(p),
+            _ => {}
+        }
+    }
+
+    // A process that is in and not rolled back goes on as it was.
+    fn go_on(&mut self, alloc: Global, p: usize) -> Result<(), AllocError>
+        requires there { p < length self.old.programs }
+        requires due { IsToGoOn self.old p }
+        ensures on { OnOk result (HasGoneOn self.old p self.new) }
+        ensures refused { OnErr result (self.new ≡ self.old) }
+    {
+        go_on_at(&mut self.cores, &self.manager, p, alloc)?;
+        self.places[p] = Place::Up;
+        self.rounds[p] = self.manager.round();
+        Ok(())
+    }
+
+    // Brings a process back that a round found, and says in which interval and incarnation it is.
+    fn bring_back(&mut self, alloc: Global, p: usize) -> Result<(u32, u32), ReplayFault>
+        requires there { p < length self.old.programs }
+        requires news { HasNews self.old p }
+        ensures { Returns self.old p result self.new }
+    {
+        let core = roll_back_at(&mut self.stores, &self.manager, p, alloc)?;
+        let place = (core.interval(), core.inc());
+        self.cores[p] = Some(core);
+        self.places[p] = Place::Up;
+        self.rounds[p] = self.manager.round();
+        Ok(place)
+    }
+
+    // Whether a process is rolled back as it comes up again: it is down, or the last round says so.
+    fn comes_back(&self, p: usize) -> Result<bool, Refusal>
+        ensures there { OnOk result (p < length self.now.programs) }
+        ensures due { IfOk result (λ back. IsDue self.now p back) }
+        ensures beyond { OnOk result (IsKnown self.now → IsBeyond self.now p) }
+        ensures refused { IsKnown self.now → IfErr result (λ why. Refused self.now (Event.Resume p) why self.now) }
+    {
+        if p >= self.images.len() {
+            return Err(Refusal::NoProcess);
+        }
+        if !self.has_news(p) {
+            return Err(Refusal::NotIn);
+        }
+        match self.places[p] {
+            // Who is up knows the last round, where what the stores hold is known.
+            Place::Up => Err(Refusal::NotIn),
+            Place::In => Ok(self.manager.verdict(Pid::at(p)).back),
+            Place::Down { declared: _ } => Ok(true),
+        }
+    }
+
+    /// A process that is in or down is up again after a newer round: rolled back, or as it was.
+    pub(crate) fn resume(&mut self, alloc: Global, p: usize) -> Result<Answer, Refusal>
+        ensures happened { IsKnown self.new → Happened self.old (Event.Resume p) (answered result) self.new }
+        ensures keeps { Keeps self.old self.new }
+    {
+        let back = self.comes_back(p)?;
+        if !back {
+            self.go_on(alloc, p)?;
+            return Ok(Answer::GoesOn);
+        }
+        self.leave(p);
+        let (interval, inc) = self.bring_back(alloc, p)?;
+        Ok(Answer::Back { interval, inc })
+    }
+}
