@@ -51,7 +51,8 @@ fn roll_back_at<S: Stable>(
     requires few { p < MAX_PROCESSES }
     requires known { p < managers.size_of manager.now }
     ensures back { IfOk result (λ core. IsBackIn manager.now p core) }
-    ensures called { IsCalled S.content S.is_clean S.IsSound stores.old.items stores.new.items p (IsRolledBack manager.now p result) }
+    ensures called { IsCalled S.content S.is_clean S.IsSound stores.old.items stores.new.items p
+        (IsRolledBack manager.now p result) }
 {
     let down = Down {
         pid: Pid::at(p),
@@ -143,7 +144,8 @@ impl<S: Stable> World<S> {
         }
     }
 
-    /// A process that is in or down is up again after a newer round: rolled back, or as it was.
+    /// A process that is in or down comes up again after a newer round: replayed from its store where it is down or the
+    /// round rolls it back, else as it was. Where it is not replayed, a process that was to be rolled back is down.
     pub(crate) fn resume(&mut self, alloc: Global, p: usize) -> Result<Answer, Refusal>
         ensures happened { IsKnown self.new → Happened self.old (Event.Resume p) (answered result) self.new }
         ensures keeps { Keeps self.old self.new }
