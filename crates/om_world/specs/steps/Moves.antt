@@ -125,7 +125,11 @@ pub record IsToldUpTo (old : ManagerState) (round p : ℕ) (rows : List Row) (co
 pub record HasCalled (kind : RowKind) (old : WorldState) (p : ℕ) (answer : Result (Unit {0}) StoreError) (new : WorldState) : Type 0 where
   pub core : CoreState
   pub there : slice_get old.cores p ≡ Some (Some core)
-  pub others : new ≡ record old { cores = slice_set old.cores p (Some (after_store kind core answer)); contents = new.contents; clean = new.clean }
+  pub others : new ≡ record old {
+    cores = slice_set old.cores p (Some (after_store kind core answer));
+    contents = new.contents;
+    clean = new.clean;
+  }
   pub did : IsKnown new → (before : Content) × (after : Content) × (slice_get old.contents p ≡ Some before)
       × (new.contents ≡ slice_set old.contents p after) × Gained kind core answer before after
   pub was_clean : all_clean new.clean ≡ true → all_clean old.clean ≡ true
@@ -136,7 +140,10 @@ pub record HasTold (old : WorldState) (p count : ℕ) (end : Result (Unit {0}) R
   pub core : CoreState
   pub there : slice_get old.cores p ≡ Some (Some core)
   pub told : IsToldUpTo old.manager core.round p core.pending count end new.manager
-  pub others : new ≡ record old { cores = slice_set old.cores p (Some (with_pending core (drop count core.pending))); manager = new.manager }
+  pub others : new ≡ record old {
+    cores = slice_set old.cores p (Some (with_pending core (drop count core.pending)));
+    manager = new.manager;
+  }
   pub memory : IsKnown old → IfErr end (λ fault. fault ≡ Refused refusals.Memory)
 
 -- the event that stores what is kept of a kind
