@@ -1,6 +1,6 @@
 //! Processes that fail.
 
-ghost use Rattle.std.specs.Prelude.{ℕ, ◌≡◌, ◌<◌, length, slice_get, slice_index, Some, false};
+ghost use Rattle.std.specs.Prelude.{◌≡◌, ◌<◌, length, slice_get, Some, false};
 ghost use Rattle.om_interval.specs.declared.pid.TheConstants.{MAX_PROCESSES};
 ghost use Rattle.om_manager.specs.Rounds.{Failing};
 ghost use Rattle.om_world.specs.Failures.{live_after};
@@ -82,7 +82,7 @@ impl<S: Stable> World<S> {
         }
     }
 
-    // Declares that a process failed which is down.
+    // Declares the failure of a process that is down.
     fn declare(&mut self, alloc: Global, p: usize) -> Result<Gathered, FailError>
         requires { slice_get self.old.places p ≡ Some (Place.Down false) }
         ensures { HasDeclared self.old p result self.new }

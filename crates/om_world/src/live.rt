@@ -1,12 +1,11 @@
 //! What was received, in order.
 
-ghost use Rattle.std.specs.Prelude.{◌≡◌, ℕ, ◌++◌, ◌∷◌, ◌<◌, ◌≤◌, ◌↔◌, [], length, slice_index, take, IfOk, IsTrue, OnErr, OnOk};
-ghost use Rattle.om_interval.specs.declared.pid.TheConstants.{MAX_PROCESSES};
+ghost use Rattle.std.specs.Prelude.{◌≡◌, ◌++◌, ◌∷◌, ◌<◌, ◌≤◌, ◌↔◌, [], length, slice_index, take, IsTrue, OnOk};
 ghost use Rattle.om_world.specs.Live.{cut_list};
 ghost use Rattle.om_world.specs.steps.Counts.{AreCounted, AreWithin};
 
 use crate::entry::Entry;
-use om_interval::{DepVec, MAX_PROCESSES, Pid};
+use om_interval::{DepVec, MAX_PROCESSES};
 use std::alloc::{AllocError, Global};
 use std::marker::Model;
 
