@@ -1,3 +1,7 @@
 pub mod OrderLemmas
 pub mod PostingLemmas
 pub mod FrontLemmas
+mod OnWay
+mod LinkLemmas
+mod ReportLemmas
+mod WireLemmas

@@ -3,3 +3,4 @@ pub mod Fronts
 pub mod CellNames
 pub mod Boards
 pub mod steps
+pub mod Reports

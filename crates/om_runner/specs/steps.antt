@@ -2,3 +2,8 @@
 pub mod Order
 pub mod Posting
 pub mod Codes
+pub mod Nodes
+pub mod Places
+pub mod Network
+pub mod Wiring
+pub mod Ends

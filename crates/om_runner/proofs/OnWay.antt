@@ -1,0 +1,283 @@
+-- What keeps a process and its store on their way.
+use Rattle.std.proofs.Common.{◌≡◌, ◌≢◌, ◌⊎◌, inl, inr, ℕ, ◌+◌, ◌≤◌, List, [], ◌∷◌, ◌++◌, Option, Some, None, Bool, IsTrue, true, false, cond, refl, sym, ap, ◌∙◌, subst, arith, length, length-set}
+use Rattle.std.proofs.lemmas.List.{length-replicate}
+use Rattle.std.specs.FinMap.{get, get-empty}
+use Rattle.std.specs.Ordering.{nat_cmp}
+use Rattle.std.proofs.lemmas.Bool.{cases_eq}
+use Rattle.om_format.specs.Checkpoints.{CheckpointRecord, IsSpelled, SpellsCheckpoint}
+use Rattle.om_format.specs.declared.message.Message.{Message}
+use Rattle.om_format.specs.declared.queue.Entry.{Entry}
+use Rattle.om_format.specs.Queues.{QueueRecord}
+use Rattle.om_format.specs.declared.version.Version.TheVariants.{V2}
+use Rattle.om_format.proofs.Checkpoints.{one_checkpoint}
+use Rattle.om_stable.specs.Calls.{IsKnown}
+use Rattle.om_stable.specs.Content.{Content, with_checkpoint, kept_by_cut, kept_by_prune}
+use Rattle.om_stable.proofs.RecordLemmas.{get-insert_here, get-insert_apart, get-retained}
+use Rattle.om_process.specs.Claims.{CheckpointOf}
+use Rattle.om_process.specs.Accepts.{Answers, IsDue, taken, received}
+use Rattle.om_process.specs.declared.accept.Accept.{Accept}
+use Rattle.om_process.specs.declared.accept.Accept.TheVariants.{Taken, Stranger, Orphan, Repeat, Ahead, NotWaiting, Full, Memory}
+use Rattle.om_process.specs.Core.{CoreState, CoreTurns, move_of, size_of, status_of, with_now}
+use Rattle.om_process.specs.declared.status.Status.{Status}
+use Rattle.om_process.specs.Parts.{Keeps, KeepQueues}
+use Rattle.om_process.specs.Process.{Process, Program, Received, delivered, made, started}
+use Rattle.om_process.specs.Replays.{process_of, receipts_of}
+use Rattle.om_process.specs.Starting.{started_core}
+use Rattle.om_process.specs.Stored.{StandsAfter, Anyone, IsReplay}
+use Rattle.om_process.specs.Stores.{HasGainedLog, HasGainedCheckpoint, checkpointed, flushed}
+use Rattle.om_process.specs.Trims.{trimmed}
+use Rattle.om_process.specs.Turns.{Turns, IsWaiting, Along, next_move}
+use Rattle.om_process.proofs.Parts.{keeps_turns, keeps_waits, keeps_delivered, same_move}
+use Rattle.om_process.proofs.Replays.{keeps_trim, replayed_along}
+use Rattle.om_process.proofs.Runs.{turns_then, leads_more}
+use Rattle.om_runner.specs.Reports.{IsStatusAlong, nothing}
+use Rattle.om_runner.specs.steps.Nodes.{Member, NodeState, IsOnWay, AreOnWay, IsKept, IsNode}
+
+keep_themselves : (qs : List QueueRecord) → KeepQueues qs qs
+keep_themselves [] = tt
+keep_themselves (q ∷ qs) = (([], refl, add-zero_of q.first), keep_themselves qs)
+  where
+    add-zero_of : (x : ℕ) → x ≡ x + length {A = Entry} []
+    add-zero_of x = omega arith
+
+keeps_itself : (s : Process) → Keeps s s
+keeps_itself s = record { same = refl; queues = keep_themselves s.queues }
+
+-- ---- the process
+pub way_turns : (m : Member) (k : ℕ) (s t : Process) → IsOnWay m s → Turns m.own m.n k s t → IsOnWay m t
+way_turns m k s t on turns =
+    let reach = on.1.1 in
+    let more = keeps_turns m.own m.n k on.1.0 s t on.1.2 turns in
+    let far = turns_then m.own m.n reach.0 k reach.1.0 on.1.0 more.0 reach.1.2 more.1 in
+    (on.0, (more.0, (far.0, (reach.1.0, reach.1.1, far.1)), more.2))
+
+pub way_delivered : (m : Member) (s : Process) (r : Received) → IsOnWay m s → IsWaiting m.own m.n s → IsOnWay m (delivered m.own s r)
+way_delivered m s r on waits =
+    let whole = on.1.0 in
+    let led = leads_more m.own m.n on.0 on.1.1.0 (started m.program m.n) whole r on.1.1.1 (keeps_waits m.own m.n whole s on.1.2 waits) in
+    (on.0 ++ r ∷ [], (delivered m.own whole r, (0, (delivered m.own whole r, led, refl)), keeps_delivered m.own whole s r on.1.2))
+
+pub way_trimmed : (m : Member) (bounds : List ℕ) (s : Process) → IsOnWay m s → IsOnWay m (trimmed bounds s)
+way_trimmed m bounds s on = (on.0, (on.1.0, on.1.1, keeps_trim bounds on.1.0 s on.1.2))
+
+pub way_replayed : (m : Member) (x : ℕ) (held : Content) (t : Process) → AreOnWay m held → StandsAfter Anyone held x x m.own m.n t → IsOnWay m t
+way_replayed m x held t stored stands =
+    let at = stands.all.begins.stored in
+    let from = stored stands.checkpoint.interval at.bytes at.stands stands.checkpoint at.spelled in
+    (from.0 ++ receipts_of stands.receipts, replayed_along m.program m.own m.n (process_of stands.checkpoint) t from.0 stands.receipts from.1 stands.replayed)
+
+pub way_status : (m : Member) (s : Process) → IsOnWay m s → IsStatusAlong m.program m.own m.n (status_of (next_move m.own m.n s.machine (made s.queues)))
+way_status m s on = (on.0, on.1.0, on.1.1, ap status_of (same_move m.own m.n on.1.0 s on.1.2))
+
+-- ---- the store
+none_some : {A : Type 0} (x : A) → None ≡ Some x → ⊥
+none_some x e = cc
+
+pub stored_nothing : (m : Member) → AreOnWay m nothing
+stored_nothing m x bytes at c spelled = absurd (none_some bytes (sym (get-empty nat_cmp x) ∙ at))
+
+pub stored_log : (m : Member) (c : CoreState) (old new : Content) → AreOnWay m old → HasGainedLog c old new → AreOnWay m new
+stored_log m c old new stored gained = subst (AreOnWay m) (sym gained.2) stored
+
+some_same : (a b : List ℕ) → Some a ≡ Some b → a ≡ b
+some_same a b e = cc
+
+pub stored_checkpoint : (m : Member) (c : CoreState) (old new : Content) → AreOnWay m old → IsOnWay m c.now → HasGainedCheckpoint c old new → AreOnWay m new
+stored_checkpoint m c old new stored on gained =
+    let r = gained.0 in
+    let bytes = gained.2 in
+    subst (AreOnWay m) (sym gained.4) (λ x found at d spelled. elim (cases_eq x c.now.interval) [
+      | inl same ↦
+          let here : get (with_checkpoint old c.now.interval bytes).checkpoints x ≡ Some bytes = subst (λ y. get (with_checkpoint old c.now.interval bytes).checkpoints y ≡ Some bytes) (sym same) (get-insert_here old.checkpoints c.now.interval bytes) in
+          let is : bytes ≡ found = some_same bytes found (sym here ∙ at) in
+          let one : r ≡ d = (one_checkpoint found V2 spelled.0 r d (subst (SpellsCheckpoint V2 r) is gained.3) spelled.1).1 in
+          subst (λ p. IsOnWay m p) (sym gained.1.process ∙ ap process_of one) on
+      | inr apart ↦ stored x found (sym (get-insert_apart old.checkpoints c.now.interval bytes x apart) ∙ at) d spelled
+    ])
+
+kept_there : (b : Bool) (o : Option (List ℕ)) (bytes : List ℕ) → cond b o None ≡ Some bytes → o ≡ Some bytes
+kept_there true o bytes e = e
+kept_there false o bytes e = absurd (none_some bytes e)
+
+pub stored_cut : (m : Member) (r : ℕ) (held : Content) → AreOnWay m held → AreOnWay m (kept_by_cut held r)
+stored_cut m r held stored x bytes at c spelled =
+    stored x bytes (kept_there _ _ bytes (sym (get-retained held.checkpoints _ x) ∙ at)) c spelled
+
+pub stored_pruned : (m : Member) (to : ℕ) (held : Content) → AreOnWay m held → AreOnWay m (kept_by_prune held to)
+stored_pruned m to held stored x bytes at c spelled =
+    stored x bytes (kept_there _ _ bytes (sym (get-retained held.checkpoints _ x) ∙ at)) c spelled
+
+-- ---- both
+-- after a call of the store, whatever became of the process
+pub node_called : {S : Type 0} (content : S → Content) (is_clean : S → Bool) (IsSound : S → Type 0) (m : Member) (core next : CoreState) (old new : S)
+    → IsNode content is_clean IsSound (record { member = m; core = core }) old
+    → (IsTrue (is_clean new) → IsTrue (is_clean old)) → (IsTrue (is_clean new) → IsSound old → IsSound new)
+    → next.own ≡ core.own → size_of next.now ≡ size_of core.now
+    → (IsOnWay m core.now → IsOnWay m next.now)
+    → (IsTrue (is_clean new) × IsSound old → IsOnWay m core.now → AreOnWay m (content old) → AreOnWay m (content new))
+    → IsNode content is_clean IsSound (record { member = m; core = next }) new
+node_called content is_clean IsSound m core next old new is clean sound own size on stored = record {
+  own = own ∙ is.own;
+  size = size ∙ is.size;
+  kept = record {
+    sound = λ c. sound c (is.kept.sound (clean c));
+    stored = λ c. stored (c, is.kept.sound (clean c)) (is.stands (clean c)) (is.kept.stored (clean c));
+  };
+  stands = λ c. on (is.stands (clean c));
+}
+
+-- after a move of the process alone
+pub node_moved : {S : Type 0} (content : S → Content) (is_clean : S → Bool) (IsSound : S → Type 0) (m : Member) (core next : CoreState) (store : S)
+    → IsNode content is_clean IsSound (record { member = m; core = core }) store
+    → next.own ≡ core.own → size_of next.now ≡ size_of core.now
+    → (IsOnWay m core.now → IsOnWay m next.now)
+    → IsNode content is_clean IsSound (record { member = m; core = next }) store
+node_moved content is_clean IsSound m core next store is own size on =
+    node_called content is_clean IsSound m core next store store is (λ c. c) (λ c s. s) own size on (λ k here stored. stored)
+
+-- ---- the moves of a member
+-- it has run
+pub node_ran : {S : Type 0} (content : S → Content) (is_clean : S → Bool) (IsSound : S → Type 0) (m : Member) (core next : CoreState) (store : S) (fuel : ℕ)
+    → IsNode content is_clean IsSound (record { member = m; core = core }) store
+    → (k : ℕ) × (k ≤ fuel) × CoreTurns k core next → next ≡ with_now core next.now → size_of next.now ≡ size_of core.now
+    → IsNode content is_clean IsSound (record { member = m; core = next }) store
+node_ran content is_clean IsSound m core next store fuel is ran rest size =
+    node_moved content is_clean IsSound m core next store is (ap (λ (c : CoreState). c.own) rest) size
+    (λ on. way_turns m ran.0 core.now next.now on (subst (λ o. Turns o m.n ran.0 core.now next.now) is.own (subst (λ n. Turns core.own n ran.0 core.now next.now) is.size ran.2)))
+
+taken_size : (core : CoreState) (message : Message) → size_of (taken core message).now ≡ size_of core.now
+taken_size core message = length-set _ _ _ ∙ length-set _ _ _
+
+-- it has taken a message
+node_took : {S : Type 0} (content : S → Content) (is_clean : S → Bool) (IsSound : S → Type 0) (m : Member) (core : CoreState) (store : S) (message : Message)
+    → IsNode content is_clean IsSound (record { member = m; core = core }) store → IsDue core message
+    → IsNode content is_clean IsSound (record { member = m; core = taken core message }) store
+node_took content is_clean IsSound m core store message is due =
+    node_moved content is_clean IsSound m core (taken core message) store is refl (taken_size core message)
+    (λ on. subst (λ o. IsOnWay m (delivered o core.now (received message))) (sym is.own) (way_delivered m core.now (received message) on (subst (λ o. IsWaiting o m.n core.now) is.own (subst (λ n. IsWaiting core.own n core.now) is.size due.waits))))
+
+-- it was offered one
+pub node_offered : {S : Type 0} (content : S → Content) (is_clean : S → Bool) (IsSound : S → Type 0) (m : Member) (core next : CoreState) (store : S) (message : Message) (answer : Accept)
+    → IsNode content is_clean IsSound (record { member = m; core = core }) store
+    → Answers core message answer
+    → ((x : ℕ) → answer ≡ Taken x → next ≡ taken core message) → (((x : ℕ) → answer ≢ Taken x) → next ≡ core)
+    → IsNode content is_clean IsSound (record { member = m; core = next }) store
+node_offered content is_clean IsSound m core next store message answer is = by_answer answer
+  where
+    same : next ≡ core → IsNode content is_clean IsSound (record { member = m; core = next }) store
+    same e = subst (λ d. IsNode content is_clean IsSound (record { member = m; core = d }) store) (sym e) is
+
+    by_answer : (a : Accept) → Answers core message a → ((x : ℕ) → a ≡ Taken x → next ≡ taken core message) → (((x : ℕ) → a ≢ Taken x) → next ≡ core)
+        → IsNode content is_clean IsSound (record { member = m; core = next }) store
+    by_answer (Taken x) answers took refused = subst (λ d. IsNode content is_clean IsSound (record { member = m; core = d }) store) (sym (took x refl)) (node_took content is_clean IsSound m core store message is answers.0)
+    by_answer Stranger answers took refused = same (refused (λ x e. cc))
+    by_answer Orphan answers took refused = same (refused (λ x e. cc))
+    by_answer Repeat answers took refused = same (refused (λ x e. cc))
+    by_answer Ahead answers took refused = same (refused (λ x e. cc))
+    by_answer NotWaiting answers took refused = same (refused (λ x e. cc))
+    by_answer Full answers took refused = same (refused (λ x e. cc))
+    by_answer Memory answers took refused = same (refused (λ x e. cc))
+
+-- ---- and of its store
+-- it has stored its log
+pub node_flushed : {S : Type 0} (content : S → Content) (is_clean : S → Bool) (IsSound : S → Type 0) (m : Member) (core next : CoreState) (old new : S)
+    → IsNode content is_clean IsSound (record { member = m; core = core }) old
+    → next ≡ flushed core → (IsTrue (is_clean new) → IsTrue (is_clean old)) → (IsTrue (is_clean new) → IsSound old → IsSound new)
+    → (IsKnown is_clean IsSound old new → HasGainedLog core (content old) (content new))
+    → IsNode content is_clean IsSound (record { member = m; core = next }) new
+node_flushed content is_clean IsSound m core next old new is went clean sound gained =
+    subst (λ d. IsNode content is_clean IsSound (record { member = m; core = d }) new) (sym went)
+    (node_called content is_clean IsSound m core (flushed core) old new is clean sound refl refl (λ on. on) (λ known on stored. stored_log m core (content old) (content new) stored (gained known)))
+
+-- it has stored a checkpoint
+pub node_checkpointed : {S : Type 0} (content : S → Content) (is_clean : S → Bool) (IsSound : S → Type 0) (m : Member) (core next : CoreState) (old new : S)
+    → IsNode content is_clean IsSound (record { member = m; core = core }) old
+    → next ≡ checkpointed core → (IsTrue (is_clean new) → IsTrue (is_clean old)) → (IsTrue (is_clean new) → IsSound old → IsSound new)
+    → (IsKnown is_clean IsSound old new → HasGainedCheckpoint core (content old) (content new))
+    → IsNode content is_clean IsSound (record { member = m; core = next }) new
+node_checkpointed content is_clean IsSound m core next old new is went clean sound gained =
+    subst (λ d. IsNode content is_clean IsSound (record { member = m; core = d }) new) (sym went)
+    (node_called content is_clean IsSound m core (checkpointed core) old new is clean sound refl refl (λ on. on) (λ known on stored. stored_checkpoint m core (content old) (content new) stored on (gained known)))
+
+-- its store refused
+pub node_refused : {S : Type 0} (content : S → Content) (is_clean : S → Bool) (IsSound : S → Type 0) (m : Member) (core next : CoreState) (old new : S)
+    → IsNode content is_clean IsSound (record { member = m; core = core }) old
+    → next ≡ core → (IsTrue (is_clean new) → IsTrue (is_clean old)) → (IsTrue (is_clean new) → IsSound old → IsSound new)
+    → (IsKnown is_clean IsSound old new → content new ≡ content old)
+    → IsNode content is_clean IsSound (record { member = m; core = next }) new
+node_refused content is_clean IsSound m core next old new is went clean sound same =
+    subst (λ d. IsNode content is_clean IsSound (record { member = m; core = d }) new) (sym went)
+    (node_called content is_clean IsSound m core core old new is clean sound refl refl (λ on. on) (λ known on stored. subst (AreOnWay m) (sym (same known)) stored))
+
+-- its store was pruned
+pub node_pruned : {S : Type 0} (content : S → Content) (is_clean : S → Bool) (IsSound : S → Type 0) (m : Member) (core : CoreState) (old new : S) (to : ℕ)
+    → IsNode content is_clean IsSound (record { member = m; core = core }) old
+    → (IsTrue (is_clean new) → IsTrue (is_clean old)) → (IsTrue (is_clean new) → IsSound old → IsSound new)
+    → (IsKnown is_clean IsSound old new → content new ≡ kept_by_prune (content old) to)
+    → IsNode content is_clean IsSound (record { member = m; core = core }) new
+node_pruned content is_clean IsSound m core old new to is clean sound pruned =
+    node_called content is_clean IsSound m core core old new is clean sound refl refl (λ on. on) (λ known on stored. subst (AreOnWay m) (sym (pruned known)) (stored_pruned m to (content old) stored))
+
+-- it keeps fewer entries
+pub node_trimmed : {S : Type 0} (content : S → Content) (is_clean : S → Bool) (IsSound : S → Type 0) (m : Member) (core next : CoreState) (store : S) (bounds : List ℕ)
+    → IsNode content is_clean IsSound (record { member = m; core = core }) store
+    → next ≡ with_now core (trimmed bounds core.now)
+    → IsNode content is_clean IsSound (record { member = m; core = next }) store
+node_trimmed content is_clean IsSound m core next store bounds is went =
+    subst (λ d. IsNode content is_clean IsSound (record { member = m; core = d }) store) (sym went)
+    (node_moved content is_clean IsSound m core (with_now core (trimmed bounds core.now)) store is refl refl (way_trimmed m bounds core.now))
+
+-- it knows another round, or fewer pending rows
+pub node_told : {S : Type 0} (content : S → Content) (is_clean : S → Bool) (IsSound : S → Type 0) (m : Member) (core next : CoreState) (store : S)
+    → IsNode content is_clean IsSound (record { member = m; core = core }) store
+    → next.own ≡ core.own → next.now ≡ core.now
+    → IsNode content is_clean IsSound (record { member = m; core = next }) store
+node_told content is_clean IsSound m core next store is own now =
+    node_moved content is_clean IsSound m core next store is own (ap size_of now) (λ on. subst (IsOnWay m) (sym now) on)
+
+-- it has started over a store that held nothing
+pub node_started : {S : Type 0} (content : S → Content) (is_clean : S → Bool) (IsSound : S → Type 0) (m : Member) (core : CoreState) (old new : S)
+    → core ≡ started_core m.program m.own m.n → Along m.program m.own m.n [] 0 core.now
+    → (IsTrue (is_clean old) → IsSound old) → (IsTrue (is_clean old) → content old ≡ nothing)
+    → (IsTrue (is_clean new) → IsTrue (is_clean old)) → (IsTrue (is_clean new) → IsSound old → IsSound new)
+    → (IsKnown is_clean IsSound old new → HasGainedCheckpoint core (content old) (content new))
+    → IsNode content is_clean IsSound (record { member = m; core = core }) new
+node_started content is_clean IsSound m core old new at along was empty clean sound gained =
+    let on : IsOnWay m core.now = ([], (core.now, (0, along), keeps_itself core.now)) in
+    record {
+      own = ap (λ (c : CoreState). c.own) at;
+      size = ap (λ (c : CoreState). size_of c.now) at ∙ length-replicate m.n 0;
+      kept = record {
+        sound = λ c. sound c (was (clean c));
+        stored = λ c. stored_checkpoint m core (content old) (content new) (subst (AreOnWay m) (sym (empty (clean c))) (stored_nothing m)) on (gained (c, was (clean c)));
+      };
+      stands = λ c. on;
+    }
+
+-- it came back
+pub node_back : {S : Type 0} (content : S → Content) (is_clean : S → Bool) (IsSound : S → Type 0) (m : Member) (core : CoreState) (old new : S) (r : ℕ)
+    → IsKept content is_clean IsSound m old
+    → core.own ≡ m.own → size_of core.now ≡ m.n
+    → (IsTrue (is_clean new) → IsTrue (is_clean old)) → (IsTrue (is_clean new) → IsSound old → IsSound new)
+    → (IsKnown is_clean IsSound old new → IsReplay (content old) r core)
+    → (IsKnown is_clean IsSound old new → content new ≡ kept_by_cut (content old) r)
+    → IsNode content is_clean IsSound (record { member = m; core = core }) new
+node_back content is_clean IsSound m core old new r kept own size clean sound replayed cut = record {
+  own = own;
+  size = size;
+  kept = record {
+    sound = λ c. sound c (kept.sound (clean c));
+    stored = λ c. subst (AreOnWay m) (sym (cut (c, kept.sound (clean c)))) (stored_cut m r (content old) (kept.stored (clean c)));
+  };
+  stands = λ c.
+      let at = replayed (c, kept.sound (clean c)) in
+      way_replayed m r (content old) core.now (kept.stored (clean c)) (subst (λ n. StandsAfter Anyone (content old) r r m.own n core.now) size (subst (λ o. StandsAfter Anyone (content old) r r o (size_of core.now) core.now) own at));
+}
+
+-- how it has ended
+pub node_status : {S : Type 0} (content : S → Content) (is_clean : S → Bool) (IsSound : S → Type 0) (m : Member) (core : CoreState) (store : S) (status : Status)
+    → IsNode content is_clean IsSound (record { member = m; core = core }) store → IsTrue (is_clean store) → status ≡ status_of (move_of core)
+    → IsStatusAlong m.program m.own m.n status
+node_status content is_clean IsSound m core store status is clean at =
+    let told : status ≡ status_of (next_move m.own m.n core.now.machine (made core.now.queues)) = subst (λ n. status ≡ status_of (next_move m.own n core.now.machine (made core.now.queues))) is.size (subst (λ o. status ≡ status_of (next_move o (size_of core.now) core.now.machine (made core.now.queues))) is.own at) in
+    subst (IsStatusAlong m.program m.own m.n) (sym told) (way_status m core.now (is.stands clean))

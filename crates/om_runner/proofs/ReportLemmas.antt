@@ -1,0 +1,143 @@
+-- What a report is made of.
+use Rattle.std.proofs.Common.{◌≡◌, ◌⊎◌, inl, inr, ℕ, zero, suc, ◌+◌, ◌<◌, ◌≤◌, List, [], ◌∷◌, ◌++◌, Some, cond, refl, sym, ap, ◌∙◌, subst, arith, get_or, length, map, All, IsTrue, Bool}
+use Rattle.std.specs.Prelude.{Vec, slice_get, slice_index, Ok, Result, IfOk}
+use Rattle.std.specs.declared.alloc.Global.{Global}
+use Rattle.std.proofs.lemmas.Bool.{cases_order, le-leb, lt-leb}
+use Rattle.std.proofs.lemmas.List.{get_or-map, length-map}
+use Rattle.std.proofs.lemmas.Option.{get_or_from_slice_get, slice_get-get_or, slice_get_cases, slice_get_within}
+use Rattle.om_manager.specs.Outputs.{AreNumbered, HeldOutput, held_of, within}
+use Rattle.om_manager.specs.State.{ManagerState, held_by, released_by}
+use Rattle.om_manager.specs.declared.output_log.Output.{Output}
+use Rattle.om_process.specs.Images.{program_of}
+use Rattle.om_process.specs.declared.image.Image.{Image}
+use Rattle.om_process.specs.declared.status.Status.{Status}
+use Rattle.om_runner.proofs.LinkLemmas.{none_in, some_same, set_at}
+use Rattle.om_runner.specs.Reports.{AreAllReleased, AreAlong, AreStatusesAlong, IsEnd, IsStatusAlong}
+use Rattle.om_runner.specs.declared.network.Ends.{Ends}
+use Rattle.om_runner.specs.steps.Ends.{AreReleasedBy, IsEndOf}
+use Rattle.om_runner.specs.steps.Network.{Lines}
+use Rattle.om_runner.specs.steps.Wiring.{HasEnds, IsWired}
+
+-- ---- lists
+pub map_get : {A B : Type 0} (f : A → B) (xs : List A) (i : ℕ) (x : A) → slice_get xs i ≡ Some x → slice_get (map f xs) i ≡ Some (f x)
+map_get f [] i x e = absurd (none_in i x e)
+map_get f (y ∷ xs) zero x e = ap Some (ap f (some_same y x e))
+map_get f (y ∷ xs) (suc i) x e = map_get f xs i x e
+
+pub map_had : {A B : Type 0} (f : A → B) (xs : List A) (i : ℕ) (y : B) → slice_get (map f xs) i ≡ Some y → (x : A) × (slice_get xs i ≡ Some x) × (f x ≡ y)
+map_had f [] i y e = absurd (none_in i y e)
+map_had f (x ∷ xs) zero y e = (x, refl, some_same (f x) y e)
+map_had f (x ∷ xs) (suc i) y e = map_had f xs i y e
+
+-- an element of a list with one more is that one or was there
+pub more_had : {A : Type 0} (xs : List A) (i : ℕ) (y x : A) → slice_get (xs ++ y ∷ []) i ≡ Some x → ((i ≡ length xs) × (x ≡ y)) ⊎ (slice_get xs i ≡ Some x)
+more_had [] zero y x e = inl (refl, sym (some_same y x e))
+more_had [] (suc i) y x e = absurd (none_in i x e)
+more_had (z ∷ xs) zero y x e = inr e
+more_had (z ∷ xs) (suc i) y x e = elim (more_had xs i y x e) [ inl p ↦ inl (ap suc p.0, p.1) | inr p ↦ inr p ]
+
+pub any_default : {A : Type 0} (xs : List A) (i : ℕ) (d e : A) → i < length xs → get_or xs i d ≡ get_or xs i e
+any_default xs i d e lt = some_same (get_or xs i d) (get_or xs i e) (sym (slice_get-get_or xs i d lt) ∙ slice_get-get_or xs i e lt)
+
+pub next_of : {A : Type 0} (x : A) (xs : List A) (k : ℕ) (d : A) → get_or (x ∷ xs) (k + 1) d ≡ get_or xs k d
+next_of x xs k d = let next : k + 1 ≡ suc k = omega arith in ap (λ i. get_or (x ∷ xs) i d) next
+
+-- what holds of each element, and of one more
+pub each_more : {A : Type 0} (P : ℕ → A → Type 0) (xs ys : List A) (y : A) → ys ≡ xs ++ y ∷ [] → ((i : ℕ) (x : A) → i < length xs → P i (get_or xs i x)) → P (length xs) y
+    → (k : ℕ) (h : A) → k < length ys → P k (get_or ys k h)
+each_more P xs ys y are each last k h lt = elim (more_had xs k y (get_or ys k h) (subst (λ l. slice_get l k ≡ Some (get_or ys k h)) are (slice_get-get_or ys k h lt))) [
+  | inl here ↦ subst (P k) (sym here.1) (subst (λ i. P i y) (sym here.0) last)
+  | inr there ↦ subst (P k) (get_or_from_slice_get xs k (get_or ys k h) h there) (each k h (slice_get_within xs k (get_or ys k h) there))
+]
+
+-- ---- outputs
+cases_le_lt : (x y : ℕ) → (x ≤ y) ⊎ (y < x)
+cases_le_lt x y = elim (cases_order y x) [
+  | inl same ↦ inl (omega arith)
+  | inr apart ↦ elim apart [ inl less ↦ inr less | inr more ↦ inl (omega arith) ]
+]
+
+at_first : (x : HeldOutput) (rest : List HeldOutput) (limit j : ℕ) (y : HeldOutput) → x.interval ≤ limit → ((k : ℕ) → slice_get rest k ≡ Some y → y.interval ≤ limit)
+    → slice_get (x ∷ rest) j ≡ Some y → y.interval ≤ limit
+at_first x rest limit zero y inside later at = subst (λ (z : HeldOutput). z.interval ≤ limit) (some_same x y at) inside
+at_first x rest limit (suc j) y inside later at = later j at
+
+within_limit : (xs : List HeldOutput) (limit i : ℕ) (y : HeldOutput) → slice_get (within xs limit) i ≡ Some y → y.interval ≤ limit
+within_limit [] limit i y e = absurd (none_in i y e)
+within_limit (x ∷ xs) limit i y e = elim (cases_le_lt x.interval limit) [
+  | inl inside ↦ at_first x (within xs limit) limit i y inside (λ k at. within_limit xs limit k y at)
+      (subst (λ zs. slice_get zs i ≡ Some y) (ap (λ b. cond b (x ∷ within xs limit) (within xs limit)) (le-leb x.interval limit inside)) e)
+  | inr beyond ↦ within_limit xs limit i y (subst (λ zs. slice_get zs i ≡ Some y) (ap (λ b. cond b (x ∷ within xs limit) (within xs limit)) (lt-leb x.interval limit beyond)) e)
+]
+
+pub numbered_too : (copies outputs : List Output) → map (λ o. o.seq) copies ≡ map (λ o. o.seq) outputs → AreNumbered outputs → AreNumbered copies
+numbered_too copies outputs same numbered place d lt =
+    let long : length copies ≡ length outputs = sym (length-map copies (λ (o : Output). o.seq)) ∙ ap length same ∙ length-map outputs (λ (o : Output). o.seq) in
+    let inside : place < length outputs = subst (λ n. place < n) long lt in
+    sym (get_or-map (λ (o : Output). o.seq) copies place d 0 lt) ∙ ap (λ ns. get_or ns place 0) same ∙ get_or-map (λ (o : Output). o.seq) outputs place d 0 inside ∙ numbered place d inside
+
+pub all_released : (m : ManagerState) (released : List (Vec Output Global)) → AreReleasedBy m released → AreAllReleased m.recovery released
+all_released m released are p outputs at i o there =
+    let both = are p outputs at in (
+      subst (λ (x : Output). x.seq ≡ i) (get_or_from_slice_get outputs.items i o o there) (both.1 i o (slice_get_within outputs.items i o there)),
+      within_limit (held_by m p) (slice_index m.recovery p) i (held_of o) (subst (λ hs. slice_get hs i ≡ Some (held_of o)) both.0 (map_get held_of outputs.items i o there)),
+    )
+
+pub released_more : (m : ManagerState) (released : List (Vec Output Global)) (outputs : Vec Output Global) → AreReleasedBy m released
+    → map held_of outputs.items ≡ released_by m (length released) → AreNumbered outputs.items
+    → AreReleasedBy m (released ++ outputs ∷ [])
+released_more m released outputs are held numbered p found at = elim (more_had released p outputs found at) [
+  | inl here ↦ (
+    subst (λ q. map held_of found.items ≡ released_by m q) (sym here.0) (ap (λ (v : Vec Output Global). map held_of v.items) here.1 ∙ held),
+    subst (λ (v : Vec Output Global). AreNumbered v.items) (sym here.1) numbered,
+  )
+  | inr there ↦ are p found there
+]
+
+-- ---- ends
+-- where all ended so, and these are their statuses and stores, the statuses are those of states along the images
+pub all_along : {S F E : Type 0} (is_clean : S → Bool) (status_at : F → Status) (store_at : F → S) (images : List Image) (n : ℕ) (results : List (Result F E)) (fs : List F) (statuses : List Status) (stores : List S)
+    → length images ≡ n → map Ok fs ≡ results → length results ≡ n
+    → ((i : ℕ) (a : Image) (r : Result F E) → i < n → IfOk (get_or results i r) (λ f. IsEndOf is_clean (program_of (get_or images i a)) i n (status_at f) (store_at f)))
+    → statuses ≡ map status_at fs → stores ≡ map store_at fs
+    → AreAlong is_clean images statuses stores
+all_along is_clean status_at store_at images n results fs statuses stores many all long each statuses_are stores_are p image status store at_image at_status at_store clean =
+    let found = map_had status_at fs p status (subst (λ l. slice_get l p ≡ Some status) statuses_are at_status) in
+    let kept = map_had store_at fs p store (subst (λ l. slice_get l p ≡ Some store) stores_are at_store) in
+    let same : found.0 ≡ kept.0 = some_same found.0 kept.0 (sym found.1 ∙ kept.1) in
+    let lt : p < n = subst (λ k. p < k) many (slice_get_within images p image at_image) in
+    let there : get_or results p (Ok found.0) ≡ Ok found.0 = get_or_from_slice_get results p (Ok found.0) (Ok found.0) (subst (λ l. slice_get l p ≡ Some (Ok found.0)) all (map_get Ok fs p found.0 found.1)) in
+    let is : IsEndOf is_clean (program_of (get_or images p image)) p n (status_at found.0) (store_at found.0) = subst (λ (r : Result _ _). IfOk r (λ f. IsEndOf is_clean (program_of (get_or images p image)) p n (status_at f) (store_at f))) there (each p image (Ok found.0) lt) in
+    let mine : IsTrue (is_clean (store_at found.0)) = subst (λ s. IsTrue (is_clean s)) (sym (ap store_at same ∙ kept.2)) clean in
+    subst (λ s. IsStatusAlong (program_of image) p (length images) s) found.2
+    (subst (λ k. IsStatusAlong (program_of image) p k (status_at found.0)) (sym many)
+    (subst (λ i. IsStatusAlong (program_of i) p n (status_at found.0)) (get_or_from_slice_get images p image image at_image) (is.along mine)))
+
+-- and each is an end
+pub all_ended : {S F E : Type 0} (is_clean : S → Bool) (status_at : F → Status) (store_at : F → S) (images : List Image) (n : ℕ) (results : List (Result F E)) (fs : List F) (statuses : List Status)
+    → length images ≡ n → map Ok fs ≡ results → length results ≡ n
+    → ((i : ℕ) (a : Image) (r : Result F E) → i < n → IfOk (get_or results i r) (λ f. IsEndOf is_clean (program_of (get_or images i a)) i n (status_at f) (store_at f)))
+    → statuses ≡ map status_at fs
+    → (p : ℕ) (status : Status) → slice_get statuses p ≡ Some status → IsEnd status
+all_ended is_clean status_at store_at images n results fs statuses many all long each statuses_are p status at_status =
+    let found = map_had status_at fs p status (subst (λ l. slice_get l p ≡ Some status) statuses_are at_status) in
+    let lt : p < n = subst (λ k. p < k) (sym (length-map fs Ok) ∙ ap length all ∙ long) (slice_get_within fs p found.0 found.1) in
+    let there : get_or results p (Ok found.0) ≡ Ok found.0 = get_or_from_slice_get results p (Ok found.0) (Ok found.0) (subst (λ l. slice_get l p ≡ Some (Ok found.0)) all (map_get Ok fs p found.0 found.1)) in
+    elim (slice_get_cases images p).1 [
+      | inl image ↦
+          let is : IsEndOf is_clean (program_of (get_or images p image.0)) p n (status_at found.0) (store_at found.0) = subst (λ (r : Result _ _). IfOk r (λ f. IsEndOf is_clean (program_of (get_or images p image.0)) p n (status_at f) (store_at f))) there (each p image.0 (Ok found.0) lt) in
+          subst IsEnd found.2 is.ended
+      | inr past ↦ let l = past.0 in absurd (omega arith)
+    ]
+
+-- ---- the ends of inboxes
+pub ends_at : (n : ℕ) (lines : Lines) (ends : List Ends) → IsWired n lines ends → (k : ℕ) (e : Ends) → k < length ends → HasEnds n lines k (get_or ends k e)
+ends_at n lines ends is k e lt = is.have k (get_or ends k e) (slice_get-get_or ends k e lt)
+
+-- where every store is clean, all are
+pub along_always : {S : Type 0} (is_clean : S → Bool) (images : List Image) (statuses : List Status) (stores : List S) → length stores ≡ length images
+    → AreAlong is_clean images statuses stores → ((s : S) → IsTrue (is_clean s)) → AreStatusesAlong images statuses
+along_always is_clean images statuses stores many along always p image status at_image at_status = elim (slice_get_cases stores p).1 [
+  | inl store ↦ along p image status store.0 at_image at_status store.2 (always store.0)
+  | inr past ↦ let l = past.0 in let lt = slice_get_within images p image at_image in absurd (omega arith)
+]

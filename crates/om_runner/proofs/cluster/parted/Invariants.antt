@@ -1,0 +1,12 @@
+use Rattle.std.specs.Prelude.{◌≡◌, ◌++◌, ◌+◌, ◌≤◌, map, vec_len, vec_capacity}
+use Rattle.std.specs.Vec.Iter.{into_iter_len, into_iter_items}
+use Rattle.om_runner.proofs.cluster.parted.Given as goal
+
+abbrev pub invariant-loop-one : goal.invariant-loop-one
+invariant-loop-one g l =
+    (vec_len l.statuses + into_iter_len l.one-iterator ≡ vec_len l.fn.all)
+    × (vec_len l.stores + into_iter_len l.one-iterator ≡ vec_len l.fn.all)
+    × (vec_len l.fn.all ≤ vec_capacity l.statuses)
+    × (vec_len l.fn.all ≤ vec_capacity l.stores)
+    × (l.statuses.items ++ map (λ f. f.status) (into_iter_items l.one-iterator) ≡ map (λ f. f.status) l.fn.all.items)
+    × (l.stores.items ++ map (λ f. f.store) (into_iter_items l.one-iterator) ≡ map (λ f. f.store) l.fn.all.items)

@@ -1,0 +1,20 @@
+use Rattle.std.proofs.Common.{◌≡◌, length, rules, sym, ap, ◌∙◌, get_or}
+use Rattle.std.proofs.lemmas.Option.{slice_get-get_or}
+use Rattle.om_runner.specs.CellNames.{CellName}
+use Rattle.om_runner.proofs.ReportLemmas.{all_along, all_ended}
+use Rattle.om_runner.proofs.cluster.run_named.Goals as goal
+
+pub returns-clause-ended : goal.returns-clause-ended
+returns-clause-ended g c = λ k d lt.
+    let many : length c.args.plan.now.images.items ≡ g.K.Naming.cell.n = sym c.requires.size ∙ ap (λ (b : CellName). b.n) c.requires.named in
+    let long : length c.in_ok-results.results.items ≡ g.K.Naming.cell.n = (let l = c.in_ok-results.ensures.long in search rules) in
+    let statuses = c.in-Ok-report_of.report.statuses.items in
+    all_ended g.O.Store.Stable.is_clean (λ f. f.status) (λ f. f.store) c.args.plan.now.images.items g.K.Naming.cell.n c.in_ok-results.results.items c.in_ok-all.all.items statuses many c.in_ok-all.ensures long c.in_ok-results.ensures.each
+    (ap (λ v. v.items) c.in-Ok-report_of.ensures.statuses ∙ c.in-Ok-parted.ensures.statuses) k (get_or statuses k d) (slice_get-get_or statuses k d lt)
+
+pub returns-clause-along : goal.returns-clause-along
+returns-clause-along g c =
+    let many : length c.args.plan.now.images.items ≡ g.K.Naming.cell.n = sym c.requires.size ∙ ap (λ (b : CellName). b.n) c.requires.named in
+    let long : length c.in_ok-results.results.items ≡ g.K.Naming.cell.n = (let l = c.in_ok-results.ensures.long in search rules) in
+    all_along g.O.Store.Stable.is_clean (λ f. f.status) (λ f. f.store) c.args.plan.now.images.items g.K.Naming.cell.n c.in_ok-results.results.items c.in_ok-all.all.items _ _ many c.in_ok-all.ensures long c.in_ok-results.ensures.each
+    (ap (λ v. v.items) c.in-Ok-report_of.ensures.statuses ∙ c.in-Ok-parted.ensures.statuses) c.in-Ok-parted.ensures.stores

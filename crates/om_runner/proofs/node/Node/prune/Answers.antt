@@ -1,0 +1,13 @@
+use Rattle.std.proofs.Common.{refl}
+use Rattle.om_runner.proofs.OnWay.{node_pruned, node_refused}
+use Rattle.om_runner.proofs.node.Node.prune.Goals as goal
+
+pub invariant_of-self : goal.invariant_of-self
+invariant_of-self g c =
+    let e = c.in_err-prune.ensures in
+    node_refused _ _ _ _ _ _ _ _ c.self.invariant refl e.call.clean e.call.sound e.refused
+
+pub invariant_of-self-2 : goal.invariant_of-self-2
+invariant_of-self-2 g c =
+    let e = c.in_ok-prune.ensures in
+    node_pruned _ _ _ _ _ _ _ c.args.checkpoint c.self.invariant e.call.clean e.call.sound e.pruned

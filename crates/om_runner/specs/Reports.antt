@@ -1,0 +1,49 @@
+-- What a run of a cluster ends with.
+use Rattle.std.specs.Prelude.{◌≡◌, ℕ, ◌≤◌, List, Some, Bool, IsTrue, Vec, slice_get, slice_index, length}
+use Rattle.std.specs.declared.alloc.Global.{Global}
+use Rattle.std.specs.FinMap as map
+use Rattle.om_stable.specs.Content.{Content}
+use Rattle.om_manager.specs.declared.output_log.Output.{Output}
+use Rattle.om_process.specs.Core.{status_of}
+use Rattle.om_process.specs.Images.{program_of}
+use Rattle.om_process.specs.Process.{Process, Program, Received, made}
+use Rattle.om_process.specs.Turns.{Reaches, next_move}
+use Rattle.om_process.specs.declared.image.Image.{Image}
+use Rattle.om_process.specs.declared.status.Status.{Status}
+use Rattle.om_process.specs.declared.status.Status.TheVariants.{Ready, Waiting, Ended, Trapped}
+
+-- a store without a record
+abbrev pub nothing : Content
+nothing = record { receipts = map.empty; checkpoints = map.empty }
+
+-- the outputs are numbered from 0 without a gap, and each was made within the limit
+abbrev pub AreReleased : ℕ → List Output → Type 0
+AreReleased limit outputs = (i : ℕ) (o : Output) → slice_get outputs i ≡ Some o → (o.seq ≡ i) × (o.interval ≤ limit)
+
+-- so are those of each process, within its place of the vector
+abbrev pub AreAllReleased : List ℕ → List (Vec Output Global) → Type 0
+AreAllReleased vec released = (p : ℕ) (outputs : Vec Output Global) → slice_get released p ≡ Some outputs
+    → AreReleased (slice_index vec p) outputs.items
+
+-- the process has come to an end
+abbrev pub IsEnd : Status → Type 0
+IsEnd (Ended code) = Unit {0}
+IsEnd (Trapped cause) = Unit {0}
+IsEnd Ready = ⊥
+IsEnd Waiting = ⊥
+
+-- the status is that of a state of process `own` of n along the program, for some receipts and turns
+abbrev pub IsStatusAlong : Program → ℕ → ℕ → Status → Type 0
+IsStatusAlong program own n status = (h : List Received) × (s : Process) × Reaches program own n h s
+    × (status ≡ status_of (next_move own n s.machine (made s.queues)))
+
+-- by process: where its store is clean, its status is that of a state along its image
+abbrev pub AreAlong : {S : Type 0} → (S → Bool) → List Image → List Status → List S → Type 0
+AreAlong is_clean images statuses stores = (p : ℕ) (image : Image) (status : Status) (store : _)
+    → slice_get images p ≡ Some image → slice_get statuses p ≡ Some status → slice_get stores p ≡ Some store
+    → IsTrue (is_clean store) → IsStatusAlong (program_of image) p (length images) status
+
+-- by process: its status is that of a state along its image
+abbrev pub AreStatusesAlong : List Image → List Status → Type 0
+AreStatusesAlong images statuses = (p : ℕ) (image : Image) (status : Status)
+    → slice_get images p ≡ Some image → slice_get statuses p ≡ Some status → IsStatusAlong (program_of image) p (length images) status

@@ -1,0 +1,41 @@
+-- What holds of a process and its store.
+use Rattle.std.specs.Prelude.{◌≡◌, ℕ, List, Bool, IsTrue, Some}
+use Rattle.std.specs.FinMap.{get}
+use Rattle.om_format.specs.Checkpoints.{CheckpointRecord, IsSpelled}
+use Rattle.om_stable.specs.Content.{Content}
+use Rattle.om_process.specs.Claims.{CheckpointOf}
+use Rattle.om_process.specs.Core.{CoreState, size_of}
+use Rattle.om_process.specs.Process.{Process, Program, Received}
+use Rattle.om_process.specs.Replays.{process_of}
+
+-- one of n processes, with its program
+pub record Member : Type 0 where
+  pub program : Program
+  pub own : ℕ
+  pub n : ℕ
+
+-- and as it runs
+pub record NodeState : Type 0 where
+  pub member : Member
+  pub core : CoreState
+
+-- the process stands where some receipts lead, with fewer entries kept
+abbrev pub IsOnWay : Member → Process → Type 0
+IsOnWay m s = (h : List Received) × CheckpointOf m.program m.own m.n s h
+
+-- so does each checkpoint that a store holds
+abbrev pub AreOnWay : Member → Content → Type 0
+AreOnWay m held = (x : ℕ) (bytes : List ℕ) → get held.checkpoints x ≡ Some bytes
+    → (c : CheckpointRecord) → IsSpelled c bytes → IsOnWay m (process_of c)
+
+-- what is known of a member's store where it is clean
+pub record IsKept {S : Type 0} (content : S → Content) (is_clean : S → Bool) (IsSound : S → Type 0) (m : Member) (store : S) : Type 0 where
+  pub sound : IsTrue (is_clean store) → IsSound store
+  pub stored : IsTrue (is_clean store) → AreOnWay m (content store)
+
+-- what holds of a member that runs over a store
+pub record IsNode {S : Type 0} (content : S → Content) (is_clean : S → Bool) (IsSound : S → Type 0) (d : NodeState) (store : S) : Type 0 where
+  pub own : d.core.own ≡ d.member.own
+  pub size : size_of d.core.now ≡ d.member.n
+  pub kept : IsKept content is_clean IsSound d.member store
+  pub stands : IsTrue (is_clean store) → IsOnWay d.member d.core.now

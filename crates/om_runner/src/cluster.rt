@@ -1,0 +1,534 @@
+//! A cluster, a thread for each process.
+
+ghost use Rattle.std.specs.Prelude.{◌≡◌, ◌<◌, ◌≤◌, ℕ, All, IfOk, IfSome, IsTrue, Some, length, map, slice_get, slice_index_or, vec_capacity, vec_len};
+ghost use Rattle.om_interval.specs.declared.pid.TheConstants.{MAX_PROCESSES};
+ghost use Rattle.om_manager.specs.Outputs.{AreNumbered, held_of};
+ghost use Rattle.om_manager.specs.State as managers;
+ghost use Rattle.om_manager.specs.State.{released_by as held_within};
+ghost use Rattle.om_process.specs.Images.{program_of};
+ghost use Rattle.om_process.specs.declared.image.Image.{Image};
+ghost use Rattle.om_runner.specs.Reports.{AreAllReleased, AreAlong, AreStatusesAlong, IsEnd};
+ghost use Rattle.om_runner.specs.steps.Ends.{AreReleasedBy, IsEndOf, IsPromised};
+ghost use Rattle.om_runner.specs.steps.Wiring.{IsWired};
+
+use crate::config::Config;
+use crate::front::Front;
+use crate::frontier::{Blank, Naming, Pass};
+use crate::inbox::Inbox;
+use crate::links::Links;
+use crate::network::{Ends, Network, connected};
+use crate::node::Node;
+use crate::opener::{Gate, OpenFault, Opener};
+use crate::report::{Report, RunFault};
+use crate::shared::Shared;
+use crate::trouble::load_fault;
+use crate::worker::{Place, Worker};
+use om_interval::{MAX_PROCESSES, Pid};
+use om_manager::{Manager, Output};
+use om_process::{Image, Status};
+use om_stable::Stable;
+use std::alloc::{AllocError, Global};
+use std::marker::{Brand, PhantomData};
+use std::sync::Wait;
+use std::sync::atomic::AtomicBool;
+use std::sync::atomic::Ordering::SeqCst;
+use std::thread;
+use std::thread::{Promise, PromisedHandle, Scope, Threads, join_promised};
+
+/// What a worker begins with.
+#[derive(Drop)]
+struct Job<'a, K: Naming> {
+    links: Links<'a>,
+    pass: Pass<K>,
+    ghost sized: { links.n ≡ K.cell.n },
+}
+
+/// What a worker brings back.
+#[derive(Drop)]
+struct Finished<S: Stable> {
+    status: Status,
+    store: S,
+}
+
+// Asks the gate until it lets the process start.
+fn pass_gate<G: Gate>(gate: &G, gate_turns: u64, pid: Pid) -> Result<(), RunFault> {
+    for _ in 0..gate_turns {
+        if gate.may_start(pid) {
+            return Ok(());
+        }
+        thread::yield_now();
+    }
+    Err(RunFault::GateShut(pid))
+}
+
+// Makes a process, over a store of its own.
+fn begin<'a, R, O: Opener<R>>(
+    rt: &R,
+    alloc: Global,
+    opener: &O,
+    image: &'a Image,
+    pid: Pid,
+    n: usize,
+) -> Result<Node<'a, O::Store>, RunFault>
+    ensures { IfOk result (λ node. node.member ≡ record { program = program_of image.entry.now; own = pid; n = n }) }
+{
+    let store = match opener.make(rt, alloc, pid) {
+        Ok(store) => store,
+        Err(OpenFault::Memory) => return Err(RunFault::Memory),
+        Err(OpenFault::Refused) => return Err(RunFault::Load(pid)),
+    };
+    match Node::start(alloc, image, pid, n, store) {
+        Ok(node) => Ok(node),
+        Err(fault) => Err(load_fault(fault, pid)),
+    }
+}
+
+// The intervals at which a process is to fail.
+fn kills_of(alloc: Global, kills: &[(Pid, u32)], pid: Pid) -> Result<Vec<u32>, AllocError> {
+    let mut own = Vec::new(alloc);
+    for (who, x) in kills {
+        if *who == pid {
+            own.push(*x)?;
+        }
+    }
+    Ok(own)
+}
+
+// The turns of a worker, until all are quiet.
+fn take_turns<'a, K: Naming, S: Stable, R: Wait>(
+    rt: &R,
+    alloc: Global,
+    turns: u64,
+    stop: &AtomicBool,
+    worker: Worker<'a, K>,
+    node: Node<'a, S>,
+    pass: Pass<K>,
+) -> Result<Finished<S>, RunFault>
+    requires own { node.member.own ≡ worker.links.own }
+    requires size { node.member.n ≡ K.cell.n }
+    ensures { let m = node.entry.member in
+        IfOk result (λ f. IsEndOf S.is_clean m.program m.own m.n f.status f.store) }
+{
+    let mut worker = worker;
+    let mut pass = pass;
+    let mut place = Place::Up(node);
+    for _ in 0..turns {
+        if stop.load(SeqCst) {
+            break;
+        }
+        let (next, met) = match worker.turn(rt, alloc, place, pass) {
+            Ok(turned) => turned,
+            Err(trouble) => return Err(trouble.of(worker.pid())),
+        };
+        pass = met;
+        place = match next {
+            Place::Over(node) => match node.end() {
+                Ok((status, store)) => return Ok(Finished { status, store }),
+                Err(node) => Place::Up(node),
+            },
+            other => other,
+        };
+    }
+    Err(RunFault::Turns(worker.pid()))
+}
+
+// What the thread of a process does.
+fn work<'a, K: Naming, R: Wait, G: Gate, O: Opener<R>>(
+    rt: &R,
+    alloc: Global,
+    plan: &'a Config,
+    gate: &G,
+    opener: &O,
+    shared: &'a Shared<K>,
+    stop: &AtomicBool,
+    image: &'a Image,
+    job: Job<'a, K>,
+) -> Result<Finished<O::Store>, RunFault>
+    ensures { let l = job.entry.links in
+        IfOk result (λ f. IsEndOf O.Store.is_clean (program_of image.entry.now) l.own l.n f.status f.store) }
+{
+    let Job { links, pass, .. } = job;
+    let pid = links.own();
+    let n = links.n();
+    pass_gate(gate, plan.gate_turns, pid)?;
+    let node = begin(rt, alloc, opener, image, pid, n)?;
+    let Ok(kills) = kills_of(alloc, &plan.kills, pid) else {
+        return Err(RunFault::Memory);
+    };
+    let worker = Worker::new(plan, shared, links, kills);
+    take_turns(rt, alloc, plan.turns, stop, worker, node, pass)
+}
+
+// The same, and where it ends with a fault, the others are stopped.
+fn work_or_stop<'a, K: Naming, R: Wait, G: Gate, O: Opener<R>>(
+    rt: &R,
+    alloc: Global,
+    plan: &'a Config,
+    gate: &G,
+    opener: &O,
+    shared: &'a Shared<K>,
+    stop: &AtomicBool,
+    image: &'a Image,
+    job: Job<'a, K>,
+) -> Result<Finished<O::Store>, RunFault>
+    ensures { let l = job.entry.links in
+        IfOk result (λ f. IsEndOf O.Store.is_clean (program_of image.entry.now) l.own l.n f.status f.store) }
+{
+    let result = work(rt, alloc, plan, gate, opener, shared, stop, image, job);
+    if result.is_err() {
+        stop.store(true, SeqCst);
+    }
+    result
+}
+
+/// What the thread of a process promises: of which image, which process and how many.
+#[derive(Drop)]
+struct EndOf<'a, S: Stable>(&'a Image, Pid, usize, PhantomData<S>);
+
+impl<'a, S: Stable> Promise<Result<Finished<S>, RunFault>> for EndOf<'a, S> {
+    ghost kept_by = { λ p r. IfOk r (λ f. IsEndOf S.is_clean (program_of p.0.now) p.1 p.2 f.status f.store) };
+}
+
+type Handle<'s, S> = PromisedHandle<Result<Finished<S>, RunFault>, EndOf<'s, S>>;
+
+// One process on a thread of the scope.
+fn start<
+    's,
+    E,
+    K: Naming + Send + Sync,
+    R: Threads + Wait + Sync,
+    G: Gate + Sync,
+    O: Opener<R> + Sync,
+>(
+    scope: &Scope<'s, E>,
+    rt: &'s R,
+    alloc: Global,
+    plan: &'s Config,
+    gate: &'s G,
+    opener: &'s O,
+    shared: &'s Shared<K>,
+    stop: &'s AtomicBool,
+    image: &'s Image,
+    job: Job<'s, K>,
+) -> Option<Handle<'s, O::Store>>
+    ensures image { IfSome result (λ h. h.promise.0.now ≡ image.entry.now) }
+    ensures own { IfSome result (λ h. h.promise.1 ≡ job.entry.links.own) }
+    ensures n { IfSome result (λ h. h.promise.2 ≡ K.cell.n) }
+{
+    let end = EndOf(image, job.links.own(), job.links.n(), PhantomData);
+    scope
+        .spawn_with(end, move || {
+            work_or_stop(rt, alloc, plan, gate, opener, shared, stop, image, job)
+        })
+        .ok()
+}
+
+// All processes, each on a thread of its own; None where a thread could not be made, and then all are stopped.
+fn start_all<
+    's,
+    E,
+    K: Naming + Send + Sync,
+    R: Threads + Wait + Sync,
+    G: Gate + Sync,
+    O: Opener<R> + Sync,
+>(
+    scope: &Scope<'s, E>,
+    rt: &'s R,
+    alloc: Global,
+    plan: &'s Config,
+    gate: &'s G,
+    opener: &'s O,
+    shared: &'s Shared<K>,
+    stop: &'s AtomicBool,
+    inboxes: &'s [Vec<Inbox>],
+    ends: Vec<Ends>,
+    mut passes: Vec<Pass<K>>,
+    mut handles: Vec<Handle<'s, O::Store>>,
+) -> Option<Vec<Handle<'s, O::Store>>>
+    requires few { K.cell.n ≤ MAX_PROCESSES }
+    requires images { length plan.now.images.items ≡ K.cell.n }
+    requires wired { IsWired K.cell.n inboxes.now ends.items }
+    requires passes { vec_len passes ≡ K.cell.n }
+    requires none { vec_len handles ≡ 0 }
+    requires room { K.cell.n ≤ vec_capacity handles }
+    ensures long { IfSome result (λ v. vec_len v ≡ K.cell.n) }
+    ensures each { IfSome result (λ v. (i : ℕ) (a : Image) (h : _) → i < vec_len v
+        → IsPromised (slice_index_or plan.entry.now.images.items i a) i K.cell.n
+        (slice_index_or v.items i h).promise.0.now (slice_index_or v.items i h).promise.1 (slice_index_or v.items i h).promise.2) }
+{
+    for one in ends {
+        let Ends { puts, takes } = one;
+        let Some(pass) = passes.pop() else {
+            unreachable!()
+        };
+        let own = handles.len();
+        let links = Links::new(Pid::at(own), inboxes, puts, takes);
+        let job = Job { links, pass };
+        let image = &plan.images[own];
+        let Some(handle) = start(
+            scope, rt, alloc, plan, gate, opener, shared, stop, image, job,
+        ) else {
+            stop.store(true, SeqCst);
+            return None;
+        };
+        handles.push_reserved(handle);
+    }
+    Some(handles)
+}
+
+// All processes, each on a thread of its own, and all joined.
+fn run_scoped<
+    K: Naming + Send + Sync,
+    R: Threads + Wait + Sync,
+    G: Gate + Sync,
+    O: Opener<R> + Sync,
+>(
+    rt: &R,
+    alloc: Global,
+    plan: &Config,
+    gate: &G,
+    opener: &O,
+    shared: &Shared<K>,
+    stop: &AtomicBool,
+    inboxes: &[Vec<Inbox>],
+    ends: Vec<Ends>,
+    passes: Vec<Pass<K>>,
+) -> Result<Vec<Result<Finished<O::Store>, RunFault>>, RunFault>
+    requires few { K.cell.n ≤ MAX_PROCESSES }
+    requires images { length plan.now.images.items ≡ K.cell.n }
+    requires wired { IsWired K.cell.n inboxes.now ends.items }
+    requires passes { vec_len passes ≡ K.cell.n }
+    ensures long { IfOk result (λ v. vec_len v ≡ K.cell.n) }
+    ensures each { IfOk result (λ v. (i : ℕ) (a : Image) (r : _) → i < K.cell.n → IfOk (slice_index_or v.items i r)
+        (λ f. IsEndOf O.Store.is_clean (program_of (slice_index_or plan.now.images.items i a)) i K.cell.n f.status f.store)) }
+{
+    thread::scope(
+        thread::scope_env(),
+        rt,
+        |scope| -> Result<Vec<Result<Finished<O::Store>, RunFault>>, RunFault>
+            requires few { K.cell.n ≤ MAX_PROCESSES }
+            requires images { length plan.now.images.items ≡ K.cell.n }
+            requires wired { IsWired K.cell.n inboxes.now ends.items }
+            requires passes { vec_len passes ≡ K.cell.n }
+            ensures long { IfOk result (λ v. vec_len v ≡ K.cell.n) }
+            ensures each { IfOk result (λ v. (i : ℕ) (a : Image) (r : _) → i < K.cell.n → IfOk (slice_index_or v.items i r)
+                (λ f. IsEndOf O.Store.is_clean (program_of (slice_index_or plan.entry.now.images.items i a)) i K.cell.n f.status f.store)) }
+        {
+            let Ok(handles) = Vec::with_capacity(alloc, passes.len()) else {
+                return Err(RunFault::Memory);
+            };
+            let Some(handles) = start_all(
+                scope, rt, alloc, plan, gate, opener, shared, stop, inboxes, ends, passes, handles,
+            ) else {
+                return Err(RunFault::NoThread);
+            };
+            join_promised(rt, handles).map_err(|_| RunFault::Memory)
+        },
+    )
+}
+
+// The fault that is told, of those that workers ended with.
+fn fault_of<S: Stable>(results: &[Result<Finished<S>, RunFault>]) -> Option<RunFault> {
+    let mut last = None;
+    for result in results {
+        match result {
+            Ok(_) => {}
+            Err(RunFault::Turns(pid)) => last = last.or(Some(RunFault::Turns(*pid))),
+            Err(fault) => return Some(*fault),
+        }
+    }
+    last
+}
+
+// What all workers brought back.
+fn all_of<S: Stable>(
+    alloc: Global,
+    results: Vec<Result<Finished<S>, RunFault>>,
+) -> Result<Vec<Finished<S>>, RunFault>
+    ensures { IfOk result (λ all. map Ok all.items ≡ results.items) }
+{
+    if let Some(fault) = fault_of(&results) {
+        return Err(fault);
+    }
+    let Ok(mut all) = Vec::with_capacity(alloc, results.len()) else {
+        return Err(RunFault::Memory);
+    };
+    for result in results {
+        all.push_reserved(result?);
+    }
+    Ok(all)
+}
+
+// The statuses and the stores.
+fn parted<S: Stable>(
+    alloc: Global,
+    all: Vec<Finished<S>>,
+) -> Result<(Vec<Status>, Vec<S>), AllocError>
+    ensures statuses { IfOk result (λ parts. parts.0.items ≡ map (λ f. f.status) all.items) }
+    ensures stores { IfOk result (λ parts. parts.1.items ≡ map (λ f. f.store) all.items) }
+{
+    let mut statuses = Vec::with_capacity(alloc, all.len())?;
+    let mut stores = Vec::with_capacity(alloc, all.len())?;
+    for one in all {
+        let Finished { status, store, .. } = one;
+        statuses.push_reserved(status);
+        stores.push_reserved(store);
+    }
+    Ok((statuses, stores))
+}
+
+fn copy_of(alloc: Global, output: &Output) -> Result<Output, AllocError>
+    ensures held { IfOk result (λ copy. held_of copy ≡ held_of output.now) }
+    ensures seq { IfOk result (λ copy. copy.seq ≡ output.now.seq) }
+{
+    Ok(Output {
+        seq: output.seq,
+        interval: output.interval,
+        bytes: Vec::from_slice(alloc, &output.bytes)?,
+    })
+}
+
+// A copy of outputs.
+fn copied(alloc: Global, outputs: &[Output]) -> Result<Vec<Output>, AllocError>
+    ensures held { IfOk result (λ copies. map held_of copies.items ≡ map held_of outputs.now) }
+    ensures numbers { IfOk result (λ copies. map (λ o. o.seq) copies.items ≡ map (λ o. o.seq) outputs.now) }
+{
+    let mut copies = Vec::with_capacity(alloc, outputs.len())?;
+    for output in outputs {
+        copies.push(copy_of(alloc, output)?)?;
+    }
+    Ok(copies)
+}
+
+// The released outputs of a process.
+fn released_of(alloc: Global, manager: &Manager, pid: Pid) -> Result<Vec<Output>, AllocError>
+    requires { pid < managers.size_of manager.now }
+    ensures held { IfOk result (λ outputs. map held_of outputs.items ≡ held_within manager.now pid) }
+    ensures numbered { IfOk result (λ outputs. AreNumbered outputs.items) }
+{
+    copied(alloc, manager.released(pid))
+}
+
+// The released outputs of each process.
+fn released_by(alloc: Global, manager: &Manager) -> Result<Vec<Vec<Output>>, AllocError>
+    ensures long { IfOk result (λ released. length released.items ≡ managers.size_of manager.now) }
+    ensures released { IfOk result (λ released. AreReleasedBy manager.now released.items) }
+{
+    let n = manager.recovery().n();
+    let mut released = Vec::with_capacity(alloc, n)?;
+    for p in 0..n {
+        released.push(released_of(alloc, manager, Pid::at(p))?)?;
+    }
+    Ok(released)
+}
+
+// The outputs and the front of a manager, with how the processes ended.
+fn report_of(alloc: Global, manager: &Manager, statuses: Vec<Status>) -> Result<Report, AllocError>
+    ensures released { IfOk result (λ report. AreAllReleased report.front.vec report.released.items) }
+    ensures long { IfOk result (λ report. length report.released.items ≡ managers.size_of manager.now) }
+    ensures statuses { IfOk result (λ report. report.statuses ≡ statuses) }
+{
+    Ok(Report {
+        released: released_by(alloc, manager)?,
+        statuses,
+        front: Front::of(manager),
+    })
+}
+
+fn run_named<
+    K: Naming + Send + Sync,
+    R: Threads + Wait + Sync,
+    G: Gate + Sync,
+    O: Opener<R> + Sync,
+>(
+    rt: &R,
+    alloc: Global,
+    plan: &Config,
+    gate: &G,
+    opener: &O,
+    blank: Blank,
+) -> Result<(Report, Vec<O::Store>), RunFault>
+    requires named { blank ≡ K.cell }
+    requires size { blank.n ≡ length plan.now.images.items }
+    requires few { length plan.now.images.items ≤ MAX_PROCESSES }
+    ensures released { IfOk result (λ r. AreAllReleased r.0.front.vec r.0.released.items) }
+    ensures processes { IfOk result (λ r. length r.0.released.items ≡ length plan.now.images.items) }
+    ensures statuses { IfOk result (λ r. length r.0.statuses.items ≡ length plan.now.images.items) }
+    ensures stores { IfOk result (λ r. length r.1.items ≡ length plan.now.images.items) }
+    ensures ended { IfOk result (λ r. All IsEnd r.0.statuses.items) }
+    ensures along { IfOk result (λ r. AreAlong O.Store.is_clean plan.now.images.items r.0.statuses.items r.1.items) }
+{
+    let Ok((shared, passes)) = Shared::<K>::new(alloc, blank) else {
+        return Err(RunFault::Memory);
+    };
+    let Ok(network) = connected(alloc, plan.images.len()) else {
+        return Err(RunFault::Memory);
+    };
+    let Network { inboxes, ends } = network;
+    let stop = AtomicBool::new(false);
+    let results = run_scoped(
+        rt, alloc, plan, gate, opener, &shared, &stop, &inboxes, ends, passes,
+    )?;
+    let all = all_of(alloc, results)?;
+    let Ok((statuses, stores)) = parted(alloc, all) else {
+        return Err(RunFault::Memory);
+    };
+    let board = shared.board.lock(rt);
+    let Ok(report) = report_of(alloc, board.manager(), statuses) else {
+        return Err(RunFault::Memory);
+    };
+    Ok((report, stores))
+}
+
+/// Runs a cluster as [`run_cluster`] does, and hands back the store of each process beside the report. Where a process's store
+/// is clean, its status is that of a state along its image.
+pub fn run_and_keep_stores<R: Threads + Wait + Sync, G: Gate + Sync, O: Opener<R> + Sync>(
+    rt: &R,
+    alloc: Global,
+    config: &Config,
+    gate: &G,
+    opener: &O,
+) -> Result<(Report, Vec<O::Store>), RunFault>
+    requires some { 1 ≤ length config.now.images.items }
+    requires few { length config.now.images.items ≤ MAX_PROCESSES }
+    ensures released { IfOk result (λ r. AreAllReleased r.0.front.vec r.0.released.items) }
+    ensures processes { IfOk result (λ r. length r.0.released.items ≡ length config.now.images.items) }
+    ensures statuses { IfOk result (λ r. length r.0.statuses.items ≡ length config.now.images.items) }
+    ensures stores { IfOk result (λ r. length r.1.items ≡ length config.now.images.items) }
+    ensures ended { IfOk result (λ r. All IsEnd r.0.statuses.items) }
+    ensures along { IfOk result (λ r. AreAlong O.Store.is_clean config.now.images.items r.0.statuses.items r.1.items) }
+{
+    let Ok(blank) = Blank::new(alloc, config.images.len()) else {
+        return Err(RunFault::Memory);
+    };
+    run_named::<Brand, R, G, O>(rt, alloc, config, gate, opener, blank)
+}
+
+/// Runs a cluster, a thread for each process, until all have ended or trapped and all that they did is recoverable: that
+/// output is released. Each process has a store of its own, which is made in its thread.
+///
+/// A worker asks the gate before it makes its process. Then it runs it turn by turn: instructions, messages to and from the
+/// inboxes, rows and outputs to the manager, and rounds of recovery as processes fail. A fault of one stops the others.
+///
+/// Refused with `NoThread` where a thread could not be made; else with the fault of the least process that has one other
+/// than `Turns`; else with `Turns`. With `Memory` also where memory runs out before or after the threads. The stores of a
+/// run that is refused are dropped as they are.
+pub fn run_cluster<R: Threads + Wait + Sync, G: Gate + Sync, O: Opener<R> + Sync>(
+    rt: &R,
+    alloc: Global,
+    config: &Config,
+    gate: &G,
+    opener: &O,
+) -> Result<Report, RunFault>
+    requires some { 1 ≤ length config.now.images.items }
+    requires few { length config.now.images.items ≤ MAX_PROCESSES }
+    ensures released { IfOk result (λ report. AreAllReleased report.front.vec report.released.items) }
+    ensures processes { IfOk result (λ report. length report.released.items ≡ length config.now.images.items) }
+    ensures statuses { IfOk result (λ report. length report.statuses.items ≡ length config.now.images.items) }
+    ensures ended { IfOk result (λ report. All IsEnd report.statuses.items) }
+    ensures along { ((store : O.Store) → IsTrue (O.Store.is_clean store))
+        → IfOk result (λ report. AreStatusesAlong config.now.images.items report.statuses.items) }
+{
+    let (report, _) = run_and_keep_stores(rt, alloc, config, gate, opener)?;
+    Ok(report)
+}

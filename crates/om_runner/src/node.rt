@@ -1,0 +1,257 @@
+//! A process over its store.
+
+ghost use Rattle.std.specs.Prelude.{◌≡◌, ◌↔◌, IfErr, IfOk, IfSome, IsTrue, length};
+ghost use Rattle.om_process.specs.Core.{move_of, size_of, status_of};
+ghost use Rattle.om_process.specs.Images.{program_of};
+ghost use Rattle.om_runner.specs.Reports.{IsEnd, IsStatusAlong, nothing};
+
+use crate::trouble::Trouble;
+use om_format::Message;
+use om_interval::{Bounds, Pid, Starts, Verdict};
+use om_process::{Accept, Down, Image, ProcCore, Ran, StartFault, Status};
+use om_stable::Stable;
+use std::alloc::Global;
+use std::marker::Model;
+
+/// A process that is up, and its store. Where the store is clean, the process stands along its image, and so does each
+/// checkpoint that the store holds.
+#[derive(Drop)]
+pub(crate) struct Node<'a, S: Stable> {
+    image: &'a Image,
+    pid: Pid,
+    // The number of processes.
+    n: usize,
+    core: ProcCore,
+    store: S,
+}
+
+impl<'a, S: Stable> Model for Node<'a, S> {
+    ghost use Rattle.om_process.specs.Images.{program_of};
+    ghost use Rattle.om_runner.specs.steps.Nodes.{NodeState, IsNode};
+
+    ghost Value = { NodeState };
+
+    ghost view = { λ d. record {
+      member = record { program = program_of d.image.now; own = d.pid; n = d.n };
+      core = d.core;
+    } };
+
+    ghost invariant = { λ d. IsNode S.content S.is_clean S.IsSound
+        (record { member = record { program = program_of d.image.now; own = d.pid; n = d.n }; core = d.core }) d.store };
+}
+
+/// A process that is down, and its store.
+#[derive(Drop)]
+pub(crate) struct Fallen<'a, S: Stable> {
+    image: &'a Image,
+    pid: Pid,
+    n: usize,
+    store: S,
+}
+
+impl<'a, S: Stable> Model for Fallen<'a, S> {
+    ghost use Rattle.om_process.specs.Images.{program_of};
+    ghost use Rattle.om_runner.specs.steps.Nodes.{Member, IsKept};
+
+    ghost Value = { Member };
+
+    ghost view = { λ d. record { program = program_of d.image.now; own = d.pid; n = d.n } };
+
+    ghost invariant = { λ d. IsKept S.content S.is_clean S.IsSound
+        (record { program = program_of d.image.now; own = d.pid; n = d.n }) d.store };
+}
+
+// Whether a process has come to its end.
+pub(crate) fn has_ended(status: Status) -> bool
+    ensures { IsTrue result ↔ IsEnd status }
+{
+    match status {
+        Status::Ended(_) | Status::Trapped(_) => true,
+        Status::Ready | Status::Waiting => false,
+    }
+}
+
+impl<'a, S: Stable> Node<'a, S> {
+    // Starts the process over a store that holds nothing.
+    pub(crate) fn start(
+        alloc: Global,
+        image: &'a Image,
+        pid: Pid,
+        n: usize,
+        store: S,
+    ) -> Result<Node<'a, S>, StartFault>
+        requires sound { IsTrue (S.is_clean store) → S.IsSound store }
+        requires empty { IsTrue (S.is_clean store) → S.content store ≡ nothing }
+        ensures { IfOk result (λ node. node.member ≡ record { program = program_of image.entry.now; own = pid; n = n }) }
+    {
+        let mut store = store;
+        let core = ProcCore::start(
+            alloc,
+            &image.bytes,
+            image.size,
+            image.ext,
+            pid,
+            n,
+            &mut store,
+        )?;
+        Ok(Node {
+            image,
+            pid,
+            n,
+            core,
+            store,
+        })
+    }
+
+    // The process.
+    pub(crate) fn core(&self) -> &ProcCore
+        ensures core { result.now ≡ self.now.core }
+        ensures own { self.now.core.own ≡ self.now.member.own }
+        ensures size { size_of self.now.core.now ≡ self.now.member.n }
+    {
+        &self.core
+    }
+
+    // Runs at most so many instructions.
+    pub(crate) fn run(&mut self, alloc: Global, fuel: u64) -> Result<Ran, Trouble>
+        ensures { self.new.member ≡ self.old.member }
+    {
+        Ok(self.core.run(alloc, fuel)?)
+    }
+
+    // Offers a message to the process.
+    pub(crate) fn accept(&mut self, alloc: Global, message: &Message) -> Accept
+        ensures { self.new.member ≡ self.old.member }
+    {
+        self.core.accept(alloc, message)
+    }
+
+    // Stores the volatile log.
+    pub(crate) fn flush(&mut self, alloc: Global) -> Result<(), Trouble>
+        ensures { self.new.member ≡ self.old.member }
+    {
+        Ok(self.core.flush(alloc, &mut self.store)?)
+    }
+
+    // Stores a checkpoint of now.
+    pub(crate) fn checkpoint(&mut self, alloc: Global) -> Result<(), Trouble>
+        ensures { self.new.member ≡ self.old.member }
+    {
+        Ok(self.core.checkpoint(alloc, &mut self.store)?)
+    }
+
+    // The manager was told of all pending rows.
+    pub(crate) fn noted(&mut self)
+        ensures { self.new.member ≡ self.old.member }
+    {
+        let told = self.core.pending().len();
+        self.core.noted(told);
+    }
+
+    // Drops what the process need not keep.
+    fn trim(&mut self, bounds: &Bounds)
+        requires { length bounds.now.got ≡ self.old.member.n }
+        ensures { self.new.member ≡ self.old.member }
+    {
+        self.core.trim(bounds);
+    }
+
+    // Drops what stands in the store before a checkpoint.
+    fn prune(&mut self, alloc: Global, checkpoint: u32) -> Result<(), Trouble>
+        ensures { self.new.member ≡ self.old.member }
+    {
+        Ok(self.store.prune(alloc, checkpoint)?)
+    }
+
+    // Drops what neither the process nor its store need keep.
+    pub(crate) fn shed(
+        &mut self,
+        alloc: Global,
+        bounds: &Bounds,
+        checkpoint: u32,
+    ) -> Result<(), Trouble>
+        requires { length bounds.now.got ≡ self.old.member.n }
+        ensures { self.new.member ≡ self.old.member }
+    {
+        self.trim(bounds);
+        self.prune(alloc, checkpoint)
+    }
+
+    // Goes on after a round that does not roll it back.
+    pub(crate) fn resume(
+        &mut self,
+        alloc: Global,
+        starts: &Starts,
+        verdict: &Verdict,
+    ) -> Result<(), Trouble>
+        requires { length starts.now ≡ self.old.member.n }
+        ensures { self.new.member ≡ self.old.member }
+    {
+        Ok(self.core.resume(alloc, starts, verdict)?)
+    }
+
+    // The process fails.
+    pub(crate) fn fail(self) -> Fallen<'a, S>
+        ensures { result ≡ self.entry.member }
+    {
+        let Node {
+            image,
+            pid,
+            n,
+            core,
+            store,
+        } = self;
+        core.fail();
+        Fallen {
+            image,
+            pid,
+            n,
+            store,
+        }
+    }
+
+    // How the process ended, and its store; or itself, where it has not ended.
+    pub(crate) fn end(self) -> Result<(Status, S), Node<'a, S>>
+        ensures end { IfOk result (λ e. IsEnd e.0) }
+        ensures along { let m = self.entry.member in IfOk result (λ e. IsTrue (S.is_clean e.1)
+            → IsStatusAlong m.program m.own m.n e.0) }
+        ensures member { IfErr result (λ node. node.member ≡ self.entry.member) }
+    {
+        let status = self.core.status();
+        if !has_ended(status) {
+            return Err(self);
+        }
+        let Node { store, .. } = self;
+        Ok((status, store))
+    }
+}
+
+impl<'a, S: Stable> Fallen<'a, S> {
+    // Comes back after a round that rolls it back.
+    pub(crate) fn come_back(
+        self,
+        alloc: Global,
+        starts: &Starts,
+        verdict: &Verdict,
+    ) -> Result<Node<'a, S>, Trouble>
+        requires { length starts.now ≡ self.n }
+        ensures { IfOk result (λ node. node.member ≡ self.entry) }
+    {
+        let Fallen {
+            image,
+            pid,
+            n,
+            mut store,
+        } = self;
+        match (Down { pid, n }).roll_back(alloc, &mut store, starts, verdict) {
+            Ok(core) => Ok(Node {
+                image,
+                pid,
+                n,
+                core,
+                store,
+            }),
+            Err((_, fault)) => Err(Trouble::from(fault)),
+        }
+    }
+}
