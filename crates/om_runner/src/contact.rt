@@ -40,7 +40,7 @@ pub(crate) struct Contact<'a, K: Naming> {
     shared: &'a Shared<K>,
     // The round that the process is in.
     round: u32,
-    // The version at the last meeting.
+    // The version when it last looked for an open gathering.
     seen: u64,
     // How many outputs the manager had of the process then.
     handed: u64,
@@ -249,8 +249,8 @@ impl<'a, K: Naming> Contact<'a, K> {
     {
         let mut guard = self.shared.board.lock(rt);
         let board = &mut *guard;
-        let (front, pass) = self.shared.frontier.meet(rt, board, pass);
-        self.seen = front.version;
+        // The next gathering may be open already: `seen` stays, so that the next turn looks for it.
+        let (_, pass) = self.shared.frontier.meet(rt, board, pass);
         let manager = board.manager();
         let verdict = manager.verdict(self.pid);
         let starts = manager.starts().copy(alloc)?;

@@ -1,8 +1,12 @@
-//! Tests of the threads: the frontier beside its board, and the inboxes.
+//! Tests of the threads: the frontier beside its board, the inboxes, and clusters.
 #![tactic(auto)]
 
 #[cfg(test)]
+mod at_work;
+#[cfg(test)]
 mod boards;
+#[cfg(test)]
+mod clusters;
 #[cfg(test)]
 mod inboxes;
 #[cfg(test)]

@@ -4,6 +4,23 @@ use om_runner::{Board, Front, Frontier, Naming};
 use std::alloc::Global;
 use std::process::Abort;
 use std::sync::Wait;
+use std::sync::atomic::AtomicBool;
+use std::sync::atomic::Ordering::SeqCst;
+use std::thread;
+
+// How often a flag is looked at before a thread gives up.
+const LOOKS: u32 = 100_000_000;
+
+// Whether the flag is set in time.
+pub fn is_set(flag: &AtomicBool) -> bool {
+    for _ in 0..LOOKS {
+        if flag.load(SeqCst) {
+            return true;
+        }
+        thread::yield_now();
+    }
+    false
+}
 
 pub fn process(rt: &impl Abort, number: u32) -> Pid {
     Pid::new(number).expect(rt, "a process")

@@ -1,6 +1,6 @@
 ghost use Rattle.std.specs.Prelude.{◌≡◌};
 
-use crate::rows::noted;
+use crate::rows::{is_set, noted};
 use om_runner::{Blank, Front, Naming, Shared, laws};
 use std::alloc::Global;
 use std::marker::Brand;
@@ -9,22 +9,7 @@ use std::sync::Wait;
 use std::sync::atomic::AtomicBool;
 use std::sync::atomic::Ordering::SeqCst;
 use std::test::Fail;
-use std::thread;
 use std::thread::{Threads, join};
-
-// How often a flag is looked at before a thread gives up.
-const LOOKS: u32 = 100_000_000;
-
-// Whether the flag is set in time.
-fn is_set(flag: &AtomicBool) -> bool {
-    for _ in 0..LOOKS {
-        if flag.load(SeqCst) {
-            return true;
-        }
-        thread::yield_now();
-    }
-    false
-}
 
 // A thread notes, posts and ends. Then a first pass meets, and after it a second one reads, which has not met.
 fn met_and_read<K: Naming + Send + Sync, R: Threads + Wait + Abort + Sync>(

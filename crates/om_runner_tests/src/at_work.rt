@@ -1,0 +1,134 @@
+use crate::clusters::{Always, image_of};
+use crate::rows::is_set;
+use om_interval::Pid;
+use om_process::Status;
+use om_runner::{Config, OpenFault, Opener, run_cluster};
+use om_stable::{FuseStable, MemStable, Stable, Stop, StoreError};
+use std::alloc::Global;
+use std::sync::atomic::AtomicBool;
+use std::sync::atomic::Ordering::SeqCst;
+use std::test::Fail;
+
+// Sends to itself, receives, and ends.
+const SELF: [u32; 12] = [
+    0x00400893, 0x00000073, 0x00100893, 0x00000593, 0x00400613, 0x00000073, 0x00200893, 0x04000513,
+    0x00400593, 0x00000073, 0x00000893, 0x00000073,
+];
+
+// A store that puts receipts only once those of the other process are put, and else answers Fault.
+#[derive(Drop)]
+struct Meets<'a> {
+    inner: FuseStable<MemStable>,
+    own: &'a AtomicBool,
+    other: &'a AtomicBool,
+}
+
+impl<'a> Stable for Meets<'a> {
+    ghost use Rattle.std.specs.Prelude.{true};
+    ghost use Rattle.om_stable.specs.Stop.{failed_behind};
+
+    ghost content = { λ m. m.inner.inner };
+
+    ghost failed = { λ m. failed_behind m.inner.stop 0 };
+
+    ghost is_clean = { λ _. true };
+
+    ghost IsSound = { λ _. Unit {0} };
+
+    ghost call_gives = { λ _ _ _. Unit {0} };
+
+    fn put_receipts(
+        &mut self,
+        alloc: Global,
+        first: u32,
+        recs: &[Vec<u8>],
+    ) -> Result<(), StoreError> {
+        self.own.store(true, SeqCst);
+        if !is_set(self.other) && self.inner.stop != Stop::Past {
+            self.inner.stop = Stop::After(0);
+        }
+        self.inner.put_receipts(alloc, first, recs)
+    }
+
+    fn put_checkpoint(&mut self, alloc: Global, x: u32, bytes: &[u8]) -> Result<(), StoreError> {
+        self.inner.put_checkpoint(alloc, x, bytes)
+    }
+
+    fn effective(&mut self, alloc: Global, x: u32) -> Result<Option<(u32, Vec<u8>)>, StoreError> {
+        self.inner.effective(alloc, x)
+    }
+
+    fn receipts(
+        &mut self,
+        alloc: Global,
+        after: u32,
+        to: u32,
+    ) -> Result<Vec<(u32, Vec<u8>)>, StoreError> {
+        self.inner.receipts(alloc, after, to)
+    }
+
+    fn cut(&mut self, alloc: Global, r: u32) -> Result<(), StoreError> {
+        self.inner.cut(alloc, r)
+    }
+
+    fn prune(&mut self, alloc: Global, c: u32) -> Result<(), StoreError> {
+        self.inner.prune(alloc, c)
+    }
+
+    fn failures(&self) -> u64 {
+        self.inner.failures()
+    }
+}
+
+// Makes such stores, for two processes.
+#[derive(Drop)]
+struct MeetingPairs<'a> {
+    zero: &'a AtomicBool,
+    one: &'a AtomicBool,
+}
+
+impl<'a, R> Opener<R> for MeetingPairs<'a> {
+    type Store = Meets<'a>;
+
+    fn make(&self, _rt: &R, alloc: Global, pid: Pid) -> Result<Meets<'a>, OpenFault> {
+        let (own, other) = if pid.index() == 0 {
+            (self.zero, self.one)
+        } else {
+            (self.one, self.zero)
+        };
+        Ok(Meets {
+            inner: FuseStable::new(MemStable::new(alloc), u64::MAX),
+            own,
+            other,
+        })
+    }
+}
+
+#[test]
+fn two_at_work(rt: HostRuntime) -> Result<(), Fail> {
+    let mut images = Vec::new(rt.alloc());
+    images.push(image_of(rt.alloc(), &SELF, 128)?)?;
+    images.push(image_of(rt.alloc(), &SELF, 128)?)?;
+    let config = Config {
+        images,
+        kills: Vec::new(rt.alloc()),
+        flush: 1,
+        checkpoint: 16,
+        fuel: 1_000,
+        turns: 50_000_000,
+        gate_turns: 1,
+    };
+    let (zero, one) = (AtomicBool::new(false), AtomicBool::new(false));
+    let stores = MeetingPairs {
+        zero: &zero,
+        one: &one,
+    };
+    let report = run_cluster(&rt, rt.alloc(), &config, &Always(true), &stores)?;
+    assert_eq!(&rt;
+        report.statuses.as_slice(),
+        [Status::Ended(4), Status::Ended(4)].as_slice()
+    );
+    assert!(&rt; report.released.iter().all(|outputs| outputs.is_empty()));
+    assert_eq!(&rt; report.front.vec.as_slice(), [1, 1].as_slice());
+    Ok(())
+}
