@@ -1,5 +1,6 @@
 pub mod DecodeLemmas
 pub mod ReportLemmas
+pub mod RunLemmas
 pub mod ScriptLemmas
 pub mod SimLemmas
 pub mod TextLemmas

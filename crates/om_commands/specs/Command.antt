@@ -39,6 +39,9 @@ IsErrorOf meaning start IsEmpty bytes (errors.Damaged y) = ⊥
 IsErrorOf meaning start IsEmpty bytes (errors.MissingReceipt y) = ⊥
 IsErrorOf meaning start IsEmpty bytes (errors.Mismatch y) = ⊥
 IsErrorOf meaning start IsEmpty bytes errors.StoreFault = ⊥
+IsErrorOf meaning start IsEmpty bytes errors.OutOfTurns = ⊥
+IsErrorOf meaning start IsEmpty bytes errors.GateShut = ⊥
+IsErrorOf meaning start IsEmpty bytes errors.NoThread = ⊥
 
 -- no error but a writer's leaves anything written
 abbrev pub IsSilent : CommandError → Type 0 → Type 0
@@ -53,3 +56,6 @@ IsSilent (errors.Damaged y) kept = kept
 IsSilent (errors.MissingReceipt y) kept = kept
 IsSilent (errors.Mismatch y) kept = kept
 IsSilent errors.StoreFault kept = kept
+IsSilent errors.OutOfTurns kept = kept
+IsSilent errors.GateShut kept = kept
+IsSilent errors.NoThread kept = kept

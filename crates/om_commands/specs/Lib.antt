@@ -1,3 +1,4 @@
+pub mod ClusterScript
 pub mod Command
 pub mod Decode
 pub mod Errors
@@ -7,6 +8,8 @@ pub mod Hex
 pub mod RecordScript
 pub mod Replay
 pub mod Report
+pub mod Run
+pub mod RunText
 pub mod Sim
 pub mod SimScript
 pub mod SimText

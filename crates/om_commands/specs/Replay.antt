@@ -27,6 +27,9 @@ IsReplayError held x errors.CannotRead = ⊥
 IsReplayError held x errors.TooLong = ⊥
 IsReplayError held x errors.EmptyScript = ⊥
 IsReplayError held x (errors.Script error) = ⊥
+IsReplayError held x errors.OutOfTurns = ⊥
+IsReplayError held x errors.GateShut = ⊥
+IsReplayError held x errors.NoThread = ⊥
 
 -- the errors that the content does not tell
 abbrev pub IsNoMatterOfContent : CommandError → Type 0
@@ -41,3 +44,6 @@ IsNoMatterOfContent errors.CannotRead = ⊥
 IsNoMatterOfContent errors.TooLong = ⊥
 IsNoMatterOfContent errors.EmptyScript = ⊥
 IsNoMatterOfContent (errors.Script error) = ⊥
+IsNoMatterOfContent errors.OutOfTurns = ⊥
+IsNoMatterOfContent errors.GateShut = ⊥
+IsNoMatterOfContent errors.NoThread = ⊥

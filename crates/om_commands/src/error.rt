@@ -1,15 +1,16 @@
 ghost use Rattle.std.specs.Prelude.{◌≡◌};
 ghost use Rattle.om_text.specs.declared.text.ReadError.TheVariants as reading;
 ghost use Rattle.om_text.specs.declared.error.BuildError.TheVariants as errors;
-ghost use Rattle.om_commands.specs.Errors.{error_of_reading, error_of_building, error_of_replay};
+ghost use Rattle.om_commands.specs.Errors.{error_of_reading, error_of_building, error_of_replay, error_of_run};
 
 use om_process::ReplayFault;
+use om_runner::RunFault;
 use om_text::{BuildError, ReadError, ScriptError};
 use std::alloc::AllocError;
 use thiserror::Error;
 
 /// Why a command was refused. What is read, or what a store holds, determines all but `CannotRead`, `CannotWrite`,
-/// `NoMemory` and `StoreFault`.
+/// `NoMemory`, `StoreFault`, and those of threads: `OutOfTurns`, `GateShut` and `NoThread`.
 #[derive(Clone, Copy, Debug, PartialEq, Eq, Error)]
 pub enum CommandError {
     #[error("too long")]
@@ -34,6 +35,12 @@ pub enum CommandError {
     Mismatch(u32),
     #[error("store fault")]
     StoreFault,
+    #[error("out of turns")]
+    OutOfTurns,
+    #[error("gate shut")]
+    GateShut,
+    #[error("no thread")]
+    NoThread,
 }
 
 impl From<ReadError> for CommandError {
@@ -70,6 +77,20 @@ impl From<ReplayFault> for CommandError {
             ReplayFault::Mismatch(y) => CommandError::Mismatch(y),
             ReplayFault::Fault => CommandError::StoreFault,
             ReplayFault::Memory => CommandError::NoMemory,
+        }
+    }
+}
+
+impl From<RunFault> for CommandError {
+    ghost from_gives = { λ fault e. e ≡ error_of_run fault };
+
+    fn from(fault: RunFault) -> CommandError {
+        match fault {
+            RunFault::Turns(_) => CommandError::OutOfTurns,
+            RunFault::GateShut(_) => CommandError::GateShut,
+            RunFault::Memory => CommandError::NoMemory,
+            RunFault::Fault(_) | RunFault::Load(_) => CommandError::StoreFault,
+            RunFault::NoThread => CommandError::NoThread,
         }
     }
 }

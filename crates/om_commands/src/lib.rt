@@ -1,14 +1,18 @@
 //! The commands on message logs, checkpoints and recovery states of message-passing programs: text in, text out.
 #![tactic(auto)]
 
+mod cluster_script;
 mod command;
 pub mod decode;
 mod error;
 mod events;
 pub mod frontier;
+mod in_memory;
 mod record_script;
 pub mod replay;
 mod report;
+pub mod run;
+mod run_text;
 pub mod sim;
 mod sim_script;
 mod sim_text;
@@ -16,3 +20,4 @@ mod state_text;
 mod word_script;
 
 pub use error::CommandError;
+pub use in_memory::InMemory;

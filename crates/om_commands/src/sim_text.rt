@@ -107,7 +107,7 @@ fn push_answers(text: &mut String, answers: &[Answer]) -> Result<(), AllocError>
 }
 
 // The name of a process.
-fn name_of(programs: &Programs, p: usize) -> &str
+pub(crate) fn name_of(programs: &Programs, p: usize) -> &str
     requires { p < length programs.now.processes }
     ensures { result.now ≡ name_at programs.now p }
 {
@@ -199,7 +199,7 @@ fn push_output(
 }
 
 // Writes a line for each output.
-fn push_outputs(
+pub(crate) fn push_outputs(
     alloc: Global,
     text: &mut String,
     name: &str,

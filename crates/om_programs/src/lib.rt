@@ -6,4 +6,5 @@ mod named;
 mod names;
 mod programs;
 
+pub use names::{MAX_NAME, name_of};
 pub use programs::Programs;

@@ -5,11 +5,11 @@ ghost use Rattle.std.specs.List.{list_all};
 ghost use Rattle.om_programs.specs.Named.{is_name, is_name_byte};
 
 /// The most bytes of a name.
-pub(crate) const MAX_NAME: usize = 32;
+pub const MAX_NAME: usize = 32;
 
-// The word as a name: 1 to 32 letters, digits and `_`.
+/// The word as a name: 1 to [`MAX_NAME`] letters, digits and `_`.
 #[tactic(auto, using(crate::proofs::NameLemmas::utf8_name))]
-pub(crate) fn name_of(word: &[u8]) -> Option<&str>
+pub fn name_of(word: &[u8]) -> Option<&str>
     ensures { MatchOption result (is_name word.now ≡ false) (λ name. (name.now ≡ word.now) × (is_name word.now ≡ true)) }
 {
     if !is_name(word) {

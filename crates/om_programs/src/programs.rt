@@ -1,6 +1,6 @@
 //! Programs and processes: what their lines build.
 
-ghost use Rattle.std.specs.Prelude.{◌≡◌, ◌<◌, ◌≤◌, ◌++◌, ◌∷◌, [], All, map, length, slice_get, true, None, Some, IfOk, OnOk, OnErr};
+ghost use Rattle.std.specs.Prelude.{◌≡◌, ◌<◌, ◌≤◌, ◌++◌, ◌∷◌, [], All, map, length, slice_get, true, None, Some, IfOk, IfSome, OnOk, OnErr};
 ghost use Rattle.std.specs.Option.{option_map};
 ghost use Rattle.om_text.specs.Reading.{Gives};
 ghost use Rattle.om_programs.specs.Named.{place_of};
@@ -77,7 +77,8 @@ impl Programs {
 
     /// The number of the process of a name.
     pub fn place(&self, name: &str) -> Option<usize>
-        ensures { result ≡ place_of name.now self.now.processes }
+        ensures place { result ≡ place_of name.now self.now.processes }
+        ensures in_range { IfSome result (λ place. place < MAX_PROCESSES) }
     {
         self.processes.place(name)
     }

@@ -15,6 +15,8 @@ mod machine;
 #[cfg(test)]
 mod programs;
 #[cfg(test)]
+mod run;
+#[cfg(test)]
 mod sim;
 #[cfg(test)]
 mod text;

@@ -4,17 +4,22 @@ ghost use Rattle.std.specs.Prelude.{◌≡◌};
 ghost use Rattle.omlog.specs.Requests.{request_named};
 
 use crate::store_file::replay_file;
+use crate::store_files::{Files, run_over_tables};
 use clap::error::ErrorKind;
-use clap::{Arg, ArgAction, Command, Error};
-use om_commands::CommandError;
+use clap::{Arg, ArgAction, ArgMatches, Command, Error};
 use om_commands::decode::decode;
 use om_commands::frontier::frontier;
+use om_commands::run::run as run_cluster;
 use om_commands::sim::sim;
+use om_commands::{CommandError, InMemory};
 use om_isa::Ext;
-use om_text::number_of;
+use om_text::{long_number_of, number_of};
 use std::alloc::Global;
+use std::io::Write;
 use std::process::ExitCode;
 use std::rt::Runtime;
+use std::sync::Wait;
+use std::thread::Threads;
 use std::{env, io};
 
 const DECODE: &str = "decode";
@@ -104,6 +109,44 @@ In the end:
   out NAME NUMBER HEX              an output that may be released
 A faulty script is refused whole: 'line N: ..' on standard error, status 1.";
 
+const RUN: &str = "run";
+
+const RUN_HELP: &str = "\
+Reads a cluster file from standard input and runs the cluster: each process in
+a thread, with a log of what it receives and with checkpoints. A process that
+fails comes back from what it stored. Written is what may be released, and how
+each process ended.
+
+  program NAME SIZE WORD ..    a program of RV32I: the bytes of its memory, and
+                               the words at its start in hexadecimal
+  program-m NAME SIZE WORD ..  the same, with RV32M
+  proc NAME PROGRAM            a process of it, 1 to 16; numbered from 0
+Behind these:
+  kill NAME INTERVAL   the process fails, once, as it begins the interval; at
+                       most 64 such lines
+  flush K              a process stores its log after K receipts; 4
+  checkpoint K         a process stores its state after K receipts; 16
+  fuel K               a process runs at most K instructions a turn; 1000
+
+With --store PREFIX the stores are the files PREFIX, the process's number and
+.db, which must not be there yet; without it they are in memory.
+
+Answers:
+  out NAME NUMBER HEX  an output that is released
+  end NAME STATUS      ended CODE or trapped CAUSE
+Refused, on standard error, status 1:
+  out of turns         a worker has used up its turns
+  store fault          a store cannot be made, or failed
+  no thread            a thread cannot be made
+A faulty file is refused whole: 'line N: ..' on standard error, status 1.";
+
+const TURNS: &str = "turns";
+
+// The most turns of a worker, where nothing is said.
+const DEFAULT_TURNS: u64 = 50_000_000;
+
+const STORE: &str = "store";
+
 const REPLAY: &str = "replay";
 
 const REPLAY_HELP: &str = "\
@@ -136,29 +179,59 @@ pub(crate) enum Request<'a> {
     Decode(Ext),
     Frontier,
     Sim,
+    Run { turns: u64, prefix: Option<&'a str> },
     Replay { file: &'a str, interval: u32 },
 }
 
 // Runs the program on its arguments and standard streams: the status is 0 where it is done, 1 where a command was
 // refused, and 2 where the arguments were.
-pub(crate) fn run(rt: &HostRuntime) -> ExitCode {
+//
+// `threads` is the same runtime, which only `main` may have start threads and wait.
+pub(crate) fn run<R: Threads + Wait + Sync>(rt: &HostRuntime, threads: &R) -> ExitCode {
     let words = match words(rt) {
         Ok(words) => words,
         Err(error) => return refuse_words(rt, &error),
     };
     match chosen(rt.alloc(), &words) {
-        Ok(request) => end(rt, carry_out(rt, request)),
+        Ok(request) => end(rt, carry_out(rt, threads, request)),
         Err(error) => refuse_request(rt, &error),
     }
 }
 
-fn carry_out(rt: &HostRuntime, request: Request<'_>) -> Result<(), CommandError> {
+fn carry_out<R: Threads + Wait + Sync>(
+    rt: &HostRuntime,
+    threads: &R,
+    request: Request<'_>,
+) -> Result<(), CommandError> {
     let writer = &mut io::writer(rt);
     match request {
         Request::Decode(ext) => decode(rt.alloc(), ext, &mut rt.reader(), writer),
         Request::Frontier => frontier(rt.alloc(), &mut rt.reader(), writer),
         Request::Sim => sim(rt.alloc(), &mut rt.reader(), writer),
+        Request::Run { turns, prefix } => run_over(rt, threads, turns, prefix, writer),
         Request::Replay { file, interval } => replay_file(rt, file, interval, writer),
+    }
+}
+
+// Runs the cluster of standard input, over the files of the prefix or over memory.
+fn run_over<R: Threads + Wait + Sync, W: Write>(
+    rt: &HostRuntime,
+    threads: &R,
+    turns: u64,
+    prefix: Option<&str>,
+    writer: &mut W,
+) -> Result<(), CommandError> {
+    let reader = &mut rt.reader();
+    match prefix {
+        Some(prefix) => run_over_tables(
+            threads,
+            rt.alloc(),
+            turns,
+            Files { rt, prefix },
+            reader,
+            writer,
+        ),
+        None => run_cluster(threads, rt.alloc(), turns, &InMemory, reader, writer),
     }
 }
 
@@ -172,17 +245,21 @@ fn chosen<'a>(alloc: Global, words: &'a [String]) -> Result<Request<'a>, Error> 
     let Some((name, found)) = matches.subcommand() else {
         return Err(command.error(ErrorKind::MissingSubcommand, "a subcommand is missing")?);
     };
-    let request = if name == REPLAY {
-        replay_request(found.get_str(FILE), found.get_str(INTERVAL))
-    } else {
-        request_named(name, found.get_flag(M))
-    };
-    match request {
+    match request_of(name, found) {
         Some(request) => Ok(request),
         None => Err(command.error(
             ErrorKind::ValueValidation,
-            "INTERVAL is a number of 32 bits",
+            "INTERVAL is a number of 32 bits, and K one of 64 bits",
         )?),
+    }
+}
+
+// The request of a subcommand, where what it is given for a number is one.
+fn request_of<'a>(name: &str, found: &ArgMatches<'a>) -> Option<Request<'a>> {
+    match name {
+        REPLAY => replay_request(found.get_str(FILE), found.get_str(INTERVAL)),
+        RUN => run_request(found.get_str(TURNS), found.get_str(STORE)),
+        _ => request_named(name, found.get_flag(M)),
     }
 }
 
@@ -206,6 +283,15 @@ fn replay_request<'a>(file: Option<&'a str>, interval: Option<&'a str>) -> Optio
     })
 }
 
+// The request to run a cluster with so many turns, where they are a number, over the files of a prefix or in memory.
+fn run_request<'a>(turns: Option<&'a str>, prefix: Option<&'a str>) -> Option<Request<'a>> {
+    let turns = match turns {
+        Some(turns) => long_number_of(turns.as_bytes())?,
+        None => DEFAULT_TURNS,
+    };
+    Some(Request::Run { turns, prefix })
+}
+
 fn command<'a>(alloc: Global) -> Result<Command<'a>, Error> {
     let command = Command::new(alloc, "omlog")
         .bin_name("omlog")?
@@ -216,6 +302,7 @@ fn command<'a>(alloc: Global) -> Result<Command<'a>, Error> {
         .subcommand(decode_command(alloc)?)?
         .subcommand(frontier_command(alloc))?
         .subcommand(sim_command(alloc))?
+        .subcommand(run_command(alloc)?)?
         .subcommand(replay_command(alloc)?)?;
     Ok(command)
 }
@@ -242,6 +329,23 @@ fn sim_command<'a>(alloc: Global) -> Command<'a> {
     Command::new(alloc, SIM)
         .about("Logged processes that are played event by event")
         .after_help(SIM_HELP)
+}
+
+fn run_command<'a>(alloc: Global) -> Result<Command<'a>, Error> {
+    let turns = Arg::new(alloc, TURNS)
+        .long(TURNS)
+        .value_name("K")
+        .help("The most turns of a worker, 64 bits; 50000000");
+    let store = Arg::new(alloc, STORE)
+        .long(STORE)
+        .value_name("PREFIX")
+        .help("Keep the stores in files");
+    let command = Command::new(alloc, RUN)
+        .about("Logged processes that run in threads, fail and recover")
+        .after_help(RUN_HELP)
+        .arg(turns)?
+        .arg(store)?;
+    Ok(command)
 }
 
 fn replay_command<'a>(alloc: Global) -> Result<Command<'a>, Error> {

@@ -3,9 +3,10 @@
 
 mod arguments;
 mod store_file;
+mod store_files;
 
 use std::process::ExitCode;
 
 fn main(rt: HostRuntime) -> ExitCode {
-    arguments::run(&rt)
+    arguments::run(&rt, &rt)
 }

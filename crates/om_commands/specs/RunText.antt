@@ -1,0 +1,27 @@
+-- What is written of a run of a cluster: what each process put out and is released, and how each ended.
+use Rattle.std.specs.Prelude.{ℕ, List, [], ◌∷◌, ◌++◌, length, slice_index_or, codes}
+use Rattle.std.specs.List.{flat_map, range_with_len}
+use Rattle.om_manager.specs.Outputs.{HeldOutput}
+use Rattle.om_process.specs.declared.status.Status.{Status}
+use Rattle.om_process.specs.declared.status.Status.TheVariants.{Ready}
+use Rattle.om_programs.specs.Programs.{Cluster}
+use Rattle.om_commands.specs.SimText.{name_at, outputs_text}
+use Rattle.om_commands.specs.StateText.{status_text}
+
+-- the outputs of each process, in the order of the processes
+abbrev pub released_text : Cluster → List (List HeldOutput) → List ℕ
+released_text cluster released =
+    flat_map (λ p. outputs_text (name_at cluster p) (slice_index_or released p [])) (range_with_len 0 (length released))
+
+-- the line of how a process ended
+abbrev pub end_line : List ℕ → Status → List ℕ
+end_line name status = codes "end " ++ name ++ 32 ∷ status_text status ++ 10 ∷ []
+
+-- a line for each process, in their order
+abbrev pub ends_text : Cluster → List Status → List ℕ
+ends_text cluster statuses =
+    flat_map (λ p. end_line (name_at cluster p) (slice_index_or statuses p Ready)) (range_with_len 0 (length statuses))
+
+-- what processes put out, and how they ended
+abbrev pub run_text : Cluster → List (List HeldOutput) → List Status → List ℕ
+run_text cluster released statuses = released_text cluster released ++ ends_text cluster statuses
