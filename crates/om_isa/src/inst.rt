@@ -1,9 +1,13 @@
+use crate::encoding::encode;
 use crate::fields::{FenceBits, Imm12, Off13, Off21, Reg, Shamt, Upper};
+use std::fmt;
 
 /// An instruction of RV32IM with its fields (RISC-V unprivileged specification, RV32I 2.1 and RV32M 2.0):
 /// registers, immediates as they are signed, offsets in bytes from the instruction's own address, and the
 /// upper 20 bits of an immediate of 32 bits.
-#[derive(Clone, Copy, Debug, PartialEq, Eq)]
+///
+/// Two instructions are the same exactly where their words are, which [`encode`] gives.
+#[derive(Clone, Copy)]
 pub enum Inst {
     Lui { rd: Reg, upper: Upper },
     Auipc { rd: Reg, upper: Upper },
@@ -53,4 +57,11 @@ pub enum Inst {
     Divu { rd: Reg, rs1: Reg, rs2: Reg },
     Rem { rd: Reg, rs1: Reg, rs2: Reg },
     Remu { rd: Reg, rs1: Reg, rs2: Reg },
+}
+
+/// An instruction is shown by its word.
+impl fmt::Debug for Inst {
+    fn fmt<W: fmt::Write>(&self, f: &mut fmt::Formatter<W>) -> fmt::Result {
+        write!(f, "Inst({:08x})", encode(self))
+    }
 }

@@ -148,3 +148,10 @@ fn a_full_writer_is_a_fault(rt: HostRuntime) {
     let mut room = buffer.as_mut_slice();
     assert_eq!(rt; Inst::Ecall.write_text(&mut room), Err(WriteFault));
 }
+
+#[test]
+fn an_instruction_is_shown_by_its_word(rt: HostRuntime) -> Result<(), Fail> {
+    let shown = format!(in rt.alloc(); "{:?}", Inst::Ebreak)?;
+    assert_eq!(rt; shown.as_str(), "Inst(00100073)");
+    Ok(())
+}
