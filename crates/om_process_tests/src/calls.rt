@@ -63,7 +63,8 @@ fn run(rt: &impl Abort, alloc: Global, core: &mut ProcCore, fuel: u64) -> Ran {
 }
 
 fn x10(core: &ProcCore) -> Option<u32> {
-    Reg::new(10).map(|r| core.machine().reg(r))
+    let register = Reg::new(10)?;
+    Some(core.machine().reg(register))
 }
 
 // Compares the outputs from a number on: how many there are, and the bytes of the first.
