@@ -1,6 +1,6 @@
 //! Record scripts: what their lines build.
 
-ghost use Rattle.std.specs.Prelude.{◌≡◌, ◌≤◌, ◌+◌, length, map, IfOk, IfSome, vec_len};
+ghost use Rattle.std.specs.Prelude.{◌≡◌, ◌≤◌, ◌+◌, length, map, IfSome, OnOk, vec_len};
 ghost use Rattle.om_interval.specs.declared.pid.TheConstants.{MAX_PROCESSES};
 ghost use Rattle.om_text.specs.Reading.{Gives};
 ghost use Rattle.om_commands.specs.RecordScript.{Script, no_lines, processes_line, note_line, note_of, meaning_of, numbers_in};
@@ -26,6 +26,8 @@ pub struct NoteLine {
 pub struct RecordScript {
     processes: Option<usize>,
     notes: Vec<NoteLine>,
+    // Room for the numbers of a line.
+    numbers: Vec<u32>,
 }
 
 impl Model for RecordScript {
@@ -43,6 +45,7 @@ impl RecordScript {
         RecordScript {
             processes: None,
             notes: Vec::new(alloc),
+            numbers: Vec::new(alloc),
         }
     }
 
@@ -82,12 +85,7 @@ impl RecordScript {
         Ok(())
     }
 
-    fn add_note(
-        &mut self,
-        alloc: Global,
-        kind: RowKind,
-        words: &[&[u8]],
-    ) -> Result<(), BuildError<LineError>>
+    fn add_note(&mut self, kind: RowKind, words: &[&[u8]]) -> Result<(), BuildError<LineError>>
         ensures { Gives (λ _. self.new) result
             (note_line kind self.old (map (λ word. word.now) words.now)) }
     {
@@ -96,11 +94,11 @@ impl RecordScript {
         {
             return Err(LineError::WrongCount.into());
         }
-        let numbers = numbers_in(alloc, words)?;
+        read_numbers(words, &mut self.numbers)?;
         if self.processes.is_none() {
             return Err(LineError::OutOfPlace.into());
         }
-        self.notes.push(note_of(kind, &numbers))?;
+        self.notes.push(note_of(kind, &self.numbers))?;
         Ok(())
     }
 }
@@ -112,7 +110,7 @@ impl Builder for RecordScript {
 
     ghost meaning = { meaning_of };
 
-    fn add_line(&mut self, alloc: Global, words: &[&[u8]]) -> Result<(), BuildError<LineError>> {
+    fn add_line(&mut self, _alloc: Global, words: &[&[u8]]) -> Result<(), BuildError<LineError>> {
         let [first, words @ ..] = words else {
             return Err(LineError::UnknownLine.into());
         };
@@ -120,28 +118,28 @@ impl Builder for RecordScript {
             return self.add_processes(words);
         }
         if *first == b"log".as_slice() {
-            return self.add_note(alloc, RowKind::Log, words);
+            return self.add_note(RowKind::Log, words);
         }
         if *first == b"ckpt".as_slice() {
-            return self.add_note(alloc, RowKind::Checkpoint, words);
+            return self.add_note(RowKind::Checkpoint, words);
         }
         Err(LineError::UnknownLine.into())
     }
 }
 
-// The numbers that the words stand for.
-fn numbers_in(alloc: Global, words: &[&[u8]]) -> Result<Vec<u32>, BuildError<LineError>>
-    ensures numbers { Gives (λ numbers. numbers.items) result (numbers_in (map (λ word. word.now) words.now)) }
-    ensures count { IfOk result (λ numbers. vec_len numbers ≡ length words.now) }
+// Puts the numbers that the words stand for in place of what was there.
+fn read_numbers(words: &[&[u8]], numbers: &mut Vec<u32>) -> Result<(), BuildError<LineError>>
+    ensures numbers { Gives (λ _. numbers.new.items) result (numbers_in (map (λ word. word.now) words.now)) }
+    ensures count { OnOk result (vec_len numbers.new ≡ length words.now) }
 {
-    let mut numbers = Vec::with_capacity(alloc, words.len())?;
+    numbers.clear();
     for word in words {
         let Some(number) = number_of(word) else {
             return Err(LineError::BadNumber.into());
         };
         numbers.push(number)?;
     }
-    Ok(numbers)
+    Ok(())
 }
 
 // The note of a process, an interval and a vector.

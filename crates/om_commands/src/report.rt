@@ -1,4 +1,4 @@
-ghost use Rattle.std.specs.Prelude.{◌≡◌, ◌≤◌, ◌++◌, ◌∷◌, [], length, IfOk, OnOk, string_bytes};
+ghost use Rattle.std.specs.Prelude.{◌≡◌, ◌≤◌, ◌++◌, ◌∷◌, [], ℕ, List, length, IfOk, OnOk, string_bytes};
 ghost use Rattle.om_interval.specs.declared.pid.TheConstants.{MAX_PROCESSES};
 ghost use Rattle.om_recover.specs.Offered.{offered, TellsChange};
 ghost use Rattle.om_recover.specs.Recoverable.{IsGreatest};
@@ -20,15 +20,30 @@ pub fn report(alloc: Global, n: usize, notes: &[NoteLine]) -> Result<String, All
     let mut records = Records::new(alloc, n)?;
     let zeros = records.recovery();
     let mut text = String::new(alloc);
+    let mut state = String::new(alloc);
+    push_state(&mut state, &zeros)?;
     let mut work = Work::new();
     for note in notes {
         let answer = answer_to(alloc, &mut records, note, &zeros, &mut work);
         push_answer(&mut text, answer)?;
-        push_state(&mut text, &records.recovery())?;
+        write_state(&mut state, answer, &records)?;
+        text.push_str(&state)?;
     }
     text.push_str("recovery")?;
-    push_state(&mut text, &records.recovery())?;
+    text.push_str(&state)?;
     Ok(text)
+}
+
+// Writes the text of the recovery state anew where an answer says that the state rose. Most answers leave it.
+fn write_state(text: &mut String, answer: Result<Note, NoteError>, records: &Records) -> Result<(), AllocError>
+    ensures { OnOk result ((state : List ℕ) → TellsChange answer state records.now.state
+        → string_bytes text.old ≡ state_text state → string_bytes text.new ≡ state_text records.now.state) }
+{
+    if let Ok(Note::Noted { raised: true }) = answer {
+        text.clear();
+        push_state(text, &records.recovery())?;
+    }
+    Ok(())
 }
 
 // Offers a note's row to the records. A number of 16 or above is no process of any cluster.

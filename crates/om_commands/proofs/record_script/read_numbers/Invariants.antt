@@ -1,7 +1,7 @@
 use Rattle.std.proofs.Common.{◌≡◌, map, drop, vec_len}
 use Rattle.om_commands.specs.RecordScript.{numbers_in}
 use Rattle.om_commands.proofs.ScriptLemmas.{and_then}
-use Rattle.om_commands.proofs.record_script.numbers_in.Given as goal
+use Rattle.om_commands.proofs.record_script.read_numbers.Given as goal
 
 -- the numbers so far, and then those of the words to come, are those of all words
 abbrev pub invariant-loop-word : goal.invariant-loop-word
