@@ -15,4 +15,5 @@ invariant-loop-one g l =
     × (n ≤ vec_capacity l.handles)
     × (vec_len l.passes ≡ into_iter_len l.one-iterator)
     × ((k : ℕ) (e : _) → k < into_iter_len l.one-iterator → HasEnds n l.inboxes (done + k) (get_or rest k e))
-    × ((k : ℕ) (a : Image) (h : _) → k < done → IsPromised (get_or images k a) k n (get_or (vec_items l.handles) k h).promise.0.now (get_or (vec_items l.handles) k h).promise.1 (get_or (vec_items l.handles) k h).promise.2)
+    × ((k : ℕ) (a : Image) (h : _) → k < done
+    → IsPromised (get_or images k a) l.inboxes k n (get_or (vec_items l.handles) k h).promise)
