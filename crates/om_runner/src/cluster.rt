@@ -36,6 +36,21 @@ use std::sync::atomic::Ordering::SeqCst;
 use std::thread;
 use std::thread::{Promise, PromisedHandle, Scope, Threads, join_promised};
 
+/// What the threads of a cluster have in common.
+#[derive(Drop)]
+struct Cluster<'s, K: Naming, R, G, O> {
+    rt: &'s R,
+    alloc: Global,
+    plan: &'s Config,
+    gate: &'s G,
+    opener: &'s O,
+    shared: &'s Shared<K>,
+    // Set where one of them ends with a fault.
+    stop: &'s AtomicBool,
+    // By sender, and there by receiver.
+    inboxes: &'s [Vec<Inbox>],
+}
+
 /// What a worker begins with.
 #[derive(Drop)]
 struct Job<'a, K: Naming> {
@@ -154,13 +169,7 @@ fn take_turns<'a, K: Naming, S: Stable, R: Wait>(
 
 // What the thread of a process does.
 fn work<'a, K: Naming, R: Wait, G: Gate, O: Opener<R>>(
-    rt: &R,
-    alloc: Global,
-    plan: &'a Config,
-    gate: &G,
-    opener: &O,
-    shared: &'a Shared<K>,
-    stop: &AtomicBool,
+    cluster: &Cluster<'a, K, R, G, O>,
     image: &'a Image,
     job: Job<'a, K>,
 ) -> Result<Finished<O::Store>, RunFault>
@@ -170,33 +179,33 @@ fn work<'a, K: Naming, R: Wait, G: Gate, O: Opener<R>>(
     let Job { links, pass, .. } = job;
     let pid = links.own();
     let n = links.n();
-    pass_gate(gate, plan.gate_turns, pid)?;
-    let node = begin(rt, alloc, opener, image, pid, n)?;
+    let Cluster {
+        rt,
+        alloc,
+        plan,
+        ..
+    } = *cluster;
+    pass_gate(cluster.gate, plan.gate_turns, pid)?;
+    let node = begin(rt, alloc, cluster.opener, image, pid, n)?;
     let Ok(kills) = kills_of(alloc, &plan.kills, pid) else {
         return Err(RunFault::Memory);
     };
-    let worker = Worker::new(plan, shared, links, kills);
-    take_turns(rt, alloc, plan.turns, stop, worker, node, pass)
+    let worker = Worker::new(plan, cluster.shared, links, kills);
+    take_turns(rt, alloc, plan.turns, cluster.stop, worker, node, pass)
 }
 
 // The same, and where it ends with a fault, the others are stopped.
 fn work_or_stop<'a, K: Naming, R: Wait, G: Gate, O: Opener<R>>(
-    rt: &R,
-    alloc: Global,
-    plan: &'a Config,
-    gate: &G,
-    opener: &O,
-    shared: &'a Shared<K>,
-    stop: &AtomicBool,
+    cluster: &Cluster<'a, K, R, G, O>,
     image: &'a Image,
     job: Job<'a, K>,
 ) -> Result<Finished<O::Store>, RunFault>
     ensures { let l = job.entry.links in
         IfOk result (λ f. IsEndOf O.Store.is_clean (program_of image.entry.now) l.lines l.own l.n f) }
 {
-    let result = work(rt, alloc, plan, gate, opener, shared, stop, image, job);
+    let result = work(cluster, image, job);
     if result.is_err() {
-        stop.store(true, SeqCst);
+        cluster.stop.store(true, SeqCst);
     }
     result
 }
@@ -227,13 +236,7 @@ fn start<
     O: Opener<R> + Sync,
 >(
     scope: &Scope<'s, E>,
-    rt: &'s R,
-    alloc: Global,
-    plan: &'s Config,
-    gate: &'s G,
-    opener: &'s O,
-    shared: &'s Shared<K>,
-    stop: &'s AtomicBool,
+    cluster: &'s Cluster<'s, K, R, G, O>,
     image: &'s Image,
     job: Job<'s, K>,
 ) -> Option<Handle<'s, O::Store>>
@@ -250,9 +253,7 @@ fn start<
         store: PhantomData,
     };
     scope
-        .spawn_with(end, move || {
-            work_or_stop(rt, alloc, plan, gate, opener, shared, stop, image, job)
-        })
+        .spawn_with(end, move || work_or_stop(cluster, image, job))
         .ok()
 }
 
@@ -266,27 +267,20 @@ fn start_all<
     O: Opener<R> + Sync,
 >(
     scope: &Scope<'s, E>,
-    rt: &'s R,
-    alloc: Global,
-    plan: &'s Config,
-    gate: &'s G,
-    opener: &'s O,
-    shared: &'s Shared<K>,
-    stop: &'s AtomicBool,
-    inboxes: &'s [Vec<Inbox>],
+    cluster: &'s Cluster<'s, K, R, G, O>,
     ends: Vec<Ends>,
     mut passes: Vec<Pass<K>>,
     mut handles: Vec<Handle<'s, O::Store>>,
 ) -> Option<Vec<Handle<'s, O::Store>>>
     requires few { K.cell.n ≤ MAX_PROCESSES }
-    requires images { length plan.now.images.items ≡ K.cell.n }
-    requires wired { IsWired K.cell.n inboxes.now ends.items }
+    requires images { length cluster.now.plan.now.images.items ≡ K.cell.n }
+    requires wired { IsWired K.cell.n cluster.now.inboxes.now ends.items }
     requires passes { vec_len passes ≡ K.cell.n }
     requires none { vec_len handles ≡ 0 }
     requires room { K.cell.n ≤ vec_capacity handles }
     ensures long { IfSome result (λ v. vec_len v ≡ K.cell.n) }
     ensures each { IfSome result (λ v. (i : ℕ) (a : Image) (h : _) → i < vec_len v
-        → IsPromised (slice_index_or plan.entry.now.images.items i a) inboxes.entry.now i K.cell.n (slice_index_or v.items i h).promise) }
+        → IsPromised (slice_index_or cluster.entry.now.plan.now.images.items i a) cluster.entry.now.inboxes.now i K.cell.n (slice_index_or v.items i h).promise) }
 {
     for one in ends {
         let Ends { puts, takes } = one;
@@ -294,13 +288,11 @@ fn start_all<
             unreachable!()
         };
         let own = handles.len();
-        let links = Links::new(Pid::at(own), inboxes, puts, takes);
+        let links = Links::new(Pid::at(own), cluster.inboxes, puts, takes);
         let job = Job { links, pass };
-        let image = &plan.images[own];
-        let Some(handle) = start(
-            scope, rt, alloc, plan, gate, opener, shared, stop, image, job,
-        ) else {
-            stop.store(true, SeqCst);
+        let image = &cluster.plan.images[own];
+        let Some(handle) = start(scope, cluster, image, job) else {
+            cluster.stop.store(true, SeqCst);
             return None;
         };
         handles.push_reserved(handle);
@@ -315,44 +307,36 @@ fn run_scoped<
     G: Gate + Sync,
     O: Opener<R> + Sync,
 >(
-    rt: &R,
-    alloc: Global,
-    plan: &Config,
-    gate: &G,
-    opener: &O,
-    shared: &Shared<K>,
-    stop: &AtomicBool,
-    inboxes: &[Vec<Inbox>],
+    cluster: &Cluster<'_, K, R, G, O>,
     ends: Vec<Ends>,
     passes: Vec<Pass<K>>,
 ) -> Result<Vec<Result<Finished<O::Store>, RunFault>>, RunFault>
     requires few { K.cell.n ≤ MAX_PROCESSES }
-    requires images { length plan.now.images.items ≡ K.cell.n }
-    requires wired { IsWired K.cell.n inboxes.now ends.items }
+    requires images { length cluster.now.plan.now.images.items ≡ K.cell.n }
+    requires wired { IsWired K.cell.n cluster.now.inboxes.now ends.items }
     requires passes { vec_len passes ≡ K.cell.n }
     ensures long { IfOk result (λ v. vec_len v ≡ K.cell.n) }
-    ensures each { IfOk result (λ v. AreEndsOf O.Store.is_clean plan.now.images.items inboxes.now K.cell.n v.items) }
+    ensures each { IfOk result (λ v. AreEndsOf O.Store.is_clean cluster.now.plan.now.images.items cluster.now.inboxes.now K.cell.n v.items) }
 {
     thread::scope(
         thread::scope_env(),
-        rt,
+        cluster.rt,
         |scope| -> Result<Vec<Result<Finished<O::Store>, RunFault>>, RunFault>
             requires few { K.cell.n ≤ MAX_PROCESSES }
-            requires images { length plan.now.images.items ≡ K.cell.n }
-            requires wired { IsWired K.cell.n inboxes.now ends.items }
+            requires images { length cluster.now.plan.now.images.items ≡ K.cell.n }
+            requires wired { IsWired K.cell.n cluster.now.inboxes.now ends.items }
             requires passes { vec_len passes ≡ K.cell.n }
             ensures long { IfOk result (λ v. vec_len v ≡ K.cell.n) }
-            ensures each { IfOk result (λ v. AreEndsOf O.Store.is_clean plan.entry.now.images.items inboxes.entry.now K.cell.n v.items) }
+            ensures each { IfOk result (λ v. AreEndsOf O.Store.is_clean cluster.entry.now.plan.now.images.items
+                cluster.entry.now.inboxes.now K.cell.n v.items) }
         {
-            let Ok(handles) = Vec::with_capacity(alloc, passes.len()) else {
+            let Ok(handles) = Vec::with_capacity(cluster.alloc, passes.len()) else {
                 return Err(RunFault::Memory);
             };
-            let Some(handles) = start_all(
-                scope, rt, alloc, plan, gate, opener, shared, stop, inboxes, ends, passes, handles,
-            ) else {
+            let Some(handles) = start_all(scope, cluster, ends, passes, handles) else {
                 return Err(RunFault::NoThread);
             };
-            join_promised(rt, handles).map_err(|_| RunFault::Memory)
+            join_promised(cluster.rt, handles).map_err(|_| RunFault::Memory)
         },
     )
 }
@@ -508,9 +492,17 @@ fn run_named<
     };
     let Network { inboxes, ends } = network;
     let stop = AtomicBool::new(false);
-    let results = run_scoped(
-        rt, alloc, plan, gate, opener, &shared, &stop, &inboxes, ends, passes,
-    )?;
+    let cluster = Cluster {
+        rt,
+        alloc,
+        plan,
+        gate,
+        opener,
+        shared: &shared,
+        stop: &stop,
+        inboxes: &inboxes,
+    };
+    let results = run_scoped(&cluster, ends, passes)?;
     let all = all_of(alloc, results)?;
     let Ok(parts) = parted(alloc, all) else {
         return Err(RunFault::Memory);
@@ -521,7 +513,7 @@ fn run_named<
         puts,
         mut takes,
     } = parts;
-    settle_all(rt, &inboxes, puts, &mut takes);
+    settle_all(rt, cluster.inboxes, puts, &mut takes);
     let board = shared.board.lock(rt);
     let Ok(report) = report_of(alloc, board.manager(), statuses) else {
         return Err(RunFault::Memory);

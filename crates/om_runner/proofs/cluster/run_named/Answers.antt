@@ -12,17 +12,14 @@ settle_all-requires g c =
     let many : length c.args.plan.now.images.items ≡ n = sym c.requires.size ∙ ap (λ (b : CellName). b.n) c.requires.named in
     let long : length c.in_ok-results.results.items ≡ n = (let l = c.in_ok-results.ensures.long in search rules) in
     let count : c.len.result ≡ n = (let l = c.len.ensures in search rules) in
-    let network = c.in-Ok-connected.network.inboxes.items in
-    let before : c.deref.result.now ≡ network = c.deref.ensures.value in
-    let after : c.deref-2.result.now ≡ network = c.deref-2.ensures.value in
+    let lines = c.deref.result.now in
     let parts = c.in-Ok-parted.parts in
-    let all : AreLeaves n c.deref.result.now parts.puts.items parts.takes.items =
-    all_leaves g.O.Store.Stable.is_clean c.args.plan.now.images.items c.deref.result.now n c.in_ok-results.results.items c.in_ok-all.all.items parts.puts.items parts.takes.items
-    (subst (IsNetwork n) (sym before) (subst (λ k. IsNetwork k network) count c.in-Ok-connected.ensures.network))
-    many c.in_ok-all.ensures long c.in_ok-results.ensures.each c.in-Ok-parted.ensures.puts c.in-Ok-parted.ensures.takes
+    let network : IsNetwork n lines = subst (IsNetwork n) (sym c.deref.ensures.value) (subst (λ k. IsNetwork k c.in-Ok-connected.network.inboxes.items) count c.in-Ok-connected.ensures.network) in
+    let all : AreLeaves n lines parts.puts.items parts.takes.items =
+        all_leaves g.O.Store.Stable.is_clean c.args.plan.now.images.items lines n c.in_ok-results.results.items c.in_ok-all.all.items parts.puts.items parts.takes.items
+        network many c.in_ok-all.ensures long c.in_ok-results.ensures.each c.in-Ok-parted.ensures.puts c.in-Ok-parted.ensures.takes
     in
-    subst (λ l. AreLeaves (length l) l parts.puts.items parts.takes.items) (before ∙ sym after)
-    (subst (λ k. AreLeaves k c.deref.result.now parts.puts.items parts.takes.items) (sym all.network.senders) all)
+    subst (λ k. AreLeaves k lines parts.puts.items parts.takes.items) (sym network.senders) all
 
 pub returns-clause-ended : goal.returns-clause-ended
 returns-clause-ended g c = λ k d lt.

@@ -16,8 +16,8 @@ loop-one-init g c =
           let same : into_iter_items c.into_iter-one-iterator.result ≡ c.args.ends.items = search rules in
           let less : k < length c.args.ends.items = search rules in
           let at : k ≡ vec_len c.args.handles + k = (let z = c.requires.none in omega arith) in
-          subst (λ i. HasEnds g.K.Naming.cell.n c.args.inboxes.now i (get_or (into_iter_items c.into_iter-one-iterator.result) k e)) at
-          (subst (λ es. HasEnds g.K.Naming.cell.n c.args.inboxes.now k (get_or es k e)) (sym same) (ends_at _ _ _ c.requires.wired k e less)),
+          subst (λ i. HasEnds g.K.Naming.cell.n c.args.cluster.now.inboxes.now i (get_or (into_iter_items c.into_iter-one-iterator.result) k e)) at
+          (subst (λ es. HasEnds g.K.Naming.cell.n c.args.cluster.now.inboxes.now k (get_or es k e)) (sym same) (ends_at _ _ _ c.requires.wired k e less)),
       λ k a h lt. absurd (let z = c.requires.none in omega arith),
     )
 
@@ -25,37 +25,37 @@ pub new-links-requires-clause-puts : goal.new-links-requires-clause-puts
 new-links-requires-clause-puts g c =
     let first : get_or (into_iter_items c.loop-one.one-iterator) 0 c.in-Some.one ≡ c.in-Some.one = search rules in
     let lt : 0 < into_iter_len c.loop-one.one-iterator = search rules in
-    let have = subst (HasEnds g.K.Naming.cell.n c.args.inboxes.now (vec_len c.loop-one.handles + 0)) first (c.loop-one.invariant.3 0 c.in-Some.one lt) in
+    let have = subst (HasEnds g.K.Naming.cell.n c.args.cluster.now.inboxes.now (vec_len c.loop-one.handles + 0)) first (c.loop-one.invariant.3 0 c.in-Some.one lt) in
     have.put ∙ sym c.requires.wired.network.senders
 
 pub new-links-requires-clause-takes : goal.new-links-requires-clause-takes
 new-links-requires-clause-takes g c =
     let first : get_or (into_iter_items c.loop-one.one-iterator) 0 c.in-Some.one ≡ c.in-Some.one = search rules in
     let lt : 0 < into_iter_len c.loop-one.one-iterator = search rules in
-    let have = subst (HasEnds g.K.Naming.cell.n c.args.inboxes.now (vec_len c.loop-one.handles + 0)) first (c.loop-one.invariant.3 0 c.in-Some.one lt) in
+    let have = subst (HasEnds g.K.Naming.cell.n c.args.cluster.now.inboxes.now (vec_len c.loop-one.handles + 0)) first (c.loop-one.invariant.3 0 c.in-Some.one lt) in
     have.take ∙ sym c.requires.wired.network.senders
 
 pub new-links-requires-clause-putting : goal.new-links-requires-clause-putting
 new-links-requires-clause-putting g c =
     let first : get_or (into_iter_items c.loop-one.one-iterator) 0 c.in-Some.one ≡ c.in-Some.one = search rules in
     let lt : 0 < into_iter_len c.loop-one.one-iterator = search rules in
-    let have = subst (HasEnds g.K.Naming.cell.n c.args.inboxes.now (vec_len c.loop-one.handles + 0)) first (c.loop-one.invariant.3 0 c.in-Some.one lt) in
-    subst (λ k. ArePuts c.args.inboxes.now k c.in-Some.one.puts.items) (search rules) have.putting
+    let have = subst (HasEnds g.K.Naming.cell.n c.args.cluster.now.inboxes.now (vec_len c.loop-one.handles + 0)) first (c.loop-one.invariant.3 0 c.in-Some.one lt) in
+    subst (λ k. ArePuts c.args.cluster.now.inboxes.now k c.in-Some.one.puts.items) (search rules) have.putting
 
 pub new-links-requires-clause-taking : goal.new-links-requires-clause-taking
 new-links-requires-clause-taking g c =
     let first : get_or (into_iter_items c.loop-one.one-iterator) 0 c.in-Some.one ≡ c.in-Some.one = search rules in
     let lt : 0 < into_iter_len c.loop-one.one-iterator = search rules in
-    let have = subst (HasEnds g.K.Naming.cell.n c.args.inboxes.now (vec_len c.loop-one.handles + 0)) first (c.loop-one.invariant.3 0 c.in-Some.one lt) in
-    subst (λ k. AreTakes c.args.inboxes.now k c.in-Some.one.takes.items) (search rules) have.taking
+    let have = subst (HasEnds g.K.Naming.cell.n c.args.cluster.now.inboxes.now (vec_len c.loop-one.handles + 0)) first (c.loop-one.invariant.3 0 c.in-Some.one lt) in
+    subst (λ k. AreTakes c.args.cluster.now.inboxes.now k c.in-Some.one.takes.items) (search rules) have.taking
 
 pub loop-one-preserved : goal.loop-one-preserved
 loop-one-preserved g c =
     let was = c.loop-one.invariant in
     let done = vec_len c.loop-one.handles in
     let n = g.K.Naming.cell.n in
-    let images = c.args.plan.now.images.items in
-    let lines = c.args.inboxes.now in
+    let images = c.args.cluster.now.plan.now.images.items in
+    let lines = c.args.cluster.now.inboxes.now in
     let handle = c.in-Some-start.handle in
     let started = c.in-Some-start.ensures in
     let rest = into_iter_items c.next.new.self in
