@@ -5,3 +5,4 @@ mod OnWay
 mod LinkLemmas
 mod ReportLemmas
 mod WireLemmas
+mod SettleLemmas

@@ -13,9 +13,12 @@ use Rattle.om_process.specs.declared.image.Image.{Image}
 use Rattle.om_process.specs.declared.status.Status.{Status}
 use Rattle.om_runner.proofs.LinkLemmas.{none_in, some_same, set_at}
 use Rattle.om_runner.specs.Reports.{AreAllReleased, AreAlong, AreStatusesAlong, IsEnd, IsStatusAlong}
+use Rattle.om_runner.specs.Inboxes.{Traffic, Takings}
+use Rattle.om_runner.specs.declared.cluster.Finished.{Finished}
 use Rattle.om_runner.specs.declared.network.Ends.{Ends}
-use Rattle.om_runner.specs.steps.Ends.{AreReleasedBy, IsEndOf}
-use Rattle.om_runner.specs.steps.Network.{Lines}
+use Rattle.om_runner.specs.steps.Ends.{AreEndsOf, AreReleasedBy, IsEndOf}
+use Rattle.om_runner.specs.steps.Network.{ArePuts, AreTakes, IsNetwork, Lines}
+use Rattle.om_runner.specs.steps.Settling.{AreLeaves}
 use Rattle.om_runner.specs.steps.Wiring.{HasEnds, IsWired}
 
 -- ---- lists
@@ -95,40 +98,83 @@ released_more m released outputs are held numbered p found at = elim (more_had r
 ]
 
 -- ---- ends
--- where all ended so, and these are their statuses and stores, the statuses are those of states along the images
-pub all_along : {S F E : Type 0} (is_clean : S → Bool) (status_at : F → Status) (store_at : F → S) (images : List Image) (n : ℕ) (results : List (Result F E)) (fs : List F) (statuses : List Status) (stores : List S)
+-- where all ended well, each ended so
+pub ended_so : {S E : Type 0} (is_clean : S → Bool) (images : List Image) (lines : Lines) (n : ℕ) (results : List (Result (Finished S) E)) (fs : List (Finished S))
     → length images ≡ n → map Ok fs ≡ results → length results ≡ n
-    → ((i : ℕ) (a : Image) (r : Result F E) → i < n → IfOk (get_or results i r) (λ f. IsEndOf is_clean (program_of (get_or images i a)) i n (status_at f) (store_at f)))
-    → statuses ≡ map status_at fs → stores ≡ map store_at fs
-    → AreAlong is_clean images statuses stores
-all_along is_clean status_at store_at images n results fs statuses stores many all long each statuses_are stores_are p image status store at_image at_status at_store clean =
-    let found = map_had status_at fs p status (subst (λ l. slice_get l p ≡ Some status) statuses_are at_status) in
-    let kept = map_had store_at fs p store (subst (λ l. slice_get l p ≡ Some store) stores_are at_store) in
-    let same : found.0 ≡ kept.0 = some_same found.0 kept.0 (sym found.1 ∙ kept.1) in
-    let lt : p < n = subst (λ k. p < k) many (slice_get_within images p image at_image) in
-    let there : get_or results p (Ok found.0) ≡ Ok found.0 = get_or_from_slice_get results p (Ok found.0) (Ok found.0) (subst (λ l. slice_get l p ≡ Some (Ok found.0)) all (map_get Ok fs p found.0 found.1)) in
-    let is : IsEndOf is_clean (program_of (get_or images p image)) p n (status_at found.0) (store_at found.0) = subst (λ (r : Result _ _). IfOk r (λ f. IsEndOf is_clean (program_of (get_or images p image)) p n (status_at f) (store_at f))) there (each p image (Ok found.0) lt) in
-    let mine : IsTrue (is_clean (store_at found.0)) = subst (λ s. IsTrue (is_clean s)) (sym (ap store_at same ∙ kept.2)) clean in
-    subst (λ s. IsStatusAlong (program_of image) p (length images) s) found.2
-    (subst (λ k. IsStatusAlong (program_of image) p k (status_at found.0)) (sym many)
-    (subst (λ i. IsStatusAlong (program_of i) p n (status_at found.0)) (get_or_from_slice_get images p image image at_image) (is.along mine)))
-
--- and each is an end
-pub all_ended : {S F E : Type 0} (is_clean : S → Bool) (status_at : F → Status) (store_at : F → S) (images : List Image) (n : ℕ) (results : List (Result F E)) (fs : List F) (statuses : List Status)
-    → length images ≡ n → map Ok fs ≡ results → length results ≡ n
-    → ((i : ℕ) (a : Image) (r : Result F E) → i < n → IfOk (get_or results i r) (λ f. IsEndOf is_clean (program_of (get_or images i a)) i n (status_at f) (store_at f)))
-    → statuses ≡ map status_at fs
-    → (p : ℕ) (status : Status) → slice_get statuses p ≡ Some status → IsEnd status
-all_ended is_clean status_at store_at images n results fs statuses many all long each statuses_are p status at_status =
-    let found = map_had status_at fs p status (subst (λ l. slice_get l p ≡ Some status) statuses_are at_status) in
-    let lt : p < n = subst (λ k. p < k) (sym (length-map fs Ok) ∙ ap length all ∙ long) (slice_get_within fs p found.0 found.1) in
-    let there : get_or results p (Ok found.0) ≡ Ok found.0 = get_or_from_slice_get results p (Ok found.0) (Ok found.0) (subst (λ l. slice_get l p ≡ Some (Ok found.0)) all (map_get Ok fs p found.0 found.1)) in
+    → AreEndsOf is_clean images lines n results
+    → (p : ℕ) (f : Finished S) → slice_get fs p ≡ Some f → (image : Image) × (slice_get images p ≡ Some image) × IsEndOf is_clean (program_of image) lines p n f
+ended_so is_clean images lines n results fs many all long each p f at =
+    let lt : p < n = subst (λ k. p < k) (sym (length-map fs Ok) ∙ ap length all ∙ long) (slice_get_within fs p f at) in
+    let there : get_or results p (Ok f) ≡ Ok f = get_or_from_slice_get results p (Ok f) (Ok f) (subst (λ l. slice_get l p ≡ Some (Ok f)) all (map_get Ok fs p f at)) in
     elim (slice_get_cases images p).1 [
       | inl image ↦
-          let is : IsEndOf is_clean (program_of (get_or images p image.0)) p n (status_at found.0) (store_at found.0) = subst (λ (r : Result _ _). IfOk r (λ f. IsEndOf is_clean (program_of (get_or images p image.0)) p n (status_at f) (store_at f))) there (each p image.0 (Ok found.0) lt) in
-          subst IsEnd found.2 is.ended
+          let is : IsEndOf is_clean (program_of (get_or images p image.0)) lines p n f =
+          subst (λ (r : Result (Finished _) _). IfOk r (IsEndOf is_clean (program_of (get_or images p image.0)) lines p n)) there (each p image.0 (Ok f) lt)
+          in
+          (image.0, image.2, subst (λ i. IsEndOf is_clean (program_of i) lines p n f) image.3 is)
       | inr past ↦ let l = past.0 in absurd (omega arith)
     ]
+
+-- where these are their statuses and stores, the statuses are those of states along the images
+pub all_along : {S E : Type 0} (is_clean : S → Bool) (images : List Image) (lines : Lines) (n : ℕ) (results : List (Result (Finished S) E)) (fs : List (Finished S))
+    (statuses : List Status) (stores : List S)
+    → length images ≡ n → map Ok fs ≡ results → length results ≡ n
+    → AreEndsOf is_clean images lines n results
+    → statuses ≡ map (λ f. f.status) fs → stores ≡ map (λ f. f.store) fs
+    → AreAlong is_clean images statuses stores
+all_along is_clean images lines n results fs statuses stores many all long each statuses_are stores_are p image status store at_image at_status at_store clean =
+    let found = map_had (λ f. f.status) fs p status (subst (λ l. slice_get l p ≡ Some status) statuses_are at_status) in
+    let kept = map_had (λ f. f.store) fs p store (subst (λ l. slice_get l p ≡ Some store) stores_are at_store) in
+    let same : found.0 ≡ kept.0 = some_same found.0 kept.0 (sym found.1 ∙ kept.1) in
+    let end = ended_so is_clean images lines n results fs many all long each p found.0 found.1 in
+    let mine : IsTrue (is_clean found.0.store) = subst (λ s. IsTrue (is_clean s)) (sym (ap (λ (f : Finished _). f.store) same ∙ kept.2)) clean in
+    subst (λ s. IsStatusAlong (program_of image) p (length images) s) found.2
+    (subst (λ k. IsStatusAlong (program_of image) p k found.0.status) (sym many)
+    (subst (λ i. IsStatusAlong (program_of i) p n found.0.status) (some_same end.0 image (sym end.1 ∙ at_image)) (end.2.along mine)))
+
+-- and each is an end
+pub all_ended : {S E : Type 0} (is_clean : S → Bool) (images : List Image) (lines : Lines) (n : ℕ) (results : List (Result (Finished S) E)) (fs : List (Finished S)) (statuses : List Status)
+    → length images ≡ n → map Ok fs ≡ results → length results ≡ n
+    → AreEndsOf is_clean images lines n results
+    → statuses ≡ map (λ f. f.status) fs
+    → (p : ℕ) (status : Status) → slice_get statuses p ≡ Some status → IsEnd status
+all_ended is_clean images lines n results fs statuses many all long each statuses_are p status at_status =
+    let found = map_had (λ f. f.status) fs p status (subst (λ l. slice_get l p ≡ Some status) statuses_are at_status) in
+    let end = ended_so is_clean images lines n results fs many all long each p found.0 found.1 in
+    subst IsEnd found.2 end.2.ended
+
+-- and these are the leaves of all
+pub all_leaves : {S E : Type 0} (is_clean : S → Bool) (images : List Image) (lines : Lines) (n : ℕ) (results : List (Result (Finished S) E)) (fs : List (Finished S))
+    (puts : List (Vec Traffic Global)) (takes : List (Vec Takings Global))
+    → IsNetwork n lines → length images ≡ n → map Ok fs ≡ results → length results ≡ n
+    → AreEndsOf is_clean images lines n results
+    → puts ≡ map (λ f. f.ends.puts) fs → takes ≡ map (λ f. f.ends.takes) fs
+    → AreLeaves n lines puts takes
+all_leaves {S = S} is_clean images lines n results fs puts takes network many all long each puts_are takes_are = record {
+  network = network;
+  senders = ap length puts_are ∙ length-map fs (λ (f : Finished S). f.ends.puts) ∙ count;
+  receivers = ap length takes_are ∙ length-map fs (λ (f : Finished S). f.ends.takes) ∙ count;
+  put = λ from row at. let own = put_by from row at in ap (λ (v : Vec Traffic Global). length v.items) (sym own.1) ∙ own.2.put;
+  take = λ to row at. let own = taken_by to row at in ap (λ (v : Vec Takings Global). length v.items) (sym own.1) ∙ own.2.take;
+  putting = λ from row at. let own = put_by from row at in subst (λ (v : Vec Traffic Global). ArePuts lines from v.items) own.1 own.2.putting;
+  taking = λ to row at. let own = taken_by to row at in subst (λ (v : Vec Takings Global). AreTakes lines to v.items) own.1 own.2.taking;
+}
+  where
+    count : length fs ≡ n
+    count = sym (length-map fs Ok) ∙ ap length all ∙ long
+
+    has : (p : ℕ) (f : Finished S) → slice_get fs p ≡ Some f → HasEnds n lines p f.ends
+    has p f at = let end = ended_so is_clean images lines n results fs many all long each p f at in end.2.ends
+
+    put_by : (from : ℕ) (row : Vec Traffic Global) → slice_get puts from ≡ Some row → (e : Ends) × (e.puts ≡ row) × HasEnds n lines from e
+    put_by from row at =
+        let found = map_had (λ (f : Finished S). f.ends.puts) fs from row (subst (λ l. slice_get l from ≡ Some row) puts_are at) in
+        (found.0.ends, found.2, has from found.0 found.1)
+
+    taken_by : (to : ℕ) (row : Vec Takings Global) → slice_get takes to ≡ Some row → (e : Ends) × (e.takes ≡ row) × HasEnds n lines to e
+    taken_by to row at =
+        let found = map_had (λ (f : Finished S). f.ends.takes) fs to row (subst (λ l. slice_get l to ≡ Some row) takes_are at) in
+        (found.0.ends, found.2, has to found.0 found.1)
 
 -- ---- the ends of inboxes
 pub ends_at : (n : ℕ) (lines : Lines) (ends : List Ends) → IsWired n lines ends → (k : ℕ) (e : Ends) → k < length ends → HasEnds n lines k (get_or ends k e)

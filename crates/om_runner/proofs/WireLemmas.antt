@@ -64,12 +64,12 @@ rows_go_on n rows row are long is = record {
   ];
 }
 
-set_here : {A : Type 0} (xs : List A) (i : ℕ) (y : A) → i < length xs → slice_get (set xs i y) i ≡ Some y
+pub set_here : {A : Type 0} (xs : List A) (i : ℕ) (y : A) → i < length xs → slice_get (set xs i y) i ≡ Some y
 set_here [] i y lt = absurd (omega arith)
 set_here (x ∷ xs) zero y lt = refl
 set_here (x ∷ xs) (suc i) y lt = set_here xs i y (omega arith)
 
-set_apart : {A : Type 0} (xs : List A) (i j : ℕ) (y : A) → j ≢ i → slice_get (set xs i y) j ≡ slice_get xs j
+pub set_apart : {A : Type 0} (xs : List A) (i j : ℕ) (y : A) → j ≢ i → slice_get (set xs i y) j ≡ slice_get xs j
 set_apart [] i j y ne = refl
 set_apart (x ∷ xs) zero zero y ne = absurd (ne refl)
 set_apart (x ∷ xs) zero (suc j) y ne = refl

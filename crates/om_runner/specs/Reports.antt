@@ -46,4 +46,5 @@ AreAlong is_clean images statuses stores = (p : ℕ) (image : Image) (status : S
 -- by process: its status is that of a state along its image
 abbrev pub AreStatusesAlong : List Image → List Status → Type 0
 AreStatusesAlong images statuses = (p : ℕ) (image : Image) (status : Status)
-    → slice_get images p ≡ Some image → slice_get statuses p ≡ Some status → IsStatusAlong (program_of image) p (length images) status
+    → slice_get images p ≡ Some image → slice_get statuses p ≡ Some status
+    → IsStatusAlong (program_of image) p (length images) status

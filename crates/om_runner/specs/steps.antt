@@ -7,3 +7,4 @@ pub mod Places
 pub mod Network
 pub mod Wiring
 pub mod Ends
+pub mod Settling

@@ -1,6 +1,6 @@
 //! A cluster, a thread for each process.
 
-ghost use Rattle.std.specs.Prelude.{◌≡◌, ◌<◌, ◌≤◌, ℕ, All, IfOk, IfSome, IsTrue, Some, length, map, slice_get, slice_index_or, vec_capacity, vec_len};
+ghost use Rattle.std.specs.Prelude.{◌≡◌, ◌<◌, ◌≤◌, ℕ, All, IfOk, IfSome, IsTrue, length, map, slice_index_or, vec_capacity, vec_len};
 ghost use Rattle.om_interval.specs.declared.pid.TheConstants.{MAX_PROCESSES};
 ghost use Rattle.om_manager.specs.Outputs.{AreNumbered, held_of};
 ghost use Rattle.om_manager.specs.State as managers;
@@ -8,18 +8,19 @@ ghost use Rattle.om_manager.specs.State.{released_by as held_within};
 ghost use Rattle.om_process.specs.Images.{program_of};
 ghost use Rattle.om_process.specs.declared.image.Image.{Image};
 ghost use Rattle.om_runner.specs.Reports.{AreAllReleased, AreAlong, AreStatusesAlong, IsEnd};
-ghost use Rattle.om_runner.specs.steps.Ends.{AreReleasedBy, IsEndOf, IsPromised};
+ghost use Rattle.om_runner.specs.steps.Ends.{AreEndsOf, AreReleasedBy, IsEndOf, IsPromised};
 ghost use Rattle.om_runner.specs.steps.Wiring.{IsWired};
 
 use crate::config::Config;
 use crate::front::Front;
 use crate::frontier::{Blank, Naming, Pass};
-use crate::inbox::Inbox;
+use crate::inbox::{Inbox, PutPass, TakePass};
 use crate::links::Links;
 use crate::network::{Ends, Network, connected};
 use crate::node::Node;
 use crate::opener::{Gate, OpenFault, Opener};
 use crate::report::{Report, RunFault};
+use crate::settle::settle_all;
 use crate::shared::Shared;
 use crate::trouble::load_fault;
 use crate::worker::{Place, Worker};
@@ -35,6 +36,21 @@ use std::sync::atomic::Ordering::SeqCst;
 use std::thread;
 use std::thread::{Promise, PromisedHandle, Scope, Threads, join_promised};
 
+/// What the threads of a cluster have in common.
+#[derive(Drop)]
+struct Cluster<'s, K: Naming, R, G, O> {
+    rt: &'s R,
+    alloc: Global,
+    plan: &'s Config,
+    gate: &'s G,
+    opener: &'s O,
+    shared: &'s Shared<K>,
+    // Set where one of them ends with a fault.
+    stop: &'s AtomicBool,
+    // By sender, and there by receiver.
+    inboxes: &'s [Vec<Inbox>],
+}
+
 /// What a worker begins with.
 #[derive(Drop)]
 struct Job<'a, K: Naming> {
@@ -48,6 +64,18 @@ struct Job<'a, K: Naming> {
 struct Finished<S: Stable> {
     status: Status,
     store: S,
+    ends: Ends,
+}
+
+/// What all workers brought back, by process.
+#[derive(Drop)]
+struct Parts<S: Stable> {
+    statuses: Vec<Status>,
+    stores: Vec<S>,
+    // By sender, and there by receiver.
+    puts: Vec<Vec<PutPass>>,
+    // By receiver, and there by sender.
+    takes: Vec<Vec<TakePass>>,
 }
 
 // Asks the gate until it lets the process start.
@@ -107,7 +135,7 @@ fn take_turns<'a, K: Naming, S: Stable, R: Wait>(
     requires own { node.member.own ≡ worker.links.own }
     requires size { node.member.n ≡ K.cell.n }
     ensures { let m = node.entry.member in
-        IfOk result (λ f. IsEndOf S.is_clean m.program m.own m.n f.status f.store) }
+        IfOk result (λ f. IsEndOf S.is_clean m.program worker.entry.links.lines m.own m.n f) }
 {
     let mut worker = worker;
     let mut pass = pass;
@@ -123,7 +151,14 @@ fn take_turns<'a, K: Naming, S: Stable, R: Wait>(
         pass = met;
         place = match next {
             Place::Over(node) => match node.end() {
-                Ok((status, store)) => return Ok(Finished { status, store }),
+                Ok((status, store)) => {
+                    let ends = worker.into_ends();
+                    return Ok(Finished {
+                        status,
+                        store,
+                        ends,
+                    });
+                }
                 Err(node) => Place::Up(node),
             },
             other => other,
@@ -134,59 +169,59 @@ fn take_turns<'a, K: Naming, S: Stable, R: Wait>(
 
 // What the thread of a process does.
 fn work<'a, K: Naming, R: Wait, G: Gate, O: Opener<R>>(
-    rt: &R,
-    alloc: Global,
-    plan: &'a Config,
-    gate: &G,
-    opener: &O,
-    shared: &'a Shared<K>,
-    stop: &AtomicBool,
+    cluster: &Cluster<'a, K, R, G, O>,
     image: &'a Image,
     job: Job<'a, K>,
 ) -> Result<Finished<O::Store>, RunFault>
     ensures { let l = job.entry.links in
-        IfOk result (λ f. IsEndOf O.Store.is_clean (program_of image.entry.now) l.own l.n f.status f.store) }
+        IfOk result (λ f. IsEndOf O.Store.is_clean (program_of image.entry.now) l.lines l.own l.n f) }
 {
     let Job { links, pass, .. } = job;
     let pid = links.own();
     let n = links.n();
-    pass_gate(gate, plan.gate_turns, pid)?;
-    let node = begin(rt, alloc, opener, image, pid, n)?;
+    let Cluster {
+        rt,
+        alloc,
+        plan,
+        ..
+    } = *cluster;
+    pass_gate(cluster.gate, plan.gate_turns, pid)?;
+    let node = begin(rt, alloc, cluster.opener, image, pid, n)?;
     let Ok(kills) = kills_of(alloc, &plan.kills, pid) else {
         return Err(RunFault::Memory);
     };
-    let worker = Worker::new(plan, shared, links, kills);
-    take_turns(rt, alloc, plan.turns, stop, worker, node, pass)
+    let worker = Worker::new(plan, cluster.shared, links, kills);
+    take_turns(rt, alloc, plan.turns, cluster.stop, worker, node, pass)
 }
 
 // The same, and where it ends with a fault, the others are stopped.
 fn work_or_stop<'a, K: Naming, R: Wait, G: Gate, O: Opener<R>>(
-    rt: &R,
-    alloc: Global,
-    plan: &'a Config,
-    gate: &G,
-    opener: &O,
-    shared: &'a Shared<K>,
-    stop: &AtomicBool,
+    cluster: &Cluster<'a, K, R, G, O>,
     image: &'a Image,
     job: Job<'a, K>,
 ) -> Result<Finished<O::Store>, RunFault>
     ensures { let l = job.entry.links in
-        IfOk result (λ f. IsEndOf O.Store.is_clean (program_of image.entry.now) l.own l.n f.status f.store) }
+        IfOk result (λ f. IsEndOf O.Store.is_clean (program_of image.entry.now) l.lines l.own l.n f) }
 {
-    let result = work(rt, alloc, plan, gate, opener, shared, stop, image, job);
+    let result = work(cluster, image, job);
     if result.is_err() {
-        stop.store(true, SeqCst);
+        cluster.stop.store(true, SeqCst);
     }
     result
 }
 
-/// What the thread of a process promises: of which image, which process and how many.
+/// What the thread of a process promises: of which image, which inboxes, which process and how many.
 #[derive(Drop)]
-struct EndOf<'a, S: Stable>(&'a Image, Pid, usize, PhantomData<S>);
+struct EndOf<'a, S: Stable> {
+    image: &'a Image,
+    inboxes: &'a [Vec<Inbox>],
+    own: Pid,
+    n: usize,
+    store: PhantomData<S>,
+}
 
 impl<'a, S: Stable> Promise<Result<Finished<S>, RunFault>> for EndOf<'a, S> {
-    ghost kept_by = { λ p r. IfOk r (λ f. IsEndOf S.is_clean (program_of p.0.now) p.1 p.2 f.status f.store) };
+    ghost kept_by = { λ p r. IfOk r (λ f. IsEndOf S.is_clean (program_of p.image.now) p.inboxes.now p.own p.n f) };
 }
 
 type Handle<'s, S> = PromisedHandle<Result<Finished<S>, RunFault>, EndOf<'s, S>>;
@@ -201,25 +236,24 @@ fn start<
     O: Opener<R> + Sync,
 >(
     scope: &Scope<'s, E>,
-    rt: &'s R,
-    alloc: Global,
-    plan: &'s Config,
-    gate: &'s G,
-    opener: &'s O,
-    shared: &'s Shared<K>,
-    stop: &'s AtomicBool,
+    cluster: &'s Cluster<'s, K, R, G, O>,
     image: &'s Image,
     job: Job<'s, K>,
 ) -> Option<Handle<'s, O::Store>>
-    ensures image { IfSome result (λ h. h.promise.0.now ≡ image.entry.now) }
-    ensures own { IfSome result (λ h. h.promise.1 ≡ job.entry.links.own) }
-    ensures n { IfSome result (λ h. h.promise.2 ≡ K.cell.n) }
+    ensures image { IfSome result (λ h. h.promise.image.now ≡ image.entry.now) }
+    ensures inboxes { IfSome result (λ h. h.promise.inboxes.now ≡ job.entry.links.lines) }
+    ensures own { IfSome result (λ h. h.promise.own ≡ job.entry.links.own) }
+    ensures n { IfSome result (λ h. h.promise.n ≡ K.cell.n) }
 {
-    let end = EndOf(image, job.links.own(), job.links.n(), PhantomData);
+    let end = EndOf {
+        image,
+        inboxes: job.links.inboxes(),
+        own: job.links.own(),
+        n: job.links.n(),
+        store: PhantomData,
+    };
     scope
-        .spawn_with(end, move || {
-            work_or_stop(rt, alloc, plan, gate, opener, shared, stop, image, job)
-        })
+        .spawn_with(end, move || work_or_stop(cluster, image, job))
         .ok()
 }
 
@@ -233,28 +267,20 @@ fn start_all<
     O: Opener<R> + Sync,
 >(
     scope: &Scope<'s, E>,
-    rt: &'s R,
-    alloc: Global,
-    plan: &'s Config,
-    gate: &'s G,
-    opener: &'s O,
-    shared: &'s Shared<K>,
-    stop: &'s AtomicBool,
-    inboxes: &'s [Vec<Inbox>],
+    cluster: &'s Cluster<'s, K, R, G, O>,
     ends: Vec<Ends>,
     mut passes: Vec<Pass<K>>,
     mut handles: Vec<Handle<'s, O::Store>>,
 ) -> Option<Vec<Handle<'s, O::Store>>>
     requires few { K.cell.n ≤ MAX_PROCESSES }
-    requires images { length plan.now.images.items ≡ K.cell.n }
-    requires wired { IsWired K.cell.n inboxes.now ends.items }
+    requires images { length cluster.now.plan.now.images.items ≡ K.cell.n }
+    requires wired { IsWired K.cell.n cluster.now.inboxes.now ends.items }
     requires passes { vec_len passes ≡ K.cell.n }
     requires none { vec_len handles ≡ 0 }
     requires room { K.cell.n ≤ vec_capacity handles }
     ensures long { IfSome result (λ v. vec_len v ≡ K.cell.n) }
     ensures each { IfSome result (λ v. (i : ℕ) (a : Image) (h : _) → i < vec_len v
-        → IsPromised (slice_index_or plan.entry.now.images.items i a) i K.cell.n
-        (slice_index_or v.items i h).promise.0.now (slice_index_or v.items i h).promise.1 (slice_index_or v.items i h).promise.2) }
+        → IsPromised (slice_index_or cluster.entry.now.plan.now.images.items i a) cluster.entry.now.inboxes.now i K.cell.n (slice_index_or v.items i h).promise) }
 {
     for one in ends {
         let Ends { puts, takes } = one;
@@ -262,13 +288,11 @@ fn start_all<
             unreachable!()
         };
         let own = handles.len();
-        let links = Links::new(Pid::at(own), inboxes, puts, takes);
+        let links = Links::new(Pid::at(own), cluster.inboxes, puts, takes);
         let job = Job { links, pass };
-        let image = &plan.images[own];
-        let Some(handle) = start(
-            scope, rt, alloc, plan, gate, opener, shared, stop, image, job,
-        ) else {
-            stop.store(true, SeqCst);
+        let image = &cluster.plan.images[own];
+        let Some(handle) = start(scope, cluster, image, job) else {
+            cluster.stop.store(true, SeqCst);
             return None;
         };
         handles.push_reserved(handle);
@@ -283,46 +307,36 @@ fn run_scoped<
     G: Gate + Sync,
     O: Opener<R> + Sync,
 >(
-    rt: &R,
-    alloc: Global,
-    plan: &Config,
-    gate: &G,
-    opener: &O,
-    shared: &Shared<K>,
-    stop: &AtomicBool,
-    inboxes: &[Vec<Inbox>],
+    cluster: &Cluster<'_, K, R, G, O>,
     ends: Vec<Ends>,
     passes: Vec<Pass<K>>,
 ) -> Result<Vec<Result<Finished<O::Store>, RunFault>>, RunFault>
     requires few { K.cell.n ≤ MAX_PROCESSES }
-    requires images { length plan.now.images.items ≡ K.cell.n }
-    requires wired { IsWired K.cell.n inboxes.now ends.items }
+    requires images { length cluster.now.plan.now.images.items ≡ K.cell.n }
+    requires wired { IsWired K.cell.n cluster.now.inboxes.now ends.items }
     requires passes { vec_len passes ≡ K.cell.n }
     ensures long { IfOk result (λ v. vec_len v ≡ K.cell.n) }
-    ensures each { IfOk result (λ v. (i : ℕ) (a : Image) (r : _) → i < K.cell.n → IfOk (slice_index_or v.items i r)
-        (λ f. IsEndOf O.Store.is_clean (program_of (slice_index_or plan.now.images.items i a)) i K.cell.n f.status f.store)) }
+    ensures each { IfOk result (λ v. AreEndsOf O.Store.is_clean cluster.now.plan.now.images.items cluster.now.inboxes.now K.cell.n v.items) }
 {
     thread::scope(
         thread::scope_env(),
-        rt,
+        cluster.rt,
         |scope| -> Result<Vec<Result<Finished<O::Store>, RunFault>>, RunFault>
             requires few { K.cell.n ≤ MAX_PROCESSES }
-            requires images { length plan.now.images.items ≡ K.cell.n }
-            requires wired { IsWired K.cell.n inboxes.now ends.items }
+            requires images { length cluster.now.plan.now.images.items ≡ K.cell.n }
+            requires wired { IsWired K.cell.n cluster.now.inboxes.now ends.items }
             requires passes { vec_len passes ≡ K.cell.n }
             ensures long { IfOk result (λ v. vec_len v ≡ K.cell.n) }
-            ensures each { IfOk result (λ v. (i : ℕ) (a : Image) (r : _) → i < K.cell.n → IfOk (slice_index_or v.items i r)
-                (λ f. IsEndOf O.Store.is_clean (program_of (slice_index_or plan.entry.now.images.items i a)) i K.cell.n f.status f.store)) }
+            ensures each { IfOk result (λ v. AreEndsOf O.Store.is_clean cluster.entry.now.plan.now.images.items
+                cluster.entry.now.inboxes.now K.cell.n v.items) }
         {
-            let Ok(handles) = Vec::with_capacity(alloc, passes.len()) else {
+            let Ok(handles) = Vec::with_capacity(cluster.alloc, passes.len()) else {
                 return Err(RunFault::Memory);
             };
-            let Some(handles) = start_all(
-                scope, rt, alloc, plan, gate, opener, shared, stop, inboxes, ends, passes, handles,
-            ) else {
+            let Some(handles) = start_all(scope, cluster, ends, passes, handles) else {
                 return Err(RunFault::NoThread);
             };
-            join_promised(rt, handles).map_err(|_| RunFault::Memory)
+            join_promised(cluster.rt, handles).map_err(|_| RunFault::Memory)
         },
     )
 }
@@ -359,22 +373,34 @@ fn all_of<S: Stable>(
     Ok(all)
 }
 
-// The statuses and the stores.
-fn parted<S: Stable>(
-    alloc: Global,
-    all: Vec<Finished<S>>,
-) -> Result<(Vec<Status>, Vec<S>), AllocError>
-    ensures statuses { IfOk result (λ parts. parts.0.items ≡ map (λ f. f.status) all.items) }
-    ensures stores { IfOk result (λ parts. parts.1.items ≡ map (λ f. f.store) all.items) }
+// Each kind of what was brought back, by process.
+fn parted<S: Stable>(alloc: Global, all: Vec<Finished<S>>) -> Result<Parts<S>, AllocError>
+    ensures statuses { IfOk result (λ parts. parts.statuses.items ≡ map (λ f. f.status) all.items) }
+    ensures stores { IfOk result (λ parts. parts.stores.items ≡ map (λ f. f.store) all.items) }
+    ensures puts { IfOk result (λ parts. parts.puts.items ≡ map (λ f. f.ends.puts) all.items) }
+    ensures takes { IfOk result (λ parts. parts.takes.items ≡ map (λ f. f.ends.takes) all.items) }
 {
     let mut statuses = Vec::with_capacity(alloc, all.len())?;
     let mut stores = Vec::with_capacity(alloc, all.len())?;
+    let mut puts = Vec::with_capacity(alloc, all.len())?;
+    let mut takes = Vec::with_capacity(alloc, all.len())?;
     for one in all {
-        let Finished { status, store, .. } = one;
+        let Finished {
+            status,
+            store,
+            ends,
+        } = one;
         statuses.push_reserved(status);
         stores.push_reserved(store);
+        puts.push_reserved(ends.puts);
+        takes.push_reserved(ends.takes);
     }
-    Ok((statuses, stores))
+    Ok(Parts {
+        statuses,
+        stores,
+        puts,
+        takes,
+    })
 }
 
 fn copy_of(alloc: Global, output: &Output) -> Result<Output, AllocError>
@@ -466,13 +492,28 @@ fn run_named<
     };
     let Network { inboxes, ends } = network;
     let stop = AtomicBool::new(false);
-    let results = run_scoped(
-        rt, alloc, plan, gate, opener, &shared, &stop, &inboxes, ends, passes,
-    )?;
+    let cluster = Cluster {
+        rt,
+        alloc,
+        plan,
+        gate,
+        opener,
+        shared: &shared,
+        stop: &stop,
+        inboxes: &inboxes,
+    };
+    let results = run_scoped(&cluster, ends, passes)?;
     let all = all_of(alloc, results)?;
-    let Ok((statuses, stores)) = parted(alloc, all) else {
+    let Ok(parts) = parted(alloc, all) else {
         return Err(RunFault::Memory);
     };
+    let Parts {
+        statuses,
+        stores,
+        puts,
+        mut takes,
+    } = parts;
+    settle_all(rt, cluster.inboxes, puts, &mut takes);
     let board = shared.board.lock(rt);
     let Ok(report) = report_of(alloc, board.manager(), statuses) else {
         return Err(RunFault::Memory);
@@ -505,7 +546,8 @@ pub fn run_and_keep_stores<R: Threads + Wait + Sync, G: Gate + Sync, O: Opener<R
 }
 
 /// Runs a cluster, a thread for each process, until all have ended or trapped and all that they did is recoverable: that
-/// output is released. Each process has a store of its own, which is made in its thread.
+/// output is released. Each process has a store of its own, which is made in its thread. When all workers have ended well, the
+/// inboxes are settled.
 ///
 /// A worker asks the gate before it makes its process. Then it runs it turn by turn: instructions, messages to and from the
 /// inboxes, rows and outputs to the manager, and rounds of recovery as processes fail. A fault of one stops the others.

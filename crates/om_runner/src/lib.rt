@@ -18,6 +18,7 @@ mod node;
 mod opener;
 mod order;
 mod report;
+mod settle;
 mod shared;
 mod trouble;
 mod worker;

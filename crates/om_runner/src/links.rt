@@ -4,8 +4,10 @@ ghost use Rattle.std.specs.Prelude.{◌≡◌, ◌<◌, ◌≤◌, length};
 ghost use Rattle.om_interval.specs.declared.pid.TheConstants.{MAX_PROCESSES};
 ghost use Rattle.om_process.specs.Core.{size_of};
 ghost use Rattle.om_runner.specs.steps.Network.{ArePuts, AreTakes, IsNetwork};
+ghost use Rattle.om_runner.specs.steps.Wiring.{HasEnds};
 
 use crate::inbox::{Inbox, PutAnswer, PutPass, TakePass};
+use crate::network::Ends;
 use om_format::Message;
 use om_interval::{MAX_PROCESSES, Pid};
 use om_process::ProcCore;
@@ -84,6 +86,21 @@ impl<'a> Links<'a> {
         ensures { result ≡ self.now.n }
     {
         self.n
+    }
+
+    // The inboxes of the cluster.
+    pub(crate) fn inboxes(&self) -> &'a [Vec<Inbox>]
+        ensures { result.now ≡ self.now.lines }
+    {
+        self.inboxes
+    }
+
+    // Gives the leaves of the process up.
+    pub(crate) fn into_ends(self) -> Ends
+        ensures { HasEnds self.entry.n self.entry.lines self.entry.own result }
+    {
+        let Links { puts, takes, .. } = self;
+        Ends { puts, takes }
     }
 
     // Has all messages that are kept put once more.

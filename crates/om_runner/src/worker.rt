@@ -2,12 +2,14 @@
 
 ghost use Rattle.std.specs.Prelude.{◌≡◌, ◌<◌, IfOk, IfSome, length};
 ghost use Rattle.om_runner.specs.steps.Places.{member_of};
+ghost use Rattle.om_runner.specs.steps.Wiring.{HasEnds};
 
 use crate::config::Config;
 use crate::contact::{Contact, Limits, Standing};
 use crate::front::Front;
 use crate::frontier::{Naming, Pass};
 use crate::links::Links;
+use crate::network::Ends;
 use crate::node::{Fallen, Node, has_ended};
 use crate::shared::Shared;
 use crate::trouble::Trouble;
@@ -97,6 +99,14 @@ impl<'a, K: Naming> Worker<'a, K> {
         ensures { result ≡ self.now.links.own }
     {
         self.contact.pid
+    }
+
+    // Gives the leaves of the process up, when it has ended.
+    pub(crate) fn into_ends(self) -> Ends
+        ensures { let l = self.entry.links in HasEnds K.cell.n l.lines l.own result }
+    {
+        let Worker { links, .. } = self;
+        links.into_ends()
     }
 
     // One turn.

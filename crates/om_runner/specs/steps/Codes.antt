@@ -8,7 +8,11 @@ use Rattle.om_runner.specs.Boards.{BoardState}
 use Rattle.om_runner.specs.declared.front.Front.{Front}
 
 coded_front : Coded Front
-coded_front = code_by (ℕ × (ℕ × List ℕ)) (coded× coded_ℕ (coded× coded_ℕ (coded_list coded_ℕ))) (λ f. (f.version, (f.round, f.vec))) (λ parts. record { version = parts.0; round = parts.1.0; vec = parts.1.1 }) (λ f. refl)
+coded_front =
+    code_by (ℕ × (ℕ × List ℕ)) (coded× coded_ℕ (coded× coded_ℕ (coded_list coded_ℕ)))
+    (λ f. (f.version, (f.round, f.vec)))
+    (λ parts. record { version = parts.0; round = parts.1.0; vec = parts.1.1 })
+    (λ f. refl)
 
 pub coded_board : Coded BoardState
 coded_board =

@@ -1,5 +1,5 @@
 -- What a worker brings back.
-use Rattle.std.specs.Prelude.{◌≡◌, ℕ, ◌<◌, List, Bool, IsTrue, Some, Vec, map, slice_get}
+use Rattle.std.specs.Prelude.{◌≡◌, ℕ, ◌<◌, List, Bool, IfOk, IsTrue, Result, Some, Vec, map, slice_get, slice_index_or}
 use Rattle.std.specs.declared.alloc.Global.{Global}
 use Rattle.om_manager.specs.Outputs.{AreNumbered, held_of}
 use Rattle.om_manager.specs.State.{ManagerState, released_by}
@@ -7,21 +7,31 @@ use Rattle.om_manager.specs.declared.output_log.Output.{Output}
 use Rattle.om_process.specs.Images.{program_of}
 use Rattle.om_process.specs.Process.{Program}
 use Rattle.om_process.specs.declared.image.Image.{Image}
-use Rattle.om_process.specs.declared.status.Status.{Status}
 use Rattle.om_runner.specs.Reports.{IsEnd, IsStatusAlong}
+use Rattle.om_runner.specs.declared.cluster.EndOf.{EndOf}
+use Rattle.om_runner.specs.declared.cluster.Finished.{Finished}
+use Rattle.om_runner.specs.steps.Network.{Lines}
+use Rattle.om_runner.specs.steps.Wiring.{HasEnds}
 
--- how a process ended, and its store
-pub record IsEndOf {S : Type 0} (is_clean : S → Bool) (program : Program) (own n : ℕ) (status : Status) (store : S) : Type 0 where
-  pub ended : IsEnd status
-  pub along : IsTrue (is_clean store) → IsStatusAlong program own n status
+-- how a process ended, with its store and its leaves
+pub record IsEndOf {S : Type 0} (is_clean : S → Bool) (program : Program) (lines : Lines) (own n : ℕ) (f : Finished S) : Type 0 where
+  pub ended : IsEnd f.status
+  pub along : IsTrue (is_clean f.store) → IsStatusAlong program own n f.status
+  pub ends : HasEnds n lines own f.ends
+
+-- each of n workers that ended well ended so
+abbrev pub AreEndsOf : {S E : Type 0} → (S → Bool) → List Image → Lines → ℕ → List (Result (Finished S) E) → Type 0
+AreEndsOf is_clean images lines n results = (i : ℕ) (image : Image) (result : Result (Finished _) _) → i < n
+    → IfOk (slice_index_or results i result) (λ f. IsEndOf is_clean (program_of (slice_index_or images i image)) lines i n f)
 
 -- the outputs of each process are those that the manager released, each with its place as its number
 abbrev pub AreReleasedBy : ManagerState → List (Vec Output Global) → Type 0
 AreReleasedBy m released = (p : ℕ) (outputs : Vec Output Global) → slice_get released p ≡ Some outputs
     → (map held_of outputs.items ≡ released_by m p) × AreNumbered outputs.items
 
--- what is promised is for this image, this process, and so many
-pub record IsPromised (a : Image) (own n : ℕ) (image : Image) (pid size : ℕ) : Type 0 where
-  pub image_is : image ≡ a
-  pub own_is : pid ≡ own
-  pub n_is : size ≡ n
+-- what is promised is for this image, these inboxes, this process, and so many
+pub record IsPromised {S : Type 0} (image : Image) (lines : Lines) (own n : ℕ) (promise : EndOf S) : Type 0 where
+  pub image_is : promise.image.now ≡ image
+  pub lines_are : promise.inboxes.now ≡ lines
+  pub own_is : promise.own ≡ own
+  pub n_is : promise.n ≡ n

@@ -29,12 +29,14 @@ AreOnWay m held = (x : ℕ) (bytes : List ℕ) → get held.checkpoints x ≡ So
     → (c : CheckpointRecord) → IsSpelled c bytes → IsOnWay m (process_of c)
 
 -- what is known of a member's store where it is clean
-pub record IsKept {S : Type 0} (content : S → Content) (is_clean : S → Bool) (IsSound : S → Type 0) (m : Member) (store : S) : Type 0 where
+pub record IsKept {S : Type 0} (content : S → Content) (is_clean : S → Bool) (IsSound : S → Type 0) (m : Member) (store : S)
+    : Type 0 where
   pub sound : IsTrue (is_clean store) → IsSound store
   pub stored : IsTrue (is_clean store) → AreOnWay m (content store)
 
 -- what holds of a member that runs over a store
-pub record IsNode {S : Type 0} (content : S → Content) (is_clean : S → Bool) (IsSound : S → Type 0) (d : NodeState) (store : S) : Type 0 where
+pub record IsNode {S : Type 0} (content : S → Content) (is_clean : S → Bool) (IsSound : S → Type 0) (d : NodeState) (store : S)
+    : Type 0 where
   pub own : d.core.own ≡ d.member.own
   pub size : size_of d.core.now ≡ d.member.n
   pub kept : IsKept content is_clean IsSound d.member store

@@ -16,8 +16,8 @@ loop-one-init g c =
           let same : into_iter_items c.into_iter-one-iterator.result ≡ c.args.ends.items = search rules in
           let less : k < length c.args.ends.items = search rules in
           let at : k ≡ vec_len c.args.handles + k = (let z = c.requires.none in omega arith) in
-          subst (λ i. HasEnds g.K.Naming.cell.n c.args.inboxes.now i (get_or (into_iter_items c.into_iter-one-iterator.result) k e)) at
-          (subst (λ es. HasEnds g.K.Naming.cell.n c.args.inboxes.now k (get_or es k e)) (sym same) (ends_at _ _ _ c.requires.wired k e less)),
+          subst (λ i. HasEnds g.K.Naming.cell.n c.args.cluster.now.inboxes.now i (get_or (into_iter_items c.into_iter-one-iterator.result) k e)) at
+          (subst (λ es. HasEnds g.K.Naming.cell.n c.args.cluster.now.inboxes.now k (get_or es k e)) (sym same) (ends_at _ _ _ c.requires.wired k e less)),
       λ k a h lt. absurd (let z = c.requires.none in omega arith),
     )
 
@@ -25,37 +25,37 @@ pub new-links-requires-clause-puts : goal.new-links-requires-clause-puts
 new-links-requires-clause-puts g c =
     let first : get_or (into_iter_items c.loop-one.one-iterator) 0 c.in-Some.one ≡ c.in-Some.one = search rules in
     let lt : 0 < into_iter_len c.loop-one.one-iterator = search rules in
-    let have = subst (HasEnds g.K.Naming.cell.n c.args.inboxes.now (vec_len c.loop-one.handles + 0)) first (c.loop-one.invariant.3 0 c.in-Some.one lt) in
+    let have = subst (HasEnds g.K.Naming.cell.n c.args.cluster.now.inboxes.now (vec_len c.loop-one.handles + 0)) first (c.loop-one.invariant.3 0 c.in-Some.one lt) in
     have.put ∙ sym c.requires.wired.network.senders
 
 pub new-links-requires-clause-takes : goal.new-links-requires-clause-takes
 new-links-requires-clause-takes g c =
     let first : get_or (into_iter_items c.loop-one.one-iterator) 0 c.in-Some.one ≡ c.in-Some.one = search rules in
     let lt : 0 < into_iter_len c.loop-one.one-iterator = search rules in
-    let have = subst (HasEnds g.K.Naming.cell.n c.args.inboxes.now (vec_len c.loop-one.handles + 0)) first (c.loop-one.invariant.3 0 c.in-Some.one lt) in
+    let have = subst (HasEnds g.K.Naming.cell.n c.args.cluster.now.inboxes.now (vec_len c.loop-one.handles + 0)) first (c.loop-one.invariant.3 0 c.in-Some.one lt) in
     have.take ∙ sym c.requires.wired.network.senders
 
 pub new-links-requires-clause-putting : goal.new-links-requires-clause-putting
 new-links-requires-clause-putting g c =
     let first : get_or (into_iter_items c.loop-one.one-iterator) 0 c.in-Some.one ≡ c.in-Some.one = search rules in
     let lt : 0 < into_iter_len c.loop-one.one-iterator = search rules in
-    let have = subst (HasEnds g.K.Naming.cell.n c.args.inboxes.now (vec_len c.loop-one.handles + 0)) first (c.loop-one.invariant.3 0 c.in-Some.one lt) in
-    subst (λ k. ArePuts c.args.inboxes.now k c.in-Some.one.puts.items) (search rules) have.putting
+    let have = subst (HasEnds g.K.Naming.cell.n c.args.cluster.now.inboxes.now (vec_len c.loop-one.handles + 0)) first (c.loop-one.invariant.3 0 c.in-Some.one lt) in
+    subst (λ k. ArePuts c.args.cluster.now.inboxes.now k c.in-Some.one.puts.items) (search rules) have.putting
 
 pub new-links-requires-clause-taking : goal.new-links-requires-clause-taking
 new-links-requires-clause-taking g c =
     let first : get_or (into_iter_items c.loop-one.one-iterator) 0 c.in-Some.one ≡ c.in-Some.one = search rules in
     let lt : 0 < into_iter_len c.loop-one.one-iterator = search rules in
-    let have = subst (HasEnds g.K.Naming.cell.n c.args.inboxes.now (vec_len c.loop-one.handles + 0)) first (c.loop-one.invariant.3 0 c.in-Some.one lt) in
-    subst (λ k. AreTakes c.args.inboxes.now k c.in-Some.one.takes.items) (search rules) have.taking
+    let have = subst (HasEnds g.K.Naming.cell.n c.args.cluster.now.inboxes.now (vec_len c.loop-one.handles + 0)) first (c.loop-one.invariant.3 0 c.in-Some.one lt) in
+    subst (λ k. AreTakes c.args.cluster.now.inboxes.now k c.in-Some.one.takes.items) (search rules) have.taking
 
 pub loop-one-preserved : goal.loop-one-preserved
 loop-one-preserved g c =
     let was = c.loop-one.invariant in
     let done = vec_len c.loop-one.handles in
     let n = g.K.Naming.cell.n in
-    let images = c.args.plan.now.images.items in
-    let lines = c.args.inboxes.now in
+    let images = c.args.cluster.now.plan.now.images.items in
+    let lines = c.args.cluster.now.inboxes.now in
     let handle = c.in-Some-start.handle in
     let started = c.in-Some-start.ensures in
     let rest = into_iter_items c.next.new.self in
@@ -71,11 +71,12 @@ loop-one-preserved g c =
           let at : done + (k + 1) ≡ vec_len c.push_reserved.new.self + k = omega (arith, grown) in
           subst (λ i. HasEnds n lines i (get_or rest k e)) at (subst (HasEnds n lines (done + (k + 1))) same (was.3 (k + 1) e less))),
       λ k a h lt.
-          let here : IsPromised (get_or images (length c.loop-one.handles.items) a) (length c.loop-one.handles.items) n handle.promise.0.now handle.promise.1 handle.promise.2 = record {
+          let here : IsPromised (get_or images (length c.loop-one.handles.items) a) lines (length c.loop-one.handles.items) n handle.promise = record {
             image_is = started.image ∙ c.index-image.ensures ∙ any_default images c.len-own.result c.index-image.result.now a within ∙ ap (λ i. get_or images i a) own;
+            lines_are = started.inboxes ∙ c.new-links.ensures.lines;
             own_is = started.own ∙ c.new-links.ensures.own ∙ c.at.ensures ∙ own;
             n_is = started.n;
           } in
-          each_more (λ i x. IsPromised (get_or images i a) i n x.promise.0.now x.promise.1 x.promise.2) c.loop-one.handles.items c.push_reserved.new.self.items handle c.push_reserved.ensures.items
+          each_more (λ i x. IsPromised (get_or images i a) lines i n x.promise) c.loop-one.handles.items c.push_reserved.new.self.items handle c.push_reserved.ensures.items
           (λ i x below. was.4 i a x (search rules)) here k h (search rules),
     )

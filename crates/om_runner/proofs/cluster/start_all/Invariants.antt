@@ -8,11 +8,12 @@ use Rattle.om_runner.proofs.cluster.start_all.Given as goal
 abbrev pub invariant-loop-one : goal.invariant-loop-one
 invariant-loop-one g l =
     let n = g.K.Naming.cell.n in
-    let images = l.plan.images.items in
+    let images = l.cluster.plan.now.images.items in
     let done = vec_len l.handles in
     let rest = into_iter_items l.one-iterator in
     (done + into_iter_len l.one-iterator ≡ n)
     × (n ≤ vec_capacity l.handles)
     × (vec_len l.passes ≡ into_iter_len l.one-iterator)
-    × ((k : ℕ) (e : _) → k < into_iter_len l.one-iterator → HasEnds n l.inboxes (done + k) (get_or rest k e))
-    × ((k : ℕ) (a : Image) (h : _) → k < done → IsPromised (get_or images k a) k n (get_or (vec_items l.handles) k h).promise.0.now (get_or (vec_items l.handles) k h).promise.1 (get_or (vec_items l.handles) k h).promise.2)
+    × ((k : ℕ) (e : _) → k < into_iter_len l.one-iterator → HasEnds n l.cluster.inboxes.now (done + k) (get_or rest k e))
+    × ((k : ℕ) (a : Image) (h : _) → k < done
+    → IsPromised (get_or images k a) l.cluster.inboxes.now k n (get_or (vec_items l.handles) k h).promise)
