@@ -6,10 +6,11 @@ ghost use Rattle.om_commands.specs.Command.{IsErrorOf, IsSilent};
 ghost use Rattle.om_commands.specs.Frontier.{IsAnswer, IsFrontier, LacksProcesses};
 ghost use Rattle.om_commands.specs.RecordScript.{meaning_of, no_lines};
 
-use crate::command::{read_input, write_answer};
+use crate::command::write_answer;
 use crate::error::CommandError;
 use crate::record_script::RecordScript;
 use crate::report::report;
+use om_text::{read_script, read_text};
 use std::alloc::Global;
 use std::io::{Read, Write};
 
@@ -25,7 +26,9 @@ pub fn frontier<R: Read, W: Write>(
         IfErr result (IsErrorOf meaning_of no_lines LacksProcesses bytes)) }
     ensures silent { IfErr result (λ error. IsSilent error (Keeps (W.contents writer.old) (W.contents writer.new))) }
 {
-    let script = read_input(alloc, reader, RecordScript::new(alloc))?;
+    // The script's bytes are kept to the end: once so large a block is freed, the allocator grows others by copies.
+    let bytes = read_text(alloc, reader)?;
+    let script = read_script(alloc, &bytes, RecordScript::new(alloc))?;
     let text = answer(alloc, &script)?;
     write_answer(writer, text.as_bytes())
 }

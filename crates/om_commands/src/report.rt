@@ -35,7 +35,11 @@ pub fn report(alloc: Global, n: usize, notes: &[NoteLine]) -> Result<String, All
 }
 
 // Writes the text of the recovery state anew where an answer says that the state rose. Most answers leave it.
-fn write_state(text: &mut String, answer: Result<Note, NoteError>, records: &Records) -> Result<(), AllocError>
+fn write_state(
+    text: &mut String,
+    answer: Result<Note, NoteError>,
+    records: &Records,
+) -> Result<(), AllocError>
     ensures { OnOk result ((state : List ℕ) → TellsChange answer state records.now.state
         → string_bytes text.old ≡ state_text state → string_bytes text.new ≡ state_text records.now.state) }
 {
