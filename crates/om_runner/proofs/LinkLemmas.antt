@@ -1,5 +1,5 @@
 -- The ends of inboxes that a process has.
-use Rattle.std.proofs.Common.{◌≡◌, ◌⊎◌, inl, inr, ℕ, zero, suc, ◌<◌, ◌≤◌, List, [], ◌∷◌, Option, Some, None, refl, sym, ap, ◌∙◌, subst, get_or, arith, length, set, length-set}
+use Rattle.std.proofs.Common.{◌≡◌, ◌⊎◌, inl, inr, ℕ, zero, suc, ◌<◌, List, [], ◌∷◌, Option, Some, None, refl, sym, ap, ◌∙◌, subst, get_or, length, set, length-set}
 use Rattle.std.specs.Prelude.{Vec, slice_get}
 use Rattle.std.specs.declared.alloc.Global.{Global}
 use Rattle.std.proofs.lemmas.Option.{slice_get-get_or, slice_get_read}
@@ -7,7 +7,7 @@ use Rattle.om_format.specs.declared.message.Message.{Message}
 use Rattle.om_format.specs.declared.queue.Entry.{Entry}
 use Rattle.om_process.specs.Core.{CoreState}
 use Rattle.om_process.specs.Frames.{frame_of}
-use Rattle.om_runner.specs.Inboxes.{IsOfLine, Line, Traffic, Takings, MatchPut, MatchTake}
+use Rattle.om_runner.specs.Inboxes.{Line, Traffic, Takings, MatchPut, MatchTake}
 use Rattle.om_runner.specs.declared.inbox.PutAnswer.{PutAnswer}
 use Rattle.om_runner.specs.declared.inbox.PutAnswer.TheVariants.{Put, Full, Gone}
 use Rattle.om_runner.specs.steps.Network.{AreLinks, IsAt, Lines, LinksState}

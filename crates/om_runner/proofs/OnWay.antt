@@ -1,10 +1,10 @@
 -- What keeps a process and its store on their way.
-use Rattle.std.proofs.Common.{◌≡◌, ◌≢◌, ◌⊎◌, inl, inr, ℕ, ◌+◌, ◌≤◌, List, [], ◌∷◌, ◌++◌, Option, Some, None, Bool, IsTrue, true, false, cond, refl, sym, ap, ◌∙◌, subst, arith, length, length-set}
+use Rattle.std.proofs.Common.{◌≡◌, ◌≢◌, inl, inr, ℕ, ◌+◌, ◌≤◌, List, [], ◌∷◌, ◌++◌, Option, Some, None, Bool, IsTrue, true, false, cond, refl, sym, ap, ◌∙◌, subst, arith, length, length-set}
 use Rattle.std.proofs.lemmas.List.{length-replicate}
 use Rattle.std.specs.FinMap.{get, get-empty}
 use Rattle.std.specs.Ordering.{nat_cmp}
 use Rattle.std.proofs.lemmas.Bool.{cases_eq}
-use Rattle.om_format.specs.Checkpoints.{CheckpointRecord, IsSpelled, SpellsCheckpoint}
+use Rattle.om_format.specs.Checkpoints.{SpellsCheckpoint}
 use Rattle.om_format.specs.declared.message.Message.{Message}
 use Rattle.om_format.specs.declared.queue.Entry.{Entry}
 use Rattle.om_format.specs.Queues.{QueueRecord}
@@ -13,14 +13,13 @@ use Rattle.om_format.proofs.Checkpoints.{one_checkpoint}
 use Rattle.om_stable.specs.Calls.{IsKnown}
 use Rattle.om_stable.specs.Content.{Content, with_checkpoint, kept_by_cut, kept_by_prune}
 use Rattle.om_stable.proofs.RecordLemmas.{get-insert_here, get-insert_apart, get-retained}
-use Rattle.om_process.specs.Claims.{CheckpointOf}
 use Rattle.om_process.specs.Accepts.{Answers, IsDue, taken, received}
 use Rattle.om_process.specs.declared.accept.Accept.{Accept}
 use Rattle.om_process.specs.declared.accept.Accept.TheVariants.{Taken, Stranger, Orphan, Repeat, Ahead, NotWaiting, Full, Memory}
 use Rattle.om_process.specs.Core.{CoreState, CoreTurns, move_of, size_of, status_of, with_now}
 use Rattle.om_process.specs.declared.status.Status.{Status}
 use Rattle.om_process.specs.Parts.{Keeps, KeepQueues}
-use Rattle.om_process.specs.Process.{Process, Program, Received, delivered, made, started}
+use Rattle.om_process.specs.Process.{Process, Received, delivered, made, started}
 use Rattle.om_process.specs.Replays.{process_of, receipts_of}
 use Rattle.om_process.specs.Starting.{started_core}
 use Rattle.om_process.specs.Stored.{StandsAfter, Anyone, IsReplay}
@@ -31,7 +30,7 @@ use Rattle.om_process.proofs.Parts.{keeps_turns, keeps_waits, keeps_delivered, s
 use Rattle.om_process.proofs.Replays.{keeps_trim, replayed_along}
 use Rattle.om_process.proofs.Runs.{turns_then, leads_more}
 use Rattle.om_runner.specs.Reports.{IsStatusAlong, nothing}
-use Rattle.om_runner.specs.steps.Nodes.{Member, NodeState, IsOnWay, AreOnWay, IsKept, IsNode}
+use Rattle.om_runner.specs.steps.Nodes.{Member, IsOnWay, AreOnWay, IsKept, IsNode}
 
 keep_themselves : (qs : List QueueRecord) → KeepQueues qs qs
 keep_themselves [] = tt

@@ -1,5 +1,5 @@
 -- What a report is made of.
-use Rattle.std.proofs.Common.{◌≡◌, ◌⊎◌, inl, inr, ℕ, zero, suc, ◌+◌, ◌<◌, ◌≤◌, List, [], ◌∷◌, ◌++◌, Some, cond, refl, sym, ap, ◌∙◌, subst, arith, get_or, length, map, All, IsTrue, Bool}
+use Rattle.std.proofs.Common.{◌≡◌, ◌⊎◌, inl, inr, ℕ, zero, suc, ◌+◌, ◌<◌, ◌≤◌, List, [], ◌∷◌, ◌++◌, Some, cond, refl, sym, ap, ◌∙◌, subst, arith, get_or, length, map, IsTrue, Bool}
 use Rattle.std.specs.Prelude.{Vec, slice_get, slice_index, Ok, Result, IfOk}
 use Rattle.std.specs.declared.alloc.Global.{Global}
 use Rattle.std.proofs.lemmas.Bool.{cases_order, le-leb, lt-leb}
@@ -11,7 +11,7 @@ use Rattle.om_manager.specs.declared.output_log.Output.{Output}
 use Rattle.om_process.specs.Images.{program_of}
 use Rattle.om_process.specs.declared.image.Image.{Image}
 use Rattle.om_process.specs.declared.status.Status.{Status}
-use Rattle.om_runner.proofs.LinkLemmas.{none_in, some_same, set_at}
+use Rattle.om_runner.proofs.LinkLemmas.{none_in, some_same}
 use Rattle.om_runner.specs.Reports.{AreAllReleased, AreAlong, AreStatusesAlong, IsEnd, IsStatusAlong}
 use Rattle.om_runner.specs.Inboxes.{Traffic, Takings}
 use Rattle.om_runner.specs.declared.cluster.Finished.{Finished}

@@ -1,15 +1,15 @@
 -- How the inboxes of a cluster are made.
-use Rattle.std.proofs.Common.{◌≡◌, ◌≢◌, ◌⊎◌, inl, inr, ℕ, zero, suc, ◌+◌, ◌<◌, ◌≤◌, List, [], ◌∷◌, ◌++◌, Some, None, refl, sym, ap, ◌∙◌, subst, arith, get_or, length, length-append, map, set, replicate}
-use Rattle.std.specs.Prelude.{Vec, slice_get, slice_set}
+use Rattle.std.proofs.Common.{◌≡◌, ◌≢◌, ◌⊎◌, inl, inr, ℕ, zero, suc, ◌+◌, ◌<◌, ◌≤◌, List, [], ◌∷◌, ◌++◌, Some, None, refl, sym, ap, ◌∙◌, subst, arith, get_or, length, length-append, set, replicate}
+use Rattle.std.specs.Prelude.{Vec, slice_get}
 use Rattle.std.specs.declared.alloc.Global.{Global}
 use Rattle.std.proofs.Math.Seq.{map-set_same}
-use Rattle.std.proofs.lemmas.List.{map-set, map-append, length-map}
+use Rattle.std.proofs.lemmas.List.{map-set, length-map}
 use Rattle.std.proofs.lemmas.Option.{slice_get_cases, slice_get_within}
 use Rattle.om_runner.specs.Inboxes.{Line, Traffic, Takings}
 use Rattle.om_runner.specs.declared.network.Ends.{Ends}
-use Rattle.om_runner.specs.steps.Network.{ArePuts, AreTakes, IsAt, IsNetwork, Lines}
+use Rattle.om_runner.specs.steps.Network.{IsAt, Lines}
 use Rattle.om_runner.specs.steps.Wiring.{AreRows, HasEnds, HavePuts, IsRow, IsWired, all_put, all_taken, grown_at, lines_put, lines_taken, with_row, with_rows}
-use Rattle.om_runner.proofs.LinkLemmas.{none_in, set_at, some_same}
+use Rattle.om_runner.proofs.LinkLemmas.{none_in, some_same}
 use Rattle.om_runner.proofs.ReportLemmas.{map_get, map_had, more_had}
 
 -- ---- one list of each process

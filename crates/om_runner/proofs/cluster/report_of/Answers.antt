@@ -1,4 +1,4 @@
-use Rattle.std.proofs.Common.{sym, ap, subst}
+use Rattle.std.proofs.Common.{sym, subst}
 use Rattle.om_runner.specs.Reports.{AreAllReleased}
 use Rattle.om_runner.specs.declared.front.Front.{Front}
 use Rattle.om_runner.proofs.ReportLemmas.{all_released}

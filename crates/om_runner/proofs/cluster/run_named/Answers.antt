@@ -16,8 +16,8 @@ settle_all-requires g c =
     let parts = c.in-Ok-parted.parts in
     let network : IsNetwork n lines = subst (IsNetwork n) (sym c.deref.ensures.value) (subst (λ k. IsNetwork k c.in-Ok-connected.network.inboxes.items) count c.in-Ok-connected.ensures.network) in
     let all : AreLeaves n lines parts.puts.items parts.takes.items =
-        all_leaves g.O.Store.Stable.is_clean c.args.plan.now.images.items lines n c.in_ok-results.results.items c.in_ok-all.all.items parts.puts.items parts.takes.items
-        network many c.in_ok-all.ensures long c.in_ok-results.ensures.each c.in-Ok-parted.ensures.puts c.in-Ok-parted.ensures.takes
+    all_leaves g.O.Store.Stable.is_clean c.args.plan.now.images.items lines n c.in_ok-results.results.items c.in_ok-all.all.items parts.puts.items parts.takes.items
+    network many c.in_ok-all.ensures long c.in_ok-results.ensures.each c.in-Ok-parted.ensures.puts c.in-Ok-parted.ensures.takes
     in
     subst (λ k. AreLeaves k lines parts.puts.items parts.takes.items) (sym network.senders) all
 

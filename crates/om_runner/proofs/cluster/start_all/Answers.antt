@@ -1,4 +1,4 @@
-use Rattle.std.proofs.Common.{◌≡◌, ◌<◌, ◌+◌, ℕ, rules, arith, sym, ap, ◌∙◌, subst, get_or, length, vec_len}
+use Rattle.std.proofs.Common.{◌≡◌, ◌<◌, ◌+◌, rules, arith, sym, ap, ◌∙◌, subst, get_or, length, vec_len}
 use Rattle.std.specs.Vec.Iter.{into_iter_items, into_iter_len}
 use Rattle.om_runner.specs.steps.Network.{ArePuts, AreTakes}
 use Rattle.om_runner.specs.steps.Wiring.{HasEnds}

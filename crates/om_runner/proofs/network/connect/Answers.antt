@@ -1,4 +1,4 @@
-use Rattle.std.proofs.Common.{◌≡◌, ◌<◌, ◌+◌, [], ◌∷◌, ◌++◌, refl, sym, ap, ◌∙◌, subst, rules, arith, length, length-append}
+use Rattle.std.proofs.Common.{◌<◌, ◌+◌, [], ◌∷◌, ◌++◌, refl, sym, ap, ◌∙◌, subst, rules, length, length-append}
 use Rattle.std.proofs.lemmas.List.{map-append, length-map}
 use Rattle.om_runner.specs.Inboxes.{Traffic, Takings}
 use Rattle.om_runner.specs.declared.network.Ends.{Ends}

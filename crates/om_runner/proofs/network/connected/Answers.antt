@@ -1,4 +1,4 @@
-use Rattle.std.proofs.Common.{◌≡◌, ◌<◌, ◌+◌, [], ◌∷◌, ◌++◌, sym, ap, ◌∙◌, subst, rules, arith, length, length-append, replicate, set}
+use Rattle.std.proofs.Common.{◌≡◌, ◌<◌, ◌+◌, [], ◌∷◌, sym, ap, ◌∙◌, subst, rules, length, length-append, replicate, set}
 use Rattle.om_runner.specs.steps.Wiring.{AreRows, HavePuts, IsRow, all_put, lines_put, with_row, with_rows}
 use Rattle.om_runner.proofs.WireLemmas.{puts_go_on, rows_go_on, rows_more, wired}
 use Rattle.om_runner.proofs.network.connected.Goals as goal

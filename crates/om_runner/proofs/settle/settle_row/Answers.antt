@@ -1,4 +1,4 @@
-use Rattle.std.proofs.Common.{◌≡◌, ◌<◌, ◌+◌, [], ◌∷◌, rules, arith, ◌++◌, refl, sym, ap, ◌∙◌, subst, length, length-append, set}
+use Rattle.std.proofs.Common.{◌≡◌, ◌+◌, [], ◌∷◌, rules, ◌++◌, refl, sym, ap, ◌∙◌, subst, length, length-append, set}
 use Rattle.std.proofs.lemmas.Iterator.Adapters.{YieldsList-from_vec}
 use Rattle.std.proofs.lemmas.Iterator.Consumers.{YieldsList-from_enumerate, YieldsList-turn}
 use Rattle.std.specs.Iterator.Adapters.{enumerate_source}
@@ -8,7 +8,7 @@ use Rattle.std.specs.declared.alloc.Global.{Global}
 use mathlib.Core.List.{IsPrefix}
 use Rattle.om_runner.specs.Inboxes.{Takings}
 use Rattle.om_runner.specs.steps.Settling.{IsRowSettled, with_put}
-use Rattle.om_runner.proofs.SettleLemmas.{line_read, pair_next, row_first, row_goes_on, row_inside, taken_inside, taken_read, turn_at}
+use Rattle.om_runner.proofs.SettleLemmas.{line_read, pair_next, row_goes_on, row_inside, taken_inside, taken_read, turn_at}
 use Rattle.om_runner.proofs.settle.settle_row.Goals as goal
 
 pub index_mut-requires : goal.index_mut-requires

@@ -1,4 +1,4 @@
-use Rattle.std.proofs.Common.{◌≡◌, rules, ap, sym, ◌∙◌, subst, ◌<◌, get_or, length}
+use Rattle.std.proofs.Common.{rules, ap, sym, ◌∙◌, subst, ◌<◌, get_or, length}
 use Rattle.om_runner.specs.steps.Network.{LinksState}
 use Rattle.om_runner.proofs.LinkLemmas.{line_to, put_at, put_line, put_links, row_long, same_line, frame_goes}
 use Rattle.om_runner.proofs.links.Links.put_one.Goals as goal

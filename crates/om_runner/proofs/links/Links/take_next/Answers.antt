@@ -1,4 +1,4 @@
-use Rattle.std.proofs.Common.{◌≡◌, rules, arith, ◌<◌}
+use Rattle.std.proofs.Common.{rules, ◌<◌}
 use Rattle.om_runner.specs.steps.Network.{LinksState}
 use Rattle.om_runner.proofs.LinkLemmas.{take_line, take_links}
 use Rattle.om_runner.proofs.links.Links.take_next.Goals as goal
