@@ -51,8 +51,9 @@ fn ring(rt: &impl Abort, alloc: Global, n: usize, more: &str) -> String {
 fn ring_ends(rt: &impl Abort, alloc: Global, n: u32) -> String {
     let mut text = String::new(alloc);
     for p in 0..n {
+        let at = if p == 0 { n } else { p };
         for l in 0..6 {
-            let count = n * l + if p == 0 { n } else { p };
+            let count = n.wrapping_mul(l).wrapping_add(at);
             let line = format!(in alloc; "out p{p} {l} {:08x}\n", count.swap_bytes()).expect(
                 rt, "memory",
             );
@@ -60,7 +61,8 @@ fn ring_ends(rt: &impl Abort, alloc: Global, n: u32) -> String {
         }
     }
     for p in 0..n {
-        let code = 5 * n + if p == 0 { n } else { p };
+        let at = if p == 0 { n } else { p };
+        let code = n.wrapping_mul(5).wrapping_add(at);
         let line = format!(in alloc; "end p{p} ended {code}\n").expect(rt, "memory");
         text.push_str(&line).expect(rt, "memory");
     }

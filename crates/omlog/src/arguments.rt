@@ -121,12 +121,12 @@ each process ended.
                                the words at its start in hexadecimal
   program-m NAME SIZE WORD ..  the same, with RV32M
   proc NAME PROGRAM            a process of it, 1 to 16; numbered from 0
-Behind these:
+Behind these, in any order; in brackets what holds without the line:
   kill NAME INTERVAL   the process fails, once, as it begins the interval; at
                        most 64 such lines
-  flush K              a process stores its log after K receipts; 4
-  checkpoint K         a process stores its state after K receipts; 16
-  fuel K               a process runs at most K instructions a turn; 1000
+  flush K              a process stores its log after every K receipts (4)
+  checkpoint K         a process stores its state after every K receipts (16)
+  fuel K               a process runs at most K instructions a turn (1000)
 
 With --store PREFIX the stores are the files PREFIX, the process's number and
 .db, which must not be there yet; without it they are in memory.
@@ -135,8 +135,9 @@ Answers:
   out NAME NUMBER HEX  an output that is released
   end NAME STATUS      ended CODE or trapped CAUSE
 Refused, on standard error, status 1:
-  out of turns         a worker has used up its turns
-  store fault          a store cannot be made, or failed
+  empty script         there is no process
+  out of turns         a process did not end within its turns
+  store fault          a store cannot be made, is there already, or failed
   no thread            a thread cannot be made
 A faulty file is refused whole: 'line N: ..' on standard error, status 1.";
 
@@ -332,10 +333,9 @@ fn sim_command<'a>(alloc: Global) -> Command<'a> {
 }
 
 fn run_command<'a>(alloc: Global) -> Result<Command<'a>, Error> {
-    let turns = Arg::new(alloc, TURNS)
-        .long(TURNS)
-        .value_name("K")
-        .help("The most turns of a worker, 64 bits; 50000000");
+    let turns = Arg::new(alloc, TURNS).long(TURNS).value_name("K").help(
+        "The most turns of each process, a number of 64 bits [default: 50000000]",
+    );
     let store = Arg::new(alloc, STORE)
         .long(STORE)
         .value_name("PREFIX")

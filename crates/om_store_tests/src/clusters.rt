@@ -1,0 +1,214 @@
+//! Clusters over stores in tables: what each store holds when the run has ended, and a store that is refused.
+
+ghost use Rattle.std.specs.Prelude.{◌≡◌, false, IfOk, length};
+
+use om_commands::CommandError;
+use om_commands::replay::replay;
+use om_commands::run::run;
+use om_interval::Pid;
+use om_isa::Ext;
+use om_process::Image;
+use om_runner::{Config, Gate, OpenFault, Opener, RunFault, run_and_keep_stores, run_cluster};
+use om_stable::Stable;
+use om_tables::{SqlStable, TablesError};
+use sqlite::{Alter, Connection, MemStore};
+use std::alloc::{AllocError, Global};
+use std::process::Abort;
+use std::sync::Wait;
+use std::test::Fail;
+use std::thread::Threads;
+
+// Each process takes 6 receipts; at each it adds 1 to the counter at address 0100, puts it out and sends it on. Process 0
+// starts with 0, and at the end the code is the counter.
+const RING: [u32; 34] = [
+    0x00400893, 0x00000073, 0x00050293, 0x00150313, 0x00B36463, 0x00000313, 0x00600393, 0x00029C63,
+    0x00100893, 0x00030513, 0x10000593, 0x00400613, 0x00000073, 0x00200893, 0x10000513, 0x00400593,
+    0x00000073, 0x10002403, 0x00140413, 0x10802023, 0x00300893, 0x10000513, 0x00400593, 0x00000073,
+    0x00100893, 0x00030513, 0x10000593, 0x00400613, 0x00000073, 0xFFF38393, 0xFA039EE3, 0x00000893,
+    0x00040513, 0x00000073,
+];
+
+// Opens the database of each process.
+trait Connects {
+    type Disk: Alter + Send + Drop;
+
+    fn connect(&self, alloc: Global, pid: Pid) -> Result<Connection<Self::Disk>, OpenFault>
+        ensures { IfOk result (λ conn. conn.in_transaction ≡ false) };
+}
+
+// Makes stores in the tables of databases.
+#[derive(Drop)]
+struct InTables<C> {
+    connects: C,
+}
+
+impl<R, C: Connects> Opener<R> for InTables<C> {
+    type Store = SqlStable<C::Disk>;
+
+    fn make(&self, _rt: &R, alloc: Global, pid: Pid) -> Result<SqlStable<C::Disk>, OpenFault> {
+        let conn = self.connects.connect(alloc, pid)?;
+        match SqlStable::create(alloc, conn) {
+            Ok(store) => Ok(store),
+            Err((TablesError::Present, _)) => Err(OpenFault::Refused),
+            Err(_) => Err(OpenFault::Memory),
+        }
+    }
+}
+
+// Databases in memory, of which that of one process has the tables of a store already.
+#[derive(Drop)]
+struct Databases {
+    taken: Option<Pid>,
+}
+
+impl Connects for Databases {
+    type Disk = MemStore;
+
+    fn connect(&self, alloc: Global, pid: Pid) -> Result<Connection<MemStore>, OpenFault> {
+        connected(alloc, self.taken == Some(pid))
+    }
+}
+
+// A database in memory, with the tables of a store or with nothing.
+fn connected(alloc: Global, has_tables: bool) -> Result<Connection<MemStore>, OpenFault>
+    ensures { IfOk result (λ conn. conn.in_transaction ≡ false) }
+{
+    let Ok(conn) = Connection::open_in_memory(alloc) else {
+        return Err(OpenFault::Memory);
+    };
+    if !conn.is_autocommit() {
+        return Err(OpenFault::Memory);
+    }
+    if !has_tables {
+        return Ok(conn);
+    }
+    match SqlStable::create(alloc, conn) {
+        Ok(store) => Ok(store.into_connection()),
+        Err(_) => Err(OpenFault::Memory),
+    }
+}
+
+// Lets each process start at once.
+#[derive(Drop)]
+struct OpenGate;
+
+impl Gate for OpenGate {
+    fn may_start(&self, _pid: Pid) -> bool {
+        true
+    }
+}
+
+fn ring_image(alloc: Global) -> Result<Image, AllocError> {
+    let mut bytes = Vec::new(alloc);
+    for word in RING {
+        bytes.extend_from_slice(&word.to_le_bytes())?;
+    }
+    Ok(Image {
+        bytes,
+        size: 512,
+        ext: Ext::I,
+    })
+}
+
+// The ring of eight, of which two fail.
+fn ring(alloc: Global) -> Result<Config, AllocError>
+    ensures { IfOk result (λ config. length config.images.items ≡ 8) }
+{
+    let mut images = Vec::with_capacity(alloc, 8)?;
+    for _ in 0..8usize {
+        images.push(ring_image(alloc)?)?;
+    }
+    let mut kills = Vec::new(alloc);
+    kills.push((Pid::at(3), 3))?;
+    kills.push((Pid::at(5), 5))?;
+    Ok(Config {
+        images,
+        kills,
+        flush: 2,
+        checkpoint: 3,
+        fuel: 1_000,
+        turns: 50_000_000,
+        gate_turns: 1,
+    })
+}
+
+// By process, the counter that comes with its last message. In the interval that this begins it stands as it came.
+const COUNTERS: [u32; 8] = [47, 40, 41, 42, 43, 44, 45, 46];
+
+fn check_replay<S: Stable>(rt: &impl Abort, alloc: Global, store: &mut S, counter: u32) {
+    let mut written = Vec::new(alloc);
+    assert_eq!(rt; replay(alloc, store, 6, &mut written), Ok(()), "{counter}");
+    let text = String::from_utf8(written).expect(rt, "a text");
+    let line = format!(in alloc; "\n00000100 {:08x}0000", counter.swap_bytes()).expect(
+        rt, "memory",
+    );
+    assert!(rt; text.starts_with("interval 6\n"), "{counter}");
+    assert!(rt; text.contains(line.as_str()), "{counter}");
+}
+
+// Runs the ring over such stores, and replays each of them.
+fn check_replays<R: Threads + Wait + Abort + Sync, C: Connects + Sync + Drop>(
+    rt: &R,
+    alloc: Global,
+    connects: C,
+) -> Result<(), Fail> {
+    let config = ring(alloc)?;
+    let opener = InTables { connects };
+    let (_, stores) = run_and_keep_stores(rt, alloc, &config, &OpenGate, &opener)?;
+    assert_eq!(rt; stores.len(), 8);
+    for (mut store, counter) in stores.into_iter().zip(COUNTERS) {
+        check_replay(rt, alloc, &mut store, counter);
+    }
+    Ok(())
+}
+
+// Runs the ring over such stores, of which that of process 5 is refused.
+fn check_refused<R: Threads + Wait + Abort + Sync, C: Connects + Sync + Drop>(
+    rt: &R,
+    alloc: Global,
+    connects: C,
+) -> Result<(), Fail> {
+    let config = ring(alloc)?;
+    let told = run_cluster(rt, alloc, &config, &OpenGate, &InTables { connects }).err();
+    assert_eq!(rt; told, Some(RunFault::Load(Pid::at(5))));
+    Ok(())
+}
+
+// Two processes that end at once.
+const TWO: &[u8] = b"program a 16 00000893 00000073\nproc p a\nproc q a\n";
+
+// What the command answers over such stores, and what it writes.
+fn check_command<R: Threads + Wait + Abort + Sync, C: Connects + Sync + Drop>(
+    rt: &R,
+    alloc: Global,
+    connects: C,
+    answer: Result<(), CommandError>,
+    written: &str,
+) {
+    let mut text = Vec::new(alloc);
+    let mut reader = TWO;
+    let opener = InTables { connects };
+    let told = run(rt, alloc, 50_000_000, &opener, &mut reader, &mut text);
+    assert_eq!(rt; told, answer);
+    assert_eq!(rt; text.as_slice(), written.as_bytes());
+}
+
+#[test]
+fn replays_of_a_ring_with_failures(rt: HostRuntime) -> Result<(), Fail> {
+    check_replays(&rt, rt.alloc(), Databases { taken: None })
+}
+
+#[test]
+fn store_that_holds_something(rt: HostRuntime) -> Result<(), Fail> {
+    let taken = Some(Pid::at(5));
+    check_refused(&rt, rt.alloc(), Databases { taken })
+}
+
+#[test]
+fn command_over_a_store_that_holds_something(rt: HostRuntime) {
+    let ended = "end p ended 0\nend q ended 0\n";
+    check_command(&rt, rt.alloc(), Databases { taken: None }, Ok(()), ended);
+    let taken = Some(Pid::at(1));
+    let refused = Err(CommandError::StoreFault);
+    check_command(&rt, rt.alloc(), Databases { taken }, refused, "");
+}
