@@ -75,14 +75,6 @@ taken_inside rows i j row taken at row_is =
     subst (λ (r : Vec Takings Global). j < length r.items) (sym (row_is ∙ get_or_from_slice_get rows i at.0 row at.1)) (slice_get_within at.0.items j taken at.2)
 
 -- ---- one sender
-pub row_first : (from : ℕ) (puts : List Traffic) (takes : List (Vec Takings Global)) → IsRowSettled 0 from puts takes takes
-row_first from puts takes = record {
-  known = λ to put taken lt. absurd (omega arith);
-  begun = λ to put taken lt. absurd (omega arith);
-  later = λ to taken le at. at;
-  others = λ by to taken ne at. at;
-}
-
 -- the next of its leaves to put, and the receiver's to take
 pub pair_next : (done from : ℕ) (row : List Line) (puts : List Traffic) (old now : List (Vec Takings Global)) (put : Traffic)
     → HavePairs row from puts old → IsRowSettled done from puts old now → slice_get puts done ≡ Some put
@@ -133,13 +125,6 @@ row_goes_on done from puts old now new d row put taken after was put_at taken_at
     kept to by t at apart = subst (λ l. StandsAt l to by t) (sym new_is) (stands_apart now done from d row after to by t row_is at apart)
 
 -- ---- all senders
-pub all_first : (puts : List (Vec Traffic Global)) (takes : List (Vec Takings Global)) → AreSettled 0 puts takes takes
-all_first puts takes = record {
-  known = λ from to put taken lt. absurd (omega arith);
-  begun = λ from to put taken lt. absurd (omega arith);
-  later = λ from to taken le at. at;
-}
-
 -- the next sender's leaves to put, and all receivers' to take
 pub pairs_next : (n : ℕ) (lines : Lines) (puts : List (Vec Traffic Global)) (old now : List (Vec Takings Global)) (from : ℕ) (row : Vec Traffic Global) (inboxes : Vec Line Global)
     → AreLeaves n lines puts old → AreSettled from puts old now → slice_get puts from ≡ Some row → slice_get lines from ≡ Some inboxes
