@@ -280,7 +280,8 @@ fn start_all<
     requires room { K.cell.n ≤ vec_capacity handles }
     ensures long { IfSome result (λ v. vec_len v ≡ K.cell.n) }
     ensures each { IfSome result (λ v. (i : ℕ) (a : Image) (h : _) → i < vec_len v
-        → IsPromised (slice_index_or cluster.entry.now.plan.now.images.items i a) cluster.entry.now.inboxes.now i K.cell.n (slice_index_or v.items i h).promise) }
+        → IsPromised (slice_index_or cluster.entry.now.plan.now.images.items i a) cluster.entry.now.inboxes.now i K.cell.n
+        (slice_index_or v.items i h).promise) }
 {
     for one in ends {
         let Ends { puts, takes } = one;
@@ -316,7 +317,8 @@ fn run_scoped<
     requires wired { IsWired K.cell.n cluster.now.inboxes.now ends.items }
     requires passes { vec_len passes ≡ K.cell.n }
     ensures long { IfOk result (λ v. vec_len v ≡ K.cell.n) }
-    ensures each { IfOk result (λ v. AreEndsOf O.Store.is_clean cluster.now.plan.now.images.items cluster.now.inboxes.now K.cell.n v.items) }
+    ensures each { IfOk result (λ v. AreEndsOf O.Store.is_clean cluster.now.plan.now.images.items
+        cluster.now.inboxes.now K.cell.n v.items) }
 {
     thread::scope(
         thread::scope_env(),
