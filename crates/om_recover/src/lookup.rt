@@ -13,7 +13,8 @@ use om_interval::{DepVec, Pid};
 /// The vectors of a record.
 pub fn vectors_of(trees: &Trees, kind: RowKind, pid: Pid, x: u32) -> Option<&Vectors>
     requires { AreTrees trees.now }
-    ensures { MatchOption result (Has (held trees.now) kind pid x → ⊥) (λ vectors. HasRow (held trees.now) (row_of kind pid x vectors.now)) }
+    ensures { MatchOption result (Has (held trees.now) kind pid x → ⊥)
+        (λ vectors. HasRow (held trees.now) (row_of kind pid x vectors.now)) }
 {
     match kind {
         RowKind::Checkpoint => match base_at(&trees.bases, pid, x) {

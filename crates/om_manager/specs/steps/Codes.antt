@@ -48,7 +48,8 @@ coded_presence = code_by (Option (Option ℕ)) (coded_option (coded_option coded
 
 pub coded_manager : Coded ManagerState
 coded_manager =
-    code_by (Rows × (List ℕ × (List (List HeldOutput) × (List (List ℕ) × (ℕ × (Option (List Presence) × (List ℕ × (List Bool × ℕ))))))))
+    code_by (Rows × (List ℕ × (List (List HeldOutput) × (List (List ℕ) ×
+    (ℕ × (Option (List Presence) × (List ℕ × (List Bool × ℕ))))))))
     (coded× (set.code coded_row)
     (coded× (coded_list coded_ℕ)
     (coded× (coded_list (coded_list coded_held))

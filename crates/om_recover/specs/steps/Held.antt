@@ -36,7 +36,8 @@ pub record AreTrees (trees : Trees) : Type 0 where
 -- from a checkpoint on, below the next, the intervals up to the last given are those that are stable
 pub record Reaches (rows : Rows) (p x last : ℕ) : Type 0 where
   pub stable : (y : ℕ) → x ≤ y → y ≤ last → IsStable rows p y
-  pub whole : (y : ℕ) → x ≤ y → IsStable rows p y → ((other : ℕ) → Has rows Checkpoint p other → other ≤ y → other ≤ x) → y ≤ last
+  pub whole : (y : ℕ) → x ≤ y → IsStable rows p y → ((other : ℕ) → Has rows Checkpoint p other → other ≤ y → other ≤ x)
+      → y ≤ last
 
 -- the trees are in order, and each checkpoint tells how far it reaches
 pub record AreIndexed (trees : Trees) : Type 0 where
