@@ -1,4 +1,4 @@
-use Rattle.std.proofs.Common.{◌≡◌, ◌≢◌, ℕ, ◌+◌, ◌-◌, ◌*◌, ◌^◌, ◌<◌, ◌≤◌, ◌⊎◌, inl, inr, refl, sym, ◌∙◌, ap, subst, arith, Bool, true, false, List, [], ◌∷◌, ◌++◌, length, map, All, get_or, sum, slice_index, slice_index_or, slice_set, replicate, Option, None, Some, zero, suc, nat_le}
+use Rattle.std.proofs.Common.{◌≡◌, ◌≢◌, ℕ, ◌+◌, ◌-◌, ◌*◌, ◌^◌, ◌<◌, ◌≤◌, ◌⊎◌, inl, inr, refl, sym, ◌∙◌, ap, subst, arith, Bool, true, false, List, [], ◌∷◌, ◌++◌, length, map, All, get_or, sum, slice_index, slice_index_or, slice_set, replicate, Option, None, Some, zero, suc, nat_le, Result, Ok, Err, slice_get}
 use Rattle.std.proofs.lemmas.List.Kept.{AllPairs-filter}
 use Rattle.std.proofs.lemmas.Bool.{cases_order}
 use Rattle.std.proofs.lemmas.List.{get_or_default, get_or_append_left, get_or_push, length_push, length-map, length-set, map-set, get_or-set_same, get_or-set_other, length-replicate, get_or-replicate, set-get_or, same_lists}
@@ -16,9 +16,22 @@ use Rattle.om_manager.specs.Outputs.{HeldOutput, AreRising, within}
 use Rattle.om_manager.proofs.LogLemmas.{within_begins, within_higher, within_within, within_push, same_begins}
 use mathlib.Core.List.{IsPrefix}
 use Rattle.om_manager.specs.Rounds.{Finishes}
-use Rattle.om_manager.specs.steps.OutputLog.{LogState, log_with, log_within}
+use Rattle.om_manager.specs.steps.OutputLog.{LogState, log_with, log_within, IsUpTo, MayPush, Clashes, LogNotes}
 use Rattle.om_manager.specs.State.{ManagerState, held_by, released_by, open_count}
-use Rattle.om_manager.specs.Sound.{AreBegun, AreRounds, IsManager, KeepsReleased}
+use Rattle.om_recover.specs.Rows.{Rows}
+use Rattle.om_recover.specs.Offered.{offered, TellsChange}
+use Rattle.om_recover.specs.declared.row.Row.{Row}
+use Rattle.om_recover.specs.declared.note.Note.{Note}
+use Rattle.om_recover.specs.declared.note.Note.TheVariants.{Noted, Known}
+use Rattle.om_recover.specs.declared.note.NoteError.{NoteError}
+use Rattle.om_recover.specs.declared.note.NoteError.TheVariants as fault
+use Rattle.om_manager.specs.declared.answers.RecordError.TheVariants.{Refused}
+use Rattle.om_manager.specs.Notes.{Notes, after_note, Offer, IsCurrent, IsNext, IsDifferent, NotesOutput, with_output}
+use Rattle.om_manager.specs.declared.answers.OutputNote.{OutputNote}
+use Rattle.om_manager.specs.declared.answers.OutputNote.TheVariants as kept
+use Rattle.om_manager.specs.declared.answers.OutputError.{OutputError}
+use Rattle.om_manager.specs.declared.answers.OutputError.TheVariants as refused
+use Rattle.om_manager.specs.Sound.{AreBegun, AreRounds, IsLast, IsManager, KeepsReleased}
 use Rattle.om_manager.specs.steps.Parts.{AreParts}
 use Rattle.om_manager.specs.declared.presence.Presence.{Presence}
 
@@ -61,6 +74,20 @@ begun_raised starts old new round begun below = record {
   few = λ p here. begun.few p (omega (arith, here, below.same_places));
 }
 
+-- the parts after a note that left the recovery state
+pub parts_level : (kept after : Kept) (logs : List LogState) (starts : List (List ℕ)) (round : ℕ) (gathering : Option (List Presence)) (last : List ℕ) (backs : List Bool) (version : ℕ)
+    → AreParts kept logs starts round gathering last backs version → IsSound after → kept.state ≡ after.state → AreParts after logs starts round gathering last backs version
+parts_level kept after logs starts round gathering last backs version parts sound same = record {
+  some = subst (λ (s : List ℕ). 0 < length s) same parts.some;
+  few = subst (λ (s : List ℕ). length s ≤ MAX_PROCESSES) same parts.few;
+  records = sound;
+  limits = parts.limits ∙ same;
+  rising = parts.rising;
+  begun = subst (λ (s : List ℕ). AreBegun starts s round) same parts.begun;
+  rounds = subst (λ (s : List ℕ). AreRounds s round gathering version) same parts.rounds;
+  last = subst (λ (s : List ℕ). IsLast s round last backs) same parts.last;
+}
+
 -- the parts after a note that raised the recovery state
 pub parts_raised : (kept after : Kept) (logs new : List LogState) (starts : List (List ℕ)) (round : ℕ) (gathering : Option (List Presence)) (last : List ℕ) (backs : List Bool) (version : ℕ)
     → AreParts kept logs starts round gathering last backs version → IsSound after → IsBelow kept.state after.state → kept.state ≢ after.state
@@ -80,9 +107,13 @@ parts_raised kept after logs new starts round gathering last backs version parts
   };
 }
 
+-- the manager that has these parts
+abbrev pub made_of : Kept → List LogState → List (List ℕ) → ℕ → Option (List Presence) → List ℕ → List Bool → ℕ → ManagerState
+made_of kept logs starts round gathering last backs version = record { rows = kept.rows; recovery = kept.state; outputs = map (λ (log : LogState). log.held) logs; starts = starts; round = round; gathering = gathering; last = last; backs = backs; version = version }
+
 -- what the parts say of the whole
 pub whole : (kept : Kept) (logs : List LogState) (starts : List (List ℕ)) (round : ℕ) (gathering : Option (List Presence)) (last : List ℕ) (backs : List Bool) (version : ℕ) → AreParts kept logs starts round gathering last backs version
-    → IsManager (record { rows = kept.rows; recovery = kept.state; outputs = map (λ (log : LogState). log.held) logs; starts = starts; round = round; gathering = gathering; last = last; backs = backs; version = version })
+    → IsManager (made_of kept logs starts round gathering last backs version)
 whole kept logs starts round gathering last backs version parts = record {
   some = parts.some;
   few = parts.few;
@@ -334,14 +365,6 @@ released_after logs state p limits here = subst (λ (s : List ℕ). p < length s
     at (log ∷ logs) zero below = refl
     at (log ∷ logs) (suc p) below = at logs p (omega arith)
 
--- the whole with a log that is written back as it was
-pub whole_untouched : (kept : Kept) (logs : List LogState) (starts : List (List ℕ)) (round : ℕ) (gathering : Option (List Presence)) (last : List ℕ) (backs : List Bool) (version p : ℕ) (log : LogState)
-    → AreParts kept logs starts round gathering last backs version → log ≡ get_or logs p log
-    → IsManager (record { rows = kept.rows; recovery = kept.state; outputs = map (λ (log : LogState). log.held) (slice_set logs p log); starts = starts; round = round; gathering = gathering; last = last; backs = backs; version = version })
-whole_untouched kept logs starts round gathering last backs version p log parts is =
-    subst (λ all. IsManager (record { rows = kept.rows; recovery = kept.state; outputs = map (λ (log : LogState). log.held) all; starts = starts; round = round; gathering = gathering; last = last; backs = backs; version = version }))
-    (sym (ap (slice_set logs p) is ∙ set-get_or logs p log)) (whole kept logs starts round gathering last backs version parts)
-
 -- the parts with one output more
 pub parts_with_output : (kept : Kept) (logs : List LogState) (starts : List (List ℕ)) (round : ℕ) (gathering : Option (List Presence)) (last : List ℕ) (backs : List Bool) (version p : ℕ) (log new : LogState) (output : HeldOutput)
     → AreParts kept logs starts round gathering last backs version → p < length logs → log ≡ get_or logs p log → All (λ (held : HeldOutput). held.interval ≤ output.interval) log.held → new ≡ log_with log output
@@ -376,14 +399,86 @@ outputs_with logs p log new output inside is new_is =
 pub held_is : (logs : List LogState) (p : ℕ) (log : LogState) → p < length logs → log ≡ get_or logs p log → slice_index_or (map (λ (log : LogState). log.held) logs) p [] ≡ log.held
 held_is logs p log inside is = get_or-map (λ (log : LogState). log.held) logs p [] log inside ∙ ap (λ (log : LogState). log.held) (sym is)
 
+-- what an answer leaves of the log: what was there, with the output as the latest or without it
+abbrev pub IsLogAfter : LogState → HeldOutput → LogState → Type 0
+IsLogAfter log output new = (new ≡ log) ⊎ (IsUpTo log output.interval × (new ≡ log_with log output))
+
+pub log_after : (log : LogState) (seq : ℕ) (output : HeldOutput) (answer : Result OutputNote OutputError) (new : LogState) → LogNotes log seq output answer new → IsLogAfter log output new
+log_after log seq output (Ok kept.Known) new noted = inl noted.1
+log_after log seq output (Ok kept.Released) new noted = inr (noted.0.latest, noted.2)
+log_after log seq output (Ok kept.Held) new noted = inr (noted.0.latest, noted.2)
+log_after log seq output (Err refused.Stranger) new noted = absurd noted
+log_after log seq output (Err (refused.Stale told)) new noted = absurd noted
+log_after log seq output (Err refused.Differs) new noted = inl noted.1
+log_after log seq output (Err (refused.Gap next)) new noted = inl noted.2
+log_after log seq output (Err refused.Memory) new noted = inl noted.1
+
 -- the parts where an output was pushed, or was refused
 pub parts_pushed : (kept : Kept) (logs : List LogState) (starts : List (List ℕ)) (round : ℕ) (gathering : Option (List Presence)) (last : List ℕ) (backs : List Bool) (version p : ℕ) (log new : LogState) (output : HeldOutput)
-    → AreParts kept logs starts round gathering last backs version → p < length logs → log ≡ get_or logs p log → All (λ (held : HeldOutput). held.interval ≤ output.interval) log.held
-    → (new ≡ log) ⊎ (new ≡ log_with log output) → AreParts kept (slice_set logs p new) starts round gathering last backs version
-parts_pushed kept logs starts round gathering last backs version p log new output parts inside is latest pushed = elim pushed [
+    → AreParts kept logs starts round gathering last backs version → p < length logs → log ≡ get_or logs p log → IsLogAfter log output new
+    → AreParts kept (slice_set logs p new) starts round gathering last backs version
+parts_pushed kept logs starts round gathering last backs version p log new output parts inside is pushed = elim pushed [
   | inl same ↦ subst (λ all. AreParts kept all starts round gathering last backs version) (sym (ap (slice_set logs p) (same ∙ is) ∙ set-get_or logs p log)) parts
-  | inr more ↦ parts_with_output kept logs starts round gathering last backs version p log new output parts inside is latest more
+  | inr more ↦ parts_with_output kept logs starts round gathering last backs version p log new output parts inside is more.0 more.1
 ]
+
+-- a log is that of a process of the manager
+pub record IsLogOf (m : ManagerState) (p : ℕ) (log : LogState) : Type 0 where
+  pub held : held_by m p ≡ log.held
+  pub limit : log.limit ≡ slice_index m.recovery p
+
+may_push : (m : ManagerState) (offer : Offer) (log : LogState) → IsCurrent m offer.pid offer.round → IsLogOf m offer.pid log → MayPush log offer.seq offer.output → IsNext m offer
+may_push m offer log current of may = record {
+  current = current;
+  next = may.next ∙ ap length (sym of.held);
+  latest = subst (All (λ (output : HeldOutput). output.interval ≤ offer.output.interval)) (sym of.held) may.latest;
+}
+
+clashes : (m : ManagerState) (offer : Offer) (log : LogState) → IsLogOf m offer.pid log → Clashes log offer.seq offer.output → IsDifferent m offer
+clashes m offer log of (Clashes.other below is_not) = IsDifferent.other (subst (λ (held : List HeldOutput). offer.seq < length held) (sym of.held) below) (λ is. is_not (subst (λ (held : List HeldOutput). slice_get held offer.seq ≡ Some offer.output) of.held is))
+clashes m offer log of (Clashes.earlier next later) = IsDifferent.earlier (next ∙ ap length (sym of.held)) (λ latest. later (subst (All (λ (output : HeldOutput). output.interval ≤ offer.output.interval)) of.held latest))
+
+-- what the log of the process answers is what the manager answers
+pub answer_of_log : (old new : ManagerState) (log after : LogState) (offer : Offer) (answer : Result OutputNote OutputError) → IsCurrent old offer.pid offer.round → IsLogOf old offer.pid log
+    → (after ≡ log → new ≡ old) → (after ≡ log_with log offer.output → new ≡ with_output old offer.pid offer.output) → LogNotes log offer.seq offer.output answer after → NotesOutput old offer answer new
+answer_of_log old new log after offer (Ok kept.Known) current of same more noted = (current, ap (λ (held : List HeldOutput). slice_get held offer.seq) of.held ∙ noted.0, same noted.1)
+answer_of_log old new log after offer (Ok kept.Released) current of same more noted = (may_push old offer log current of noted.0, omega (arith, noted.1, of.limit), more noted.2)
+answer_of_log old new log after offer (Ok kept.Held) current of same more noted = (may_push old offer log current of noted.0, omega (arith, noted.1, of.limit), more noted.2)
+answer_of_log old new log after offer (Err refused.Stranger) current of same more noted = absurd noted
+answer_of_log old new log after offer (Err (refused.Stale told)) current of same more noted = absurd noted
+answer_of_log old new log after offer (Err refused.Differs) current of same more noted = (current, clashes old offer log of noted.0, same noted.1)
+answer_of_log old new log after offer (Err (refused.Gap next)) current of same more noted = (current, noted.0 ∙ ap length (sym of.held), noted.1, same noted.2)
+answer_of_log old new log after offer (Err refused.Memory) current of same more noted = (may_push old offer log current of noted.0, same noted.1)
+
+-- a log of the parts is that of its process
+pub log_is_of : (kept : Kept) (logs : List LogState) (starts : List (List ℕ)) (round : ℕ) (gathering : Option (List Presence)) (last : List ℕ) (backs : List Bool) (version p : ℕ) (log : LogState)
+    → AreParts kept logs starts round gathering last backs version → p < length logs → log ≡ get_or logs p log → IsLogOf (made_of kept logs starts round gathering last backs version) p log
+log_is_of kept logs starts round gathering last backs version p log parts inside is = record {
+  held = held_is logs p log inside is;
+  limit = ap (λ (log : LogState). log.limit) is ∙ sym (get_or-map (λ (log : LogState). log.limit) logs p 0 log inside) ∙ ap (λ (s : List ℕ). slice_index s p) parts.limits;
+}
+
+-- each process of the manager has a log
+pub has_log : (kept : Kept) (logs : List LogState) (starts : List (List ℕ)) (round : ℕ) (gathering : Option (List Presence)) (last : List ℕ) (backs : List Bool) (version p : ℕ)
+    → AreParts kept logs starts round gathering last backs version → p < length kept.state → p < length logs
+has_log kept logs starts round gathering last backs version p parts here = omega (arith, here, ap length parts.limits, length-map logs (λ (log : LogState). log.limit))
+
+-- the answer to an output where the log of its process answered
+pub output_answered : (kept : Kept) (logs : List LogState) (starts : List (List ℕ)) (round : ℕ) (gathering : Option (List Presence)) (last : List ℕ) (backs : List Bool) (version p : ℕ) (log after : LogState) (offer : Offer) (answer : Result OutputNote OutputError)
+    → AreParts kept logs starts round gathering last backs version → IsCurrent (made_of kept logs starts round gathering last backs version) offer.pid offer.round → p ≡ offer.pid → log ≡ get_or logs p log
+    → LogNotes log offer.seq offer.output answer after
+    → NotesOutput (made_of kept logs starts round gathering last backs version) offer answer (made_of kept (slice_set logs p after) starts round gathering last backs version)
+output_answered kept logs starts round gathering last backs version p log after offer answer parts current place is noted =
+    let of_outputs : List (List HeldOutput) → ManagerState = λ outputs. record { rows = kept.rows; recovery = kept.state; outputs = outputs; starts = starts; round = round; gathering = gathering; last = last; backs = backs; version = version } in
+    let old = made_of kept logs starts round gathering last backs version in
+    let outputs = map (λ (log : LogState). log.held) logs in
+    let here : p < length kept.state = omega (arith, current.known, place) in
+    let inside : p < length logs = has_log kept logs starts round gathering last backs version p parts here in
+    answer_of_log old (made_of kept (slice_set logs p after) starts round gathering last backs version) log after offer answer current
+    (subst (λ (q : ℕ). IsLogOf old q log) place (log_is_of kept logs starts round gathering last backs version p log parts inside is))
+    (λ same. ap (λ (all : List LogState). of_outputs (map (λ (log : LogState). log.held) all)) (ap (slice_set logs p) (same ∙ is) ∙ set-get_or logs p log))
+    (λ more. ap of_outputs (outputs_with logs p log after offer.output inside is more) ∙ ap (λ (q : ℕ). of_outputs (slice_set outputs q (slice_index_or outputs q [] ++ offer.output ∷ []))) place)
+    noted
 
 -- a finished round keeps what was released
 pub finishes_keeps : (presences : List Presence) (old new : ManagerState) → Finishes presences old new → KeepsReleased old new
@@ -399,13 +494,68 @@ raised_keeps old new sound same below = λ p here.
     subst (λ (outputs : List (List HeldOutput)). IsPrefix (released_by old p) (within (slice_index_or outputs p []) (slice_index new.recovery p))) (sym same)
     (within_higher (held_by old p) (slice_index old.recovery p) (slice_index new.recovery p) (sound.rising p here) (below.each p here))
 
+-- refused rows stay as they were
+refused_rows : (n : ℕ) (rows after : Rows) (row : Row) (fault : NoteError) → offered n rows row (Err fault) after → after ≡ rows
+refused_rows n rows after row fault.Stranger told = told.1
+refused_rows n rows after row fault.BadVector told = told.2
+refused_rows n rows after row fault.Differs told = told.1
+refused_rows n rows after row (fault.Disorder y) told = told.1
+refused_rows n rows after row fault.Memory told = told.1
+
+-- the manager's answer where the records refused a row
+pub note_refused : (kept after : Kept) (logs : List LogState) (starts : List (List ℕ)) (round : ℕ) (gathering : Option (List Presence)) (last : List ℕ) (backs : List Bool) (version asked : ℕ) (row : Row) (fault : NoteError)
+    → (row.pid < length kept.state → asked ≡ round) → offered (length kept.state) kept.rows row (Err fault) after.rows → kept.state ≡ after.state
+    → Notes (made_of kept logs starts round gathering last backs version) asked row (Err (Refused fault)) (made_of after logs starts round gathering last backs version)
+note_refused kept after logs starts round gathering last backs version asked row fault current told same =
+    let rows : after.rows ≡ kept.rows = refused_rows _ _ _ _ _ told in
+    let told_of : Rows → Type 0 = λ rows. offered (length kept.state) kept.rows row (Err fault) rows in
+    let made : Rows → List ℕ → ManagerState = λ rows state. record { rows = rows; recovery = state; outputs = map (λ (log : LogState). log.held) logs; starts = starts; round = round; gathering = gathering; last = last; backs = backs; version = version } in
+    (current, subst told_of rows told, ap (λ r. made r after.state) rows ∙ ap (made kept.rows) (sym same))
+
+-- a row that was taken comes from a process of the cluster
+taken_known : (n : ℕ) (rows after : Rows) (row : Row) (note : Note) → offered n rows row (Ok note) after → row.pid < n
+taken_known n rows after row (Noted raised) told = told.0.offer.known
+taken_known n rows after row Known told = told.0.offer.known
+
+pub level_state : (old new : List ℕ) (note : Note) → TellsChange (Ok note) old new → note ≢ Noted true → old ≡ new
+level_state old new (Noted true) change level = absurd (level refl)
+level_state old new (Noted false) change level = change
+level_state old new Known change level = change
+
+-- the manager's answer where the records took a row and their state stayed
+pub note_level : (kept after : Kept) (logs : List LogState) (starts : List (List ℕ)) (round : ℕ) (gathering : Option (List Presence)) (last : List ℕ) (backs : List Bool) (version asked : ℕ) (row : Row) (note : Note)
+    → (row.pid < length kept.state → asked ≡ round) → offered (length kept.state) kept.rows row (Ok note) after.rows → TellsChange (Ok note) kept.state after.state → note ≢ Noted true
+    → Notes (made_of kept logs starts round gathering last backs version) asked row (Ok note) (made_of after logs starts round gathering last backs version)
+note_level kept after logs starts round gathering last backs version asked row (Noted true) current told change level = absurd (level refl)
+note_level kept after logs starts round gathering last backs version asked row (Noted false) current told change level =
+    let made : List ℕ → ManagerState = λ state. record { rows = after.rows; recovery = state; outputs = map (λ (log : LogState). log.held) logs; starts = starts; round = round; gathering = gathering; last = last; backs = backs; version = version } in
+    (current (taken_known (length kept.state) kept.rows after.rows row (Noted false) told), told, change, ap made (sym change))
+note_level kept after logs starts round gathering last backs version asked row Known current told change level =
+    let made : Rows → List ℕ → ManagerState = λ rows state. record { rows = rows; recovery = state; outputs = map (λ (log : LogState). log.held) logs; starts = starts; round = round; gathering = gathering; last = last; backs = backs; version = version } in
+    (current (taken_known (length kept.state) kept.rows after.rows row Known told), told, change, ap (λ r. made r after.state) told.1 ∙ ap (made kept.rows) (sym change))
+
+-- the manager's answer where the records took a row and their state rose
+pub note_raised : (kept after : Kept) (logs new : List LogState) (starts : List (List ℕ)) (round : ℕ) (gathering : Option (List Presence)) (last : List ℕ) (backs : List Bool) (version asked : ℕ) (row : Row) (note : Note)
+    → (row.pid < length kept.state → asked ≡ round) → offered (length kept.state) kept.rows row (Ok note) after.rows → TellsChange (Ok note) kept.state after.state → note ≡ Noted true
+    → map (λ (log : LogState). log.held) new ≡ map (λ (log : LogState). log.held) logs
+    → Notes (made_of kept logs starts round gathering last backs version) asked row (Ok note) (made_of after new starts round gathering last backs (version + 1))
+note_raised kept after logs new starts round gathering last backs version asked row note current told change raised held =
+    let made : List (List HeldOutput) → ManagerState = λ outputs. record { rows = after.rows; recovery = after.state; outputs = outputs; starts = starts; round = round; gathering = gathering; last = last; backs = backs; version = version + 1 } in
+    let old = made_of kept logs starts round gathering last backs version in
+    let new_m = made_of after new starts round gathering last backs (version + 1) in (
+      current (taken_known (length kept.state) kept.rows after.rows row note told),
+      told,
+      change,
+      subst (λ (n : Note). new_m ≡ after_note old n after.rows after.state) (sym raised) (ap made held),
+    )
+
 -- a push keeps what was released
-pub pushed_keeps : (logs : List LogState) (p q limit : ℕ) (log new : LogState) (output : HeldOutput) → p < length logs → log ≡ get_or logs p log → (new ≡ log) ⊎ (new ≡ log_with log output)
+pub pushed_keeps : (logs : List LogState) (p q limit : ℕ) (log new : LogState) (output : HeldOutput) → p < length logs → log ≡ get_or logs p log → IsLogAfter log output new
     → IsPrefix (within (slice_index_or (map (λ (log : LogState). log.held) logs) q []) limit) (within (slice_index_or (map (λ (log : LogState). log.held) (slice_set logs p new)) q []) limit)
 pushed_keeps logs p q limit log new output inside is pushed =
     let begins : IsPrefix (within log.held limit) (within new.held limit) = elim pushed [
       | inl same ↦ same_begins _ _ (ap (λ (log : LogState). within log.held limit) (sym same))
-      | inr more ↦ subst (λ (log' : LogState). IsPrefix (within log.held limit) (within log'.held limit)) (sym more) (within_push log.held output limit)
+      | inr more ↦ subst (λ (log' : LogState). IsPrefix (within log.held limit) (within log'.held limit)) (sym more.1) (within_push log.held output limit)
     ] in
     subst (λ (outputs : List (List HeldOutput)). IsPrefix (within (slice_index_or (map (λ (log : LogState). log.held) logs) q []) limit) (within (slice_index_or outputs q []) limit)) (sym (map-set (λ (log : LogState). log.held) logs p new))
     (elim (cases_order q p) [

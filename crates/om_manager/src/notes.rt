@@ -1,6 +1,7 @@
-ghost use Rattle.std.specs.Prelude.{◌≡◌, ◌≤◌, map};
+ghost use Rattle.std.specs.Prelude.{◌≡◌, ◌≢◌, ◌<◌, map, false, IsTrue};
 ghost use Rattle.om_interval.specs.Vectors.{IsBelow};
 ghost use Rattle.om_recover.specs.Records.{log_of, checkpoint_of};
+ghost use Rattle.om_manager.specs.State.{size_of};
 ghost use Rattle.om_manager.specs.Sound.{IsManager, GoesOn, KeepsReleased};
 ghost use Rattle.om_manager.specs.Notes.{Notes, NotesOutput};
 
@@ -75,7 +76,7 @@ impl Manager {
         ensures not_lowered { IsBelow self.old.recovery self.new.recovery }
         ensures released { KeepsReleased self.old self.new }
     {
-        if row.pid.index() < self.records.n() && round != self.round {
+        if self.is_stale(row.pid, round) {
             return Err(RecordError::Stale { round: self.round });
         }
         let note = match self.records.note(alloc, row, &mut Work::new()) {
@@ -87,6 +88,14 @@ impl Manager {
             self.version += 1;
         }
         Ok(note)
+    }
+
+    // Whether what a process of the cluster tells comes in another round than the manager's.
+    fn is_stale(&self, pid: Pid, round: u32) -> bool
+        ensures stale { IsTrue result → (pid < size_of self.now) × (round ≢ self.now.round) }
+        ensures current { result ≡ false → pid < size_of self.now → round ≡ self.now.round }
+    {
+        pid.index() < self.records.n() && round != self.round
     }
 
     /// Hands in the output of a process with the number `seq`, which it made in interval `x`. It is released where `x` is
@@ -118,27 +127,8 @@ impl Manager {
         if round != self.round {
             return Err(OutputError::Stale { round: self.round });
         }
-        let place = self.records.recovery().get(pid);
         let log = &mut self.logs[pid.index()];
-        let next = log.next() as u64;
-        if seq < next {
-            return if log.is_at(seq as usize, x, bytes) {
-                Ok(OutputNote::Known)
-            } else {
-                Err(OutputError::Differs)
-            };
-        }
-        if seq > next {
-            return Err(OutputError::Gap(next));
-        }
-        if !log.is_up_to(x) {
-            return Err(OutputError::Differs);
-        }
-        match log.push(alloc, x, bytes) {
-            Err(_) => Err(OutputError::Memory),
-            Ok(()) if x <= place => Ok(OutputNote::Released),
-            Ok(()) => Ok(OutputNote::Held),
-        }
+        log.note(alloc, seq, x, bytes)
     }
 }
 

@@ -1,7 +1,8 @@
-ghost use Rattle.std.specs.Prelude.{◌≡◌, ℕ, ◌<◌, ◌≤◌, ◌↔◌, [], length, map, slice_get, IsTrue, OnOk, OnErr, All, Some};
+ghost use Rattle.std.specs.Prelude.{◌≡◌, ◌<◌, ◌≤◌, ◌↔◌, [], length, map, slice_get, IsTrue, OnOk, OnErr, Some};
 ghost use Rattle.om_manager.specs.Outputs.{held_of, within, AreNumbered};
-ghost use Rattle.om_manager.specs.steps.OutputLog.{log_with, log_to, log_within};
+ghost use Rattle.om_manager.specs.steps.OutputLog.{log_with, log_to, log_within, IsUpTo, LogNotes};
 
+use crate::answers::{OutputError, OutputNote};
 use std::alloc::{AllocError, Global};
 use std::marker::Model;
 
@@ -58,25 +59,56 @@ impl OutputLog {
         self.items.len()
     }
 
-    /// Whether the output of this number is of this interval and has these bytes.
-    pub fn is_at(&self, seq: usize, interval: u32, bytes: &[u8]) -> bool
+    /// Takes the output that is offered under the number `seq`: the next one is added, and an earlier one has to be there.
+    pub fn note(
+        &mut self,
+        alloc: Global,
+        seq: u64,
+        interval: u32,
+        bytes: &[u8],
+    ) -> Result<OutputNote, OutputError>
+        ensures { LogNotes self.old seq (record { interval = interval; bytes = bytes.now }) result self.new }
+    {
+        let next = self.next() as u64;
+        if seq < next {
+            return if self.is_at(seq as usize, interval, bytes) {
+                Ok(OutputNote::Known)
+            } else {
+                Err(OutputError::Differs)
+            };
+        }
+        if seq > next {
+            return Err(OutputError::Gap(next));
+        }
+        if !self.is_up_to(interval) {
+            return Err(OutputError::Differs);
+        }
+        match self.push(alloc, interval, bytes) {
+            Err(_) => Err(OutputError::Memory),
+            Ok(()) if interval <= self.limit => Ok(OutputNote::Released),
+            Ok(()) => Ok(OutputNote::Held),
+        }
+    }
+
+    // Whether the output of this number is of this interval and has these bytes.
+    fn is_at(&self, seq: usize, interval: u32, bytes: &[u8]) -> bool
         requires { seq < length self.now.held }
         ensures { IsTrue result ↔ (slice_get self.now.held seq ≡ Some (record { interval = interval; bytes = bytes.now })) }
     {
         is_output(&self.items[seq], interval, bytes)
     }
 
-    /// Whether no output was made after this interval.
-    pub fn is_up_to(&self, interval: u32) -> bool
-        ensures { IsTrue result ↔ All (λ output. output.interval ≤ interval) self.now.held }
+    // Whether no output was made after this interval.
+    fn is_up_to(&self, interval: u32) -> bool
+        ensures { IsTrue result ↔ IsUpTo self.now interval }
     {
         let next = self.items.len();
         next == 0 || self.items[next - 1].interval <= interval
     }
 
-    /// Keeps one output more.
-    pub fn push(&mut self, alloc: Global, interval: u32, bytes: &[u8]) -> Result<(), AllocError>
-        requires { All (λ output. output.interval ≤ interval) self.old.held }
+    // Keeps one output more.
+    fn push(&mut self, alloc: Global, interval: u32, bytes: &[u8]) -> Result<(), AllocError>
+        requires { IsUpTo self.old interval }
         ensures ok { OnOk result (self.new ≡ log_with self.old (record { interval = interval; bytes = bytes.now })) }
         ensures err { OnErr result (self.new ≡ self.old) }
     {
