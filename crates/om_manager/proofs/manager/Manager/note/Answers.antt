@@ -23,9 +23,11 @@ returns-in-Err-clause-answer c =
     let current = subst (λ (m : ManagerState). c.args.row.pid < size_of m → c.args.round ≡ m.round) (sym c.self.view_is) (c.is_stale.ensures.current c.if-is_stale.false) in
     subst (λ (m : ManagerState). Notes m c.args.round c.args.row (Err (Refused c.in-Err.fault)) new) c.self.view_is (note_refused _ _ _ _ _ _ _ _ _ _ _ _ current c.in-Err.ensures.answer c.in-Err.ensures.raised)
 
+pub invariant_of-self : goal.invariant_of-self
+invariant_of-self c = parts_level _ _ _ _ _ _ _ _ _ c.self.invariant c.note.ensures.sound c.in-Err.ensures.raised
+
 pub returns-in-Err-clause-sound : goal.returns-in-Err-clause-sound
-returns-in-Err-clause-sound c =
-    whole _ _ _ _ _ _ _ _ (parts_level _ _ _ _ _ _ _ _ _ c.self.invariant c.note.ensures.sound c.in-Err.ensures.raised)
+returns-in-Err-clause-sound c = whole _ _ _ _ _ _ _ _ (invariant_of-self c)
 
 pub returns-in-Err-clause-front : goal.returns-in-Err-clause-front
 returns-in-Err-clause-front c =
@@ -51,10 +53,13 @@ returns-else-eq-clause-answer c =
     let level : c.in-Ok.note ≢ Noted true = search rules in
     subst (λ (m : ManagerState). Notes m c.args.round c.args.row (Ok c.in-Ok.note) new) c.self.view_is (note_level _ _ _ _ _ _ _ _ _ _ _ _ current c.in-Ok.ensures.answer c.in-Ok.ensures.raised level)
 
-pub returns-else-eq-clause-sound : goal.returns-else-eq-clause-sound
-returns-else-eq-clause-sound c =
+pub invariant_of-self-else-eq : goal.invariant_of-self-else-eq
+invariant_of-self-else-eq c =
     let level : c.in-Ok.note ≢ Noted true = search rules in
-    whole _ _ _ _ _ _ _ _ (parts_level _ _ _ _ _ _ _ _ _ c.self.invariant c.note.ensures.sound (level_state _ _ _ c.in-Ok.ensures.raised level))
+    parts_level _ _ _ _ _ _ _ _ _ c.self.invariant c.note.ensures.sound (level_state _ _ _ c.in-Ok.ensures.raised level)
+
+pub returns-else-eq-clause-sound : goal.returns-else-eq-clause-sound
+returns-else-eq-clause-sound c = whole _ _ _ _ _ _ _ _ (invariant_of-self-else-eq c)
 
 pub returns-else-eq-clause-front : goal.returns-else-eq-clause-front
 returns-else-eq-clause-front c =
