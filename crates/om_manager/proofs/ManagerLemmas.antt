@@ -15,6 +15,7 @@ use Rattle.om_interval.proofs.VectorLemmas.{sum_falls, below_through, below_itse
 use Rattle.om_manager.specs.Outputs.{HeldOutput, AreRising, within}
 use Rattle.om_manager.proofs.LogLemmas.{within_begins, within_higher, within_within, within_push, same_begins}
 use mathlib.Core.List.{IsPrefix}
+use Rattle.std.specs.Option.{is_some}
 use Rattle.om_manager.specs.Rounds.{Finishes}
 use Rattle.om_manager.specs.steps.OutputLog.{LogState, log_with, log_within, IsUpTo, MayPush, Clashes, LogNotes}
 use Rattle.om_manager.specs.State.{ManagerState, held_by, released_by, open_count}
@@ -41,9 +42,13 @@ numbered_place kept sound p below =
     let has = (record_of_stable kept.rows p (slice_index kept.state p) (sound.greatest.recoverable.stable p below)).1 in
     omega (arith, sound.lawful.numbered has.row has.there, has.interval_is)
 
-one_open : (gathering : Option (List Presence)) → open_count gathering ≤ 1
+pub one_open : (gathering : Option (List Presence)) → open_count gathering ≤ 1
 one_open None = omega arith
 one_open (Some presences) = omega arith
+
+pub none_open : (gathering : Option (List Presence)) → is_some gathering ≡ false → open_count gathering ≡ 0
+none_open None closed = refl
+none_open (Some presences) closed = absurd (cc)
 
 -- the version never reaches the end of its 64 bits
 pub room_for_version : (kept : Kept) (round : ℕ) (gathering : Option (List Presence)) (version : ℕ) → IsSound kept → length kept.state ≤ MAX_PROCESSES → AreRounds kept.state round gathering version → version + 1 < 18446744073709551616
@@ -110,6 +115,20 @@ parts_raised kept after logs new starts round gathering last backs version parts
 -- the manager that has these parts
 abbrev pub made_of : Kept → List LogState → List (List ℕ) → ℕ → Option (List Presence) → List ℕ → List Bool → ℕ → ManagerState
 made_of kept logs starts round gathering last backs version = record { rows = kept.rows; recovery = kept.state; outputs = map (λ (log : LogState). log.held) logs; starts = starts; round = round; gathering = gathering; last = last; backs = backs; version = version }
+
+-- the parts where a gathering is open, and the version has told that it opened
+pub parts_gathering : (kept : Kept) (logs : List LogState) (starts : List (List ℕ)) (round : ℕ) (gathering : Option (List Presence)) (last : List ℕ) (backs : List Bool) (version told : ℕ) (presences : List Presence)
+    → AreParts kept logs starts round gathering last backs version → round + 1 < 2 ^ 32 → told ≤ version + 1 - open_count gathering → AreParts kept logs starts round (Some presences) last backs told
+parts_gathering kept logs starts round gathering last backs version told presences parts room bound = record {
+  some = parts.some;
+  few = parts.few;
+  records = parts.records;
+  limits = parts.limits;
+  rising = parts.rising;
+  begun = parts.begun;
+  rounds = record { numbered = parts.rounds.numbered; room = room; bounded = let most = one_open gathering in omega (arith, parts.rounds.bounded) };
+  last = parts.last;
+}
 
 -- what the parts say of the whole
 pub whole : (kept : Kept) (logs : List LogState) (starts : List (List ℕ)) (round : ℕ) (gathering : Option (List Presence)) (last : List ℕ) (backs : List Bool) (version : ℕ) → AreParts kept logs starts round gathering last backs version
