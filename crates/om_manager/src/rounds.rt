@@ -1,9 +1,10 @@
-ghost use Rattle.std.specs.Prelude.{◌≡◌, ◌+◌, ◌<◌, ◌^◌, map, OnOk, OnErr, Ok};
+ghost use Rattle.std.specs.Prelude.{◌≡◌, ◌+◌, ◌<◌, ◌^◌, map, IfOk, OnOk, OnErr, Ok, Err};
 ghost use Rattle.om_interval.specs.Vectors.{IsBelow};
-ghost use Rattle.om_manager.specs.Gatherings.{AreAllIn};
+ghost use Rattle.om_manager.specs.declared.answers.FailError.TheVariants.{Spent};
+ghost use Rattle.om_manager.specs.Gatherings.{AreAllIn, presences_of};
 ghost use Rattle.om_manager.specs.State.{size_of};
 ghost use Rattle.om_manager.specs.Sound.{IsManager, GoesOn, KeepsReleased};
-ghost use Rattle.om_manager.specs.Rounds.{Failing, Joining, Finishes, Gathers};
+ghost use Rattle.om_manager.specs.Rounds.{Failing, Joining, Finishes, Gathers, IsSpent};
 ghost use Rattle.om_manager.specs.steps.OutputLog.{log_within};
 ghost use Rattle.om_interval.specs.declared.pid.TheConstants.{MAX_PROCESSES};
 
@@ -34,11 +35,7 @@ impl Manager {
         if round != self.round {
             return Err(FailError::Stale { round: self.round });
         }
-        let mut presences = match self.gathering {
-            None if self.round == u32::MAX => return Err(FailError::Spent),
-            None => [Presence::Away; MAX_PROCESSES],
-            Some(presences) => presences,
-        };
+        let mut presences = self.opened()?;
         if presences[pid.index()] == Presence::Failed {
             return Ok(Gathered::Waiting);
         }
@@ -46,6 +43,19 @@ impl Manager {
         match self.gather(alloc, &presences) {
             Ok(gathered) => Ok(gathered),
             Err(_) => Err(FailError::Memory),
+        }
+    }
+
+    // Who is in the gathering that is open, or that can be opened.
+    fn opened(&self) -> Result<[Presence; MAX_PROCESSES], FailError>
+        ensures presences { IfOk result (λ presences. presences ≡ presences_of self.now.gathering) }
+        ensures unspent { OnOk result (IsSpent self.now → ⊥) }
+        ensures spent { OnErr result ((result ≡ Err Spent) × IsSpent self.now) }
+    {
+        match self.gathering {
+            None if self.round == u32::MAX => Err(FailError::Spent),
+            None => Ok([Presence::Away; MAX_PROCESSES]),
+            Some(presences) => Ok(presences),
         }
     }
 
