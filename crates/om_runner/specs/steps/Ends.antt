@@ -24,7 +24,7 @@ pub record IsEndOf {S : Type 0} (is_clean : S → Bool) (program : Program) (lin
   pub ends : HasEnds n lines own f.ends
 
 -- a turn leaves the process the member that it is, or it has ended so
-pub IsTurned : {K S : Type 0} → (S → Bool) → Member → Turned K S → Type 0
+abbrev pub IsTurned : {K S : Type 0} → (S → Bool) → Member → Turned K S → Type 0
 IsTurned is_clean m (On place pass) = member_of place ≡ m
 IsTurned is_clean m (Over status store) = IsEnd status × (IsTrue (is_clean store) → IsStatusAlong m.program m.own m.n status)
 
