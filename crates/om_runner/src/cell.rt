@@ -1,8 +1,14 @@
+ghost use Rattle.std.specs.Prelude.{◌≡◌, [], ◌∷◌, ◌++◌, true, false};
+ghost use mathlib.Core.List.{IsPrefix};
+ghost use Rattle.crossbeam_utils.specs.Seq.{cell_view};
+ghost use Rattle.om_runner.specs.steps.Posting.{IsLog, Loads, MayStore, opened, shown_to, writer};
+
 use atomic_table::{Join, Split};
 use crossbeam_utils::atomic::seq_cell::{Pass, RuledSeqCell};
 use crossbeam_utils::rule::{Outcome, Protocol};
 use om_interval::MAX_PROCESSES;
 use std::collections::LinkedList;
+use std::sync::Wait;
 
 /// How many words a front takes: version, round, and an interval for each process that there can be.
 pub const WORDS: usize = 2 + MAX_PROCESSES;
@@ -89,3 +95,70 @@ impl Join<View> for Shows {
 pub type Cell = RuledSeqCell<[u64; WORDS], View, Posted, WORDS>;
 
 pub type Ticket = Pass<[u64; WORDS], View>;
+
+// Reads the words, by a pass that reads.
+pub(crate) fn read_words<R: Wait>(cell: &Cell, rt: &R, ticket: &mut Ticket) -> [u64; WORDS]
+    requires own { ticket.old.table_id ≡ cell.now.table.shared.table_id }
+    requires reads { (cell_view ticket.old).writes ≡ false }
+    ensures own { ticket.new.table_id ≡ ticket.old.table_id }
+    ensures loads { Loads (cell_view ticket.old) result result (cell_view ticket.new) }
+{
+    cell.load_as::<Load, R>(rt, ticket)
+}
+
+// Writes words, by the pass that writes.
+pub(crate) fn write_words<R: Wait>(cell: &Cell, rt: &R, ticket: &mut Ticket, words: [u64; WORDS])
+    requires own { ticket.old.table_id ≡ cell.now.table.shared.table_id }
+    requires may { MayStore (cell_view ticket.old) words }
+    ensures own { ticket.new.table_id ≡ ticket.old.table_id }
+    ensures view { cell_view ticket.new ≡ writer ((cell_view ticket.old).seen ++ words ∷ []) }
+    ensures log { IsLog (cell_view ticket.new).seen }
+{
+    cell.swap_as::<Store, R>(rt, ticket, words);
+}
+
+// A copy of a pass that reads.
+pub(crate) fn copy_of(cell: &Cell, ticket: &mut Ticket) -> Ticket
+    requires own { ticket.old.table_id ≡ cell.now.table.shared.table_id }
+    requires reads { (cell_view ticket.old).writes ≡ false }
+    ensures own { ticket.new.table_id ≡ ticket.old.table_id }
+    ensures same { cell_view ticket.new ≡ cell_view ticket.old }
+    ensures copy_own { result.table_id ≡ ticket.old.table_id }
+    ensures copy { cell_view result ≡ cell_view ticket.old }
+    ensures fresh { result.me.1 ≡ [] }
+{
+    cell.split_pass::<Twice>(ticket)
+}
+
+// Shows the writer the pass of a reader.
+pub(crate) fn show(cell: &Cell, ticket: &mut Ticket, other: Ticket)
+    requires own { ticket.old.table_id ≡ cell.now.table.shared.table_id }
+    requires other_own { other.table_id ≡ ticket.old.table_id }
+    requires fresh { other.me.1 ≡ [] }
+    ensures own { ticket.new.table_id ≡ ticket.old.table_id }
+    ensures view { cell_view ticket.new ≡ shown_to (cell_view ticket.old) (cell_view other) }
+{
+    cell.join_pass::<Shows>(ticket, other);
+}
+
+// The writer compares what it was shown with what it wrote.
+pub(crate) fn compare<R: Wait>(cell: &Cell, rt: &R, ticket: &mut Ticket)
+    requires own { ticket.old.table_id ≡ cell.now.table.shared.table_id }
+    requires writes { (cell_view ticket.old).writes ≡ true }
+    ensures own { ticket.new.table_id ≡ ticket.old.table_id }
+    ensures view { cell_view ticket.new ≡ writer (cell_view ticket.old).seen }
+    ensures behind { IsPrefix (cell_view ticket.old).shown (cell_view ticket.old).seen }
+{
+    cell.load_as::<Meet, R>(rt, ticket);
+}
+
+// A pass that reads, from the writer's.
+pub(crate) fn reader_of(cell: &Cell, ticket: &mut Ticket) -> Ticket
+    requires own { ticket.old.table_id ≡ cell.now.table.shared.table_id }
+    ensures own { ticket.new.table_id ≡ ticket.old.table_id }
+    ensures same { cell_view ticket.new ≡ cell_view ticket.old }
+    ensures reader_own { result.table_id ≡ ticket.old.table_id }
+    ensures reader { cell_view result ≡ opened (cell_view ticket.old) }
+{
+    cell.split_pass::<Opens>(ticket)
+}

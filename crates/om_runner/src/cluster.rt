@@ -8,7 +8,8 @@ ghost use Rattle.om_manager.specs.State.{released_by as held_within};
 ghost use Rattle.om_process.specs.Images.{program_of};
 ghost use Rattle.om_process.specs.declared.image.Image.{Image};
 ghost use Rattle.om_runner.specs.Reports.{AreAllReleased, AreAlong, AreStatusesAlong, IsEnd};
-ghost use Rattle.om_runner.specs.steps.Ends.{AreEndsOf, AreReleasedBy, IsEndOf, IsPromised};
+ghost use Rattle.om_runner.specs.steps.Ends.{AreEndsOf, AreReleasedBy, IsEndOf, IsPromised, IsTurned};
+ghost use Rattle.om_runner.specs.steps.Places.{member_of};
 ghost use Rattle.om_runner.specs.steps.Wiring.{IsWired};
 
 use crate::config::Config;
@@ -122,6 +123,41 @@ fn kills_of(alloc: Global, kills: &[(Pid, u32)], pid: Pid) -> Result<Vec<u32>, A
     Ok(own)
 }
 
+/// What a turn of a worker leads to.
+#[derive(Drop)]
+enum Turned<'a, K: Naming, S: Stable> {
+    /// There are more.
+    On(Place<'a, S>, Pass<K>),
+    /// All processes are quiet: how this one ended, and its store.
+    Over(Status, S),
+}
+
+// One turn of a worker.
+fn take_turn<'a, K: Naming, S: Stable, R: Wait>(
+    rt: &R,
+    alloc: Global,
+    worker: &mut Worker<'a, K>,
+    place: Place<'a, S>,
+    pass: Pass<K>,
+) -> Result<Turned<'a, K, S>, RunFault>
+    requires own { (member_of place).own ≡ worker.old.links.own }
+    requires size { (member_of place).n ≡ K.cell.n }
+    ensures same { worker.new.links ≡ worker.old.links }
+    ensures turned { IfOk result (λ t. IsTurned S.is_clean (member_of place.entry) t) }
+{
+    let (place, pass) = match worker.turn(rt, alloc, place, pass) {
+        Ok(turned) => turned,
+        Err(trouble) => return Err(trouble.of(worker.pid())),
+    };
+    match place {
+        Place::Over(node) => match node.end() {
+            Ok((status, store)) => Ok(Turned::Over(status, store)),
+            Err(node) => Ok(Turned::On(Place::Up(node), pass)),
+        },
+        place => Ok(Turned::On(place, pass)),
+    }
+}
+
 // The turns of a worker, until all are quiet.
 fn take_turns<'a, K: Naming, S: Stable, R: Wait>(
     rt: &R,
@@ -144,25 +180,20 @@ fn take_turns<'a, K: Naming, S: Stable, R: Wait>(
         if stop.load(SeqCst) {
             break;
         }
-        let (next, met) = match worker.turn(rt, alloc, place, pass) {
-            Ok(turned) => turned,
-            Err(trouble) => return Err(trouble.of(worker.pid())),
-        };
-        pass = met;
-        place = match next {
-            Place::Over(node) => match node.end() {
-                Ok((status, store)) => {
-                    let ends = worker.into_ends();
-                    return Ok(Finished {
-                        status,
-                        store,
-                        ends,
-                    });
-                }
-                Err(node) => Place::Up(node),
-            },
-            other => other,
-        };
+        match take_turn(rt, alloc, &mut worker, place, pass)? {
+            Turned::On(next, met) => {
+                place = next;
+                pass = met;
+            }
+            Turned::Over(status, store) => {
+                let ends = worker.into_ends();
+                return Ok(Finished {
+                    status,
+                    store,
+                    ends,
+                });
+            }
+        }
     }
     Err(RunFault::Turns(worker.pid()))
 }

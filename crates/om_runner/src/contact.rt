@@ -33,6 +33,13 @@ pub(crate) struct Limits {
     pub(crate) checkpoint: u32,
 }
 
+/// What the manager says of a finished round.
+#[derive(Drop)]
+pub(crate) struct Heard {
+    pub(crate) verdict: Verdict,
+    pub(crate) starts: Starts,
+}
+
 /// What the worker of a process knows of the manager.
 #[derive(Drop)]
 pub(crate) struct Contact<'a, K: Naming> {
@@ -243,9 +250,9 @@ impl<'a, K: Naming> Contact<'a, K> {
         rt: &R,
         alloc: Global,
         pass: Pass<K>,
-    ) -> Result<(Verdict, Starts, Pass<K>), Trouble>
+    ) -> Result<(Heard, Pass<K>), Trouble>
         ensures pid { self.new.pid ≡ self.old.pid }
-        ensures starts { IfOk result (λ heard. length heard.1 ≡ K.cell.n) }
+        ensures starts { IfOk result (λ r. length r.0.starts ≡ K.cell.n) }
     {
         let mut guard = self.shared.board.lock(rt);
         let board = &mut *guard;
@@ -256,6 +263,6 @@ impl<'a, K: Naming> Contact<'a, K> {
         let starts = manager.starts().copy(alloc)?;
         self.round = verdict.round;
         self.handed = manager.next_output(self.pid);
-        Ok((verdict, starts, pass))
+        Ok((Heard { verdict, starts }, pass))
     }
 }

@@ -3,7 +3,9 @@ ghost use mathlib.Core.List.{IsPrefix};
 ghost use Rattle.om_interval.specs.declared.pid.TheConstants.{MAX_PROCESSES};
 ghost use Rattle.om_runner.specs.Fronts.{first_front, IsAtMost, IsPosted, EndsWith, MayFollow, Follows};
 
-use crate::cell::{Cell, Load, Meet, Opens, Shows, Store, Ticket, Twice, WORDS};
+use crate::cell::{
+    Cell, Ticket, WORDS, compare, copy_of, read_words, reader_of, show, write_words,
+};
 use crate::front::Front;
 use om_interval::MAX_PROCESSES;
 use std::alloc::{AllocError, Global};
@@ -148,7 +150,7 @@ impl<K: Naming> Frontier<K> {
         ensures posted { IsPosted pass.new }
         ensures not_behind { All (λ seen. IsAtMost seen result) pass.old }
     {
-        let words = self.cell.load_as::<Load, R>(rt, &mut pass.ticket);
+        let words = read_words(&self.cell, rt, &mut pass.ticket);
         Front::from_words(self.n, &words)
     }
 }
@@ -159,7 +161,7 @@ impl<K: Naming> Writer<K> {
         ensures all { result ≡ self.old }
         ensures same { self.new ≡ self.old }
     {
-        let ticket = frontier.cell.split_pass::<Opens>(&mut self.ticket);
+        let ticket = reader_of(&frontier.cell, &mut self.ticket);
         Pass {
             ticket,
             of: PhantomData,
@@ -173,9 +175,9 @@ impl<K: Naming> Writer<K> {
         ensures same { self.new ≡ self.old }
     {
         let Pass { mut ticket, .. } = pass;
-        let copy = frontier.cell.split_pass::<Twice>(&mut ticket);
-        frontier.cell.join_pass::<Shows>(&mut self.ticket, copy);
-        frontier.cell.load_as::<Meet, R>(rt, &mut self.ticket);
+        let copy = copy_of(&frontier.cell, &mut ticket);
+        show(&frontier.cell, &mut self.ticket, copy);
+        compare(&frontier.cell, rt, &mut self.ticket);
         self.pass(frontier)
     }
 
@@ -187,9 +189,7 @@ impl<K: Naming> Writer<K> {
         ensures posted { IsPosted self.new }
     {
         if front.version != self.version {
-            frontier
-                .cell
-                .swap_as::<Store, R>(rt, &mut self.ticket, front.to_words());
+            write_words(&frontier.cell, rt, &mut self.ticket, front.to_words());
             self.version = front.version;
         }
     }

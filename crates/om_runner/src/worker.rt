@@ -5,7 +5,7 @@ ghost use Rattle.om_runner.specs.steps.Places.{member_of};
 ghost use Rattle.om_runner.specs.steps.Wiring.{HasEnds};
 
 use crate::config::Config;
-use crate::contact::{Contact, Limits, Standing};
+use crate::contact::{Contact, Heard, Limits, Standing};
 use crate::front::Front;
 use crate::frontier::{Naming, Pass};
 use crate::links::Links;
@@ -13,7 +13,7 @@ use crate::network::Ends;
 use crate::node::{Fallen, Node, has_ended};
 use crate::shared::Shared;
 use crate::trouble::Trouble;
-use om_interval::{Pid, Starts, Verdict};
+use om_interval::Pid;
 use om_process::{Accept, Status};
 use om_stable::Stable;
 use std::alloc::Global;
@@ -38,6 +38,33 @@ pub(crate) enum Place<'a, S: Stable> {
     Down(Fallen<'a, S>),
     /// All processes are quiet.
     Over(Node<'a, S>),
+}
+
+/// What a turn of a process that runs comes to.
+#[derive(Clone, Copy)]
+enum Step {
+    /// It goes on.
+    Up,
+    /// A gathering is open.
+    Called,
+    /// It fails.
+    Failed,
+    /// All processes are quiet.
+    Over,
+}
+
+impl Step {
+    // Where the process stands then.
+    fn place_of<'a, S: Stable>(self, node: Node<'a, S>) -> Place<'a, S>
+        ensures { member_of result ≡ node.entry.member }
+    {
+        match self {
+            Step::Up => Place::Up(node),
+            Step::Called => Place::Called(node),
+            Step::Failed => Place::Failed(node.fail()),
+            Step::Over => Place::Over(node),
+        }
+    }
 }
 
 /// A worker, but for its process.
@@ -73,6 +100,23 @@ fn shed<'a, S: Stable>(
         Some(limits) => node.shed(alloc, &limits.bounds, limits.checkpoint),
         None => Ok(()),
     }
+}
+
+// The process after a finished round: as it was, or rolled back.
+fn after_round<'a, S: Stable>(
+    alloc: Global,
+    node: Node<'a, S>,
+    heard: &Heard,
+) -> Result<Node<'a, S>, Trouble>
+    requires { length heard.now.starts ≡ node.member.n }
+    ensures { IfOk result (λ next. next.member ≡ node.entry.member) }
+{
+    if heard.verdict.back {
+        return node.fail().come_back(alloc, &heard.starts, &heard.verdict);
+    }
+    let mut node = node;
+    node.resume(alloc, &heard.starts, &heard.verdict)?;
+    Ok(node)
 }
 
 impl<'a, K: Naming> Worker<'a, K> {
@@ -125,21 +169,21 @@ impl<'a, K: Naming> Worker<'a, K> {
         let mut pass = pass;
         let front = self.contact.read(rt, &mut pass);
         match place {
-            Place::Up(node) => self.go_on(rt, alloc, front, node, pass),
+            Place::Up(node) => self.go_on(rt, alloc, &front, node, pass),
             Place::Called(node) => self.join(rt, alloc, node, pass),
-            Place::In(node) => self.wait_in(rt, alloc, front, node, pass),
+            Place::In(node) => self.wait_in(rt, alloc, &front, node, pass),
             Place::Failed(fallen) => self.declare(rt, alloc, fallen, pass),
-            Place::Down(fallen) => self.wait_down(rt, alloc, front, fallen, pass),
+            Place::Down(fallen) => self.wait_down(rt, alloc, &front, fallen, pass),
             Place::Over(node) => Ok((Place::Over(node), pass)),
         }
     }
 
-    // Runs the process, hands in what it has, and takes a message where it waits for one.
+    // A turn of a process that runs.
     fn go_on<S: Stable, R: Wait>(
         &mut self,
         rt: &R,
         alloc: Global,
-        front: Front,
+        front: &Front,
         node: Node<'a, S>,
         pass: Pass<K>,
     ) -> Result<(Place<'a, S>, Pass<K>), Trouble>
@@ -149,27 +193,78 @@ impl<'a, K: Naming> Worker<'a, K> {
         ensures place { IfOk result (λ r. member_of r.0 ≡ node.entry.member) }
     {
         let mut node = node;
+        let (step, pass) = self.advance(rt, alloc, front, &mut node, pass)?;
+        Ok((step.place_of(node), pass))
+    }
+
+    // Runs the process, hands in what it has, and takes a message where it waits for one.
+    fn advance<S: Stable, R: Wait>(
+        &mut self,
+        rt: &R,
+        alloc: Global,
+        front: &Front,
+        node: &mut Node<'a, S>,
+        pass: Pass<K>,
+    ) -> Result<(Step, Pass<K>), Trouble>
+        requires own { node.old.member.own ≡ self.old.links.own }
+        requires size { node.old.member.n ≡ K.cell.n }
+        ensures same { self.new.links ≡ self.old.links }
+        ensures member { node.new.member ≡ node.old.member }
+    {
+        let status = self.run(rt, alloc, node)?;
+        let (standing, pass) = self.report(rt, alloc, front, node, status, pass)?;
+        let step = match standing {
+            Standing::Closed => self.receive(rt, alloc, node, status)?,
+            Standing::Gathers => Step::Called,
+            Standing::Quiet => Step::Over,
+        };
+        Ok((step, pass))
+    }
+
+    // Runs the process, and puts what it sends. One that has ended stores all that it received.
+    fn run<S: Stable, R: Wait>(
+        &mut self,
+        rt: &R,
+        alloc: Global,
+        node: &mut Node<'a, S>,
+    ) -> Result<Status, Trouble>
+        requires own { node.old.member.own ≡ self.old.links.own }
+        requires size { node.old.member.n ≡ K.cell.n }
+        ensures same { self.new.links ≡ self.old.links }
+        ensures member { node.new.member ≡ node.old.member }
+    {
         let ran = node.run(alloc, self.plan.fuel)?;
         if ran.steps > 0 {
             self.idle = 0;
         }
         self.links.put_all(rt, alloc, node.core())?;
-        let ended = has_ended(ran.status);
-        if ended {
+        if has_ended(ran.status) {
             node.flush(alloc)?;
         }
-        if !self.contact.is_due(node.core(), &front, ended) {
-            let place = self.receive(rt, alloc, node, ran.status)?;
-            return Ok((place, pass));
+        Ok(ran.status)
+    }
+
+    // Hands in what the process has, where there is something to hand in or to learn, and says how the manager stands.
+    fn report<S: Stable, R: Wait>(
+        &mut self,
+        rt: &R,
+        alloc: Global,
+        front: &Front,
+        node: &mut Node<'a, S>,
+        status: Status,
+        pass: Pass<K>,
+    ) -> Result<(Standing, Pass<K>), Trouble>
+        requires size { node.old.member.n ≡ K.cell.n }
+        ensures same { self.new.links ≡ self.old.links }
+        ensures member { node.new.member ≡ node.old.member }
+    {
+        let ended = has_ended(status);
+        if !self.contact.is_due(node.core(), front, ended) {
+            return Ok((Standing::Closed, pass));
         }
         let (standing, limits, pass) = self.contact.meet(rt, alloc, node.core(), ended, pass)?;
-        shed(&mut node, alloc, limits)?;
-        let place = match standing {
-            Standing::Closed => self.receive(rt, alloc, node, ran.status)?,
-            Standing::Gathers => Place::Called(node),
-            Standing::Quiet => Place::Over(node),
-        };
-        Ok((place, pass))
+        shed(node, alloc, limits)?;
+        Ok((standing, pass))
     }
 
     // Takes a message, where the process waits for one.
@@ -177,29 +272,26 @@ impl<'a, K: Naming> Worker<'a, K> {
         &mut self,
         rt: &R,
         alloc: Global,
-        node: Node<'a, S>,
+        node: &mut Node<'a, S>,
         status: Status,
-    ) -> Result<Place<'a, S>, Trouble>
-        requires own { node.member.own ≡ self.old.links.own }
-        requires size { node.member.n ≡ K.cell.n }
+    ) -> Result<Step, Trouble>
         ensures same { self.new.links ≡ self.old.links }
-        ensures place { IfOk result (λ r. member_of r ≡ node.entry.member) }
+        ensures member { node.new.member ≡ node.old.member }
     {
-        let mut node = node;
         if status == Status::Waiting {
             if let Some(message) = self.links.take(rt) {
                 self.idle = 0;
                 return match node.accept(alloc, &message) {
                     Accept::Taken(x) => self.after_receipt(alloc, node, x),
                     Accept::Memory => Err(Trouble::Memory),
-                    _ => Ok(Place::Up(node)),
+                    _ => Ok(Step::Up),
                 };
             }
         }
         if status != Status::Ready {
             self.rest();
         }
-        Ok(Place::Up(node))
+        Ok(Step::Up)
     }
 
     // Counts a turn in which nothing happened.
@@ -218,17 +310,14 @@ impl<'a, K: Naming> Worker<'a, K> {
     fn after_receipt<S: Stable>(
         &mut self,
         alloc: Global,
-        node: Node<'a, S>,
+        node: &mut Node<'a, S>,
         x: u32,
-    ) -> Result<Place<'a, S>, Trouble>
-        requires own { node.member.own ≡ self.old.links.own }
-        requires size { node.member.n ≡ K.cell.n }
+    ) -> Result<Step, Trouble>
         ensures same { self.new.links ≡ self.old.links }
-        ensures place { IfOk result (λ r. member_of r ≡ node.entry.member) }
+        ensures member { node.new.member ≡ node.old.member }
     {
-        let mut node = node;
         if self.is_to_fail(x) {
-            return Ok(Place::Failed(node.fail()));
+            return Ok(Step::Failed);
         }
         if is_multiple(x, self.plan.flush) {
             node.flush(alloc)?;
@@ -236,7 +325,7 @@ impl<'a, K: Naming> Worker<'a, K> {
         if is_multiple(x, self.plan.checkpoint) {
             node.checkpoint(alloc)?;
         }
-        Ok(Place::Up(node))
+        Ok(Step::Up)
     }
 
     // Whether the process is to fail in this interval, which is then done with.
@@ -266,10 +355,25 @@ impl<'a, K: Naming> Worker<'a, K> {
         ensures place { IfOk result (λ r. member_of r.0 ≡ node.entry.member) }
     {
         let mut node = node;
+        let pass = self.enter(rt, alloc, &mut node, pass)?;
+        Ok((Place::In(node), pass))
+    }
+
+    fn enter<S: Stable, R: Wait>(
+        &mut self,
+        rt: &R,
+        alloc: Global,
+        node: &mut Node<'a, S>,
+        pass: Pass<K>,
+    ) -> Result<Pass<K>, Trouble>
+        requires size { node.old.member.n ≡ K.cell.n }
+        ensures same { self.new.links ≡ self.old.links }
+        ensures member { node.new.member ≡ node.old.member }
+    {
         node.flush(alloc)?;
         let (limits, pass) = self.contact.join(rt, alloc, node.core(), pass)?;
-        shed(&mut node, alloc, limits)?;
-        Ok((Place::In(node), pass))
+        shed(node, alloc, limits)?;
+        Ok(pass)
     }
 
     // Tells the manager that the process failed.
@@ -280,8 +384,6 @@ impl<'a, K: Naming> Worker<'a, K> {
         fallen: Fallen<'a, S>,
         pass: Pass<K>,
     ) -> Result<(Place<'a, S>, Pass<K>), Trouble>
-        requires own { fallen.own ≡ self.old.links.own }
-        requires size { fallen.n ≡ K.cell.n }
         ensures same { self.new.links ≡ self.old.links }
         ensures place { IfOk result (λ r. member_of r.0 ≡ fallen.entry) }
     {
@@ -294,27 +396,20 @@ impl<'a, K: Naming> Worker<'a, K> {
         &mut self,
         rt: &R,
         alloc: Global,
-        front: Front,
+        front: &Front,
         node: Node<'a, S>,
         pass: Pass<K>,
     ) -> Result<(Place<'a, S>, Pass<K>), Trouble>
-        requires own { node.member.own ≡ self.old.links.own }
         requires size { node.member.n ≡ K.cell.n }
         ensures same { self.new.links ≡ self.old.links }
         ensures place { IfOk result (λ r. member_of r.0 ≡ node.entry.member) }
     {
-        if !self.contact.is_behind(&front) {
-            thread::yield_now();
-            return Ok((Place::In(node), pass));
-        }
-        let (verdict, starts, pass) = self.hear(rt, alloc, pass)?;
-        let mut node = node;
-        if verdict.back {
-            let node = node.fail().come_back(alloc, &starts, &verdict)?;
-            return Ok((Place::Up(node), pass));
-        }
-        node.resume(alloc, &starts, &verdict)?;
-        Ok((Place::Up(node), pass))
+        let (heard, pass) = self.listen(rt, alloc, front, pass)?;
+        let place = match heard {
+            None => Place::In(node),
+            Some(heard) => Place::Up(after_round(alloc, node, &heard)?),
+        };
+        Ok((place, pass))
     }
 
     // Waits for the round to be finished, and then comes back.
@@ -322,36 +417,41 @@ impl<'a, K: Naming> Worker<'a, K> {
         &mut self,
         rt: &R,
         alloc: Global,
-        front: Front,
+        front: &Front,
         fallen: Fallen<'a, S>,
         pass: Pass<K>,
     ) -> Result<(Place<'a, S>, Pass<K>), Trouble>
-        requires own { fallen.own ≡ self.old.links.own }
         requires size { fallen.n ≡ K.cell.n }
         ensures same { self.new.links ≡ self.old.links }
         ensures place { IfOk result (λ r. member_of r.0 ≡ fallen.entry) }
     {
-        if !self.contact.is_behind(&front) {
-            thread::yield_now();
-            return Ok((Place::Down(fallen), pass));
-        }
-        let (verdict, starts, pass) = self.hear(rt, alloc, pass)?;
-        let node = fallen.come_back(alloc, &starts, &verdict)?;
-        Ok((Place::Up(node), pass))
+        let (heard, pass) = self.listen(rt, alloc, front, pass)?;
+        let place = match heard {
+            None => Place::Down(fallen),
+            Some(heard) => { Place::Up(fallen.come_back(alloc, &heard.starts, &heard.verdict)?) }
+        };
+        Ok((place, pass))
     }
 
-    // What the manager says of the finished round. After it all that is kept is sent once more.
-    fn hear<R: Wait>(
+    // What the manager says of a round that is finished and that the process does not know yet, if there is one. After it all
+    // that is kept is sent once more.
+    fn listen<R: Wait>(
         &mut self,
         rt: &R,
         alloc: Global,
+        front: &Front,
         pass: Pass<K>,
-    ) -> Result<(Verdict, Starts, Pass<K>), Trouble>
+    ) -> Result<(Option<Heard>, Pass<K>), Trouble>
         ensures same { self.new.links ≡ self.old.links }
-        ensures starts { IfOk result (λ heard. length heard.1 ≡ K.cell.n) }
+        ensures starts { IfOk result (λ r. IfSome r.0 (λ heard. length heard.starts ≡ K.cell.n)) }
     {
+        if !self.contact.is_behind(front) {
+            thread::yield_now();
+            return Ok((None, pass));
+        }
         self.idle = 0;
         self.links.resend();
-        self.contact.hear(rt, alloc, pass)
+        let (heard, pass) = self.contact.hear(rt, alloc, pass)?;
+        Ok((Some(heard), pass))
     }
 }

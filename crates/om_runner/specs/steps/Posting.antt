@@ -70,6 +70,15 @@ Loads v before after w = (w.writes ≡ v.writes) × IsPrefix v.seen w.seen × Is
 abbrev pub Stores : View → List ℕ → List ℕ → View → Type 0
 Stores v before after w = (w ≡ writer (v.seen ++ after ∷ [])) × IsLog w.seen
 
+-- the writer may add words that grow on its last ones
+pub record MayStore (v : View) (new : List ℕ) : Type 0 where
+  pub writes : v ≡ writer v.seen
+  pub log : IsLog v.seen
+  pub last : List ℕ
+  pub ends : IsLastOf v.seen last
+  pub words : AreWords new
+  pub grows : Grows last new
+
 -- the writer's load: what it was shown begins its list
 abbrev pub Meets : View → List ℕ → List ℕ → View → Type 0
 Meets v before after w = (w ≡ writer v.seen) × IsPrefix v.shown v.seen

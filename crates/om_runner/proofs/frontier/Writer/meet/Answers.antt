@@ -1,22 +1,21 @@
-use Rattle.std.proofs.Common.{rules, sym, ap, ◌∙◌}
+use Rattle.std.proofs.Common.{sym, ap, ◌∙◌}
 use Rattle.om_runner.specs.declared.cell.View.{View}
-use Rattle.om_runner.proofs.PostingLemmas.{twins, shows, meets}
 use Rattle.om_runner.proofs.frontier.Writer.meet.Goals as goal
 
-pub split_pass-copy-requires : goal.split_pass-copy-requires
-split_pass-copy-requires g c =
-    let i = c.pass.invariant in
-    (search rules, (search rules, (i.own ∙ sym c.args.frontier.now.named, twins _ _ i.reads)))
+pub copy_of-copy-requires-clause-own : goal.copy_of-copy-requires-clause-own
+copy_of-copy-requires-clause-own g c = c.pass.invariant.own ∙ sym c.args.frontier.now.named
 
-pub join_pass-requires : goal.join_pass-requires
-join_pass-requires g c =
-    let i = c.pass.invariant in
-    let w = c.self.invariant in
-    let copy = c.split_pass-copy.ensures.given in
-    (search rules, (search rules, ((w.own ∙ sym c.args.frontier.now.named, copy.0 ∙ i.own ∙ sym w.own, copy.2), shows _ _ _ _)))
+pub copy_of-copy-requires-clause-reads : goal.copy_of-copy-requires-clause-reads
+copy_of-copy-requires-clause-reads g c = c.pass.invariant.reads
 
-pub load_as-requires : goal.load_as-requires
-load_as-requires g c =
-    let w = c.self.invariant in
-    let j = c.join_pass.ensures in
-    (search rules, (search rules, (j.0.0 ∙ w.own ∙ sym c.args.frontier.now.named, meets _ _ (ap (λ (v : View). v.writes) j.1 ∙ ap (λ (v : View). v.writes) w.writes))))
+pub show-requires-clause-own : goal.show-requires-clause-own
+show-requires-clause-own g c = c.self.invariant.own ∙ sym c.args.frontier.now.named
+
+pub show-requires-clause-other_own : goal.show-requires-clause-other_own
+show-requires-clause-other_own g c = c.copy_of-copy.ensures.copy_own ∙ c.pass.invariant.own ∙ sym c.self.invariant.own
+
+pub compare-requires-clause-own : goal.compare-requires-clause-own
+compare-requires-clause-own g c = c.show.ensures.own ∙ c.self.invariant.own ∙ sym c.args.frontier.now.named
+
+pub compare-requires-clause-writes : goal.compare-requires-clause-writes
+compare-requires-clause-writes g c = ap (λ (v : View). v.writes) c.show.ensures.view ∙ ap (λ (v : View). v.writes) c.self.invariant.writes

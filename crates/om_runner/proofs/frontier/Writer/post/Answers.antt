@@ -1,15 +1,17 @@
-use Rattle.std.proofs.Common.{◌≢◌, ◌≤◌, ◌∷◌, [], ◌++◌, length, rules, sym, ap, ◌∙◌, subst, arith}
+use Rattle.std.proofs.Common.{◌≢◌, ◌≤◌, ◌∷◌, [], ◌++◌, length, sym, ap, ◌∙◌, subst, arith}
 use Rattle.crossbeam_utils.specs.Seq.{cell_view}
 use Rattle.om_runner.specs.Fronts.{Rises, MayFollow, EndsWith, IsPosted}
 use Rattle.om_runner.specs.Fronts.Follows.{above}
 use Rattle.om_runner.specs.declared.cell.View.{View}
 use Rattle.om_runner.specs.steps.Posting.{Grows, words_in, fronts_in}
-use Rattle.om_runner.proofs.PostingLemmas.{stores_as}
 use Rattle.om_runner.proofs.FrontLemmas.{ends_with, rises_above, words_grow, added_in, posted_in}
 use Rattle.om_runner.proofs.frontier.Writer.post.Goals as goal
 
-pub swap_as-requires : goal.swap_as-requires
-swap_as-requires g c =
+pub write_words-requires-clause-own : goal.write_words-requires-clause-own
+write_words-requires-clause-own g c = c.self.invariant.own ∙ sym c.args.frontier.now.named
+
+pub write_words-requires-clause-may : goal.write_words-requires-clause-may
+write_words-requires-clause-may g c =
     let w = c.self.invariant in
     let n = g.K.Naming.cell.n in
     let front = c.args.front.now in
@@ -19,7 +21,7 @@ swap_as-requires g c =
     let up : Rises w.front front = rises_above _ w.front front ends apart may in
     let few : length w.front.vec ≤ 16 = omega (arith, w.places, c.args.frontier.now.sized, c.args.frontier.now.within) in
     let grows = subst (Grows (words_in w.front)) (sym c.to_words.ensures.words) (words_grow w.front front few up) in
-    (search rules, (search rules, (w.own ∙ sym c.args.frontier.now.named, stores_as _ _ (words_in w.front) c.to_words.result w.writes w.last w.log c.to_words.ensures.spelled grows)))
+    record { writes = w.writes; log = w.log; last = words_in w.front; ends = w.last; words = c.to_words.ensures.spelled; grows = grows }
 
 pub returns-then-front-self-clause-follows : goal.returns-then-front-self-clause-follows
 returns-then-front-self-clause-follows g c =
@@ -31,12 +33,12 @@ returns-then-front-self-clause-follows g c =
     let may = subst (λ l. MayFollow l front) (sym c.self.view_is) c.requires.may in
     let apart : w.front.version ≢ front.version = λ e. c.if-front-self.true (sym e ∙ sym w.version_is) in
     let up : Rises w.front front = rises_above _ w.front front ends apart may in
-    let view_is = c.swap_as.ensures.rule.0 in
+    let view_is = c.write_words.ensures.view in
     let added = ap (λ (v : View). fronts_in n v.seen) view_is ∙ added_in n seen c.to_words.result front c.to_words.ensures.words c.requires.places in
     above w.front (subst (λ l. EndsWith l w.front) c.self.view_is ends) up (added ∙ ap (λ l. l ++ front ∷ []) c.self.view_is)
 
 pub returns-then-front-self-clause-posted : goal.returns-then-front-self-clause-posted
-returns-then-front-self-clause-posted g c = posted_in g.K.Naming.cell.n _ c.swap_as.ensures.rule.1
+returns-then-front-self-clause-posted g c = posted_in g.K.Naming.cell.n _ c.write_words.ensures.log
 
 pub returns-else-front-self-clause-posted : goal.returns-else-front-self-clause-posted
 returns-else-front-self-clause-posted g c = subst IsPosted c.self.view_is (posted_in g.K.Naming.cell.n _ c.self.invariant.log)
