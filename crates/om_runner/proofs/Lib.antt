@@ -1,5 +1,6 @@
 pub mod OrderLemmas
 pub mod PostingLemmas
+pub mod BoardLemmas
 pub mod FrontLemmas
 mod OnWay
 mod LinkLemmas
