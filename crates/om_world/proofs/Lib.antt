@@ -17,6 +17,7 @@ pub mod Resending
 pub mod Resuming
 pub mod Returned
 pub mod Returning
+pub mod Standing
 pub mod Starting
 pub mod TakenDown
 pub mod Telling
