@@ -1,5 +1,5 @@
 -- Where a process stands: its number, and its core where it is up.
-use Rattle.std.proofs.Common.{◌≡◌, ℕ, ◌<◌, List, length, map, Some, sym, subst, arith, ◌∙◌}
+use Rattle.std.proofs.Common.{◌≡◌, ℕ, ◌<◌, List, get_or, length, map, Some, sym, subst, arith, refl, ◌∙◌}
 use Rattle.std.specs.Prelude.{slice_get}
 use Rattle.om_interval.specs.declared.pid.TheConstants.{MAX_PROCESSES}
 use Rattle.om_manager.specs.State as managers
@@ -9,34 +9,45 @@ use Rattle.om_world.specs.Changes.{IsUp}
 use Rattle.om_world.specs.World.{WorldState}
 use Rattle.om_world.specs.steps.Moves.{HasCore}
 use Rattle.om_world.specs.steps.Sound.{IsWorld}
-use Rattle.om_world.proofs.Lists.{inside, length-map}
+use Rattle.om_world.proofs.Lists.{inside, length-map, lent_at}
 
-pub up_here : (w v : WorldState) (p : ℕ) → w ≡ v → IsUp v p → IsUp w p
-up_here w v p e up = subst (λ (x : WorldState). IsUp x p) (sym e) up
+-- what is seen of a world is what its parts are
+module _ {S : Type 0} (IsSound : S → Type 0) (xs : List S) (w v : WorldState) (p : ℕ) (i : IsWorld IsSound xs w) (e : w ≡ v) where
+  -- there is such a process
+  module _ (within : p < length v.programs) where
+    here : p < length w.programs
+    here = subst (λ (x : WorldState). p < length x.programs) (sym e) within
 
--- the process has a place
-module _ {S : Type 0} (IsSound : S → Type 0) (xs : List S) (w v : WorldState) (p : ℕ) (place : Place) (i : IsWorld IsSound xs w) (e : w ≡ v) (at : slice_get v.places p ≡ Some place) where
-  pub there_at : p < length w.programs
-  there_at =
-      let in_places = inside w.places p place (subst (λ (x : WorldState). slice_get x.places p ≡ Some place) (sym e) at) in
-      subst (λ n. p < n) i.shape.places in_places
+    pub few : p < MAX_PROCESSES
+    few = let lt = here in let le = i.shape.few in omega arith
 
-  pub few_at : p < MAX_PROCESSES
-  few_at = let within = there_at in let few = i.shape.few in omega arith
+    pub known : p < managers.size_of w.manager
+    known = subst (λ n. p < n) (sym i.shape.size) here
 
-  pub known_at : p < managers.size_of w.manager
-  known_at = subst (λ n. p < n) (sym i.shape.size) there_at
+    pub in_rounds : (n : ℕ) → n ≡ length w.rounds → p < n
+    in_rounds n long = subst (λ n. p < n) (sym (long ∙ i.shape.rounds)) here
 
-  pub round_at : (n : ℕ) → n ≡ length w.rounds → p < n
-  round_at n long = subst (λ n. p < n) (sym (long ∙ i.shape.rounds)) there_at
+    pub in_places : (n : ℕ) → n ≡ length w.places → p < n
+    in_places n long = subst (λ n. p < n) (sym (long ∙ i.shape.places)) here
 
-  pub place_at : (n : ℕ) → n ≡ length w.places → p < n
-  place_at n long = subst (λ n. p < n) (sym (long ∙ i.shape.places)) there_at
+    pub in_cores : (n : ℕ) → n ≡ length w.cores → p < n
+    in_cores n long = subst (λ n. p < n) (sym (long ∙ i.shape.cores)) here
 
-  pub store_at : (content : S → Content) → w.contents ≡ map content xs → p < length xs
-  store_at content is = subst (λ n. p < n) (sym i.shape.stores ∙ subst (λ l. length l ≡ length xs) (sym is) (length-map content xs)) there_at
+    pub in_stores : (content : S → Content) → w.contents ≡ map content xs → p < length xs
+    in_stores content is = subst (λ n. p < n) (sym i.shape.stores ∙ subst (λ l. length l ≡ length xs) (sym is) (length-map content xs)) here
 
--- the process is up
-module _ {S : Type 0} (IsSound : S → Type 0) (xs : List S) (w v : WorldState) (p : ℕ) (i : IsWorld IsSound xs w) (e : w ≡ v) (up : IsUp v p) where
-  pub core_up : HasCore w.cores p
-  core_up = i.shape.there p (up_here w v p e up)
+    -- its place, as it was read
+    pub placed_at : (read place : Place) → read ≡ get_or w.places p read → read ≡ place → slice_get v.places p ≡ Some place
+    placed_at read place at is =
+        let there = lent_at w.places p read (in_places (length w.places) refl) at in
+        subst (λ (x : WorldState). slice_get x.places p ≡ Some place) e (subst (λ x. slice_get w.places p ≡ Some x) is there)
+
+  -- who has a place is there
+  pub there_at : (place : Place) → slice_get v.places p ≡ Some place → p < length v.programs
+  there_at place at =
+      let lt = inside w.places p place (subst (λ (x : WorldState). slice_get x.places p ≡ Some place) (sym e) at) in
+      subst (λ (x : WorldState). p < length x.programs) e (subst (λ n. p < n) i.shape.places lt)
+
+  -- the process is up
+  pub core_up : IsUp v p → HasCore w.cores p
+  core_up up = i.shape.there p (subst (λ (x : WorldState). IsUp x p) (sym e) up)
