@@ -7,6 +7,7 @@ pub mod Keeping
 pub mod Kept
 pub mod Lists
 pub mod Moved
+pub mod NotRunning
 pub mod Noting
 pub mod Ordered
 pub mod Playing
