@@ -1,4 +1,4 @@
-use Rattle.std.proofs.Common.{◌≡◌, ◌∙◌, ◌++◌, ◌∷◌, [], ap, sym, subst, slice_get, Some, Err, map, rules, refl}
+use Rattle.std.proofs.Common.{◌≡◌, ◌<◌, ◌∙◌, ◌++◌, ◌∷◌, [], ap, sym, subst, slice_get, Some, Err, map, rules, refl}
 use Rattle.om_process.specs.declared.accept.Accept.TheVariants as accepts
 use Rattle.om_world.specs.declared.event.Event.{Event}
 use Rattle.om_world.specs.declared.event.Refusal.TheVariants as refusals
@@ -17,7 +17,7 @@ use Rattle.om_world.proofs.world.World.give.Goals as goal
 pub returns-in_err-entry-clause-happened : goal.returns-in_err-entry-clause-happened
 returns-in_err-entry-clause-happened g c =
     let s = c.self.inside in
-    let frame : slice_get s.frames.items c.args.f ≡ Some c.index-message.result.now = search (rules, lent_at) in
+    let frame : slice_get s.frames.items c.args.f ≡ Some c.index-message.result.now = lent_at _ c.args.f _ (subst (λ n. c.args.f < n) (c.len.ensures ∙ c.self.inside.frames.ok.0) c.if-f-len.false) c.index-message.ensures in
     let is : c.from_residual-in_err-entry.result ≡ Err refusals.Memory = search rules in
     let up = subst (λ (w : WorldState). IsUp w c.args.p) (sym c.self.view_is) c.in_ok-is_up.ensures.up in
     subst (λ (w : WorldState). Happened w (Event.Give c.args.p c.args.f) (answered c.from_residual-in_err-entry.result) w) c.self.view_is
@@ -26,7 +26,7 @@ returns-in_err-entry-clause-happened g c =
 pub returns-in_err-make_room-clause-happened : goal.returns-in_err-make_room-clause-happened
 returns-in_err-make_room-clause-happened g c =
     let s = c.self.inside in
-    let frame : slice_get s.frames.items c.args.f ≡ Some c.index-message.result.now = search (rules, lent_at) in
+    let frame : slice_get s.frames.items c.args.f ≡ Some c.index-message.result.now = lent_at _ c.args.f _ (subst (λ n. c.args.f < n) (c.len.ensures ∙ c.self.inside.frames.ok.0) c.if-f-len.false) c.index-message.ensures in
     let is : c.from_residual-in_err-make_room.result ≡ Err refusals.Memory = search rules in
     let up = subst (λ (w : WorldState). IsUp w c.args.p) (sym c.self.view_is) c.in_ok-is_up.ensures.up in
     let w : WorldState = record { programs = map program_of s.images.items; live = s.live.entries; frames = s.frames.items; cores = s.cores.items; places = s.places.items; rounds = s.rounds.items; manager = s.manager; contents = map g.S.Stable.content s.stores.items; clean = map g.S.Stable.is_clean s.stores.items; origins = map g.S.Stable.content s.origins.value.items } in
@@ -35,7 +35,7 @@ returns-in_err-make_room-clause-happened g c =
 
 pub invariant_of-self-in-Taken : goal.invariant_of-self-in-Taken
 invariant_of-self-in-Taken g c =
-    let frame : slice_get c.self.inside.frames.items c.args.f ≡ Some c.index-message.result.now = search (rules, lent_at) in
+    let frame : slice_get c.self.inside.frames.items c.args.f ≡ Some c.index-message.result.now = lent_at _ c.args.f _ (subst (λ n. c.args.f < n) (c.len.ensures ∙ c.self.inside.frames.ok.0) c.if-f-len.false) c.index-message.ensures in
     let up = subst (λ (w : WorldState). IsUp w c.args.p) (sym c.self.view_is) c.in_ok-is_up.ensures.up in
     after_give _ _ _ c.args.p c.args.f c.in-Taken.x c.index-message.result.now c.in_ok-entry.entry c.offer_at.new.cores.items c.add.new.self.entries c.self.invariant up frame c.in_ok-entry.ensures
     (subst (λ a. IsOffered c.self.inside.cores.items c.args.p c.index-message.result.now a c.offer_at.new.cores.items) c.in-Taken.is c.offer_at.ensures)
@@ -44,7 +44,7 @@ invariant_of-self-in-Taken g c =
 pub returns-in-Taken-clause-happened : goal.returns-in-Taken-clause-happened
 returns-in-Taken-clause-happened g c =
     let s = c.self.inside in
-    let frame : slice_get s.frames.items c.args.f ≡ Some c.index-message.result.now = search (rules, lent_at) in
+    let frame : slice_get s.frames.items c.args.f ≡ Some c.index-message.result.now = lent_at _ c.args.f _ (subst (λ n. c.args.f < n) (c.len.ensures ∙ c.self.inside.frames.ok.0) c.if-f-len.false) c.index-message.ensures in
     let up = subst (λ (w : WorldState). IsUp w c.args.p) (sym c.self.view_is) c.in_ok-is_up.ensures.up in
     let w : WorldState = record { programs = map program_of s.images.items; live = s.live.entries; frames = s.frames.items; cores = s.cores.items; places = s.places.items; rounds = s.rounds.items; manager = s.manager; contents = map g.S.Stable.content s.stores.items; clean = map g.S.Stable.is_clean s.stores.items; origins = map g.S.Stable.content s.origins.value.items } in
     subst (λ (v : WorldState). GiveHappened v c.args.p c.args.f (accepts.Taken c.in-Taken.x) (remade w c.add.new.self.entries w.frames c.offer_at.new.cores.items w.manager w.contents w.clean)) c.self.view_is
@@ -55,7 +55,7 @@ returns-in-Taken-clause-happened g c =
 pub returns-in-Memory-clause-happened : goal.returns-in-Memory-clause-happened
 returns-in-Memory-clause-happened g c =
     let s = c.self.inside in
-    let frame : slice_get s.frames.items c.args.f ≡ Some c.index-message.result.now = search (rules, lent_at) in
+    let frame : slice_get s.frames.items c.args.f ≡ Some c.index-message.result.now = lent_at _ c.args.f _ (subst (λ n. c.args.f < n) (c.len.ensures ∙ c.self.inside.frames.ok.0) c.if-f-len.false) c.index-message.ensures in
     let up = subst (λ (w : WorldState). IsUp w c.args.p) (sym c.self.view_is) c.in_ok-is_up.ensures.up in
     let w : WorldState = record { programs = map program_of s.images.items; live = s.live.entries; frames = s.frames.items; cores = s.cores.items; places = s.places.items; rounds = s.rounds.items; manager = s.manager; contents = map g.S.Stable.content s.stores.items; clean = map g.S.Stable.is_clean s.stores.items; origins = map g.S.Stable.content s.origins.value.items } in
     let o = subst (λ a. IsOffered s.cores.items c.args.p c.index-message.result.now a c.offer_at.new.cores.items) c.in-Memory.is c.offer_at.ensures in
@@ -66,7 +66,7 @@ returns-in-Memory-clause-happened g c =
 pub returns-in_default-clause-happened : goal.returns-in_default-clause-happened
 returns-in_default-clause-happened g c =
     let s = c.self.inside in
-    let frame : slice_get s.frames.items c.args.f ≡ Some c.index-message.result.now = search (rules, lent_at) in
+    let frame : slice_get s.frames.items c.args.f ≡ Some c.index-message.result.now = lent_at _ c.args.f _ (subst (λ n. c.args.f < n) (c.len.ensures ∙ c.self.inside.frames.ok.0) c.if-f-len.false) c.index-message.ensures in
     let up = subst (λ (w : WorldState). IsUp w c.args.p) (sym c.self.view_is) c.in_ok-is_up.ensures.up in
     let w : WorldState = record { programs = map program_of s.images.items; live = s.live.entries; frames = s.frames.items; cores = s.cores.items; places = s.places.items; rounds = s.rounds.items; manager = s.manager; contents = map g.S.Stable.content s.stores.items; clean = map g.S.Stable.is_clean s.stores.items; origins = map g.S.Stable.content s.origins.value.items } in
     subst (λ (v : WorldState). GiveHappened v c.args.p c.args.f c.offer_at.result (remade w c.make_room.new.self.entries w.frames c.offer_at.new.cores.items w.manager w.contents w.clean)) c.self.view_is
