@@ -1,15 +1,20 @@
 -- Where a process stands: its number, and its core where it is up.
-use Rattle.std.proofs.Common.{◌≡◌, ℕ, ◌<◌, List, get_or, length, map, Some, sym, subst, arith, refl, ◌∙◌}
+use Rattle.std.proofs.Common.{◌≡◌, ℕ, ◌<◌, List, get_or, length, map, Some, sym, ap, subst, arith, refl, ◌∙◌}
 use Rattle.std.specs.Prelude.{slice_get}
 use Rattle.om_interval.specs.declared.pid.TheConstants.{MAX_PROCESSES}
 use Rattle.om_manager.specs.State as managers
 use Rattle.om_stable.specs.Content.{Content}
 use Rattle.om_world.specs.declared.place.Place.{Place}
 use Rattle.om_world.specs.Changes.{IsUp}
-use Rattle.om_world.specs.World.{WorldState}
+use Rattle.om_process.specs.declared.image.Image.{Image}
+use Rattle.om_world.specs.World.{WorldState, program_of}
 use Rattle.om_world.specs.steps.Moves.{HasCore}
 use Rattle.om_world.specs.steps.Sound.{IsWorld}
 use Rattle.om_world.proofs.Lists.{inside, length-map, lent_at}
+
+-- how many processes are seen is how many images there are
+pub size_seen : (images : List Image) (w v : WorldState) (n : ℕ) → w ≡ v → w.programs ≡ map program_of images → n ≡ length images → n ≡ length v.programs
+size_seen images w v n e is long = long ∙ sym (length-map program_of images) ∙ ap length (sym is ∙ ap (λ (x : WorldState). x.programs) e)
 
 -- what is seen of a world is what its parts are
 module _ {S : Type 0} (IsSound : S → Type 0) (xs : List S) (w v : WorldState) (p : ℕ) (i : IsWorld IsSound xs w) (e : w ≡ v) where
