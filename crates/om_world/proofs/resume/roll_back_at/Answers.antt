@@ -1,4 +1,4 @@
-use Rattle.std.proofs.Common.{◌≡◌, ◌∙◌, ap, length, refl, subst, sym}
+use Rattle.std.proofs.Common.{◌≡◌, ◌∙◌, ◌<◌, ap, length, refl, subst, sym}
 use Rattle.std.specs.Prelude.{slice_index}
 use Rattle.om_process.specs.Stored.{CanReplay, TheProcess}
 use Rattle.om_manager.specs.State as managers
@@ -27,3 +27,15 @@ returns-in-Err-clause-called g c =
             (subst (λ q. CanReplay (TheProcess q (managers.size_of m)) (g.S.Stable.content before) (slice_index m.last c.args.p)) (sym c.at.ensures) can))),
       );
     }
+
+pub at-requires : goal.at-requires
+at-requires g c = c.requires.few
+
+pub at-requires-2 : goal.at-requires-2
+at-requires-2 g c = c.requires.few
+
+pub verdict-verdict-requires : goal.verdict-verdict-requires
+verdict-verdict-requires g c = subst (λ q. q < managers.size_of c.args.manager.now) (sym c.at-2.ensures) c.requires.known
+
+pub index_mut-store-requires : goal.index_mut-store-requires
+index_mut-store-requires g c = subst (λ n. c.args.p < n) (sym c.args.stores.now.ok.0) c.requires.store
