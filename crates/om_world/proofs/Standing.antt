@@ -1,16 +1,25 @@
 -- Where a process stands: its number, and its core where it is up.
-use Rattle.std.proofs.Common.{◌≡◌, ℕ, ◌<◌, List, get_or, length, map, Some, sym, ap, subst, arith, refl, ◌∙◌}
+use Rattle.std.proofs.Common.{◌≡◌, ℕ, ◌<◌, List, get_or, length, map, None, Option, Some, sym, ap, subst, arith, refl, ◌∙◌}
 use Rattle.std.specs.Prelude.{slice_get}
 use Rattle.om_interval.specs.declared.pid.TheConstants.{MAX_PROCESSES}
 use Rattle.om_manager.specs.State as managers
 use Rattle.om_stable.specs.Content.{Content}
 use Rattle.om_world.specs.declared.place.Place.{Place}
 use Rattle.om_world.specs.Changes.{IsUp}
+use Rattle.om_process.specs.Core.{CoreState}
 use Rattle.om_process.specs.declared.image.Image.{Image}
 use Rattle.om_world.specs.World.{WorldState, program_of}
 use Rattle.om_world.specs.steps.Moves.{HasCore}
 use Rattle.om_world.specs.steps.Sound.{IsWorld}
-use Rattle.om_world.proofs.Lists.{inside, length-map, lent_at}
+use Rattle.om_world.proofs.Lists.{inside, length-map, lent_at, none_some, once}
+
+-- a core that is there is no None that was read
+pub core_read : (cs : List (Option CoreState)) (p : ℕ) (read : Option CoreState) → HasCore cs p → read ≡ get_or cs p read → read ≡ None → ⊥
+core_read cs p read core at none = none_some read core.0 none (once read (Some core.0) (sym (lent_at cs p read (inside cs p (Some core.0) core.1) at) ∙ core.1))
+
+-- its place is within them
+pub core_within : (cs : List (Option CoreState)) (p n : ℕ) → HasCore cs p → n ≡ length cs → p < n
+core_within cs p n core long = subst (λ k. p < k) (sym long) (inside cs p (Some core.0) core.1)
 
 -- how many processes are seen is how many images there are
 pub size_seen : (images : List Image) (w v : WorldState) (n : ℕ) → w ≡ v → w.programs ≡ map program_of images → n ≡ length images → n ≡ length v.programs

@@ -5,7 +5,7 @@ use Rattle.om_world.specs.Changes.{IsUp}
 use Rattle.om_world.specs.World.{WorldState, program_of}
 use Rattle.om_world.specs.steps.Sound.{IsWorld}
 use Rattle.om_world.proofs.Kept.{remade}
-use Rattle.om_world.proofs.Resending.{after_frames}
+use Rattle.om_world.proofs.Resending.{after_frames, frames_stay}
 use Rattle.std.proofs.Common.{◌≡◌, Err, refl, rules, subst, sym}
 use Rattle.om_world.specs.declared.event.Event.{Event}
 use Rattle.om_world.specs.declared.event.Refusal.TheVariants as refusals
@@ -17,10 +17,7 @@ use Rattle.om_world.proofs.Standing.{core_up}
 use Rattle.om_world.proofs.world.World.resend.Goals as goal
 
 pub invariant_of-self : goal.invariant_of-self
-invariant_of-self g c =
-    let s = c.self.inside in
-    let w : WorldState = record { programs = map program_of s.images.items; live = s.live.entries; frames = s.frames.items; cores = s.cores.items; places = s.places.items; rounds = s.rounds.items; manager = s.manager; contents = map g.S.Stable.content s.stores.items; clean = map g.S.Stable.is_clean s.stores.items; origins = map g.S.Stable.content s.origins.value.items } in
-    subst (λ (l : List Message). IsWorld g.S.Stable.IsSound s.stores.items (remade w w.live l w.cores w.manager w.contents w.clean)) (sym c.in_err-append.ensures.items) c.self.invariant
+invariant_of-self g c = frames_stay _ _ _ _ c.self.invariant c.in_err-append.ensures.items
 
 pub invariant_of-self-2 : goal.invariant_of-self-2
 invariant_of-self-2 g c =
