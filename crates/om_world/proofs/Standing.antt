@@ -17,6 +17,13 @@ use Rattle.om_world.proofs.Lists.{inside, length-map, lent_at, none_some, once}
 pub core_read : (cs : List (Option CoreState)) (p : ℕ) (read : Option CoreState) → HasCore cs p → read ≡ get_or cs p read → read ≡ None → ⊥
 core_read cs p read core at none = none_some read core.0 none (once read (Some core.0) (sym (lent_at cs p read (inside cs p (Some core.0) core.1) at) ∙ core.1))
 
+-- a core that was read stands in the cores that are seen
+pub core_seen : (w v : WorldState) (cs : List (Option CoreState)) (p i : ℕ) (read : Option CoreState) (core : CoreState) → w ≡ v → cs ≡ w.cores → i ≡ p → i < length cs → read ≡ get_or cs i read → read ≡ Some core
+    → slice_get v.cores p ≡ Some (Some core)
+core_seen w v cs p i read core e is at lt there same =
+    subst (λ (x : WorldState). slice_get x.cores p ≡ Some (Some core)) e
+    (subst (λ q. slice_get w.cores q ≡ Some (Some core)) at (subst (λ l. slice_get l i ≡ Some (Some core)) is (lent_at cs i read lt there ∙ ap (λ (x : Option CoreState). Some x) same)))
+
 -- its place is within them
 pub core_within : (cs : List (Option CoreState)) (p n : ℕ) → HasCore cs p → n ≡ length cs → p < n
 core_within cs p n core long = subst (λ k. p < k) (sym long) (inside cs p (Some core.0) core.1)

@@ -1,16 +1,11 @@
+use Rattle.std.proofs.Common.{refl}
+use Rattle.om_world.proofs.Standing.{core_seen}
 use Rattle.om_world.proofs.world.World.core.Goals as goal
 
 pub get-requires : goal.get-requires
-get-requires g c = ?
+get-requires g c = λ k. (refl, tt)
 
 pub returns-in-Some-Some-clause-some : goal.returns-in-Some-Some-clause-some
-returns-in-Some-Some-clause-some g c = ?
-
-pub returns-in-Some-Some-clause-none : goal.returns-in-Some-Some-clause-none
-returns-in-Some-Some-clause-none g c = ?
-
-pub returns-in_default-clause-some : goal.returns-in_default-clause-some
-returns-in_default-clause-some g c = ?
-
-pub returns-in_default-clause-none : goal.returns-in_default-clause-none
-returns-in_default-clause-none g c = ?
+returns-in-Some-Some-clause-some g c =
+    let read = c.in-Some-Some.ensures.lookup in
+    core_seen _ _ c.deref.result.now c.args.pid c.index.result c.in-Some-Some.field-0.now c.in-Some-Some.core c.self.view_is c.deref.ensures.value c.index.ensures.place read.3.0 read.1 c.in-Some-Some.field-0-is

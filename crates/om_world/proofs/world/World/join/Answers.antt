@@ -1,4 +1,4 @@
-use Rattle.std.proofs.Common.{◌≡◌, Err, rules, subst, ◌<◌, refl, sym}
+use Rattle.std.proofs.Common.{◌≡◌, Err, rules, subst, refl}
 use Rattle.om_recover.specs.declared.row.RowKind.TheVariants.{Log}
 use Rattle.om_world.specs.steps.Gathering.{HasEntered}
 use Rattle.om_world.specs.steps.Moves.{HasCalled, HasTold, refusal_of_join, refusal_of_record, refusal_of_store}

@@ -1,12 +1,9 @@
-use Rattle.std.proofs.Common.{◌++◌, ◌∙◌, List, ap, map, subst, sym}
+use Rattle.std.proofs.Common.{◌++◌, ◌∙◌, List, ap, subst, sym, ◌≡◌, Err, refl, rules}
 use Rattle.om_format.specs.declared.message.Message.{Message}
 use Rattle.om_process.specs.Core.{size_of}
 use Rattle.om_world.specs.Changes.{IsUp}
-use Rattle.om_world.specs.World.{WorldState, program_of}
-use Rattle.om_world.specs.steps.Sound.{IsWorld}
-use Rattle.om_world.proofs.Kept.{remade}
+use Rattle.om_world.specs.World.{WorldState}
 use Rattle.om_world.proofs.Resending.{after_frames, frames_stay}
-use Rattle.std.proofs.Common.{◌≡◌, Err, refl, rules, subst, sym}
 use Rattle.om_world.specs.declared.event.Event.{Event}
 use Rattle.om_world.specs.declared.event.Refusal.TheVariants as refusals
 use Rattle.om_world.specs.Happened.{Happened}

@@ -1,9 +1,8 @@
-use Rattle.std.proofs.Common.{sym, subst, map}
+use Rattle.std.proofs.Common.{sym, subst, map, refl}
 use Rattle.om_world.specs.Changes.{IsUp}
 use Rattle.om_world.specs.World.{WorldState, program_of}
 use Rattle.om_world.specs.steps.Moves.{HasCalled}
 use Rattle.om_world.proofs.Noting.{after_called, has_called, over}
-use Rattle.std.proofs.Common.{refl}
 use Rattle.om_world.proofs.Standing.{core_up, in_stores, there_at}
 use Rattle.om_world.proofs.world.World.store.Goals as goal
 
