@@ -10,3 +10,6 @@ at-requires g c = c.requires.few
 
 pub effective-requires : goal.effective-requires
 effective-requires g c = subst (λ q. q < size_of c.args.manager.now) (sym c.at.ensures) c.requires.known
+
+pub returns-clause-never_present : goal.returns-clause-never_present
+returns-clause-never_present g c = c.prune.ensures.never_present
