@@ -1,5 +1,4 @@
 use Rattle.std.proofs.Common.{◌<◌, subst, sym}
-use Rattle.om_manager.specs.State.{size_of}
 use Rattle.om_world.proofs.prune.prune_at.Goals as goal
 
 pub index_mut-store-requires : goal.index_mut-store-requires
@@ -7,9 +6,6 @@ index_mut-store-requires g c = subst (λ n. c.args.p < n) (sym c.args.stores.now
 
 pub at-requires : goal.at-requires
 at-requires g c = c.requires.few
-
-pub effective-requires : goal.effective-requires
-effective-requires g c = subst (λ q. q < size_of c.args.manager.now) (sym c.at.ensures) c.requires.known
 
 pub returns-clause-never_present : goal.returns-clause-never_present
 returns-clause-never_present g c = c.prune.ensures.never_present
