@@ -1,6 +1,6 @@
 -- What a failure that is declared comes to.
-use Rattle.std.proofs.Common.{◌≡◌, ℕ, ◌<◌, List, true, false, Result, Ok, Err, sym, ap, ◌∙◌, subst, arith}
-use Rattle.std.specs.Prelude.{All, slice_index}
+use Rattle.std.proofs.Common.{◌≡◌, ◌≢◌, ℕ, ◌<◌, List, Option, Some, true, false, Result, Ok, Err, sym, ap, ◌∙◌, subst, arith}
+use Rattle.std.specs.Prelude.{All, slice_get, slice_index}
 use Rattle.std.proofs.lemmas.List.{set-set}
 use Rattle.om_manager.specs.Rounds.{Gathers, with_failed}
 use Rattle.om_manager.specs.Sound.{KeepsReleased}
@@ -20,6 +20,9 @@ use Rattle.om_world.specs.World.{IsEmpty, IsKnown, WorldState, all_clean}
 use Rattle.om_world.specs.steps.Gathering.{HasDeclared, IsWhyNot, declared}
 use Rattle.om_world.specs.steps.Moves.{Keeps, answered, refusal_of_failure}
 use Rattle.om_world.specs.steps.Sound.{IsWorld}
+use Rattle.om_world.proofs.Declaring.{here}
+use Rattle.om_world.proofs.Keeping.{keeps_by}
+use Rattle.om_world.proofs.Lists.{inside, once}
 
 -- what the stores hold is as well known as before
 pub known_by : (a b : WorldState) → b.origins ≡ a.origins → b.clean ≡ a.clean → IsKnown b → IsKnown a
@@ -67,3 +70,27 @@ fail_refused IsSound xs w v z p fault told i due e h is known =
     let manager = ap (λ (x : WorldState). x.manager) e in
     let why = h.why known_v (λ news. old (subst (λ (m : ManagerState). slice_index w.rounds p < m.round) manager (subst (λ l. slice_index l p < v.manager.round) (ap (λ (x : WorldState). x.rounds) e) news))) in
     subst (λ r. Happened w (Event.Fail p) (answered r) z) (sym is) (refused_by w z p fault due (h.refused ∙ e) (subst (λ (m : ManagerState). IsWhyNot fault m p) manager why))
+
+-- ---- taking it down
+pub down_keeps : (w v : WorldState) (p : ℕ) → v ≡ taken_down w p false → Keeps w v
+down_keeps w v p e = keeps_by w v (ap (λ (x : WorldState). x.manager) e) (ap (λ (x : WorldState). x.clean) e) (ap (λ (x : WorldState). x.origins) e)
+
+pub refused_keeps : (w v z : WorldState) (p : ℕ) (fault : FailError) → v ≡ taken_down w p false → HasDeclared v p (Err fault) z → Keeps w z
+refused_keeps w v z p fault e d = down_keeps w z p (d.refused ∙ e)
+
+pub in_undeclared : (o : Option Place) → o ≡ Some Place.In → o ≢ Some (Place.Down true)
+in_undeclared o e f = cc
+
+-- whose failure is to be declared has a place, and it is not declared
+due_place : (w : WorldState) (p : ℕ) → IsToDeclare w p → (place : Place) × (slice_get w.places p ≡ Some place) × (place ≢ Place.Down true)
+due_place w p (IsToDeclare.up at) = (Place.Up, at, λ f. cc)
+due_place w p (IsToDeclare.joined at news) = (Place.In, at, λ f. cc)
+due_place w p (IsToDeclare.refused at news) = (Place.Down false, at, λ f. cc)
+
+pub due_undeclared : (w : WorldState) (p : ℕ) → IsToDeclare w p → slice_get w.places p ≢ Some (Place.Down true)
+due_undeclared w p due e = let d = due_place w p due in d.2 (once d.0 (Place.Down true) (sym d.1 ∙ e))
+
+pub due_down : (w v : WorldState) (p : ℕ) → IsToDeclare w p → v ≡ taken_down w p false → slice_get v.places p ≡ Some (Place.Down false)
+due_down w v p due e =
+    let d = due_place w p due in
+    subst (λ (x : WorldState). slice_get x.places p ≡ Some (Place.Down false)) (sym e) (here w.places p (Place.Down false) (inside w.places p d.0 d.1))

@@ -46,7 +46,7 @@ record IsPlacing (w : WorldState) (p : ℕ) (place : Place) : Type 0 where
   pub inc : place ≡ Place.In → (c : CoreState) → slice_get w.cores p ≡ Some (Some c) → c.inc ≡ newest_of w.manager.starts p
   pub told : place ≡ Place.In → HasNews w p → ⊥
 
-here : {A : Type 0} (xs : List A) (i : ℕ) (x : A) → i < length xs → slice_get (set xs i x) i ≡ Some x
+pub here : {A : Type 0} (xs : List A) (i : ℕ) (x : A) → i < length xs → slice_get (set xs i x) i ≡ Some x
 here [] i x lt = absurd (omega arith)
 here (y ∷ xs) zero x lt = refl
 here (y ∷ xs) (suc i) x lt = here xs i x (omega arith)

@@ -77,3 +77,19 @@ not_given w p f m accepts.Full cs up frame nt nm o = (m, o.core, record { up = u
 -- memory is refused
 pub no_room : (w v : WorldState) (p f : ℕ) (m : Message) (r : Result Answer Refusal) → IsUp w p → HasShape w → slice_get w.frames f ≡ Some m → r ≡ Err refusals.Memory → v ≡ w → Happened w (Event.Give p f) (answered r) v
 no_room w v p f m r up h frame is same = let c = h.there p up in subst (λ a. Happened w (Event.Give p f) (answered a) v) (sym is) (m, c.0, record { up = up; frame = frame; core = c.1 }, same)
+
+-- ---- it is not taken
+pub none_taken : (cs new : List (Option CoreState)) (p : ℕ) (m : Message) (a : Accept) → ((x : ℕ) → a ≢ accepts.Taken x) → IsOffered cs p m a new → new ≡ cs
+none_taken cs new p m (accepts.Taken x) nt o = absurd (nt x refl)
+none_taken cs new p m accepts.Stranger nt o = o.cores
+none_taken cs new p m accepts.Orphan nt o = o.cores
+none_taken cs new p m accepts.Repeat nt o = o.cores
+none_taken cs new p m accepts.Ahead nt o = o.cores
+none_taken cs new p m accepts.NotWaiting nt o = o.cores
+none_taken cs new p m accepts.Full nt o = o.cores
+none_taken cs new p m accepts.Memory nt o = o.cores
+
+pub after_none : {S : Type 0} (IsSound : S → Type 0) (xs : List S) (w : WorldState) (live : List Entry) (cs : List (Option CoreState)) → IsWorld IsSound xs w → live ≡ w.live → cs ≡ w.cores → IsWorld IsSound xs (remade w live w.frames cs w.manager w.contents w.clean)
+after_none IsSound xs w live cs i same still =
+    subst (λ l. IsWorld IsSound xs (remade w l w.frames cs w.manager w.contents w.clean)) (sym same)
+    (subst (λ l. IsWorld IsSound xs (remade w w.live w.frames l w.manager w.contents w.clean)) (sym still) i)

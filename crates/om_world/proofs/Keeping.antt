@@ -62,3 +62,7 @@ keeps_recorded kind w mid v p count a end h t = record {
   clean = λ all. h.was_clean (ap all_clean (sym (ap (λ (x : WorldState). x.clean) t.others)) ∙ all);
   origins = ap (λ (x : WorldState). x.origins) t.others ∙ ap (λ (x : WorldState). x.origins) h.others;
 }
+
+-- where the new one stands as its parts do
+pub keeps_seen : (w v new : WorldState) → w ≡ v → new.manager ≡ w.manager → new.clean ≡ w.clean → new.origins ≡ w.origins → Keeps v new
+keeps_seen w v new e manager clean origins = subst (λ (x : WorldState). Keeps x new) e (keeps_by w new manager clean origins)

@@ -7,6 +7,7 @@ pub mod Keeping
 pub mod Kept
 pub mod Lists
 pub mod Moved
+pub mod NotRunning
 pub mod Noting
 pub mod Ordered
 pub mod Playing
@@ -17,6 +18,7 @@ pub mod Resending
 pub mod Resuming
 pub mod Returned
 pub mod Returning
+pub mod Standing
 pub mod Starting
 pub mod TakenDown
 pub mod Telling

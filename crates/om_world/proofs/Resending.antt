@@ -86,3 +86,7 @@ after_frames IsSound xs w p c few n fs i up at is = subst (λ l. IsWorld IsSound
     },
   );
 })
+
+-- no message became a frame
+pub frames_stay : {S : Type 0} (IsSound : S → Type 0) (xs : List S) (w : WorldState) (frames : List Message) → IsWorld IsSound xs w → frames ≡ w.frames → IsWorld IsSound xs (remade w w.live frames w.cores w.manager w.contents w.clean)
+frames_stay IsSound xs w frames i same = subst (λ l. IsWorld IsSound xs (remade w w.live l w.cores w.manager w.contents w.clean)) (sym same) i

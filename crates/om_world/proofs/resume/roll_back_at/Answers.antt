@@ -1,5 +1,6 @@
-use Rattle.std.proofs.Common.{◌≡◌, ◌∙◌, ap, length, refl, subst, sym}
+use Rattle.std.proofs.Common.{◌≡◌, ◌∙◌, ◌<◌, ap, length, refl, subst, sym}
 use Rattle.std.specs.Prelude.{slice_index}
+use Rattle.om_interval.specs.Starts.{newest_of}
 use Rattle.om_process.specs.Stored.{CanReplay, TheProcess}
 use Rattle.om_manager.specs.State as managers
 use Rattle.om_world.proofs.Lists.{lent_at}
@@ -26,4 +27,30 @@ returns-in-Err-clause-called g c =
             (subst (λ n. CanReplay (TheProcess c.at.result n) (g.S.Stable.content before) (slice_index m.last c.args.p)) (sym many)
             (subst (λ q. CanReplay (TheProcess q (managers.size_of m)) (g.S.Stable.content before) (slice_index m.last c.args.p)) (sym c.at.ensures) can))),
       );
+    }
+
+pub at-requires : goal.at-requires
+at-requires g c = c.requires.few
+
+pub at-requires-2 : goal.at-requires-2
+at-requires-2 g c = c.requires.few
+
+pub verdict-verdict-requires : goal.verdict-verdict-requires
+verdict-verdict-requires g c = subst (λ q. q < managers.size_of c.args.manager.now) (sym c.at-2.ensures) c.requires.known
+
+pub index_mut-store-requires : goal.index_mut-store-requires
+index_mut-store-requires g c = subst (λ n. c.args.p < n) (sym c.args.stores.now.ok.0) c.requires.store
+
+pub returns-in-Ok-clause-back : goal.returns-in-Ok-clause-back
+returns-in-Ok-clause-back g c =
+    let e = c.in-Ok.ensures in
+    let v = c.verdict-verdict.ensures in
+    record {
+      own = e.own ∙ c.at.ensures;
+      size = e.size ∙ c.n.ensures.places ∙ ap length c.recovery.ensures.recovery;
+      log = e.log;
+      pending = e.pending;
+      inc = e.inc ∙ v.inc ∙ ap (newest_of c.args.manager.now.starts) c.at-2.ensures;
+      round = e.round ∙ v.round;
+      starts = e.starts ∙ c.starts.ensures;
     }

@@ -1,4 +1,4 @@
-use Rattle.std.proofs.Common.{◌≡◌, ◌∙◌, ◌<◌, ap, arith, length, map, refl, slice_get, subst, sym, Some}
+use Rattle.std.proofs.Common.{◌≡◌, ◌∙◌, ◌<◌, ◌≤◌, ap, arith, Bool, true, false, length, map, refl, slice_get, subst, sym, Some}
 use Rattle.om_interval.specs.Starts.{is_named}
 use Rattle.om_world.specs.declared.place.Place.TheVariants as places
 use Rattle.om_world.specs.Failures.{HasNews, down}
@@ -6,7 +6,12 @@ use Rattle.om_world.specs.World.{WorldState, IsKnown, program_of}
 use Rattle.om_world.specs.steps.Returning.{IsBeyond, IsDue}
 use Rattle.om_world.proofs.Lists.{length-map, lent_at}
 use Rattle.om_world.proofs.Resuming.{due_in, no_news, world_beyond}
+use Rattle.om_world.proofs.Standing.{few, in_places, known, size_seen}
+use Rattle.om_manager.specs.State.{size_of}
 use Rattle.om_world.proofs.world.World.comes_back.Goals as goal
+
+not_both : (b : Bool) → b ≡ false → b ≡ true → ⊥
+not_both b is not = cc
 
 pub returns-in-Up-clause-refused : goal.returns-in-Up-clause-refused
 returns-in-Up-clause-refused g c = λ known.
@@ -45,3 +50,27 @@ returns-in-Down-clause-beyond g c =
     let s = c.self.inside in
     let lt : c.args.p < length (map program_of s.images.items) = let long = length-map program_of s.images.items in omega (arith, c.if-p-len.false, c.len.ensures) in
     subst (λ (w : WorldState). IsKnown w → IsBeyond w c.args.p) c.self.view_is (world_beyond _ _ _ c.args.p c.self.invariant lt)
+
+pub returns-then-p-len-clause-refused : goal.returns-then-p-len-clause-refused
+returns-then-p-len-clause-refused g c = λ known. (subst (λ n. n ≤ c.args.p) (size_seen _ _ _ _ c.self.view_is refl (c.len.ensures ∙ c.self.inside.images.ok.0)) c.if-p-len.true, refl)
+
+pub has_news-requires : goal.has_news-requires
+has_news-requires g c = subst (λ n. c.args.p < n) (size_seen _ _ _ _ c.self.view_is refl (c.len.ensures ∙ c.self.inside.images.ok.0)) c.if-p-len.false
+
+pub returns-then-not-has_news-clause-refused : goal.returns-then-not-has_news-clause-refused
+returns-then-not-has_news-clause-refused g c = λ known. (subst (λ n. c.args.p < n) (size_seen _ _ _ _ c.self.view_is refl (c.len.ensures ∙ c.self.inside.images.ok.0)) c.if-p-len.false, λ news. not_both c.has_news.result c.if-not-has_news.true (c.has_news.ensures.1 news), refl)
+
+pub index-requires : goal.index-requires
+index-requires g c = in_places _ _ _ _ c.args.p c.self.invariant c.self.view_is (subst (λ n. c.args.p < n) (size_seen _ _ _ _ c.self.view_is refl (c.len.ensures ∙ c.self.inside.images.ok.0)) c.if-p-len.false) _ c.self.inside.places.ok.0
+
+pub at-requires : goal.at-requires
+at-requires g c = few _ _ _ _ c.args.p c.self.invariant c.self.view_is (subst (λ n. c.args.p < n) (size_seen _ _ _ _ c.self.view_is refl (c.len.ensures ∙ c.self.inside.images.ok.0)) c.if-p-len.false)
+
+pub verdict-requires : goal.verdict-requires
+verdict-requires g c = subst (λ q. q < size_of c.self.inside.manager) (sym c.at.ensures) (known _ _ _ _ c.args.p c.self.invariant c.self.view_is (subst (λ n. c.args.p < n) (size_seen _ _ _ _ c.self.view_is refl (c.len.ensures ∙ c.self.inside.images.ok.0)) c.if-p-len.false))
+
+pub returns-in-In-clause-there : goal.returns-in-In-clause-there
+returns-in-In-clause-there g c = subst (λ n. c.args.p < n) (size_seen _ _ _ _ c.self.view_is refl (c.len.ensures ∙ c.self.inside.images.ok.0)) c.if-p-len.false
+
+pub returns-in-Down-clause-there : goal.returns-in-Down-clause-there
+returns-in-Down-clause-there g c = subst (λ n. c.args.p < n) (size_seen _ _ _ _ c.self.view_is refl (c.len.ensures ∙ c.self.inside.images.ok.0)) c.if-p-len.false

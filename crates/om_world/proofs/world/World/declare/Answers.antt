@@ -4,7 +4,14 @@ use Rattle.om_world.specs.declared.place.Place.{Place}
 use Rattle.om_world.specs.World.{WorldState, program_of}
 use Rattle.om_world.specs.steps.Gathering.{HasDeclared}
 use Rattle.om_world.proofs.Declaring.{after_declare, has_declared, not_declared, placed_with, round_at}
+use Rattle.om_world.proofs.Standing.{few, in_rounds, there_at}
 use Rattle.om_world.proofs.world.World.declare.Goals as goal
+
+pub index-round-requires : goal.index-round-requires
+index-round-requires g c = in_rounds _ _ _ _ c.args.p c.self.invariant c.self.view_is (there_at _ _ _ _ c.args.p c.self.invariant c.self.view_is _ c.requires) _ c.self.inside.rounds.ok.0
+
+pub declare_to-requires : goal.declare_to-requires
+declare_to-requires g c = few _ _ _ _ c.args.p c.self.invariant c.self.view_is (there_at _ _ _ _ c.args.p c.self.invariant c.self.view_is _ c.requires)
 
 pub returns-in_err-told : goal.returns-in_err-told
 returns-in_err-told g c =

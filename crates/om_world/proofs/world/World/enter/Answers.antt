@@ -4,6 +4,7 @@ use Rattle.om_world.specs.declared.place.Place.{Place}
 use Rattle.om_world.specs.World.{WorldState, program_of}
 use Rattle.om_world.specs.steps.Gathering.{HasEntered}
 use Rattle.om_world.proofs.Declaring.{after_join, has_entered, is_few, not_entered, placed_with}
+use Rattle.om_world.proofs.Standing.{core_up, in_places, there_at}
 use Rattle.om_world.proofs.world.World.enter.Goals as goal
 
 pub returns-in_err-told : goal.returns-in_err-told
@@ -31,3 +32,9 @@ returns g c =
 
 pub join_to-requires : goal.join_to-requires
 join_to-requires g c = is_few _ c.args.p Place.Up c.self.invariant.shape (subst (λ (v : WorldState). IsUp v c.args.p) (sym c.self.view_is) c.requires)
+
+pub standing_at-at-requires : goal.standing_at-at-requires
+standing_at-at-requires g c = core_up _ _ _ _ c.args.p c.self.invariant c.self.view_is c.requires
+
+pub index_mut-requires : goal.index_mut-requires
+index_mut-requires g c = in_places _ _ _ _ c.args.p c.self.invariant c.self.view_is (there_at _ _ _ _ c.args.p c.self.invariant c.self.view_is _ c.requires) _ c.self.inside.places.ok.0

@@ -3,7 +3,17 @@ use Rattle.om_world.specs.Changes.{IsUp}
 use Rattle.om_world.specs.World.{WorldState, program_of}
 use Rattle.om_world.specs.steps.Running.{HasHandedIn}
 use Rattle.om_world.proofs.Handing.{after_handed, has_handed}
+use Rattle.om_world.proofs.Standing.{core_up, few, known, there_at}
 use Rattle.om_world.proofs.world.World.hand_in.Goals as goal
+
+pub hand_at-requires-clause-core : goal.hand_at-requires-clause-core
+hand_at-requires-clause-core g c = core_up _ _ _ _ c.args.p c.self.invariant c.self.view_is c.requires
+
+pub hand_at-requires-clause-few : goal.hand_at-requires-clause-few
+hand_at-requires-clause-few g c = few _ _ _ _ c.args.p c.self.invariant c.self.view_is (there_at _ _ _ _ c.args.p c.self.invariant c.self.view_is _ c.requires)
+
+pub hand_at-requires-clause-known : goal.hand_at-requires-clause-known
+hand_at-requires-clause-known g c = known _ _ _ _ c.args.p c.self.invariant c.self.view_is (there_at _ _ _ _ c.args.p c.self.invariant c.self.view_is _ c.requires)
 
 pub invariant_of-self : goal.invariant_of-self
 invariant_of-self g c = after_handed _ _ _ c.args.p c.hand_at.result c.hand_at.new.manager c.self.invariant (subst (λ (v : WorldState). IsUp v c.args.p) (sym c.self.view_is) c.requires) c.hand_at.ensures

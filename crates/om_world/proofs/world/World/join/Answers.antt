@@ -1,10 +1,12 @@
-use Rattle.std.proofs.Common.{◌≡◌, Err, rules, subst}
+use Rattle.std.proofs.Common.{◌≡◌, Err, rules, subst, refl}
 use Rattle.om_recover.specs.declared.row.RowKind.TheVariants.{Log}
 use Rattle.om_world.specs.steps.Gathering.{HasEntered}
 use Rattle.om_world.specs.steps.Moves.{HasCalled, HasTold, refusal_of_join, refusal_of_record, refusal_of_store}
 use Rattle.om_world.specs.steps.Running.{HasHandedIn, refusal_of_output}
 use Rattle.om_world.proofs.Entering.{join_handed_keeps, join_happened, join_keeps, join_not_entered, join_not_handed, join_not_noted, join_not_stored}
-use Rattle.om_world.proofs.Keeping.{keeps_recorded}
+use Rattle.om_world.proofs.Keeping.{keeps_recorded, keeps_by}
+use Rattle.om_world.specs.declared.event.Event.{Event}
+use Rattle.om_world.proofs.NotRunning.{told_not_running}
 use Rattle.om_world.proofs.world.World.join.Goals as goal
 
 pub returns-in_err-store-clause-happened : goal.returns-in_err-store-clause-happened
@@ -64,3 +66,17 @@ returns-clause-happened g c = λ known.
 pub returns-clause-keeps : goal.returns-clause-keeps
 returns-clause-keeps g c =
     join_keeps c.args.self.now c.store.new.self c.note-end.new.self c.hand_in.new.self c.enter.new.self c.args.p c.note-end.result.0 c.store.result c.note-end.result.1 c.hand_in.result c.enter.result c.store.ensures c.note-end.ensures c.hand_in.ensures c.enter.ensures
+
+pub returns-in_err-is_up-clause-happened : goal.returns-in_err-is_up-clause-happened
+returns-in_err-is_up-clause-happened g c = λ known.
+    let is : c.from_residual.result ≡ Err c.in_err-is_up.field-0.0 = search rules in
+    told_not_running _ _ c.args.p (Event.Join c.args.p) _ _ (λ n. n) (λ n. n) is c.in_err-is_up.ensures.not_running
+
+pub returns-in_err-is_up-clause-keeps : goal.returns-in_err-is_up-clause-keeps
+returns-in_err-is_up-clause-keeps g c = keeps_by _ _ refl refl refl
+
+pub returns-in_err-is_gathering-clause-keeps : goal.returns-in_err-is_gathering-clause-keeps
+returns-in_err-is_gathering-clause-keeps g c = keeps_by _ _ refl refl refl
+
+pub store-requires : goal.store-requires
+store-requires g c = c.in_ok-is_up.ensures.up

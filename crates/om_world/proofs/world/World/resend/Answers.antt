@@ -1,21 +1,48 @@
-use Rattle.std.proofs.Common.{◌++◌, ◌∙◌, List, ap, map, subst, sym}
+use Rattle.std.proofs.Common.{◌++◌, ◌∙◌, List, ap, subst, sym, ◌≡◌, Err, refl, rules}
 use Rattle.om_format.specs.declared.message.Message.{Message}
 use Rattle.om_process.specs.Core.{size_of}
 use Rattle.om_world.specs.Changes.{IsUp}
-use Rattle.om_world.specs.World.{WorldState, program_of}
-use Rattle.om_world.specs.steps.Sound.{IsWorld}
-use Rattle.om_world.proofs.Kept.{remade}
-use Rattle.om_world.proofs.Resending.{after_frames}
+use Rattle.om_world.specs.World.{WorldState}
+use Rattle.om_world.proofs.Resending.{after_frames, frames_stay}
+use Rattle.om_world.specs.declared.event.Event.{Event}
+use Rattle.om_world.specs.declared.event.Refusal.TheVariants as refusals
+use Rattle.om_world.specs.Happened.{Happened}
+use Rattle.om_world.specs.steps.Moves.{answered}
+use Rattle.om_world.proofs.Keeping.{keeps_by, keeps_seen}
+use Rattle.om_world.proofs.NotRunning.{told_not_running}
+use Rattle.om_world.proofs.Standing.{core_up}
 use Rattle.om_world.proofs.world.World.resend.Goals as goal
 
 pub invariant_of-self : goal.invariant_of-self
-invariant_of-self g c =
-    let s = c.self.inside in
-    let w : WorldState = record { programs = map program_of s.images.items; live = s.live.entries; frames = s.frames.items; cores = s.cores.items; places = s.places.items; rounds = s.rounds.items; manager = s.manager; contents = map g.S.Stable.content s.stores.items; clean = map g.S.Stable.is_clean s.stores.items; origins = map g.S.Stable.content s.origins.value.items } in
-    subst (λ (l : List Message). IsWorld g.S.Stable.IsSound s.stores.items (remade w w.live l w.cores w.manager w.contents w.clean)) (sym c.in_err-append.ensures.items) c.self.invariant
+invariant_of-self g c = frames_stay _ _ _ _ c.self.invariant c.in_err-append.ensures.items
 
 pub invariant_of-self-2 : goal.invariant_of-self-2
 invariant_of-self-2 g c =
     let core = c.in_ok-frames.ensures in
     after_frames _ _ _ c.args.p core.0 (λ to. 0) (size_of core.0.now) c.append.new.self.items c.self.invariant (subst (λ (v : WorldState). IsUp v c.args.p) (sym c.self.view_is) c.in_ok-is_up.ensures.up) core.1
     (c.in_ok-append.ensures.items ∙ ap (λ (l : List Message). c.self.inside.frames.items ++ l) core.2)
+
+pub returns-in_err-is_up-clause-happened : goal.returns-in_err-is_up-clause-happened
+returns-in_err-is_up-clause-happened g c =
+    let is : c.from_residual.result ≡ Err c.in_err-is_up.field-0.0 = search rules in
+    told_not_running _ _ c.args.p (Event.Resend c.args.p) _ _ (λ n. n) (λ n. n) is c.in_err-is_up.ensures.not_running
+
+pub returns-in_err-is_up-clause-keeps : goal.returns-in_err-is_up-clause-keeps
+returns-in_err-is_up-clause-keeps g c = keeps_by _ _ refl refl refl
+
+pub frames_at-requires : goal.frames_at-requires
+frames_at-requires g c = core_up _ _ _ _ c.args.p c.self.invariant c.self.view_is c.in_ok-is_up.ensures.up
+
+pub returns-in_err-frames-clause-happened : goal.returns-in_err-frames-clause-happened
+returns-in_err-frames-clause-happened g c =
+    let is : c.from_residual-in_err-frames.result ≡ Err refusals.Memory = search rules in
+    subst (λ r. Happened c.args.self.now (Event.Resend c.args.p) (answered r) c.args.self.now) (sym is) (c.in_ok-is_up.ensures.up, refl)
+
+pub returns-in_err-frames-clause-keeps : goal.returns-in_err-frames-clause-keeps
+returns-in_err-frames-clause-keeps g c = keeps_by _ _ refl refl refl
+
+pub returns-in_err-append-clause-keeps : goal.returns-in_err-append-clause-keeps
+returns-in_err-append-clause-keeps g c = keeps_seen _ _ _ c.self.view_is refl refl refl
+
+pub returns-clause-keeps : goal.returns-clause-keeps
+returns-clause-keeps g c = keeps_seen _ _ _ c.self.view_is refl refl refl

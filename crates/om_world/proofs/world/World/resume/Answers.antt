@@ -1,10 +1,11 @@
-use Rattle.std.proofs.Common.{◌≡◌, subst, sym, Err, rules}
+use Rattle.std.proofs.Common.{◌≡◌, subst, sym, Err, rules, refl}
 use Rattle.om_world.specs.declared.event.Event.{Event}
 use Rattle.om_world.specs.Failures.{IsToComeBack}
 use Rattle.om_world.specs.Happened.{Happened}
 use Rattle.om_world.specs.steps.Moves.{answered, refusal_of_replay}
 use Rattle.om_world.specs.steps.Returning.{IsDue}
 use Rattle.om_world.proofs.Resuming.{back_happened, back_stopped}
+use Rattle.om_world.proofs.Keeping.{keeps_by}
 use Rattle.om_world.proofs.world.World.resume.Goals as goal
 
 pub returns-in_err-interval-clause-happened : goal.returns-in_err-interval-clause-happened
@@ -19,3 +20,17 @@ returns-clause-happened g c = λ known.
     let w = c.args.self.now in
     let due : IsToComeBack w c.args.p = subst (IsDue w c.args.p) c.if-not-back.false c.in_ok-back.ensures.due in
     back_happened w c.leave.new.self c.bring_back.new.self c.args.p c.in_ok-interval.interval c.in_ok-interval.inc due c.in_ok-back.ensures.beyond c.leave.ensures c.in_ok-interval.ensures known
+
+pub returns-in_err-back-clause-happened : goal.returns-in_err-back-clause-happened
+returns-in_err-back-clause-happened g c = λ known.
+    let is : c.from_residual.result ≡ Err c.in_err-back.field-0.0 = search rules in
+    subst (λ r. Happened c.args.self.now (Event.Resume c.args.p) (answered r) c.args.self.now) (sym is) (c.in_err-back.ensures.refused known)
+
+pub returns-in_err-back-clause-keeps : goal.returns-in_err-back-clause-keeps
+returns-in_err-back-clause-keeps g c = keeps_by _ _ refl refl refl
+
+pub go_on-requires-clause-there : goal.go_on-requires-clause-there
+go_on-requires-clause-there g c = c.in_ok-back.ensures.there
+
+pub leave-requires : goal.leave-requires
+leave-requires g c = c.in_ok-back.ensures.there

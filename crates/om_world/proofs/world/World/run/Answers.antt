@@ -1,8 +1,11 @@
-use Rattle.std.proofs.Common.{◌≡◌, subst, sym, Err, rules}
+use Rattle.std.proofs.Common.{◌≡◌, ◌∙◌, ap, refl, slice_get, subst, sym, Err, rules}
 use Rattle.om_world.specs.declared.event.Event.{Event}
 use Rattle.om_world.specs.Happened.{Happened}
 use Rattle.om_world.specs.steps.Moves.{answered}
 use Rattle.om_world.specs.steps.Running.{HasHandedIn, refusal_of_output}
+use Rattle.om_world.specs.World.{WorldState}
+use Rattle.om_world.proofs.Keeping.{keeps_by}
+use Rattle.om_world.proofs.NotRunning.{told_not_running}
 use Rattle.om_world.proofs.Running.{hand_keeps, hand_stopped, has_run, keeps_more, made_grows}
 use Rattle.om_world.proofs.world.World.run.Goals as goal
 
@@ -35,3 +38,29 @@ returns-clause-happened g c = λ known.
 pub returns-clause-keeps : goal.returns-clause-keeps
 returns-clause-keeps g c =
     hand_keeps c.args.self.now c.turns.new.self c.send.new.self c.hand_in.new.self c.args.p c.args.fuel c.in_ok-sent.sent c.messages-messages.result c.hand_in.result (c.turns.ensures.goes_on, c.turns.ensures.rest) c.in_ok-sent.ensures.sent c.hand_in.ensures
+
+pub returns-in_err-is_up-clause-happened : goal.returns-in_err-is_up-clause-happened
+returns-in_err-is_up-clause-happened g c = λ known.
+    let is : c.from_residual.result ≡ Err c.in_err-is_up.field-0.0 = search rules in
+    told_not_running _ _ c.args.p (Event.Run c.args.p c.args.fuel) _ _ (λ n. n) (λ n. n) is c.in_err-is_up.ensures.not_running
+
+pub returns-in_err-is_up-clause-keeps : goal.returns-in_err-is_up-clause-keeps
+returns-in_err-is_up-clause-keeps g c = keeps_by _ _ refl refl refl
+
+pub messages-messages-requires : goal.messages-messages-requires
+messages-messages-requires g c = c.in_ok-is_up.ensures.up
+
+pub outputs-outputs-requires : goal.outputs-outputs-requires
+outputs-outputs-requires g c = c.in_ok-is_up.ensures.up
+
+pub turns-requires : goal.turns-requires
+turns-requires g c = c.in_ok-is_up.ensures.up
+
+pub send-requires-clause-up : goal.send-requires-clause-up
+send-requires-clause-up g c = ap (λ (x : WorldState). slice_get x.places c.args.p) c.turns.ensures.rest ∙ c.in_ok-is_up.ensures.up
+
+pub outputs-requires : goal.outputs-requires
+outputs-requires g c = ap (λ (x : WorldState). slice_get x.places c.args.p) c.in_ok-sent.ensures.sent.3 ∙ ap (λ (x : WorldState). slice_get x.places c.args.p) c.turns.ensures.rest ∙ c.in_ok-is_up.ensures.up
+
+pub hand_in-requires : goal.hand_in-requires
+hand_in-requires g c = ap (λ (x : WorldState). slice_get x.places c.args.p) c.in_ok-sent.ensures.sent.3 ∙ ap (λ (x : WorldState). slice_get x.places c.args.p) c.turns.ensures.rest ∙ c.in_ok-is_up.ensures.up

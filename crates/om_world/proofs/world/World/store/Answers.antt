@@ -1,9 +1,16 @@
-use Rattle.std.proofs.Common.{sym, subst, map}
+use Rattle.std.proofs.Common.{sym, subst, map, refl}
 use Rattle.om_world.specs.Changes.{IsUp}
 use Rattle.om_world.specs.World.{WorldState, program_of}
 use Rattle.om_world.specs.steps.Moves.{HasCalled}
 use Rattle.om_world.proofs.Noting.{after_called, has_called, over}
+use Rattle.om_world.proofs.Standing.{core_up, in_stores, there_at}
 use Rattle.om_world.proofs.world.World.store.Goals as goal
+
+pub store_at-requires-clause-core : goal.store_at-requires-clause-core
+store_at-requires-clause-core g c = core_up _ _ _ _ c.args.p c.self.invariant c.self.view_is c.requires
+
+pub store_at-requires-clause-store : goal.store_at-requires-clause-store
+store_at-requires-clause-store g c = in_stores _ _ _ _ c.args.p c.self.invariant c.self.view_is (there_at _ _ _ _ c.args.p c.self.invariant c.self.view_is _ c.requires) g.S.Stable.content refl
 
 pub invariant_of-self : goal.invariant_of-self
 invariant_of-self g c =

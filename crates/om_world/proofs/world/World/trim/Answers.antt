@@ -1,8 +1,12 @@
-use Rattle.std.proofs.Common.{◌≡◌, ◌<◌, length, subst, sym}
+use Rattle.std.proofs.Common.{◌≡◌, ◌<◌, length, subst, sym, Err, refl, rules}
 use Rattle.om_manager.specs.Bounds.{AreGotFrom}
-use Rattle.om_manager.specs.State.{released_by}
+use Rattle.om_manager.specs.State.{released_by, size_of}
 use Rattle.om_world.specs.World.{WorldState}
 use Rattle.om_world.proofs.Trimming.{after_trim}
+use Rattle.om_world.specs.declared.event.Event.{Event}
+use Rattle.om_world.proofs.Keeping.{keeps_by, keeps_seen}
+use Rattle.om_world.proofs.NotRunning.{told_not_running}
+use Rattle.om_world.proofs.Standing.{few, known}
 use Rattle.om_world.proofs.world.World.trim.Goals as goal
 
 pub invariant_of-self : goal.invariant_of-self
@@ -10,3 +14,20 @@ invariant_of-self g c =
     let m = c.self.inside.manager in let b = c.bounds-bounds.result in
     after_trim _ _ _ c.args.p b.got b.released c.trim_at.new.cores.items c.self.invariant (subst (λ (v : WorldState). c.args.p < length v.programs) (sym c.self.view_is) c.in_ok-is_up.ensures.there)
     (subst (λ p. AreGotFrom m.rows m.recovery p b.got) c.at.ensures c.bounds-bounds.ensures.got) (subst (λ p. b.released ≡ length (released_by m p)) c.at.ensures c.bounds-bounds.ensures.released) c.trim_at.ensures
+
+pub returns-in_err-is_up-clause-happened : goal.returns-in_err-is_up-clause-happened
+returns-in_err-is_up-clause-happened g c =
+    let is : c.from_residual.result ≡ Err c.in_err-is_up.field-0.0 = search rules in
+    told_not_running _ _ c.args.p (Event.Trim c.args.p) _ _ (λ n. n) (λ n. n) is c.in_err-is_up.ensures.not_running
+
+pub returns-in_err-is_up-clause-keeps : goal.returns-in_err-is_up-clause-keeps
+returns-in_err-is_up-clause-keeps g c = keeps_by _ _ refl refl refl
+
+pub at-requires : goal.at-requires
+at-requires g c = few _ _ _ _ c.args.p c.self.invariant c.self.view_is c.in_ok-is_up.ensures.there
+
+pub bounds-bounds-requires : goal.bounds-bounds-requires
+bounds-bounds-requires g c = subst (λ q. q < size_of c.self.inside.manager) (sym c.at.ensures) (known _ _ _ _ c.args.p c.self.invariant c.self.view_is c.in_ok-is_up.ensures.there)
+
+pub returns-clause-keeps : goal.returns-clause-keeps
+returns-clause-keeps g c = keeps_seen _ _ _ c.self.view_is refl refl refl
