@@ -2,7 +2,7 @@
 
 use om_format::{Body, MAX_BODY, Message};
 use om_interval::{Pid, Tag};
-use om_isa::Ext;
+use om_isa::{Ext, Reg};
 use om_process::{Accept, ProcCore, StartFault};
 use om_stable::Stable;
 use std::alloc::Global;
@@ -123,6 +123,11 @@ pub fn put<S: Stable>(rt: &impl Abort, alloc: Global, store: &mut S, receipt: Ve
 
 pub fn replayed<S: Stable>(rt: &impl Abort, alloc: Global, store: &mut S, x: u32) -> ProcCore {
     ProcCore::replay(alloc, store, x).expect(rt, "a replay")
+}
+
+// A register of a process.
+pub fn x(core: &ProcCore, r: u8) -> Option<u32> {
+    Reg::new(r).map(|r| core.machine().reg(r))
 }
 
 // Whether two processes of 2 are one: in all but their incarnation, their round, the starts and what is still to be stored.

@@ -1,16 +1,12 @@
 use super::parts::{
     RECEIPT, are_same, bytes_of, flush, go_on, message, passing_on, put, replayed, started,
-    take_first, ten,
+    take_first, ten, x,
 };
-use om_isa::Reg;
+use om_isa::WRITABLE_REGISTERS;
 use om_process::{Accept, ProcCore, ReplayFault};
 use om_stable::{MemStable, Stable};
 use std::alloc::Global;
 use std::process::Abort;
-
-fn x(core: &ProcCore, r: u8) -> Option<u32> {
-    Reg::new(r).map(|r| core.machine().reg(r))
-}
 
 // Process 1 of 3 with checkpoint 0 and receipt 1 in its store.
 pub fn stored(rt: &impl Abort, alloc: Global) -> MemStable {
@@ -21,29 +17,35 @@ pub fn stored(rt: &impl Abort, alloc: Global) -> MemStable {
     store
 }
 
+// The count of instructions and pc, and the registers.
+fn assert_machine(
+    rt: &impl Abort,
+    core: &ProcCore,
+    state: (u64, u32),
+    regs: [u32; WRITABLE_REGISTERS],
+) {
+    let machine = core.machine();
+    assert_eq!(rt; (machine.count(), machine.pc()), state);
+    assert_eq!(rt; (x(core, 0), machine.regs()), (Some(0), regs));
+}
+
 #[test]
 fn a_checkpoint_is_replayed(rt: HostRuntime) {
     let mut store = stored(&rt, rt.alloc());
     let core = replayed(&rt, rt.alloc(), &mut store, 0);
-    assert_eq!(rt; (core.machine().count(), core.machine().pc()), (0, 0));
-    for r in 0..32 {
-        assert_eq!(rt; x(&core, r), Some(0));
-    }
+    assert_machine(&rt, &core, (0, 0), [0; WRITABLE_REGISTERS]);
 }
 
 #[test]
 fn a_receipt_is_replayed(rt: HostRuntime) {
     let mut store = stored(&rt, rt.alloc());
     let core = replayed(&rt, rt.alloc(), &mut store, 1);
-    assert_eq!(rt; (core.machine().count(), core.machine().pc()), (4, 16));
-    for r in 0..32 {
-        let value = match r {
-            10 => 4,
-            11 | 17 => 2,
-            _ => 0,
-        };
-        assert_eq!(rt; x(&core, r), Some(value));
-    }
+    // x10, x11 and x17
+    let mut regs = [0; WRITABLE_REGISTERS];
+    regs[9] = 4;
+    regs[10] = 2;
+    regs[16] = 2;
+    assert_machine(&rt, &core, (4, 16), regs);
     let body = bytes_of(&rt, rt.alloc(), "93081000");
     assert_eq!(rt; core.machine().bytes(64, 4), Some(body.as_slice()));
 }
@@ -99,21 +101,15 @@ fn altered_receipts_are_refused(rt: HostRuntime) {
     }
 }
 
-// Adds bytes in hexadecimal, with so many zeros behind them.
-fn push(rt: &impl Abort, alloc: Global, bytes: &mut Vec<u8>, text: &str, zeros: usize) {
-    assert!(rt; bytes.extend_from_slice(&bytes_of(rt, alloc, text)).is_ok());
-    for _ in 0..zeros {
-        assert!(rt; bytes.push(0).is_ok());
-    }
-}
-
-// A checkpoint in version 1: that of a process of 1 at its start, with 4 bytes of memory.
-fn first_version(rt: &impl Abort, alloc: Global) -> Vec<u8> {
-    let mut bytes = Vec::new(alloc);
-    push(rt, alloc, &mut bytes, "43010100", 160);
-    push(rt, alloc, &mut bytes, "0400000073001000", 12);
-    bytes
-}
+// A checkpoint in version 1: that of a process of 1 at its start, with 4 bytes of memory. 184 bytes.
+const FIRST_VERSION: &str = "\
+43010100\
+0000000000000000000000000000000000000000000000000000000000000000\
+0000000000000000000000000000000000000000000000000000000000000000\
+0000000000000000000000000000000000000000000000000000000000000000\
+0000000000000000000000000000000000000000000000000000000000000000\
+0000000000000000000000000000000000000000000000000000000000000000\
+0400000073001000000000000000000000000000";
 
 fn store_checkpoint(rt: &impl Abort, alloc: Global, store: &mut MemStable, x: u32, bytes: &[u8]) {
     assert_eq!(rt; store.put_checkpoint(alloc, x, bytes), Ok(()));
@@ -121,7 +117,7 @@ fn store_checkpoint(rt: &impl Abort, alloc: Global, store: &mut MemStable, x: u3
 
 #[test]
 fn a_checkpoint_of_version_1_is_replayed(rt: HostRuntime) {
-    let bytes = first_version(&rt, rt.alloc());
+    let bytes = bytes_of(&rt, rt.alloc(), FIRST_VERSION);
     assert_eq!(rt; bytes.len(), 184);
     let mut store = MemStable::new(rt.alloc());
     store_checkpoint(&rt, rt.alloc(), &mut store, 0, &bytes);
@@ -132,54 +128,65 @@ fn a_checkpoint_of_version_1_is_replayed(rt: HostRuntime) {
     assert_eq!(rt; other, Some(ReplayFault::Damaged(3)));
 }
 
-// Process 0 of 2 waits in the last interval, and has got all but two of the messages from process 1.
-fn last_interval(rt: &impl Abort, alloc: Global) -> Vec<u8> {
-    let mut bytes = Vec::new(alloc);
-    push(
-        rt,
-        alloc,
-        &mut bytes,
-        "43020200ffffffffffffffff00000000",
-        68,
-    );
-    push(rt, alloc, &mut bytes, "02000000", 56);
-    push(
-        rt,
-        alloc,
-        &mut bytes,
-        "ffffffff0000000001000000feffffff",
-        16,
-    );
-    push(rt, alloc, &mut bytes, "040000000100000073000000", 16);
-    bytes
+// Process 0 of 2 waits in the last interval, and has got all but two of the messages from process 1. 204 bytes.
+const LAST_OF_ALL: &str = "\
+43020200ffffffffffffffff00000000\
+0000000000000000000000000000000000000000000000000000000000000000\
+0000000000000000000000000000000000000000000000000000000000000000\
+0000000002000000\
+0000000000000000000000000000000000000000000000000000000000000000\
+000000000000000000000000000000000000000000000000\
+ffffffff0000000001000000feffffff\
+00000000000000000000000000000000\
+04000000010000007300000000000000000000000000000000000000";
+
+// What it answers to an empty message of that number.
+fn answered(rt: &impl Abort, alloc: Global, core: &mut ProcCore, ssn: u32) -> Accept {
+    let next = message(rt, alloc, 1, 0, ssn, "");
+    core.accept(alloc, &next)
 }
 
 #[test]
 fn the_last_interval_takes_nothing(rt: HostRuntime) {
-    let bytes = last_interval(&rt, rt.alloc());
+    let bytes = bytes_of(&rt, rt.alloc(), LAST_OF_ALL);
     assert_eq!(rt; bytes.len(), 204);
     let mut store = MemStable::new(rt.alloc());
     store_checkpoint(&rt, rt.alloc(), &mut store, u32::MAX, &bytes);
     let mut core = replayed(&rt, rt.alloc(), &mut store, u32::MAX);
-    let next = message(&rt, rt.alloc(), 1, 0, u32::MAX - 1, "");
-    assert_eq!(rt; core.accept(rt.alloc(), &next), Accept::Full);
-    let first = message(&rt, rt.alloc(), 1, 0, 0, "");
-    assert_eq!(rt; core.accept(rt.alloc(), &first), Accept::Repeat);
+    for (ssn, answer) in [(u32::MAX - 1, Accept::Full), (0, Accept::Repeat)] {
+        let told = answered(&rt, rt.alloc(), &mut core, ssn);
+        assert_eq!(rt; told, answer, "{ssn}");
+    }
+}
+
+// Whether a replay to an interval is this process.
+fn is_replayed(
+    rt: &impl Abort,
+    alloc: Global,
+    store: &mut MemStable,
+    interval: u32,
+    core: &ProcCore,
+) -> bool {
+    are_same(&replayed(rt, alloc, store, interval), core)
+}
+
+// A store with all that the process stored.
+fn stored_ten(rt: &impl Abort, alloc: Global) -> MemStable {
+    let mut store = MemStable::new(alloc);
+    let _ = ten(rt, alloc, &mut store);
+    store
 }
 
 // A replay to each interval has to be the process as it was then.
 #[test]
 fn ten_receipts_are_replayed(rt: HostRuntime) {
-    let mut store = MemStable::new(rt.alloc());
-    let _ = ten(&rt, rt.alloc(), &mut store);
+    let mut store = stored_ten(&rt, rt.alloc());
     let mut core = passing_on(&rt, rt.alloc(), &mut MemStable::new(rt.alloc()));
     for ssn in 0..10 {
-        assert!(rt;
-            are_same(&replayed(&rt, rt.alloc(), &mut store, ssn), &core),
-            "{ssn}"
-        );
+        let is_it = is_replayed(&rt, rt.alloc(), &mut store, ssn, &core);
+        assert!(rt; is_it, "{ssn}");
         go_on(&rt, rt.alloc(), &mut core, ssn);
     }
-    assert!(rt; are_same(&replayed(&rt, rt.alloc(), &mut store, 10), &core));
+    assert!(rt; is_replayed(&rt, rt.alloc(), &mut store, 10, &core));
     assert_eq!(rt; core.outputs_from(0).len(), 9);
 }

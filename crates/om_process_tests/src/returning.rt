@@ -33,27 +33,46 @@ fn roll_back<S: Stable>(
     down.roll_back(alloc, store, &starts, &verdict(r, true))
 }
 
+// The process that took ten messages fails, and comes back to interval 6 over this store.
+fn ten_come_back(rt: &impl Abort, alloc: Global, store: &mut MemStable) -> ProcCore {
+    let down = ten(rt, alloc, &mut MemStable::new(alloc)).fail();
+    roll_back(rt, alloc, down, store, 6).expect(rt, "a process")
+}
+
+// How many receipts stand above an interval and at or below another.
+fn receipts(rt: &impl Abort, alloc: Global, store: &mut MemStable, after: u32, to: u32) -> usize {
+    store.receipts(alloc, after, to).expect(rt, "a store").len()
+}
+
 #[test]
 fn a_process_that_comes_back_comes_to_the_same_end(rt: HostRuntime) {
     let mut store = MemStable::new(rt.alloc());
     let core = ten(&rt, rt.alloc(), &mut store);
-    let down = ten(&rt, rt.alloc(), &mut MemStable::new(rt.alloc())).fail();
-    let mut back = roll_back(&rt, rt.alloc(), down, &mut store, 6).expect(&rt, "a process");
-    assert_eq!(rt; (back.interval(), back.inc(), back.round()), (6, 1, 1));
-    let left = store.receipts(rt.alloc(), 6, 10).expect(&rt, "a store");
-    assert!(rt; left.is_empty());
+    let mut back = ten_come_back(&rt, rt.alloc(), &mut store);
+    let left = receipts(&rt, rt.alloc(), &mut store, 6, 10);
+    assert_eq!(rt;
+        (back.interval(), back.inc(), back.round(), left),
+        (6, 1, 1, 0)
+    );
     for ssn in 6..10 {
         go_on(&rt, rt.alloc(), &mut back, ssn);
     }
     assert!(rt; are_same(&back, &core));
 }
 
+// Whether it goes on from its interval, which is not cut.
+fn goes_on(rt: &impl Abort, alloc: Global, core: &mut ProcCore) -> bool {
+    let starts = starts(rt, alloc, 2);
+    if core.vec().n() != starts.n() {
+        return false;
+    }
+    core.resume(alloc, &starts, &verdict(0, false)).is_ok()
+}
+
 #[test]
 fn a_process_that_is_not_rolled_back_goes_on(rt: HostRuntime) {
     let mut core = passing_on(&rt, rt.alloc(), &mut MemStable::new(rt.alloc()));
-    let starts = starts(&rt, rt.alloc(), 2);
-    assert_eq!(rt; core.vec().n(), starts.n());
-    assert!(rt; core.resume(rt.alloc(), &starts, &verdict(0, false)).is_ok());
+    assert!(rt; goes_on(&rt, rt.alloc(), &mut core));
     assert_eq!(rt; (core.round(), core.inc()), (1, 0));
 }
 
@@ -72,8 +91,7 @@ fn a_checkpoint_of_another_process_is_damaged(rt: HostRuntime) {
         let told = refused.err().map(|refusal| refusal.1);
         assert_eq!(rt; told, Some(fault), "{pid:?} {n}");
     }
-    let left = store.receipts(rt.alloc(), 0, 9).expect(&rt, "a store");
-    assert_eq!(rt; left.len(), 1);
+    assert_eq!(rt; receipts(&rt, rt.alloc(), &mut store, 0, 9), 1);
 }
 
 // Stores all, once more what was refused once.
@@ -100,19 +118,24 @@ fn come_back<S: Stable>(rt: &impl Abort, alloc: Global, down: Down, store: &mut 
     second.map_err(|refusal| refusal.1).expect(rt, "a process")
 }
 
+// It starts, takes six messages, stores them and comes back, over a store with a fuse of so many calls.
+fn assert_done(rt: &impl Abort, alloc: Global, calls: u64) {
+    let mut store = FuseStable::new(MemStable::new(alloc), calls);
+    let mut core = start_again(rt, alloc, &mut store);
+    for ssn in 0..6 {
+        go_on(rt, alloc, &mut core, ssn);
+    }
+    store_all(rt, alloc, &mut core, &mut store);
+    assert_eq!(rt; core.pending().len(), 7, "{calls}");
+    let back = come_back(rt, alloc, core.fail(), &mut store).interval();
+    let failures = u64::from(calls < 6);
+    assert_eq!(rt; (back, store.failures()), (6, failures), "{calls}");
+}
+
 // A fuse at each call of a store in turn, until none is reached: start, flush, checkpoint and the three of a roll back.
 #[test]
 fn what_a_store_refused_is_done_again(rt: HostRuntime) {
     for calls in 0..7 {
-        let mut store = FuseStable::new(MemStable::new(rt.alloc()), calls);
-        let mut core = start_again(&rt, rt.alloc(), &mut store);
-        for ssn in 0..6 {
-            go_on(&rt, rt.alloc(), &mut core, ssn);
-        }
-        store_all(&rt, rt.alloc(), &mut core, &mut store);
-        assert_eq!(rt; core.pending().len(), 7, "{calls}");
-        let back = come_back(&rt, rt.alloc(), core.fail(), &mut store);
-        assert_eq!(rt; back.interval(), 6, "{calls}");
-        assert_eq!(rt; store.failures(), u64::from(calls < 6), "{calls}");
+        assert_done(&rt, rt.alloc(), calls);
     }
 }

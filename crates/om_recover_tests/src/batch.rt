@@ -201,26 +201,22 @@ fn shuffle(rows: &mut [Row], numbers: &mut Numbers) {
     }
 }
 
-fn assert_offer(
-    rt: &impl Abort,
+// Notes a row in the records and in the list: whether the records answer as the list has it.
+fn offer(
     alloc: Global,
     records: &mut Records,
     rows: &mut Vec<Row>,
     row: Row,
-) -> Result<(), Fail> {
-    let told = records.note(alloc, row, &mut Work::new());
-    let is_known = told == Ok(Note::Known);
-    assert!(rt; told.is_ok(), "{row:?}");
-    assert_eq!(rt; is_known, rows.contains(&row), "{row:?}");
-    if !is_known {
+) -> Result<bool, AllocError> {
+    let was_there = rows.contains(&row);
+    if !was_there {
         rows.push(row)?;
     }
-    Ok(())
-}
-
-fn assert_recovered(rt: &impl Abort, records: &Records, rows: &[Row]) {
-    let state = recovered(rows, records.n());
-    assert_eq!(rt; Some(records.recovery()), state, "{rows:?}");
+    Ok(match records.note(alloc, row, &mut Work::new()) {
+        Ok(Note::Known) => was_there,
+        Ok(_) => !was_there,
+        Err(_) => false,
+    })
 }
 
 fn cut(records: &mut Records, rows: &mut Vec<Row>) {
@@ -260,13 +256,14 @@ fn assert_script(rt: &impl Abort, alloc: Global, seed: u64) -> Result<(), Fail> 
     let mut records = Records::new(alloc, n)?;
     let mut rows = first_rows(alloc, n)?;
     for row in script.iter().chain(&script) {
-        assert_offer(rt, alloc, &mut records, &mut rows, *row)?;
+        let is_told = offer(alloc, &mut records, &mut rows, *row)?;
         match numbers.below(12) {
             0 => cut(&mut records, &mut rows),
             1 => prune(&mut records, &mut rows)?,
             _ => {}
         }
-        assert_recovered(rt, &records, &rows);
+        let is_state = Some(records.recovery()) == recovered(&rows, n);
+        assert!(rt; is_told && is_state, "script {seed}: {row:?}");
     }
     Ok(())
 }

@@ -1,10 +1,11 @@
-ghost use Rattle.std.specs.Prelude.{◌<◌};
+ghost use Rattle.std.specs.Prelude.{◌<◌, IfSome};
 ghost use Rattle.om_manager.specs.State.{size_of};
 
-use om_interval::{DepVec, MAX_PROCESSES, Pid, Tag, Verdict};
+use om_interval::{DepVec, MAX_PROCESSES, Pid, Tag};
 use om_manager::{FailError, Gathered, JoinError, Manager, OutputError, OutputNote, RecordError};
 use om_recover::{Note, NoteError, RowKind};
-use std::alloc::Global;
+use std::alloc::{AllocError, Global};
+use std::fmt::Display;
 use std::process::Abort;
 use std::test::Fail;
 
@@ -18,478 +19,382 @@ const RAISED: Result<Note, RecordError> = Ok(Note::Noted { raised: true });
 
 const STALE: Result<Note, RecordError> = Err(RecordError::Stale { round: 1 });
 
-fn process(rt: &impl Abort, number: u32) -> Pid {
-    Pid::new(number).expect(rt, "a process")
+const STRANGER: Result<Note, RecordError> = Err(RecordError::Refused(NoteError::Stranger));
+
+const HELD: Result<OutputNote, OutputError> = Ok(OutputNote::Held);
+
+const DIFFERS: Result<OutputNote, OutputError> = Err(OutputError::Differs);
+
+// A call of a manager with its answer, or a part of what it tells. Process, round and interval come first.
+#[derive(Clone, Copy)]
+enum Row<'a> {
+    /// The kind stands before them; vector, counts and the answer behind.
+    Note(RowKind, (u32, u32, u32), &'a [u32], &'a [u32], Result<Note, RecordError>),
+    /// An output: its number, its bytes, and the answer.
+    Output((u32, u32, u32), u64, &'a [u8], Result<OutputNote, OutputError>),
+    Fail((u32, u32), Result<Gathered, FailError>),
+    Join((u32, u32, u32), Result<Gathered, JoinError>),
+    Prune,
+    /// The version, the round, whether it gathers, and the recovery state.
+    Front((u64, u32, bool), &'a [u32]),
+    /// Of a process: round, incarnation, interval, and whether it goes back.
+    Verdict(u32, (u32, u32, u32, bool)),
+    /// Of a process: the number of its next output, and its released outputs with their numbers and intervals.
+    Released(u32, u64, &'a [(u64, u32, &'a [u8])]),
+    /// Of a process: its effective checkpoint, what receivers got, and how many outputs are released.
+    Bounds(u32, u32, (&'a [u32], u64)),
+    /// The starts of a process's incarnations, as far as the second.
+    Starts(u32, [Option<u64>; 3]),
+    /// Whether a message of a process's incarnation, sent in an interval, is an orphan.
+    Orphan(u32, (u32, u32), bool),
 }
 
-fn vector(rt: &impl Abort, numbers: &[u32]) -> DepVec {
-    DepVec::from_slice(numbers).expect(rt, "a vector")
+// A process of the manager's cluster.
+fn member(manager: &Manager, number: u32) -> Option<Pid>
+    ensures { IfSome result (λ pid. pid < size_of manager.now) }
+{
+    let pid = Pid::new(number)?;
+    if pid.index() < manager.recovery().n() {
+        Some(pid)
+    } else {
+        None
+    }
 }
 
-// Notes a row by the call for its kind, and compares the answer.
-fn assert_note(
-    rt: &impl Abort,
+fn vector(numbers: &[u32]) -> Option<DepVec> {
+    DepVec::from_slice(numbers)
+}
+
+// Whether the call for its kind notes a row with this answer.
+fn notes(
     alloc: Global,
     manager: &mut Manager,
-    (kind, pid, round, x): (RowKind, u32, u32, u32),
+    kind: RowKind,
+    (pid, round, x): (u32, u32, u32),
     (vec, got): (&[u32], &[u32]),
     answer: Result<Note, RecordError>,
-) {
-    let (pid, vec, got) = (process(rt, pid), vector(rt, vec), vector(rt, got));
+) -> Option<bool> {
+    let pid = Pid::new(pid)?;
+    let (vec, got) = (vector(vec)?, vector(got)?);
     let told = match kind {
         RowKind::Log => manager.note_logged(alloc, pid, round, x, &vec, &got),
         RowKind::Checkpoint => manager.note_checkpoint(alloc, pid, round, x, &vec, &got),
     };
-    assert_eq!(rt; told, answer, "{kind:?} of {pid:?} at {x}");
+    Some(told == answer)
 }
 
-// Hands an output in, and compares the answer.
-fn assert_output(
-    rt: &impl Abort,
-    alloc: Global,
-    manager: &mut Manager,
-    (pid, round, x, seq): (u32, u32, u32, u64),
-    bytes: &[u8],
-    answer: Result<OutputNote, OutputError>,
-) {
-    let told = manager.note_output(alloc, process(rt, pid), round, x, seq, bytes);
-    assert_eq!(rt; told, answer, "output {seq} of {pid} in {x}");
-}
-
-fn assert_fail(
-    rt: &impl Abort,
-    alloc: Global,
-    manager: &mut Manager,
-    (pid, round): (u32, u32),
-    answer: Result<Gathered, FailError>,
-) {
-    let told = manager.fail(alloc, process(rt, pid), round);
-    assert_eq!(rt; told, answer, "process {pid}");
-}
-
-fn assert_join(
-    rt: &impl Abort,
-    alloc: Global,
-    manager: &mut Manager,
-    (pid, round, current): (u32, u32, u32),
-    answer: Result<Gathered, JoinError>,
-) {
-    let told = manager.join(alloc, process(rt, pid), round, current);
-    assert_eq!(rt; told, answer, "process {pid}");
-}
-
-fn assert_front(
-    rt: &impl Abort,
-    manager: &Manager,
-    (version, round, gathering): (u64, u32, bool),
-    recovery: &[u32],
-) {
-    assert_eq!(rt; manager.version(), version);
-    assert_eq!(rt; manager.round(), round);
-    assert_eq!(rt; manager.gathering(), gathering);
-    assert_eq!(rt; manager.recovery().as_slice(), recovery);
-}
-
-// A process of the manager's cluster.
-fn member(rt: &impl Abort, manager: &Manager, number: u32) -> Pid
-    ensures { result < size_of manager.now }
-{
-    let pid = process(rt, number);
-    assert!(rt; pid.index() < manager.recovery().n());
-    pid
-}
-
-fn assert_verdict(
-    rt: &impl Abort,
+fn has_verdict(
     manager: &Manager,
     number: u32,
     (round, inc, r, back): (u32, u32, u32, bool),
-) {
-    let verdict = manager.verdict(member(rt, manager, number));
-    let want = Verdict {
-        round,
-        inc,
-        r,
-        back,
-    };
-    assert_eq!(rt; verdict, want, "of process {number}");
+) -> Option<bool> {
+    let told = manager.verdict(member(manager, number)?);
+    Some((told.round, told.inc, told.r, told.back) == (round, inc, r, back))
 }
 
-// Compares the number of a process's next output, and its released outputs.
-fn assert_released(
-    rt: &impl Abort,
+fn has_released(
     manager: &Manager,
-    (number, next): (u32, u64),
+    number: u32,
+    next: u64,
     want: &[(u64, u32, &[u8])],
-) {
-    let pid = member(rt, manager, number);
-    assert_eq!(rt; manager.next_output(pid), next);
-    assert_eq!(rt; manager.released(pid).len(), want.len());
-    for (output, (seq, interval, bytes)) in manager.released(pid).iter().zip(want) {
-        assert_eq!(rt; output.seq, *seq);
-        assert_eq!(rt; output.interval, *interval, "of output {seq}");
-        assert_eq!(rt; output.bytes.as_slice(), *bytes, "of output {seq}");
+) -> Option<bool> {
+    let pid = member(manager, number)?;
+    let outputs = manager.released(pid);
+    if manager.next_output(pid) != next || outputs.len() != want.len() {
+        return Some(false);
     }
+    for (output, (seq, interval, bytes)) in outputs.iter().zip(want) {
+        let is_it = output.seq == *seq && output.interval == *interval;
+        if !is_it || output.bytes.as_slice() != *bytes {
+            return Some(false);
+        }
+    }
+    Some(true)
 }
 
-// Compares the effective checkpoint of a process, and what it need not keep.
-fn assert_bounds(
-    rt: &impl Abort,
+fn has_bounds(
     manager: &Manager,
     number: u32,
     effective: u32,
     (got, released): (&[u32], u64),
-) {
-    let pid = member(rt, manager, number);
+) -> Option<bool> {
+    let pid = member(manager, number)?;
     let bounds = manager.bounds(pid);
-    assert_eq!(rt; manager.effective(pid), effective, "of process {number}");
-    assert_eq!(rt; bounds.got.as_slice(), got, "of process {number}");
-    assert_eq!(rt; bounds.released, released, "of process {number}");
+    let is_effective = manager.effective(pid) == effective;
+    Some(is_effective && bounds.got.as_slice() == got && bounds.released == released)
 }
 
-// The starts of a process's incarnations, as far as the second.
-fn assert_starts(rt: &impl Abort, manager: &Manager, number: u32, want: [Option<u64>; 3]) {
-    let pid = member(rt, manager, number);
+fn has_starts(manager: &Manager, number: u32, want: [Option<u64>; 3]) -> Option<bool> {
+    let pid = Pid::new(number)?;
     let starts = manager.starts();
-    assert!(rt; pid.index() < starts.n());
-    for inc in 0..3 {
-        assert_eq!(rt;
-            starts.start(pid, inc),
-            want[inc as usize],
-            "{inc} of {number}"
-        );
+    if starts.n() <= pid.index() {
+        return None;
+    }
+    let told = [
+        starts.start(pid, 0),
+        starts.start(pid, 1),
+        starts.start(pid, 2),
+    ];
+    Some(told == want)
+}
+
+fn is_orphan(manager: &Manager, number: u32, (inc, interval): (u32, u32)) -> Option<bool> {
+    let pid = Pid::new(number)?;
+    let starts = manager.starts();
+    if starts.n() <= pid.index() {
+        return None;
+    }
+    Some(starts.is_orphan(pid, Tag { inc, interval }))
+}
+
+fn has_front(manager: &Manager, front: (u64, u32, bool), recovery: &[u32]) -> bool {
+    (manager.version(), manager.round(), manager.gathering()) == front
+        && manager.recovery().as_slice() == recovery
+}
+
+// Whether the row holds: its call is made. None where it names no process or vector.
+fn holds(alloc: Global, manager: &mut Manager, row: &Row) -> Option<bool> {
+    match *row {
+        Row::Note(kind, place, vec, got, answer) => {
+            notes(alloc, manager, kind, place, (vec, got), answer)
+        }
+        Row::Output((pid, round, x), seq, bytes, answer) => {
+            let told = manager.note_output(alloc, Pid::new(pid)?, round, x, seq, bytes);
+            Some(told == answer)
+        }
+        Row::Fail((pid, round), answer) => {
+            Some(manager.fail(alloc, Pid::new(pid)?, round) == answer)
+        }
+        Row::Join((pid, round, current), answer) => {
+            Some(manager.join(alloc, Pid::new(pid)?, round, current) == answer)
+        }
+        Row::Prune => {
+            manager.prune();
+            Some(true)
+        }
+        Row::Front(front, recovery) => Some(has_front(manager, front, recovery)),
+        Row::Verdict(pid, want) => has_verdict(manager, pid, want),
+        Row::Released(pid, next, want) => has_released(manager, pid, next, want),
+        Row::Bounds(pid, effective, want) => has_bounds(manager, pid, effective, want),
+        Row::Starts(pid, want) => has_starts(manager, pid, want),
+        Row::Orphan(pid, tag, want) => Some(is_orphan(manager, pid, tag)? == want),
     }
 }
 
-// Process 1 of 2 fails, and 0 joins: what depends on the lost process is cut.
-fn manager_after_a_round(rt: &impl Abort, heap: Global) -> Result<Manager, Fail> {
-    let mut two = Manager::new(heap, 2)?;
-    assert_note(
-        rt,
-        heap,
-        &mut two,
-        (LOG, 0, 0, 1),
-        (&[1, 1], &[0, 1]),
-        NOTED,
-    );
-    assert_output(rt, heap, &mut two, (0, 0, 1, 0), b"A", Ok(OutputNote::Held));
-    assert_fail(rt, heap, &mut two, (1, 0), Ok(Gathered::Waiting));
-    assert_front(rt, &two, (1, 0, true), &[0, 0]);
-    assert_join(rt, heap, &mut two, (0, 0, 1), Ok(Gathered::Finished));
-    assert_front(rt, &two, (2, 1, false), &[0, 0]);
-    Ok(two)
-}
-
-#[test]
-fn a_round_cuts_what_depends_on_the_lost(rt: HostRuntime) -> Result<(), Fail> {
-    let two = manager_after_a_round(&rt, rt.alloc())?;
-    assert_released(&rt, &two, (0, 0), &[]);
-    assert_verdict(&rt, &two, 0, (1, 1, 0, true));
-    assert_verdict(&rt, &two, 1, (1, 1, 0, true));
-    assert_starts(&rt, &two, 0, [Some(0), Some(1), None]);
-    Ok(())
-}
-
-#[test]
-fn messages_of_cut_intervals_are_orphans(rt: HostRuntime) -> Result<(), Fail> {
-    let two = manager_after_a_round(&rt, rt.alloc())?;
-    let starts = two.starts();
-    let pid = Pid::at(0);
-    assert!(&rt; pid.index() < starts.n());
-    for (inc, interval, want) in [(0, 1, true), (0, 0, false), (1, 1, false)] {
-        let orphan = starts.is_orphan(pid, Tag { inc, interval });
-        assert_eq!(rt; orphan, want, "incarnation {inc} in interval {interval}");
+// Plays the rows with the manager of a new cluster of so many processes.
+fn play(rt: &impl Abort, alloc: Global, name: &str, n: usize, rows: &[Row]) -> Result<(), Fail> {
+    assert!(rt; 1 <= n && n <= MAX_PROCESSES);
+    let mut manager = Manager::new(alloc, n)?;
+    for (i, row) in rows.iter().enumerate() {
+        let told = holds(alloc, &mut manager, row);
+        assert_eq!(rt; told, Some(true), "row {i}: {name}");
     }
     Ok(())
 }
 
-#[test]
-fn calls_of_an_earlier_round_are_stale(rt: HostRuntime) -> Result<(), Fail> {
-    let heap = rt.alloc();
-    let mut two = manager_after_a_round(&rt, heap)?;
-    let output = Err(OutputError::Stale { round: 1 });
-    assert_note(
-        &rt,
-        heap,
-        &mut two,
-        (LOG, 0, 0, 1),
-        (&[1, 1], &[0, 1]),
-        STALE,
-    );
-    assert_note(
-        &rt,
-        heap,
-        &mut two,
-        (CKPT, 0, 0, 1),
-        (&[1, 1], &[0, 1]),
-        STALE,
-    );
-    assert_output(&rt, heap, &mut two, (0, 0, 1, 0), b"A", output);
-    assert_fail(
-        &rt,
-        heap,
-        &mut two,
-        (0, 0),
-        Err(FailError::Stale { round: 1 }),
-    );
-    assert_join(
-        &rt,
-        heap,
-        &mut two,
-        (0, 0, 1),
-        Err(JoinError::Stale { round: 1 }),
-    );
-    assert_join(&rt, heap, &mut two, (0, 1, 0), Err(JoinError::NoRound));
-    assert_front(&rt, &two, (2, 1, false), &[0, 0]);
-    Ok(())
-}
+const WAITING: Result<Gathered, FailError> = Ok(Gathered::Waiting);
+
+const FINISHED: Result<Gathered, FailError> = Ok(Gathered::Finished);
+
+const JOINED: Result<Gathered, JoinError> = Ok(Gathered::Waiting);
+
+const CLOSED: Result<Gathered, JoinError> = Ok(Gathered::Finished);
+
+// What is shown, the number of processes, and the rows.
+const SCRIPTS: [(&str, usize, &[Row]); 12] = [
+    (
+        "a round cuts what depends on the lost process, and calls of the round before are stale",
+        2,
+        &[
+            Row::Note(LOG, (0, 0, 1), &[1, 1], &[0, 1], NOTED),
+            Row::Output((0, 0, 1), 0, b"A", HELD),
+            Row::Fail((1, 0), WAITING),
+            Row::Front((1, 0, true), &[0, 0]),
+            Row::Join((0, 0, 1), CLOSED),
+            Row::Front((2, 1, false), &[0, 0]),
+            Row::Released(0, 0, &[]),
+            Row::Verdict(0, (1, 1, 0, true)),
+            Row::Verdict(1, (1, 1, 0, true)),
+            Row::Starts(0, [Some(0), Some(1), None]),
+            Row::Orphan(0, (0, 1), true),
+            Row::Orphan(0, (0, 0), false),
+            Row::Orphan(0, (1, 1), false),
+            Row::Note(LOG, (0, 0, 1), &[1, 1], &[0, 1], STALE),
+            Row::Note(CKPT, (0, 0, 1), &[1, 1], &[0, 1], STALE),
+            Row::Output((0, 0, 1), 0, b"A", Err(OutputError::Stale { round: 1 })),
+            Row::Fail((0, 0), Err(FailError::Stale { round: 1 })),
+            Row::Join((0, 0, 1), Err(JoinError::Stale { round: 1 })),
+            Row::Join((0, 1, 0), Err(JoinError::NoRound)),
+            Row::Front((2, 1, false), &[0, 0]),
+        ],
+    ),
+    (
+        "strangers are refused in any round",
+        1,
+        &[
+            Row::Note(LOG, (1, 7, 1), &[0, 1], &[0, 0], STRANGER),
+            Row::Note(CKPT, (1, 7, 1), &[0, 1], &[0, 0], STRANGER),
+            Row::Output((1, 7, 1), 0, b"A", Err(OutputError::Stranger)),
+            Row::Fail((1, 7), Err(FailError::Stranger)),
+            Row::Join((1, 7, 1), Err(JoinError::Stranger)),
+            Row::Front((0, 0, false), &[0]),
+        ],
+    ),
+    (
+        "one process finishes a round by its failure",
+        1,
+        &[
+            Row::Verdict(0, (0, 0, 0, false)),
+            Row::Fail((0, 0), FINISHED),
+            Row::Front((1, 1, false), &[0]),
+            Row::Verdict(0, (1, 1, 0, true)),
+        ],
+    ),
+    (
+        "outputs are released as the state rises",
+        1,
+        &[
+            Row::Output((0, 0, 2), 0, b"A", HELD),
+            Row::Note(LOG, (0, 0, 1), &[1], &[1], RAISED),
+            Row::Released(0, 1, &[]),
+            Row::Note(LOG, (0, 0, 2), &[2], &[2], RAISED),
+            Row::Released(0, 1, &[(0, 2, b"A")]),
+            Row::Output((0, 0, 2), 0, b"A", Ok(OutputNote::Known)),
+            Row::Output((0, 0, 2), 2, b"A", Err(OutputError::Gap(1))),
+            Row::Front((2, 0, false), &[2]),
+        ],
+    ),
+    (
+        "outputs are held beyond the state alone",
+        1,
+        &[
+            Row::Note(LOG, (0, 0, 1), &[1], &[1], RAISED),
+            Row::Output((0, 0, 1), 0, b"A", Ok(OutputNote::Released)),
+            Row::Output((0, 0, 2), 1, b"B", HELD),
+            Row::Released(0, 2, &[(0, 1, b"A")]),
+            Row::Bounds(0, 0, (&[1], 1)),
+            Row::Fail((0, 0), FINISHED),
+            Row::Released(0, 1, &[(0, 1, b"A")]),
+        ],
+    ),
+    (
+        "other outputs of a number are refused",
+        1,
+        &[
+            Row::Output((0, 0, 2), 0, b"A", HELD),
+            Row::Output((0, 0, 2), 0, b"B", DIFFERS),
+            Row::Output((0, 0, 1), 0, b"A", DIFFERS),
+            Row::Output((0, 0, 1), 1, b"B", DIFFERS),
+            Row::Output((0, 0, 2), 1, b"B", HELD),
+            Row::Released(0, 2, &[]),
+        ],
+    ),
+    (
+        "a survivor at the state goes on",
+        2,
+        &[
+            Row::Note(LOG, (0, 0, 1), &[1, 0], &[1, 0], RAISED),
+            Row::Fail((1, 0), WAITING),
+            Row::Join((0, 0, 1), CLOSED),
+            Row::Front((3, 1, false), &[1, 0]),
+            Row::Verdict(0, (1, 0, 1, false)),
+            Row::Verdict(1, (1, 1, 0, true)),
+            Row::Starts(0, [Some(0), None, None]),
+        ],
+    ),
+    (
+        "a failure after a join counts",
+        3,
+        &[
+            Row::Fail((2, 0), WAITING),
+            Row::Join((0, 0, 0), JOINED),
+            Row::Join((0, 0, 0), Err(JoinError::Joined)),
+            Row::Fail((0, 0), WAITING),
+            Row::Fail((0, 0), WAITING),
+            Row::Join((0, 0, 0), Err(JoinError::Joined)),
+            Row::Join((1, 0, 0), CLOSED),
+            Row::Verdict(0, (1, 1, 0, true)),
+            Row::Verdict(1, (1, 0, 0, false)),
+        ],
+    ),
+    (
+        "two failures are one round",
+        3,
+        &[
+            Row::Fail((0, 0), WAITING),
+            Row::Fail((1, 0), WAITING),
+            Row::Front((1, 0, true), &[0, 0, 0]),
+            Row::Join((2, 0, 0), CLOSED),
+            Row::Front((2, 1, false), &[0, 0, 0]),
+            Row::Verdict(1, (1, 1, 0, true)),
+            Row::Verdict(2, (1, 0, 0, false)),
+        ],
+    ),
+    (
+        "pruned rows are not needed later",
+        1,
+        &[
+            Row::Note(LOG, (0, 0, 1), &[1], &[1], RAISED),
+            Row::Note(CKPT, (0, 0, 1), &[1], &[1], NOTED),
+            Row::Prune,
+            Row::Note(LOG, (0, 0, 2), &[2], &[2], RAISED),
+            Row::Bounds(0, 1, (&[2], 0)),
+            Row::Fail((0, 0), FINISHED),
+            Row::Note(CKPT, (0, 1, 3), &[3], &[3], RAISED),
+            Row::Prune,
+            Row::Note(LOG, (0, 1, 4), &[4], &[4], RAISED),
+            Row::Front((5, 1, false), &[4]),
+            Row::Bounds(0, 3, (&[4], 0)),
+        ],
+    ),
+    (
+        "bounds count what receivers got",
+        2,
+        &[
+            Row::Note(LOG, (1, 0, 1), &[0, 1], &[1, 0], RAISED),
+            Row::Note(LOG, (1, 0, 2), &[9, 2], &[2, 0], NOTED),
+            Row::Bounds(0, 0, (&[0, 1], 0)),
+            Row::Bounds(1, 0, (&[0, 0], 0)),
+        ],
+    ),
+    (
+        "the largest cluster gathers",
+        MAX_PROCESSES,
+        &[
+            Row::Fail((15, 0), WAITING),
+            Row::Join((0, 0, 0), JOINED),
+            Row::Join((1, 0, 0), JOINED),
+            Row::Join((2, 0, 0), JOINED),
+            Row::Join((3, 0, 0), JOINED),
+            Row::Join((4, 0, 0), JOINED),
+            Row::Join((5, 0, 0), JOINED),
+            Row::Join((6, 0, 0), JOINED),
+            Row::Join((7, 0, 0), JOINED),
+            Row::Join((8, 0, 0), JOINED),
+            Row::Join((9, 0, 0), JOINED),
+            Row::Join((10, 0, 0), JOINED),
+            Row::Join((11, 0, 0), JOINED),
+            Row::Join((12, 0, 0), JOINED),
+            Row::Join((13, 0, 0), JOINED),
+            Row::Join((14, 0, 1), CLOSED),
+            Row::Front((2, 1, false), &[0; MAX_PROCESSES]),
+            Row::Verdict(13, (1, 0, 0, false)),
+            Row::Verdict(14, (1, 1, 0, true)),
+            Row::Verdict(15, (1, 1, 0, true)),
+        ],
+    ),
+];
 
 #[test]
-fn strangers_are_refused_in_any_round(rt: HostRuntime) -> Result<(), Fail> {
-    let heap = rt.alloc();
-    let mut one = Manager::new(heap, 1)?;
-    let stranger = Err(RecordError::Refused(NoteError::Stranger));
-    assert_note(
-        &rt,
-        heap,
-        &mut one,
-        (LOG, 1, 7, 1),
-        (&[0, 1], &[0, 0]),
-        stranger,
-    );
-    assert_note(
-        &rt,
-        heap,
-        &mut one,
-        (CKPT, 1, 7, 1),
-        (&[0, 1], &[0, 0]),
-        stranger,
-    );
-    assert_output(
-        &rt,
-        heap,
-        &mut one,
-        (1, 7, 1, 0),
-        b"A",
-        Err(OutputError::Stranger),
-    );
-    assert_fail(&rt, heap, &mut one, (1, 7), Err(FailError::Stranger));
-    assert_join(&rt, heap, &mut one, (1, 7, 1), Err(JoinError::Stranger));
-    assert_front(&rt, &one, (0, 0, false), &[0]);
-    Ok(())
-}
-
-#[test]
-fn one_process_finishes_a_round_by_its_failure(rt: HostRuntime) -> Result<(), Fail> {
-    let heap = rt.alloc();
-    let mut one = Manager::new(heap, 1)?;
-    assert_verdict(&rt, &one, 0, (0, 0, 0, false));
-    assert_fail(&rt, heap, &mut one, (0, 0), Ok(Gathered::Finished));
-    assert_front(&rt, &one, (1, 1, false), &[0]);
-    assert_verdict(&rt, &one, 0, (1, 1, 0, true));
-    Ok(())
-}
-
-#[test]
-fn outputs_are_released_as_the_state_rises(rt: HostRuntime) -> Result<(), Fail> {
-    let heap = rt.alloc();
-    let mut one = Manager::new(heap, 1)?;
-    assert_output(
-        &rt,
-        heap,
-        &mut one,
-        (0, 0, 2, 0),
-        b"A",
-        Ok(OutputNote::Held),
-    );
-    assert_note(&rt, heap, &mut one, (LOG, 0, 0, 1), (&[1], &[1]), RAISED);
-    assert_released(&rt, &one, (0, 1), &[]);
-    assert_note(&rt, heap, &mut one, (LOG, 0, 0, 2), (&[2], &[2]), RAISED);
-    assert_released(&rt, &one, (0, 1), &[(0, 2, b"A")]);
-    assert_output(
-        &rt,
-        heap,
-        &mut one,
-        (0, 0, 2, 0),
-        b"A",
-        Ok(OutputNote::Known),
-    );
-    assert_output(
-        &rt,
-        heap,
-        &mut one,
-        (0, 0, 2, 2),
-        b"A",
-        Err(OutputError::Gap(1)),
-    );
-    assert_front(&rt, &one, (2, 0, false), &[2]);
-    Ok(())
-}
-
-#[test]
-fn outputs_are_held_beyond_the_state_alone(rt: HostRuntime) -> Result<(), Fail> {
-    let heap = rt.alloc();
-    let mut one = Manager::new(heap, 1)?;
-    assert_note(&rt, heap, &mut one, (LOG, 0, 0, 1), (&[1], &[1]), RAISED);
-    assert_output(
-        &rt,
-        heap,
-        &mut one,
-        (0, 0, 1, 0),
-        b"A",
-        Ok(OutputNote::Released),
-    );
-    assert_output(
-        &rt,
-        heap,
-        &mut one,
-        (0, 0, 2, 1),
-        b"B",
-        Ok(OutputNote::Held),
-    );
-    assert_released(&rt, &one, (0, 2), &[(0, 1, b"A")]);
-    assert_bounds(&rt, &one, 0, 0, (&[1], 1));
-    assert_fail(&rt, heap, &mut one, (0, 0), Ok(Gathered::Finished));
-    assert_released(&rt, &one, (0, 1), &[(0, 1, b"A")]);
-    Ok(())
-}
-
-#[test]
-fn other_outputs_of_a_number_are_refused(rt: HostRuntime) -> Result<(), Fail> {
-    let heap = rt.alloc();
-    let mut one = Manager::new(heap, 1)?;
-    let differs = Err(OutputError::Differs);
-    assert_output(
-        &rt,
-        heap,
-        &mut one,
-        (0, 0, 2, 0),
-        b"A",
-        Ok(OutputNote::Held),
-    );
-    assert_output(&rt, heap, &mut one, (0, 0, 2, 0), b"B", differs);
-    assert_output(&rt, heap, &mut one, (0, 0, 1, 0), b"A", differs);
-    assert_output(&rt, heap, &mut one, (0, 0, 1, 1), b"B", differs);
-    assert_output(
-        &rt,
-        heap,
-        &mut one,
-        (0, 0, 2, 1),
-        b"B",
-        Ok(OutputNote::Held),
-    );
-    assert_released(&rt, &one, (0, 2), &[]);
-    Ok(())
-}
-
-#[test]
-fn survivor_at_the_state_goes_on(rt: HostRuntime) -> Result<(), Fail> {
-    let heap = rt.alloc();
-    let mut two = Manager::new(heap, 2)?;
-    assert_note(
-        &rt,
-        heap,
-        &mut two,
-        (LOG, 0, 0, 1),
-        (&[1, 0], &[1, 0]),
-        RAISED,
-    );
-    assert_fail(&rt, heap, &mut two, (1, 0), Ok(Gathered::Waiting));
-    assert_join(&rt, heap, &mut two, (0, 0, 1), Ok(Gathered::Finished));
-    assert_front(&rt, &two, (3, 1, false), &[1, 0]);
-    assert_verdict(&rt, &two, 0, (1, 0, 1, false));
-    assert_verdict(&rt, &two, 1, (1, 1, 0, true));
-    assert_starts(&rt, &two, 0, [Some(0), None, None]);
-    Ok(())
-}
-
-#[test]
-fn failure_after_a_join_counts(rt: HostRuntime) -> Result<(), Fail> {
-    let heap = rt.alloc();
-    let mut three = Manager::new(heap, 3)?;
-    assert_fail(&rt, heap, &mut three, (2, 0), Ok(Gathered::Waiting));
-    assert_join(&rt, heap, &mut three, (0, 0, 0), Ok(Gathered::Waiting));
-    assert_join(&rt, heap, &mut three, (0, 0, 0), Err(JoinError::Joined));
-    assert_fail(&rt, heap, &mut three, (0, 0), Ok(Gathered::Waiting));
-    assert_fail(&rt, heap, &mut three, (0, 0), Ok(Gathered::Waiting));
-    assert_join(&rt, heap, &mut three, (0, 0, 0), Err(JoinError::Joined));
-    assert_join(&rt, heap, &mut three, (1, 0, 0), Ok(Gathered::Finished));
-    assert_verdict(&rt, &three, 0, (1, 1, 0, true));
-    assert_verdict(&rt, &three, 1, (1, 0, 0, false));
-    Ok(())
-}
-
-#[test]
-fn two_failures_are_one_round(rt: HostRuntime) -> Result<(), Fail> {
-    let heap = rt.alloc();
-    let mut three = Manager::new(heap, 3)?;
-    assert_fail(&rt, heap, &mut three, (0, 0), Ok(Gathered::Waiting));
-    assert_fail(&rt, heap, &mut three, (1, 0), Ok(Gathered::Waiting));
-    assert_front(&rt, &three, (1, 0, true), &[0, 0, 0]);
-    assert_join(&rt, heap, &mut three, (2, 0, 0), Ok(Gathered::Finished));
-    assert_front(&rt, &three, (2, 1, false), &[0, 0, 0]);
-    assert_verdict(&rt, &three, 1, (1, 1, 0, true));
-    assert_verdict(&rt, &three, 2, (1, 0, 0, false));
-    Ok(())
-}
-
-#[test]
-fn pruned_rows_are_not_needed_later(rt: HostRuntime) -> Result<(), Fail> {
-    let heap = rt.alloc();
-    let mut one = Manager::new(heap, 1)?;
-    assert_note(&rt, heap, &mut one, (LOG, 0, 0, 1), (&[1], &[1]), RAISED);
-    assert_note(&rt, heap, &mut one, (CKPT, 0, 0, 1), (&[1], &[1]), NOTED);
-    one.prune();
-    assert_note(&rt, heap, &mut one, (LOG, 0, 0, 2), (&[2], &[2]), RAISED);
-    assert_bounds(&rt, &one, 0, 1, (&[2], 0));
-    assert_fail(&rt, heap, &mut one, (0, 0), Ok(Gathered::Finished));
-    assert_note(&rt, heap, &mut one, (CKPT, 0, 1, 3), (&[3], &[3]), RAISED);
-    one.prune();
-    assert_note(&rt, heap, &mut one, (LOG, 0, 1, 4), (&[4], &[4]), RAISED);
-    assert_front(&rt, &one, (5, 1, false), &[4]);
-    assert_bounds(&rt, &one, 0, 3, (&[4], 0));
-    Ok(())
-}
-
-#[test]
-fn bounds_count_what_receivers_got(rt: HostRuntime) -> Result<(), Fail> {
-    let heap = rt.alloc();
-    let mut two = Manager::new(heap, 2)?;
-    assert_note(
-        &rt,
-        heap,
-        &mut two,
-        (LOG, 1, 0, 1),
-        (&[0, 1], &[1, 0]),
-        RAISED,
-    );
-    assert_note(
-        &rt,
-        heap,
-        &mut two,
-        (LOG, 1, 0, 2),
-        (&[9, 2], &[2, 0]),
-        NOTED,
-    );
-    assert_bounds(&rt, &two, 0, 0, (&[0, 1], 0));
-    assert_bounds(&rt, &two, 1, 0, (&[0, 0], 0));
-    Ok(())
-}
-
-#[test]
-fn the_largest_cluster_gathers(rt: HostRuntime) -> Result<(), Fail> {
-    let heap = rt.alloc();
-    let mut all = Manager::new(heap, MAX_PROCESSES)?;
-    assert_fail(&rt, heap, &mut all, (15, 0), Ok(Gathered::Waiting));
-    for pid in 0..14 {
-        assert_join(&rt, heap, &mut all, (pid, 0, 0), Ok(Gathered::Waiting));
+fn scripts_have_their_answers(rt: HostRuntime) -> Result<(), Fail> {
+    for (name, n, rows) in &SCRIPTS {
+        play(&rt, rt.alloc(), name, *n, rows)?;
     }
-    assert_join(&rt, heap, &mut all, (14, 0, 1), Ok(Gathered::Finished));
-    assert_front(&rt, &all, (2, 1, false), &[0; MAX_PROCESSES]);
-    assert_verdict(&rt, &all, 13, (1, 0, 0, false));
-    assert_verdict(&rt, &all, 14, (1, 1, 0, true));
-    assert_verdict(&rt, &all, 15, (1, 1, 0, true));
     Ok(())
+}
+
+fn has_text<E: Display>(alloc: Global, error: &E, text: &str) -> Result<bool, AllocError> {
+    Ok(error.to_string(alloc)?.as_str() == text)
 }
 
 #[test]
@@ -497,25 +402,17 @@ fn refusals_are_told(rt: HostRuntime) -> Result<(), Fail> {
     let heap = rt.alloc();
     let stale = RecordError::Stale { round: 7 };
     let refused = RecordError::Refused(NoteError::Differs);
-    assert_eq!(rt;
-        stale.to_string(heap)?.as_str(),
-        "the manager is in round 7"
-    );
-    assert_eq!(rt;
-        refused.to_string(heap)?.as_str(),
-        "a record of this interval has other vectors"
-    );
-    assert_eq!(rt;
-        OutputError::Gap(3).to_string(heap)?.as_str(),
-        "the next output is 3"
-    );
-    assert_eq!(rt;
-        FailError::Spent.to_string(heap)?.as_str(),
-        "there is no further round"
-    );
-    assert_eq!(rt;
-        JoinError::NoRound.to_string(heap)?.as_str(),
-        "no gathering is open"
-    );
+    let are_told = [
+        has_text(heap, &stale, "the manager is in round 7")?,
+        has_text(
+            heap,
+            &refused,
+            "a record of this interval has other vectors",
+        )?,
+        has_text(heap, &OutputError::Gap(3), "the next output is 3")?,
+        has_text(heap, &FailError::Spent, "there is no further round")?,
+        has_text(heap, &JoinError::NoRound, "no gathering is open")?,
+    ];
+    assert_eq!(rt; are_told, [true; 5]);
     Ok(())
 }

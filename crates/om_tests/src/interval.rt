@@ -5,10 +5,9 @@ use std::test::Fail;
 
 #[test]
 fn processes_are_numbered_below_the_limit(rt: HostRuntime) -> Result<(), Fail> {
-    assert_eq!(rt; MAX_PROCESSES, 16);
-    assert_eq!(rt; Pid::new(15).ok_or("15 is a process")?.index(), 15);
-    assert_eq!(rt; Pid::new(16), None);
-    assert_eq!(rt; Pid::at(3).index(), 3);
+    let last = Pid::new(15).ok_or("15 is a process")?;
+    let told = (MAX_PROCESSES, last.index(), Pid::at(3).index());
+    assert_eq!(rt; (told, Pid::new(16)), ((16, 15, 3), None));
     Ok(())
 }
 
@@ -17,54 +16,57 @@ fn vector_of(rt: &impl Abort, places: &[u32]) -> DepVec {
     DepVec::from_slice(places).expect(rt, "1 to 16 places")
 }
 
-// A vector of so many places, each 0.
-fn zeros(rt: &impl Abort, places: usize) -> DepVec {
-    DepVec::zeros(places).expect(rt, "1 to 16 places")
+// How many places a vector of so many zeros has, None where there is none.
+fn zeros(places: usize) -> Option<usize> {
+    Some(DepVec::zeros(places)?.n())
 }
 
-const SEVENS: [u32; 16] = [7; 16];
+fn is_vector(places: &[u32]) -> bool {
+    match DepVec::from_slice(places) {
+        Some(vector) => vector.as_slice() == places,
+        None => false,
+    }
+}
+
+const SEVENS: [u32; 17] = [7; 17];
 
 fn assert_lengths(rt: &impl Abort) {
-    assert!(rt; DepVec::zeros(0).is_none());
-    assert_eq!(rt; zeros(rt, 1).n(), 1);
-    assert_eq!(rt; zeros(rt, 16).n(), 16);
-    assert!(rt; DepVec::zeros(17).is_none());
+    let told = [zeros(0), zeros(1), zeros(16), zeros(17)];
+    assert_eq!(rt; told, [None, Some(1), Some(16), None]);
+    let told = [is_vector(&[]), is_vector(&SEVENS[..16]), is_vector(&SEVENS)];
+    assert_eq!(rt; told, [false, true, false]);
     assert!(rt; DepVec::from_slice(&[]).is_none());
-    assert!(rt; DepVec::from_slice(&[7; 17]).is_none());
-}
-
-fn assert_longest(rt: &impl Abort) {
-    let longest = vector_of(rt, &SEVENS);
-    assert_eq!(rt; longest.as_slice(), SEVENS.as_slice());
+    assert!(rt; DepVec::from_slice(&SEVENS).is_none());
 }
 
 // The vector 0, 5, 9, made place by place.
 fn assert_changes(rt: &impl Abort) {
-    let mut vector = zeros(rt, 3);
+    let mut vector = DepVec::zeros(3).expect(rt, "3 places");
     assert_eq!(rt; vector.n(), 3);
     vector.set(Pid::at(1), 5);
     vector.join_tag(Pid::at(1), 4);
     vector.join_tag(Pid::at(2), 9);
-    assert_eq!(rt; vector.get(Pid::at(1)), 5);
-    assert_eq!(rt; vector.as_slice(), [0, 5, 9].as_slice());
-    assert_eq!(rt; vector_of(rt, &[0, 5, 9]), vector);
-    assert!(rt; !zeros(rt, 2).leq(&vector));
-}
-
-fn assert_leq(rt: &impl Abort, low: &[u32], high: &[u32], want: bool) {
-    let leq = vector_of(rt, low).leq(&vector_of(rt, high));
-    assert_eq!(rt; leq, want, "{low:?} and {high:?}");
+    assert_eq!(rt;
+        (vector.get(Pid::at(1)), vector.as_slice()),
+        (5, [0, 5, 9].as_slice())
+    );
+    assert!(rt; vector_of(rt, &[0, 5, 9]) == vector);
 }
 
 #[test]
 fn vectors_are_read_and_changed_by_place(rt: HostRuntime) {
     assert_lengths(&rt);
-    assert_longest(&rt);
     assert_changes(&rt);
-    assert_leq(&rt, &[0, 5, 9], &[0, 5, 9], true);
-    assert_leq(&rt, &[0, 4, 9], &[0, 5, 9], true);
-    assert_leq(&rt, &[1, 0, 0], &[0, 5, 9], false);
-    assert_leq(&rt, &[0, 5, 10], &[0, 5, 9], false);
+    for (low, high, want) in [
+        ([0, 5, 9].as_slice(), [0, 5, 9].as_slice(), true),
+        (&[0, 4, 9], &[0, 5, 9], true),
+        (&[1, 0, 0], &[0, 5, 9], false),
+        (&[0, 5, 10], &[0, 5, 9], false),
+        (&[0, 0], &[0, 5, 9], false),
+    ] {
+        let leq = vector_of(&rt, low).leq(&vector_of(&rt, high));
+        assert_eq!(rt; leq, want, "{low:?} and {high:?}");
+    }
     laws::lower_vector_has_smaller_sum();
 }
 
@@ -72,8 +74,9 @@ fn vectors_are_read_and_changed_by_place(rt: HostRuntime) {
 fn bounds_are_compared(rt: HostRuntime) -> Result<(), Fail> {
     let got = DepVec::from_slice(&[3, 4]).ok_or("2 places")?;
     let bounds = Bounds { got, released: 5 };
-    assert_eq!(rt; bounds, Bounds { got, released: 5 });
-    assert_eq!(rt; bounds == Bounds { got, released: 6 }, false);
+    let is_same = bounds == Bounds { got, released: 5 };
+    let is_other = bounds == Bounds { got, released: 6 };
+    assert_eq!(rt; (is_same, is_other), (true, false));
     Ok(())
 }
 
@@ -89,57 +92,40 @@ fn begun(rt: &impl Abort, alloc: Global) -> Starts {
 }
 
 // The newest incarnation of a process, and where an incarnation of it starts.
-fn assert_start(
-    rt: &impl Abort,
-    starts: &Starts,
-    (pid, inc): (usize, u32),
-    newest: u32,
-    start: Option<u64>,
-) {
-    assert!(rt; pid < starts.n());
-    assert_eq!(rt; starts.incs(Pid::at(pid)), newest, "of process {pid}");
-    assert_eq!(rt;
-        starts.start(Pid::at(pid), inc),
-        start,
-        "of process {pid}, incarnation {inc}"
-    );
+fn start(starts: &Starts, (pid, inc): (usize, u32)) -> Option<(u32, Option<u64>)> {
+    if starts.n() <= pid {
+        return None;
+    }
+    Some((starts.incs(Pid::at(pid)), starts.start(Pid::at(pid), inc)))
 }
 
-fn assert_orphan(
-    rt: &impl Abort,
-    starts: &Starts,
-    (pid, inc): (usize, u32),
-    interval: u32,
-    want: bool,
-) {
-    assert!(rt; pid < starts.n());
-    let orphan = starts.is_orphan(Pid::at(pid), Tag { inc, interval });
-    assert_eq!(rt;
-        orphan,
-        want,
-        "incarnation {inc} of process {pid} in interval {interval}"
-    );
+fn is_orphan(starts: &Starts, (pid, inc): (usize, u32), interval: u32) -> Option<bool> {
+    if starts.n() <= pid {
+        return None;
+    }
+    Some(starts.is_orphan(Pid::at(pid), Tag { inc, interval }))
 }
 
 #[test]
 fn incarnations_begin_above_the_state(rt: HostRuntime) {
     let starts = begun(&rt, rt.alloc());
-    for (place, newest, start) in &[
-        ((0, 0), 0, Some(0)),
-        ((0, 1), 0, None),
-        ((1, 0), 1, Some(0)),
-        ((1, 1), 1, Some(5)),
-        ((1, 2), 1, None),
+    for (place, told) in [
+        ((0, 0), (0, Some(0))),
+        ((0, 1), (0, None)),
+        ((1, 0), (1, Some(0))),
+        ((1, 1), (1, Some(5))),
+        ((1, 2), (1, None)),
     ] {
-        assert_start(&rt, &starts, *place, *newest, *start);
+        assert_eq!(rt; start(&starts, place), Some(told), "{place:?}");
     }
-    for (place, interval, want) in &[
+    for (place, interval, want) in [
         ((1, 0), 4, false),
         ((1, 0), 5, true),
         ((1, 0), 6, true),
         ((1, 1), 6, false),
         ((0, 0), 6, false),
     ] {
-        assert_orphan(&rt, &starts, *place, *interval, *want);
+        let told = is_orphan(&starts, place, interval);
+        assert_eq!(rt; told, Some(want), "{place:?} in {interval}");
     }
 }

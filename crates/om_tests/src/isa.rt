@@ -2,7 +2,6 @@ use om_isa::{
     Ext, FenceBits, Imm12, Inst, Off13, Off21, Reg, Shamt, Upper, WriteFault, decode, encode,
 };
 use std::alloc::Global;
-use std::process::Abort;
 use std::test::Fail;
 
 // The text of a word, None where it is no instruction.
@@ -49,97 +48,66 @@ fn words_have_their_texts(rt: HostRuntime) -> Result<(), Fail> {
     Ok(())
 }
 
-fn assert_registers(rt: &impl Abort) {
-    for (value, lawful) in &[(0, true), (31, true), (32, false), (255, false)] {
-        let reg = Reg::new(*value);
-        assert_eq!(rt; reg.is_some(), *lawful);
-        if let Some(reg) = reg {
-            assert_eq!(rt; reg.value(), *value);
-        }
-    }
+// The fields of instructions that have ranges.
+#[derive(Clone, Copy, Debug)]
+enum Field {
+    Register,
+    Shift,
+    Immediate,
+    Branch,
+    Jump,
+    Upper,
+    Fence,
 }
 
-fn assert_shamts(rt: &impl Abort) {
-    for (value, lawful) in &[(0, true), (31, true), (32, false), (255, false)] {
-        let shamt = Shamt::new(*value);
-        assert_eq!(rt; shamt.is_some(), *lawful);
-        if let Some(shamt) = shamt {
-            assert_eq!(rt; shamt.value(), *value);
-        }
-    }
-}
-
-fn assert_immediates(rt: &impl Abort) {
-    for (value, lawful) in &[(-2049, false), (-2048, true), (2047, true), (2048, false)] {
-        let imm = Imm12::new(*value);
-        assert_eq!(rt; imm.is_some(), *lawful);
-        if let Some(imm) = imm {
-            assert_eq!(rt; imm.value(), *value);
-        }
-    }
-}
-
-fn assert_branches(rt: &impl Abort) {
-    for (value, lawful) in &[
-        (-4098, false),
-        (-4096, true),
-        (4093, false),
-        (4094, true),
-        (4096, false),
-    ] {
-        let offset = Off13::new(*value);
-        assert_eq!(rt; offset.is_some(), *lawful);
-        if let Some(offset) = offset {
-            assert_eq!(rt; offset.value(), *value);
-        }
-    }
-}
-
-fn assert_jumps(rt: &impl Abort) {
-    for (value, lawful) in &[
-        (-1_048_578, false),
-        (-1_048_576, true),
-        (1_048_574, true),
-        (1_048_575, false),
-        (1_048_576, false),
-    ] {
-        let offset = Off21::new(*value);
-        assert_eq!(rt; offset.is_some(), *lawful);
-        if let Some(offset) = offset {
-            assert_eq!(rt; offset.value(), *value);
-        }
-    }
-}
-
-fn assert_uppers(rt: &impl Abort) {
-    for (value, lawful) in &[(0, true), (1_048_575, true), (1_048_576, false)] {
-        let upper = Upper::new(*value);
-        assert_eq!(rt; upper.is_some(), *lawful);
-        if let Some(upper) = upper {
-            assert_eq!(rt; upper.value(), *value);
-        }
-    }
-}
-
-fn assert_fences(rt: &impl Abort) {
-    for (value, lawful) in &[(0, true), (4095, true), (4096, false)] {
-        let bits = FenceBits::new(*value);
-        assert_eq!(rt; bits.is_some(), *lawful);
-        if let Some(bits) = bits {
-            assert_eq!(rt; bits.value(), *value);
-        }
-    }
+// What a field keeps of a number: the number, or None where it does not fit.
+fn kept(field: Field, number: i32) -> Option<i32> {
+    Some(match field {
+        Field::Register => i32::from(Reg::new(u8::try_from(number).ok()?)?.value()),
+        Field::Shift => i32::from(Shamt::new(u8::try_from(number).ok()?)?.value()),
+        Field::Immediate => Imm12::new(number)?.value(),
+        Field::Branch => Off13::new(number)?.value(),
+        Field::Jump => Off21::new(number)?.value(),
+        Field::Upper => i32::try_from(Upper::new(u32::try_from(number).ok()?)?.value()).ok()?,
+        Field::Fence => i32::from(FenceBits::new(u16::try_from(number).ok()?)?.value()),
+    })
 }
 
 #[test]
 fn fields_keep_their_ranges(rt: HostRuntime) {
-    assert_registers(&rt);
-    assert_shamts(&rt);
-    assert_immediates(&rt);
-    assert_branches(&rt);
-    assert_jumps(&rt);
-    assert_uppers(&rt);
-    assert_fences(&rt);
+    for (field, number, lawful) in [
+        (Field::Register, 0, true),
+        (Field::Register, 31, true),
+        (Field::Register, 32, false),
+        (Field::Register, 255, false),
+        (Field::Shift, 0, true),
+        (Field::Shift, 31, true),
+        (Field::Shift, 32, false),
+        (Field::Shift, 255, false),
+        (Field::Immediate, -2049, false),
+        (Field::Immediate, -2048, true),
+        (Field::Immediate, 2047, true),
+        (Field::Immediate, 2048, false),
+        (Field::Branch, -4098, false),
+        (Field::Branch, -4096, true),
+        (Field::Branch, 4093, false),
+        (Field::Branch, 4094, true),
+        (Field::Branch, 4096, false),
+        (Field::Jump, -1_048_578, false),
+        (Field::Jump, -1_048_576, true),
+        (Field::Jump, 1_048_574, true),
+        (Field::Jump, 1_048_575, false),
+        (Field::Jump, 1_048_576, false),
+        (Field::Upper, 0, true),
+        (Field::Upper, 1_048_575, true),
+        (Field::Upper, 1_048_576, false),
+        (Field::Fence, 0, true),
+        (Field::Fence, 4095, true),
+        (Field::Fence, 4096, false),
+    ] {
+        let wanted = if lawful { Some(number) } else { None };
+        assert_eq!(rt; kept(field, number), wanted, "{field:?}");
+    }
 }
 
 #[test]

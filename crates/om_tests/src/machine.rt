@@ -61,14 +61,14 @@ fn assert_stop(rt: &impl Abort, alloc: Global, stop: &Stop) {
     let (image, size, steps, cause, pc, (r, value)) = *stop;
     let mut machine = loaded(alloc, image, size).expect(rt, "a machine");
     let event = Event::Trap(cause);
-    assert_eq!(rt; machine.run(1000), Ran { steps, event }, "{image:?}");
+    let told = (machine.run(1000), machine.peek(), machine.step());
+    let state = (machine.pc(), machine.count(), reg(&machine, r));
+    let ran = Ran { steps, event };
     assert_eq!(rt;
-        (machine.peek(), machine.step()),
-        (event, event),
+        (told, state),
+        ((ran, event, event), (pc, steps, Some(value))),
         "{image:?}"
     );
-    assert_eq!(rt; (machine.pc(), machine.count()), (pc, steps), "{image:?}");
-    assert_eq!(rt; reg(&machine, r), Some(value), "{image:?}");
 }
 
 #[test]
@@ -123,16 +123,17 @@ fn products_and_quotients_are_those_of_the_tables(rt: HostRuntime) -> Result<(),
         let mut word = 0x0220_81B3;
         for result in results {
             let mut machine = with_operands(rt.alloc(), a, b, word, Ext::Im)?;
-            assert_eq!(rt; machine.ext(), Ext::Im);
-            assert_eq!(rt; machine.step(), Event::Went, "{word:08x}");
+            let mut plain = with_operands(rt.alloc(), a, b, word, Ext::I)?;
+            let told = (machine.ext(), machine.step(), plain.step());
+            let state = (reg(&machine, 3), machine.pc(), machine.count());
             assert_eq!(rt;
-                reg(&machine, 3),
-                Some(result),
+                (told, state),
+                (
+                    (Ext::Im, Event::Went, Event::Trap(Illegal)),
+                    (Some(result), 4, 1)
+                ),
                 "{word:08x} of {a:x} and {b:x}"
             );
-            assert_eq!(rt; (machine.pc(), machine.count()), (4, 1));
-            let mut machine = with_operands(rt.alloc(), a, b, word, Ext::I)?;
-            assert_eq!(rt; machine.step(), Event::Trap(Illegal), "{word:08x}");
             word = word.wrapping_add(0x1000);
         }
     }
@@ -147,13 +148,13 @@ fn fuel_ends_a_run(rt: HostRuntime) -> Result<(), Fail> {
             steps: fuel,
             event: Event::Went,
         };
-        assert_eq!(rt; machine.run(fuel), ran);
-        assert_eq!(rt; (machine.pc(), machine.count()), (0, count));
-        assert_eq!(rt; machine.peek(), Event::Went);
+        let told = (machine.run(fuel), machine.peek());
+        let state = (machine.pc(), machine.count());
+        assert_eq!(rt; (told, state), ((ran, Event::Went), (0, count)), "{fuel}");
     }
     let mut machine = loaded(rt.alloc(), &[0x005000E7], 8)?;
-    assert_eq!(rt; machine.step(), Event::Went);
-    assert_eq!(rt; (machine.pc(), reg(&machine, 1)), (4, Some(4)));
+    let told = (machine.step(), machine.pc(), reg(&machine, 1));
+    assert_eq!(rt; told, (Event::Went, 4, Some(4)));
     Ok(())
 }
 
@@ -172,15 +173,14 @@ fn images_lie_at_the_start_of_memory(rt: HostRuntime) -> Result<(), Fail> {
         (&[], 65_536, true, Ok(65_536)),
         (&[], 65_540, false, Err(LoadFault::BadSize)),
     ] {
-        assert_eq!(rt; is_size(size), lawful, "{size}");
         let made = loaded(rt.alloc(), words, size).map(|machine| machine.size());
-        assert_eq!(rt; made, answer, "{size}");
+        assert_eq!(rt; (is_size(size), made), (lawful, answer), "{size}");
     }
     let machine = Machine::load(rt.alloc(), &[1, 2, 3], 8, Ext::I)?;
-    assert_eq!(rt; machine.memory(), [1, 2, 3, 0, 0, 0, 0, 0].as_slice());
+    let memory = [1, 2, 3, 0, 0, 0, 0, 0];
     assert_eq!(rt;
-        (machine.ext(), machine.regs()),
-        (Ext::I, [0; WRITABLE_REGISTERS])
+        (machine.ext(), machine.regs(), machine.memory()),
+        (Ext::I, [0; WRITABLE_REGISTERS], memory.as_slice())
     );
     for (addr, len, bytes) in [
         (0, 8, Some([1, 2, 3, 0, 0, 0, 0, 0].as_slice())),
@@ -202,20 +202,16 @@ fn machines_are_restored(rt: HostRuntime) -> Result<(), Fail> {
     regs[30] = 0xFFFF_FFFF;
     let memory = [0x13, 0, 0, 0, 5, 6, 7, 8];
     let machine = Machine::restore(rt.alloc(), &regs, 4, 9, &memory, Ext::Im)?;
+    let told = (machine.pc(), machine.count(), machine.ext());
+    let registers = (machine.regs(), reg(&machine, 0), reg(&machine, 1));
     assert_eq!(rt;
-        (machine.pc(), machine.count(), machine.ext()),
-        (4, 9, Ext::Im)
+        (told, registers, machine.memory()),
+        ((4, 9, Ext::Im), (regs, Some(0), Some(1)), memory.as_slice())
     );
-    assert_eq!(rt;
-        (machine.regs(), machine.memory()),
-        (regs, memory.as_slice())
-    );
-    assert_eq!(rt; (reg(&machine, 0), reg(&machine, 1)), (Some(0), Some(1)));
     let (regs, memory) = (machine.regs(), machine.memory());
     let same = Machine::restore(rt.alloc(), &regs, 4, 9, memory, machine.ext())?;
-    assert!(rt; machine == same);
     let other = Machine::restore(rt.alloc(), &regs, 4, 9, memory, Ext::I)?;
-    assert!(rt; machine != other);
+    assert!(rt; machine == same && machine != other);
     // The laws are called for the theorems on them: they do nothing.
     laws::loading_makes_a_machine();
     laws::restoring_gives_the_machine();
@@ -242,20 +238,21 @@ fn counted(rt: &impl Abort, alloc: Global, pc: u32, count: u64) -> Machine {
 
 fn assert_full(rt: &impl Abort, alloc: Global, pc: u32) {
     let mut machine = counted(rt, alloc, pc, u64::MAX);
-    assert_eq!(rt; machine.peek(), FULL);
-    assert_eq!(rt; machine.step(), FULL);
-    assert_eq!(rt; machine, counted(rt, alloc, pc, u64::MAX));
-    assert_eq!(rt; (machine.pc(), machine.count()), (pc, u64::MAX));
-    assert_eq!(rt; reg(&machine, 5), Some(7));
-    assert_eq!(rt; machine.memory(), NOP.as_slice());
+    let told = (machine.peek(), machine.step());
+    let state = (machine.pc(), machine.count(), reg(&machine, 5));
+    assert_eq!(rt;
+        (told, state, machine.memory()),
+        ((FULL, FULL), (pc, u64::MAX, Some(7)), NOP.as_slice())
+    );
+    assert!(rt; machine == counted(rt, alloc, pc, u64::MAX));
 }
 
 // The last instruction that is counted, and the one behind it, wherever pc is.
 #[test]
 fn a_full_count_stops_the_machine(rt: HostRuntime) {
     let mut machine = counted(&rt, rt.alloc(), 0, u64::MAX - 1);
-    assert_eq!(rt; machine.step(), Event::Went);
-    assert_eq!(rt; (machine.count(), machine.step()), (u64::MAX, FULL));
+    let told = (machine.step(), machine.count(), machine.step());
+    assert_eq!(rt; told, (Event::Went, u64::MAX, FULL));
     assert_full(&rt, rt.alloc(), 0);
     assert_full(&rt, rt.alloc(), 8);
 }
@@ -297,13 +294,16 @@ fn calls_are_seen_and_finished(rt: HostRuntime) -> Result<(), Fail> {
             }
             _ => continue,
         };
+        let registers = (reg(&machine, 10), reg(&machine, 11));
+        let state = (machine.pc(), machine.count(), machine.bytes(16, 4));
         assert_eq!(rt;
-            (reg(&machine, 10), reg(&machine, 11)),
-            (Some(first), Some(second)),
+            (registers, state),
+            (
+                (Some(first), Some(second)),
+                (20, 5, Some(memory.as_slice()))
+            ),
             "{call:?}"
         );
-        assert_eq!(rt; (machine.pc(), machine.count()), (20, 5), "{call:?}");
-        assert_eq!(rt; machine.bytes(16, 4), Some(memory.as_slice()), "{call:?}");
     }
     Ok(())
 }

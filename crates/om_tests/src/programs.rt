@@ -4,36 +4,31 @@ use om_text::{BuildError, LineError};
 use std::alloc::Global;
 use std::process::Abort;
 
-// Hands in a line of a program, by the words behind its first, and compares the answer.
-fn assert_program(
-    rt: &impl Abort,
-    alloc: Global,
-    programs: &mut Programs,
-    words: &[&[u8]],
-    want: Result<(), LineError>,
-) {
-    let told = programs.add_program(alloc, Ext::I, words);
-    assert_eq!(rt;
-        told,
-        want.map_err(|error| BuildError::Invalid(error)),
-        "{words:?}"
-    );
+#[derive(Clone, Copy)]
+enum Line {
+    Program,
+    Process,
 }
 
-// The same of a process.
-fn assert_process(
+// Hands in a line by the words behind its first, and compares the answer.
+fn assert_line(
     rt: &impl Abort,
     alloc: Global,
     programs: &mut Programs,
+    line: Line,
     words: &[&[u8]],
     want: Result<(), LineError>,
 ) {
-    let told = programs.add_process(alloc, words);
-    assert_eq!(rt;
-        told,
-        want.map_err(|error| BuildError::Invalid(error)),
-        "{words:?}"
-    );
+    let told = match line {
+        Line::Program => programs.add_program(alloc, Ext::I, words),
+        Line::Process => programs.add_process(alloc, words),
+    };
+    let told = match told {
+        Ok(()) => Ok(()),
+        Err(BuildError::Invalid(error)) => Err(error),
+        Err(BuildError::Memory) => panic!(rt; "memory"),
+    };
+    assert_eq!(rt; told, want, "{words:?}");
 }
 
 #[test]
@@ -62,7 +57,7 @@ fn lines_of_programs_are_taken_or_refused(rt: HostRuntime) {
         (&[b"", b"4"], Err(LineError::BadName)),
     ];
     for (words, want) in cases {
-        assert_program(&rt, rt.alloc(), &mut programs, words, want);
+        assert_line(&rt, rt.alloc(), &mut programs, Line::Program, words, want);
     }
     let image = programs.image(0).expect(&rt, "a program");
     assert_eq!(rt; (image.size, image.ext), (4, Ext::I));
@@ -73,7 +68,14 @@ fn lines_of_programs_are_taken_or_refused(rt: HostRuntime) {
 #[test]
 fn lines_of_processes_are_taken_or_refused(rt: HostRuntime) {
     let mut programs = Programs::new(rt.alloc());
-    assert_program(&rt, rt.alloc(), &mut programs, &[b"a", b"4"], Ok(()));
+    assert_line(
+        &rt,
+        rt.alloc(),
+        &mut programs,
+        Line::Program,
+        &[b"a", b"4"],
+        Ok(()),
+    );
     let cases: [(&[&[u8]], Result<(), LineError>); 6] = [
         (&[b"x", b"a", b"a"], Err(LineError::WrongCount)),
         (&[b"x", b"a-b"], Err(LineError::BadName)),
@@ -83,7 +85,7 @@ fn lines_of_processes_are_taken_or_refused(rt: HostRuntime) {
         (&[b"a", b"a"], Ok(())),
     ];
     for (words, want) in cases {
-        assert_process(&rt, rt.alloc(), &mut programs, words, want);
+        assert_line(&rt, rt.alloc(), &mut programs, Line::Process, words, want);
     }
     assert_eq!(rt;
         (programs.n(), programs.place("a"), programs.place("b")),
@@ -92,17 +94,52 @@ fn lines_of_processes_are_taken_or_refused(rt: HostRuntime) {
     assert_eq!(rt; (programs.name(0), programs.name(2)), (Some("x"), None));
     programs.close();
     let late = Err(LineError::OutOfPlace);
-    assert_program(&rt, rt.alloc(), &mut programs, &[b"b", b"6"], late);
-    assert_process(&rt, rt.alloc(), &mut programs, &[b"b", b"a"], late);
+    assert_line(
+        &rt,
+        rt.alloc(),
+        &mut programs,
+        Line::Program,
+        &[b"b", b"6"],
+        late,
+    );
+    assert_line(
+        &rt,
+        rt.alloc(),
+        &mut programs,
+        Line::Process,
+        &[b"b", b"a"],
+        late,
+    );
 }
 
 #[test]
 fn sixteen_processes_are_a_cluster(rt: HostRuntime) {
     let mut programs = Programs::new(rt.alloc());
-    assert_program(&rt, rt.alloc(), &mut programs, &[b"a", b"4"], Ok(()));
+    assert_line(
+        &rt,
+        rt.alloc(),
+        &mut programs,
+        Line::Program,
+        &[b"a", b"4"],
+        Ok(()),
+    );
     for name in b"abcdefghijklmnop" {
-        assert_process(&rt, rt.alloc(), &mut programs, &[&[*name], b"a"], Ok(()));
+        assert_line(
+            &rt,
+            rt.alloc(),
+            &mut programs,
+            Line::Process,
+            &[&[*name], b"a"],
+            Ok(()),
+        );
     }
     let late = Err(LineError::TooMany);
-    assert_process(&rt, rt.alloc(), &mut programs, &[b"q", b"a"], late);
+    assert_line(
+        &rt,
+        rt.alloc(),
+        &mut programs,
+        Line::Process,
+        &[b"q", b"a"],
+        late,
+    );
 }

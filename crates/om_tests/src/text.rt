@@ -12,6 +12,7 @@ use om_text::{
     number_of, read_script, read_text,
 };
 use std::alloc::{AllocError, Global};
+use std::fmt::Display;
 use std::io;
 use std::io::{ErrorKind, Read};
 use std::test::Fail;
@@ -114,20 +115,21 @@ fn words_are_numbers(rt: HostRuntime) {
     }
 }
 
+fn has_text<E: Display>(alloc: Global, error: &E, text: &str) -> Result<bool, AllocError> {
+    Ok(error.to_string(alloc)?.as_str() == text)
+}
+
 #[test]
 fn faults_are_named(rt: HostRuntime) -> Result<(), Fail> {
     let error = LineError::WrongCount;
     let error = BuildError::Invalid(ScriptError { line: 2, error });
-    assert_eq!(rt;
-        error.to_string(rt.alloc())?.as_str(),
-        "line 2: wrong count of words"
-    );
     let memory = BuildError::<LineError>::Memory;
-    assert_eq!(rt; memory.to_string(rt.alloc())?.as_str(), "no memory");
-    assert_eq!(rt;
-        ReadError::TooLong.to_string(rt.alloc())?.as_str(),
-        "too long"
-    );
+    let are_named = [
+        has_text(rt.alloc(), &error, "line 2: wrong count of words")?,
+        has_text(rt.alloc(), &memory, "no memory")?,
+        has_text(rt.alloc(), &ReadError::TooLong, "too long")?,
+    ];
+    assert_eq!(rt; are_named, [true; 3]);
     Ok(())
 }
 

@@ -36,11 +36,9 @@ fn messages_are_copied_whole(rt: HostRuntime) {
         body: body(&rt, rt.alloc(), &[1, 2]),
     };
     let copy = message.copy(rt.alloc()).expect(&rt, "memory");
-    assert_eq!(rt; copy.from, message.from);
-    assert_eq!(rt; copy.to, message.to);
-    assert_eq!(rt; copy.tag, message.tag);
-    assert_eq!(rt; copy.ssn, 7);
-    assert_eq!(rt; copy.body, message.body);
+    let told = (copy.from, copy.to, copy.tag, copy.ssn);
+    assert_eq!(rt; told, (message.from, message.to, message.tag, 7));
+    assert!(rt; copy.body == message.body);
     assert_eq!(rt; copy.body.as_slice(), [1, 2].as_slice());
     assert_eq!(rt; copy.body.copy(rt.alloc()), Ok(copy.body));
 }
@@ -59,16 +57,17 @@ fn queue(rt: &impl Abort, alloc: Global) -> Queue {
 fn queues_are_copied_and_compared(rt: HostRuntime) {
     let queue = queue(&rt, rt.alloc());
     let mut copy = queue.copy(rt.alloc()).expect(&rt, "memory");
-    assert_eq!(rt; copy, queue);
+    let is_copied = copy == queue;
     let first = queue.entries.first().expect(&rt, "two entries");
     let last = queue.entries.last().expect(&rt, "two entries");
     let other = first.copy(rt.alloc()).expect(&rt, "memory");
-    assert_eq!(rt; other, *first);
-    assert!(rt; first != last);
-    assert!(rt; first.body != last.body);
+    let are_compared = other == *first && first != last && first.body != last.body;
     copy.first = 6;
-    assert!(rt; copy != queue);
+    let differs = copy != queue;
     copy.first = 5;
     let _ = copy.entries.pop();
-    assert!(rt; copy != queue);
+    assert_eq!(rt;
+        (is_copied, are_compared, differs, copy != queue),
+        (true, true, true, true)
+    );
 }

@@ -10,10 +10,8 @@ use std::process::Abort;
 
 #[test]
 fn the_limits_are_these(rt: HostRuntime) {
-    assert_eq!(rt; MAX_BODY, 256);
-    assert_eq!(rt; MAX_PROCESSES_OF_VERSION_1, 8);
-    assert_eq!(rt; MAX_PROCESSES, 16);
-    assert_eq!(rt; PAGE, 256);
+    let limits = (MAX_BODY, MAX_PROCESSES_OF_VERSION_1, MAX_PROCESSES, PAGE);
+    assert_eq!(rt; limits, (256, 8, 16, 256));
     for (len, wanted) in [
         (0, false),
         (4, true),

@@ -14,16 +14,16 @@ fn spelled(rt: &impl Abort, alloc: Global, receipt: &Receipt) -> Vec<u8> {
 fn receipts_are_read_and_written(rt: HostRuntime) {
     let bytes = bytes_of(&rt, rt.alloc(), &RECEIPT);
     let receipt = receipt_of(&rt, rt.alloc(), &bytes);
-    assert_eq!(rt; receipt.to.index(), 1);
-    assert_eq!(rt; receipt.from.index(), 2);
-    assert_eq!(rt; receipt.interval, 1);
-    assert_eq!(rt; receipt.sender_interval, 0);
-    assert_eq!(rt; receipt.ssn, 0);
-    assert_eq!(rt; receipt.count, 3);
-    assert_eq!(rt;
-        receipt.body.as_slice(),
-        [0x93, 0x08, 0x10, 0x00].as_slice()
+    assert_eq!(rt; (receipt.to.index(), receipt.from.index()), (1, 2));
+    let told = (
+        receipt.interval,
+        receipt.sender_interval,
+        receipt.ssn,
+        receipt.count,
     );
+    assert_eq!(rt; told, (1, 0, 0, 3));
+    let body = [0x93, 0x08, 0x10, 0x00];
+    assert_eq!(rt; receipt.body.as_slice(), body.as_slice());
     assert_eq!(rt; spelled(&rt, rt.alloc(), &receipt), bytes);
     laws::one_spelling_of_a_receipt();
     laws::one_reading_of_a_receipt();
