@@ -1,7 +1,6 @@
 -- What is read of the outputs of a process, and why a world is not begun.
-use Rattle.std.proofs.Common.{◌≡◌, ◌⊎◌, ℕ, ◌<◌, ◌≤◌, ◌%◌, ◌==◌, nat_le, Option, Some, None, Bool, true, false, ◌&&◌, List, [], ◌++◌, length, get_or, map, refl, ap, sym, subst, ◌∙◌, ⊎_elim, arith}
-use Rattle.std.specs.Prelude.{All}
-use Rattle.std.specs.Prelude.{IsSome}
+use Rattle.std.proofs.Common.{◌≡◌, ◌⊎◌, ℕ, ◌<◌, ◌≤◌, ◌%◌, ◌==◌, nat_le, Option, Some, None, Result, Ok, Err, Bool, true, false, ◌&&◌, List, [], ◌++◌, length, get_or, map, refl, ap, sym, subst, ◌∙◌, ⊎_elim, arith}
+use Rattle.std.specs.Prelude.{All, IfErr, IfOk, IfSome, IsSome}
 use Rattle.std.specs.FinMap.{get, get-empty}
 use Rattle.std.specs.Ordering.{nat_cmp}
 use Rattle.std.proofs.lemmas.Bool.{eqb-true, leb-true}
@@ -24,9 +23,12 @@ use Rattle.om_world.specs.Played.{Played}
 use Rattle.om_world.specs.World.{WorldState, IsEmpty, IsKnown}
 use Rattle.om_world.specs.declared.event.Answer.{Answer}
 use Rattle.om_world.specs.declared.event.Event.{Event}
-use Rattle.om_commands.specs.Sim.{IsAnswer, IsBegun}
-use Rattle.om_commands.specs.SimScript.{Script}
+use Rattle.om_commands.specs.Command.{IsErrorOf, IsScript}
+use Rattle.om_commands.specs.Sim.{IsAnswer, IsBegun, IsPlayed, IsSim, LacksProcesses}
+use Rattle.om_commands.specs.SimScript.{Script, meaning_of, no_lines}
 use Rattle.om_commands.specs.SimText.{answers_text, bytes_at, end_text}
+use Rattle.om_commands.specs.declared.error.CommandError.{CommandError}
+use Rattle.om_commands.specs.declared.error.CommandError.TheVariants.{EmptyScript, NoMemory}
 
 -- the bytes of an output at its place
 pub held-bytes : (outputs : List Output) (number : ℕ) (o : Output) (bytes : List ℕ) → number < length outputs
@@ -81,19 +83,50 @@ only_memory programs stores fault sizes empty told = ⊎_elim (λ is. is)
 pub all_same : (stores : List Content) → All IsEmpty stores → All IsEmpty (map (λ s. s) stores)
 all_same stores all = All-map IsEmpty (λ s. s) stores all
 
--- a script is answered by what its parts give
-pub is_answer : (script : Script) (cluster : Cluster) (programs : List Program) (begun end : WorldState) (events : List Event) (answers told : List Answer) (text : List ℕ)
-    → cluster ≡ script.cluster → programs ≡ programs_of cluster → events ≡ script.events → told ≡ answers
-    → IsBegun programs begun → Played begun events answers end → IsKnown end
-    → text ≡ answers_text told ++ end_text cluster (length cluster.processes) end → IsAnswer script text
-is_answer script cluster programs begun end events answers told text same_cluster same_programs same_events same_answers is_begun played known written = (
-  begun,
+-- a script is told by what its events give
+pub is_played : {A E : Type 0} (spelled : A → List ℕ) (script : Script) (cluster : Cluster) (begun end : WorldState) (events : List Event) (answers told : List Answer) (r : Result A E)
+    → cluster ≡ script.cluster → events ≡ script.events → told ≡ answers → Played begun events answers end → IsKnown end
+    → IfOk r (λ text. spelled text ≡ answers_text told ++ end_text cluster (length cluster.processes) end)
+    → IfOk r (λ text. IsPlayed script begun (spelled text))
+is_played spelled script cluster begun end events answers told (Ok text) same_cluster same_events same_answers played known written = (
   end,
   answers,
-  subst (λ ps. IsBegun ps begun) (same_programs ∙ ap programs_of same_cluster) is_begun,
   subst (λ es. Played begun es answers end) same_events played,
   known,
   written
       ∙ ap (λ xs. answers_text xs ++ end_text cluster (length cluster.processes) end) same_answers
       ∙ ap (λ c. answers_text answers ++ end_text c (length c.processes) end) same_cluster,
 )
+is_played spelled script cluster begun end events answers told (Err e) same_cluster same_events same_answers played known written = tt
+
+-- a script is answered by what is played from the start of its world
+pub is_answer : (script : Script) (cluster : Cluster) (begun : WorldState) (text : List ℕ) → cluster ≡ script.cluster
+    → IsBegun (programs_of cluster) begun → IsPlayed script begun text → IsAnswer script text
+is_answer script cluster begun text same is_begun played =
+    (begun, played.0, played.1, subst (λ c. IsBegun (programs_of c) begun) same is_begun, played.2, played.3, played.4)
+
+-- the answer to a script is that to the bytes that it is read from
+pub text_of_answer : {A : Type 0} (spelled : A → List ℕ) (remaining : Option (List ℕ)) (start script : Script) (r : Result A CommandError)
+    → start ≡ no_lines → IfSome remaining (λ bytes. IsScript meaning_of start bytes script)
+    → IfOk r (λ text. IsAnswer script (spelled text)) → IfSome remaining (λ bytes. IfOk r (λ text. IsSim bytes (spelled text)))
+text_of_answer spelled None start script r is read answer = tt
+text_of_answer spelled (Some bytes) start script (Ok text) is read answer =
+    record { script = script; is_script = subst (λ s. IsScript meaning_of s bytes script) is read; answer = answer }
+text_of_answer spelled (Some bytes) start script (Err e) is read answer = tt
+
+-- the error of a script is that of the bytes that it is read from
+of_script : (bytes : List ℕ) (script : Script) (error : CommandError) → IsScript meaning_of no_lines bytes script
+    → (error ≡ NoMemory) ⊎ ((error ≡ EmptyScript) × LacksProcesses script) → IsErrorOf meaning_of no_lines LacksProcesses bytes error
+of_script bytes script error read told = ⊎_elim
+    (λ memory. subst (IsErrorOf meaning_of no_lines LacksProcesses bytes) (sym memory) tt)
+    (λ none. subst (IsErrorOf meaning_of no_lines LacksProcesses bytes) (sym none.0) (record { script = script; is_script = read; is_empty = none.1 }))
+    told
+
+pub error_of_answer : {A : Type 0} (remaining : Option (List ℕ)) (start script : Script) (r : Result A CommandError) → start ≡ no_lines
+    → IfSome remaining (λ bytes. IsScript meaning_of start bytes script)
+    → IfErr r (λ error. (error ≡ NoMemory) ⊎ ((error ≡ EmptyScript) × LacksProcesses script))
+    → IfSome remaining (λ bytes. IfErr r (IsErrorOf meaning_of no_lines LacksProcesses bytes))
+error_of_answer None start script r is read error = tt
+error_of_answer (Some bytes) start script (Ok x) is read error = tt
+error_of_answer (Some bytes) start script (Err e) is read error =
+    of_script bytes script e (subst (λ s. IsScript meaning_of s bytes script) is read) error

@@ -21,6 +21,12 @@ pub record IsBegun (programs : List Program) (w : WorldState) : Type 0 where
   pub known : IsKnown w
   pub holds : Holds w
 
+-- the answers to the events of a script, played from this world on, and how it stands in the end
+abbrev pub IsPlayed : Script → WorldState → List ℕ → Type 0
+IsPlayed script begun text =
+    (end : WorldState) × (answers : List Answer) × Played begun script.events answers end × IsKnown end
+    × (text ≡ answers_text answers ++ end_text script.cluster (length script.cluster.processes) end)
+
 -- the answers to the events of a script, played from the start of its world, and how that stands in the end
 abbrev pub IsAnswer : Script → List ℕ → Type 0
 IsAnswer script text =

@@ -10,7 +10,7 @@ ghost use Rattle.om_programs.specs.Programs.{IsProgram, programs_of};
 ghost use Rattle.om_world.specs.Played.{Played};
 ghost use Rattle.om_world.specs.World.{IsEmpty, IsKnown};
 ghost use Rattle.om_commands.specs.Command.{IsErrorOf, IsSilent};
-ghost use Rattle.om_commands.specs.Sim.{IsAnswer, IsBegun, IsSim, LacksProcesses};
+ghost use Rattle.om_commands.specs.Sim.{IsAnswer, IsBegun, IsPlayed, IsSim, LacksProcesses};
 ghost use Rattle.om_commands.specs.SimScript.{meaning_of, no_lines};
 
 use crate::command::{read_input, write_answer};
@@ -18,6 +18,7 @@ use crate::error::CommandError;
 use crate::sim_script::SimScript;
 use crate::sim_text::sim_text;
 use om_process::{Image, StartFault};
+use om_programs::Programs;
 use om_stable::MemStable;
 use om_world::{Answer, Event, World};
 use std::alloc::{AllocError, Global};
@@ -60,10 +61,33 @@ fn answer(alloc: Global, script: &SimScript) -> Result<String, CommandError>
     if programs.n() == 0 {
         return Err(CommandError::EmptyScript);
     }
+    let mut world = start(alloc, programs)?;
+    Ok(told(alloc, script, &mut world)?)
+}
+
+// The world of these programs at its start, over stores that hold nothing.
+fn start(alloc: Global, programs: &Programs) -> Result<World<MemStable>, AllocError>
+    requires some { 1 ≤ length programs.now.processes }
+    requires few { length programs.now.processes ≤ MAX_PROCESSES }
+    ensures begun { IfOk result (IsBegun (programs_of programs.now)) }
+    ensures size { IfOk result (λ world. size_of world.manager ≡ length programs.now.processes) }
+{
     let images = programs.images(alloc)?;
-    let mut world = begin(alloc, &images)?;
-    let answers = play(alloc, &mut world, script.events())?;
-    Ok(sim_text(alloc, programs, &world, &answers)?)
+    begin(alloc, &images)
+}
+
+// Plays the events of a script, and tells the answers and how the world stands in the end.
+fn told(
+    alloc: Global,
+    script: &SimScript,
+    world: &mut World<MemStable>,
+) -> Result<String, AllocError>
+    requires known { IsKnown world.old }
+    requires managed { length script.now.cluster.processes ≤ size_of world.old.manager }
+    ensures { IfOk result (λ text. IsPlayed script.now world.old (string_bytes text)) }
+{
+    let answers = play(alloc, world, script.events())?;
+    sim_text(alloc, script.programs(), world, &answers)
 }
 
 // So many stores that hold nothing.

@@ -18,7 +18,7 @@ use Rattle.om_format.specs.Queues.{QueueRecord, queue_end, entry_values, queue_v
 use Rattle.om_format.specs.Versions.{kind_of, is_kind, ext_of, version_number, is_version, version_of, memory_in, before_memory, memory_values}
 use Rattle.om_format.specs.Checkpoints.{CheckpointRecord, front, checkpoint_format, checkpoint_values, checkpoint_fault, AreEnded, SpellsCheckpoint, IsSpelled, IsFrontRead, IsCheckpoint}
 use Rattle.om_format.specs.steps.Reading.{◌>>=◌, allow, number_at, fields_at, opening_at, end_at}
-use Rattle.om_format.specs.steps.CheckpointReading.{head_at, vectors_at, front_at, before_memory_at, memory_at, rest_at, checkpoint_of, checkpoint_at}
+use Rattle.om_format.specs.steps.CheckpointReading.{place_at, progress_at, head_at, vectors_at, made_at, front_at, before_memory_at, memory_at, rest_at, checkpoint_of, checkpoint_at}
 use Rattle.om_format.proofs.Numbers.{IsBytes}
 use Rattle.om_format.proofs.Formats.{bind_ok, allow_ok, ok_is, found, again, faulty, read_all}
 use Rattle.om_format.proofs.Holding.{of_ok, holding_same, opening_hold}
@@ -82,7 +82,7 @@ front_values f =
 
 front_is : (behind : Version → ℕ → List ℕ → ℕ → ℕ → Format) (bytes : List ℕ)
     → fields_at (front behind) 0 bytes ≡ (front_at bytes >>= λ f. fields_at (behind f.0.head.version f.0.head.interval f.0.vectors.sent f.0.made f.0.size) (156 + 12 * f.0.head.n) f.1 >>= λ vs. Ok (front_values f.0 ++ vs))
-unfolding front front_at head_at vectors_at
+unfolding front front_at head_at place_at progress_at vectors_at made_at
 front_is behind bytes =
     simp (opening_is, one_number, bind_assoc, at_vec, at_got, at_made, at_size, at_memory) (holding_same (λ x. (is_kind x.0 ≡ true) × (is_version x.1 ≡ true)) (opening_at is_kind is_version bytes) _ _ (opening_hold is_kind is_version bytes) (λ x h. rw (kind_again x.0 h.0, number_again x.1 h.1) refl))
 

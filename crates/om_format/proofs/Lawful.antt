@@ -15,7 +15,7 @@ use Rattle.om_format.specs.Queues.{QueueRecord, queue_end, is_between, are_entri
 use Rattle.om_format.specs.Versions.{is_kind, is_version, version_of, is_cluster_size}
 use Rattle.om_format.specs.Checkpoints.{IsCheckpoint, is_memory_size}
 use Rattle.om_format.specs.steps.Reading.{number_at, numbers_at, opening_at, counted_at, end_at}
-use Rattle.om_format.specs.steps.CheckpointReading.{head_at, vectors_at, front_at, memory_at, entry_at, entries_at, queue_at, queues_at, rest_at, checkpoint_of, checkpoint_at}
+use Rattle.om_format.specs.steps.CheckpointReading.{place_at, progress_at, head_at, vectors_at, made_at, front_at, memory_at, entry_at, entries_at, queue_at, queues_at, rest_at, checkpoint_of, checkpoint_at}
 use Rattle.om_format.proofs.Holding.{Holds, of_ok, then_holds, any_holds, allow_holds, numbers_hold, counted_hold}
 use Rattle.om_format.proofs.MemoryReading.{memory_hold}
 
@@ -63,17 +63,31 @@ record FitsHead (head : Head) : Type 0 where
   count : head.interval ≤ head.count
   pc : head.pc % 4 ≡ 0
 
+place_hold : (version : Version) (bytes : List ℕ) → Holds (λ x. (is_cluster_size version x.0 ≡ true) × (x.1 < x.0)) (place_at version bytes)
+unfolding place_at
+place_hold version bytes =
+    let P : ℕ × ℕ × List ℕ → Type 0 = λ x. (is_cluster_size version x.0 ≡ true) × (x.1 < x.0) in
+    any_holds P (number_at one bytes) _ (λ n. allow_holds P (is_cluster_size version n.0) _ _ (λ is_cluster.
+    any_holds P (number_at one n.1) _ (λ pid. allow_holds P (ltb pid.0 n.0) _ _ (λ is_below.
+    (is_cluster, ltb-true _ _ is_below)))))
+
+progress_hold : (bytes : List ℕ) → Holds (λ x. (x.0 ≤ x.1) × (x.2 % 4 ≡ 0)) (progress_at bytes)
+unfolding progress_at
+progress_hold bytes =
+    let P : ℕ × ℕ × ℕ × List ℕ → Type 0 = λ x. (x.0 ≤ x.1) × (x.2 % 4 ≡ 0) in
+    any_holds P (number_at four bytes) _ (λ interval.
+    any_holds P (number_at eight interval.1) _ (λ count. allow_holds P (nat_le interval.0 count.0) _ _ (λ is_counted.
+    any_holds P (number_at four count.1) _ (λ pc. allow_holds P (eqb (pc.0 % 4) 0) _ _ (λ is_aligned.
+    (leb-true _ _ is_counted, eqb-true _ _ is_aligned))))))
+
 head_hold : (bytes : List ℕ) → Holds (λ x. FitsHead x.0) (head_at bytes)
 unfolding head_at
 head_hold bytes =
     let P : Head × List ℕ → Type 0 = λ x. FitsHead x.0 in
     any_holds P (opening_at is_kind is_version bytes) _ (λ opened.
-    any_holds P (number_at one opened.2) _ (λ n. allow_holds P (is_cluster_size (version_of opened.1) n.0) _ _ (λ is_cluster.
-    any_holds P (number_at one n.1) _ (λ pid. allow_holds P (ltb pid.0 n.0) _ _ (λ is_below.
-    any_holds P (number_at four pid.1) _ (λ interval.
-    any_holds P (number_at eight interval.1) _ (λ count. allow_holds P (nat_le interval.0 count.0) _ _ (λ is_counted.
-    any_holds P (number_at four count.1) _ (λ pc. allow_holds P (eqb (pc.0 % 4) 0) _ _ (λ is_aligned.
-    record { n = cluster_of_any (version_of opened.1) n.0 is_cluster; pid = ltb-true _ _ is_below; count = leb-true _ _ is_counted; pc = eqb-true _ _ is_aligned }))))))))))
+    then_holds P (λ x. (is_cluster_size (version_of opened.1) x.0 ≡ true) × (x.1 < x.0)) (place_at (version_of opened.1) opened.2) _ (place_hold (version_of opened.1) opened.2) (λ place at.
+    then_holds P (λ x. (x.0 ≤ x.1) × (x.2 % 4 ≡ 0)) (progress_at place.2) _ (progress_hold place.2) (λ progress on.
+    record { n = cluster_of_any (version_of opened.1) place.0 at.0; pid = at.1; count = on.0; pc = on.1 })))
 
 -- the vectors fit the fields before them
 record FitVectors (n pid interval : ℕ) (vectors : Vectors) : Type 0 where
@@ -100,6 +114,14 @@ record FitsFront (f : Front) : Type 0 where
   made : f.made ≤ f.head.count
   size : is_memory_size f.size ≡ true
 
+made_hold : (n count : ℕ) (bytes : List ℕ) → Holds (λ x. (x.0 ≤ count) × (is_memory_size x.1 ≡ true)) (made_at n count bytes)
+unfolding made_at
+made_hold n count bytes =
+    let P : ℕ × ℕ × List ℕ → Type 0 = λ x. (x.0 ≤ count) × (is_memory_size x.1 ≡ true) in
+    any_holds P (number_at eight bytes) _ (λ made. allow_holds P (nat_le made.0 count) _ _ (λ is_made.
+    any_holds P (number_at four made.1) _ (λ size. allow_holds P (is_memory_size size.0) _ _ (λ is_size.
+    (leb-true _ _ is_made, is_size)))))
+
 front_hold : (bytes : List ℕ) → Holds (λ x. FitsFront x.0) (front_at bytes)
 unfolding front_at
 front_hold bytes =
@@ -107,9 +129,8 @@ front_hold bytes =
     then_holds P (λ x. FitsHead x.0) (head_at bytes) _ (head_hold bytes) (λ head h.
     then_holds P (λ x. length x.0 ≡ WRITABLE_REGISTERS) (numbers_at four WRITABLE_REGISTERS head.1) _ (numbers_hold four WRITABLE_REGISTERS head.1) (λ regs regs_len.
     then_holds P (λ x. FitVectors head.0.n head.0.pid head.0.interval x.0) (vectors_at head.0.n head.0.pid head.0.interval regs.1) _ (vectors_hold head.0.n head.0.pid head.0.interval regs.1) (λ vectors v.
-    any_holds P (number_at eight vectors.1) _ (λ made. allow_holds P (nat_le made.0 head.0.count) _ _ (λ is_made.
-    any_holds P (number_at four made.1) _ (λ size. allow_holds P (is_memory_size size.0) _ _ (λ is_size.
-    record { head = h; regs = regs_len; vectors = v; made = leb-true _ _ is_made; size = is_size })))))))
+    then_holds P (λ x. (x.0 ≤ head.0.count) × (is_memory_size x.1 ≡ true)) (made_at head.0.n head.0.count vectors.1) _ (made_hold head.0.n head.0.count vectors.1) (λ made m.
+    record { head = h; regs = regs_len; vectors = v; made = m.0; size = m.1 }))))
 
 -- what comes behind them fits
 record FitsRest (f : Front) (memory : List ℕ) (kept : List QueueRecord) (outputs : QueueRecord) : Type 0 where

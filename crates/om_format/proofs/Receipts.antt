@@ -16,7 +16,7 @@ use Rattle.om_format.specs.Receipts.{ReceiptRecord, receipt_record, receipt_form
 use Rattle.om_format.specs.steps.ReceiptBytes.{receipt_bytes, IsReceipt}
 use Rattle.om_format.specs.Outcomes.{Gives}
 use Rattle.om_format.specs.FirstFault.{AreRead}
-use Rattle.om_format.specs.steps.Reading.{◌>>=◌, fields_at, opening_at, end_at, pid_at, receipt_fields_at, receipt_at}
+use Rattle.om_format.specs.steps.Reading.{◌>>=◌, fields_at, opening_at, end_at, pid_at, ends_at, order_at, receipt_fields_at, receipt_at}
 use Rattle.om_format.proofs.Numbers.{IsBytes, within_bytes, numbers-bytes}
 use Rattle.om_format.proofs.Parts.{one_number, last_body_is, opening_is, bind_assoc}
 use Rattle.om_format.proofs.Formats.{bind_ok, ok_is, found, again, faulty, read_all, fault_or_memory}
@@ -24,7 +24,7 @@ use Rattle.om_format.proofs.Holding.{holding_same, opening_hold}
 use Rattle.std.specs.Prelude.{◌==◌, IsOk}
 
 pub receipt_is : (bytes : List ℕ) → fields_at receipt_format 0 bytes ≡ (receipt_at bytes >>= λ r. Ok (receipt_values r))
-unfolding receipt_format receipt_at receipt_fields_at pid_at
+unfolding receipt_format receipt_at receipt_fields_at ends_at order_at pid_at
 receipt_is bytes =
     simp (opening_is, one_number, last_body_is, bind_assoc) (holding_same (λ x. ((x.0 == RECEIPT_KIND) ≡ true) × ((x.1 == RECEIPT_VERSION) ≡ true)) (opening_at (λ kind. kind == RECEIPT_KIND) (λ version. version == RECEIPT_VERSION) bytes) _ _ (opening_hold (λ kind. kind == RECEIPT_KIND) (λ version. version == RECEIPT_VERSION) bytes) (λ x h.
     (let kind : x.0 ≡ RECEIPT_KIND = eqb-true _ _ h.0 in

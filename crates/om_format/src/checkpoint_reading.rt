@@ -9,7 +9,7 @@ ghost use Rattle.om_format.specs.FirstFault.{values_at};
 ghost use Rattle.om_format.specs.Outcomes.{Tells};
 ghost use Rattle.om_format.specs.Versions.{is_kind, kind_of, is_version, version_number, is_cluster_size};
 ghost use Rattle.om_format.specs.steps.Reading.{numbers_at, opening_at};
-ghost use Rattle.om_format.specs.steps.CheckpointReading.{head_at, vectors_at, front_at};
+ghost use Rattle.om_format.specs.steps.CheckpointReading.{place_at, progress_at, head_at, vectors_at, made_at, front_at};
 ghost use Rattle.om_interval.specs.declared.pid.TheConstants.{MAX_PROCESSES};
 
 use crate::error::DecodeError;
@@ -71,16 +71,15 @@ fn is_cluster_size(version: Version, n: usize) -> bool
     1 <= n && n <= most
 }
 
-#[tactic(auto, unfolding(crate::specs::steps::CheckpointReading::head_at))]
-pub(crate) fn head_at(bytes: &[u8]) -> Result<(Head, &[u8]), DecodeError>
-    ensures exact { Tells (λ x. (x.0, x.1.now)) result (head_at bytes.now) }
-    ensures some { IfOk result (λ x. 1 ≤ x.0.n) }
-    ensures within { IfOk result (λ x. x.0.n ≤ MAX_PROCESSES) }
-    ensures own { IfOk result (λ x. x.0.pid < x.0.n) }
-    ensures left { IfOk result (λ x. 20 + length x.1.now ≡ length bytes.now) }
+// The number of processes, and which one this is.
+#[tactic(auto, unfolding(crate::specs::steps::CheckpointReading::place_at))]
+fn place_at(version: Version, bytes: &[u8]) -> Result<(usize, usize, &[u8]), DecodeError>
+    ensures exact { Tells (λ x. (x.0, x.1, x.2.now)) result (place_at version bytes.now) }
+    ensures within { IfOk result (λ x. x.0 ≤ MAX_PROCESSES) }
+    ensures own { IfOk result (λ x. x.1 < x.0) }
+    ensures left { IfOk result (λ x. 2 + length x.2.now ≡ length bytes.now) }
 {
-    let (ext, version, rest) = kind_at(bytes)?;
-    let (n, rest) = u8_at(rest)?;
+    let (n, rest) = u8_at(bytes)?;
     let n = n as usize;
     if !is_cluster_size(version, n) {
         return Err(DecodeError::Field(2));
@@ -90,7 +89,16 @@ pub(crate) fn head_at(bytes: &[u8]) -> Result<(Head, &[u8]), DecodeError>
     if pid >= n {
         return Err(DecodeError::Field(3));
     }
-    let (interval, rest) = u32_at(rest)?;
+    Ok((n, pid, rest))
+}
+
+// The interval, how many instructions were finished, and the address of the next one.
+#[tactic(auto, unfolding(crate::specs::steps::CheckpointReading::progress_at))]
+fn progress_at(bytes: &[u8]) -> Result<(u32, u64, u32, &[u8]), DecodeError>
+    ensures exact { Tells (λ x. (x.0, x.1, x.2, x.3.now)) result (progress_at bytes.now) }
+    ensures left { IfOk result (λ x. 16 + length x.3.now ≡ length bytes.now) }
+{
+    let (interval, rest) = u32_at(bytes)?;
     let (count, rest) = u64_at(rest)?;
     if count < u64::from(interval) {
         return Err(DecodeError::Field(8));
@@ -99,6 +107,19 @@ pub(crate) fn head_at(bytes: &[u8]) -> Result<(Head, &[u8]), DecodeError>
     if pc % 4 != 0 {
         return Err(DecodeError::Field(16));
     }
+    Ok((interval, count, pc, rest))
+}
+
+#[tactic(auto, unfolding(crate::specs::steps::CheckpointReading::head_at))]
+pub(crate) fn head_at(bytes: &[u8]) -> Result<(Head, &[u8]), DecodeError>
+    ensures exact { Tells (λ x. (x.0, x.1.now)) result (head_at bytes.now) }
+    ensures within { IfOk result (λ x. x.0.n ≤ MAX_PROCESSES) }
+    ensures own { IfOk result (λ x. x.0.pid < x.0.n) }
+    ensures left { IfOk result (λ x. 20 + length x.1.now ≡ length bytes.now) }
+{
+    let (ext, version, rest) = kind_at(bytes)?;
+    let (n, pid, rest) = place_at(version, rest)?;
+    let (interval, count, pc, rest) = progress_at(rest)?;
     let head = Head {
         ext,
         version,
@@ -210,6 +231,26 @@ fn vectors_at(
     Ok((Vectors { vec, got, sent }, rest))
 }
 
+// How many outputs were made by that count, and the size of the memory, behind the vectors of n processes.
+#[tactic(auto, unfolding(crate::specs::steps::CheckpointReading::made_at))]
+fn made_at(n: usize, count: u64, bytes: &[u8]) -> Result<(u64, usize, &[u8]), DecodeError>
+    requires { n ≤ MAX_PROCESSES }
+    ensures exact { Tells (λ x. (x.0, x.1, x.2.now)) result (made_at n count bytes.now) }
+    ensures size { IfOk result (λ x. is_memory_size x.1 ≡ true) }
+    ensures left { IfOk result (λ x. 12 + length x.2.now ≡ length bytes.now) }
+{
+    let (made, rest) = u64_at(bytes)?;
+    if made > count {
+        return Err(DecodeError::Field(144 + 12 * n));
+    }
+    let (size, rest) = u32_at(rest)?;
+    let size = size as usize;
+    if !MemoryBytes::is_size(size) {
+        return Err(DecodeError::Field(152 + 12 * n));
+    }
+    Ok((made, size, rest))
+}
+
 // The fields of a checkpoint before its memory.
 #[derive(Clone, Copy)]
 pub(crate) struct Front {
@@ -235,15 +276,7 @@ pub(crate) fn front_at(bytes: &[u8]) -> Result<(Front, &[u8]), DecodeError>
         Ok(vectors) => vectors,
         Err(fault) => return Err(fault),
     };
-    let (made, rest) = u64_at(rest)?;
-    if made > head.count {
-        return Err(DecodeError::Field(144 + 12 * head.n));
-    }
-    let (size, rest) = u32_at(rest)?;
-    let size = size as usize;
-    if !MemoryBytes::is_size(size) {
-        return Err(DecodeError::Field(152 + 12 * head.n));
-    }
+    let (made, size, rest) = made_at(head.n, head.count, rest)?;
     let front = Front {
         head,
         regs,

@@ -4,11 +4,11 @@ ghost use Rattle.std.specs.Prelude.{◌≡◌, ◌⊎◌, ◌+◌, ◌*◌, ◌<
 ghost use Rattle.om_format.specs.CheckpointViews.{checkpoint_record};
 ghost use Rattle.om_format.specs.Checkpoints.{CheckpointRecord, IsCheckpoint, IsFrontRead, IsSpelled, SpellsCheckpoint, checkpoint_fault, is_memory_size};
 ghost use Rattle.om_format.specs.FirstFault.{AreRead};
-ghost use Rattle.om_format.specs.Outcomes.{Gives};
+ghost use Rattle.om_format.specs.Outcomes.{Gives, Tells};
 ghost use Rattle.om_format.specs.Queues.{queue_record};
 ghost use Rattle.om_format.specs.Receipts.{ReceiptRecord, receipt_record, receipt_fault, receipt_format, SpellsReceipt};
 ghost use Rattle.om_format.specs.steps.CheckpointReading.{before_memory_at, rest_at, checkpoint_of};
-ghost use Rattle.om_format.specs.steps.Reading.{receipt_fields_at, receipt_at};
+ghost use Rattle.om_format.specs.steps.Reading.{ends_at, order_at, receipt_fields_at, receipt_at};
 ghost use Rattle.om_format.specs.declared.version.Version.{Version};
 ghost use Rattle.om_interval.specs.declared.pid.TheConstants.{MAX_PROCESSES};
 
@@ -26,10 +26,12 @@ use crate::receipt::Receipt;
 use om_interval::Pid;
 use std::alloc::Global;
 
-#[tactic(auto, unfolding(crate::specs::steps::Reading::receipt_at, crate::specs::steps::Reading::receipt_fields_at, crate::specs::steps::Reading::opening_at))]
-fn receipt_at(alloc: Global, bytes: &[u8]) -> Result<Receipt, DecodeError>
-    ensures exact { Gives receipt_record result (receipt_at bytes.now) }
-    ensures memory { IfErr result (λ e. e ≡ DecodeError.Memory → IsOk (receipt_fields_at bytes.now)) }
+// The receiver and the sender, behind the kind and the version.
+#[tactic(auto, unfolding(crate::specs::steps::Reading::ends_at, crate::specs::steps::Reading::opening_at))]
+fn ends_at(bytes: &[u8]) -> Result<(usize, usize, &[u8]), DecodeError>
+    ensures exact { Tells (λ x. (x.0, x.1, x.2.now)) result (ends_at bytes.now) }
+    ensures to { IfOk result (λ x. x.0 < MAX_PROCESSES) }
+    ensures from { IfOk result (λ x. x.1 < MAX_PROCESSES) }
 {
     let (kind, rest) = u8_at(bytes)?;
     if kind != RECEIPT_KIND {
@@ -41,7 +43,16 @@ fn receipt_at(alloc: Global, bytes: &[u8]) -> Result<Receipt, DecodeError>
     }
     let (to, rest) = pid_at(2, rest)?;
     let (from, rest) = pid_at(3, rest)?;
-    let (interval, rest) = u32_at(rest)?;
+    Ok((to, from, rest))
+}
+
+// The interval of the receiver, that of the sender, and the number of the message.
+#[tactic(auto, unfolding(crate::specs::steps::Reading::order_at))]
+fn order_at(bytes: &[u8]) -> Result<(u32, u32, u32, &[u8]), DecodeError>
+    ensures exact { Tells (λ x. (x.0, x.1, x.2, x.3.now)) result (order_at bytes.now) }
+    ensures numbered { IfOk result (λ x. x.2 < x.0) }
+{
+    let (interval, rest) = u32_at(bytes)?;
     if interval < 1 {
         return Err(DecodeError::Field(4));
     }
@@ -50,6 +61,16 @@ fn receipt_at(alloc: Global, bytes: &[u8]) -> Result<Receipt, DecodeError>
     if ssn >= interval {
         return Err(DecodeError::Field(12));
     }
+    Ok((interval, sender_interval, ssn, rest))
+}
+
+#[tactic(auto, unfolding(crate::specs::steps::Reading::receipt_at, crate::specs::steps::Reading::receipt_fields_at))]
+fn receipt_at(alloc: Global, bytes: &[u8]) -> Result<Receipt, DecodeError>
+    ensures exact { Gives receipt_record result (receipt_at bytes.now) }
+    ensures memory { IfErr result (λ e. e ≡ DecodeError.Memory → IsOk (receipt_fields_at bytes.now)) }
+{
+    let (to, from, rest) = ends_at(bytes)?;
+    let (interval, sender_interval, ssn, rest) = order_at(rest)?;
     let (count, rest) = u64_at(rest)?;
     let (body, rest) = body_at(24, rest)?;
     let body = Body::from_vec(Vec::from_slice(alloc, body)?);

@@ -6,6 +6,7 @@ ghost use Rattle.om_format.specs.Checkpoints.{is_memory_size};
 ghost use Rattle.om_format.specs.Outcomes.{Gives, Tells};
 ghost use Rattle.om_format.specs.Pages.{page_count, page_size};
 ghost use Rattle.om_format.specs.steps.CheckpointReading.{page_at, pages_at, memory_at, before_memory_at};
+ghost use Rattle.om_format.specs.declared.version.Version.TheVariants.{V2};
 
 use crate::error::DecodeError;
 use crate::limits::PAGE;
@@ -79,6 +80,31 @@ fn pages_at<'a>(
     })
 }
 
+// A memory of this size, of which the pages that are not all zeros are kept.
+#[tactic(auto, unfolding(crate::specs::steps::CheckpointReading::memory_at, crate::specs::steps::CheckpointReading::before_memory_at))]
+fn counted_at<'a>(
+    alloc: Global,
+    size: usize,
+    offset: usize,
+    bytes: &'a [u8],
+) -> Result<Taken<'a, Vec<u8>>, DecodeError>
+    requires most { size ≤ MAX_MEMORY }
+    requires room { offset + length bytes.now < 2 ^ 64 }
+    ensures exact { Gives (λ x. (x.value.items, x.offset, x.rest.now)) result
+        (memory_at V2 size offset bytes.now) }
+    ensures before { IfOk result (λ _. IsOk (before_memory_at V2 size offset bytes.now)) }
+    ensures memory { IfErr result (λ e. e ≡ DecodeError.Memory → IsOk (before_memory_at V2 size offset bytes.now)) }
+    ensures size { IfOk result (λ x. length x.value.items ≡ size) }
+    ensures left { IfOk result (λ x. x.offset + length x.rest.now ≡ offset + length bytes.now) }
+{
+    let (count, rest) = u16_at(bytes)?;
+    let count = count as usize;
+    if count > page_count(size) {
+        return Err(DecodeError::Field(offset));
+    }
+    pages_at(alloc, size, count, offset + 2, rest)
+}
+
 // A memory of this size, in the form of this version.
 #[tactic(auto, unfolding(crate::specs::steps::CheckpointReading::memory_at, crate::specs::steps::CheckpointReading::before_memory_at))]
 pub(crate) fn memory_at<'a>(
@@ -107,12 +133,7 @@ pub(crate) fn memory_at<'a>(
             })
         }
         Version::V2 => {
-            let (count, rest) = u16_at(bytes)?;
-            let count = count as usize;
-            if count > page_count(size) {
-                return Err(DecodeError::Field(offset));
-            }
-            let taken = pages_at(alloc, size, count, offset + 2, rest)?;
+            let taken = counted_at(alloc, size, offset, bytes)?;
             Ok(Taken {
                 value: MemoryBytes::from_vec(taken.value),
                 offset: taken.offset,

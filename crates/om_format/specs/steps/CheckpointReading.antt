@@ -17,30 +17,42 @@ use Rattle.om_format.specs.Versions.{is_kind, ext_of, is_version, version_of, is
 use Rattle.om_format.specs.Checkpoints.{CheckpointRecord, is_memory_size}
 use Rattle.om_format.specs.steps.Reading.{◌>>=◌, allow, number_at, numbers_at, bytes_at, opening_at, body_at, end_at}
 
--- the fields before the registers
-unfoldable pub head_at : List ℕ → Result (Head × List ℕ) DecodeError
-head_at bytes = do
-  opened ← opening_at is_kind is_version bytes
-  n ← number_at one opened.2
-  is_cluster ← allow (is_cluster_size (version_of opened.1) n.0) (Field 2)
+-- how many processes there are, which one this is, and the bytes after that
+unfoldable pub place_at : Version → List ℕ → Result (ℕ × ℕ × List ℕ) DecodeError
+place_at version bytes = do
+  n ← number_at one bytes
+  is_cluster ← allow (is_cluster_size version n.0) (Field 2)
   pid ← number_at one n.1
   is_below ← allow (nat_lt pid.0 n.0) (Field 3)
-  interval ← number_at four pid.1
+  Ok (n.0, pid.0, pid.1)
+
+-- the interval, how many instructions were finished, the address of the next one, and the bytes after that
+unfoldable pub progress_at : List ℕ → Result (ℕ × ℕ × ℕ × List ℕ) DecodeError
+progress_at bytes = do
+  interval ← number_at four bytes
   count ← number_at eight interval.1
   is_counted ← allow (nat_le interval.0 count.0) (Field 8)
   pc ← number_at four count.1
   is_aligned ← allow (pc.0 % 4 == 0) (Field 16)
+  Ok (interval.0, count.0, pc.0, pc.1)
+
+-- the fields before the registers
+unfoldable pub head_at : List ℕ → Result (Head × List ℕ) DecodeError
+head_at bytes = do
+  opened ← opening_at is_kind is_version bytes
+  place ← place_at (version_of opened.1) opened.2
+  progress ← progress_at place.2
   Ok (
     record {
       ext = ext_of opened.0;
       version = version_of opened.1;
-      n = n.0;
-      pid = pid.0;
-      interval = interval.0;
-      count = count.0;
-      pc = pc.0;
+      n = place.0;
+      pid = place.1;
+      interval = progress.0;
+      count = progress.1;
+      pc = progress.2;
     },
-    pc.1,
+    progress.3,
   )
 
 -- the dependency vector, the numbers got and the numbers sent
@@ -53,25 +65,31 @@ vectors_at n pid interval bytes = do
   sent ← numbers_at four n got.1
   Ok (record { vec = vec.0; got = got.0; sent = sent.0 }, sent.1)
 
+-- how many outputs were made, the size of the memory, and the bytes after them
+unfoldable pub made_at : ℕ → ℕ → List ℕ → Result (ℕ × ℕ × List ℕ) DecodeError
+made_at n count bytes = do
+  made ← number_at eight bytes
+  is_made ← allow (nat_le made.0 count) (Field (144 + 12 * n))
+  size ← number_at four made.1
+  is_size ← allow (is_memory_size size.0) (Field (152 + 12 * n))
+  Ok (made.0, size.0, size.1)
+
 -- the fields before the memory
 unfoldable pub front_at : List ℕ → Result (Front × List ℕ) DecodeError
 front_at bytes = do
   head ← head_at bytes
   regs ← numbers_at four WRITABLE_REGISTERS head.1
   vectors ← vectors_at head.0.n head.0.pid head.0.interval regs.1
-  made ← number_at eight vectors.1
-  is_made ← allow (nat_le made.0 head.0.count) (Field (144 + 12 * head.0.n))
-  size ← number_at four made.1
-  is_size ← allow (is_memory_size size.0) (Field (152 + 12 * head.0.n))
+  made ← made_at head.0.n head.0.count vectors.1
   Ok (
     record {
       head = head.0;
       regs = regs.0;
       vectors = vectors.0;
       made = made.0;
-      size = size.0;
+      size = made.1;
     },
-    size.1,
+    made.2,
   )
 
 -- a page of a memory of this size, and the bytes after it

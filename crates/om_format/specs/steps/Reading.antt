@@ -78,26 +78,38 @@ unfoldable pub end_at : List ℕ → Result (Unit {0}) DecodeError
 end_at [] = Ok tt
 end_at (byte ∷ bytes) = Err Trailing
 
--- the fields of a receipt, and the bytes after them
-unfoldable pub receipt_fields_at : List ℕ → Result (ReceiptRecord × List ℕ) DecodeError
-receipt_fields_at bytes = do
+-- the receiver and the sender of a receipt, and the bytes after them
+unfoldable pub ends_at : List ℕ → Result (ℕ × ℕ × List ℕ) DecodeError
+ends_at bytes = do
   opened ← opening_at (λ kind. kind == RECEIPT_KIND) (λ version. version == RECEIPT_VERSION) bytes
   to ← pid_at 2 opened.2
   from ← pid_at 3 to.1
-  interval ← number_at four from.1
+  Ok (to.0, from.0, from.1)
+
+-- the interval of the receiver, that of the sender, the number of the message, and the bytes after them
+unfoldable pub order_at : List ℕ → Result (ℕ × ℕ × ℕ × List ℕ) DecodeError
+order_at bytes = do
+  interval ← number_at four bytes
   is_above ← allow (nat_le 1 interval.0) (Field 4)
   sender ← number_at four interval.1
   ssn ← number_at four sender.1
   is_below ← allow (nat_lt ssn.0 interval.0) (Field 12)
-  count ← number_at eight ssn.1
+  Ok (interval.0, sender.0, ssn.0, ssn.1)
+
+-- the fields of a receipt, and the bytes after them
+unfoldable pub receipt_fields_at : List ℕ → Result (ReceiptRecord × List ℕ) DecodeError
+receipt_fields_at bytes = do
+  ends ← ends_at bytes
+  order ← order_at ends.2
+  count ← number_at eight order.3
   body ← body_at 24 count.1
   Ok (
     record {
-      to = to.0;
-      from = from.0;
-      interval = interval.0;
-      sender_interval = sender.0;
-      ssn = ssn.0;
+      to = ends.0;
+      from = ends.1;
+      interval = order.0;
+      sender_interval = order.1;
+      ssn = order.2;
       count = count.0;
       body = body.0;
     },
