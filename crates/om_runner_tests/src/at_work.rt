@@ -124,11 +124,11 @@ fn two_at_work(rt: HostRuntime) -> Result<(), Fail> {
         one: &one,
     };
     let report = run_cluster(&rt, rt.alloc(), &config, &Always(true), &stores)?;
+    let ended = [Status::Ended(4), Status::Ended(4)];
     assert_eq!(&rt;
-        report.statuses.as_slice(),
-        [Status::Ended(4), Status::Ended(4)].as_slice()
+        (report.statuses.as_slice(), report.front.vec.as_slice()),
+        (ended.as_slice(), [1, 1].as_slice())
     );
     assert!(&rt; report.released.iter().all(|outputs| outputs.is_empty()));
-    assert_eq!(&rt; report.front.vec.as_slice(), [1, 1].as_slice());
     Ok(())
 }

@@ -3,6 +3,7 @@ ghost use Rattle.std.specs.Prelude.{◌≡◌, IfOk, length};
 use crate::rows::is_set;
 use om_interval::Pid;
 use om_isa::Ext;
+use om_manager::Output;
 use om_process::{Image, Status};
 use om_runner::{Config, Gate, OpenFault, Opener, Report, RunFault, run_cluster};
 use om_stable::MemStable;
@@ -83,29 +84,29 @@ fn ring(alloc: Global, n: usize, kills: &[(u32, u32)]) -> Result<Config, AllocEr
     })
 }
 
-// The outputs and the codes of a ring of so many.
-fn assert_ring(rt: &impl Abort, n: u32, report: &Report) {
-    assert_eq!(rt; report.released.len(), n as usize);
-    assert_eq!(rt; report.statuses.len(), n as usize);
-    for (p, outputs) in report.released.iter().enumerate() {
-        let at = if p == 0 { n } else { p as u32 };
-        assert_eq!(rt; outputs.len(), 6, "{p}");
-        for (l, output) in outputs.iter().enumerate() {
-            let word = (l as u32).wrapping_mul(n).wrapping_add(at);
-            assert_eq!(rt;
-                output.bytes.as_slice(),
-                word.to_le_bytes().as_slice(),
-                "{p} {l}"
-            );
+// Whether these are the six outputs of a process of a ring of n, whose first number is `at`.
+fn are_of_ring(outputs: &[Output], n: u32, at: u32) -> bool {
+    if outputs.len() != 6 {
+        return false;
+    }
+    for (l, output) in outputs.iter().enumerate() {
+        let word = (l as u32).wrapping_mul(n).wrapping_add(at);
+        if output.bytes.as_slice() != word.to_le_bytes().as_slice() {
+            return false;
         }
     }
-    for (p, status) in report.statuses.iter().enumerate() {
+    true
+}
+
+// The outputs and the codes of a ring of so many.
+fn assert_ring(rt: &impl Abort, n: u32, report: &Report) {
+    let told = (report.released.len(), report.statuses.len());
+    assert_eq!(rt; told, (n as usize, n as usize));
+    for (p, (outputs, status)) in report.released.iter().zip(&report.statuses).enumerate() {
         let at = if p == 0 { n } else { p as u32 };
-        assert_eq!(rt;
-            *status,
-            Status::Ended(n.wrapping_mul(5).wrapping_add(at)),
-            "{p}"
-        );
+        let code = n.wrapping_mul(5).wrapping_add(at);
+        let are_right = are_of_ring(outputs, n, at);
+        assert_eq!(rt; (are_right, *status), (true, Status::Ended(code)), "{p}");
     }
 }
 

@@ -79,13 +79,14 @@ fn drain(rt: &impl Wait, inbox: &Inbox, pass: &mut TakePass) -> usize
 fn full_inbox(rt: HostRuntime) -> Result<(), Fail> {
     let heap = rt.alloc();
     let (inbox, mut put, mut take) = Inbox::new(heap, Pid::at(0), Pid::at(1))?;
-    assert_eq!(&rt; fill(&rt, heap, &inbox, &mut put)?, 64);
-    assert_eq!(&rt; put_back(&rt, heap, &inbox, &mut put, 64)?, Some(64));
-    let first = inbox.take(&rt, &mut take).ok_or("a message")?;
-    assert_eq!(&rt; first.ssn, 0);
-    assert_eq!(&rt; put_back(&rt, heap, &inbox, &mut put, 64)?, None);
+    let filled = fill(&rt, heap, &inbox, &mut put)?;
+    let full = put_back(&rt, heap, &inbox, &mut put, 64)?;
+    let first = inbox.take(&rt, &mut take).ok_or("a message")?.ssn;
+    let room = put_back(&rt, heap, &inbox, &mut put, 64)?;
     inbox.settle(&rt, &mut take, put);
-    assert_eq!(&rt; inbox.take(&rt, &mut take).ok_or("a message")?.ssn, 1);
-    assert_eq!(&rt; drain(&rt, &inbox, &mut take), 63);
+    let second = inbox.take(&rt, &mut take).ok_or("a message")?.ssn;
+    let left = drain(&rt, &inbox, &mut take);
+    assert_eq!(&rt; (filled, full, first), (64, Some(64), 0));
+    assert_eq!(&rt; (room, second, left), (None, 1, 63));
     Ok(())
 }

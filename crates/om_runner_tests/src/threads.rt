@@ -1,6 +1,6 @@
 ghost use Rattle.std.specs.Prelude.{◌≡◌};
 
-use crate::rows::{is_set, noted};
+use crate::rows::{front, is_set, noted};
 use om_runner::{Blank, Front, Naming, Shared, laws};
 use std::alloc::Global;
 use std::marker::Brand;
@@ -35,10 +35,7 @@ fn met_and_read<K: Naming + Send + Sync, R: Threads + Wait + Abort + Sync>(
 fn meet_then_read(rt: HostRuntime) -> Result<(), Fail> {
     let blank = Blank::new(rt.alloc(), 2)?;
     let (met, read) = met_and_read::<Brand, _>(&rt, rt.alloc(), blank);
-    assert_eq!(&rt; met.version, 1);
-    assert_eq!(&rt; met.round, 0);
-    assert_eq!(&rt; met.vec.as_slice(), [1, 0].as_slice());
-    assert_eq!(&rt; read, met);
+    assert_eq!(&rt; [met, read], [front(&rt, 1, 0, &[1, 0]); 2]);
     laws::each_version_has_one_front();
     Ok(())
 }
@@ -77,10 +74,7 @@ fn read_beside_the_lock<K: Naming + Send + Sync, R: Threads + Wait + Abort + Syn
 fn read_while_locked(rt: HostRuntime) -> Result<(), Fail> {
     let blank = Blank::new(rt.alloc(), 1)?;
     let (answered_in_time, read) = read_beside_the_lock::<Brand, _>(&rt, rt.alloc(), blank);
-    assert!(&rt; answered_in_time);
-    let front = read.ok_or("a front")?;
-    assert_eq!(&rt; front.version, 0);
-    assert_eq!(&rt; front.round, 0);
-    assert_eq!(&rt; front.vec.as_slice(), [0].as_slice());
+    let wanted = Some(front(&rt, 0, 0, &[0]));
+    assert_eq!(&rt; (answered_in_time, read), (true, wanted));
     Ok(())
 }
