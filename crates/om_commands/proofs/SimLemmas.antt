@@ -103,7 +103,7 @@ is_played spelled script cluster begun end events answers told (Err e) same_clus
 pub is_answer : (script : Script) (cluster : Cluster) (begun : WorldState) (text : List ℕ) → cluster ≡ script.cluster
     → IsBegun (programs_of cluster) begun → IsPlayed script begun text → IsAnswer script text
 is_answer script cluster begun text same is_begun played =
-    (begun, played.0, played.1, subst (λ c. IsBegun (programs_of c) begun) same is_begun, played.2, played.3, played.4)
+    (begun, subst (λ c. IsBegun (programs_of c) begun) same is_begun, played)
 
 -- the answer to a script is that to the bytes that it is read from
 pub text_of_answer : {A : Type 0} (spelled : A → List ℕ) (remaining : Option (List ℕ)) (start script : Script) (r : Result A CommandError)

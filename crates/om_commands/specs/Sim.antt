@@ -27,12 +27,9 @@ IsPlayed script begun text =
     (end : WorldState) × (answers : List Answer) × Played begun script.events answers end × IsKnown end
     × (text ≡ answers_text answers ++ end_text script.cluster (length script.cluster.processes) end)
 
--- the answers to the events of a script, played from the start of its world, and how that stands in the end
+-- the same, from the start of its world
 abbrev pub IsAnswer : Script → List ℕ → Type 0
-IsAnswer script text =
-    (begun : WorldState) × (end : WorldState) × (answers : List Answer)
-    × IsBegun (programs_of script.cluster) begun × Played begun script.events answers end × IsKnown end
-    × (text ≡ answers_text answers ++ end_text script.cluster (length script.cluster.processes) end)
+IsAnswer script text = (begun : WorldState) × IsBegun (programs_of script.cluster) begun × IsPlayed script begun text
 
 -- the answer to the script that these bytes are
 pub record IsSim (bytes text : List ℕ) : Type 0 where
