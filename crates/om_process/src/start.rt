@@ -178,6 +178,7 @@ fn empty_outbox(alloc: Global, n: usize) -> Result<Vec<Messages>, AllocError>
 {
     let mut outbox = Vec::with_capacity(alloc, n)?;
     for made in 0..n {
+        // The proof counts by it.
         let _ = made;
         outbox.push(Messages::new(alloc))?;
     }

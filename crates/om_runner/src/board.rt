@@ -52,6 +52,7 @@ impl<K: Naming> Board<K> {
         ensures posted { result.posted ≡ first_front K.cell.n ∷ [] }
         ensures quiet { result.quiet ≡ nobody }
     {
+        // The read tells the proof that the manager is sound.
         let _front = Front::of(&manager);
         Board {
             manager,

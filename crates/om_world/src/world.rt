@@ -107,6 +107,7 @@ impl<S: Stable> World<S> {
         ensures holds { IsKnown self.now → Holds self.now }
         ensures always { ((store : S) → IsTrue (S.is_clean store)) → all_clean self.now.clean ≡ true }
     {
+        // Only a look: what is told holds of every world, by its type.
         let _ = &self.live;
     }
 
