@@ -10,6 +10,7 @@ use om_tables::SqlStable;
 use sqlite::Connection;
 use std::alloc::Global;
 use std::process::Abort;
+use std::test::Fail;
 
 const PROGRAM: [u32; 11] = [
     0x00200893, 0x04000513, 0x00400593, 0x00000073, 0x00100893, 0x00050613, 0x00000513, 0x04000593,
@@ -147,34 +148,24 @@ fn check<S: Stable>(
     answer: Result<(), CommandError>,
 ) {
     let mut text = Vec::new(alloc);
+    let told = replay(alloc, store, interval, &mut text);
     assert_eq!(rt;
-        replay(alloc, store, interval, &mut text),
-        answer,
+        (told, text.as_slice()),
+        (answer, written.as_bytes()),
         "{interval}"
     );
-    assert_eq!(rt; text.as_slice(), written.as_bytes(), "{interval}");
 }
 
 fn check_store<S: Stable>(rt: &impl Abort, alloc: Global, store: &mut S) {
     fill(rt, alloc, store, &RECEIPT);
-    check(rt, alloc, store, 0, AT_START, Ok(()));
-    check(rt, alloc, store, 1, AFTER_RECEIPT, Ok(()));
-    check(
-        rt,
-        alloc,
-        store,
-        2,
-        "",
-        Err(CommandError::MissingReceipt(2)),
-    );
-    check(
-        rt,
-        alloc,
-        store,
-        u32::MAX,
-        "",
-        Err(CommandError::MissingReceipt(2)),
-    );
+    for (interval, written, answer) in [
+        (0, AT_START, Ok(())),
+        (1, AFTER_RECEIPT, Ok(())),
+        (2, "", Err(CommandError::MissingReceipt(2))),
+        (u32::MAX, "", Err(CommandError::MissingReceipt(2))),
+    ] {
+        check(rt, alloc, store, interval, written, answer);
+    }
 }
 
 #[test]
@@ -201,29 +192,34 @@ fn rows_in_tables(rt: HostRuntime) {
     }
 }
 
-// The command over a store with this receipt has this answer.
-fn check_receipt(rt: &impl Abort, alloc: Global, receipt: &[u8], answer: CommandError) {
+// The command over a store with the first so many bytes of the receipt, of which one is another, has this answer.
+fn check_altered(
+    rt: &impl Abort,
+    alloc: Global,
+    len: usize,
+    (place, byte): (usize, u8),
+    answer: CommandError,
+) {
+    let mut receipt = RECEIPT;
+    assert!(rt; place < receipt.len() && len <= receipt.len());
+    receipt[place] = byte;
     let mut store = MemStable::new(alloc);
-    fill(rt, alloc, &mut store, receipt);
+    fill(rt, alloc, &mut store, &receipt[..len]);
     check(rt, alloc, &mut store, 1, "", Err(answer));
 }
 
-fn check_altered(rt: &impl Abort, alloc: Global, place: usize, byte: u8, answer: CommandError) {
-    let mut receipt = RECEIPT;
-    assert!(rt; place < receipt.len());
-    receipt[place] = byte;
-    check_receipt(rt, alloc, &receipt, answer);
-}
-
-// A receipt that is cut, and one with another byte at a place.
+// A receipt with another byte at a place, and one that is cut.
 #[test]
 fn records_that_are_altered(rt: HostRuntime) {
-    let alloc = rt.alloc();
-    check_altered(&rt, alloc, 4, 2, CommandError::Damaged(1));
-    check_altered(&rt, alloc, 2, 0, CommandError::Mismatch(1));
-    check_altered(&rt, alloc, 3, 3, CommandError::Mismatch(1));
-    check_altered(&rt, alloc, 16, 2, CommandError::Mismatch(1));
-    check_receipt(&rt, alloc, &RECEIPT[..29], CommandError::Damaged(1));
+    for (len, change, answer) in [
+        (30, (4, 2), CommandError::Damaged(1)),
+        (30, (2, 0), CommandError::Mismatch(1)),
+        (30, (3, 3), CommandError::Mismatch(1)),
+        (30, (16, 2), CommandError::Mismatch(1)),
+        (29, (0, 0x52), CommandError::Damaged(1)),
+    ] {
+        check_altered(&rt, rt.alloc(), len, change, answer);
+    }
 }
 
 // The two calls that fill the store pass.
@@ -242,22 +238,17 @@ fn a_store_that_fails(rt: HostRuntime) {
     check(&rt, rt.alloc(), &mut store, 1, AFTER_RECEIPT, Ok(()));
 }
 
-fn assert_text(rt: &impl Abort, alloc: Global, error: CommandError, text: &str) {
-    let told = format!(in alloc; "{error}").expect(rt, "memory");
-    assert_eq!(rt; told.as_str(), text);
-}
-
 #[test]
-fn texts_of_refusals(rt: HostRuntime) {
-    let alloc = rt.alloc();
-    assert_text(&rt, alloc, CommandError::NoCheckpoint, "no checkpoint");
-    assert_text(&rt, alloc, CommandError::Damaged(7), "damaged 7");
-    assert_text(
-        &rt,
-        alloc,
-        CommandError::MissingReceipt(8),
-        "missing receipt 8",
-    );
-    assert_text(&rt, alloc, CommandError::Mismatch(9), "mismatch 9");
-    assert_text(&rt, alloc, CommandError::StoreFault, "store fault");
+fn texts_of_refusals(rt: HostRuntime) -> Result<(), Fail> {
+    for (error, text) in [
+        (CommandError::NoCheckpoint, "no checkpoint"),
+        (CommandError::Damaged(7), "damaged 7"),
+        (CommandError::MissingReceipt(8), "missing receipt 8"),
+        (CommandError::Mismatch(9), "mismatch 9"),
+        (CommandError::StoreFault, "store fault"),
+    ] {
+        let told = error.to_string(rt.alloc())?;
+        assert_eq!(rt; told.as_str(), text);
+    }
+    Ok(())
 }
