@@ -49,7 +49,7 @@ fn push_ends(text: &mut String, programs: &Programs, statuses: &[Status]) -> Res
     Ok(())
 }
 
-/// The text of a run of these processes: by process what it put out and is released, and how it ended.
+// The text of a run of these processes: by process what it put out and is released, and how it ended.
 pub(crate) fn run_text(
     alloc: Global,
     programs: &Programs,

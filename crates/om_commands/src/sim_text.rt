@@ -253,7 +253,7 @@ fn push_end<S: Stable>(
     push_released(alloc, text, programs, world.manager(), n)
 }
 
-/// The text of a world whose processes are those of these programs, and that has answered events so.
+// The text of a world whose processes are those of these programs, and that has answered events so.
 pub(crate) fn sim_text<S: Stable>(
     alloc: Global,
     programs: &Programs,

@@ -183,49 +183,49 @@ kind_fine : (ext : Ext) → is_kind (kind_of ext) ≡ true
 kind_fine I = refl
 kind_fine Im = refl
 
-pub checkpoint_spells : (r : CheckpointRecord) → IsCheckpoint r → AreWithin r → IsBytes (checkpoint_bytes r) → SpellsCheckpoint V2 r (checkpoint_bytes r)
+pub checkpoint_spells : (r : CheckpointRecord) → IsCheckpoint r → AreWithin r.head → IsBytes (checkpoint_bytes r) → SpellsCheckpoint V2 r (checkpoint_bytes r)
 unfolding checkpoint_format front opening
 checkpoint_spells r h w fits =
     let n_parts = and_parts _ _ h.n in
     let n_most : r.n ≤ MAX_PROCESSES = leb-true _ _ n_parts.1 in
     let n_byte : r.n < 256 = omega (arith, n_most) in
-    let pid_byte : r.pid < 256 = omega (arith, h.pid, n_byte) in
+    let pid_byte : r.head.pid < 256 = omega (arith, h.pid, n_byte) in
     let size_most : length r.memory ≤ MAX_MEMORY = leb-true _ _ (and_parts _ _ (and_parts _ _ h.memory).0).1 in
     let t_out = numbers eight (r.outputs.first ∷ []) ++ (flat_map entry_bytes r.outputs.entries ++ []) in
     let t_queues = flat_map message_bytes r.kept ++ t_out in
     let t_pages = flat_map page_bytes (kept_pages r.memory) ++ t_queues in
     let t_kept = to_le_bytes w16 (length (kept_pages r.memory)) ++ t_pages in
     let t_size = numbers four (length r.memory ∷ []) ++ t_kept in
-    let t_made = to_le_bytes w64 r.made ++ t_size in
-    let t_sent = numbers four r.sent ++ t_made in
-    let t_got = numbers four r.got ++ t_sent in
-    let t_vec = numbers four r.vec ++ t_got in
-    let t_regs = numbers four r.regs ++ t_vec in
-    let t_pc = to_le_bytes w32 r.pc ++ t_regs in
-    let t_count = to_le_bytes w64 r.count ++ t_pc in
-    let t_interval = to_le_bytes w32 r.interval ++ t_count in
-    let t_pid = r.pid ∷ t_interval in
+    let t_made = to_le_bytes w64 r.head.made ++ t_size in
+    let t_sent = numbers four r.head.sent ++ t_made in
+    let t_got = numbers four r.head.got ++ t_sent in
+    let t_vec = numbers four r.head.vec ++ t_got in
+    let t_regs = numbers four r.head.regs ++ t_vec in
+    let t_pc = to_le_bytes w32 r.head.pc ++ t_regs in
+    let t_count = to_le_bytes w64 r.head.count ++ t_pc in
+    let t_interval = to_le_bytes w32 r.head.interval ++ t_count in
+    let t_pid = r.head.pid ∷ t_interval in
     let t_n = r.n ∷ t_pid in
     let t_version = version_number V2 ∷ t_n in
-    let whole = kind_of r.ext ∷ t_version in
+    let whole = kind_of r.head.ext ∷ t_version in
     let ended : whole ≡ checkpoint_bytes r = simp (append_assoc, append-nil) in
     let whole_fits : IsBytes whole = subst IsBytes (sym ended) fits in
-    let regs_fit : IsBytes t_regs = bytes_behind ((kind_of r.ext ∷ version_number V2 ∷ r.n ∷ r.pid ∷ []) ++ to_le_bytes w32 r.interval ++ to_le_bytes w64 r.count ++ to_le_bytes w32 r.pc) t_regs whole_fits in
-    let vec_fits : IsBytes t_vec = bytes_behind (numbers four r.regs) t_vec regs_fit in
-    let got_fits : IsBytes t_got = bytes_behind (numbers four r.vec) t_got vec_fits in
-    let sent_fits : IsBytes t_sent = bytes_behind (numbers four r.got) t_sent got_fits in
-    let made_fits : IsBytes t_made = bytes_behind (numbers four r.sent) t_made sent_fits in
-    let pages_fit : IsBytes t_pages = bytes_behind (to_le_bytes w64 r.made ++ to_le_bytes w32 (length r.memory) ++ to_le_bytes w16 (length (kept_pages r.memory))) t_pages made_fits in
+    let regs_fit : IsBytes t_regs = bytes_behind ((kind_of r.head.ext ∷ version_number V2 ∷ r.n ∷ r.head.pid ∷ []) ++ to_le_bytes w32 r.head.interval ++ to_le_bytes w64 r.head.count ++ to_le_bytes w32 r.head.pc) t_regs whole_fits in
+    let vec_fits : IsBytes t_vec = bytes_behind (numbers four r.head.regs) t_vec regs_fit in
+    let got_fits : IsBytes t_got = bytes_behind (numbers four r.head.vec) t_got vec_fits in
+    let sent_fits : IsBytes t_sent = bytes_behind (numbers four r.head.got) t_sent got_fits in
+    let made_fits : IsBytes t_made = bytes_behind (numbers four r.head.sent) t_made sent_fits in
+    let pages_fit : IsBytes t_pages = bytes_behind (to_le_bytes w64 r.head.made ++ to_le_bytes w32 (length r.memory) ++ to_le_bytes w16 (length (kept_pages r.memory))) t_pages made_fits in
     let queues_fit : IsBytes t_queues = bytes_behind (flat_map page_bytes (kept_pages r.memory)) t_queues pages_fit in
     let out_fits : IsBytes t_out = bytes_behind (flat_map message_bytes r.kept) t_out queues_fit in
-    let last = queue_spells eight r.interval r.made r.outputs end [] [] w.interval h.outputs w.made h.out out_fits refl in
-    let outputs : Spells (queue eight r.interval r.made end) (queue_values r.outputs) t_out = subst (λ (vs : List (List ℕ)). Spells (queue eight r.interval r.made end) vs t_out) (append-nil (queue_values r.outputs)) last in
-    let kept = queues_spell r.interval r.kept r.sent (queue eight r.interval r.made end) (queue_values r.outputs) t_out w.interval h.kept w.sent h.messages queues_fit outputs in
-    let memory = memory_spells r.memory (queues r.interval r.sent (queue eight r.interval r.made end)) (flat_map queue_values r.kept ++ queue_values r.outputs) t_queues size_most pages_fit kept in
+    let last = queue_spells eight r.head.interval r.head.made r.outputs end [] [] w.interval h.outputs w.made h.out out_fits refl in
+    let outputs : Spells (queue eight r.head.interval r.head.made end) (queue_values r.outputs) t_out = subst (λ (vs : List (List ℕ)). Spells (queue eight r.head.interval r.head.made end) vs t_out) (append-nil (queue_values r.outputs)) last in
+    let kept = queues_spell r.head.interval r.kept r.head.sent (queue eight r.head.interval r.head.made end) (queue_values r.outputs) t_out w.interval h.kept w.sent h.messages queues_fit outputs in
+    let memory = memory_spells r.memory (queues r.head.interval r.head.sent (queue eight r.head.interval r.head.made end)) (flat_map queue_values r.kept ++ queue_values r.outputs) t_queues size_most pages_fit kept in
     let spelled : Spells checkpoint_format (checkpoint_values V2 r) whole = (
-      field_of one _ (kind_of r.ext) (kind_small r.ext) (kind_fine r.ext),
+      field_of one _ (kind_of r.head.ext) (kind_small r.head.ext) (kind_fine r.head.ext),
       t_version,
-      byte_cell (kind_of r.ext) t_version (kind_small r.ext),
+      byte_cell (kind_of r.head.ext) t_version (kind_small r.head.ext),
       (
         field_of one _ (version_number V2) (lit< tt) refl,
         t_n,
@@ -235,39 +235,39 @@ checkpoint_spells r h w fits =
           t_pid,
           byte_cell r.n t_pid n_byte,
           (
-            field_of one _ r.pid pid_byte (lt-ltb _ _ h.pid),
+            field_of one _ r.head.pid pid_byte (lt-ltb _ _ h.pid),
             t_interval,
-            byte_cell r.pid t_interval pid_byte,
+            byte_cell r.head.pid t_interval pid_byte,
             (
-              field_of four any r.interval w.interval refl,
+              field_of four any r.head.interval w.interval refl,
               t_count,
               refl,
               (
-                field_of eight _ r.count w.count (le-leb _ _ h.count),
+                field_of eight _ r.head.count w.count (le-leb _ _ h.count),
                 t_pc,
                 refl,
                 (
-                  field_of four _ r.pc w.pc (eq-eqb _ _ h.pc),
+                  field_of four _ r.head.pc w.pc (eq-eqb _ _ h.pc),
                   t_regs,
                   refl,
                   (
-                    words_of WRITABLE_REGISTERS any r.regs h.regs w.regs refl,
+                    words_of WRITABLE_REGISTERS any r.head.regs h.regs w.regs refl,
                     t_vec,
                     refl,
                     (
-                      words_of r.n _ r.vec h.vec w.vec (eq-eqb _ _ h.own),
+                      words_of r.n _ r.head.vec h.vec w.vec (eq-eqb _ _ h.own),
                       t_got,
                       refl,
                       (
-                        words_of r.n _ r.got h.got w.got (eq-eqb _ _ h.received),
+                        words_of r.n _ r.head.got h.got w.got (eq-eqb _ _ h.received),
                         t_sent,
                         refl,
                         (
-                          words_of r.n any r.sent h.sent w.sent refl,
+                          words_of r.n any r.head.sent h.sent w.sent refl,
                           t_made,
                           refl,
                           (
-                            field_of eight _ r.made w.made (le-leb _ _ h.made),
+                            field_of eight _ r.head.made w.made (le-leb _ _ h.made),
                             t_size,
                             refl,
                             (field_of four _ (length r.memory) (omega (arith, size_most)) h.memory, t_kept, refl, memory),
@@ -288,6 +288,6 @@ checkpoint_spells r h w fits =
       ended = record { kept = h.kept; outputs = h.outputs };
     }
 
-pub checkpoint_is_spelled : (r : CheckpointRecord) (v : Result (Vec ℕ) AllocError) → IfOk v (λ x. IsBytes x.items) → IfOk v (λ x. x.items ≡ checkpoint_bytes r) → IsCheckpoint r → IfOk v (λ x. AreWithin r) → IfOk v (λ x. SpellsCheckpoint V2 r x.items)
+pub checkpoint_is_spelled : (r : CheckpointRecord) (v : Result (Vec ℕ) AllocError) → IfOk v (λ x. IsBytes x.items) → IfOk v (λ x. x.items ≡ checkpoint_bytes r) → IsCheckpoint r → IfOk v (λ x. AreWithin r.head) → IfOk v (λ x. SpellsCheckpoint V2 r x.items)
 checkpoint_is_spelled r (Ok v) fits e h w = rw e (checkpoint_spells r h w (subst IsBytes e fits))
 checkpoint_is_spelled r (Err x) fits e h w = tt

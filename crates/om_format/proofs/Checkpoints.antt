@@ -7,6 +7,7 @@ use Rattle.std.proofs.lemmas.List.{append-nil}
 use Rattle.om_isa.specs.declared.ext.Ext.{Ext}
 use Rattle.om_isa.specs.declared.ext.Ext.TheVariants.{I, Im}
 use Rattle.om_format.specs.declared.checkpoint_reading.Front.{Front}
+use Rattle.om_format.specs.declared.head.Head.{Head}
 use Rattle.om_format.specs.declared.error.DecodeError.{DecodeError}
 use Rattle.om_format.specs.declared.error.DecodeError.TheVariants.{Field}
 use Rattle.om_format.specs.declared.queue.Entry.{Entry}
@@ -18,7 +19,7 @@ use Rattle.om_format.specs.Queues.{QueueRecord, queue_end, entry_values, queue_v
 use Rattle.om_format.specs.Versions.{kind_of, is_kind, ext_of, version_number, is_version, version_of, memory_in, before_memory, memory_values}
 use Rattle.om_format.specs.Checkpoints.{CheckpointRecord, front, checkpoint_format, checkpoint_values, checkpoint_fault, AreEnded, SpellsCheckpoint, IsSpelled, IsFrontRead, IsCheckpoint}
 use Rattle.om_format.specs.steps.Reading.{◌>>=◌, allow, number_at, fields_at, opening_at, end_at}
-use Rattle.om_format.specs.steps.CheckpointReading.{place_at, progress_at, head_at, vectors_at, made_at, front_at, before_memory_at, memory_at, rest_at, checkpoint_of, checkpoint_at}
+use Rattle.om_format.specs.steps.CheckpointReading.{place_at, progress_at, vectors_at, made_at, front_at, before_memory_at, memory_at, rest_at, checkpoint_of, checkpoint_at}
 use Rattle.om_format.proofs.Numbers.{IsBytes}
 use Rattle.om_format.proofs.Formats.{bind_ok, allow_ok, ok_is, found, again, faulty, read_all}
 use Rattle.om_format.proofs.Holding.{of_ok, holding_same, opening_hold}
@@ -78,20 +79,20 @@ at_memory n = omega arith
 -- the values of the fields before the memory
 abbrev front_values : Front → List (List ℕ)
 front_values f =
-    (kind_of f.head.ext ∷ []) ∷ (version_number f.head.version ∷ []) ∷ (f.head.n ∷ []) ∷ (f.head.pid ∷ []) ∷ (f.head.interval ∷ []) ∷ (f.head.count ∷ []) ∷ (f.head.pc ∷ []) ∷ f.regs ∷ f.vectors.vec ∷ f.vectors.got ∷ f.vectors.sent ∷ (f.made ∷ []) ∷ (f.size ∷ []) ∷ []
+    (kind_of f.head.ext ∷ []) ∷ (version_number f.version ∷ []) ∷ (f.n ∷ []) ∷ (f.head.pid ∷ []) ∷ (f.head.interval ∷ []) ∷ (f.head.count ∷ []) ∷ (f.head.pc ∷ []) ∷ f.head.regs ∷ f.head.vec ∷ f.head.got ∷ f.head.sent ∷ (f.head.made ∷ []) ∷ (f.size ∷ []) ∷ []
 
 front_is : (behind : Version → ℕ → List ℕ → ℕ → ℕ → Format) (bytes : List ℕ)
-    → fields_at (front behind) 0 bytes ≡ (front_at bytes >>= λ f. fields_at (behind f.0.head.version f.0.head.interval f.0.vectors.sent f.0.made f.0.size) (156 + 12 * f.0.head.n) f.1 >>= λ vs. Ok (front_values f.0 ++ vs))
-unfolding front front_at head_at place_at progress_at vectors_at made_at
+    → fields_at (front behind) 0 bytes ≡ (front_at bytes >>= λ f. fields_at (behind f.0.version f.0.head.interval f.0.head.sent f.0.head.made f.0.size) (156 + 12 * f.0.n) f.1 >>= λ vs. Ok (front_values f.0 ++ vs))
+unfolding front front_at place_at progress_at vectors_at made_at
 front_is behind bytes =
     simp (opening_is, one_number, bind_assoc, at_vec, at_got, at_made, at_size, at_memory) (holding_same (λ x. (is_kind x.0 ≡ true) × (is_version x.1 ≡ true)) (opening_at is_kind is_version bytes) _ _ (opening_hold is_kind is_version bytes) (λ x h. rw (kind_again x.0 h.0, number_again x.1 h.1) refl))
 
 rest_is : (f : Front) (bytes : List ℕ)
-    → (fields_at (memory_in f.head.version f.size (queues f.head.interval f.vectors.sent (queue eight f.head.interval f.made end))) (156 + 12 * f.head.n) bytes >>= λ vs. Ok (front_values f ++ vs))
-    ≡ (rest_at f bytes >>= λ r. Ok (checkpoint_values f.head.version (checkpoint_of f r.0 r.1 r.2)))
+    → (fields_at (memory_in f.version f.size (queues f.head.interval f.head.sent (queue eight f.head.interval f.head.made end))) (156 + 12 * f.n) bytes >>= λ vs. Ok (front_values f ++ vs))
+    ≡ (rest_at f bytes >>= λ r. Ok (checkpoint_values f.version (checkpoint_of f r.0 r.1 r.2)))
 unfolding rest_at
 rest_is f bytes =
-    simp (memory_is, queues_is, last_queue_is, bind_assoc) (holding_same (λ x. length x.0 ≡ f.size) (memory_at f.head.version f.size (156 + 12 * f.head.n) bytes) _ _ (memory_hold f.head.version f.size (156 + 12 * f.head.n) bytes) (λ x whole. rw whole refl))
+    simp (memory_is, queues_is, last_queue_is, bind_assoc) (holding_same (λ x. length x.0 ≡ f.size) (memory_at f.version f.size (156 + 12 * f.n) bytes) _ _ (memory_hold f.version f.size (156 + 12 * f.n) bytes) (λ x whole. rw whole refl))
 
 pub checkpoint_is : (bytes : List ℕ) → fields_at checkpoint_format 0 bytes ≡ (checkpoint_at bytes >>= λ r. Ok (checkpoint_values r.0 r.1))
 unfolding checkpoint_format checkpoint_at
@@ -114,18 +115,18 @@ before_read V2 size offset bytes x e =
     (a.0.1, (a.0.0 ∷ []) ∷ [], before_fields size offset bytes a.0 a.1 (allow_ok (nat_le a.0.0 (page_count size)) (Field offset) b.0 b.1))
 
 -- the fields before the bytes of the memory are read
-front_read_from : (bytes behind : List ℕ) (f : Front) (r : Result (ℕ × List ℕ) DecodeError) → front_at bytes ≡ Ok (f, behind) → before_memory_at f.head.version f.size (156 + 12 * f.head.n) behind ≡ r → IsOk r → IsFrontRead bytes
+front_read_from : (bytes behind : List ℕ) (f : Front) (r : Result (ℕ × List ℕ) DecodeError) → front_at bytes ≡ Ok (f, behind) → before_memory_at f.version f.size (156 + 12 * f.n) behind ≡ r → IsOk r → IsFrontRead bytes
 front_read_from bytes behind f (Err d) e g ok = absurd (false≢true ok)
 front_read_from bytes behind f (Ok x) e g ok =
-    let m = before_read f.head.version f.size (156 + 12 * f.head.n) behind x g in
+    let m = before_read f.version f.size (156 + 12 * f.n) behind x g in
     read_all (front (λ version interval sent made size. before_memory version size)) bytes m.0 (front_values f ++ m.1) (
     front_is (λ version interval sent made size. before_memory version size) bytes
-    ∙ ap (λ (r : Result (Front × List ℕ) DecodeError). r >>= λ g. fields_at (before_memory g.0.head.version g.0.size) (156 + 12 * g.0.head.n) g.1 >>= λ vs. Ok (front_values g.0 ++ vs)) e
+    ∙ ap (λ (r : Result (Front × List ℕ) DecodeError). r >>= λ g. fields_at (before_memory g.0.version g.0.size) (156 + 12 * g.0.n) g.1 >>= λ vs. Ok (front_values g.0 ++ vs)) e
     ∙ ap (λ (r : Result (List (List ℕ)) DecodeError). r >>= λ vs. Ok (front_values f ++ vs)) m.2
     ∙ bind_assoc (end_at m.0) _ _)
 
-pub front_read : (bytes behind : List ℕ) (f : Front) → front_at bytes ≡ Ok (f, behind) → IsOk (before_memory_at f.head.version f.size (156 + 12 * f.head.n) behind) → IsFrontRead bytes
-front_read bytes behind f e ok = front_read_from bytes behind f (before_memory_at f.head.version f.size (156 + 12 * f.head.n) behind) e refl ok
+pub front_read : (bytes behind : List ℕ) (f : Front) → front_at bytes ≡ Ok (f, behind) → IsOk (before_memory_at f.version f.size (156 + 12 * f.n) behind) → IsFrontRead bytes
+front_read bytes behind f e ok = front_read_from bytes behind f (before_memory_at f.version f.size (156 + 12 * f.n) behind) e refl ok
 
 -- ---- values that are the same
 
@@ -204,26 +205,29 @@ same_memories V2 a b x y len e =
 
 -- ---- no bytes spell two checkpoints
 
-made : Ext → ℕ → ℕ → ℕ → ℕ → ℕ → List ℕ → List ℕ → List ℕ → List ℕ → ℕ → List ℕ → List QueueRecord → QueueRecord → CheckpointRecord
-made ext n pid interval count pc regs vec got sent outputs_made memory kept outputs = record { ext = ext; n = n; pid = pid; interval = interval; count = count; pc = pc; regs = regs; vec = vec; got = got; sent = sent; made = outputs_made; memory = memory; kept = kept; outputs = outputs }
+head_made : Ext → ℕ → ℕ → ℕ → ℕ → List ℕ → List ℕ → List ℕ → List ℕ → ℕ → Head
+head_made ext pid interval count pc regs vec got sent outputs_made = record { ext = ext; pid = pid; interval = interval; count = count; pc = pc; regs = regs; vec = vec; got = got; sent = sent; made = outputs_made }
+
+made : ℕ → Head → List ℕ → List QueueRecord → QueueRecord → CheckpointRecord
+made n head memory kept outputs = record { n = n; head = head; memory = memory; kept = kept; outputs = outputs }
 
 same_version : (v w : Version) (r s : CheckpointRecord) → checkpoint_values v r ≡ checkpoint_values w s → v ≡ w
 same_version v w r s e = same_number v w cc
 
 same_checkpoint : (v : Version) (r s : CheckpointRecord) → AreEnded r → AreEnded s → checkpoint_values v r ≡ checkpoint_values v s → r ≡ s
-unfolding made
+unfolding head_made made
 same_checkpoint v r s r_ended s_ended e =
-    let ext : r.ext ≡ s.ext = same_kind r.ext s.ext cc in
+    let ext : r.head.ext ≡ s.head.ext = same_kind r.head.ext s.head.ext cc in
     let n : r.n ≡ s.n = cc in
-    let pid : r.pid ≡ s.pid = cc in
-    let interval : r.interval ≡ s.interval = cc in
-    let count : r.count ≡ s.count = cc in
-    let pc : r.pc ≡ s.pc = cc in
-    let regs : r.regs ≡ s.regs = cc in
-    let vec : r.vec ≡ s.vec = cc in
-    let got : r.got ≡ s.got = cc in
-    let sent : r.sent ≡ s.sent = cc in
-    let outputs_made : r.made ≡ s.made = cc in
+    let pid : r.head.pid ≡ s.head.pid = cc in
+    let interval : r.head.interval ≡ s.head.interval = cc in
+    let count : r.head.count ≡ s.head.count = cc in
+    let pc : r.head.pc ≡ s.head.pc = cc in
+    let regs : r.head.regs ≡ s.head.regs = cc in
+    let vec : r.head.vec ≡ s.head.vec = cc in
+    let got : r.head.got ≡ s.head.got = cc in
+    let sent : r.head.sent ≡ s.head.sent = cc in
+    let outputs_made : r.head.made ≡ s.head.made = cc in
     let size : length r.memory ≡ length s.memory = cc in
     let behind : memory_values v r.memory ++ (flat_map queue_values r.kept ++ queue_values r.outputs) ≡ memory_values v s.memory ++ (flat_map queue_values s.kept ++ queue_values s.outputs) = cc in
     let memories = same_memories v r.memory s.memory (flat_map queue_values r.kept ++ queue_values r.outputs) (flat_map queue_values s.kept ++ queue_values s.outputs) size behind in
@@ -232,7 +236,8 @@ same_checkpoint v r s r_ended s_ended e =
     let kept = queues.0 in
     let last = same_queue r.outputs s.outputs [] [] (r_ended.outputs ∙ outputs_made ∙ sym s_ended.outputs) (append-nil (queue_values r.outputs) ∙ queues.1 ∙ sym (append-nil (queue_values s.outputs))) in
     let outputs = last.0 in
-    let same : made r.ext r.n r.pid r.interval r.count r.pc r.regs r.vec r.got r.sent r.made r.memory r.kept r.outputs ≡ made s.ext s.n s.pid s.interval s.count s.pc s.regs s.vec s.got s.sent s.made s.memory s.kept s.outputs = cc in
+    let head : head_made r.head.ext r.head.pid r.head.interval r.head.count r.head.pc r.head.regs r.head.vec r.head.got r.head.sent r.head.made ≡ head_made s.head.ext s.head.pid s.head.interval s.head.count s.head.pc s.head.regs s.head.vec s.head.got s.head.sent s.head.made = cc in
+    let same : made r.n r.head r.memory r.kept r.outputs ≡ made s.n s.head s.memory s.kept s.outputs = cc in
     same
 
 module _ (bytes : List ℕ) where
@@ -274,7 +279,7 @@ module _ (bytes : List ℕ) where
       (ap (λ (x : Version × CheckpointRecord). x.0) same, ap (λ (x : Version × CheckpointRecord). x.1) same)
 
   -- the parts that were read
-  pub parts_are : (f : Front) (behind : List ℕ) (r : Result (List ℕ × List QueueRecord × QueueRecord) DecodeError) → front_at bytes ≡ Ok (f, behind) → rest_at f behind ≡ r → checkpoint_at bytes ≡ (r >>= λ x. Ok (f.head.version, checkpoint_of f x.0 x.1 x.2))
+  pub parts_are : (f : Front) (behind : List ℕ) (r : Result (List ℕ × List QueueRecord × QueueRecord) DecodeError) → front_at bytes ≡ Ok (f, behind) → rest_at f behind ≡ r → checkpoint_at bytes ≡ (r >>= λ x. Ok (f.version, checkpoint_of f x.0 x.1 x.2))
   unfolding checkpoint_at
   parts_are f behind r e g = rw (e, g) refl
 

@@ -3,8 +3,6 @@ use Rattle.std.proofs.Common.{◌≡◌, ℕ, zero, suc, ◌+◌, ◌-◌, ◌*�
 use Rattle.std.specs.Prelude.{map, sum, slice_index, nat_le}
 use Rattle.std.proofs.lemmas.Bool.{and_from, and_parts, ltb-true, leb-true, le-leb, eqb-true}
 use Rattle.om_format.specs.declared.checkpoint_reading.Front.{Front}
-use Rattle.om_format.specs.declared.checkpoint_reading.Head.{Head}
-use Rattle.om_format.specs.declared.checkpoint_reading.Vectors.{Vectors}
 use Rattle.om_format.specs.declared.limits.TheConstants.{MAX_PROCESSES_OF_VERSION_1}
 use Rattle.om_isa.specs.declared.registers.TheConstants.{WRITABLE_REGISTERS}
 use Rattle.om_interval.specs.declared.pid.TheConstants.{MAX_PROCESSES}
@@ -15,7 +13,7 @@ use Rattle.om_format.specs.Queues.{QueueRecord, queue_end, is_between, are_entri
 use Rattle.om_format.specs.Versions.{is_kind, is_version, version_of, is_cluster_size}
 use Rattle.om_format.specs.Checkpoints.{IsCheckpoint, is_memory_size}
 use Rattle.om_format.specs.steps.Reading.{number_at, numbers_at, opening_at, counted_at, end_at}
-use Rattle.om_format.specs.steps.CheckpointReading.{place_at, progress_at, head_at, vectors_at, made_at, front_at, memory_at, entry_at, entries_at, queue_at, queues_at, rest_at, checkpoint_of, checkpoint_at}
+use Rattle.om_format.specs.steps.CheckpointReading.{place_at, progress_at, vectors_at, made_at, front_at, memory_at, entry_at, entries_at, queue_at, queues_at, rest_at, checkpoint_of, checkpoint_at}
 use Rattle.om_format.proofs.Holding.{Holds, of_ok, then_holds, any_holds, allow_holds, numbers_hold, counted_hold}
 use Rattle.om_format.proofs.MemoryReading.{memory_hold}
 
@@ -56,13 +54,6 @@ cluster_of_any V1 n h =
     and_from (nat_le 1 n) (nat_le n MAX_PROCESSES) p.0 (le-leb _ _ (omega (arith, most)))
 cluster_of_any V2 n h = h
 
--- the fields before the registers fit each other
-record FitsHead (head : Head) : Type 0 where
-  n : is_cluster_size V2 head.n ≡ true
-  pid : head.pid < head.n
-  count : head.interval ≤ head.count
-  pc : head.pc % 4 ≡ 0
-
 place_hold : (version : Version) (bytes : List ℕ) → Holds (λ x. (is_cluster_size version x.0 ≡ true) × (x.1 < x.0)) (place_at version bytes)
 unfolding place_at
 place_hold version bytes =
@@ -80,39 +71,22 @@ progress_hold bytes =
     any_holds P (number_at four count.1) _ (λ pc. allow_holds P (eqb (pc.0 % 4) 0) _ _ (λ is_aligned.
     (leb-true _ _ is_counted, eqb-true _ _ is_aligned))))))
 
-head_hold : (bytes : List ℕ) → Holds (λ x. FitsHead x.0) (head_at bytes)
-unfolding head_at
-head_hold bytes =
-    let P : Head × List ℕ → Type 0 = λ x. FitsHead x.0 in
-    any_holds P (opening_at is_kind is_version bytes) _ (λ opened.
-    then_holds P (λ x. (is_cluster_size (version_of opened.1) x.0 ≡ true) × (x.1 < x.0)) (place_at (version_of opened.1) opened.2) _ (place_hold (version_of opened.1) opened.2) (λ place at.
-    then_holds P (λ x. (x.0 ≤ x.1) × (x.2 % 4 ≡ 0)) (progress_at place.2) _ (progress_hold place.2) (λ progress on.
-    record { n = cluster_of_any (version_of opened.1) place.0 at.0; pid = at.1; count = on.0; pc = on.1 })))
-
 -- the vectors fit the fields before them
-record FitVectors (n pid interval : ℕ) (vectors : Vectors) : Type 0 where
-  vec_len : length vectors.vec ≡ n
-  own : slice_index vectors.vec pid ≡ interval
-  got_len : length vectors.got ≡ n
-  received : sum vectors.got ≡ interval
-  sent_len : length vectors.sent ≡ n
+record FitVectors (n pid interval : ℕ) (vec got sent : List ℕ) : Type 0 where
+  vec_len : length vec ≡ n
+  own : slice_index vec pid ≡ interval
+  got_len : length got ≡ n
+  received : sum got ≡ interval
+  sent_len : length sent ≡ n
 
-vectors_hold : (n pid interval : ℕ) (bytes : List ℕ) → Holds (λ x. FitVectors n pid interval x.0) (vectors_at n pid interval bytes)
+vectors_hold : (n pid interval : ℕ) (bytes : List ℕ) → Holds (λ x. FitVectors n pid interval x.0 x.1 x.2) (vectors_at n pid interval bytes)
 unfolding vectors_at
 vectors_hold n pid interval bytes =
-    let P : Vectors × List ℕ → Type 0 = λ x. FitVectors n pid interval x.0 in
+    let P : List ℕ × List ℕ × List ℕ × List ℕ → Type 0 = λ x. FitVectors n pid interval x.0 x.1 x.2 in
     then_holds P (λ x. length x.0 ≡ n) (numbers_at four n bytes) _ (numbers_hold four n bytes) (λ vec vec_len. allow_holds P (eqb (slice_index vec.0 pid) interval) _ _ (λ is_own.
     then_holds P (λ x. length x.0 ≡ n) (numbers_at four n vec.1) _ (numbers_hold four n vec.1) (λ got got_len. allow_holds P (eqb (sum got.0) interval) _ _ (λ is_sum.
     then_holds P (λ x. length x.0 ≡ n) (numbers_at four n got.1) _ (numbers_hold four n got.1) (λ sent sent_len.
     record { vec_len = vec_len; own = eqb-true _ _ is_own; got_len = got_len; received = eqb-true _ _ is_sum; sent_len = sent_len })))))
-
--- the fields before the memory fit each other
-record FitsFront (f : Front) : Type 0 where
-  head : FitsHead f.head
-  regs : length f.regs ≡ WRITABLE_REGISTERS
-  vectors : FitVectors f.head.n f.head.pid f.head.interval f.vectors
-  made : f.made ≤ f.head.count
-  size : is_memory_size f.size ≡ true
 
 made_hold : (n count : ℕ) (bytes : List ℕ) → Holds (λ x. (x.0 ≤ count) × (is_memory_size x.1 ≡ true)) (made_at n count bytes)
 unfolding made_at
@@ -122,39 +96,61 @@ made_hold n count bytes =
     any_holds P (number_at four made.1) _ (λ size. allow_holds P (is_memory_size size.0) _ _ (λ is_size.
     (leb-true _ _ is_made, is_size)))))
 
+-- the fields before the memory fit each other
+record FitsFront (f : Front) : Type 0 where
+  n : is_cluster_size V2 f.n ≡ true
+  pid : f.head.pid < f.n
+  count : f.head.interval ≤ f.head.count
+  pc : f.head.pc % 4 ≡ 0
+  regs : length f.head.regs ≡ WRITABLE_REGISTERS
+  vectors : FitVectors f.n f.head.pid f.head.interval f.head.vec f.head.got f.head.sent
+  made : f.head.made ≤ f.head.count
+  size : is_memory_size f.size ≡ true
+
 front_hold : (bytes : List ℕ) → Holds (λ x. FitsFront x.0) (front_at bytes)
 unfolding front_at
 front_hold bytes =
     let P : Front × List ℕ → Type 0 = λ x. FitsFront x.0 in
-    then_holds P (λ x. FitsHead x.0) (head_at bytes) _ (head_hold bytes) (λ head h.
-    then_holds P (λ x. length x.0 ≡ WRITABLE_REGISTERS) (numbers_at four WRITABLE_REGISTERS head.1) _ (numbers_hold four WRITABLE_REGISTERS head.1) (λ regs regs_len.
-    then_holds P (λ x. FitVectors head.0.n head.0.pid head.0.interval x.0) (vectors_at head.0.n head.0.pid head.0.interval regs.1) _ (vectors_hold head.0.n head.0.pid head.0.interval regs.1) (λ vectors v.
-    then_holds P (λ x. (x.0 ≤ head.0.count) × (is_memory_size x.1 ≡ true)) (made_at head.0.n head.0.count vectors.1) _ (made_hold head.0.n head.0.count vectors.1) (λ made m.
-    record { head = h; regs = regs_len; vectors = v; made = m.0; size = m.1 }))))
+    any_holds P (opening_at is_kind is_version bytes) _ (λ opened.
+    then_holds P (λ x. (is_cluster_size (version_of opened.1) x.0 ≡ true) × (x.1 < x.0)) (place_at (version_of opened.1) opened.2) _ (place_hold (version_of opened.1) opened.2) (λ place at.
+    then_holds P (λ x. (x.0 ≤ x.1) × (x.2 % 4 ≡ 0)) (progress_at place.2) _ (progress_hold place.2) (λ progress on.
+    then_holds P (λ x. length x.0 ≡ WRITABLE_REGISTERS) (numbers_at four WRITABLE_REGISTERS progress.3) _ (numbers_hold four WRITABLE_REGISTERS progress.3) (λ regs regs_len.
+    then_holds P (λ x. FitVectors place.0 place.1 progress.0 x.0 x.1 x.2) (vectors_at place.0 place.1 progress.0 regs.1) _ (vectors_hold place.0 place.1 progress.0 regs.1) (λ vectors v.
+    then_holds P (λ x. (x.0 ≤ progress.1) × (is_memory_size x.1 ≡ true)) (made_at place.0 progress.1 vectors.3) _ (made_hold place.0 progress.1 vectors.3) (λ made m.
+    record {
+      n = cluster_of_any (version_of opened.1) place.0 at.0;
+      pid = at.1;
+      count = on.0;
+      pc = on.1;
+      regs = regs_len;
+      vectors = v;
+      made = m.0;
+      size = m.1;
+    }))))))
 
 -- what comes behind them fits
 record FitsRest (f : Front) (memory : List ℕ) (kept : List QueueRecord) (outputs : QueueRecord) : Type 0 where
   size : length memory ≡ f.size
-  kept_end : map queue_end kept ≡ f.vectors.sent
+  kept_end : map queue_end kept ≡ f.head.sent
   messages : all_entries f.head.interval kept ≡ true
-  outputs_end : queue_end outputs ≡ f.made
+  outputs_end : queue_end outputs ≡ f.head.made
   out : are_entries f.head.interval 0 outputs.entries ≡ true
 
 rest_hold : (f : Front) (bytes : List ℕ) → Holds (λ x. FitsRest f x.0 x.1 x.2) (rest_at f bytes)
 unfolding rest_at
 rest_hold f bytes =
     let P : List ℕ × List QueueRecord × QueueRecord → Type 0 = λ x. FitsRest f x.0 x.1 x.2 in
-    then_holds P (λ x. length x.0 ≡ f.size) (memory_at f.head.version f.size (156 + 12 * f.head.n) bytes) _ (memory_hold f.head.version f.size (156 + 12 * f.head.n) bytes) (λ memory size.
-    then_holds P (λ x. (map queue_end x.0 ≡ f.vectors.sent) × (all_entries f.head.interval x.0 ≡ true)) (queues_at f.head.interval f.vectors.sent memory.1 memory.2) _ (queues_hold f.head.interval f.vectors.sent memory.1 memory.2) (λ kept k.
-    then_holds P (λ x. (queue_end x.0 ≡ f.made) × (are_entries f.head.interval 0 x.0.entries ≡ true)) (queue_at eight f.head.interval f.made kept.1 kept.2) _ (queue_hold eight f.head.interval f.made kept.1 kept.2) (λ outputs o.
+    then_holds P (λ x. length x.0 ≡ f.size) (memory_at f.version f.size (156 + 12 * f.n) bytes) _ (memory_hold f.version f.size (156 + 12 * f.n) bytes) (λ memory size.
+    then_holds P (λ x. (map queue_end x.0 ≡ f.head.sent) × (all_entries f.head.interval x.0 ≡ true)) (queues_at f.head.interval f.head.sent memory.1 memory.2) _ (queues_hold f.head.interval f.head.sent memory.1 memory.2) (λ kept k.
+    then_holds P (λ x. (queue_end x.0 ≡ f.head.made) × (are_entries f.head.interval 0 x.0.entries ≡ true)) (queue_at eight f.head.interval f.head.made kept.1 kept.2) _ (queue_hold eight f.head.interval f.head.made kept.1 kept.2) (λ outputs o.
     any_holds P (end_at outputs.2) _ (λ ended. record { size = size; kept_end = k.0; messages = k.1; outputs_end = o.0; out = o.1 }))))
 
 fits : (f : Front) (memory : List ℕ) (kept : List QueueRecord) (outputs : QueueRecord) → FitsFront f → FitsRest f memory kept outputs → IsCheckpoint (checkpoint_of f memory kept outputs)
 fits f memory kept outputs h r = record {
-  n = h.head.n;
-  pid = h.head.pid;
-  count = h.head.count;
-  pc = h.head.pc;
+  n = h.n;
+  pid = h.pid;
+  count = h.count;
+  pc = h.pc;
   regs = h.regs;
   vec = h.vectors.vec_len;
   own = h.vectors.own;

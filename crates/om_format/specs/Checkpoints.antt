@@ -1,7 +1,7 @@
 -- Checkpoints: what they are, their format, and what bytes spell one.
 use Rattle.std.specs.Prelude.{◌≡◌, ℕ, ◌%◌, ◌<◌, ◌≤◌, ◌==◌, ◌&&◌, List, [], ◌∷◌, ◌++◌, length, map, sum, slice_index, Option, Bool, true, nat_lt, nat_le}
 use Rattle.std.specs.List.{flat_map}
-use Rattle.om_isa.specs.declared.ext.Ext.{Ext}
+use Rattle.om_format.specs.declared.head.Head.{Head}
 use Rattle.om_format.specs.declared.error.DecodeError.{DecodeError}
 use Rattle.om_format.specs.declared.error.DecodeError.TheVariants.{Field}
 use Rattle.om_format.specs.declared.limits.TheConstants.{MIN_MEMORY, MAX_MEMORY}
@@ -16,17 +16,8 @@ use Rattle.om_format.specs.Versions.{kind_of, is_kind, version_number, is_versio
 
 -- a checkpoint without where it lies in memory: of n processes
 pub record CheckpointRecord : Type 0 where
-  pub ext : Ext
   pub n : ℕ
-  pub pid : ℕ
-  pub interval : ℕ
-  pub count : ℕ
-  pub pc : ℕ
-  pub regs : List ℕ
-  pub vec : List ℕ
-  pub got : List ℕ
-  pub sent : List ℕ
-  pub made : ℕ
+  pub head : Head
   pub memory : List ℕ
   pub kept : List QueueRecord
   pub outputs : QueueRecord
@@ -63,14 +54,14 @@ checkpoint_format = front λ version interval sent made size.
 -- the values of these fields
 abbrev pub checkpoint_values : Version → CheckpointRecord → List (List ℕ)
 checkpoint_values version r =
-    (kind_of r.ext ∷ []) ∷ (version_number version ∷ []) ∷ (r.n ∷ []) ∷ (r.pid ∷ []) ∷ (r.interval ∷ []) ∷ (r.count ∷ [])
-    ∷ (r.pc ∷ []) ∷ r.regs ∷ r.vec ∷ r.got ∷ r.sent ∷ (r.made ∷ []) ∷ (length r.memory ∷ [])
+    (kind_of r.head.ext ∷ []) ∷ (version_number version ∷ []) ∷ (r.n ∷ []) ∷ (r.head.pid ∷ []) ∷ (r.head.interval ∷ []) ∷ (r.head.count ∷ [])
+    ∷ (r.head.pc ∷ []) ∷ r.head.regs ∷ r.head.vec ∷ r.head.got ∷ r.head.sent ∷ (r.head.made ∷ []) ∷ (length r.memory ∷ [])
     ∷ (memory_values version r.memory ++ (flat_map queue_values r.kept ++ queue_values r.outputs))
 
 -- each queue ends at the number of messages sent, or of outputs made
 pub record AreEnded (r : CheckpointRecord) : Type 0 where
-  pub kept : map queue_end r.kept ≡ r.sent
-  pub outputs : queue_end r.outputs ≡ r.made
+  pub kept : map queue_end r.kept ≡ r.head.sent
+  pub outputs : queue_end r.outputs ≡ r.head.made
 
 -- in this version the bytes are the checkpoint's fields, one after the other, each within its bytes and allowed
 pub record SpellsCheckpoint (version : Version) (r : CheckpointRecord) (bytes : List ℕ) : Type 0 where
@@ -92,18 +83,18 @@ IsFrontRead bytes = AreRead (front λ version interval sent made size. before_me
 -- what holds of every checkpoint, beside the ranges of its numbers
 pub record IsCheckpoint (r : CheckpointRecord) : Type 0 where
   pub n : is_cluster_size V2 r.n ≡ true
-  pub pid : r.pid < r.n
-  pub count : r.interval ≤ r.count
-  pub pc : r.pc % 4 ≡ 0
-  pub regs : length r.regs ≡ WRITABLE_REGISTERS
-  pub vec : length r.vec ≡ r.n
-  pub own : slice_index r.vec r.pid ≡ r.interval
-  pub got : length r.got ≡ r.n
-  pub received : sum r.got ≡ r.interval
-  pub sent : length r.sent ≡ r.n
-  pub made : r.made ≤ r.count
+  pub pid : r.head.pid < r.n
+  pub count : r.head.interval ≤ r.head.count
+  pub pc : r.head.pc % 4 ≡ 0
+  pub regs : length r.head.regs ≡ WRITABLE_REGISTERS
+  pub vec : length r.head.vec ≡ r.n
+  pub own : slice_index r.head.vec r.head.pid ≡ r.head.interval
+  pub got : length r.head.got ≡ r.n
+  pub received : sum r.head.got ≡ r.head.interval
+  pub sent : length r.head.sent ≡ r.n
+  pub made : r.head.made ≤ r.head.count
   pub memory : is_memory_size (length r.memory) ≡ true
-  pub kept : map queue_end r.kept ≡ r.sent
-  pub outputs : queue_end r.outputs ≡ r.made
-  pub messages : all_entries r.interval r.kept ≡ true
-  pub out : are_entries r.interval 0 r.outputs.entries ≡ true
+  pub kept : map queue_end r.kept ≡ r.head.sent
+  pub outputs : queue_end r.outputs ≡ r.head.made
+  pub messages : all_entries r.head.interval r.kept ≡ true
+  pub out : are_entries r.head.interval 0 r.outputs.entries ≡ true

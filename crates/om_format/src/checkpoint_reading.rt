@@ -9,10 +9,11 @@ ghost use Rattle.om_format.specs.FirstFault.{values_at};
 ghost use Rattle.om_format.specs.Outcomes.{Tells};
 ghost use Rattle.om_format.specs.Versions.{is_kind, kind_of, is_version, version_number, is_cluster_size};
 ghost use Rattle.om_format.specs.steps.Reading.{numbers_at, opening_at};
-ghost use Rattle.om_format.specs.steps.CheckpointReading.{place_at, progress_at, head_at, vectors_at, made_at, front_at};
+ghost use Rattle.om_format.specs.steps.CheckpointReading.{place_at, progress_at, vectors_at, made_at, front_at};
 ghost use Rattle.om_interval.specs.declared.pid.TheConstants.{MAX_PROCESSES};
 
 use crate::error::DecodeError;
+use crate::head::Head;
 use crate::limits::{
     CHECKPOINT_KIND, CHECKPOINT_KIND_M, CHECKPOINT_VERSION_1, CHECKPOINT_VERSION_2,
     MAX_PROCESSES_OF_VERSION_1,
@@ -22,18 +23,6 @@ use crate::reading::{u8_at, u32_at, u64_at};
 use crate::version::Version;
 use om_interval::{DepVec, MAX_PROCESSES, Pid};
 use om_isa::{Ext, WRITABLE_REGISTERS};
-
-// The fields of a checkpoint before the registers.
-#[derive(Clone, Copy)]
-pub(crate) struct Head {
-    pub ext: Ext,
-    pub version: Version,
-    pub n: usize,
-    pub pid: usize,
-    pub interval: u32,
-    pub count: u64,
-    pub pc: u32,
-}
 
 // The kind of a checkpoint, and its version.
 #[tactic(auto, unfolding(crate::specs::steps::Reading::opening_at))]
@@ -110,28 +99,6 @@ fn progress_at(bytes: &[u8]) -> Result<(u32, u64, u32, &[u8]), DecodeError>
     Ok((interval, count, pc, rest))
 }
 
-#[tactic(auto, unfolding(crate::specs::steps::CheckpointReading::head_at))]
-pub(crate) fn head_at(bytes: &[u8]) -> Result<(Head, &[u8]), DecodeError>
-    ensures exact { Tells (λ x. (x.0, x.1.now)) result (head_at bytes.now) }
-    ensures within { IfOk result (λ x. x.0.n ≤ MAX_PROCESSES) }
-    ensures own { IfOk result (λ x. x.0.pid < x.0.n) }
-    ensures left { IfOk result (λ x. 20 + length x.1.now ≡ length bytes.now) }
-{
-    let (ext, version, rest) = kind_at(bytes)?;
-    let (n, pid, rest) = place_at(version, rest)?;
-    let (interval, count, pc, rest) = progress_at(rest)?;
-    let head = Head {
-        ext,
-        version,
-        n,
-        pid,
-        interval,
-        count,
-        pc,
-    };
-    Ok((head, rest))
-}
-
 // The bytes of so many numbers of 32 bits.
 #[tactic(auto, using(crate::proofs::Numbers::values_front), unfolding(crate::specs::steps::Reading::numbers_at))]
 fn words_at(count: usize, bytes: &[u8]) -> Result<(&[u8], &[u8]), DecodeError>
@@ -195,30 +162,22 @@ fn sum_of(vector: &DepVec) -> u64
     total
 }
 
-// The vectors of a checkpoint.
-#[derive(Clone, Copy)]
-pub(crate) struct Vectors {
-    pub vec: DepVec,
-    pub got: DepVec,
-    pub sent: DepVec,
-}
-
 // The dependency vector, the numbers got and the numbers sent, of n processes.
 #[tactic(auto, unfolding(crate::specs::steps::CheckpointReading::vectors_at))]
 fn vectors_at(
     n: usize,
-    pid: usize,
+    pid: Pid,
     interval: u32,
     bytes: &[u8],
-) -> Result<(Vectors, &[u8]), DecodeError>
+) -> Result<(DepVec, DepVec, DepVec, &[u8]), DecodeError>
     requires within { n ≤ MAX_PROCESSES }
     requires own { pid < n }
-    ensures exact { Tells (λ x. (x.0, x.1.now)) result (vectors_at n pid interval bytes.now) }
-    ensures left { IfOk result (λ x. 12 * n + length x.1.now ≡ length bytes.now) }
+    ensures exact { Tells (λ x. (x.0, x.1, x.2, x.3.now)) result (vectors_at n pid interval bytes.now) }
+    ensures left { IfOk result (λ x. 12 * n + length x.3.now ≡ length bytes.now) }
 {
     let (front, rest) = words_at(n, bytes)?;
     let vec = vector_of(n, front);
-    if vec.get(Pid::at(pid)) != interval {
+    if vec.get(pid) != interval {
         return Err(DecodeError::Field(144));
     }
     let (front, rest) = words_at(n, rest)?;
@@ -228,7 +187,7 @@ fn vectors_at(
     }
     let (front, rest) = words_at(n, rest)?;
     let sent = vector_of(n, front);
-    Ok((Vectors { vec, got, sent }, rest))
+    Ok((vec, got, sent, rest))
 }
 
 // How many outputs were made by that count, and the size of the memory, behind the vectors of n processes.
@@ -251,37 +210,49 @@ fn made_at(n: usize, count: u64, bytes: &[u8]) -> Result<(u64, usize, &[u8]), De
     Ok((made, size, rest))
 }
 
-// The fields of a checkpoint before its memory.
+// What stands before the memory of a checkpoint of n processes, and the size of that memory.
 #[derive(Clone, Copy)]
 pub(crate) struct Front {
+    pub version: Version,
+    pub n: usize,
     pub head: Head,
-    pub regs: [u32; WRITABLE_REGISTERS],
-    pub vectors: Vectors,
-    pub made: u64,
     pub size: usize,
 }
 
 #[tactic(auto, unfolding(crate::specs::steps::CheckpointReading::front_at))]
 pub(crate) fn front_at(bytes: &[u8]) -> Result<(Front, &[u8]), DecodeError>
     ensures exact { Tells (λ x. (x.0, x.1.now)) result (front_at bytes.now) }
-    ensures own { IfOk result (λ x. x.0.head.pid < MAX_PROCESSES) }
-    ensures within { IfOk result (λ x. x.0.head.n ≤ MAX_PROCESSES) }
+    ensures within { IfOk result (λ x. x.0.n ≤ MAX_PROCESSES) }
     ensures size { IfOk result (λ x. is_memory_size x.0.size ≡ true) }
-    ensures left { IfOk result (λ x. 156 + 12 * x.0.head.n + length x.1.now ≡ length bytes.now) }
+    ensures left { IfOk result (λ x. 156 + 12 * x.0.n + length x.1.now ≡ length bytes.now) }
 {
-    let (head, rest) = head_at(bytes)?;
+    let (ext, version, rest) = kind_at(bytes)?;
+    let (n, pid, rest) = place_at(version, rest)?;
+    let (interval, count, pc, rest) = progress_at(rest)?;
     let (words, rest) = words_at(WRITABLE_REGISTERS, rest)?;
     let regs = regs_of(words);
-    let (vectors, rest) = match vectors_at(head.n, head.pid, head.interval, rest) {
+    let pid = Pid::at(pid);
+    let (vec, got, sent, rest) = match vectors_at(n, pid, interval, rest) {
         Ok(vectors) => vectors,
         Err(fault) => return Err(fault),
     };
-    let (made, size, rest) = made_at(head.n, head.count, rest)?;
-    let front = Front {
-        head,
+    let (made, size, rest) = made_at(n, count, rest)?;
+    let head = Head {
+        ext,
+        pid,
+        interval,
+        count,
+        pc,
         regs,
-        vectors,
+        vec,
+        got,
+        sent,
         made,
+    };
+    let front = Front {
+        version,
+        n,
+        head,
         size,
     };
     Ok((front, rest))

@@ -3,7 +3,6 @@
 ghost use Rattle.std.specs.Prelude.{◌≡◌, ◌<◌, ◌≤◌, ◌^◌, ◌++◌, ℕ, OnOk, length, map, slice_index};
 ghost use Rattle.std.specs.List.{flat_map};
 ghost use Rattle.om_format.specs.steps.CheckpointBytes.{head_bytes, vector_bytes, page_bytes, memory_bytes, entry_bytes, message_bytes, output_bytes, AreWords};
-ghost use Rattle.om_format.specs.CheckpointViews.{checkpoint_record};
 ghost use Rattle.om_format.specs.Formats.{four};
 ghost use Rattle.om_format.specs.Queues.{queue_record};
 ghost use Rattle.om_format.specs.Spelling.{numbers};
@@ -12,6 +11,7 @@ ghost use Rattle.om_format.specs.Versions.{kind_of};
 ghost use Rattle.om_format.specs.declared.limits.TheConstants.{MAX_MEMORY};
 
 use crate::checkpoint::Checkpoint;
+use crate::head::Head;
 use crate::limits::{CHECKPOINT_KIND, CHECKPOINT_KIND_M, CHECKPOINT_VERSION_2, PAGE};
 use crate::pages::{count_kept, is_kept, page_count, page_of};
 use crate::queue::{Entry, Queue};
@@ -28,17 +28,17 @@ fn kind_of(ext: Ext) -> u8
     }
 }
 
-pub(crate) fn put_head(out: &mut Vec<u8>, checkpoint: &Checkpoint) -> Result<(), AllocError>
-    ensures bytes { OnOk result (out.new.items ≡ out.old.items ++ head_bytes (checkpoint_record checkpoint.now)) }
-    ensures interval { OnOk result (checkpoint.now.interval < 2 ^ 32) }
-    ensures count { OnOk result (checkpoint.now.count < 2 ^ 64) }
-    ensures pc { OnOk result (checkpoint.now.pc < 2 ^ 32) }
+pub(crate) fn put_head(out: &mut Vec<u8>, head: &Head) -> Result<(), AllocError>
+    ensures bytes { OnOk result (out.new.items ≡ out.old.items ++ head_bytes (length head.now.vec) head.now) }
+    ensures interval { OnOk result (head.now.interval < 2 ^ 32) }
+    ensures count { OnOk result (head.now.count < 2 ^ 64) }
+    ensures pc { OnOk result (head.now.pc < 2 ^ 32) }
 {
-    out.extend_from_slice(&[kind_of(checkpoint.ext), CHECKPOINT_VERSION_2])?;
-    out.extend_from_slice(&[checkpoint.vec.n() as u8, checkpoint.pid.index() as u8])?;
-    out.extend_from_slice(&checkpoint.interval.to_le_bytes())?;
-    out.extend_from_slice(&checkpoint.count.to_le_bytes())?;
-    out.extend_from_slice(&checkpoint.pc.to_le_bytes())?;
+    out.extend_from_slice(&[kind_of(head.ext), CHECKPOINT_VERSION_2])?;
+    out.extend_from_slice(&[head.vec.n() as u8, head.pid.index() as u8])?;
+    out.extend_from_slice(&head.interval.to_le_bytes())?;
+    out.extend_from_slice(&head.count.to_le_bytes())?;
+    out.extend_from_slice(&head.pc.to_le_bytes())?;
     Ok(())
 }
 
@@ -52,17 +52,17 @@ fn put_words(out: &mut Vec<u8>, words: &[u32]) -> Result<(), AllocError>
     Ok(())
 }
 
-pub(crate) fn put_vectors(out: &mut Vec<u8>, checkpoint: &Checkpoint) -> Result<(), AllocError>
-    ensures bytes { OnOk result (out.new.items ≡ out.old.items ++ vector_bytes (checkpoint_record checkpoint.now)) }
-    ensures regs { OnOk result (AreWords checkpoint.now.regs) }
-    ensures vec { OnOk result (AreWords checkpoint.now.vec) }
-    ensures got { OnOk result (AreWords checkpoint.now.got) }
-    ensures sent { OnOk result (AreWords checkpoint.now.sent) }
+pub(crate) fn put_vectors(out: &mut Vec<u8>, head: &Head) -> Result<(), AllocError>
+    ensures bytes { OnOk result (out.new.items ≡ out.old.items ++ vector_bytes head.now) }
+    ensures regs { OnOk result (AreWords head.now.regs) }
+    ensures vec { OnOk result (AreWords head.now.vec) }
+    ensures got { OnOk result (AreWords head.now.got) }
+    ensures sent { OnOk result (AreWords head.now.sent) }
 {
-    put_words(out, &checkpoint.regs)?;
-    put_words(out, checkpoint.vec.as_slice())?;
-    put_words(out, checkpoint.got.as_slice())?;
-    put_words(out, checkpoint.sent.as_slice())?;
+    put_words(out, &head.regs)?;
+    put_words(out, head.vec.as_slice())?;
+    put_words(out, head.got.as_slice())?;
+    put_words(out, head.sent.as_slice())?;
     Ok(())
 }
 
@@ -155,7 +155,7 @@ pub(crate) fn room_for(checkpoint: &Checkpoint, kept: usize) -> usize {
     for queue in &checkpoint.kept {
         room = room.saturating_add(room_for_queue(queue));
     }
-    room.saturating_add(162 + 12 * checkpoint.vec.n())
+    room.saturating_add(162 + 12 * checkpoint.head.vec.n())
         .saturating_add((PAGE + 2).saturating_mul(kept))
 }
 

@@ -108,17 +108,17 @@ struct Rest {
 #[tactic(auto, unfolding(crate::specs::steps::CheckpointReading::rest_at))]
 fn rest_at(alloc: Global, front: &Front, bytes: &[u8]) -> Result<Rest, DecodeError>
     requires size { is_memory_size front.now.size ≡ true }
-    requires room { 156 + 12 * front.now.head.n + length bytes.now < 2 ^ 64 }
+    requires room { 156 + 12 * front.now.n + length bytes.now < 2 ^ 64 }
     ensures exact { Gives (λ x. (x.memory, map queue_record x.kept.items, queue_record x.outputs)) result
         (rest_at front.now bytes.now) }
     ensures memory { IfErr result (λ e. e ≡ DecodeError.Memory
-        → IsOk (before_memory_at front.now.head.version front.now.size (156 + 12 * front.now.head.n) bytes.now)) }
+        → IsOk (before_memory_at front.now.version front.now.size (156 + 12 * front.now.n) bytes.now)) }
 {
     let head = front.head;
-    let memory = memory_at(alloc, head.version, front.size, 156 + 12 * head.n, bytes)?;
-    let stops = front.vectors.sent.as_slice();
+    let memory = memory_at(alloc, front.version, front.size, 156 + 12 * front.n, bytes)?;
+    let stops = head.sent.as_slice();
     let kept = queues_at(alloc, head.interval, stops, memory.offset, memory.rest)?;
-    let outputs = outputs_at(alloc, head.interval, front.made, kept.offset, kept.rest)?;
+    let outputs = outputs_at(alloc, head.interval, head.made, kept.offset, kept.rest)?;
     end_at(outputs.rest)?;
     Ok(Rest {
         memory: memory.value,
@@ -148,8 +148,7 @@ pub fn decode_checkpoint(alloc: Global, bytes: &[u8]) -> Result<Checkpoint, Deco
 
 // The checkpoint of these parts.
 fn fitted(front: Front, rest: Rest) -> Checkpoint
-    requires own { front.head.pid < MAX_PROCESSES }
-    requires fits { IsCheckpoint (checkpoint_of front rest.memory (map queue_record rest.kept.items) (queue_record rest.outputs)) }
+    requires { IsCheckpoint (checkpoint_of front rest.memory (map queue_record rest.kept.items) (queue_record rest.outputs)) }
     ensures { checkpoint_record result
         ≡ checkpoint_of front rest.memory (map queue_record rest.kept.items) (queue_record rest.outputs) }
 {
@@ -158,24 +157,8 @@ fn fitted(front: Front, rest: Rest) -> Checkpoint
         kept,
         outputs,
     } = rest;
-    let Front {
-        head,
-        regs,
-        vectors,
-        made,
-        ..
-    } = front;
     Checkpoint {
-        ext: head.ext,
-        pid: Pid::at(head.pid),
-        interval: head.interval,
-        count: head.count,
-        pc: head.pc,
-        regs,
-        vec: vectors.vec,
-        got: vectors.got,
-        sent: vectors.sent,
-        made,
+        head: front.head,
         memory,
         kept,
         outputs,

@@ -47,15 +47,15 @@ pub fn encode_receipt(alloc: Global, receipt: &Receipt) -> Result<Vec<u8>, Alloc
 fn checkpoint_bytes(alloc: Global, checkpoint: &Checkpoint) -> Result<Vec<u8>, AllocError>
     ensures bytes { IfOk result (λ v. v.items ≡ checkpoint_bytes (checkpoint_record checkpoint.now)) }
     ensures fits { IfOk result (λ v. (i : ℕ) → slice_index v.items i < 256) }
-    ensures within { IfOk result (λ _. AreWithin (checkpoint_record checkpoint.now)) }
+    ensures within { IfOk result (λ _. AreWithin checkpoint.now.head) }
     ensures lawful { IsCheckpoint (checkpoint_record checkpoint.now) }
 {
     let memory = checkpoint.memory.as_slice();
     let kept = count_kept(memory);
     let mut out = Vec::with_capacity(alloc, room_for(checkpoint, kept))?;
-    put_head(&mut out, checkpoint)?;
-    put_vectors(&mut out, checkpoint)?;
-    put_memory(&mut out, checkpoint.made, memory, kept)?;
+    put_head(&mut out, &checkpoint.head)?;
+    put_vectors(&mut out, &checkpoint.head)?;
+    put_memory(&mut out, checkpoint.head.made, memory, kept)?;
     put_queues(&mut out, &checkpoint.kept)?;
     put_outputs(&mut out, &checkpoint.outputs)?;
     Ok(out)

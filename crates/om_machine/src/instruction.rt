@@ -73,7 +73,7 @@ macro_rules! effect_rows {
 }
 
 impl Machine {
-    /// What an instruction does now.
+    // What an instruction does now.
     #[inline(always)]
     pub(crate) fn effect(&self, inst: Inst) -> Effect
         ensures effect { told self.now result ≡ effect_of self.now inst }

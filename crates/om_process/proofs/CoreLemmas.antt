@@ -291,7 +291,7 @@ turn_on s t u j own size first more = turns_on s t u j 1 own size first (u.now, 
 
 -- the parts of a core make a checkpoint
 pub core_lawful : (c : CoreParts) (ext : Ext) (pc : ℕ) (regs memory : List ℕ) (kept : List QueueRecord) (outputs : QueueRecord) → IsCore c → pc % 4 ≡ 0 → length regs ≡ 31 → is_memory_size (length memory) ≡ true → kept ≡ c.outbox → outputs ≡ c.outputs
-    → IsCheckpoint (record { ext = ext; n = length c.vec; pid = c.own; interval = c.interval; count = c.count; pc = pc; regs = regs; vec = c.vec; got = c.got; sent = c.sent; made = c.made; memory = memory; kept = kept; outputs = outputs })
+    → IsCheckpoint (record { n = length c.vec; head = record { ext = ext; pid = c.own; interval = c.interval; count = c.count; pc = pc; regs = regs; vec = c.vec; got = c.got; sent = c.sent; made = c.made }; memory = memory; kept = kept; outputs = outputs })
 core_lawful c ext pc regs memory kept outputs is aligned long size same last = record {
   n = is.cluster;
   pid = is.own;

@@ -74,30 +74,30 @@ not_replayed own n held after (p ∷ before) (q ∷ rs) c s t r stored all short
 pub only_refused : (Meant : ℕ → ℕ → Type 0) (held : Content) (x : ℕ) (fault : ReplayFault) → Refuses Meant held x fault → CanReplay Meant held x → IsNoMatterOfContent fault
 only_refused Meant held x NoCheckpoint why can =
     let effective = can.3.all.begins.effective in
-    let within : can.3.checkpoint.interval ≤ x = effective.within in
-    absurd (nothing (get held.checkpoints can.3.checkpoint.interval) effective.has (why can.3.checkpoint.interval (omega arith) (omega arith)))
+    let within : can.3.checkpoint.head.interval ≤ x = effective.within in
+    absurd (nothing (get held.checkpoints can.3.checkpoint.head.interval) effective.has (why can.3.checkpoint.head.interval (omega arith) (omega arith)))
   where
     nothing : (o : Option (List ℕ)) → IsSome o → o ≡ None → ⊥
     nothing None some none = cc
     nothing (Some bytes) some none = cc
 only_refused Meant held x (Damaged y) (inl why) can =
     let begins = can.3.all.begins in
-    let same = one_effective held.checkpoints x can.3.checkpoint.interval y begins.effective why.effective in
+    let same = one_effective held.checkpoints x can.3.checkpoint.head.interval y begins.effective why.effective in
     absurd (why.damaged can.3.checkpoint (subst (λ z. IsCheckpointAt held.checkpoints z can.3.checkpoint) same begins.stored) begins.meant)
 only_refused Meant held x (Damaged y) (inr why) can =
     let stands = can.3 in
     let before = why.3.stands in
-    let same = one_effective held.checkpoints x before.checkpoint.interval stands.checkpoint.interval before.all.begins.effective stands.all.begins.effective in
-    let at : why.3.before ≡ before.checkpoint.interval + length before.receipts = before.last in
+    let same = one_effective held.checkpoints x before.checkpoint.head.interval stands.checkpoint.head.interval before.all.begins.effective stands.all.begins.effective in
+    let at : why.3.before ≡ before.checkpoint.head.interval + length before.receipts = before.last in
     let next : y ≡ why.3.before + 1 = why.3.next in
     let within : y ≤ x = why.3.within in
-    let last : x ≡ stands.checkpoint.interval + length stands.receipts = stands.last in
-    let there = receipt_there held.receipts stands.checkpoint.interval y stands.receipts stands.stored (omega arith) (omega arith) in
+    let last : x ≡ stands.checkpoint.head.interval + length stands.receipts = stands.last in
+    let there = receipt_there held.receipts stands.checkpoint.head.interval y stands.receipts stands.stored (omega arith) (omega arith) in
     absurd (why.4 there.0 there.1)
 only_refused Meant held x (MissingReceipt y) why can =
     let stands = can.3 in
-    let same = one_effective held.checkpoints x why.checkpoint.interval stands.checkpoint.interval why.begins.effective stands.all.begins.effective in
-    let above : why.checkpoint.interval < y = why.above in
+    let same = one_effective held.checkpoints x why.checkpoint.head.interval stands.checkpoint.head.interval why.begins.effective stands.all.begins.effective in
+    let above : why.checkpoint.head.interval < y = why.above in
     absurd (nothing (get held.receipts y) (stands.all.receipts y (omega arith) why.within) why.none)
   where
     nothing : (o : Option (List ℕ)) → IsSome o → o ≡ None → ⊥
@@ -106,26 +106,26 @@ only_refused Meant held x (MissingReceipt y) why can =
 only_refused Meant held x (Mismatch y) why can =
     let stands = can.3 in
     let before = why.3.stands in
-    let same = one_effective held.checkpoints x before.checkpoint.interval stands.checkpoint.interval before.all.begins.effective stands.all.begins.effective in
-    let record_same : before.checkpoint ≡ stands.checkpoint = one_checkpoint_at held.checkpoints stands.checkpoint.interval before.checkpoint stands.checkpoint (subst (λ z. IsCheckpointAt held.checkpoints z before.checkpoint) same before.all.begins.stored) stands.all.begins.stored in
-    let own : why.0 ≡ can.0 = sym before.pid ∙ ap (λ (c : CheckpointRecord). c.pid) record_same ∙ stands.pid in
+    let same = one_effective held.checkpoints x before.checkpoint.head.interval stands.checkpoint.head.interval before.all.begins.effective stands.all.begins.effective in
+    let record_same : before.checkpoint ≡ stands.checkpoint = one_checkpoint_at held.checkpoints stands.checkpoint.head.interval before.checkpoint stands.checkpoint (subst (λ z. IsCheckpointAt held.checkpoints z before.checkpoint) same before.all.begins.stored) stands.all.begins.stored in
+    let own : why.0 ≡ can.0 = sym before.pid ∙ ap (λ (c : CheckpointRecord). c.head.pid) record_same ∙ stands.pid in
     let size : why.1 ≡ can.1 = sym before.size ∙ ap (λ (c : CheckpointRecord). c.n) record_same ∙ stands.size in
-    let at : why.3.before ≡ before.checkpoint.interval + length before.receipts = before.last in
+    let at : why.3.before ≡ before.checkpoint.head.interval + length before.receipts = before.last in
     let next : y ≡ why.3.before + 1 = why.3.next in
     let within : y ≤ x = why.3.within in
-    let last : x ≡ stands.checkpoint.interval + length stands.receipts = stands.last in
-    let here : y ≡ stands.checkpoint.interval + length before.receipts + 1 = omega arith in
+    let last : x ≡ stands.checkpoint.head.interval + length stands.receipts = stands.last in
+    let here : y ≡ stands.checkpoint.head.interval + length before.receipts + 1 = omega arith in
     let first = subst (λ o. Replayed o can.1 (process_of stands.checkpoint) before.receipts why.2) own
     (subst (λ n. Replayed why.0 n (process_of stands.checkpoint) before.receipts why.2) size (subst (λ (c : CheckpointRecord). Replayed why.0 why.1 (process_of c) before.receipts why.2) record_same before.replayed)) in
     let not = subst (λ o. DoesNotFit o can.1 why.2 why.4) own (subst (λ n. DoesNotFit why.0 n why.2 why.4) size why.6) in
-    absurd (not_replayed can.0 can.1 held.receipts stands.checkpoint.interval before.receipts stands.receipts (process_of stands.checkpoint) why.2 can.2 why.4
+    absurd (not_replayed can.0 can.1 held.receipts stands.checkpoint.head.interval before.receipts stands.receipts (process_of stands.checkpoint) why.2 can.2 why.4
     (subst (λ z. AreReceiptsAfter held.receipts z before.receipts) same before.stored) stands.stored (omega arith) (subst (λ z. IsReceiptAt held.receipts z why.4) here why.5) first stands.replayed not)
 only_refused Meant held x Fault why can = inl refl
 only_refused Meant held x Memory why can = inr refl
 
 -- the effective checkpoint is of a process that is not meant
-pub another_process : (Meant : ℕ → ℕ → Type 0) (held : Content) (x : ℕ) (c : CheckpointRecord) → BeginsWith Anyone held x c → (Meant c.pid c.n → ⊥) → Refuses Meant held x (Damaged c.interval)
+pub another_process : (Meant : ℕ → ℕ → Type 0) (held : Content) (x : ℕ) (c : CheckpointRecord) → BeginsWith Anyone held x c → (Meant c.head.pid c.n → ⊥) → Refuses Meant held x (Damaged c.head.interval)
 another_process Meant held x c begins other = inl (record {
   effective = begins.effective;
-  damaged = λ d is meant. let same = one_checkpoint_at held.checkpoints c.interval d c is begins.stored in other (subst (λ (e : CheckpointRecord). Meant e.pid e.n) same meant);
+  damaged = λ d is meant. let same = one_checkpoint_at held.checkpoints c.head.interval d c is begins.stored in other (subst (λ (e : CheckpointRecord). Meant e.head.pid e.n) same meant);
 })

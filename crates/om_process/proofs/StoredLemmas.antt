@@ -117,12 +117,12 @@ all_there held after x rows there gapless long y low high =
     is_there (get held y) here.0.1 (ap (get held) is ∙ there (y - after - 1) here.0 here.1)
 
 -- ---- the outcomes of a replay from a checkpoint
-pub missing_from : (held : Content) (x : ℕ) (c : CheckpointRecord) (rows : List Row) (y : ℕ) → rows ≡ between held.receipts c.interval x → IsFirstGap c.interval x rows y → RefusesFrom held x c (MissingReceipt y)
+pub missing_from : (held : Content) (x : ℕ) (c : CheckpointRecord) (rows : List Row) (y : ℕ) → rows ≡ between held.receipts c.head.interval x → IsFirstGap c.head.interval x rows y → RefusesFrom held x c (MissingReceipt y)
 missing_from held x c rows y is gap =
-    let all = between-AreAllBetween held.receipts c.interval x in
+    let all = between-AreAllBetween held.receipts c.head.interval x in
     let front = gap.0 in let back = gap.1 in
-    let parts : between held.receipts c.interval x ≡ front ++ back = sym is ∙ gap.2 in
-    let at : y ≡ c.interval + length front + 1 = gap.4 in
+    let parts : between held.receipts c.head.interval x ≡ front ++ back = sym is ∙ gap.2 in
+    let at : y ≡ c.head.interval + length front + 1 = gap.4 in
     let high : y ≤ x = ascend_within y x back gap.5 in
     let held_at : (i : ℕ) (row : Row) → slice_get (front ++ back) i ≡ Some row → get held.receipts row.0 ≡ Some row.1 = λ i row there. all.are_held i row (ap (λ rs. slice_get rs i) parts ∙ there) in (
       omega arith,
@@ -131,17 +131,17 @@ missing_from held x c rows y is gap =
           let found = all.are_all y bytes (omega arith) high there in
           either found.0 bytes (at_either front back found.0 (y, bytes) (ap (λ rs. slice_get rs found.0) (sym parts) ∙ found.1))),
       λ z low below.
-          let here = row_at front (z - c.interval - 1) (omega arith) in
-          let number : here.0.0 ≡ c.interval + (z - c.interval - 1) + 1 = gapless_get c.interval front (z - c.interval - 1) here.0 gap.3 here.1 in
+          let here = row_at front (z - c.head.interval - 1) (omega arith) in
+          let number : here.0.0 ≡ c.head.interval + (z - c.head.interval - 1) + 1 = gapless_get c.head.interval front (z - c.head.interval - 1) here.0 gap.3 here.1 in
           let same : z ≡ here.0.0 = omega arith in
-          is_there (get held.receipts z) here.0.1 (ap (get held.receipts) same ∙ held_at (z - c.interval - 1) here.0 (at_front front back (z - c.interval - 1) here.0 here.1)),
+          is_there (get held.receipts z) here.0.1 (ap (get held.receipts) same ∙ held_at (z - c.head.interval - 1) here.0 (at_front front back (z - c.head.interval - 1) here.0 here.1)),
     )
   where
     either : (i : ℕ) (bytes : List ℕ) → (slice_get gap.0 i ≡ Some (y, bytes)) ⊎ ((j : ℕ) × (slice_get gap.1 j ≡ Some (y, bytes))) → ⊥
     either i bytes (inl there) =
         let within = place_within gap.0 i (y, bytes) there in
-        let number : y ≡ c.interval + i + 1 = gapless_get c.interval gap.0 i (y, bytes) gap.3 there in
-        let at : y ≡ c.interval + length gap.0 + 1 = gap.4 in
+        let number : y ≡ c.head.interval + i + 1 = gapless_get c.head.interval gap.0 i (y, bytes) gap.3 there in
+        let at : y ≡ c.head.interval + length gap.0 + 1 = gap.4 in
         absurd (omega arith)
     either i bytes (inr there) = let above : y < y = ascend_above y x gap.1 there.0 (y, bytes) gap.5 there.1 in absurd (omega arith)
 
@@ -152,32 +152,32 @@ no_receipt held y z bytes there at none r is =
     none r (subst (SpellsReceipt r) same is.spelled) (is.named ∙ at)
 
 -- what the rows before one make, and that one refuses
-pub row_from : (held : Content) (x : ℕ) (c : CheckpointRecord) (rows : List Row) (fault : ReplayFault) → rows ≡ between held.receipts c.interval x → AreGapless c.interval rows → c.interval + length rows ≡ x
-    → RefusesRows c.pid c.n (process_of c) rows fault → RefusesFrom held x c fault
+pub row_from : (held : Content) (x : ℕ) (c : CheckpointRecord) (rows : List Row) (fault : ReplayFault) → rows ≡ between held.receipts c.head.interval x → AreGapless c.head.interval rows → c.head.interval + length rows ≡ x
+    → RefusesRows c.head.pid c.n (process_of c) rows fault → RefusesFrom held x c fault
 row_from held x c rows fault is gapless long refuses =
-    let all = between-AreAllBetween held.receipts c.interval x in
+    let all = between-AreAllBetween held.receipts c.head.interval x in
     let front = refuses.0 in let row = refuses.1 in let back = refuses.2 in
     let parts : rows ≡ front ++ row ∷ back = refuses.3 in
     let rs = refuses.4 in
     let there : AreHeld held.receipts rows = λ i r at. all.are_held i r (ap (λ l. slice_get l i) (sym is) ∙ at) in
     let there_parts : AreHeld held.receipts (front ++ row ∷ back) = λ i r at. there i r (ap (λ l. slice_get l i) parts ∙ at) in
-    let gapless_parts : AreGapless c.interval (front ++ row ∷ back) = subst (AreGapless c.interval) parts gapless in
+    let gapless_parts : AreGapless c.head.interval (front ++ row ∷ back) = subst (AreGapless c.head.interval) parts gapless in
     let held_front : AreHeld held.receipts front = λ i r at. there_parts i r (at_front front (row ∷ back) i r at) in
     let here : slice_get (front ++ row ∷ back) (length front) ≡ Some row = at_middle front back row in
-    let at : row.0 ≡ c.interval + length front + 1 = gapless_get c.interval (front ++ row ∷ back) (length front) row gapless_parts here in
+    let at : row.0 ≡ c.head.interval + length front + 1 = gapless_get c.head.interval (front ++ row ∷ back) (length front) row gapless_parts here in
     let within : length front < length (front ++ row ∷ back) = place_within (front ++ row ∷ back) (length front) row here in
     let same_long : length rows ≡ length (front ++ row ∷ back) = ap length parts in
     let all_long : length rs ≡ length front = rows_long front rs refuses.5 in
     let comes : ComesFrom held x c row.0 refuses.6 = record {
       receipts = rs;
-      stored = stored_rows held.receipts c.interval front rs held_front (gapless_front c.interval front (row ∷ back) gapless_parts) refuses.5;
+      stored = stored_rows held.receipts c.head.interval front rs held_front (gapless_front c.head.interval front (row ∷ back) gapless_parts) refuses.5;
       next = omega arith;
       within = omega arith;
       replayed = refuses.7;
     } in
-    go fault refuses.8 (all_there held.receipts c.interval x rows there gapless long) comes (there_parts (length front) row here)
+    go fault refuses.8 (all_there held.receipts c.head.interval x rows there gapless long) comes (there_parts (length front) row here)
   where
-    go : (fault : ReplayFault) → RefusesRow c.pid c.n refuses.6 refuses.1 fault → HasReceipts held x c → ComesFrom held x c refuses.1.0 refuses.6 → get held.receipts refuses.1.0 ≡ Some refuses.1.1 → RefusesFrom held x c fault
+    go : (fault : ReplayFault) → RefusesRow c.head.pid c.n refuses.6 refuses.1 fault → HasReceipts held x c → ComesFrom held x c refuses.1.0 refuses.6 → get held.receipts refuses.1.0 ≡ Some refuses.1.1 → RefusesFrom held x c fault
     go NoCheckpoint why has comes there = absurd why
     go (Damaged y) why has comes there =
         (has, (refuses.6, subst (λ z. ComesFrom held x c z refuses.6) (sym why.0) comes, no_receipt held.receipts refuses.1.0 y refuses.1.1 there why.0 why.1))
@@ -196,30 +196,30 @@ row_from held x c rows fault is gapless long refuses =
     go Memory why has comes there = tt
 
 -- what all rows make
-pub rows_from_checkpoint : (held : Content) (x : ℕ) (c : CheckpointRecord) (rows : List Row) (rs : List ReceiptRecord) (first core : CoreState) → rows ≡ between held.receipts c.interval x → AreGapless c.interval rows → c.interval + length rows ≡ x
-    → SpellRows rows rs → length c.vec ≡ c.n → first.own ≡ c.pid → first.now ≡ process_of c → core.own ≡ first.own → size_of core.now ≡ size_of first.now → Replayed first.own (size_of first.now) first.now rs core.now → IsReplayFrom held x c core
+pub rows_from_checkpoint : (held : Content) (x : ℕ) (c : CheckpointRecord) (rows : List Row) (rs : List ReceiptRecord) (first core : CoreState) → rows ≡ between held.receipts c.head.interval x → AreGapless c.head.interval rows → c.head.interval + length rows ≡ x
+    → SpellRows rows rs → length c.head.vec ≡ c.n → first.own ≡ c.head.pid → first.now ≡ process_of c → core.own ≡ first.own → size_of core.now ≡ size_of first.now → Replayed first.own (size_of first.now) first.now rs core.now → IsReplayFrom held x c core
 rows_from_checkpoint held x c rows rs first core is gapless long spell places own now own_kept size_kept replayed =
-    let all = between-AreAllBetween held.receipts c.interval x in
+    let all = between-AreAllBetween held.receipts c.head.interval x in
     let there : AreHeld held.receipts rows = λ i r at. all.are_held i r (ap (λ l. slice_get l i) (sym is) ∙ at) in
     let size : size_of first.now ≡ c.n = ap size_of now ∙ places in
     let all_long : length rs ≡ length rows = rows_long rows rs spell in
     record {
-      all = all_there held.receipts c.interval x rows there gapless long;
+      all = all_there held.receipts c.head.interval x rows there gapless long;
       own = own_kept ∙ own;
       size = size_kept ∙ size;
       receipts = rs;
-      stored = stored_rows held.receipts c.interval rows rs there gapless spell;
+      stored = stored_rows held.receipts c.head.interval rows rs there gapless spell;
       last = omega arith;
-      replayed = subst (λ (p : Process). Replayed c.pid c.n p rs core.now) now (subst (λ k. Replayed c.pid k first.now rs core.now) size (subst (λ o. Replayed o (size_of first.now) first.now rs core.now) own replayed));
+      replayed = subst (λ (p : Process). Replayed c.head.pid c.n p rs core.now) now (subst (λ k. Replayed c.head.pid k first.now rs core.now) size (subst (λ o. Replayed o (size_of first.now) first.now rs core.now) own replayed));
     }
 
 -- what they refuse, where they begin in the checkpoint's process
-pub rows_refused : (held : Content) (x : ℕ) (c : CheckpointRecord) (rows : List Row) (fault : ReplayFault) (first : CoreState) → rows ≡ between held.receipts c.interval x → AreGapless c.interval rows → c.interval + length rows ≡ x
-    → length c.vec ≡ c.n → first.own ≡ c.pid → first.now ≡ process_of c → RefusesRows first.own (size_of first.now) first.now rows fault → RefusesFrom held x c fault
+pub rows_refused : (held : Content) (x : ℕ) (c : CheckpointRecord) (rows : List Row) (fault : ReplayFault) (first : CoreState) → rows ≡ between held.receipts c.head.interval x → AreGapless c.head.interval rows → c.head.interval + length rows ≡ x
+    → length c.head.vec ≡ c.n → first.own ≡ c.head.pid → first.now ≡ process_of c → RefusesRows first.own (size_of first.now) first.now rows fault → RefusesFrom held x c fault
 rows_refused held x c rows fault first is gapless long places own now why =
     let size : size_of first.now ≡ c.n = ap size_of now ∙ places in
     row_from held x c rows fault is gapless long
-    (subst (λ (p : Process). RefusesRows c.pid c.n p rows fault) now (subst (λ k. RefusesRows c.pid k first.now rows fault) size (subst (λ o. RefusesRows o (size_of first.now) first.now rows fault) own why)))
+    (subst (λ (p : Process). RefusesRows c.head.pid c.n p rows fault) now (subst (λ k. RefusesRows c.head.pid k first.now rows fault) size (subst (λ o. RefusesRows o (size_of first.now) first.now rows fault) own why)))
 
 -- ---- bytes that are not decoded
 no_checkpoint : (y : ℕ) (bytes : List ℕ) (e : DecodeError) → ((version : Version) (r : CheckpointRecord) → SpellsCheckpoint version r bytes → Fails e (Ok r)) → RefusesCheckpoint y bytes (damage y e)
@@ -245,13 +245,13 @@ pub receipt_damaged : (y : ℕ) (bytes : List ℕ) (fault : ReplayFault) (e : De
 receipt_damaged y bytes fault e is fails = subst (RefusesBytes y bytes) (sym is) (no_record y bytes e fails)
 
 -- another checkpoint than the one that is spelled names no other interval
-pub names_another : (y : ℕ) (found r : CheckpointRecord) (read due : Result CheckpointRecord DecodeError) → read ≡ Ok found → due ≡ Ok r → due ≡ read → found.interval ≢ y → r.interval ≡ y → ⊥
+pub names_another : (y : ℕ) (found r : CheckpointRecord) (read due : Result CheckpointRecord DecodeError) → read ≡ Ok found → due ≡ Ok r → due ≡ read → found.head.interval ≢ y → r.head.interval ≡ y → ⊥
 names_another y found r read due is at same other named =
     let equal : r ≡ found = cc in
-    other (ap (λ (c : CheckpointRecord). c.interval) (sym equal) ∙ named)
+    other (ap (λ (c : CheckpointRecord). c.head.interval) (sym equal) ∙ named)
 
 -- ---- with the checkpoint that is effective
-pub begins_with : (held : Content) (x y : ℕ) (bytes : List ℕ) (c : CheckpointRecord) → IsEffective held.checkpoints x y → get held.checkpoints y ≡ Some bytes → IsSpelled c bytes → c.interval ≡ y → BeginsWith Anyone held x c
+pub begins_with : (held : Content) (x y : ℕ) (bytes : List ℕ) (c : CheckpointRecord) → IsEffective held.checkpoints x y → get held.checkpoints y ≡ Some bytes → IsSpelled c bytes → c.head.interval ≡ y → BeginsWith Anyone held x c
 begins_with held x y bytes c effective there spelled at = record {
   effective = subst (IsEffective held.checkpoints x) (sym at) effective;
   stored = record { bytes = bytes; stands = ap (get held.checkpoints) at ∙ there; spelled = spelled; named = refl };
@@ -279,11 +279,11 @@ refused_at_start Meant held x (Mismatch y) why = absurd why
 refused_at_start Meant held x Fault why = tt
 refused_at_start Meant held x Memory why = tt
 
-stands_before : (Meant : ℕ → ℕ → Type 0) (held : Content) (x y : ℕ) (c : CheckpointRecord) (s : Process) → BeginsWith Meant held x c → HasReceipts held x c → ComesFrom held x c y s → ComesTo Meant held x y c.pid c.n s
+stands_before : (Meant : ℕ → ℕ → Type 0) (held : Content) (x y : ℕ) (c : CheckpointRecord) (s : Process) → BeginsWith Meant held x c → HasReceipts held x c → ComesFrom held x c y s → ComesTo Meant held x y c.head.pid c.n s
 stands_before Meant held x y c s begins has comes =
-    let next : y ≡ c.interval + length comes.receipts + 1 = comes.next in
+    let next : y ≡ c.head.interval + length comes.receipts + 1 = comes.next in
     record {
-      before = c.interval + length comes.receipts;
+      before = c.head.interval + length comes.receipts;
       next = next;
       within = comes.within;
       stands = record { checkpoint = c; all = record { begins = begins; receipts = has }; pid = refl; size = refl; receipts = comes.receipts; stored = comes.stored; last = refl; replayed = comes.replayed };
@@ -291,9 +291,9 @@ stands_before Meant held x y c s begins has comes =
 
 pub refused_from : (Meant : ℕ → ℕ → Type 0) (held : Content) (x : ℕ) (c : CheckpointRecord) (fault : ReplayFault) → BeginsWith Meant held x c → RefusesFrom held x c fault → Refuses Meant held x fault
 refused_from Meant held x c NoCheckpoint begins why = absurd why
-refused_from Meant held x c (Damaged y) begins why = inr (c.pid, c.n, why.1.0, stands_before Meant held x y c why.1.0 begins why.0 why.1.1, why.1.2)
+refused_from Meant held x c (Damaged y) begins why = inr (c.head.pid, c.n, why.1.0, stands_before Meant held x y c why.1.0 begins why.0 why.1.1, why.1.2)
 refused_from Meant held x c (MissingReceipt y) begins why = record { checkpoint = c; begins = begins; above = why.0; within = why.1; none = why.2; before = why.3 }
-refused_from Meant held x c (Mismatch y) begins why = (c.pid, c.n, why.1.0, stands_before Meant held x y c why.1.0 begins why.0 why.1.1, why.1.2, why.1.3, why.1.4)
+refused_from Meant held x c (Mismatch y) begins why = (c.head.pid, c.n, why.1.0, stands_before Meant held x y c why.1.0 begins why.0 why.1.1, why.1.2, why.1.3, why.1.4)
 refused_from Meant held x c Fault begins why = tt
 refused_from Meant held x c Memory begins why = tt
 
@@ -306,7 +306,7 @@ replayed_from Meant held x c core begins is = record {
   receipts = is.receipts;
   stored = is.stored;
   last = is.last;
-  replayed = subst (λ o. Replayed o (size_of core.now) (process_of c) is.receipts core.now) (sym is.own) (subst (λ n. Replayed c.pid n (process_of c) is.receipts core.now) (sym is.size) is.replayed);
+  replayed = subst (λ o. Replayed o (size_of core.now) (process_of c) is.receipts core.now) (sym is.own) (subst (λ n. Replayed c.head.pid n (process_of c) is.receipts core.now) (sym is.size) is.replayed);
 }
 
 pub refused_for_no_matter : (Meant : ℕ → ℕ → Type 0) (held : Content) (x : ℕ) (fault : ReplayFault) → IsNoMatterOfContent fault → Refuses Meant held x fault
@@ -314,5 +314,5 @@ refused_for_no_matter Meant held x fault (inl is) = subst (Refuses Meant held x)
 refused_for_no_matter Meant held x fault (inr is) = subst (Refuses Meant held x) (sym is) tt
 
 -- with the checkpoint of a process that is meant
-pub meant_begins : (Meant : ℕ → ℕ → Type 0) (held : Content) (x : ℕ) (c : CheckpointRecord) → BeginsWith Anyone held x c → Meant c.pid c.n → BeginsWith Meant held x c
+pub meant_begins : (Meant : ℕ → ℕ → Type 0) (held : Content) (x : ℕ) (c : CheckpointRecord) → BeginsWith Anyone held x c → Meant c.head.pid c.n → BeginsWith Meant held x c
 meant_begins Meant held x c begins meant = record { effective = begins.effective; stored = begins.stored; meant = meant }

@@ -9,10 +9,10 @@ use Rattle.om_process.specs.Turns.{Turns, IsWaiting}
 -- the process that a checkpoint is of
 abbrev pub process_of : CheckpointRecord → Process
 process_of c = record {
-  machine = restored c.regs c.pc c.count c.memory c.ext;
-  interval = c.interval;
-  vec = c.vec;
-  got = c.got;
+  machine = restored c.head.regs c.head.pc c.head.count c.memory c.head.ext;
+  interval = c.head.interval;
+  vec = c.head.vec;
+  got = c.head.got;
   queues = c.kept ++ c.outputs ∷ [];
 }
 

@@ -22,7 +22,7 @@ pub record IsCheckpointAt (held : Records) (y : ℕ) (c : CheckpointRecord) : Ty
   pub bytes : List ℕ
   pub stands : get held y ≡ Some bytes
   pub spelled : IsSpelled c bytes
-  pub named : c.interval ≡ y
+  pub named : c.head.interval ≡ y
 
 -- these receipts are stored, each at the interval after that of the one before
 abbrev pub AreReceiptsAfter : Records → ℕ → List ReceiptRecord → Type 0
@@ -38,25 +38,25 @@ TheProcess own n pid size = (pid ≡ own) × (size ≡ n)
 
 -- a replay to x begins with this checkpoint: it is the effective one of x, and of a process that is meant
 pub record BeginsWith (Meant : ℕ → ℕ → Type 0) (held : Content) (x : ℕ) (c : CheckpointRecord) : Type 0 where
-  pub effective : IsEffective held.checkpoints x c.interval
-  pub stored : IsCheckpointAt held.checkpoints c.interval c
-  pub meant : Meant c.pid c.n
+  pub effective : IsEffective held.checkpoints x c.head.interval
+  pub stored : IsCheckpointAt held.checkpoints c.head.interval c
+  pub meant : Meant c.head.pid c.n
 
 -- and each receipt after it is there
 pub record HasAll (Meant : ℕ → ℕ → Type 0) (held : Content) (x : ℕ) (c : CheckpointRecord) : Type 0 where
   pub begins : BeginsWith Meant held x c
-  pub receipts : (y : ℕ) → c.interval < y → y ≤ x → IsSome (get held.receipts y)
+  pub receipts : (y : ℕ) → c.head.interval < y → y ≤ x → IsSome (get held.receipts y)
 
 -- on a replay to x, process own of n is in this state right after receipt y, or where y is the checkpoint's interval, as
 -- the checkpoint says
 pub record StandsAfter (Meant : ℕ → ℕ → Type 0) (held : Content) (x y own n : ℕ) (t : Process) : Type 0 where
   pub checkpoint : CheckpointRecord
   pub all : HasAll Meant held x checkpoint
-  pub pid : checkpoint.pid ≡ own
+  pub pid : checkpoint.head.pid ≡ own
   pub size : checkpoint.n ≡ n
   pub receipts : List ReceiptRecord
-  pub stored : AreReceiptsAfter held.receipts checkpoint.interval receipts
-  pub last : y ≡ checkpoint.interval + length receipts
+  pub stored : AreReceiptsAfter held.receipts checkpoint.head.interval receipts
+  pub last : y ≡ checkpoint.head.interval + length receipts
   pub replayed : Replayed own n (process_of checkpoint) receipts t
 
 -- the content can be replayed to x
@@ -71,16 +71,16 @@ IsReplay held x core = StandsAfter Anyone held x x core.own (size_of core.now) c
 -- meant
 pub record IsDamagedCheckpoint (Meant : ℕ → ℕ → Type 0) (held : Content) (x y : ℕ) : Type 0 where
   pub effective : IsEffective held.checkpoints x y
-  pub damaged : (c : CheckpointRecord) → IsCheckpointAt held.checkpoints y c → Meant c.pid c.n → ⊥
+  pub damaged : (c : CheckpointRecord) → IsCheckpointAt held.checkpoints y c → Meant c.head.pid c.n → ⊥
 
 -- the receipt of y is not there, and each before it is
 pub record IsLeastMissing (Meant : ℕ → ℕ → Type 0) (held : Content) (x y : ℕ) : Type 0 where
   pub checkpoint : CheckpointRecord
   pub begins : BeginsWith Meant held x checkpoint
-  pub above : checkpoint.interval < y
+  pub above : checkpoint.head.interval < y
   pub within : y ≤ x
   pub none : get held.receipts y ≡ None
-  pub before : (z : ℕ) → checkpoint.interval < z → z < y → IsSome (get held.receipts z)
+  pub before : (z : ℕ) → checkpoint.head.interval < z → z < y → IsSome (get held.receipts z)
 
 -- a replay to x comes to receipt y: process own of n is in this state after the one before
 pub record ComesTo (Meant : ℕ → ℕ → Type 0) (held : Content) (x y own n : ℕ) (s : Process) : Type 0 where

@@ -41,7 +41,7 @@ flushed c = record c { log = []; pending = c.pending ++ map log_row c.log }
 -- the record is a checkpoint of this process
 pub record IsOf (own : ℕ) (p : Process) (r : CheckpointRecord) : Type 0 where
   pub n : r.n ≡ size_of p
-  pub pid : r.pid ≡ own
+  pub pid : r.head.pid ≡ own
   pub process : process_of r ≡ p
 
 -- the store has gained the spelling of the process as the checkpoint of its interval, and nothing else

@@ -156,11 +156,11 @@ impl Down {
         ensures sound { IsTrue (S.is_clean store.new) → S.IsSound store.old → S.IsSound store.new }
     {
         let checkpoint = beginning(alloc, store, x)?;
-        if checkpoint.pid != self.pid {
-            return Err(ReplayFault::Damaged(checkpoint.interval));
+        if checkpoint.head.pid != self.pid {
+            return Err(ReplayFault::Damaged(checkpoint.head.interval));
         }
-        if checkpoint.vec.n() != self.n {
-            return Err(ReplayFault::Damaged(checkpoint.interval));
+        if checkpoint.head.vec.n() != self.n {
+            return Err(ReplayFault::Damaged(checkpoint.head.interval));
         }
         ProcCore::replay_from(alloc, store, x, checkpoint)
     }

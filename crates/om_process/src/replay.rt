@@ -78,14 +78,14 @@ pub(crate) fn damaged(y: u32, error: DecodeError) -> ReplayFault
 // The checkpoint of interval `c` that these bytes spell.
 fn checkpoint_at(alloc: Global, c: u32, bytes: &[u8]) -> Result<Checkpoint, ReplayFault>
     ensures found { IfOk result (λ checkpoint. IsSpelled (checkpoint_record checkpoint) bytes.now) }
-    ensures named { IfOk result (λ checkpoint. checkpoint.interval ≡ c) }
+    ensures named { IfOk result (λ checkpoint. checkpoint.head.interval ≡ c) }
     ensures refused { IfErr result (λ fault. RefusesCheckpoint c bytes.now fault) }
 {
     let checkpoint = match decode_checkpoint(alloc, bytes) {
         Ok(checkpoint) => checkpoint,
         Err(error) => return Err(damaged(c, error)),
     };
-    if checkpoint.interval == c {
+    if checkpoint.head.interval == c {
         Ok(checkpoint)
     } else {
         Err(ReplayFault::Damaged(c))
@@ -123,12 +123,12 @@ impl ProcCore {
         x: u32,
         checkpoint: Checkpoint,
     ) -> Result<ProcCore, ReplayFault>
-        ensures replayed { IsKnown S.is_clean S.IsSound store.old store.new → checkpoint.interval ≤ x
+        ensures replayed { IsKnown S.is_clean S.IsSound store.old store.new → checkpoint.head.interval ≤ x
             → IfOk result (λ core. IsReplayFrom (S.content store.old) x (checkpoint_record checkpoint) core) }
-        ensures refused { IsKnown S.is_clean S.IsSound store.old store.new → checkpoint.interval ≤ x
+        ensures refused { IsKnown S.is_clean S.IsSound store.old store.new → checkpoint.head.interval ≤ x
             → IfErr result (λ fault. RefusesFrom (S.content store.old) x (checkpoint_record checkpoint) fault) }
-        ensures own { IfOk result (λ core. core.own ≡ checkpoint.pid) }
-        ensures size { IfOk result (λ core. size_of core.now ≡ length checkpoint.vec) }
+        ensures own { IfOk result (λ core. core.own ≡ checkpoint.head.pid) }
+        ensures size { IfOk result (λ core. size_of core.now ≡ length checkpoint.head.vec) }
         ensures log { IfOk result (λ core. core.log ≡ []) }
         ensures pending { IfOk result (λ core. core.pending ≡ []) }
         ensures inc { IfOk result (λ core. core.inc ≡ 0) }
@@ -140,11 +140,11 @@ impl ProcCore {
         ensures clean { IsTrue (S.is_clean store.new) → IsTrue (S.is_clean store.old) }
         ensures sound { IsTrue (S.is_clean store.new) → S.IsSound store.old → S.IsSound store.new }
     {
-        let found = match store.receipts(alloc, checkpoint.interval, x) {
+        let found = match store.receipts(alloc, checkpoint.head.interval, x) {
             Ok(found) => found,
             Err(error) => return Err(fault_of(error)),
         };
-        if let Some(y) = missing(checkpoint.interval, x, &found) {
+        if let Some(y) = missing(checkpoint.head.interval, x, &found) {
             return Err(ReplayFault::MissingReceipt(y));
         }
         let mut core = ProcCore::restored(alloc, checkpoint)?;

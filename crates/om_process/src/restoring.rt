@@ -16,7 +16,7 @@ use std::alloc::{AllocError, Global};
 impl ProcCore {
     // The process of a checkpoint, which knows of no failure.
     pub(crate) fn restored(alloc: Global, checkpoint: Checkpoint) -> Result<ProcCore, AllocError>
-        ensures own { IfOk result (λ core. core.own ≡ checkpoint.pid) }
+        ensures own { IfOk result (λ core. core.own ≡ checkpoint.head.pid) }
         ensures now { IfOk result (λ core. core.now ≡ process_of (checkpoint_record checkpoint)) }
         ensures log { IfOk result (λ core. core.log ≡ []) }
         ensures pending { IfOk result (λ core. core.pending ≡ []) }
@@ -25,16 +25,17 @@ impl ProcCore {
         ensures starts { IfOk result (λ core. core.starts ≡ replicate (size_of core.now) (0 ∷ [])) }
     {
         let machine = machine_of(alloc, &checkpoint)?;
-        let starts = Starts::new(alloc, checkpoint.vec.n())?;
+        let head = checkpoint.head;
+        let starts = Starts::new(alloc, head.vec.n())?;
         Ok(ProcCore {
-            pid: checkpoint.pid,
+            pid: head.pid,
             machine,
-            interval: checkpoint.interval,
-            vec: checkpoint.vec,
-            got: checkpoint.got,
-            sent: checkpoint.sent,
-            made: checkpoint.made,
-            outbox: outbox_of(alloc, checkpoint.kept, checkpoint.sent.as_slice())?,
+            interval: head.interval,
+            vec: head.vec,
+            got: head.got,
+            sent: head.sent,
+            made: head.made,
+            outbox: outbox_of(alloc, checkpoint.kept, head.sent.as_slice())?,
             outputs: Outputs::of(alloc, checkpoint.outputs)?,
             log: Vec::new(alloc),
             pending: Vec::new(alloc),
@@ -49,14 +50,9 @@ impl ProcCore {
 fn machine_of(alloc: Global, checkpoint: &Checkpoint) -> Result<Machine, AllocError>
     ensures { IfOk result (λ machine. machine ≡ (process_of (checkpoint_record checkpoint.now)).machine) }
 {
-    match Machine::restore(
-        alloc,
-        &checkpoint.regs,
-        checkpoint.pc,
-        checkpoint.count,
-        checkpoint.memory.as_slice(),
-        checkpoint.ext,
-    ) {
+    let head = &checkpoint.head;
+    let memory = checkpoint.memory.as_slice();
+    match Machine::restore(alloc, &head.regs, head.pc, head.count, memory, head.ext) {
         Ok(machine) => Ok(machine),
         Err(_) => Err(AllocError),
     }

@@ -15,7 +15,7 @@ use crate::log::Logged;
 use crate::proc_core::ProcCore;
 use crate::queues::Messages;
 use crate::row::Row;
-use om_format::{Checkpoint, MemoryBytes, Queue, encode_checkpoint, encode_receipt};
+use om_format::{Checkpoint, Head, MemoryBytes, Queue, encode_checkpoint, encode_receipt};
 use om_stable::{Stable, StoreError};
 use std::alloc::{AllocError, Global};
 
@@ -113,7 +113,7 @@ impl ProcCore {
         let memory = Vec::from_slice(alloc, self.machine.memory())?;
         let kept = queues_of(alloc, &self.outbox)?;
         let outputs = self.outputs.queue(alloc)?;
-        Ok(Checkpoint {
+        let head = Head {
             ext: self.machine.ext(),
             pid: self.pid,
             interval: self.interval,
@@ -124,6 +124,9 @@ impl ProcCore {
             got: self.got,
             sent: self.sent,
             made: self.made,
+        };
+        Ok(Checkpoint {
+            head,
             memory: MemoryBytes::from_vec(memory),
             kept,
             outputs,

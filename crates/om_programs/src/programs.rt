@@ -49,6 +49,7 @@ impl Model for Programs {
 }
 
 impl Programs {
+    /// No program and no process, and open for both.
     pub fn new(alloc: Global) -> Programs
         ensures { result ≡ no_programs }
     {

@@ -48,7 +48,8 @@ pub fn record_to(trees: &Trees, kind: RowKind, pid: Pid, to: u32) -> Option<Row>
 /// Of a process's records of a kind at or above an interval, the nearest.
 pub fn record_from(trees: &Trees, kind: RowKind, pid: Pid, from: u32) -> Option<Row>
     requires { AreTrees trees.now }
-    ensures { MatchOption result ((x : ℕ) → Has (held trees.now) kind pid x → from ≤ x → ⊥) (IsRecordFrom (held trees.now) kind pid from) }
+    ensures { MatchOption result ((x : ℕ) → Has (held trees.now) kind pid x → from ≤ x → ⊥)
+        (IsRecordFrom (held trees.now) kind pid from) }
 {
     match kind {
         RowKind::Checkpoint => match base_from(&trees.bases, pid, from) {

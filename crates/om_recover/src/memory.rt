@@ -46,7 +46,7 @@ impl Memories {
         self.places[pid.index()] = memory;
     }
 
-    /// Remembers a climb, unless one from a lower start above the floor is remembered.
+    // Remembers a climb, unless one from a lower start above the floor is remembered.
     pub(crate) fn keep(&mut self, pid: Pid, floor: u32, memory: Memory)
         ensures { IsKept self.old.places self.new.places pid memory }
     {
@@ -58,7 +58,7 @@ impl Memories {
         self.put(pid, Some(memory));
     }
 
-    /// Forgets those memories of the first `n` processes that came further, at a process, than to an interval.
+    // Forgets those memories of the first `n` processes that came further, at a process, than to an interval.
     pub(crate) fn forget(&mut self, n: usize, pid: Pid, x: u32)
         requires within { n ≤ MAX_PROCESSES }
         requires places { (q : ℕ) → q < n → MatchOption (slice_index_or self.old.places q None) ⊤ (λ memory. pid < length memory.reached) }

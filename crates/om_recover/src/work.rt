@@ -18,6 +18,7 @@ impl Model for Work {
 }
 
 impl Work {
+    /// Work of which nothing is done yet.
     pub fn new() -> Work
         ensures { result.attempts ≡ [] }
     {
@@ -38,7 +39,7 @@ impl Work {
         );
     }
 
-    /// Adds a look to the newest attempt.
+    // Adds a look to the newest attempt.
     pub(crate) fn add_look(&mut self, pid: Pid, x: u32)
         requires { 0 < length self.old.attempts }
         ensures { self.new.attempts ≡ with_look self.old.attempts pid x }

@@ -62,7 +62,7 @@ way_trimmed m bounds s on = (on.0, (on.1.0, on.1.1, keeps_trim bounds on.1.0 s o
 pub way_replayed : (m : Member) (x : ℕ) (held : Content) (t : Process) → AreOnWay m held → StandsAfter Anyone held x x m.own m.n t → IsOnWay m t
 way_replayed m x held t stored stands =
     let at = stands.all.begins.stored in
-    let from = stored stands.checkpoint.interval at.bytes at.stands stands.checkpoint at.spelled in
+    let from = stored stands.checkpoint.head.interval at.bytes at.stands stands.checkpoint at.spelled in
     (from.0 ++ receipts_of stands.receipts, replayed_along m.program m.own m.n (process_of stands.checkpoint) t from.0 stands.receipts from.1 stands.replayed)
 
 pub way_status : (m : Member) (s : Process) → IsOnWay m s → IsStatusAlong m.program m.own m.n (status_of (next_move m.own m.n s.machine (made s.queues)))

@@ -37,7 +37,7 @@ use std::sync::atomic::Ordering::SeqCst;
 use std::thread;
 use std::thread::{Promise, PromisedHandle, Scope, Threads, join_promised};
 
-/// What the threads of a cluster have in common.
+// What the threads of a cluster have in common.
 #[derive(Drop)]
 struct Cluster<'s, K: Naming, R, G, O> {
     rt: &'s R,
@@ -52,7 +52,7 @@ struct Cluster<'s, K: Naming, R, G, O> {
     inboxes: &'s [Vec<Inbox>],
 }
 
-/// What a worker begins with.
+// What a worker begins with.
 #[derive(Drop)]
 struct Job<'a, K: Naming> {
     links: Links<'a>,
@@ -60,7 +60,7 @@ struct Job<'a, K: Naming> {
     ghost sized: { links.n ≡ K.cell.n },
 }
 
-/// What a worker brings back.
+// What a worker brings back.
 #[derive(Drop)]
 struct Finished<S: Stable> {
     status: Status,
@@ -68,7 +68,7 @@ struct Finished<S: Stable> {
     ends: Ends,
 }
 
-/// What all workers brought back, by process.
+// What all workers brought back, by process.
 #[derive(Drop)]
 struct Parts<S: Stable> {
     statuses: Vec<Status>,
@@ -123,12 +123,12 @@ fn kills_of(alloc: Global, kills: &[(Pid, u32)], pid: Pid) -> Result<Vec<u32>, A
     Ok(own)
 }
 
-/// What a turn of a worker leads to.
+// What a turn of a worker leads to.
 #[derive(Drop)]
 enum Turned<'a, K: Naming, S: Stable> {
-    /// There are more.
+    // There are more.
     On(Place<'a, S>, Pass<K>),
-    /// All processes are quiet: how this one ended, and its store.
+    // All processes are quiet: how this one ended, and its store.
     Over(Status, S),
 }
 
@@ -241,7 +241,7 @@ fn work_or_stop<'a, K: Naming, R: Wait, G: Gate, O: Opener<R>>(
     result
 }
 
-/// What the thread of a process promises: of which image, which inboxes, which process and how many.
+// What the thread of a process promises: of which image, which inboxes, which process and how many.
 #[derive(Drop)]
 struct EndOf<'a, S: Stable> {
     image: &'a Image,

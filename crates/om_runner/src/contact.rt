@@ -14,33 +14,33 @@ use om_process::{Made, ProcCore, Row};
 use std::alloc::Global;
 use std::sync::Wait;
 
-/// How the manager stands.
+// How the manager stands.
 #[derive(Clone, Copy, Debug, PartialEq, Eq)]
 pub(crate) enum Standing {
-    /// No gathering is open.
+    // No gathering is open.
     Closed,
-    /// A gathering is open.
+    // A gathering is open.
     Gathers,
-    /// All processes are quiet.
+    // All processes are quiet.
     Quiet,
 }
 
-/// What need not be kept any longer: by the process what is below the bounds, and by its store what stands before the
-/// checkpoint.
+// What need not be kept any longer: by the process what is below the bounds, and by its store what stands before the
+// checkpoint.
 #[derive(Clone, Copy, Debug)]
 pub(crate) struct Limits {
     pub(crate) bounds: Bounds,
     pub(crate) checkpoint: u32,
 }
 
-/// What the manager says of a finished round.
+// What the manager says of a finished round.
 #[derive(Drop)]
 pub(crate) struct Heard {
     pub(crate) verdict: Verdict,
     pub(crate) starts: Starts,
 }
 
-/// What the worker of a process knows of the manager.
+// What the worker of a process knows of the manager.
 #[derive(Drop)]
 pub(crate) struct Contact<'a, K: Naming> {
     pub(crate) pid: Pid,

@@ -119,7 +119,7 @@ impl<K: Naming> Model for Pass<K> {
     ghost invariant = { λ p. IsReader K.cell p.ticket.table_id (cell_view p.ticket) };
 }
 
-/// The leave to post to a frontier. To a contract it is the fronts that were posted.
+// The leave to post to a frontier. To a contract it is the fronts that were posted.
 #[derive(Drop)]
 pub(crate) struct Writer<K: Naming> {
     ticket: Ticket,

@@ -15,7 +15,7 @@ use std::alloc::{AllocError, Global};
 use std::marker::Model;
 use std::sync::Wait;
 
-/// Where the messages of one process go, and where those to it come from.
+// Where the messages of one process go, and where those to it come from.
 #[derive(Drop)]
 pub(crate) struct Links<'a> {
     own: Pid,

@@ -8,19 +8,19 @@ use crate::inbox::{Inbox, PutPass, TakePass};
 use om_interval::{MAX_PROCESSES, Pid};
 use std::alloc::{AllocError, Global};
 
-/// The leaves that one process has.
+// The leaves that one process has.
 #[derive(Drop)]
 pub(crate) struct Ends {
-    /// By receiver.
+    // By receiver.
     pub(crate) puts: Vec<PutPass>,
-    /// By sender.
+    // By sender.
     pub(crate) takes: Vec<TakePass>,
 }
 
-/// An inbox from each process to each, and the leaves of each process.
+// An inbox from each process to each, and the leaves of each process.
 #[derive(Drop)]
 pub(crate) struct Network {
-    /// By sender, and there by receiver.
+    // By sender, and there by receiver.
     pub(crate) inboxes: Vec<Vec<Inbox>>,
     pub(crate) ends: Vec<Ends>,
 }

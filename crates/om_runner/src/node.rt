@@ -13,8 +13,8 @@ use om_stable::Stable;
 use std::alloc::Global;
 use std::marker::Model;
 
-/// A process that is up, and its store. Where the store is clean, the process stands along its image, and so does each
-/// checkpoint that the store holds.
+// A process that is up, and its store. Where the store is clean, the process stands along its image, and so does each
+// checkpoint that the store holds.
 #[derive(Drop)]
 pub(crate) struct Node<'a, S: Stable> {
     image: &'a Image,
@@ -40,7 +40,7 @@ impl<'a, S: Stable> Model for Node<'a, S> {
         (record { member = record { program = program_of d.image.now; own = d.pid; n = d.n }; core = d.core }) d.store };
 }
 
-/// A process that is down, and its store.
+// A process that is down, and its store.
 #[derive(Drop)]
 pub(crate) struct Fallen<'a, S: Stable> {
     image: &'a Image,

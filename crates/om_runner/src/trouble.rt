@@ -6,16 +6,16 @@ use om_recover::NoteError;
 use om_stable::StoreError;
 use std::alloc::AllocError;
 
-/// Why a worker cannot go on.
+// Why a worker cannot go on.
 #[derive(Clone, Copy, Debug, PartialEq, Eq)]
 pub(crate) enum Trouble {
     Memory,
-    /// A store, a replay or the manager refused a call.
+    // A store, a replay or the manager refused a call.
     Refused,
 }
 
 impl Trouble {
-    /// As the run's caller is told of it.
+    // As the run's caller is told of it.
     pub(crate) fn of(self, pid: Pid) -> RunFault {
         match self {
             Trouble::Memory => RunFault::Memory,
@@ -24,7 +24,7 @@ impl Trouble {
     }
 }
 
-/// As the run's caller is told why a process was not started.
+// As the run's caller is told why a process was not started.
 pub(crate) fn load_fault(fault: StartFault, pid: Pid) -> RunFault {
     match fault {
         StartFault::Memory => RunFault::Memory,

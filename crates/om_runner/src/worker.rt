@@ -23,33 +23,33 @@ use std::thread;
 /// After how many turns in which nothing happened a worker resends the messages that are kept.
 pub const IDLE_TURNS: u32 = 1_024;
 
-/// Where the process of a worker stands.
+// Where the process of a worker stands.
 #[derive(Drop)]
 pub(crate) enum Place<'a, S: Stable> {
-    /// It runs.
+    // It runs.
     Up(Node<'a, S>),
-    /// A gathering is open, which it is to join.
+    // A gathering is open, which it is to join.
     Called(Node<'a, S>),
-    /// It joined, and waits for the round to be finished.
+    // It joined, and waits for the round to be finished.
     In(Node<'a, S>),
-    /// It failed, which the manager is still to be told.
+    // It failed, which the manager is still to be told.
     Failed(Fallen<'a, S>),
-    /// It failed, and waits for the round to be finished.
+    // It failed, and waits for the round to be finished.
     Down(Fallen<'a, S>),
-    /// All processes are quiet.
+    // All processes are quiet.
     Over(Node<'a, S>),
 }
 
-/// What a turn of a process that runs comes to.
+// What a turn of a process that runs comes to.
 #[derive(Clone, Copy)]
 enum Step {
-    /// It goes on.
+    // It goes on.
     Up,
-    /// A gathering is open.
+    // A gathering is open.
     Called,
-    /// It fails.
+    // It fails.
     Failed,
-    /// All processes are quiet.
+    // All processes are quiet.
     Over,
 }
 
@@ -67,7 +67,7 @@ impl Step {
     }
 }
 
-/// A worker, but for its process.
+// A worker, but for its process.
 #[derive(Drop)]
 pub(crate) struct Worker<'a, K: Naming> {
     plan: &'a Config,

@@ -9,7 +9,7 @@ use std::collections::BTreeMap;
 use std::marker::Model;
 use std::ops::Bound;
 
-/// Records of one kind, by interval.
+// Records of one kind, by interval.
 #[derive(Debug, Drop)]
 pub(crate) struct RecordTree {
     tree: BTreeMap<u32, Vec<u8>>,
@@ -36,7 +36,7 @@ impl RecordTree {
         }
     }
 
-    /// Puts a copy of the bytes at `x`.
+    // Puts a copy of the bytes at `x`.
     pub(crate) fn insert(&mut self, alloc: Global, x: u32, bytes: &[u8]) -> Result<(), AllocError>
         ensures ok { OnOk result (self.new ≡ map.insert self.old x bytes.now) }
         ensures err { OnErr result (self.new ≡ self.old) }
@@ -51,14 +51,14 @@ impl RecordTree {
         let _ = self.tree.remove(&x);
     }
 
-    /// Whether `x` has a record.
+    // Whether `x` has a record.
     pub(crate) fn has(&self, x: u32) -> bool
         ensures { result ≡ is_some (map.get self.now x) }
     {
         self.tree.contains_key(&x)
     }
 
-    /// Whether one of the `count` intervals from `first` on has a record.
+    // Whether one of the `count` intervals from `first` on has a record.
     pub(crate) fn has_any(&self, first: u32, count: usize) -> bool
         requires { first + count ≤ INTERVALS }
         ensures taken { OnTrue result (IsTaken self.now first count) }
@@ -71,7 +71,7 @@ impl RecordTree {
         self.tree.range(first..=last).next().is_some()
     }
 
-    /// Puts copies of the bytes at `first`, `first + 1`, .., all of them or none.
+    // Puts copies of the bytes at `first`, `first + 1`, .., all of them or none.
     pub(crate) fn insert_all(
         &mut self,
         alloc: Global,
@@ -106,7 +106,7 @@ impl RecordTree {
         }
     }
 
-    /// The greatest record at or below `x`.
+    // The greatest record at or below `x`.
     pub(crate) fn effective(
         &self,
         alloc: Global,
@@ -123,7 +123,7 @@ impl RecordTree {
         Ok(Some((*c, Vec::from_slice(alloc, bytes)?)))
     }
 
-    /// The records above `after` and at or below `to`, ascending.
+    // The records above `after` and at or below `to`, ascending.
     pub(crate) fn between(
         &self,
         alloc: Global,
@@ -143,7 +143,7 @@ impl RecordTree {
         Ok(found)
     }
 
-    /// Removes the records above `r`.
+    // Removes the records above `r`.
     pub(crate) fn keep_up_to(&mut self, r: u32)
         ensures { self.new ≡ map.retain_keys self.old (λ x. nat_le x r) }
     {
@@ -155,7 +155,7 @@ impl RecordTree {
         }
     }
 
-    /// Removes the records below `least`.
+    // Removes the records below `least`.
     pub(crate) fn keep_from(&mut self, least: u64)
         ensures { self.new ≡ map.retain_keys self.old (λ x. nat_le least x) }
     {

@@ -199,7 +199,7 @@ checkpoint_stored v p a b c own g r s = record {
 }
   where
     go : (x : ℕ) (bytes : List ℕ) → x ≤ length (history v p) → get (insert a.checkpoints c.now.interval g.2) x ≡ Some bytes → (x ≡ c.now.interval) ⊎ (x ≢ c.now.interval)
-        → (d : CheckpointRecord) × IsSpelled d bytes × (d.pid ≡ p) × (d.n ≡ length v.programs) × AtInterval (history v p) x (CheckpointOf (program_at v.programs p) p (length v.programs) (process_of d)) × KeptWithin v p (process_of d).queues
+        → (d : CheckpointRecord) × IsSpelled d bytes × (d.head.pid ≡ p) × (d.n ≡ length v.programs) × AtInterval (history v p) x (CheckpointOf (program_at v.programs p) p (length v.programs) (process_of d)) × KeptWithin v p (process_of d).queues
     go x bytes le at (inr other) = s.checkpoints x bytes le (sym (get-insert_apart a.checkpoints c.now.interval g.2 x other) ∙ at)
     go x bytes le at (inl same) =
         let is : g.2 ≡ bytes = once g.2 bytes (sym (get-insert_here a.checkpoints c.now.interval g.2) ∙ ap (get (insert a.checkpoints c.now.interval g.2)) (sym same) ∙ at) in (

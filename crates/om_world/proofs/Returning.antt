@@ -259,9 +259,9 @@ can_replay w p held h s lt news at =
     let c = kept.checkpoints e.0 bytes.0 (omega arith) bytes.1 in
     let whole = c.4.1 in
     let interval : whole.0.interval ≡ length (take e.0 (history v p)) = interval_along (program_at v.programs p) p n whole.1.0 (take e.0 (history v p)) whole.0 whole.1.1 in
-    let part : c.0.interval ≡ whole.0.interval = ap (λ (q : Process). q.interval) whole.2.same in
+    let part : c.0.head.interval ≡ whole.0.interval = ap (λ (q : Process). q.interval) whole.2.same in
     let few : length (take e.0 (history v p)) ≡ e.0 = length-take-le e.0 (history v p) (omega arith) in
-    let named : c.0.interval ≡ e.0 = omega arith in
+    let named : c.0.head.interval ≡ e.0 = omega arith in
     let wanted : (y : ℕ) → e.0 < y → y ≤ x → IsSome (get held.receipts y) = λ y above within. store.1.receipts y (omega arith) (omega arith) in
     let all = stored_along v p held (x - e.0) e.0 kept (omega arith) (λ y above within. wanted y above (omega arith)) in
     let t = replays (program_at v.programs p) p n (process_of c.0) (take e.0 (history v p)) all.0 whole all.3 in
@@ -298,14 +298,14 @@ replayed_at w p held core h s lt news at own size r =
     let kept = s.stored p held at in
     let first = r.all.begins.stored in
     let least = r.all.begins.effective.within in
-    let d = kept.checkpoints r.checkpoint.interval first.bytes (omega arith) first.stands in
+    let d = kept.checkpoints r.checkpoint.head.interval first.bytes (omega arith) first.stands in
     let is : d.0 ≡ r.checkpoint = one_reading d.0 r.checkpoint first.bytes d.1 first.spelled in
-    let from : CheckpointOf (program_at v.programs p) p n (process_of r.checkpoint) (take r.checkpoint.interval (history v p)) = subst (λ c. CheckpointOf (program_at v.programs p) p n (process_of c) (take r.checkpoint.interval (history v p))) is d.4.1 in
+    let from : CheckpointOf (program_at v.programs p) p n (process_of r.checkpoint) (take r.checkpoint.head.interval (history v p)) = subst (λ c. CheckpointOf (program_at v.programs p) p n (process_of c) (take r.checkpoint.head.interval (history v p))) is d.4.1 in
     let within : KeptWithin v p (process_of r.checkpoint).queues = subst (λ c. KeptWithin v p (process_of c).queues) is d.5 in
     let mine : Replayed p n (process_of r.checkpoint) r.receipts core.now = subst (λ o. Replayed o n (process_of r.checkpoint) r.receipts core.now) own (subst (λ k. Replayed core.own k (process_of r.checkpoint) r.receipts core.now) size r.replayed) in
     let far = r.last in
-    let all : take r.checkpoint.interval (history v p) ++ receipts_of r.receipts ≡ history v p = read_along v p held r.checkpoint.interval r.receipts kept (omega arith) r.stored ∙ take_all (r.checkpoint.interval + length r.receipts) (history v p) (omega arith) in (
-      subst (CheckpointOf (program_at v.programs p) p n core.now) all (replayed_along (program_at v.programs p) p n (process_of r.checkpoint) core.now (take r.checkpoint.interval (history v p)) r.receipts from mine),
+    let all : take r.checkpoint.head.interval (history v p) ++ receipts_of r.receipts ≡ history v p = read_along v p held r.checkpoint.head.interval r.receipts kept (omega arith) r.stored ∙ take_all (r.checkpoint.head.interval + length r.receipts) (history v p) (omega arith) in (
+      subst (CheckpointOf (program_at v.programs p) p n core.now) all (replayed_along (program_at v.programs p) p n (process_of r.checkpoint) core.now (take r.checkpoint.head.interval (history v p)) r.receipts from mine),
       kept_grown v p (process_of r.checkpoint).interval (process_of r.checkpoint).queues core.now.queues (leads_grow p n (receipts_of r.receipts) (process_of r.checkpoint) core.now (replay_leads p n r.receipts (process_of r.checkpoint) core.now mine)).1 within,
     )
   where

@@ -95,7 +95,7 @@ impl<S: Stable> World<S> {
 }
 
 impl<S: Stable> World<S> {
-    /// Takes a process down, and declares its failure where that is due.
+    // Takes a process down, and declares its failure where that is due.
     pub(crate) fn fail(&mut self, alloc: Global, p: usize) -> Result<Answer, Refusal>
         ensures happened { IsKnown self.new → Happened self.old (Event.Fail p) (answered result) self.new }
         ensures keeps { Keeps self.old self.new }

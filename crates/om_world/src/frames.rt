@@ -106,7 +106,7 @@ impl<S: Stable> World<S> {
         Ok(sent)
     }
 
-    /// Makes each message that a process keeps a new frame.
+    // Makes each message that a process keeps a new frame.
     pub(crate) fn resend(&mut self, alloc: Global, p: usize) -> Result<Answer, Refusal>
         ensures happened { Happened self.old (Event.Resend p) (answered result) self.new }
         ensures keeps { Keeps self.old self.new }

@@ -39,7 +39,7 @@ fn offer_at(cores: &mut Vec<Option<ProcCore>>, p: usize, alloc: Global, message:
 }
 
 impl<S: Stable> World<S> {
-    /// Offers a frame to a process.
+    // Offers a frame to a process.
     pub(crate) fn give(&mut self, alloc: Global, p: usize, f: usize) -> Result<Answer, Refusal>
         ensures happened { Happened self.old (Event.Give p f) (answered result) self.new }
         ensures keeps { Keeps self.old self.new }

@@ -77,8 +77,8 @@ impl<S: Stable> World<S> {
 }
 
 impl<S: Stable> World<S> {
-    /// Stores the volatile log of a process, notes its pending rows and hands its outputs in, and then takes it into the
-    /// gathering.
+    // Stores the volatile log of a process, notes its pending rows and hands its outputs in, and then takes it into the
+    // gathering.
     pub(crate) fn join(&mut self, alloc: Global, p: usize) -> Result<Answer, Refusal>
         ensures happened { IsKnown self.new → Happened self.old (Event.Join p) (answered result) self.new }
         ensures keeps { Keeps self.old self.new }

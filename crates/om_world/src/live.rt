@@ -9,7 +9,7 @@ use om_interval::{DepVec, MAX_PROCESSES};
 use std::alloc::{AllocError, Global};
 use std::marker::Model;
 
-/// What was received and not cut, in order. A cut costs what stands behind the first entry that is cut, and no more.
+// What was received and not cut, in order. A cut costs what stands behind the first entry that is cut, and no more.
 #[derive(Drop)]
 pub(crate) struct Live {
     entries: Vec<Entry>,

@@ -71,7 +71,7 @@ impl<S: Stable> World<S> {
         Ok(())
     }
 
-    /// Drops what the manager need not keep, and then from each store what stands before its effective checkpoint.
+    // Drops what the manager need not keep, and then from each store what stands before its effective checkpoint.
     pub(crate) fn prune(&mut self, alloc: Global) -> Result<Answer, Refusal>
         ensures happened { IsKnown self.new → Happened self.old Event.Prune (answered result) self.new }
         ensures keeps { Keeps self.old self.new }

@@ -165,7 +165,7 @@ impl<S: Stable> World<S> {
 }
 
 impl<S: Stable> World<S> {
-    /// Runs a process that is up. Its new messages become frames, and its outputs are handed in.
+    // Runs a process that is up. Its new messages become frames, and its outputs are handed in.
     pub(crate) fn run(&mut self, alloc: Global, p: usize, fuel: u64) -> Result<Answer, Refusal>
         ensures happened { IsKnown self.new → Happened self.old (Event.Run p fuel) (answered result) self.new }
         ensures keeps { Keeps self.old self.new }

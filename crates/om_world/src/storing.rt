@@ -118,7 +118,7 @@ impl<S: Stable> World<S> {
 }
 
 impl<S: Stable> World<S> {
-    /// Stores what a process keeps of a kind, and notes its pending rows.
+    // Stores what a process keeps of a kind, and notes its pending rows.
     pub(crate) fn record(
         &mut self,
         alloc: Global,

@@ -25,7 +25,7 @@ fn trim_at(cores: &mut Vec<Option<ProcCore>>, p: usize, bounds: &Bounds)
 }
 
 impl<S: Stable> World<S> {
-    /// Drops what the manager says that a process need not keep.
+    // Drops what the manager says that a process need not keep.
     pub(crate) fn trim(&mut self, p: usize) -> Result<Answer, Refusal>
         ensures happened { Happened self.old (Event.Trim p) (answered result) self.new }
         ensures keeps { Keeps self.old self.new }

@@ -14,7 +14,7 @@ use om_commands::sim::sim;
 use om_commands::{CommandError, InMemory};
 use om_isa::Ext;
 use om_text::{long_number_of, number_of};
-use std::alloc::Global;
+use std::alloc::{AllocError, Global};
 use std::io::Write;
 use std::process::ExitCode;
 use std::rt::Runtime;
@@ -244,14 +244,23 @@ fn chosen<'a>(alloc: Global, words: &'a [String]) -> Result<Request<'a>, Error> 
     let mut command = command(alloc)?;
     let matches = command.try_get_matches_from_mut(words)?;
     let Some((name, found)) = matches.subcommand() else {
-        return Err(command.error(ErrorKind::MissingSubcommand, "a subcommand is missing")?);
+        let what = "a subcommand is missing";
+        return Err(mistake(&mut command, ErrorKind::MissingSubcommand, what));
     };
     match request_of(name, found) {
         Some(request) => Ok(request),
-        None => Err(command.error(
-            ErrorKind::ValueValidation,
-            "INTERVAL is a number of 32 bits, and K one of 64 bits",
-        )?),
+        None => {
+            let what = "INTERVAL is a number of 32 bits, and K one of 64 bits";
+            Err(mistake(&mut command, ErrorKind::ValueValidation, what))
+        }
+    }
+}
+
+// The error of a mistake in the arguments, or of want of memory for it.
+fn mistake(command: &mut Command<'_>, kind: ErrorKind, what: &str) -> Error {
+    match command.error(kind, what) {
+        Ok(error) => error,
+        Err(refused) => Error::from(refused),
     }
 }
 
@@ -293,31 +302,40 @@ fn run_request<'a>(turns: Option<&'a str>, prefix: Option<&'a str>) -> Option<Re
     Some(Request::Run { turns, prefix })
 }
 
-fn command<'a>(alloc: Global) -> Result<Command<'a>, Error> {
+fn command<'a>(alloc: Global) -> Result<Command<'a>, AllocError> {
     let command = Command::new(alloc, "omlog")
         .bin_name("omlog")?
         .about(
             "Recovery states of message-passing programs, from the records that their processes keep",
         )
-        .subcommand_required(true)
-        .subcommand(decode_command(alloc)?)?
-        .subcommand(frontier_command(alloc))?
-        .subcommand(sim_command(alloc))?
-        .subcommand(run_command(alloc)?)?
-        .subcommand(replay_command(alloc)?)?;
-    Ok(command)
+        .subcommand_required(true);
+    with_clusters(alloc, with_scripts(alloc, command)?)
 }
 
-fn decode_command<'a>(alloc: Global) -> Result<Command<'a>, Error> {
+// With the subcommands that read words, records or events.
+fn with_scripts<'a>(alloc: Global, command: Command<'a>) -> Result<Command<'a>, AllocError> {
+    command
+        .subcommand(decode_command(alloc)?)?
+        .subcommand(frontier_command(alloc))?
+        .subcommand(sim_command(alloc))
+}
+
+// With those that run clusters, and look into what they stored.
+fn with_clusters<'a>(alloc: Global, command: Command<'a>) -> Result<Command<'a>, AllocError> {
+    command
+        .subcommand(run_command(alloc)?)?
+        .subcommand(replay_command(alloc)?)
+}
+
+fn decode_command<'a>(alloc: Global) -> Result<Command<'a>, AllocError> {
     let with_m = Arg::new(alloc, M)
         .long(M)
         .help("Read the instructions of RV32M too")
         .action(ArgAction::SetTrue);
-    let command = Command::new(alloc, DECODE)
+    Command::new(alloc, DECODE)
         .about("The texts of the instructions that words of RV32I stand for")
         .after_help(DECODE_HELP)
-        .arg(with_m)?;
-    Ok(command)
+        .arg(with_m)
 }
 
 fn frontier_command<'a>(alloc: Global) -> Command<'a> {
@@ -332,7 +350,7 @@ fn sim_command<'a>(alloc: Global) -> Command<'a> {
         .after_help(SIM_HELP)
 }
 
-fn run_command<'a>(alloc: Global) -> Result<Command<'a>, Error> {
+fn run_command<'a>(alloc: Global) -> Result<Command<'a>, AllocError> {
     let turns = Arg::new(alloc, TURNS).long(TURNS).value_name("K").help(
         "The most turns of each process, a number of 64 bits [default: 50000000]",
     );
@@ -340,27 +358,25 @@ fn run_command<'a>(alloc: Global) -> Result<Command<'a>, Error> {
         .long(STORE)
         .value_name("PREFIX")
         .help("Keep the stores in files");
-    let command = Command::new(alloc, RUN)
+    Command::new(alloc, RUN)
         .about("Logged processes that run in threads, fail and recover")
         .after_help(RUN_HELP)
         .arg(turns)?
-        .arg(store)?;
-    Ok(command)
+        .arg(store)
 }
 
-fn replay_command<'a>(alloc: Global) -> Result<Command<'a>, Error> {
+fn replay_command<'a>(alloc: Global) -> Result<Command<'a>, AllocError> {
     let file = Arg::new(alloc, FILE)
         .help("The store of the process")
         .required(true);
     let interval = Arg::new(alloc, INTERVAL)
         .help("The interval, 0 to 4294967295")
         .required(true);
-    let command = Command::new(alloc, REPLAY)
+    Command::new(alloc, REPLAY)
         .about("The state of a process in an interval, from its store")
         .after_help(REPLAY_HELP)
         .arg(file)?
-        .arg(interval)?;
-    Ok(command)
+        .arg(interval)
 }
 
 // Ends a command. An error goes to standard error as one line; where that cannot be written, the status tells it alone.

@@ -12,13 +12,13 @@ use std::process::Abort;
 // A first checkpoint is read, and is spelled in version 2; and so is that of a machine with the M extension.
 fn assert_first(rt: &impl Abort, alloc: Global, bytes: &[u8], newer: &[u8]) {
     let checkpoint = checkpoint_of(rt, alloc, bytes);
-    let told = (checkpoint.ext, checkpoint.memory.as_slice());
+    let told = (checkpoint.head.ext, checkpoint.memory.as_slice());
     assert_eq!(rt; told, (Ext::I, [0x73, 0x00, 0x10, 0x00].as_slice()));
     assert_eq!(rt; spelled(rt, alloc, &checkpoint).as_slice(), newer);
     assert_whole(rt, alloc, bytes);
     let other = with_byte(rt, alloc, bytes, 0, 0x4D);
     let checkpoint = checkpoint_of(rt, alloc, &other);
-    assert_eq!(rt; checkpoint.ext, Ext::Im);
+    assert_eq!(rt; checkpoint.head.ext, Ext::Im);
     let wanted = with_byte(rt, alloc, newer, 0, 0x4D);
     assert_eq!(rt; spelled(rt, alloc, &checkpoint), wanted);
 }
@@ -144,7 +144,7 @@ fn has_entries(queue: &Queue, first: u64, wanted: &[(u32, &[u8])]) -> bool {
 // Whether each byte of register i is i.
 fn has_registers(checkpoint: &Checkpoint) -> bool {
     let mut register = 0x0101_0101;
-    for value in checkpoint.regs {
+    for value in checkpoint.head.regs {
         if u64::from(value) != register {
             return false;
         }
@@ -155,12 +155,8 @@ fn has_registers(checkpoint: &Checkpoint) -> bool {
 
 // The fields that the two checkpoints with entries share.
 fn assert_fields(rt: &impl Abort, checkpoint: &Checkpoint) {
-    let told = (
-        checkpoint.interval,
-        checkpoint.count,
-        checkpoint.pc,
-        checkpoint.made,
-    );
+    let head = checkpoint.head;
+    let told = (head.interval, head.count, head.pc, head.made);
     assert_eq!(rt; told, (3, 20, 8, 2));
     assert!(rt; has_registers(checkpoint), "registers");
     assert!(rt;
@@ -174,11 +170,12 @@ fn checkpoints_with_entries_are_read_and_written(rt: HostRuntime) {
     let bytes = bytes_of(&rt, rt.alloc(), &WITH_ENTRIES);
     let checkpoint = checkpoint_of(&rt, rt.alloc(), &bytes);
     assert_fields(&rt, &checkpoint);
-    assert_eq!(rt; (bytes.len(), checkpoint.pid.index()), (234, 0));
+    let head = checkpoint.head;
+    assert_eq!(rt; (bytes.len(), head.pid.index()), (234, 0));
     let told = [
-        checkpoint.vec.as_slice(),
-        checkpoint.got.as_slice(),
-        checkpoint.sent.as_slice(),
+        head.vec.as_slice(),
+        head.got.as_slice(),
+        head.sent.as_slice(),
     ];
     assert_eq!(rt; told, [[3, 1].as_slice(), &[1, 2], &[1, 4]]);
     let memory = [0x73, 0x00, 0x10, 0x00, 0, 0, 0, 0];
@@ -213,7 +210,8 @@ fn checkpoints_of_16_processes_are_read_and_written(rt: HostRuntime) {
     let bytes = bytes_of(&rt, rt.alloc(), &OF_16_PROCESSES);
     let checkpoint = checkpoint_of(&rt, rt.alloc(), &bytes);
     assert_fields(&rt, &checkpoint);
-    let told = (checkpoint.ext, checkpoint.pid.index(), checkpoint.vec.n());
+    let head = checkpoint.head;
+    let told = (head.ext, head.pid.index(), head.vec.n());
     assert_eq!(rt; (bytes.len(), told), (800, (Ext::Im, 15, 16)));
     let are_kept = match checkpoint.kept.as_slice() {
         [zero, one, two, rest @ ..] => {

@@ -3,6 +3,7 @@ use Rattle.std.specs.Prelude.{ℕ, ◌<◌, ◌^◌, List, [], ◌∷◌, ◌++�
 use Rattle.std.specs.List.{flat_map}
 use Rattle.std.specs.Int.{w16, w32, w64, to_le_bytes}
 use Rattle.om_format.specs.declared.version.Version.TheVariants.{V2}
+use Rattle.om_format.specs.declared.head.Head.{Head}
 use Rattle.om_format.specs.declared.queue.Entry.{Entry}
 use Rattle.om_format.specs.Formats.{four}
 use Rattle.om_format.specs.Spelling.{numbers}
@@ -11,15 +12,15 @@ use Rattle.om_format.specs.Pages.{Page, kept_pages}
 use Rattle.om_format.specs.Versions.{kind_of, version_number}
 use Rattle.om_format.specs.Checkpoints.{CheckpointRecord}
 
--- the fields before the registers
-abbrev pub head_bytes : CheckpointRecord → List ℕ
-head_bytes r =
-    (kind_of r.ext ∷ version_number V2 ∷ r.n ∷ r.pid ∷ []) ++ to_le_bytes w32 r.interval
-    ++ to_le_bytes w64 r.count ++ to_le_bytes w32 r.pc
+-- the fields before the registers, of n processes
+abbrev pub head_bytes : ℕ → Head → List ℕ
+head_bytes n h =
+    (kind_of h.ext ∷ version_number V2 ∷ n ∷ h.pid ∷ []) ++ to_le_bytes w32 h.interval
+    ++ to_le_bytes w64 h.count ++ to_le_bytes w32 h.pc
 
 -- the registers and the vectors
-abbrev pub vector_bytes : CheckpointRecord → List ℕ
-vector_bytes r = numbers four r.regs ++ numbers four r.vec ++ numbers four r.got ++ numbers four r.sent
+abbrev pub vector_bytes : Head → List ℕ
+vector_bytes h = numbers four h.regs ++ numbers four h.vec ++ numbers four h.got ++ numbers four h.sent
 
 -- a page that is kept
 abbrev pub page_bytes : Page → List ℕ
@@ -50,16 +51,16 @@ AreWords numbers = (i : ℕ) → slice_index numbers i < 2 ^ 32
 -- all of them
 abbrev pub checkpoint_bytes : CheckpointRecord → List ℕ
 checkpoint_bytes r =
-    head_bytes r ++ vector_bytes r ++ memory_bytes r.made r.memory ++ flat_map message_bytes r.kept
+    head_bytes r.n r.head ++ vector_bytes r.head ++ memory_bytes r.head.made r.memory ++ flat_map message_bytes r.kept
     ++ output_bytes r.outputs
 
 -- the numbers of a checkpoint are within their types
-pub record AreWithin (r : CheckpointRecord) : Type 0 where
-  pub interval : r.interval < 2 ^ 32
-  pub count : r.count < 2 ^ 64
-  pub pc : r.pc < 2 ^ 32
-  pub regs : AreWords r.regs
-  pub vec : AreWords r.vec
-  pub got : AreWords r.got
-  pub sent : AreWords r.sent
-  pub made : r.made < 2 ^ 64
+pub record AreWithin (h : Head) : Type 0 where
+  pub interval : h.interval < 2 ^ 32
+  pub count : h.count < 2 ^ 64
+  pub pc : h.pc < 2 ^ 32
+  pub regs : AreWords h.regs
+  pub vec : AreWords h.vec
+  pub got : AreWords h.got
+  pub sent : AreWords h.sent
+  pub made : h.made < 2 ^ 64

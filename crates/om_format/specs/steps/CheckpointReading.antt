@@ -6,9 +6,7 @@ use Rattle.om_format.specs.declared.limits.TheConstants.{PAGE}
 use Rattle.om_isa.specs.declared.registers.TheConstants.{WRITABLE_REGISTERS}
 use Rattle.om_format.specs.declared.version.Version.{Version}
 use Rattle.om_format.specs.declared.version.Version.TheVariants.{V1, V2}
-use Rattle.om_format.specs.declared.checkpoint_reading.Head.{Head}
 use Rattle.om_format.specs.declared.checkpoint_reading.Front.{Front}
-use Rattle.om_format.specs.declared.checkpoint_reading.Vectors.{Vectors}
 use Rattle.om_format.specs.declared.queue.Entry.{Entry}
 use Rattle.om_format.specs.Formats.{Size, one, two, four, eight, bytes_in}
 use Rattle.om_format.specs.Queues.{QueueRecord, is_between}
@@ -36,34 +34,15 @@ progress_at bytes = do
   is_aligned ← allow (pc.0 % 4 == 0) (Field 16)
   Ok (interval.0, count.0, pc.0, pc.1)
 
--- the fields before the registers
-unfoldable pub head_at : List ℕ → Result (Head × List ℕ) DecodeError
-head_at bytes = do
-  opened ← opening_at is_kind is_version bytes
-  place ← place_at (version_of opened.1) opened.2
-  progress ← progress_at place.2
-  Ok (
-    record {
-      ext = ext_of opened.0;
-      version = version_of opened.1;
-      n = place.0;
-      pid = place.1;
-      interval = progress.0;
-      count = progress.1;
-      pc = progress.2;
-    },
-    progress.3,
-  )
-
--- the dependency vector, the numbers got and the numbers sent
-unfoldable pub vectors_at : ℕ → ℕ → ℕ → List ℕ → Result (Vectors × List ℕ) DecodeError
+-- the dependency vector, the numbers got and the numbers sent, and the bytes after them
+unfoldable pub vectors_at : ℕ → ℕ → ℕ → List ℕ → Result (List ℕ × List ℕ × List ℕ × List ℕ) DecodeError
 vectors_at n pid interval bytes = do
   vec ← numbers_at four n bytes
   is_own ← allow (slice_index vec.0 pid == interval) (Field 144)
   got ← numbers_at four n vec.1
   is_sum ← allow (sum got.0 == interval) (Field (144 + 4 * n))
   sent ← numbers_at four n got.1
-  Ok (record { vec = vec.0; got = got.0; sent = sent.0 }, sent.1)
+  Ok (vec.0, got.0, sent.0, sent.1)
 
 -- how many outputs were made, the size of the memory, and the bytes after them
 unfoldable pub made_at : ℕ → ℕ → List ℕ → Result (ℕ × ℕ × List ℕ) DecodeError
@@ -77,16 +56,28 @@ made_at n count bytes = do
 -- the fields before the memory
 unfoldable pub front_at : List ℕ → Result (Front × List ℕ) DecodeError
 front_at bytes = do
-  head ← head_at bytes
-  regs ← numbers_at four WRITABLE_REGISTERS head.1
-  vectors ← vectors_at head.0.n head.0.pid head.0.interval regs.1
-  made ← made_at head.0.n head.0.count vectors.1
+  opened ← opening_at is_kind is_version bytes
+  place ← place_at (version_of opened.1) opened.2
+  progress ← progress_at place.2
+  regs ← numbers_at four WRITABLE_REGISTERS progress.3
+  vectors ← vectors_at place.0 place.1 progress.0 regs.1
+  made ← made_at place.0 progress.1 vectors.3
   Ok (
     record {
-      head = head.0;
-      regs = regs.0;
-      vectors = vectors.0;
-      made = made.0;
+      version = version_of opened.1;
+      n = place.0;
+      head = record {
+        ext = ext_of opened.0;
+        pid = place.1;
+        interval = progress.0;
+        count = progress.1;
+        pc = progress.2;
+        regs = regs.0;
+        vec = vectors.0;
+        got = vectors.1;
+        sent = vectors.2;
+        made = made.0;
+      };
       size = made.1;
     },
     made.2,
@@ -162,34 +153,19 @@ queues_at newest (stop ∷ stops) offset bytes = do
 -- the memory and the queues behind these fields
 unfoldable pub rest_at : Front → List ℕ → Result (List ℕ × List QueueRecord × QueueRecord) DecodeError
 rest_at f bytes = do
-  memory ← memory_at f.head.version f.size (156 + 12 * f.head.n) bytes
-  kept ← queues_at f.head.interval f.vectors.sent memory.1 memory.2
-  outputs ← queue_at eight f.head.interval f.made kept.1 kept.2
+  memory ← memory_at f.version f.size (156 + 12 * f.n) bytes
+  kept ← queues_at f.head.interval f.head.sent memory.1 memory.2
+  outputs ← queue_at eight f.head.interval f.head.made kept.1 kept.2
   ended ← end_at outputs.2
   Ok (memory.0, kept.0, outputs.0)
 
 -- the checkpoint of these fields
 abbrev pub checkpoint_of : Front → List ℕ → List QueueRecord → QueueRecord → CheckpointRecord
-checkpoint_of f memory kept outputs = record {
-  ext = f.head.ext;
-  n = f.head.n;
-  pid = f.head.pid;
-  interval = f.head.interval;
-  count = f.head.count;
-  pc = f.head.pc;
-  regs = f.regs;
-  vec = f.vectors.vec;
-  got = f.vectors.got;
-  sent = f.vectors.sent;
-  made = f.made;
-  memory = memory;
-  kept = kept;
-  outputs = outputs;
-}
+checkpoint_of f memory kept outputs = record { n = f.n; head = f.head; memory = memory; kept = kept; outputs = outputs }
 
 -- a whole checkpoint, and its version
 unfoldable pub checkpoint_at : List ℕ → Result (Version × CheckpointRecord) DecodeError
 checkpoint_at bytes = do
   f ← front_at bytes
   r ← rest_at f.0 f.1
-  Ok (f.0.head.version, checkpoint_of f.0 r.0 r.1 r.2)
+  Ok (f.0.version, checkpoint_of f.0 r.0 r.1 r.2)

@@ -61,7 +61,7 @@ RefusesRows own n s rows fault =
 
 -- why bytes are no checkpoint of this interval
 abbrev pub RefusesCheckpoint : ℕ → List ℕ → ReplayFault → Type 0
-RefusesCheckpoint y bytes (Damaged z) = (z ≡ y) × ((c : CheckpointRecord) → IsSpelled c bytes → c.interval ≡ y → ⊥)
+RefusesCheckpoint y bytes (Damaged z) = (z ≡ y) × ((c : CheckpointRecord) → IsSpelled c bytes → c.head.interval ≡ y → ⊥)
 RefusesCheckpoint y bytes Memory = Unit {0}
 RefusesCheckpoint y bytes _ = ⊥
 
@@ -76,35 +76,35 @@ RefusesStart held x _ = ⊥
 -- from this checkpoint by these receipts process own of n is in this state, right before receipt y, which stands at or below x
 pub record ComesFrom (held : Content) (x : ℕ) (c : CheckpointRecord) (y : ℕ) (s : Process) : Type 0 where
   pub receipts : List ReceiptRecord
-  pub stored : AreReceiptsAfter held.receipts c.interval receipts
-  pub next : y ≡ c.interval + length receipts + 1
+  pub stored : AreReceiptsAfter held.receipts c.head.interval receipts
+  pub next : y ≡ c.head.interval + length receipts + 1
   pub within : y ≤ x
-  pub replayed : Replayed c.pid c.n (process_of c) receipts s
+  pub replayed : Replayed c.head.pid c.n (process_of c) receipts s
 
 -- no receipt up to x is missing
 abbrev pub HasReceipts : Content → ℕ → CheckpointRecord → Type 0
-HasReceipts held x c = (y : ℕ) → c.interval < y → y ≤ x → IsSome (get held.receipts y)
+HasReceipts held x c = (y : ℕ) → c.head.interval < y → y ≤ x → IsSome (get held.receipts y)
 
 -- why a replay to x that begins with this checkpoint ends there
 abbrev pub RefusesFrom : Content → ℕ → CheckpointRecord → ReplayFault → Type 0
 RefusesFrom held x c NoCheckpoint = ⊥
 RefusesFrom held x c (MissingReceipt y) =
-    (c.interval < y) × (y ≤ x) × (get held.receipts y ≡ None)
-    × ((z : ℕ) → c.interval < z → z < y → IsSome (get held.receipts z))
+    (c.head.interval < y) × (y ≤ x) × (get held.receipts y ≡ None)
+    × ((z : ℕ) → c.head.interval < z → z < y → IsSome (get held.receipts z))
 RefusesFrom held x c (Damaged y) =
     HasReceipts held x c × ((s : Process) × ComesFrom held x c y s × ((r : ReceiptRecord) → IsReceiptAt held.receipts y r → ⊥))
 RefusesFrom held x c (Mismatch y) =
     HasReceipts held x c
-    × ((s : Process) × ComesFrom held x c y s × (r : ReceiptRecord) × IsReceiptAt held.receipts y r × DoesNotFit c.pid c.n s r)
+    × ((s : Process) × ComesFrom held x c y s × (r : ReceiptRecord) × IsReceiptAt held.receipts y r × DoesNotFit c.head.pid c.n s r)
 RefusesFrom held x c Fault = Unit {0}
 RefusesFrom held x c Memory = Unit {0}
 
 -- the core is what is replayed to x from this checkpoint
 pub record IsReplayFrom (held : Content) (x : ℕ) (c : CheckpointRecord) (core : CoreState) : Type 0 where
   pub all : HasReceipts held x c
-  pub own : core.own ≡ c.pid
+  pub own : core.own ≡ c.head.pid
   pub size : size_of core.now ≡ c.n
   pub receipts : List ReceiptRecord
-  pub stored : AreReceiptsAfter held.receipts c.interval receipts
-  pub last : x ≡ c.interval + length receipts
-  pub replayed : Replayed c.pid c.n (process_of c) receipts core.now
+  pub stored : AreReceiptsAfter held.receipts c.head.interval receipts
+  pub last : x ≡ c.head.interval + length receipts
+  pub replayed : Replayed c.head.pid c.n (process_of c) receipts core.now

@@ -53,7 +53,7 @@ KeptWithin w p qs = (q : ℕ) (queue : QueueRecord) → slice_get qs q ≡ Some 
 -- what a store has up to the process's interval is true
 pub record IsStored (w : Past) (p : ℕ) (held : Content) : Type 0 where
   pub checkpoints : (x : ℕ) (bytes : List ℕ) → x ≤ length (history w p) → get held.checkpoints x ≡ Some bytes
-      → (c : CheckpointRecord) × IsSpelled c bytes × (c.pid ≡ p) × (c.n ≡ length w.programs)
+      → (c : CheckpointRecord) × IsSpelled c bytes × (c.head.pid ≡ p) × (c.n ≡ length w.programs)
       × AtInterval (history w p) x (CheckpointOf (program_at w.programs p) p (length w.programs) (process_of c))
       × KeptWithin w p (process_of c).queues
   pub receipts : (x : ℕ) (bytes : List ℕ) → 1 ≤ x → x ≤ length (history w p) → get held.receipts x ≡ Some bytes

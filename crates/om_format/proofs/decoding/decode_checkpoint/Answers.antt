@@ -14,14 +14,14 @@ use Rattle.om_format.proofs.decoding.decode_checkpoint.Goals as goal
 abbrev second : Result (Version × CheckpointRecord) DecodeError → Result CheckpointRecord DecodeError
 second r = r >>= λ x. Ok x.1
 
-pub fitted-requires-clause-fits : goal.fitted-requires-clause-fits
-fitted-requires-clause-fits c =
+pub fitted-requires : goal.fitted-requires
+fitted-requires c =
     fit_together c.args.bytes.now c.in-Ok.behind.now c.in-Ok.front c.in-Ok-rest_at.rest.memory (map queue_record c.in-Ok-rest_at.rest.kept.items) (queue_record c.in-Ok-rest_at.rest.outputs) c.in-Ok.ensures.exact c.in-Ok-rest_at.ensures.exact
 
 pub returns-in-Ok-rest_at-clause-found : goal.returns-in-Ok-rest_at-clause-found
 returns-in-Ok-rest_at-clause-found c =
     let read = parts_are c.args.bytes.now c.in-Ok.front c.in-Ok.behind.now _ c.in-Ok.ensures.exact c.in-Ok-rest_at.ensures.exact in
-    subst (λ (r : CheckpointRecord). IsSpelled r c.args.bytes.now) (sym c.fitted.ensures) (c.in-Ok.front.head.version, checkpoint_found c.args.bytes.now _ (λ i. omega (arith, c.type_inv.bytes i)) read)
+    subst (λ (r : CheckpointRecord). IsSpelled r c.args.bytes.now) (sym c.fitted.ensures) (c.in-Ok.front.version, checkpoint_found c.args.bytes.now _ (λ i. omega (arith, c.type_inv.bytes i)) read)
 
 pub returns-in-Ok-rest_at-clause-only : goal.returns-in-Ok-rest_at-clause-only
 returns-in-Ok-rest_at-clause-only c = λ version r spelled.

@@ -8,5 +8,5 @@ returns-in-Err-clause-refused c = checkpoint_damaged c.args.c c.args.bytes.now c
 
 pub returns-else-checkpoint-c-clause-refused : goal.returns-else-checkpoint-c-clause-refused
 returns-else-checkpoint-c-clause-refused c =
-    let other : c.in-Ok.checkpoint.interval ≢ c.args.c = search rules in
+    let other : c.in-Ok.checkpoint.head.interval ≢ c.args.c = search rules in
     (refl, λ r spelled at. names_another c.args.c (checkpoint_record c.in-Ok.checkpoint) r _ _ refl refl (c.in-Ok.ensures.only spelled.0 r spelled.1) other at)

@@ -19,20 +19,20 @@ returns-in_err-checkpoint-clause-refused g c =
 
 pub returns-then-ne-clause-refused : goal.returns-then-ne-clause-refused
 returns-then-ne-clause-refused g c =
-    let other : c.in_ok-checkpoint.checkpoint.pid ≢ c.args.self.now.pid = search rules in
+    let other : c.in_ok-checkpoint.checkpoint.head.pid ≢ c.args.self.now.pid = search rules in
     λ known.
     another_process (TheProcess c.args.self.now.pid c.args.self.now.n) (g.S.Stable.content c.args.store.now) c.args.x (checkpoint_record c.in_ok-checkpoint.checkpoint) (c.in_ok-checkpoint.ensures.begins known) (λ meant. other meant.0)
 
 pub returns-then-n-self-clause-refused : goal.returns-then-n-self-clause-refused
 returns-then-n-self-clause-refused g c =
-    let other : length c.in_ok-checkpoint.checkpoint.vec ≢ c.args.self.now.n = search rules in
+    let other : length c.in_ok-checkpoint.checkpoint.head.vec ≢ c.args.self.now.n = search rules in
     λ known.
     another_process (TheProcess c.args.self.now.pid c.args.self.now.n) (g.S.Stable.content c.args.store.now) c.args.x (checkpoint_record c.in_ok-checkpoint.checkpoint) (c.in_ok-checkpoint.ensures.begins known) (λ meant. other meant.1)
 
 pub returns-clause-refused : goal.returns-clause-refused
 returns-clause-refused g c =
-    let own : c.in_ok-checkpoint.checkpoint.pid ≡ c.args.self.now.pid = search rules in
-    let size : length c.in_ok-checkpoint.checkpoint.vec ≡ c.args.self.now.n = search rules in
+    let own : c.in_ok-checkpoint.checkpoint.head.pid ≡ c.args.self.now.pid = search rules in
+    let size : length c.in_ok-checkpoint.checkpoint.head.vec ≡ c.args.self.now.n = search rules in
     let Meant = TheProcess c.args.self.now.pid c.args.self.now.n in
     λ known.
     let held = g.S.Stable.content c.args.store.now in

@@ -13,12 +13,12 @@ returns-in-Some-clause-refused g c = λ known le.
     let rows = rows_of c.in-Ok.found.items in
     let is = c.in-Ok.ensures.found known in
     missing_from held c.args.x (checkpoint_record c.args.checkpoint) rows c.in-Some.y is
-    (c.in-Some.ensures.some (found_ascend held.receipts c.args.checkpoint.interval c.args.x rows is le))
+    (c.in-Some.ensures.some (found_ascend held.receipts c.args.checkpoint.head.interval c.args.x rows is le))
 
 pub returns-in_err-repeat_all-clause-refused : goal.returns-in_err-repeat_all-clause-refused
 returns-in_err-repeat_all-clause-refused g c =
     let same : c.from_residual-in_err-repeat_all.result ≡ Err c.in_err-repeat_all.field-0.0 = search rules in
-    let long : c.args.checkpoint.interval + length (rows_of c.in-Ok.found.items) ≡ c.args.x = ap (λ k. c.args.checkpoint.interval + k) (length-map c.in-Ok.found.items _ ∙ sym c.in-Ok.found.ok.0) ∙ c.in_default.ensures.all in
+    let long : c.args.checkpoint.head.interval + length (rows_of c.in-Ok.found.items) ≡ c.args.x = ap (λ k. c.args.checkpoint.head.interval + k) (length-map c.in-Ok.found.items _ ∙ sym c.in-Ok.found.ok.0) ∙ c.in_default.ensures.all in
     λ known le.
     let held = g.S.Stable.content c.args.store.now in
     subst (λ r. IfErr r (λ fault. RefusesFrom held c.args.x (checkpoint_record c.args.checkpoint) fault)) (sym same)
@@ -26,7 +26,7 @@ returns-in_err-repeat_all-clause-refused g c =
 
 pub returns-clause-replayed : goal.returns-clause-replayed
 returns-clause-replayed g c =
-    let long : c.args.checkpoint.interval + length (rows_of c.in-Ok.found.items) ≡ c.args.x = ap (λ k. c.args.checkpoint.interval + k) (length-map c.in-Ok.found.items _ ∙ sym c.in-Ok.found.ok.0) ∙ c.in_default.ensures.all in
+    let long : c.args.checkpoint.head.interval + length (rows_of c.in-Ok.found.items) ≡ c.args.x = ap (λ k. c.args.checkpoint.head.interval + k) (length-map c.in-Ok.found.items _ ∙ sym c.in-Ok.found.ok.0) ∙ c.in_default.ensures.all in
     let replayed = c.in_ok-repeat_all.ensures.replayed in
     λ known le.
     let held = g.S.Stable.content c.args.store.now in
