@@ -54,8 +54,9 @@ checkpoint_format = front λ version interval sent made size.
 -- the values of these fields
 abbrev pub checkpoint_values : Version → CheckpointRecord → List (List ℕ)
 checkpoint_values version r =
-    (kind_of r.head.ext ∷ []) ∷ (version_number version ∷ []) ∷ (r.n ∷ []) ∷ (r.head.pid ∷ []) ∷ (r.head.interval ∷ []) ∷ (r.head.count ∷ [])
-    ∷ (r.head.pc ∷ []) ∷ r.head.regs ∷ r.head.vec ∷ r.head.got ∷ r.head.sent ∷ (r.head.made ∷ []) ∷ (length r.memory ∷ [])
+    (kind_of r.head.ext ∷ []) ∷ (version_number version ∷ []) ∷ (r.n ∷ []) ∷ (r.head.pid ∷ []) ∷ (r.head.interval ∷ [])
+    ∷ (r.head.count ∷ []) ∷ (r.head.pc ∷ []) ∷ r.head.regs ∷ r.head.vec ∷ r.head.got ∷ r.head.sent ∷ (r.head.made ∷ [])
+    ∷ (length r.memory ∷ [])
     ∷ (memory_values version r.memory ++ (flat_map queue_values r.kept ++ queue_values r.outputs))
 
 -- each queue ends at the number of messages sent, or of outputs made
