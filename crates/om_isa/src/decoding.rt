@@ -75,7 +75,7 @@ macro_rules! decode_rows {
 macro_rules! extension_rows {
     ([$i:ident] $($name:ident $ext:ident $text:tt $form:ident $codes:tt $effect:tt,)*) => {
         match *$i {
-            $(shape!($name $form a b c) => Ext::$ext,)*
+            $(Inst::$name { .. } => Ext::$ext,)*
         }
     };
 }
