@@ -1,14 +1,12 @@
 use om_interval::{Bounds, DepVec, MAX_PROCESSES, Pid, Starts, Tag, laws};
 use std::alloc::Global;
 use std::process::Abort;
-use std::test::Fail;
 
 #[test]
-fn processes_are_numbered_below_the_limit(rt: HostRuntime) -> Result<(), Fail> {
-    let last = Pid::new(15).ok_or("15 is a process")?;
+fn processes_are_numbered_below_the_limit(rt: HostRuntime) {
+    let last = Pid::new(15).expect(&rt, "a process");
     let told = (MAX_PROCESSES, last.index(), Pid::at(3).index());
     assert_eq!(rt; (told, Pid::new(16)), ((16, 15, 3), None));
-    Ok(())
 }
 
 // A vector with these places.
@@ -21,63 +19,74 @@ fn zeros(places: usize) -> Option<usize> {
     Some(DepVec::zeros(places)?.n())
 }
 
-fn is_vector(places: &[u32]) -> bool {
-    match DepVec::from_slice(places) {
-        Some(vector) => vector.as_slice() == places,
-        None => false,
-    }
+// Whether a vector of these places has them, None where there is none.
+fn keeps(places: &[u32]) -> Option<bool> {
+    Some(DepVec::from_slice(places)?.as_slice() == places)
 }
 
 const SEVENS: [u32; 17] = [7; 17];
 
-fn assert_lengths(rt: &impl Abort) {
-    let told = [zeros(0), zeros(1), zeros(16), zeros(17)];
-    assert_eq!(rt; told, [None, Some(1), Some(16), None]);
-    let told = [is_vector(&[]), is_vector(&SEVENS[..16]), is_vector(&SEVENS)];
-    assert_eq!(rt; told, [false, true, false]);
-    assert!(rt; DepVec::from_slice(&[]).is_none());
-    assert!(rt; DepVec::from_slice(&SEVENS).is_none());
+#[test]
+fn vectors_have_1_to_16_places(rt: HostRuntime) {
+    let lengths = [zeros(0), zeros(1), zeros(16), zeros(17)];
+    let are_kept = [keeps(&[]), keeps(&SEVENS[..16]), keeps(&SEVENS)];
+    assert_eq!(rt;
+        (lengths, are_kept),
+        ([None, Some(1), Some(16), None], [None, Some(true), None])
+    );
 }
 
-// The vector 0, 5, 9, made place by place.
-fn assert_changes(rt: &impl Abort) {
+// The vector 0, 5, 9, made place by place, and what stands at place 1.
+fn changed(rt: &impl Abort) -> (DepVec, u32) {
     let mut vector = DepVec::zeros(3).expect(rt, "3 places");
     assert_eq!(rt; vector.n(), 3);
     vector.set(Pid::at(1), 5);
     vector.join_tag(Pid::at(1), 4);
     vector.join_tag(Pid::at(2), 9);
-    assert_eq!(rt;
-        (vector.get(Pid::at(1)), vector.as_slice()),
-        (5, [0, 5, 9].as_slice())
-    );
-    assert!(rt; vector_of(rt, &[0, 5, 9]) == vector);
+    (vector, vector.get(Pid::at(1)))
 }
 
 #[test]
 fn vectors_are_read_and_changed_by_place(rt: HostRuntime) {
-    assert_lengths(&rt);
-    assert_changes(&rt);
-    for (low, high, want) in [
-        ([0, 5, 9].as_slice(), [0, 5, 9].as_slice(), true),
-        (&[0, 4, 9], &[0, 5, 9], true),
-        (&[1, 0, 0], &[0, 5, 9], false),
-        (&[0, 5, 10], &[0, 5, 9], false),
-        (&[0, 0], &[0, 5, 9], false),
-    ] {
-        let leq = vector_of(&rt, low).leq(&vector_of(&rt, high));
-        assert_eq!(rt; leq, want, "{low:?} and {high:?}");
+    let (vector, second) = changed(&rt);
+    let is_same = vector_of(&rt, &[0, 5, 9]) == vector;
+    assert_eq!(rt;
+        (second, vector.as_slice(), is_same),
+        (5, [0, 5, 9].as_slice(), true)
+    );
+}
+
+type Pair = (&'static [u32], &'static [u32], bool);
+
+// Two vectors, and whether each place of the first is at most that of the second.
+const PAIRS: [Pair; 5] = [
+    (&[0, 5, 9], &[0, 5, 9], true),
+    (&[0, 4, 9], &[0, 5, 9], true),
+    (&[1, 0, 0], &[0, 5, 9], false),
+    (&[0, 5, 10], &[0, 5, 9], false),
+    (&[0, 0], &[0, 5, 9], false),
+];
+
+fn assert_pair(rt: &impl Abort, (low, high, want): &Pair) {
+    let leq = vector_of(rt, low).leq(&vector_of(rt, high));
+    assert_eq!(rt; leq, *want, "{low:?} and {high:?}");
+}
+
+#[test]
+fn vectors_are_compared_by_place(rt: HostRuntime) {
+    for pair in &PAIRS {
+        assert_pair(&rt, pair);
     }
     laws::lower_vector_has_smaller_sum();
 }
 
 #[test]
-fn bounds_are_compared(rt: HostRuntime) -> Result<(), Fail> {
-    let got = DepVec::from_slice(&[3, 4]).ok_or("2 places")?;
+fn bounds_are_compared(rt: HostRuntime) {
+    let got = vector_of(&rt, &[3, 4]);
     let bounds = Bounds { got, released: 5 };
     let is_same = bounds == Bounds { got, released: 5 };
     let is_other = bounds == Bounds { got, released: 6 };
     assert_eq!(rt; (is_same, is_other), (true, false));
-    Ok(())
 }
 
 // The starts of two processes of which process 1 goes back to interval 4.
@@ -106,26 +115,44 @@ fn is_orphan(starts: &Starts, (pid, inc): (usize, u32), interval: u32) -> Option
     Some(starts.is_orphan(Pid::at(pid), Tag { inc, interval }))
 }
 
+type Start = ((usize, u32), (u32, Option<u64>));
+
+// A process and an incarnation, the newest one of the process, and where the first one starts.
+const STARTS: [Start; 5] = [
+    ((0, 0), (0, Some(0))),
+    ((0, 1), (0, None)),
+    ((1, 0), (1, Some(0))),
+    ((1, 1), (1, Some(5))),
+    ((1, 2), (1, None)),
+];
+
+fn assert_starts(rt: &impl Abort, starts: &Starts) {
+    for (place, told) in &STARTS {
+        assert_eq!(rt; start(starts, *place), Some(*told), "{place:?}");
+    }
+}
+
+type Orphan = ((usize, u32), u32, bool);
+
+// A process, an incarnation and an interval of it, and whether that is an orphan.
+const ORPHANS: [Orphan; 5] = [
+    ((1, 0), 4, false),
+    ((1, 0), 5, true),
+    ((1, 0), 6, true),
+    ((1, 1), 6, false),
+    ((0, 0), 6, false),
+];
+
+fn assert_orphans(rt: &impl Abort, starts: &Starts) {
+    for (place, interval, want) in &ORPHANS {
+        let told = is_orphan(starts, *place, *interval);
+        assert_eq!(rt; told, Some(*want), "{place:?} in {interval}");
+    }
+}
+
 #[test]
 fn incarnations_begin_above_the_state(rt: HostRuntime) {
     let starts = begun(&rt, rt.alloc());
-    for (place, told) in [
-        ((0, 0), (0, Some(0))),
-        ((0, 1), (0, None)),
-        ((1, 0), (1, Some(0))),
-        ((1, 1), (1, Some(5))),
-        ((1, 2), (1, None)),
-    ] {
-        assert_eq!(rt; start(&starts, place), Some(told), "{place:?}");
-    }
-    for (place, interval, want) in [
-        ((1, 0), 4, false),
-        ((1, 0), 5, true),
-        ((1, 0), 6, true),
-        ((1, 1), 6, false),
-        ((0, 0), 6, false),
-    ] {
-        let told = is_orphan(&starts, place, interval);
-        assert_eq!(rt; told, Some(want), "{place:?} in {interval}");
-    }
+    assert_starts(&rt, &starts);
+    assert_orphans(&rt, &starts);
 }

@@ -2,50 +2,63 @@ use om_isa::{
     Ext, FenceBits, Imm12, Inst, Off13, Off21, Reg, Shamt, Upper, WriteFault, decode, encode,
 };
 use std::alloc::Global;
-use std::test::Fail;
+use std::process::Abort;
 
-// The text of a word, None where it is no instruction.
-fn text_of_word(alloc: Global, word: u32, ext: Ext) -> Result<Option<Vec<u8>>, WriteFault> {
-    let Some(instruction) = decode(word, ext) else {
-        return Ok(None);
-    };
+// The text of an instruction.
+fn text_of(rt: &impl Abort, alloc: Global, instruction: &Inst) -> Vec<u8> {
     let mut text = Vec::new(alloc);
-    instruction.write_text(&mut text)?;
-    Ok(Some(text))
+    instruction.write_text(&mut text).expect(rt, "memory");
+    text
 }
 
+type Word = (u32, Ext, &'static str);
+
 // The texts are GNU objdump's, laid out as `write_text` does; that of the fence follows the manual.
+const WORDS: [Word; 15] = [
+    (0x00500093, Ext::I, "addi x1, x0, 5"),
+    (0xFE000EE3, Ext::I, "beq x0, x0, -4"),
+    (0x0FF0000F, Ext::I, "fence x0, x0, 0xff"),
+    (0x123452B7, Ext::I, "lui x5, 0x12345"),
+    (0x41F0D093, Ext::I, "srai x1, x1, 31"),
+    (0x5DC570EF, Ext::I, "jal x1, 357852"),
+    (0x002502E7, Ext::I, "jalr x5, 2(x10)"),
+    (0xB80B2E83, Ext::I, "lw x29, -1152(x22)"),
+    (0x80080F23, Ext::I, "sb x0, -2018(x16)"),
+    (0x40DC03B3, Ext::I, "sub x7, x24, x13"),
+    (0x40DC03B3, Ext::Im, "sub x7, x24, x13"),
+    (0x022081B3, Ext::Im, "mul x3, x1, x2"),
+    (0x0220F1B3, Ext::Im, "remu x3, x1, x2"),
+    (0x00000073, Ext::I, "ecall"),
+    (0x00100073, Ext::Im, "ebreak"),
+];
+
+fn assert_word(rt: &impl Abort, text: &[u8], instruction: &Inst, (word, _, want): &Word) {
+    let told = (text, encode(instruction));
+    assert_eq!(rt; told, (want.as_bytes(), *word), "at {word:08x}");
+}
+
 #[test]
-fn words_have_their_texts(rt: HostRuntime) -> Result<(), Fail> {
-    for (word, ext, text) in [
-        (0x00500093, Ext::I, Some("addi x1, x0, 5")),
-        (0xFE000EE3, Ext::I, Some("beq x0, x0, -4")),
-        (0x0FF0000F, Ext::I, Some("fence x0, x0, 0xff")),
-        (0x123452B7, Ext::I, Some("lui x5, 0x12345")),
-        (0x41F0D093, Ext::I, Some("srai x1, x1, 31")),
-        (0x5DC570EF, Ext::I, Some("jal x1, 357852")),
-        (0x002502E7, Ext::I, Some("jalr x5, 2(x10)")),
-        (0xB80B2E83, Ext::I, Some("lw x29, -1152(x22)")),
-        (0x80080F23, Ext::I, Some("sb x0, -2018(x16)")),
-        (0x40DC03B3, Ext::I, Some("sub x7, x24, x13")),
-        (0x40DC03B3, Ext::Im, Some("sub x7, x24, x13")),
-        (0x022081B3, Ext::I, None),
-        (0x022081B3, Ext::Im, Some("mul x3, x1, x2")),
-        (0x0220F1B3, Ext::I, None),
-        (0x0220F1B3, Ext::Im, Some("remu x3, x1, x2")),
-        (0x40004033, Ext::Im, None),
-        (0x00001073, Ext::Im, None),
-        (0x00000000, Ext::I, None),
-        (0x00000073, Ext::I, Some("ecall")),
-        (0x00100073, Ext::Im, Some("ebreak")),
-    ] {
-        let found = text_of_word(rt.alloc(), word, ext)?;
-        let found = found.as_ref().map(|found| found.as_slice());
-        assert_eq!(rt; found, text.map(|text| text.as_bytes()), "at {word:08x}");
-        let back = decode(word, ext).map(|instruction| encode(&instruction));
-        assert_eq!(rt; back, text.map(|_| word), "at {word:08x}");
+fn words_have_their_texts(rt: HostRuntime) {
+    for word in &WORDS {
+        let instruction = decode(word.0, word.1).expect(&rt, "an instruction");
+        let text = text_of(&rt, rt.alloc(), &instruction);
+        assert_word(&rt, &text, &instruction, word);
     }
-    Ok(())
+}
+
+const OF_NO_INSTRUCTION: [(u32, Ext); 5] = [
+    (0x022081B3, Ext::I),
+    (0x0220F1B3, Ext::I),
+    (0x40004033, Ext::Im),
+    (0x00001073, Ext::Im),
+    (0x00000000, Ext::I),
+];
+
+#[test]
+fn other_words_are_no_instructions(rt: HostRuntime) {
+    for (word, ext) in &OF_NO_INSTRUCTION {
+        assert!(rt; decode(*word, *ext).is_none(), "at {word:08x}");
+    }
 }
 
 // The fields of instructions that have ranges.
@@ -73,40 +86,43 @@ fn kept(field: Field, number: i32) -> Option<i32> {
     })
 }
 
+// A field, a number, and whether it fits.
+const FIELDS: [(Field, i32, bool); 28] = [
+    (Field::Register, 0, true),
+    (Field::Register, 31, true),
+    (Field::Register, 32, false),
+    (Field::Register, 255, false),
+    (Field::Shift, 0, true),
+    (Field::Shift, 31, true),
+    (Field::Shift, 32, false),
+    (Field::Shift, 255, false),
+    (Field::Immediate, -2049, false),
+    (Field::Immediate, -2048, true),
+    (Field::Immediate, 2047, true),
+    (Field::Immediate, 2048, false),
+    (Field::Branch, -4098, false),
+    (Field::Branch, -4096, true),
+    (Field::Branch, 4093, false),
+    (Field::Branch, 4094, true),
+    (Field::Branch, 4096, false),
+    (Field::Jump, -1_048_578, false),
+    (Field::Jump, -1_048_576, true),
+    (Field::Jump, 1_048_574, true),
+    (Field::Jump, 1_048_575, false),
+    (Field::Jump, 1_048_576, false),
+    (Field::Upper, 0, true),
+    (Field::Upper, 1_048_575, true),
+    (Field::Upper, 1_048_576, false),
+    (Field::Fence, 0, true),
+    (Field::Fence, 4095, true),
+    (Field::Fence, 4096, false),
+];
+
 #[test]
 fn fields_keep_their_ranges(rt: HostRuntime) {
-    for (field, number, lawful) in [
-        (Field::Register, 0, true),
-        (Field::Register, 31, true),
-        (Field::Register, 32, false),
-        (Field::Register, 255, false),
-        (Field::Shift, 0, true),
-        (Field::Shift, 31, true),
-        (Field::Shift, 32, false),
-        (Field::Shift, 255, false),
-        (Field::Immediate, -2049, false),
-        (Field::Immediate, -2048, true),
-        (Field::Immediate, 2047, true),
-        (Field::Immediate, 2048, false),
-        (Field::Branch, -4098, false),
-        (Field::Branch, -4096, true),
-        (Field::Branch, 4093, false),
-        (Field::Branch, 4094, true),
-        (Field::Branch, 4096, false),
-        (Field::Jump, -1_048_578, false),
-        (Field::Jump, -1_048_576, true),
-        (Field::Jump, 1_048_574, true),
-        (Field::Jump, 1_048_575, false),
-        (Field::Jump, 1_048_576, false),
-        (Field::Upper, 0, true),
-        (Field::Upper, 1_048_575, true),
-        (Field::Upper, 1_048_576, false),
-        (Field::Fence, 0, true),
-        (Field::Fence, 4095, true),
-        (Field::Fence, 4096, false),
-    ] {
-        let wanted = if lawful { Some(number) } else { None };
-        assert_eq!(rt; kept(field, number), wanted, "{field:?}");
+    for (field, number, lawful) in &FIELDS {
+        let wanted = if *lawful { Some(*number) } else { None };
+        assert_eq!(rt; kept(*field, *number), wanted, "{field:?}");
     }
 }
 
@@ -118,8 +134,7 @@ fn a_full_writer_is_a_fault(rt: HostRuntime) {
 }
 
 #[test]
-fn an_instruction_is_shown_by_its_word(rt: HostRuntime) -> Result<(), Fail> {
-    let shown = format!(in rt.alloc(); "{:?}", Inst::Ebreak)?;
+fn an_instruction_is_shown_by_its_word(rt: HostRuntime) {
+    let shown = format!(in rt.alloc(); "{:?}", Inst::Ebreak).expect(&rt, "memory");
     assert_eq!(rt; shown.as_str(), "Inst(00100073)");
-    Ok(())
 }

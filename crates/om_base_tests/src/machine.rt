@@ -7,7 +7,6 @@ use om_machine::{
 };
 use std::alloc::Global;
 use std::process::Abort;
-use std::test::Fail;
 
 // A machine of RV32I whose image is these words.
 fn loaded(alloc: Global, words: &[u32], size: u32) -> Result<Machine, LoadFault> {
@@ -57,12 +56,11 @@ const STOPS: [Stop; 20] = [
     (&[0x022081B3], 4, 0, Illegal, 0, (3, 0)),
 ];
 
-fn assert_stop(rt: &impl Abort, alloc: Global, stop: &Stop) {
-    let (image, size, steps, cause, pc, (r, value)) = *stop;
-    let mut machine = loaded(alloc, image, size).expect(rt, "a machine");
+fn assert_stop(rt: &impl Abort, machine: &mut Machine, stop: &Stop) {
+    let (image, _, steps, cause, pc, (r, value)) = *stop;
     let event = Event::Trap(cause);
     let told = (machine.run(1000), machine.peek(), machine.step());
-    let state = (machine.pc(), machine.count(), reg(&machine, r));
+    let state = (machine.pc(), machine.count(), reg(machine, r));
     let ran = Ran { steps, event };
     assert_eq!(rt;
         (told, state),
@@ -74,7 +72,8 @@ fn assert_stop(rt: &impl Abort, alloc: Global, stop: &Stop) {
 #[test]
 fn programs_stop_where_the_tables_say(rt: HostRuntime) {
     for stop in &STOPS {
-        assert_stop(&rt, rt.alloc(), stop);
+        let mut machine = loaded(rt.alloc(), stop.0, stop.1).expect(&rt, "a machine");
+        assert_stop(&rt, &mut machine, stop);
     }
 }
 
@@ -86,132 +85,214 @@ fn with_operands(alloc: Global, a: u32, b: u32, word: u32, ext: Ext) -> Result<M
     Machine::restore(alloc, &regs, 0, 0, &word.to_le_bytes(), ext)
 }
 
-// mul to remu of x1 and x2 into x3, by the RV32M tables.
-#[test]
-fn products_and_quotients_are_those_of_the_tables(rt: HostRuntime) -> Result<(), Fail> {
-    for (a, b, results) in [
-        (
+type Results = (u32, u32, [u32; 8]);
+
+// x1, x2, and what mul to remu of them are, by the RV32M tables.
+const RESULTS: [Results; 3] = [
+    (
+        0x8000_0000,
+        0xFFFF_FFFF,
+        [
             0x8000_0000,
+            0,
+            0x8000_0000,
+            0x7FFF_FFFF,
+            0x8000_0000,
+            0,
+            0,
+            0x8000_0000,
+        ],
+    ),
+    (
+        0xFFFF_FFF9,
+        2,
+        [
+            0xFFFF_FFF2,
             0xFFFF_FFFF,
-            [
-                0x8000_0000,
-                0,
-                0x8000_0000,
-                0x7FFF_FFFF,
-                0x8000_0000,
-                0,
-                0,
-                0x8000_0000,
-            ],
-        ),
-        (
-            0xFFFF_FFF9,
-            2,
-            [
-                0xFFFF_FFF2,
-                0xFFFF_FFFF,
-                0xFFFF_FFFF,
-                1,
-                0xFFFF_FFFD,
-                0x7FFF_FFFC,
-                0xFFFF_FFFF,
-                1,
-            ],
-        ),
-        (7, 0, [0, 0, 0, 0, 0xFFFF_FFFF, 0xFFFF_FFFF, 7, 7]),
-    ] {
-        let mut word = 0x0220_81B3;
-        for result in results {
-            let mut machine = with_operands(rt.alloc(), a, b, word, Ext::Im)?;
-            let mut plain = with_operands(rt.alloc(), a, b, word, Ext::I)?;
-            let told = (machine.ext(), machine.step(), plain.step());
-            let state = (reg(&machine, 3), machine.pc(), machine.count());
-            assert_eq!(rt;
-                (told, state),
-                (
-                    (Ext::Im, Event::Went, Event::Trap(Illegal)),
-                    (Some(result), 4, 1)
-                ),
-                "{word:08x} of {a:x} and {b:x}"
-            );
-            word = word.wrapping_add(0x1000);
-        }
+            0xFFFF_FFFF,
+            1,
+            0xFFFF_FFFD,
+            0x7FFF_FFFC,
+            0xFFFF_FFFF,
+            1,
+        ],
+    ),
+    (7, 0, [0, 0, 0, 0, 0xFFFF_FFFF, 0xFFFF_FFFF, 7, 7]),
+];
+
+// The extension, the event of one step over a word of x1 and x2 into x3, and then x3, pc and the count.
+fn one_step(
+    rt: &impl Abort,
+    alloc: Global,
+    (a, b): (u32, u32),
+    word: u32,
+    ext: Ext,
+) -> (Ext, Event, Option<u32>, u32, u64) {
+    let mut machine = with_operands(alloc, a, b, word, ext).expect(rt, "a machine");
+    let (ext, event) = (machine.ext(), machine.step());
+    (ext, event, reg(&machine, 3), machine.pc(), machine.count())
+}
+
+fn assert_results(rt: &impl Abort, alloc: Global, (a, b, results): &Results) {
+    let mut word = 0x0220_81B3;
+    for result in results {
+        let told = one_step(rt, alloc, (*a, *b), word, Ext::Im);
+        let plain = one_step(rt, alloc, (*a, *b), word, Ext::I);
+        assert_eq!(rt;
+            (told, plain),
+            (
+                (Ext::Im, Event::Went, Some(*result), 4, 1),
+                (Ext::I, Event::Trap(Illegal), Some(0), 0, 0)
+            ),
+            "{word:08x} of {a:x} and {b:x}"
+        );
+        word = word.wrapping_add(0x1000);
     }
-    Ok(())
 }
 
 #[test]
-fn fuel_ends_a_run(rt: HostRuntime) -> Result<(), Fail> {
-    let mut machine = loaded(rt.alloc(), &[0x0000006F], 4)?;
-    for (fuel, count) in [(0, 0), (1000, 1000), (1, 1001)] {
+fn products_and_quotients_are_those_of_the_tables(rt: HostRuntime) {
+    for results in &RESULTS {
+        assert_results(&rt, rt.alloc(), results);
+    }
+}
+
+// Fuel, and the count behind a run with it, one run after the other.
+const FUELS: [(u64, u64); 3] = [(0, 0), (1000, 1000), (1, 1001)];
+
+fn assert_runs(rt: &impl Abort, machine: &mut Machine) {
+    for (fuel, count) in &FUELS {
         let ran = Ran {
-            steps: fuel,
+            steps: *fuel,
             event: Event::Went,
         };
-        let told = (machine.run(fuel), machine.peek());
+        let told = (machine.run(*fuel), machine.peek());
         let state = (machine.pc(), machine.count());
-        assert_eq!(rt; (told, state), ((ran, Event::Went), (0, count)), "{fuel}");
+        assert_eq!(rt; (told, state), ((ran, Event::Went), (0, *count)), "{fuel}");
     }
-    let mut machine = loaded(rt.alloc(), &[0x005000E7], 8)?;
-    let told = (machine.step(), machine.pc(), reg(&machine, 1));
-    assert_eq!(rt; told, (Event::Went, 4, Some(4)));
-    Ok(())
 }
 
-// The sizes of a memory: 4 to 65,536 bytes, a multiple of 4. An image may be as long as its memory.
 #[test]
-fn images_lie_at_the_start_of_memory(rt: HostRuntime) -> Result<(), Fail> {
+fn fuel_ends_a_run(rt: HostRuntime) {
+    let mut machine = loaded(rt.alloc(), &[0x0000006F], 4).expect(&rt, "a machine");
+    assert_runs(&rt, &mut machine);
+}
+
+#[test]
+fn a_jump_by_the_register_that_it_writes(rt: HostRuntime) {
+    let mut machine = loaded(rt.alloc(), &[0x005000E7], 8).expect(&rt, "a machine");
+    let told = (machine.step(), machine.pc(), reg(&machine, 1));
+    assert_eq!(rt; told, (Event::Went, 4, Some(4)));
+}
+
+#[test]
+fn memories_have_limits(rt: HostRuntime) {
     assert_eq!(rt; (MIN_SIZE, MAX_SIZE), (4, 65_536));
-    for (words, size, lawful, answer) in [
-        ([0, 0].as_slice(), 6, false, Err(LoadFault::BadSize)),
-        (&[0, 0], 4, true, Err(LoadFault::ImageTooLong)),
-        (&[0, 0], 8, true, Ok(8)),
-        (&[], 0, false, Err(LoadFault::BadSize)),
-        (&[], 3, false, Err(LoadFault::BadSize)),
-        (&[], 4, true, Ok(4)),
-        (&[], 65_535, false, Err(LoadFault::BadSize)),
-        (&[], 65_536, true, Ok(65_536)),
-        (&[], 65_540, false, Err(LoadFault::BadSize)),
-    ] {
-        let made = loaded(rt.alloc(), words, size).map(|machine| machine.size());
-        assert_eq!(rt; (is_size(size), made), (lawful, answer), "{size}");
+}
+
+type Load = (&'static [u32], u32, bool, Result<u32, LoadFault>);
+
+// Image, size, whether it is one, and the size of the machine. The sizes of a memory: 4 to 65,536 bytes, a multiple of 4. An
+// image may be as long as its memory.
+const LOADS: [Load; 9] = [
+    (&[0, 0], 6, false, Err(LoadFault::BadSize)),
+    (&[0, 0], 4, true, Err(LoadFault::ImageTooLong)),
+    (&[0, 0], 8, true, Ok(8)),
+    (&[], 0, false, Err(LoadFault::BadSize)),
+    (&[], 3, false, Err(LoadFault::BadSize)),
+    (&[], 4, true, Ok(4)),
+    (&[], 65_535, false, Err(LoadFault::BadSize)),
+    (&[], 65_536, true, Ok(65_536)),
+    (&[], 65_540, false, Err(LoadFault::BadSize)),
+];
+
+fn loaded_size(alloc: Global, words: &[u32], size: u32) -> Result<u32, LoadFault> {
+    Ok(loaded(alloc, words, size)?.size())
+}
+
+#[test]
+fn machines_are_as_large_as_they_were_asked_to_be(rt: HostRuntime) {
+    for (words, size, lawful, answer) in &LOADS {
+        let told = (is_size(*size), loaded_size(rt.alloc(), words, *size));
+        assert_eq!(rt; told, (*lawful, *answer), "{size}");
     }
-    let machine = Machine::load(rt.alloc(), &[1, 2, 3], 8, Ext::I)?;
+}
+
+// A machine of the image 1, 2, 3.
+fn small(rt: &impl Abort, alloc: Global) -> Machine {
+    Machine::load(alloc, &[1, 2, 3], 8, Ext::I).expect(rt, "a machine")
+}
+
+#[test]
+fn images_lie_at_the_start_of_memory(rt: HostRuntime) {
+    let machine = small(&rt, rt.alloc());
     let memory = [1, 2, 3, 0, 0, 0, 0, 0];
     assert_eq!(rt;
         (machine.ext(), machine.regs(), machine.memory()),
         (Ext::I, [0; WRITABLE_REGISTERS], memory.as_slice())
     );
-    for (addr, len, bytes) in [
-        (0, 8, Some([1, 2, 3, 0, 0, 0, 0, 0].as_slice())),
-        (2, 2, Some(&[3, 0])),
-        (8, 0, Some(&[])),
-        (7, 2, None),
-        (0xFFFF_FFFF, 1, None),
-    ] {
-        assert_eq!(rt; machine.bytes(addr, len), bytes, "{len} bytes at {addr}");
-    }
-    Ok(())
 }
 
-// A machine is restored as it was told, and another extension makes another machine.
+type Range = (u32, u32, Option<&'static [u8]>);
+
+// Address, length, and the bytes there.
+const RANGES: [Range; 5] = [
+    (0, 8, Some(&[1, 2, 3, 0, 0, 0, 0, 0])),
+    (2, 2, Some(&[3, 0])),
+    (8, 0, Some(&[])),
+    (7, 2, None),
+    (0xFFFF_FFFF, 1, None),
+];
+
+fn assert_ranges(rt: &impl Abort, machine: &Machine) {
+    for (addr, len, bytes) in &RANGES {
+        assert_eq!(rt; machine.bytes(*addr, *len), *bytes, "{len} bytes at {addr}");
+    }
+}
+
 #[test]
-fn machines_are_restored(rt: HostRuntime) -> Result<(), Fail> {
+fn bytes_are_told_where_all_lie_in_memory(rt: HostRuntime) {
+    assert_ranges(&rt, &small(&rt, rt.alloc()));
+}
+
+const WORDS: [u8; 8] = [0x13, 0, 0, 0, 5, 6, 7, 8];
+
+// A machine at address 4 and count 9, with 1 in x1 and all bits of x31.
+fn restored(rt: &impl Abort, alloc: Global) -> Machine {
     let mut regs = [0; WRITABLE_REGISTERS];
     regs[0] = 1;
     regs[30] = 0xFFFF_FFFF;
-    let memory = [0x13, 0, 0, 0, 5, 6, 7, 8];
-    let machine = Machine::restore(rt.alloc(), &regs, 4, 9, &memory, Ext::Im)?;
+    Machine::restore(alloc, &regs, 4, 9, &WORDS, Ext::Im).expect(rt, "a machine")
+}
+
+#[test]
+fn machines_are_restored(rt: HostRuntime) {
+    let machine = restored(&rt, rt.alloc());
+    let mut regs = [0; WRITABLE_REGISTERS];
+    regs[0] = 1;
+    regs[30] = 0xFFFF_FFFF;
     let told = (machine.pc(), machine.count(), machine.ext());
     let registers = (machine.regs(), reg(&machine, 0), reg(&machine, 1));
     assert_eq!(rt;
         (told, registers, machine.memory()),
-        ((4, 9, Ext::Im), (regs, Some(0), Some(1)), memory.as_slice())
+        ((4, 9, Ext::Im), (regs, Some(0), Some(1)), WORDS.as_slice())
     );
+}
+
+// Whether the machine that is restored from what this one tells, with this extension, is the same.
+fn is_same(rt: &impl Abort, alloc: Global, machine: &Machine, ext: Ext) -> bool {
     let (regs, memory) = (machine.regs(), machine.memory());
-    let same = Machine::restore(rt.alloc(), &regs, 4, 9, memory, machine.ext())?;
-    let other = Machine::restore(rt.alloc(), &regs, 4, 9, memory, Ext::I)?;
-    assert!(rt; machine == same && machine != other);
+    let other = Machine::restore(alloc, &regs, machine.pc(), machine.count(), memory, ext);
+    other.expect(rt, "a machine") == *machine
+}
+
+// A machine is restored as it was told, and another extension makes another machine.
+#[test]
+fn machines_are_restored_as_they_were_told(rt: HostRuntime) {
+    let machine = restored(&rt, rt.alloc());
+    let same = is_same(&rt, rt.alloc(), &machine, machine.ext());
+    let other = is_same(&rt, rt.alloc(), &machine, Ext::I);
+    assert_eq!(rt; (same, other), (true, false));
     // The laws are called for the theorems on them: they do nothing.
     laws::loading_makes_a_machine();
     laws::restoring_gives_the_machine();
@@ -221,7 +302,6 @@ fn machines_are_restored(rt: HostRuntime) -> Result<(), Fail> {
     laws::runs_go_on();
     laws::step_leaves_a_machine();
     laws::finishing_leaves_a_machine();
-    Ok(())
 }
 
 const NOP: [u8; 4] = [0x13, 0, 0, 0];
@@ -236,91 +316,142 @@ fn counted(rt: &impl Abort, alloc: Global, pc: u32, count: u64) -> Machine {
     Machine::restore(alloc, &regs, pc, count, &NOP, Ext::I).expect(rt, "memory")
 }
 
-fn assert_full(rt: &impl Abort, alloc: Global, pc: u32) {
-    let mut machine = counted(rt, alloc, pc, u64::MAX);
-    let told = (machine.peek(), machine.step());
-    let state = (machine.pc(), machine.count(), reg(&machine, 5));
-    assert_eq!(rt;
-        (told, state, machine.memory()),
-        ((FULL, FULL), (pc, u64::MAX, Some(7)), NOP.as_slice())
-    );
-    assert!(rt; machine == counted(rt, alloc, pc, u64::MAX));
+// Whether a machine is the one of a full count that was made at this address.
+fn is_full(rt: &impl Abort, alloc: Global, machine: &Machine, pc: u32) -> bool {
+    *machine == counted(rt, alloc, pc, u64::MAX)
 }
 
-// The last instruction that is counted, and the one behind it, wherever pc is.
+fn assert_full(rt: &impl Abort, machine: &Machine, told: (Event, Event), pc: u32, is_same: bool) {
+    let state = (machine.pc(), machine.count(), reg(machine, 5));
+    assert_eq!(rt;
+        (told, state, machine.memory(), is_same),
+        ((FULL, FULL), (pc, u64::MAX, Some(7)), NOP.as_slice(), true)
+    );
+}
+
+// A machine of a full count stays as it is, wherever pc is.
 #[test]
 fn a_full_count_stops_the_machine(rt: HostRuntime) {
+    for pc in [0, 8] {
+        let mut machine = counted(&rt, rt.alloc(), pc, u64::MAX);
+        let told = (machine.peek(), machine.step());
+        let is_same = is_full(&rt, rt.alloc(), &machine, pc);
+        assert_full(&rt, &machine, told, pc, is_same);
+    }
+}
+
+// The last instruction that is counted, and the one behind it.
+#[test]
+fn the_last_instruction_is_counted(rt: HostRuntime) {
     let mut machine = counted(&rt, rt.alloc(), 0, u64::MAX - 1);
     let told = (machine.step(), machine.count(), machine.step());
     assert_eq!(rt; told, (Event::Went, u64::MAX, FULL));
-    assert_full(&rt, rt.alloc(), 0);
-    assert_full(&rt, rt.alloc(), 8);
 }
 
-// The calls with x10 = 16, x11 = 2 and x12 = 4, by the number in x17.
-#[test]
-fn calls_are_seen_and_finished(rt: HostRuntime) -> Result<(), Fail> {
-    for (number, call) in [
-        (0x00000893, EnvCall::Exit { code: 16 }),
-        (
-            0x00100893,
-            EnvCall::Send {
-                to: 16,
-                addr: 2,
-                len: 4,
-            },
-        ),
-        (0x00200893, EnvCall::Receive { addr: 16, cap: 2 }),
-        (0x00300893, EnvCall::Output { addr: 16, len: 2 }),
-        (0x00400893, EnvCall::Who),
-    ] {
-        let image = [number, 0x01000513, 0x00200593, 0x00400613, 0x00000073];
-        let mut machine = loaded(rt.alloc(), &image, 20)?;
-        let event = Event::Call(call);
-        assert_eq!(rt; machine.run(1000), Ran { steps: 4, event });
-        let (first, second, memory) = match machine.peek() {
-            Event::Call(EnvCall::Send { .. } | EnvCall::Output { .. }) => {
-                machine.finish_word(9);
-                (9, 2, [0x73, 0, 0, 0])
-            }
-            Event::Call(EnvCall::Receive { addr, cap }) => {
-                assert!(rt; machine.bytes(addr, cap).is_some());
-                machine.finish_receive(6, &[1, 2, 3]);
-                (3, 6, [1, 2, 0, 0])
-            }
-            Event::Call(EnvCall::Who) => {
-                machine.finish_who(1, 3);
-                (1, 3, [0x73, 0, 0, 0])
-            }
-            _ => continue,
-        };
-        let registers = (reg(&machine, 10), reg(&machine, 11));
-        let state = (machine.pc(), machine.count(), machine.bytes(16, 4));
-        assert_eq!(rt;
-            (registers, state),
-            (
-                (Some(first), Some(second)),
-                (20, 5, Some(memory.as_slice()))
-            ),
-            "{call:?}"
-        );
+type Call = (u32, EnvCall, (u32, u32), (u32, u64), [u8; 4]);
+
+// The word that puts a number into x17, the call with x10 = 16, x11 = 2 and x12 = 4, and behind it x10 and x11, pc and the
+// count, and the word at 16. The machine stays at an exit.
+const CALLS: [Call; 5] = [
+    (
+        0x00000893,
+        EnvCall::Exit { code: 16 },
+        (16, 2),
+        (16, 4),
+        [0x73, 0, 0, 0],
+    ),
+    (
+        0x00100893,
+        EnvCall::Send {
+            to: 16,
+            addr: 2,
+            len: 4,
+        },
+        (9, 2),
+        (20, 5),
+        [0x73, 0, 0, 0],
+    ),
+    (
+        0x00200893,
+        EnvCall::Receive { addr: 16, cap: 2 },
+        (3, 6),
+        (20, 5),
+        [1, 2, 0, 0],
+    ),
+    (
+        0x00300893,
+        EnvCall::Output { addr: 16, len: 2 },
+        (9, 2),
+        (20, 5),
+        [0x73, 0, 0, 0],
+    ),
+    (0x00400893, EnvCall::Who, (1, 3), (20, 5), [0x73, 0, 0, 0]),
+];
+
+// Finishes the call at which the machine stands, if it is no exit.
+fn finish(rt: &impl Abort, machine: &mut Machine) {
+    match machine.peek() {
+        Event::Call(EnvCall::Send { .. } | EnvCall::Output { .. }) => machine.finish_word(9),
+        Event::Call(EnvCall::Receive { addr, cap }) => {
+            assert!(rt; machine.bytes(addr, cap).is_some());
+            machine.finish_receive(6, &[1, 2, 3]);
+        }
+        Event::Call(EnvCall::Who) => machine.finish_who(1, 3),
+        _ => {}
     }
-    Ok(())
 }
+
+// A machine that runs into the call of this number.
+fn at_call(rt: &impl Abort, alloc: Global, number: u32) -> Machine {
+    let image = [number, 0x01000513, 0x00200593, 0x00400613, 0x00000073];
+    loaded(alloc, &image, 20).expect(rt, "a machine")
+}
+
+fn assert_call(
+    rt: &impl Abort,
+    machine: &Machine,
+    ran: Ran,
+    (_, call, registers, place, word): &Call,
+) {
+    let event = Event::Call(*call);
+    let told = (reg(machine, 10), reg(machine, 11));
+    let state = (machine.pc(), machine.count());
+    assert_eq!(rt;
+        (ran, told, state, machine.bytes(16, 4)),
+        (
+            Ran { steps: 4, event },
+            (Some(registers.0), Some(registers.1)),
+            *place,
+            Some(word.as_slice())
+        )
+    );
+}
+
+#[test]
+fn calls_are_seen_and_finished(rt: HostRuntime) {
+    for call in &CALLS {
+        let mut machine = at_call(&rt, rt.alloc(), call.0);
+        let ran = machine.run(1000);
+        finish(&rt, &mut machine);
+        assert_call(&rt, &machine, ran, call);
+    }
+}
+
+const CAUSES: [(u32, Cause); 9] = [
+    (1, Cause::Illegal),
+    (2, Cause::Break),
+    (3, Cause::FetchOutside),
+    (4, Cause::TargetMisaligned),
+    (5, Cause::DataMisaligned),
+    (6, Cause::DataOutside),
+    (7, Cause::UnknownCall),
+    (8, Cause::BufferOutside),
+    (9, Cause::CountFull),
+];
 
 #[test]
 fn causes_have_their_numbers(rt: HostRuntime) {
-    for (number, cause) in [
-        (1, Cause::Illegal),
-        (2, Cause::Break),
-        (3, Cause::FetchOutside),
-        (4, Cause::TargetMisaligned),
-        (5, Cause::DataMisaligned),
-        (6, Cause::DataOutside),
-        (7, Cause::UnknownCall),
-        (8, Cause::BufferOutside),
-        (9, Cause::CountFull),
-    ] {
-        assert_eq!(rt; cause.number(), number);
+    for (number, cause) in &CAUSES {
+        assert_eq!(rt; cause.number(), *number);
     }
 }

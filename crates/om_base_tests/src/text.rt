@@ -11,11 +11,11 @@ use om_text::{
     BuildError, Builder, LineError, MAX_BYTES, MAX_TURNS, ReadError, ScriptError, hex_word, laws,
     number_of, read_script, read_text,
 };
-use std::alloc::{AllocError, Global};
+use std::alloc::Global;
 use std::fmt::Display;
 use std::io;
 use std::io::{ErrorKind, Read};
-use std::test::Fail;
+use std::process::Abort;
 
 // The sum of the numbers N of the lines `add N`.
 #[derive(Debug, Drop)]
@@ -49,88 +49,107 @@ fn sum_of(alloc: Global, text: &[u8]) -> Result<u64, BuildError<ScriptError>> {
     Ok(read_script(alloc, text, Sum(0))?.0)
 }
 
+fn assert_sum(
+    rt: &impl Abort,
+    alloc: Global,
+    text: &str,
+    want: Result<u64, BuildError<ScriptError>>,
+) {
+    assert_eq!(rt; sum_of(alloc, text.as_bytes()), want, "of {text:?}");
+}
+
 fn faulty(line: usize, error: LineError) -> Result<u64, BuildError<ScriptError>> {
     Err(BuildError::Invalid(ScriptError { line, error }))
 }
 
+// Scripts and their sums.
+const SUMS: [(&str, u64); 7] = [
+    ("", 0),
+    ("add 1\nadd 2", 3),
+    ("add 1\r\nadd 2\r\n", 3),
+    ("\n\r\n \t \n# add 5\n  #add 5\n#", 0),
+    ("add\t1\n \tadd  \t 2 \t\n", 3),
+    ("add 007\nadd 00000000000000000000000000000010", 17),
+    ("add 4294967295\nadd 4294967295", 8589934590),
+];
+
 #[test]
 fn scripts_are_read_whole(rt: HostRuntime) {
-    for (text, sum) in [
-        ("", 0),
-        ("add 1\nadd 2", 3),
-        ("add 1\r\nadd 2\r\n", 3),
-        ("\n\r\n \t \n# add 5\n  #add 5\n#", 0),
-        ("add\t1\n \tadd  \t 2 \t\n", 3),
-        ("add 007\nadd 00000000000000000000000000000010", 17),
-        ("add 4294967295\nadd 4294967295", 8589934590),
-    ] {
-        assert_eq!(rt; sum_of(rt.alloc(), text.as_bytes()), Ok(sum), "of {text:?}");
+    for (text, sum) in &SUMS {
+        assert_sum(&rt, rt.alloc(), text, Ok(*sum));
     }
 }
 
+// Scripts, the line of the first fault, and the fault.
+const FAULTS: [(&str, usize, LineError); 9] = [
+    ("add 1\n\n# add x\nadd x\nsub 1", 4, LineError::BadNumber),
+    ("add 1\r\n\r\nsub 1\r\nadd x", 3, LineError::UnknownLine),
+    ("add 4294967296", 1, LineError::BadNumber),
+    ("add +5", 1, LineError::BadNumber),
+    ("add 1\nadd 2\r", 2, LineError::BadNumber),
+    ("add 1\r\r\n", 1, LineError::BadNumber),
+    ("\r", 1, LineError::UnknownLine),
+    ("add\u{b}1\n", 1, LineError::UnknownLine),
+    ("1 add\n", 1, LineError::UnknownLine),
+];
+
 #[test]
 fn the_first_faulty_line_counts(rt: HostRuntime) {
-    for (text, line, error) in [
-        ("add 1\n\n# add x\nadd x\nsub 1", 4, LineError::BadNumber),
-        ("add 1\r\n\r\nsub 1\r\nadd x", 3, LineError::UnknownLine),
-        ("add 4294967296", 1, LineError::BadNumber),
-        ("add +5", 1, LineError::BadNumber),
-        ("add 1\nadd 2\r", 2, LineError::BadNumber),
-        ("add 1\r\r\n", 1, LineError::BadNumber),
-        ("\r", 1, LineError::UnknownLine),
-        ("add\u{b}1\n", 1, LineError::UnknownLine),
-        ("1 add\n", 1, LineError::UnknownLine),
-    ] {
-        assert_eq!(rt;
-            sum_of(rt.alloc(), text.as_bytes()),
-            faulty(line, error),
-            "of {text:?}"
-        );
+    for (text, line, error) in &FAULTS {
+        assert_sum(&rt, rt.alloc(), text, faulty(*line, *error));
     }
     laws::first_faulty_line_counts::<u64>();
 }
 
+const NUMBERS: [(&str, Option<u32>); 8] = [
+    ("0", Some(0)),
+    ("0010", Some(10)),
+    ("4294967295", Some(4294967295)),
+    ("4294967296", None),
+    ("99999999999999999999999999", None),
+    ("", None),
+    ("+1", None),
+    ("1a", None),
+];
+
 #[test]
 fn words_are_numbers(rt: HostRuntime) {
-    for (word, number) in [
-        ("0", Some(0)),
-        ("0010", Some(10)),
-        ("4294967295", Some(4294967295)),
-        ("4294967296", None),
-        ("99999999999999999999999999", None),
-        ("", None),
-        ("+1", None),
-        ("1a", None),
-    ] {
-        assert_eq!(rt; number_of(word.as_bytes()), number, "of {word:?}");
-    }
-    for (word, value) in [
-        ("00500093", Some(0x0050_0093)),
-        ("fe000EE3", Some(0xfe00_0ee3)),
-        ("0500093", None),
-        ("000500093", None),
-        ("0x500093", None),
-    ] {
-        assert_eq!(rt; hex_word(word.as_bytes()), value, "of {word:?}");
+    for (word, number) in &NUMBERS {
+        assert_eq!(rt; number_of(word.as_bytes()), *number, "of {word:?}");
     }
 }
 
-fn has_text<E: Display>(alloc: Global, error: &E, text: &str) -> Result<bool, AllocError> {
-    Ok(error.to_string(alloc)?.as_str() == text)
+const HEX_WORDS: [(&str, Option<u32>); 5] = [
+    ("00500093", Some(0x0050_0093)),
+    ("fe000EE3", Some(0xfe00_0ee3)),
+    ("0500093", None),
+    ("000500093", None),
+    ("0x500093", None),
+];
+
+#[test]
+fn words_of_eight_digits_are_hexadecimal(rt: HostRuntime) {
+    for (word, value) in &HEX_WORDS {
+        assert_eq!(rt; hex_word(word.as_bytes()), *value, "of {word:?}");
+    }
+}
+
+fn has_text<E: Display>(rt: &impl Abort, alloc: Global, error: &E, text: &str) -> bool {
+    let shown = error.to_string(alloc).expect(rt, "memory");
+    shown.as_str() == text
 }
 
 #[test]
-fn faults_are_named(rt: HostRuntime) -> Result<(), Fail> {
+fn faults_are_named(rt: HostRuntime) {
     let error = LineError::WrongCount;
     let error = BuildError::Invalid(ScriptError { line: 2, error });
     let memory = BuildError::<LineError>::Memory;
     let are_named = [
-        has_text(rt.alloc(), &error, "line 2: wrong count of words")?,
-        has_text(rt.alloc(), &memory, "no memory")?,
-        has_text(rt.alloc(), &ReadError::TooLong, "too long")?,
+        has_text(&rt, rt.alloc(), &error, "line 2: wrong count of words"),
+        has_text(&rt, rt.alloc(), &memory, "no memory"),
+        has_text(&rt, rt.alloc(), &ReadError::TooLong, "too long"),
     ];
     assert_eq!(rt; are_named, [true; 3]);
-    Ok(())
 }
 
 // A reader that gives its bytes one at a time, after so many interruptions, and may refuse in place
@@ -165,64 +184,66 @@ impl Read for Drip<'_> {
     }
 }
 
-fn zeros(alloc: Global, count: usize) -> Result<Vec<u8>, AllocError> {
-    vec![in alloc; 0; count]
+const SCRIPT: &[u8] = b"add 1\nadd 2";
+
+// An input of these bytes is read to its end.
+fn assert_read(rt: &impl Abort, alloc: Global, mut input: &[u8], bytes: &[u8]) {
+    let text = read_text(alloc, &mut input).expect(rt, "a text");
+    assert_eq!(rt; text.as_slice(), bytes);
 }
 
 #[test]
-fn inputs_are_read_whole(rt: HostRuntime) -> Result<(), Fail> {
-    let text = b"add 1\nadd 2".as_slice();
-    assert_eq!(rt;
-        read_text(rt.alloc(), &mut b"".as_slice())?.as_slice(),
-        b"".as_slice()
-    );
-    assert_eq!(rt;
-        read_text(rt.alloc(), &mut b"add 1\nadd 2".as_slice())?.as_slice(),
-        text
-    );
+fn inputs_are_read_whole(rt: HostRuntime) {
+    assert_read(&rt, rt.alloc(), b"", b"");
+    assert_read(&rt, rt.alloc(), b"add 1\nadd 2", SCRIPT);
+}
+
+#[test]
+fn interrupted_inputs_are_read_whole(rt: HostRuntime) {
     let mut drip = Drip {
-        bytes: text,
+        bytes: SCRIPT,
         turns: 0,
         interruptions: 1,
         refuses: false,
     };
-    assert_eq!(rt; read_text(rt.alloc(), &mut drip)?.as_slice(), text);
-    Ok(())
+    let text = read_text(rt.alloc(), &mut drip).expect(&rt, "a text");
+    assert_eq!(rt; text.as_slice(), SCRIPT);
+}
+
+// How long the text of an input of so many zeros is.
+fn read_len(rt: &impl Abort, alloc: Global, count: usize) -> Result<usize, ReadError> {
+    let input = vec![in alloc; 0; count].expect(rt, "memory");
+    Ok(read_text(alloc, &mut input.as_slice())?.len())
 }
 
 #[test]
-fn inputs_have_limits(rt: HostRuntime) -> Result<(), Fail> {
-    let longest = zeros(rt.alloc(), MAX_BYTES)?;
+fn inputs_have_limits(rt: HostRuntime) {
+    let longest = read_len(&rt, rt.alloc(), MAX_BYTES);
+    let longer = read_len(&rt, rt.alloc(), MAX_BYTES + 1);
     assert_eq!(rt;
-        read_text(rt.alloc(), &mut longest.as_slice())?.len(),
-        16_777_216
+        (longest, longer),
+        (Ok(16_777_216), Err(ReadError::TooLong))
     );
-    let longer = zeros(rt.alloc(), MAX_BYTES + 1)?;
-    assert!(rt;
-        matches!(
-            read_text(rt.alloc(), &mut longer.as_slice()),
-            Err(ReadError::TooLong)
-        )
-    );
-    Ok(())
+}
+
+// Why an input was not read, None where it was.
+fn read_fault(alloc: Global, drip: &mut Drip) -> Option<ReadError> {
+    read_text(alloc, drip).err()
 }
 
 #[test]
 fn readers_may_refuse(rt: HostRuntime) {
-    let text = b"add 1\nadd 2".as_slice();
     let mut refusing = Drip {
-        bytes: text,
+        bytes: SCRIPT,
         turns: 0,
         interruptions: 0,
         refuses: true,
     };
-    assert!(rt;
-        matches!(
-            read_text(rt.alloc(), &mut refusing),
-            Err(ReadError::CannotRead)
-        )
+    let fault = read_fault(rt.alloc(), &mut refusing);
+    assert_eq!(rt;
+        (fault, refusing.bytes.is_empty()),
+        (Some(ReadError::CannotRead), true)
     );
-    assert!(rt; refusing.bytes.is_empty());
 }
 
 #[test]
@@ -233,11 +254,9 @@ fn readers_have_a_number_of_turns(rt: HostRuntime) {
         interruptions: u64::MAX,
         refuses: false,
     };
-    assert!(rt;
-        matches!(
-            read_text(rt.alloc(), &mut endless),
-            Err(ReadError::CannotRead)
-        )
+    let fault = read_fault(rt.alloc(), &mut endless);
+    assert_eq!(rt;
+        (fault, endless.turns),
+        (Some(ReadError::CannotRead), 33_554_432)
     );
-    assert_eq!(rt; endless.turns, 33_554_432);
 }

@@ -13,19 +13,31 @@ fn body(rt: &impl Abort, alloc: Global, bytes: &[u8]) -> Body {
 }
 
 #[test]
-fn bodies_and_memories_give_their_bytes_back(rt: HostRuntime) {
+fn bodies_give_their_bytes_back(rt: HostRuntime) {
     let bytes = body(&rt, rt.alloc(), &[1, 2]).into_vec();
     assert_eq!(rt; bytes.as_slice(), [1, 2].as_slice());
-    let bytes = Vec::from_slice(rt.alloc(), &[1, 2, 3, 4]).expect(&rt, "memory");
+}
+
+const WORD: [u8; 4] = [1, 2, 3, 4];
+
+// A memory of one word.
+fn memory(rt: &impl Abort, alloc: Global) -> MemoryBytes {
+    let bytes = Vec::from_slice(alloc, &WORD).expect(rt, "memory");
     assert_eq!(rt; bytes.len(), 4);
-    let memory = MemoryBytes::from_vec(bytes);
-    assert_eq!(rt; memory.as_slice(), [1, 2, 3, 4].as_slice());
-    assert_eq!(rt; memory.into_vec().as_slice(), [1, 2, 3, 4].as_slice());
+    MemoryBytes::from_vec(bytes)
 }
 
 #[test]
-fn messages_are_copied_whole(rt: HostRuntime) {
-    let message = Message {
+fn memories_give_their_bytes_back(rt: HostRuntime) {
+    let memory = memory(&rt, rt.alloc());
+    let is_told = memory.as_slice() == WORD.as_slice();
+    let bytes = memory.into_vec();
+    assert_eq!(rt; (is_told, bytes.as_slice()), (true, WORD.as_slice()));
+}
+
+// A message of process 0 to process 15.
+fn message(rt: &impl Abort, alloc: Global) -> Message {
+    Message {
         from: Pid::at(0),
         to: Pid::at(15),
         tag: Tag {
@@ -33,41 +45,76 @@ fn messages_are_copied_whole(rt: HostRuntime) {
             interval: 3,
         },
         ssn: 7,
-        body: body(&rt, rt.alloc(), &[1, 2]),
-    };
-    let copy = message.copy(rt.alloc()).expect(&rt, "memory");
+        body: body(rt, alloc, &[1, 2]),
+    }
+}
+
+fn assert_copied(rt: &impl Abort, copy: &Message, message: &Message) {
     let told = (copy.from, copy.to, copy.tag, copy.ssn);
-    assert_eq!(rt; told, (message.from, message.to, message.tag, 7));
-    assert!(rt; copy.body == message.body);
-    assert_eq!(rt; copy.body.as_slice(), [1, 2].as_slice());
-    assert_eq!(rt; copy.body.copy(rt.alloc()), Ok(copy.body));
+    let body = (copy.body == message.body, copy.body.as_slice());
+    assert_eq!(rt;
+        (told, body),
+        (
+            (message.from, message.to, message.tag, 7),
+            (true, [1, 2].as_slice())
+        )
+    );
+}
+
+#[test]
+fn messages_are_copied_whole(rt: HostRuntime) {
+    let message = message(&rt, rt.alloc());
+    let copy = message.copy(rt.alloc()).expect(&rt, "memory");
+    assert_copied(&rt, &copy, &message);
+}
+
+#[test]
+fn bodies_are_copied(rt: HostRuntime) {
+    let body = body(&rt, rt.alloc(), &[1, 2]);
+    assert_eq!(rt; body.copy(rt.alloc()), Ok(body));
+}
+
+fn entry(rt: &impl Abort, alloc: Global, interval: u32, bytes: &[u8]) -> Entry {
+    let body = body(rt, alloc, bytes);
+    Entry { interval, body }
+}
+
+fn assert_compared(rt: &impl Abort, first: &Entry, copy: &Entry, last: &Entry) {
+    let told = (copy == first, first != last, first.body != last.body);
+    assert_eq!(rt; told, (true, true, true));
+}
+
+#[test]
+fn entries_are_copied_and_compared(rt: HostRuntime) {
+    let first = entry(&rt, rt.alloc(), 1, &[1, 2]);
+    let last = entry(&rt, rt.alloc(), 3, &[3, 4]);
+    let copy = first.copy(rt.alloc()).expect(&rt, "memory");
+    assert_compared(&rt, &first, &copy, &last);
 }
 
 // A queue of two entries.
 fn queue(rt: &impl Abort, alloc: Global) -> Queue {
     let mut entries = Vec::new(alloc);
     for (interval, bytes) in [(1, [1, 2]), (3, [3, 4])] {
-        let body = body(rt, alloc, &bytes);
-        entries.push(Entry { interval, body }).expect(rt, "memory");
+        let entry = entry(rt, alloc, interval, &bytes);
+        entries.push(entry).expect(rt, "memory");
     }
     Queue { first: 5, entries }
+}
+
+// A copy of a queue is the queue, and is another one with another first number or without its last entry.
+fn assert_changes(rt: &impl Abort, queue: &Queue, copy: &mut Queue) {
+    let is_copied = *copy == *queue;
+    copy.first = 6;
+    let differs = *copy != *queue;
+    copy.first = 5;
+    let _ = copy.entries.pop();
+    assert_eq!(rt; (is_copied, differs, *copy != *queue), (true, true, true));
 }
 
 #[test]
 fn queues_are_copied_and_compared(rt: HostRuntime) {
     let queue = queue(&rt, rt.alloc());
     let mut copy = queue.copy(rt.alloc()).expect(&rt, "memory");
-    let is_copied = copy == queue;
-    let first = queue.entries.first().expect(&rt, "two entries");
-    let last = queue.entries.last().expect(&rt, "two entries");
-    let other = first.copy(rt.alloc()).expect(&rt, "memory");
-    let are_compared = other == *first && first != last && first.body != last.body;
-    copy.first = 6;
-    let differs = copy != queue;
-    copy.first = 5;
-    let _ = copy.entries.pop();
-    assert_eq!(rt;
-        (is_copied, are_compared, differs, copy != queue),
-        (true, true, true, true)
-    );
+    assert_changes(&rt, &queue, &mut copy);
 }

@@ -1,33 +1,56 @@
 //! Checkpoints as bytes, in both versions.
 
 use crate::format::records::{
-    FIRST_IN_VERSION_1, FIRST_IN_VERSION_2, OF_16_PROCESSES, WITH_ENTRIES, assert_spelled,
-    assert_whole, bytes_of, checkpoint_fault, checkpoint_of, spelled, with_byte,
+    Damage, FIRST_IN_VERSION_1, FIRST_IN_VERSION_2, OF_16_PROCESSES, Part, WITH_ENTRIES,
+    assert_damages, assert_same, assert_spelled, assert_whole, bytes_of, checkpoint_of, spelled,
+    with_byte,
 };
 use om_format::{Checkpoint, DecodeError, Queue, laws};
 use om_isa::Ext;
 use std::alloc::Global;
 use std::process::Abort;
 
-// A first checkpoint is read, and is spelled in version 2; and so is that of a machine with the M extension.
-fn assert_first(rt: &impl Abort, alloc: Global, bytes: &[u8], newer: &[u8]) {
-    let checkpoint = checkpoint_of(rt, alloc, bytes);
+const LENGTHS: [(&[Part], usize); 4] = [
+    (&FIRST_IN_VERSION_1, 184),
+    (&FIRST_IN_VERSION_2, 188),
+    (&WITH_ENTRIES, 234),
+    (&OF_16_PROCESSES, 800),
+];
+
+#[test]
+fn records_have_their_lengths(rt: HostRuntime) {
+    for (parts, len) in &LENGTHS {
+        assert_eq!(rt; bytes_of(&rt, rt.alloc(), parts).len(), *len);
+    }
+}
+
+fn assert_machine(rt: &impl Abort, checkpoint: &Checkpoint, ext: Ext) {
     let told = (checkpoint.head.ext, checkpoint.memory.as_slice());
-    assert_eq!(rt; told, (Ext::I, [0x73, 0x00, 0x10, 0x00].as_slice()));
-    assert_eq!(rt; spelled(rt, alloc, &checkpoint).as_slice(), newer);
-    assert_whole(rt, alloc, bytes);
+    let memory = [0x73, 0x00, 0x10, 0x00];
+    assert_eq!(rt; told, (ext, memory.as_slice()));
+}
+
+// A first checkpoint is read, and is spelled in version 2.
+fn assert_newer(rt: &impl Abort, alloc: Global, bytes: &[u8], newer: &[u8], ext: Ext) {
+    let checkpoint = checkpoint_of(rt, alloc, bytes);
+    assert_machine(rt, &checkpoint, ext);
+    assert_same(rt, &spelled(rt, alloc, &checkpoint), newer);
+}
+
+// So is that of a machine with the M extension.
+fn assert_first(rt: &impl Abort, alloc: Global, bytes: &[u8], newer: &[u8]) {
+    assert_newer(rt, alloc, bytes, newer, Ext::I);
     let other = with_byte(rt, alloc, bytes, 0, 0x4D);
-    let checkpoint = checkpoint_of(rt, alloc, &other);
-    assert_eq!(rt; checkpoint.head.ext, Ext::Im);
     let wanted = with_byte(rt, alloc, newer, 0, 0x4D);
-    assert_eq!(rt; spelled(rt, alloc, &checkpoint), wanted);
+    assert_newer(rt, alloc, &other, &wanted, Ext::Im);
 }
 
 #[test]
 fn the_first_checkpoint_in_both_versions(rt: HostRuntime) {
     let older = bytes_of(&rt, rt.alloc(), &FIRST_IN_VERSION_1);
     let newer = bytes_of(&rt, rt.alloc(), &FIRST_IN_VERSION_2);
-    assert_eq!(rt; (older.len(), newer.len()), (184, 188));
+    assert_whole(&rt, rt.alloc(), &older);
+    assert_whole(&rt, rt.alloc(), &newer);
     assert_first(&rt, rt.alloc(), &older, &newer);
     assert_first(&rt, rt.alloc(), &newer, &newer);
     laws::one_spelling_of_a_checkpoint();
@@ -35,64 +58,82 @@ fn the_first_checkpoint_in_both_versions(rt: HostRuntime) {
     laws::checkpoint_or_fault();
 }
 
-#[test]
-fn damaged_first_checkpoints_have_their_faults(rt: HostRuntime) {
-    let older = bytes_of(&rt, rt.alloc(), &FIRST_IN_VERSION_1);
-    let newer = bytes_of(&rt, rt.alloc(), &FIRST_IN_VERSION_2);
-    let blank = with_byte(&rt, rt.alloc(), &newer, 172, 0x00);
-    for (record, offset, byte, want) in [
-        (&older, 0, 0x52, DecodeError::Kind),
-        (&older, 1, 0x00, DecodeError::Version),
-        (&older, 2, 0x00, DecodeError::Field(2)),
-        (&older, 2, 0x09, DecodeError::Field(2)),
-        (&older, 16, 0x02, DecodeError::Field(16)),
-        (&newer, 0, 0x52, DecodeError::Kind),
-        (&newer, 1, 0x03, DecodeError::Version),
-        (&newer, 2, 0x00, DecodeError::Field(2)),
-        (&newer, 2, 0x11, DecodeError::Field(2)),
-        (&newer, 168, 0x02, DecodeError::Field(168)),
-        (&newer, 170, 0x01, DecodeError::Field(170)),
-        (&blank, 174, 0x00, DecodeError::Field(172)),
-    ] {
-        let damaged = with_byte(&rt, rt.alloc(), record, offset, byte);
-        let fault = checkpoint_fault(rt.alloc(), &damaged);
-        assert_eq!(rt; fault, Some(want), "byte {offset} made {byte:02x}");
-    }
-}
+const DAMAGES_OF_VERSION_1: [Damage; 5] = [
+    (0, 0x52, DecodeError::Kind),
+    (1, 0x00, DecodeError::Version),
+    (2, 0x00, DecodeError::Field(2)),
+    (2, 0x09, DecodeError::Field(2)),
+    (16, 0x02, DecodeError::Field(16)),
+];
 
 #[test]
-fn damaged_entries_and_pages_have_their_faults(rt: HostRuntime) {
-    let entries = bytes_of(&rt, rt.alloc(), &WITH_ENTRIES);
-    let pages = bytes_of(&rt, rt.alloc(), &OF_16_PROCESSES);
-    assert_whole(&rt, rt.alloc(), &entries);
-    assert_whole(&rt, rt.alloc(), &pages);
-    let swapped = with_byte(&rt, rt.alloc(), &pages, 350, 0x01);
-    for (record, offset, byte, place) in [
-        (&entries, 3, 0x02, 3),
-        (&entries, 8, 0x02, 8),
-        (&entries, 144, 0x02, 144),
-        (&entries, 152, 0x02, 152),
-        (&entries, 168, 0x15, 168),
-        (&entries, 176, 0x06, 176),
-        (&entries, 200, 0x05, 200),
-        (&entries, 210, 0x00, 210),
-        (&entries, 210, 0x04, 210),
-        (&entries, 215, 0x01, 214),
-        (&entries, 219, 0x03, 219),
-        (&pages, 348, 0x03, 698),
-        (&pages, 348, 0x04, 348),
-        (&pages, 350, 0x03, 350),
-        (&pages, 608, 0x00, 608),
-        (&pages, 608, 0x03, 608),
-        (&pages, 697, 0x00, 610),
-        (&swapped, 608, 0x00, 608),
-        (&swapped, 608, 0x01, 608),
-    ] {
-        let damaged = with_byte(&rt, rt.alloc(), record, offset, byte);
-        let fault = checkpoint_fault(rt.alloc(), &damaged);
-        let want = Some(DecodeError::Field(place));
-        assert_eq!(rt; fault, want, "byte {offset} made {byte:02x}");
-    }
+fn damaged_first_checkpoints_of_version_1_have_their_faults(rt: HostRuntime) {
+    let record = bytes_of(&rt, rt.alloc(), &FIRST_IN_VERSION_1);
+    assert_damages(&rt, rt.alloc(), &record, &DAMAGES_OF_VERSION_1);
+}
+
+const DAMAGES_OF_VERSION_2: [Damage; 6] = [
+    (0, 0x52, DecodeError::Kind),
+    (1, 0x03, DecodeError::Version),
+    (2, 0x00, DecodeError::Field(2)),
+    (2, 0x11, DecodeError::Field(2)),
+    (168, 0x02, DecodeError::Field(168)),
+    (170, 0x01, DecodeError::Field(170)),
+];
+
+const DAMAGES_OF_A_BLANK_PAGE: [Damage; 1] = [(174, 0x00, DecodeError::Field(172))];
+
+#[test]
+fn damaged_first_checkpoints_of_version_2_have_their_faults(rt: HostRuntime) {
+    let record = bytes_of(&rt, rt.alloc(), &FIRST_IN_VERSION_2);
+    assert_damages(&rt, rt.alloc(), &record, &DAMAGES_OF_VERSION_2);
+    let blank = with_byte(&rt, rt.alloc(), &record, 172, 0x00);
+    assert_damages(&rt, rt.alloc(), &blank, &DAMAGES_OF_A_BLANK_PAGE);
+}
+
+const DAMAGES_OF_ENTRIES: [Damage; 11] = [
+    (3, 0x02, DecodeError::Field(3)),
+    (8, 0x02, DecodeError::Field(8)),
+    (144, 0x02, DecodeError::Field(144)),
+    (152, 0x02, DecodeError::Field(152)),
+    (168, 0x15, DecodeError::Field(168)),
+    (176, 0x06, DecodeError::Field(176)),
+    (200, 0x05, DecodeError::Field(200)),
+    (210, 0x00, DecodeError::Field(210)),
+    (210, 0x04, DecodeError::Field(210)),
+    (215, 0x01, DecodeError::Field(214)),
+    (219, 0x03, DecodeError::Field(219)),
+];
+
+#[test]
+fn damaged_entries_have_their_faults(rt: HostRuntime) {
+    let record = bytes_of(&rt, rt.alloc(), &WITH_ENTRIES);
+    assert_whole(&rt, rt.alloc(), &record);
+    assert_damages(&rt, rt.alloc(), &record, &DAMAGES_OF_ENTRIES);
+}
+
+const DAMAGES_OF_PAGES: [Damage; 6] = [
+    (348, 0x03, DecodeError::Field(698)),
+    (348, 0x04, DecodeError::Field(348)),
+    (350, 0x03, DecodeError::Field(350)),
+    (608, 0x00, DecodeError::Field(608)),
+    (608, 0x03, DecodeError::Field(608)),
+    (697, 0x00, DecodeError::Field(610)),
+];
+
+// Of pages of which the first is called the second.
+const DAMAGES_OF_SWAPPED_PAGES: [Damage; 2] = [
+    (608, 0x00, DecodeError::Field(608)),
+    (608, 0x01, DecodeError::Field(608)),
+];
+
+#[test]
+fn damaged_pages_have_their_faults(rt: HostRuntime) {
+    let record = bytes_of(&rt, rt.alloc(), &OF_16_PROCESSES);
+    assert_whole(&rt, rt.alloc(), &record);
+    assert_damages(&rt, rt.alloc(), &record, &DAMAGES_OF_PAGES);
+    let swapped = with_byte(&rt, rt.alloc(), &record, 350, 0x01);
+    assert_damages(&rt, rt.alloc(), &swapped, &DAMAGES_OF_SWAPPED_PAGES);
 }
 
 // Each byte of the record made each other byte is refused, or spells another checkpoint.
@@ -155,13 +196,48 @@ fn has_registers(checkpoint: &Checkpoint) -> bool {
 
 // The fields that the two checkpoints with entries share.
 fn assert_fields(rt: &impl Abort, checkpoint: &Checkpoint) {
-    let head = checkpoint.head;
+    let head = &checkpoint.head;
     let told = (head.interval, head.count, head.pc, head.made);
-    assert_eq!(rt; told, (3, 20, 8, 2));
-    assert!(rt; has_registers(checkpoint), "registers");
-    assert!(rt;
-        has_entries(&checkpoint.outputs, 1, &[(3, &[0x7F])]),
-        "outputs"
+    let has_outputs = has_entries(&checkpoint.outputs, 1, &[(3, &[0x7F])]);
+    assert_eq!(rt;
+        (told, has_registers(checkpoint), has_outputs),
+        ((3, 20, 8, 2), true, true)
+    );
+}
+
+// The messages that are kept for the two processes.
+fn has_kept_of_2(kept: &[Queue]) -> bool {
+    match kept {
+        [zero, one] => {
+            has_entries(zero, 0, &[(1, &[0xAA, 0xBB])])
+                && has_entries(one, 2, &[(1, &[]), (3, &[1, 2, 3])])
+        }
+        _ => false,
+    }
+}
+
+fn assert_of_2(rt: &impl Abort, checkpoint: &Checkpoint) {
+    let head = &checkpoint.head;
+    let vectors = [
+        head.vec.as_slice(),
+        head.got.as_slice(),
+        head.sent.as_slice(),
+    ];
+    let memory = [0x73, 0x00, 0x10, 0x00, 0, 0, 0, 0];
+    let is_kept = has_kept_of_2(&checkpoint.kept);
+    assert_eq!(rt;
+        (
+            head.pid.index(),
+            vectors,
+            checkpoint.memory.as_slice(),
+            is_kept
+        ),
+        (
+            0,
+            [[3, 1].as_slice(), &[1, 2], &[1, 4]],
+            memory.as_slice(),
+            true
+        )
     );
 }
 
@@ -170,24 +246,7 @@ fn checkpoints_with_entries_are_read_and_written(rt: HostRuntime) {
     let bytes = bytes_of(&rt, rt.alloc(), &WITH_ENTRIES);
     let checkpoint = checkpoint_of(&rt, rt.alloc(), &bytes);
     assert_fields(&rt, &checkpoint);
-    let head = checkpoint.head;
-    assert_eq!(rt; (bytes.len(), head.pid.index()), (234, 0));
-    let told = [
-        head.vec.as_slice(),
-        head.got.as_slice(),
-        head.sent.as_slice(),
-    ];
-    assert_eq!(rt; told, [[3, 1].as_slice(), &[1, 2], &[1, 4]]);
-    let memory = [0x73, 0x00, 0x10, 0x00, 0, 0, 0, 0];
-    assert_eq!(rt; checkpoint.memory.as_slice(), memory.as_slice());
-    let are_kept = match checkpoint.kept.as_slice() {
-        [zero, one] => {
-            has_entries(zero, 0, &[(1, &[0xAA, 0xBB])])
-                && has_entries(one, 2, &[(1, &[]), (3, &[1, 2, 3])])
-        }
-        _ => false,
-    };
-    assert!(rt; are_kept);
+    assert_of_2(&rt, &checkpoint);
 }
 
 // Whether the memory of 600 bytes has its three pages.
@@ -205,15 +264,9 @@ fn has_pages(memory: &[u8]) -> bool {
     memory.len() == 600
 }
 
-#[test]
-fn checkpoints_of_16_processes_are_read_and_written(rt: HostRuntime) {
-    let bytes = bytes_of(&rt, rt.alloc(), &OF_16_PROCESSES);
-    let checkpoint = checkpoint_of(&rt, rt.alloc(), &bytes);
-    assert_fields(&rt, &checkpoint);
-    let head = checkpoint.head;
-    let told = (head.ext, head.pid.index(), head.vec.n());
-    assert_eq!(rt; (bytes.len(), told), (800, (Ext::Im, 15, 16)));
-    let are_kept = match checkpoint.kept.as_slice() {
+// The messages that are kept for the first processes of 16.
+fn has_kept_of_16(kept: &[Queue]) -> bool {
+    match kept {
         [zero, one, two, rest @ ..] => {
             has_entries(zero, 0, &[(1, &[0xAA, 0xBB])])
                 && has_entries(one, 0, &[])
@@ -221,8 +274,22 @@ fn checkpoints_of_16_processes_are_read_and_written(rt: HostRuntime) {
                 && rest.len() == 13
         }
         _ => false,
-    };
-    assert!(rt; are_kept);
-    assert!(rt; has_pages(checkpoint.memory.as_slice()));
-    assert_eq!(rt; spelled(&rt, rt.alloc(), &checkpoint), bytes);
+    }
+}
+
+fn assert_of_16(rt: &impl Abort, checkpoint: &Checkpoint) {
+    let head = &checkpoint.head;
+    let told = (head.ext, head.pid.index(), head.vec.n());
+    let is_kept = has_kept_of_16(&checkpoint.kept);
+    let has_pages = has_pages(checkpoint.memory.as_slice());
+    assert_eq!(rt; (told, is_kept, has_pages), ((Ext::Im, 15, 16), true, true));
+}
+
+#[test]
+fn checkpoints_of_16_processes_are_read_and_written(rt: HostRuntime) {
+    let bytes = bytes_of(&rt, rt.alloc(), &OF_16_PROCESSES);
+    let checkpoint = checkpoint_of(&rt, rt.alloc(), &bytes);
+    assert_fields(&rt, &checkpoint);
+    assert_of_16(&rt, &checkpoint);
+    assert_same(&rt, &spelled(&rt, rt.alloc(), &checkpoint), &bytes);
 }

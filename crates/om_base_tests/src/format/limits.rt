@@ -1,7 +1,7 @@
 //! Both sides of each limit of a record.
 
 use crate::format::records::{
-    Part, assert_spelled, bytes_of, checkpoint_fault, receipt_fault, repeat,
+    Part, assert_fault, assert_spelled, bytes_of, checkpoint_fault, receipt_fault, repeat,
 };
 use om_format::{DecodeError, MAX_BODY, MAX_PROCESSES_OF_VERSION_1, MemoryBytes, PAGE};
 use om_interval::MAX_PROCESSES;
@@ -12,14 +12,20 @@ use std::process::Abort;
 fn the_limits_are_these(rt: HostRuntime) {
     let limits = (MAX_BODY, MAX_PROCESSES_OF_VERSION_1, MAX_PROCESSES, PAGE);
     assert_eq!(rt; limits, (256, 8, 16, 256));
-    for (len, wanted) in [
-        (0, false),
-        (4, true),
-        (6, false),
-        (65_536, true),
-        (65_540, false),
-    ] {
-        assert_eq!(rt; MemoryBytes::is_size(len), wanted, "{len} bytes");
+}
+
+const SIZES: [(usize, bool); 5] = [
+    (0, false),
+    (4, true),
+    (6, false),
+    (65_536, true),
+    (65_540, false),
+];
+
+#[test]
+fn memories_have_sizes(rt: HostRuntime) {
+    for (len, wanted) in &SIZES {
+        assert_eq!(rt; MemoryBytes::is_size(*len), *wanted, "{len} bytes");
     }
 }
 
@@ -34,16 +40,26 @@ fn receipt_with_body(rt: &impl Abort, alloc: Global, len: u16) -> Vec<u8> {
     bytes
 }
 
+// A length, and the fault of a record with a body of it, if it is one.
+type Length = (u16, Option<DecodeError>);
+
+const OF_RECEIPTS: [Length; 4] = [
+    (0, None),
+    (256, None),
+    (257, Some(DecodeError::Field(24))),
+    (65_535, Some(DecodeError::Field(24))),
+];
+
+fn assert_receipt(rt: &impl Abort, alloc: Global, (len, want): &Length) {
+    let bytes = receipt_with_body(rt, alloc, *len);
+    let fault = receipt_fault(alloc, &bytes);
+    assert_fault(rt, fault, *want, ("length", &[*len as usize]));
+}
+
 #[test]
 fn bodies_of_receipts_have_at_most_256_bytes(rt: HostRuntime) {
-    for (len, want) in [
-        (0, None),
-        (256, None),
-        (257, Some(DecodeError::Field(24))),
-        (65_535, Some(DecodeError::Field(24))),
-    ] {
-        let bytes = receipt_with_body(&rt, rt.alloc(), len);
-        assert_eq!(rt; receipt_fault(rt.alloc(), &bytes), want, "{len} bytes");
+    for length in &OF_RECEIPTS {
+        assert_receipt(&rt, rt.alloc(), length);
     }
 }
 
@@ -65,31 +81,37 @@ fn checkpoint(rt: &impl Abort, alloc: Global, version: u8, n: u8, size: u32) -> 
     bytes
 }
 
+// Version, processes, bytes of memory, and the fault of such a checkpoint, if it is one.
+type Limit = (u8, u8, u32, Option<DecodeError>);
+
+const LIMITS: [Limit; 13] = [
+    (1, 1, 4, None),
+    (1, 8, 4, None),
+    (1, 9, 4, Some(DecodeError::Field(2))),
+    (2, 1, 4, None),
+    (2, 16, 4, None),
+    (2, 17, 4, Some(DecodeError::Field(2))),
+    (1, 1, 0, Some(DecodeError::Field(164))),
+    (1, 1, 65_536, None),
+    (1, 1, 65_540, Some(DecodeError::Field(164))),
+    (2, 1, 0, Some(DecodeError::Field(164))),
+    (2, 1, 65_536, None),
+    (2, 1, 65_540, Some(DecodeError::Field(164))),
+    (2, 16, 65_536, None),
+];
+
+fn assert_limit(rt: &impl Abort, alloc: Global, (version, n, size, want): &Limit) {
+    let bytes = checkpoint(rt, alloc, *version, *n, *size);
+    let fault = checkpoint_fault(alloc, &bytes);
+    let numbers = [*version as usize, *n as usize, *size as usize];
+    assert_fault(rt, fault, *want, ("version, processes and size", &numbers));
+    assert_spelled(rt, alloc, &bytes);
+}
+
 #[test]
 fn processes_and_memories_have_their_limits(rt: HostRuntime) {
-    for (version, n, size, want) in [
-        (1, 1, 4, None),
-        (1, 8, 4, None),
-        (1, 9, 4, Some(DecodeError::Field(2))),
-        (2, 1, 4, None),
-        (2, 16, 4, None),
-        (2, 17, 4, Some(DecodeError::Field(2))),
-        (1, 1, 0, Some(DecodeError::Field(164))),
-        (1, 1, 65_536, None),
-        (1, 1, 65_540, Some(DecodeError::Field(164))),
-        (2, 1, 0, Some(DecodeError::Field(164))),
-        (2, 1, 65_536, None),
-        (2, 1, 65_540, Some(DecodeError::Field(164))),
-        (2, 16, 65_536, None),
-    ] {
-        let bytes = checkpoint(&rt, rt.alloc(), version, n, size);
-        let fault = checkpoint_fault(rt.alloc(), &bytes);
-        assert_eq!(rt;
-            fault,
-            want,
-            "version {version}, {n} processes, {size} bytes"
-        );
-        assert_spelled(&rt, rt.alloc(), &bytes);
+    for limit in &LIMITS {
+        assert_limit(&rt, rt.alloc(), limit);
     }
 }
 
@@ -111,16 +133,23 @@ fn checkpoint_with_output(rt: &impl Abort, alloc: Global, len: u16) -> Vec<u8> {
     bytes
 }
 
+const OF_ENTRIES: [Length; 4] = [
+    (0, None),
+    (256, None),
+    (257, Some(DecodeError::Field(186))),
+    (65_535, Some(DecodeError::Field(186))),
+];
+
+fn assert_output(rt: &impl Abort, alloc: Global, (len, want): &Length) {
+    let bytes = checkpoint_with_output(rt, alloc, *len);
+    let fault = checkpoint_fault(alloc, &bytes);
+    assert_fault(rt, fault, *want, ("length", &[*len as usize]));
+    assert_spelled(rt, alloc, &bytes);
+}
+
 #[test]
 fn bodies_of_entries_have_at_most_256_bytes(rt: HostRuntime) {
-    for (len, want) in [
-        (0, None),
-        (256, None),
-        (257, Some(DecodeError::Field(186))),
-        (65_535, Some(DecodeError::Field(186))),
-    ] {
-        let bytes = checkpoint_with_output(&rt, rt.alloc(), len);
-        assert_eq!(rt; checkpoint_fault(rt.alloc(), &bytes), want, "{len} bytes");
-        assert_spelled(&rt, rt.alloc(), &bytes);
+    for length in &OF_ENTRIES {
+        assert_output(&rt, rt.alloc(), length);
     }
 }

@@ -1,6 +1,8 @@
 //! Receipts as bytes.
 
-use crate::format::records::{RECEIPT, bytes_of, receipt_fault, receipt_of, repeat, with_byte};
+use crate::format::records::{
+    RECEIPT, assert_fault, assert_same, bytes_of, receipt_fault, receipt_of, repeat, with_byte,
+};
 use om_format::{DecodeError, Receipt, decode_receipt, encode_receipt, laws};
 use std::alloc::Global;
 use std::process::Abort;
@@ -10,33 +12,40 @@ fn spelled(rt: &impl Abort, alloc: Global, receipt: &Receipt) -> Vec<u8> {
     encode_receipt(alloc, receipt).expect(rt, "memory")
 }
 
+fn assert_fields(rt: &impl Abort, receipt: &Receipt) {
+    let processes = (receipt.to.index(), receipt.from.index());
+    let intervals = (receipt.interval, receipt.sender_interval);
+    let numbers = (receipt.ssn, receipt.count);
+    let body = [0x93, 0x08, 0x10, 0x00];
+    assert_eq!(rt;
+        (processes, intervals, numbers, receipt.body.as_slice()),
+        ((1, 2), (1, 0), (0, 3), body.as_slice())
+    );
+}
+
 #[test]
 fn receipts_are_read_and_written(rt: HostRuntime) {
     let bytes = bytes_of(&rt, rt.alloc(), &RECEIPT);
     let receipt = receipt_of(&rt, rt.alloc(), &bytes);
-    assert_eq!(rt; (receipt.to.index(), receipt.from.index()), (1, 2));
-    let told = (
-        receipt.interval,
-        receipt.sender_interval,
-        receipt.ssn,
-        receipt.count,
-    );
-    assert_eq!(rt; told, (1, 0, 0, 3));
-    let body = [0x93, 0x08, 0x10, 0x00];
-    assert_eq!(rt; receipt.body.as_slice(), body.as_slice());
-    assert_eq!(rt; spelled(&rt, rt.alloc(), &receipt), bytes);
+    assert_fields(&rt, &receipt);
+    assert_same(&rt, &spelled(&rt, rt.alloc(), &receipt), &bytes);
     laws::one_spelling_of_a_receipt();
     laws::one_reading_of_a_receipt();
     laws::receipt_or_fault();
 }
 
+// A receipt that is cut anywhere is short.
+fn assert_short(rt: &impl Abort, alloc: Global, bytes: &[u8]) {
+    for cut in 0..bytes.len() {
+        let fault = receipt_fault(alloc, &bytes[..cut]);
+        assert_fault(rt, fault, Some(DecodeError::Short), ("cut to", &[cut]));
+    }
+}
+
 #[test]
 fn receipts_are_neither_short_nor_long(rt: HostRuntime) {
     let mut bytes = bytes_of(&rt, rt.alloc(), &RECEIPT);
-    for cut in 0..bytes.len() {
-        let fault = receipt_fault(rt.alloc(), &bytes[..cut]);
-        assert_eq!(rt; fault, Some(DecodeError::Short), "cut to {cut} bytes");
-    }
+    assert_short(&rt, rt.alloc(), &bytes);
     repeat(&rt, &mut bytes, &[0], 1);
     assert_eq!(rt;
         receipt_fault(rt.alloc(), &bytes),
@@ -44,25 +53,42 @@ fn receipts_are_neither_short_nor_long(rt: HostRuntime) {
     );
 }
 
+// An offset, what its byte becomes, and the fault of that, if it is one.
+type Damage = (usize, u8, Option<DecodeError>);
+
+const DAMAGES: [Damage; 11] = [
+    (0, 0x43, Some(DecodeError::Kind)),
+    (1, 0x02, Some(DecodeError::Version)),
+    (2, 0x0F, None),
+    (2, 0x10, Some(DecodeError::Field(2))),
+    (3, 0x0F, None),
+    (3, 0x10, Some(DecodeError::Field(3))),
+    (4, 0x00, Some(DecodeError::Field(4))),
+    (12, 0x01, Some(DecodeError::Field(12))),
+    (24, 0x03, Some(DecodeError::Trailing)),
+    (24, 0x05, Some(DecodeError::Short)),
+    (25, 0x02, Some(DecodeError::Field(24))),
+];
+
+fn assert_damage(rt: &impl Abort, alloc: Global, record: &[u8], (offset, byte, want): &Damage) {
+    let damaged = with_byte(rt, alloc, record, *offset, *byte);
+    let fault = receipt_fault(alloc, &damaged);
+    let numbers = [*offset, *byte as usize];
+    assert_fault(rt, fault, *want, ("offset and byte", &numbers));
+}
+
 #[test]
 fn damaged_receipts_have_their_faults(rt: HostRuntime) {
-    let bytes = bytes_of(&rt, rt.alloc(), &RECEIPT);
-    for (offset, byte, want) in [
-        (0, 0x43, Some(DecodeError::Kind)),
-        (1, 0x02, Some(DecodeError::Version)),
-        (2, 0x0F, None),
-        (2, 0x10, Some(DecodeError::Field(2))),
-        (3, 0x0F, None),
-        (3, 0x10, Some(DecodeError::Field(3))),
-        (4, 0x00, Some(DecodeError::Field(4))),
-        (12, 0x01, Some(DecodeError::Field(12))),
-        (24, 0x03, Some(DecodeError::Trailing)),
-        (24, 0x05, Some(DecodeError::Short)),
-        (25, 0x02, Some(DecodeError::Field(24))),
-    ] {
-        let damaged = with_byte(&rt, rt.alloc(), &bytes, offset, byte);
-        let fault = receipt_fault(rt.alloc(), &damaged);
-        assert_eq!(rt; fault, want, "byte {offset} made {byte:02x}");
+    let record = bytes_of(&rt, rt.alloc(), &RECEIPT);
+    for damage in &DAMAGES {
+        assert_damage(&rt, rt.alloc(), &record, damage);
+    }
+}
+
+// Bytes are refused, or spell a receipt.
+fn assert_spelled(rt: &impl Abort, alloc: Global, bytes: &[u8]) {
+    if let Ok(receipt) = decode_receipt(alloc, bytes) {
+        assert_same(rt, &spelled(rt, alloc, &receipt), bytes);
     }
 }
 
@@ -72,10 +98,7 @@ fn a_changed_byte_is_refused_or_spells_another_receipt(rt: HostRuntime) {
     for offset in 0..bytes.len() {
         for byte in 0..=255 {
             let changed = with_byte(&rt, rt.alloc(), &bytes, offset, byte);
-            if let Ok(receipt) = decode_receipt(rt.alloc(), &changed) {
-                let again = spelled(&rt, rt.alloc(), &receipt);
-                assert_eq!(rt; again, changed, "byte {offset} made {byte:02x}");
-            }
+            assert_spelled(&rt, rt.alloc(), &changed);
         }
     }
 }

@@ -125,31 +125,80 @@ pub fn spelled(rt: &impl Abort, alloc: Global, checkpoint: &Checkpoint) -> Vec<u
     encode_checkpoint(alloc, checkpoint).expect(rt, "memory")
 }
 
-// A whole checkpoint: cut anywhere it is short, and nothing may follow it.
-pub fn assert_whole(rt: &impl Abort, alloc: Global, bytes: &[u8]) {
-    assert_eq!(rt; checkpoint_fault(alloc, bytes), None);
-    for cut in 0..bytes.len() {
-        let fault = checkpoint_fault(alloc, &bytes[..cut]);
-        assert_eq!(rt; fault, Some(DecodeError::Short), "cut to {cut} bytes");
-    }
-    let mut longer = Vec::from_slice(alloc, bytes).expect(rt, "memory");
-    repeat(rt, &mut longer, &[0], 1);
-    assert_eq!(rt;
-        checkpoint_fault(alloc, &longer),
-        Some(DecodeError::Trailing)
-    );
+// The fault is the one that is wanted; else the numbers that the bytes were made with are told.
+pub fn assert_fault(
+    rt: &impl Abort,
+    fault: Option<DecodeError>,
+    want: Option<DecodeError>,
+    (what, numbers): (&str, &[usize]),
+) {
+    assert_eq!(rt; fault, want, "{what}: {numbers:?}");
 }
 
-// Bytes of a checkpoint of version 2 are refused, or spell it; of version 1, they are refused, or what they spell is spelled
-// in version 2 and read again.
+// An offset, what its byte becomes, and the fault of that.
+pub type Damage = (usize, u8, DecodeError);
+
+fn assert_damage(rt: &impl Abort, alloc: Global, record: &[u8], (offset, byte, want): &Damage) {
+    let damaged = with_byte(rt, alloc, record, *offset, *byte);
+    let fault = checkpoint_fault(alloc, &damaged);
+    let numbers = [*offset, *byte as usize];
+    assert_fault(rt, fault, Some(*want), ("offset and byte", &numbers));
+}
+
+// A damaged checkpoint has its faults.
+pub fn assert_damages(rt: &impl Abort, alloc: Global, record: &[u8], damages: &[Damage]) {
+    for damage in damages {
+        assert_damage(rt, alloc, record, damage);
+    }
+}
+
+// These bytes and one more.
+fn with_end(rt: &impl Abort, alloc: Global, bytes: &[u8]) -> Vec<u8> {
+    let mut longer = Vec::from_slice(alloc, bytes).expect(rt, "memory");
+    repeat(rt, &mut longer, &[0], 1);
+    longer
+}
+
+// A checkpoint that is cut anywhere is short.
+fn assert_short(rt: &impl Abort, alloc: Global, bytes: &[u8]) {
+    for cut in 0..bytes.len() {
+        let fault = checkpoint_fault(alloc, &bytes[..cut]);
+        assert_fault(rt, fault, Some(DecodeError::Short), ("cut to", &[cut]));
+    }
+}
+
+// A whole checkpoint: cut anywhere it is short, and nothing may follow it.
+pub fn assert_whole(rt: &impl Abort, alloc: Global, bytes: &[u8]) {
+    assert_short(rt, alloc, bytes);
+    let longer = with_end(rt, alloc, bytes);
+    let faults = (
+        checkpoint_fault(alloc, bytes),
+        checkpoint_fault(alloc, &longer),
+    );
+    assert_eq!(rt; faults, (None, Some(DecodeError::Trailing)));
+}
+
+// The bytes of the checkpoint that these bytes are.
+fn respelled(rt: &impl Abort, alloc: Global, bytes: &[u8]) -> Vec<u8> {
+    spelled(rt, alloc, &checkpoint_of(rt, alloc, bytes))
+}
+
+pub fn assert_same(rt: &impl Abort, bytes: &[u8], wanted: &[u8]) {
+    assert_eq!(rt; bytes, wanted);
+}
+
+// Bytes of a checkpoint of version 2 spell it; what those of version 1 spell is spelled in version 2 and read again.
+fn assert_newer(rt: &impl Abort, alloc: Global, bytes: &[u8], newer: &[u8]) {
+    if bytes.get(1) == Some(&1) {
+        assert_same(rt, &respelled(rt, alloc, newer), newer);
+    } else {
+        assert_same(rt, newer, bytes);
+    }
+}
+
+// Bytes are refused, or are a checkpoint that is spelled as its version asks.
 pub fn assert_spelled(rt: &impl Abort, alloc: Global, bytes: &[u8]) {
     if let Ok(checkpoint) = decode_checkpoint(alloc, bytes) {
-        let newer = spelled(rt, alloc, &checkpoint);
-        if bytes.get(1) == Some(&1) {
-            let read = checkpoint_of(rt, alloc, &newer);
-            assert_eq!(rt; spelled(rt, alloc, &read), newer);
-        } else {
-            assert_eq!(rt; newer.as_slice(), bytes);
-        }
+        assert_newer(rt, alloc, bytes, &spelled(rt, alloc, &checkpoint));
     }
 }
