@@ -36,23 +36,24 @@ fn vectors_have_1_to_16_places(rt: HostRuntime) {
     );
 }
 
-// The vector 0, 5, 9, made place by place, and what stands at place 1.
-fn changed(rt: &impl Abort) -> (DepVec, u32) {
-    let mut vector = DepVec::zeros(3).expect(rt, "3 places");
+// Whether a vector of these places is this one, None where there is none.
+fn is_vector(vector: &DepVec, places: &[u32]) -> Option<bool> {
+    Some(DepVec::from_slice(places)? == *vector)
+}
+
+// The vector 0, 5, 9, made place by place.
+#[test]
+fn vectors_are_read_and_changed_by_place(rt: HostRuntime) {
+    let mut vector = DepVec::zeros(3).expect(&rt, "3 places");
     assert_eq!(rt; vector.n(), 3);
     vector.set(Pid::at(1), 5);
     vector.join_tag(Pid::at(1), 4);
     vector.join_tag(Pid::at(2), 9);
-    (vector, vector.get(Pid::at(1)))
-}
-
-#[test]
-fn vectors_are_read_and_changed_by_place(rt: HostRuntime) {
-    let (vector, second) = changed(&rt);
-    let is_same = vector_of(&rt, &[0, 5, 9]) == vector;
+    let second = vector.get(Pid::at(1));
+    let is_same = is_vector(&vector, &[0, 5, 9]);
     assert_eq!(rt;
         (second, vector.as_slice(), is_same),
-        (5, [0, 5, 9].as_slice(), true)
+        (5, [0, 5, 9].as_slice(), Some(true))
     );
 }
 
@@ -67,15 +68,15 @@ const PAIRS: [Pair; 5] = [
     (&[0, 0], &[0, 5, 9], false),
 ];
 
-fn assert_pair(rt: &impl Abort, (low, high, want): &Pair) {
-    let leq = vector_of(rt, low).leq(&vector_of(rt, high));
-    assert_eq!(rt; leq, *want, "{low:?} and {high:?}");
+fn is_leq(rt: &impl Abort, low: &[u32], high: &[u32]) -> bool {
+    vector_of(rt, low).leq(&vector_of(rt, high))
 }
 
 #[test]
 fn vectors_are_compared_by_place(rt: HostRuntime) {
-    for pair in &PAIRS {
-        assert_pair(&rt, pair);
+    for (low, high, want) in &PAIRS {
+        let pair = (*low, *high);
+        assert_eq!(rt; (pair, is_leq(&rt, low, high)), (pair, *want));
     }
     laws::lower_vector_has_smaller_sum();
 }
@@ -128,7 +129,7 @@ const STARTS: [Start; 5] = [
 
 fn assert_starts(rt: &impl Abort, starts: &Starts) {
     for (place, told) in &STARTS {
-        assert_eq!(rt; start(starts, *place), Some(*told), "{place:?}");
+        assert_eq!(rt; (*place, start(starts, *place)), (*place, Some(*told)));
     }
 }
 
@@ -146,7 +147,7 @@ const ORPHANS: [Orphan; 5] = [
 fn assert_orphans(rt: &impl Abort, starts: &Starts) {
     for (place, interval, want) in &ORPHANS {
         let told = is_orphan(starts, *place, *interval);
-        assert_eq!(rt; told, Some(*want), "{place:?} in {interval}");
+        assert_eq!(rt; (*place, *interval, told), (*place, *interval, Some(*want)));
     }
 }
 

@@ -47,9 +47,12 @@ fn receipts_are_neither_short_nor_long(rt: HostRuntime) {
     let mut bytes = bytes_of(&rt, rt.alloc(), &RECEIPT);
     assert_short(&rt, rt.alloc(), &bytes);
     repeat(&rt, &mut bytes, &[0], 1);
-    assert_eq!(rt;
-        receipt_fault(rt.alloc(), &bytes),
-        Some(DecodeError::Trailing)
+    let fault = receipt_fault(rt.alloc(), &bytes);
+    assert_fault(
+        &rt,
+        fault,
+        Some(DecodeError::Trailing),
+        ("bytes more", &[1]),
     );
 }
 
