@@ -91,14 +91,14 @@ fn bounds_are_compared(rt: HostRuntime) {
 }
 
 // The starts of two processes of which process 1 goes back to interval 4.
-fn begun(rt: &impl Abort, alloc: Global) -> Starts {
+fn cut(rt: &impl Abort, alloc: Global) -> Starts {
     let mut starts = Starts::new(alloc, 2).expect(rt, "memory");
     assert_eq!(rt; starts.n(), 2);
     let state = DepVec::from_slice(&[3, 4]).expect(rt, "2 places");
     let mut who = [false; MAX_PROCESSES];
     who[1] = true;
     starts.cut_all(alloc, who, &state).expect(rt, "memory");
-    starts.copy(alloc).expect(rt, "memory")
+    starts
 }
 
 // The newest incarnation of a process, and where an incarnation of it starts.
@@ -153,7 +153,8 @@ fn assert_orphans(rt: &impl Abort, starts: &Starts) {
 
 #[test]
 fn incarnations_begin_above_the_state(rt: HostRuntime) {
-    let starts = begun(&rt, rt.alloc());
+    let starts = cut(&rt, rt.alloc());
+    let starts = starts.copy(rt.alloc()).expect(&rt, "memory");
     assert_starts(&rt, &starts);
     assert_orphans(&rt, &starts);
 }

@@ -34,7 +34,7 @@ const WORDS: [Word; 15] = [
 
 fn assert_word(rt: &impl Abort, text: &[u8], instruction: &Inst, (word, _, want): &Word) {
     let told = (text, encode(instruction));
-    assert_eq!(rt; told, (want.as_bytes(), *word), "at {word:08x}");
+    assert_eq!(rt; told, (want.as_bytes(), *word));
 }
 
 #[test]

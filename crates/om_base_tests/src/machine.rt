@@ -196,8 +196,8 @@ fn memories_have_limits(rt: HostRuntime) {
 
 type Load = (&'static [u32], u32, bool, Result<u32, LoadFault>);
 
-// Image, size, whether it is one, and the size of the machine. The sizes of a memory: 4 to 65,536 bytes, a multiple of 4. An
-// image may be as long as its memory.
+// Image, size, whether a memory can have it, and the size of the machine. The sizes of a memory: 4 to 65,536 bytes, a multiple
+// of 4. An image may be as long as its memory.
 const LOADS: [Load; 9] = [
     (&[0, 0], 6, false, Err(LoadFault::BadSize)),
     (&[0, 0], 4, true, Err(LoadFault::ImageTooLong)),
@@ -273,34 +273,38 @@ fn restored(rt: &impl Abort, alloc: Global) -> Machine {
     Machine::restore(alloc, &regs, 4, 9, &WORDS, Ext::Im).expect(rt, "a machine")
 }
 
-#[test]
-fn machines_are_restored(rt: HostRuntime) {
-    let machine = restored(&rt, rt.alloc());
+fn assert_restored(rt: &impl Abort, machine: &Machine) {
     let mut regs = [0; WRITABLE_REGISTERS];
     regs[0] = 1;
     regs[30] = 0xFFFF_FFFF;
     let told = (machine.pc(), machine.count(), machine.ext());
-    let registers = (machine.regs(), reg(&machine, 0), reg(&machine, 1));
+    let registers = (machine.regs(), reg(machine, 0), reg(machine, 1));
     assert_eq!(rt;
         (told, registers, machine.memory()),
         ((4, 9, Ext::Im), (regs, Some(0), Some(1)), WORDS.as_slice())
     );
 }
 
-// Whether the machine that is restored from what this one tells, with this extension, is the same.
-fn is_same(rt: &impl Abort, alloc: Global, machine: &Machine, ext: Ext) -> bool {
+#[test]
+fn machines_are_restored(rt: HostRuntime) {
+    assert_restored(&rt, &restored(&rt, rt.alloc()));
+}
+
+// Whether the machine that is restored from what this one tells, with this extension, is the same, and whether it is another.
+fn compared(rt: &impl Abort, alloc: Global, machine: &Machine, ext: Ext) -> (bool, bool) {
     let (regs, memory) = (machine.regs(), machine.memory());
     let other = Machine::restore(alloc, &regs, machine.pc(), machine.count(), memory, ext);
-    other.expect(rt, "a machine") == *machine
+    let other = other.expect(rt, "a machine");
+    (*machine == other, *machine != other)
 }
 
 // A machine is restored as it was told, and another extension makes another machine.
 #[test]
 fn machines_are_restored_as_they_were_told(rt: HostRuntime) {
     let machine = restored(&rt, rt.alloc());
-    let same = is_same(&rt, rt.alloc(), &machine, machine.ext());
-    let other = is_same(&rt, rt.alloc(), &machine, Ext::I);
-    assert_eq!(rt; (same, other), (true, false));
+    let same = compared(&rt, rt.alloc(), &machine, machine.ext());
+    let other = compared(&rt, rt.alloc(), &machine, Ext::I);
+    assert_eq!(rt; (same, other), ((true, false), (false, true)));
     // The laws are called for the theorems on them: they do nothing.
     laws::loading_makes_a_machine();
     laws::restoring_gives_the_machine();
