@@ -1,5 +1,6 @@
 //! Bodies, entries, queues, messages and memories as values.
 
+use crate::format::records::assert_same;
 use om_format::{Body, Entry, MAX_BODY, MemoryBytes, Message, Queue};
 use om_interval::{Pid, Tag};
 use std::alloc::Global;
@@ -15,7 +16,7 @@ fn body(rt: &impl Abort, alloc: Global, bytes: &[u8]) -> Body {
 #[test]
 fn bodies_give_their_bytes_back(rt: HostRuntime) {
     let bytes = body(&rt, rt.alloc(), &[1, 2]).into_vec();
-    assert_eq!(rt; bytes.as_slice(), [1, 2].as_slice());
+    assert_same(&rt, &bytes, &[1, 2]);
 }
 
 const WORD: [u8; 4] = [1, 2, 3, 4];
@@ -30,9 +31,8 @@ fn memory(rt: &impl Abort, alloc: Global) -> MemoryBytes {
 #[test]
 fn memories_give_their_bytes_back(rt: HostRuntime) {
     let memory = memory(&rt, rt.alloc());
-    let is_told = memory.as_slice() == WORD.as_slice();
-    let bytes = memory.into_vec();
-    assert_eq!(rt; (is_told, bytes.as_slice()), (true, WORD.as_slice()));
+    assert_same(&rt, memory.as_slice(), &WORD);
+    assert_same(&rt, &memory.into_vec(), &WORD);
 }
 
 // A message of process 0 to process 15.

@@ -38,7 +38,7 @@ fn assert_newer(rt: &impl Abort, alloc: Global, bytes: &[u8], newer: &[u8], ext:
     assert_same(rt, &spelled(rt, alloc, &checkpoint), newer);
 }
 
-// So is that of a machine with the M extension.
+// So it is, and so is that of a machine with the M extension.
 fn assert_first(rt: &impl Abort, alloc: Global, bytes: &[u8], newer: &[u8]) {
     assert_newer(rt, alloc, bytes, newer, Ext::I);
     let other = with_byte(rt, alloc, bytes, 0, 0x4D);
