@@ -1,7 +1,8 @@
 ghost use Rattle.std.specs.Prelude.{◌≡◌, [], ◌∷◌, ◌++◌, true, false};
 ghost use mathlib.Core.List.{IsPrefix};
+ghost use Rattle.crossbeam_utils.specs.Register.{Forks, Merges, Turns};
 ghost use Rattle.crossbeam_utils.specs.Seq.{cell_view};
-ghost use Rattle.om_runner.specs.steps.Posting.{IsLog, Loads, MayStore, opened, shown_to, writer};
+ghost use Rattle.om_runner.specs.steps.Posting.{IsLog, Kept, Loads, MayStore, Stores, opened, reader, shown_to, writer};
 
 use atomic_table::{Join, Split};
 use crossbeam_utils::atomic::seq_cell::{Pass, RuledSeqCell};
@@ -96,6 +97,55 @@ pub type Cell = RuledSeqCell<[u64; WORDS], View, Posted, WORDS>;
 
 pub type Ticket = Pass<[u64; WORDS], View>;
 
+// The steps of the cell at a condition that is the cell's own. Below each step has a function whose condition is in our words.
+
+fn read_as<M: Outcome<[u64; WORDS], View>, R: Wait>(
+    cell: &Cell,
+    rt: &R,
+    ticket: &mut Ticket,
+) -> [u64; WORDS]
+    requires own { ticket.old.table_id ≡ cell.now.table.shared.table_id }
+    requires rule { Turns Kept ticket.old.id (cell_view ticket.old) (λ x. x) M.then }
+    ensures own { ticket.new.table_id ≡ ticket.old.table_id }
+    ensures rule { M.then (cell_view ticket.old) result result (cell_view ticket.new) }
+{
+    cell.load_as::<M, R>(rt, ticket)
+}
+
+fn write_as<R: Wait>(cell: &Cell, rt: &R, ticket: &mut Ticket, words: [u64; WORDS])
+    requires own { ticket.old.table_id ≡ cell.now.table.shared.table_id }
+    requires rule { Turns Kept ticket.old.id (cell_view ticket.old) (λ _. words) Stores }
+    ensures own { ticket.new.table_id ≡ ticket.old.table_id }
+    ensures view { cell_view ticket.new ≡ writer ((cell_view ticket.old).seen ++ words ∷ []) }
+    ensures log { IsLog (cell_view ticket.new).seen }
+{
+    cell.swap_as::<Store, R>(rt, ticket, words);
+}
+
+fn split_as<M: Split<View>>(cell: &Cell, ticket: &mut Ticket) -> Ticket
+    requires own { ticket.old.table_id ≡ cell.now.table.shared.table_id }
+    requires rule { Forks Kept ticket.old.id (cell_view ticket.old) (M.left (cell_view ticket.old)) (M.right (cell_view ticket.old)) }
+    ensures own { ticket.new.table_id ≡ ticket.old.table_id }
+    ensures left { cell_view ticket.new ≡ M.left (cell_view ticket.old) }
+    ensures right_own { result.table_id ≡ ticket.old.table_id }
+    ensures right { cell_view result ≡ M.right (cell_view ticket.old) }
+    ensures fresh { result.me.1 ≡ [] }
+{
+    cell.split_pass::<M>(ticket)
+}
+
+fn join_as(cell: &Cell, ticket: &mut Ticket, other: Ticket)
+    requires own { ticket.old.table_id ≡ cell.now.table.shared.table_id }
+    requires other_own { other.table_id ≡ ticket.old.table_id }
+    requires fresh { other.me.1 ≡ [] }
+    requires rule { Merges Kept ticket.old.id (cell_view ticket.old) other.id (cell_view other)
+        (shown_to (cell_view ticket.old) (cell_view other)) (reader []) }
+    ensures own { ticket.new.table_id ≡ ticket.old.table_id }
+    ensures view { cell_view ticket.new ≡ shown_to (cell_view ticket.old) (cell_view other) }
+{
+    cell.join_pass::<Shows>(ticket, other);
+}
+
 // Reads the words, by a pass that reads.
 pub(crate) fn read_words<R: Wait>(cell: &Cell, rt: &R, ticket: &mut Ticket) -> [u64; WORDS]
     requires own { ticket.old.table_id ≡ cell.now.table.shared.table_id }
@@ -103,7 +153,7 @@ pub(crate) fn read_words<R: Wait>(cell: &Cell, rt: &R, ticket: &mut Ticket) -> [
     ensures own { ticket.new.table_id ≡ ticket.old.table_id }
     ensures loads { Loads (cell_view ticket.old) result result (cell_view ticket.new) }
 {
-    cell.load_as::<Load, R>(rt, ticket)
+    read_as::<Load, R>(cell, rt, ticket)
 }
 
 // Writes words, by the pass that writes.
@@ -114,7 +164,7 @@ pub(crate) fn write_words<R: Wait>(cell: &Cell, rt: &R, ticket: &mut Ticket, wor
     ensures view { cell_view ticket.new ≡ writer ((cell_view ticket.old).seen ++ words ∷ []) }
     ensures log { IsLog (cell_view ticket.new).seen }
 {
-    cell.swap_as::<Store, R>(rt, ticket, words);
+    write_as(cell, rt, ticket, words);
 }
 
 // A copy of a pass that reads.
@@ -127,7 +177,7 @@ pub(crate) fn copy_of(cell: &Cell, ticket: &mut Ticket) -> Ticket
     ensures copy { cell_view result ≡ cell_view ticket.old }
     ensures fresh { result.me.1 ≡ [] }
 {
-    cell.split_pass::<Twice>(ticket)
+    split_as::<Twice>(cell, ticket)
 }
 
 // Shows the writer the pass of a reader.
@@ -138,7 +188,7 @@ pub(crate) fn show(cell: &Cell, ticket: &mut Ticket, other: Ticket)
     ensures own { ticket.new.table_id ≡ ticket.old.table_id }
     ensures view { cell_view ticket.new ≡ shown_to (cell_view ticket.old) (cell_view other) }
 {
-    cell.join_pass::<Shows>(ticket, other);
+    join_as(cell, ticket, other);
 }
 
 // The writer compares what it was shown with what it wrote.
@@ -149,7 +199,7 @@ pub(crate) fn compare<R: Wait>(cell: &Cell, rt: &R, ticket: &mut Ticket)
     ensures view { cell_view ticket.new ≡ writer (cell_view ticket.old).seen }
     ensures behind { IsPrefix (cell_view ticket.old).shown (cell_view ticket.old).seen }
 {
-    cell.load_as::<Meet, R>(rt, ticket);
+    read_as::<Meet, R>(cell, rt, ticket);
 }
 
 // A pass that reads, from the writer's.
@@ -160,5 +210,5 @@ pub(crate) fn reader_of(cell: &Cell, ticket: &mut Ticket) -> Ticket
     ensures reader_own { result.table_id ≡ ticket.old.table_id }
     ensures reader { cell_view result ≡ opened (cell_view ticket.old) }
 {
-    cell.split_pass::<Opens>(ticket)
+    split_as::<Opens>(cell, ticket)
 }

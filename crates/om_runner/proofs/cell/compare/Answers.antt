@@ -1,6 +1,5 @@
-use Rattle.std.proofs.Common.{rules}
 use Rattle.om_runner.proofs.PostingLemmas.{meets}
 use Rattle.om_runner.proofs.cell.compare.Goals as goal
 
-pub load_as-requires : goal.load_as-requires
-load_as-requires g c = (search rules, (search rules, (c.requires.own, meets _ _ c.requires.writes)))
+pub read_as-requires-clause-rule : goal.read_as-requires-clause-rule
+read_as-requires-clause-rule g c = meets _ _ c.requires.writes

@@ -1,6 +1,5 @@
-use Rattle.std.proofs.Common.{rules}
 use Rattle.om_runner.proofs.PostingLemmas.{loads}
 use Rattle.om_runner.proofs.cell.read_words.Goals as goal
 
-pub load_as-requires : goal.load_as-requires
-load_as-requires g c = (search rules, (search rules, (c.requires.own, loads _ _ c.requires.reads)))
+pub read_as-requires-clause-rule : goal.read_as-requires-clause-rule
+read_as-requires-clause-rule g c = loads _ _ c.requires.reads

@@ -1,6 +1,5 @@
-use Rattle.std.proofs.Common.{rules}
 use Rattle.om_runner.proofs.PostingLemmas.{opens}
 use Rattle.om_runner.proofs.cell.reader_of.Goals as goal
 
-pub split_pass-requires : goal.split_pass-requires
-split_pass-requires c = (search rules, (search rules, (c.requires.own, opens _ _)))
+pub split_as-requires-clause-rule : goal.split_as-requires-clause-rule
+split_as-requires-clause-rule c = opens _ _
