@@ -1,5 +1,5 @@
 -- What a report is made of.
-use Rattle.std.proofs.Common.{◌≡◌, ◌⊎◌, inl, inr, ℕ, zero, suc, ◌+◌, ◌<◌, ◌≤◌, List, [], ◌∷◌, ◌++◌, Some, cond, refl, sym, ap, ◌∙◌, subst, arith, get_or, length, map, IsTrue, Bool}
+use Rattle.std.proofs.Common.{◌≡◌, ◌⊎◌, inl, inr, ℕ, zero, suc, ◌+◌, ◌<◌, ◌≤◌, List, [], ◌∷◌, ◌++◌, Some, cond, refl, sym, ap, ◌∙◌, subst, arith, append_assoc, get_or, length, map, IsTrue, Bool}
 use Rattle.std.specs.Prelude.{Vec, slice_get, slice_index, Ok, Result, IfOk}
 use Rattle.std.specs.declared.alloc.Global.{Global}
 use Rattle.std.proofs.lemmas.Bool.{cases_order, le-leb, lt-leb}
@@ -52,6 +52,12 @@ each_more P xs ys y are each last k h lt = elim (more_had xs k y (get_or ys k h)
   | inl here ↦ subst (P k) (sym here.1) (subst (λ i. P i y) (sym here.0) last)
   | inr there ↦ subst (P k) (get_or_from_slice_get xs k (get_or ys k h) h there) (each k h (slice_get_within xs k (get_or ys k h) there))
 ]
+
+-- an element that goes from the front of the rest to the end of what is done
+pub moved : {A B : Type 0} (f : A → B) (done more : List B) (x : A) (rest old : List A) (all : List B) → old ≡ x ∷ rest → more ≡ done ++ f x ∷ []
+    → done ++ map f old ≡ all → more ++ map f rest ≡ all
+moved f done more x rest old all next grown was =
+    ap (λ l. l ++ map f rest) grown ∙ append_assoc done (f x ∷ []) (map f rest) ∙ ap (λ l. done ++ map f l) (sym next) ∙ was
 
 -- ---- outputs
 cases_le_lt : (x y : ℕ) → (x ≤ y) ⊎ (y < x)

@@ -7,9 +7,10 @@ ghost use Rattle.om_manager.specs.State as managers;
 ghost use Rattle.om_manager.specs.State.{released_by as held_within};
 ghost use Rattle.om_process.specs.Images.{program_of};
 ghost use Rattle.om_process.specs.declared.image.Image.{Image};
-ghost use Rattle.om_runner.specs.Reports.{AreAllReleased, AreAlong, AreStatusesAlong, IsEnd};
+ghost use Rattle.om_runner.specs.Reports.{AreAllReleased, AreAlong, AreStatusesAlong, IsEnd, IsStatusAlong};
 ghost use Rattle.om_runner.specs.steps.Ends.{AreEndsOf, AreReleasedBy, IsEndOf, IsPromised, IsTurned};
 ghost use Rattle.om_runner.specs.steps.Places.{member_of};
+ghost use Rattle.om_runner.specs.steps.Settling.{AreLeaves};
 ghost use Rattle.om_runner.specs.steps.Wiring.{IsWired};
 
 use crate::config::Config;
@@ -158,7 +159,43 @@ fn take_turn<'a, K: Naming, S: Stable, R: Wait>(
     }
 }
 
-// The turns of a worker, until all are quiet.
+// The turns of a worker until all are quiet: how its process ended, and its store.
+fn turns_until_over<'a, K: Naming, S: Stable, R: Wait>(
+    rt: &R,
+    alloc: Global,
+    turns: u64,
+    stop: &AtomicBool,
+    worker: &mut Worker<'a, K>,
+    node: Node<'a, S>,
+    pass: Pass<K>,
+) -> Result<(Status, S), RunFault>
+    requires own { node.member.own ≡ worker.old.links.own }
+    requires size { node.member.n ≡ K.cell.n }
+    ensures same { worker.new.links ≡ worker.old.links }
+    ensures ended { IfOk result (λ end. IsEnd end.0) }
+    ensures along { let m = node.entry.member in
+        IfOk result (λ end. IsTrue (S.is_clean end.1) → IsStatusAlong m.program m.own m.n end.0) }
+{
+    let mut pass = pass;
+    let mut place = Place::Up(node);
+    for _ in 0..turns {
+        if stop.load(SeqCst) {
+            break;
+        }
+        match take_turn(rt, alloc, worker, place, pass)? {
+            Turned::On(next, met) => {
+                place = next;
+                pass = met;
+            }
+            Turned::Over(status, store) => return Ok((status, store)),
+        }
+    }
+    // Dropped by a call: at the end of the scope each part of each place would be dropped in turn.
+    drop(place);
+    Err(RunFault::Turns(worker.pid()))
+}
+
+// The same, with the ends that the worker gives up then.
 fn take_turns<'a, K: Naming, S: Stable, R: Wait>(
     rt: &R,
     alloc: Global,
@@ -174,28 +211,36 @@ fn take_turns<'a, K: Naming, S: Stable, R: Wait>(
         IfOk result (λ f. IsEndOf S.is_clean m.program worker.entry.links.lines m.own m.n f) }
 {
     let mut worker = worker;
-    let mut pass = pass;
-    let mut place = Place::Up(node);
-    for _ in 0..turns {
-        if stop.load(SeqCst) {
-            break;
-        }
-        match take_turn(rt, alloc, &mut worker, place, pass)? {
-            Turned::On(next, met) => {
-                place = next;
-                pass = met;
-            }
-            Turned::Over(status, store) => {
-                let ends = worker.into_ends();
-                return Ok(Finished {
-                    status,
-                    store,
-                    ends,
-                });
-            }
-        }
-    }
-    Err(RunFault::Turns(worker.pid()))
+    let (status, store) = turns_until_over(rt, alloc, turns, stop, &mut worker, node, pass)?;
+    let ends = worker.into_ends();
+    Ok(Finished {
+        status,
+        store,
+        ends,
+    })
+}
+
+// A process that the gate let start, and the intervals at which it is to fail.
+fn admit<'a, K: Naming, R: Wait, G: Gate, O: Opener<R>>(
+    cluster: &Cluster<'a, K, R, G, O>,
+    image: &'a Image,
+    pid: Pid,
+    n: usize,
+) -> Result<(Node<'a, O::Store>, Vec<u32>), RunFault>
+    ensures { IfOk result (λ made. made.0.member ≡ record { program = program_of image.entry.now; own = pid; n = n }) }
+{
+    let Cluster {
+        rt,
+        alloc,
+        plan,
+        ..
+    } = *cluster;
+    pass_gate(cluster.gate, plan.gate_turns, pid)?;
+    let Ok(kills) = kills_of(alloc, &plan.kills, pid) else {
+        return Err(RunFault::Memory);
+    };
+    let node = begin(rt, alloc, cluster.opener, image, pid, n)?;
+    Ok((node, kills))
 }
 
 // What the thread of a process does.
@@ -208,21 +253,17 @@ fn work<'a, K: Naming, R: Wait, G: Gate, O: Opener<R>>(
         IfOk result (λ f. IsEndOf O.Store.is_clean (program_of image.entry.now) l.lines l.own l.n f) }
 {
     let Job { links, pass, .. } = job;
-    let pid = links.own();
-    let n = links.n();
+    let (node, kills) = admit(cluster, image, links.own(), links.n())?;
     let Cluster {
         rt,
         alloc,
         plan,
+        shared,
+        stop,
         ..
     } = *cluster;
-    pass_gate(cluster.gate, plan.gate_turns, pid)?;
-    let node = begin(rt, alloc, cluster.opener, image, pid, n)?;
-    let Ok(kills) = kills_of(alloc, &plan.kills, pid) else {
-        return Err(RunFault::Memory);
-    };
-    let worker = Worker::new(plan, cluster.shared, links, kills);
-    take_turns(rt, alloc, plan.turns, cluster.stop, worker, node, pass)
+    let worker = Worker::new(plan, shared, links, kills);
+    take_turns(rt, alloc, plan.turns, stop, worker, node, pass)
 }
 
 // The same, and where it ends with a fault, the others are stopped.
@@ -494,6 +535,69 @@ fn report_of(alloc: Global, manager: &Manager, statuses: Vec<Status>) -> Result<
     })
 }
 
+// What all workers of a cluster brought back, where each ended well.
+fn run_workers<
+    K: Naming + Send + Sync,
+    R: Threads + Wait + Sync,
+    G: Gate + Sync,
+    O: Opener<R> + Sync,
+>(
+    cluster: &Cluster<'_, K, R, G, O>,
+    ends: Vec<Ends>,
+    passes: Vec<Pass<K>>,
+) -> Result<Parts<O::Store>, RunFault>
+    requires few { K.cell.n ≤ MAX_PROCESSES }
+    requires images { length cluster.now.plan.now.images.items ≡ K.cell.n }
+    requires wired { IsWired K.cell.n cluster.now.inboxes.now ends.items }
+    requires passes { vec_len passes ≡ K.cell.n }
+    ensures leaves { IfOk result (λ parts. AreLeaves (length cluster.now.inboxes.now) cluster.now.inboxes.now
+        parts.puts.items parts.takes.items) }
+    ensures statuses { IfOk result (λ parts. length parts.statuses.items ≡ length cluster.now.plan.now.images.items) }
+    ensures stores { IfOk result (λ parts. length parts.stores.items ≡ length cluster.now.plan.now.images.items) }
+    ensures ended { IfOk result (λ parts. All IsEnd parts.statuses.items) }
+    ensures along { IfOk result (λ parts. AreAlong O.Store.is_clean cluster.now.plan.now.images.items
+        parts.statuses.items parts.stores.items) }
+{
+    let results = run_scoped(cluster, ends, passes)?;
+    let all = all_of(cluster.alloc, results)?;
+    match parted(cluster.alloc, all) {
+        Ok(parts) => Ok(parts),
+        Err(_) => Err(RunFault::Memory),
+    }
+}
+
+// Settles the inboxes, and reads the report from the board. The stores stand beside it.
+fn close<K: Naming, R: Wait, G: Gate, O: Opener<R>>(
+    cluster: &Cluster<'_, K, R, G, O>,
+    parts: Parts<O::Store>,
+) -> Result<(Report, Vec<O::Store>), RunFault>
+    requires images { length cluster.now.plan.now.images.items ≡ K.cell.n }
+    requires leaves { AreLeaves (length cluster.now.inboxes.now) cluster.now.inboxes.now parts.puts.items parts.takes.items }
+    requires statuses { length parts.statuses.items ≡ length cluster.now.plan.now.images.items }
+    requires stores { length parts.stores.items ≡ length cluster.now.plan.now.images.items }
+    requires ended { All IsEnd parts.statuses.items }
+    requires along { AreAlong O.Store.is_clean cluster.now.plan.now.images.items parts.statuses.items parts.stores.items }
+    ensures released { IfOk result (λ r. AreAllReleased r.0.front.vec r.0.released.items) }
+    ensures processes { IfOk result (λ r. length r.0.released.items ≡ length cluster.now.plan.now.images.items) }
+    ensures statuses { IfOk result (λ r. length r.0.statuses.items ≡ length cluster.now.plan.now.images.items) }
+    ensures stores { IfOk result (λ r. length r.1.items ≡ length cluster.now.plan.now.images.items) }
+    ensures ended { IfOk result (λ r. All IsEnd r.0.statuses.items) }
+    ensures along { IfOk result (λ r. AreAlong O.Store.is_clean cluster.now.plan.now.images.items r.0.statuses.items r.1.items) }
+{
+    let Parts {
+        statuses,
+        stores,
+        puts,
+        mut takes,
+    } = parts;
+    settle_all(cluster.rt, cluster.inboxes, puts, &mut takes);
+    let board = cluster.shared.board.lock(cluster.rt);
+    let Ok(report) = report_of(cluster.alloc, board.manager(), statuses) else {
+        return Err(RunFault::Memory);
+    };
+    Ok((report, stores))
+}
+
 fn run_named<
     K: Naming + Send + Sync,
     R: Threads + Wait + Sync,
@@ -535,23 +639,8 @@ fn run_named<
         stop: &stop,
         inboxes: &inboxes,
     };
-    let results = run_scoped(&cluster, ends, passes)?;
-    let all = all_of(alloc, results)?;
-    let Ok(parts) = parted(alloc, all) else {
-        return Err(RunFault::Memory);
-    };
-    let Parts {
-        statuses,
-        stores,
-        puts,
-        mut takes,
-    } = parts;
-    settle_all(rt, cluster.inboxes, puts, &mut takes);
-    let board = shared.board.lock(rt);
-    let Ok(report) = report_of(alloc, board.manager(), statuses) else {
-        return Err(RunFault::Memory);
-    };
-    Ok((report, stores))
+    let parts = run_workers(&cluster, ends, passes)?;
+    close(&cluster, parts)
 }
 
 /// Runs a cluster as [`run_cluster`] does, and hands back the store of each process beside the report. Where a process's store

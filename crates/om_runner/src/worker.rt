@@ -67,7 +67,8 @@ impl Step {
     }
 }
 
-// A worker, but for its process.
+// A worker, but for its process. Where it gives a process up for a trouble it drops it by a call: at the end of the scope each
+// part of the process would be dropped in turn.
 #[derive(Drop)]
 pub(crate) struct Worker<'a, K: Naming> {
     plan: &'a Config,
@@ -193,8 +194,13 @@ impl<'a, K: Naming> Worker<'a, K> {
         ensures place { IfOk result (λ r. member_of r.0 ≡ node.entry.member) }
     {
         let mut node = node;
-        let (step, pass) = self.advance(rt, alloc, front, &mut node, pass)?;
-        Ok((step.place_of(node), pass))
+        match self.advance(rt, alloc, front, &mut node, pass) {
+            Ok((step, pass)) => Ok((step.place_of(node), pass)),
+            Err(trouble) => {
+                drop(node);
+                Err(trouble)
+            }
+        }
     }
 
     // Runs the process, hands in what it has, and takes a message where it waits for one.
@@ -355,8 +361,13 @@ impl<'a, K: Naming> Worker<'a, K> {
         ensures place { IfOk result (λ r. member_of r.0 ≡ node.entry.member) }
     {
         let mut node = node;
-        let pass = self.enter(rt, alloc, &mut node, pass)?;
-        Ok((Place::In(node), pass))
+        match self.enter(rt, alloc, &mut node, pass) {
+            Ok(pass) => Ok((Place::In(node), pass)),
+            Err(trouble) => {
+                drop(node);
+                Err(trouble)
+            }
+        }
     }
 
     fn enter<S: Stable, R: Wait>(
@@ -404,7 +415,13 @@ impl<'a, K: Naming> Worker<'a, K> {
         ensures same { self.new.links ≡ self.old.links }
         ensures place { IfOk result (λ r. member_of r.0 ≡ node.entry.member) }
     {
-        let (heard, pass) = self.listen(rt, alloc, front, pass)?;
+        let (heard, pass) = match self.listen(rt, alloc, front, pass) {
+            Ok(heard) => heard,
+            Err(trouble) => {
+                drop(node);
+                return Err(trouble);
+            }
+        };
         let place = match heard {
             None => Place::In(node),
             Some(heard) => Place::Up(after_round(alloc, node, &heard)?),
