@@ -121,6 +121,11 @@ ended_so is_clean images lines n results fs many all long each p f at =
       | inr past ↦ let l = past.0 in absurd (omega arith)
     ]
 
+-- a part of each is as many
+pub as_many : {S E A : Type 0} (f : Finished S → A) (parts : List A) (n : ℕ) (results : List (Result (Finished S) E)) (fs : List (Finished S))
+    → map Ok fs ≡ results → length results ≡ n → parts ≡ map f fs → length parts ≡ n
+as_many f parts n results fs all long are = ap length are ∙ length-map fs f ∙ sym (length-map fs Ok) ∙ ap length all ∙ long
+
 -- where these are their statuses and stores, the statuses are those of states along the images
 pub all_along : {S E : Type 0} (is_clean : S → Bool) (images : List Image) (lines : Lines) (n : ℕ) (results : List (Result (Finished S) E)) (fs : List (Finished S))
     (statuses : List Status) (stores : List S)

@@ -116,8 +116,13 @@ fn after_round<'a, S: Stable>(
         return node.fail().come_back(alloc, &heard.starts, &heard.verdict);
     }
     let mut node = node;
-    node.resume(alloc, &heard.starts, &heard.verdict)?;
-    Ok(node)
+    match node.resume(alloc, &heard.starts, &heard.verdict) {
+        Ok(()) => Ok(node),
+        Err(trouble) => {
+            drop(node);
+            Err(trouble)
+        }
+    }
 }
 
 impl<'a, K: Naming> Worker<'a, K> {

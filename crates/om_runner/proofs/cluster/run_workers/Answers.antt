@@ -1,6 +1,6 @@
-use Rattle.std.proofs.Common.{◌≡◌, rules, length, sym, subst, get_or}
+use Rattle.std.proofs.Common.{◌≡◌, ◌∙◌, rules, length, sym, subst, get_or}
 use Rattle.std.proofs.lemmas.Option.{slice_get-get_or}
-use Rattle.om_runner.proofs.ReportLemmas.{all_along, all_ended, all_leaves}
+use Rattle.om_runner.proofs.ReportLemmas.{all_along, all_ended, all_leaves, as_many}
 use Rattle.om_runner.specs.steps.Settling.{AreLeaves}
 use Rattle.om_runner.proofs.cluster.run_workers.Goals as goal
 
@@ -25,3 +25,13 @@ returns-in-Ok-clause-along g c =
     let long : length c.in_ok-results.results.items ≡ g.K.Naming.cell.n = (let l = c.in_ok-results.ensures.long in search rules) in
     all_along g.O.Store.Stable.is_clean c.args.cluster.now.plan.now.images.items _ g.K.Naming.cell.n c.in_ok-results.results.items c.in_ok-all.all.items _ _
     c.requires.images c.in_ok-all.ensures long c.in_ok-results.ensures.each c.in-Ok.ensures.statuses c.in-Ok.ensures.stores
+
+pub returns-in-Ok-clause-statuses : goal.returns-in-Ok-clause-statuses
+returns-in-Ok-clause-statuses g c =
+    let long : length c.in_ok-results.results.items ≡ g.K.Naming.cell.n = (let l = c.in_ok-results.ensures.long in search rules) in
+    as_many (λ f. f.status) c.in-Ok.parts.statuses.items _ _ _ c.in_ok-all.ensures long c.in-Ok.ensures.statuses ∙ sym c.requires.images
+
+pub returns-in-Ok-clause-stores : goal.returns-in-Ok-clause-stores
+returns-in-Ok-clause-stores g c =
+    let long : length c.in_ok-results.results.items ≡ g.K.Naming.cell.n = (let l = c.in_ok-results.ensures.long in search rules) in
+    as_many (λ f. f.store) c.in-Ok.parts.stores.items _ _ _ c.in_ok-all.ensures long c.in-Ok.ensures.stores ∙ sym c.requires.images
