@@ -60,6 +60,25 @@ const PRUNE_AND_PUT_LAST: [Row; 12] = [
     (Call::Effective(LAST - 1), Ok(&[2])),
 ];
 
+// A kind of store.
+#[derive(Clone, Copy)]
+enum Kind {
+    Memory,
+    Fuse,
+    Tables,
+}
+
+// Plays each list of rows at an empty store of the kind.
+fn play_all(rt: &impl Abort, alloc: Global, kind: Kind) {
+    for rows in [CUT_AND_PUT_AGAIN.as_slice(), &PRUNE_AND_PUT_LAST] {
+        match kind {
+            Kind::Memory => play_in_memory(rt, alloc, rows),
+            Kind::Fuse => play_behind_each(rt, alloc, rows),
+            Kind::Tables => tables::play_in_tables(rt, alloc, rows),
+        }
+    }
+}
+
 fn receipt_at(x: u32) -> [u8; 5] {
     let [a, b, c, d] = x.to_le_bytes();
     [b'R', a, b, c, d]
@@ -81,7 +100,68 @@ fn receipts_from(alloc: Global, first: u32, count: u32) -> Result<Vec<Vec<u8>>, 
     Ok(recs)
 }
 
-// The intervals that a call answers. Their bytes have to be those that were put.
+// Puts this many receipts from this interval on.
+fn put_receipts<S: Stable>(
+    rt: &impl Abort,
+    alloc: Global,
+    store: &mut S,
+    first: u32,
+    count: u32,
+) -> Result<(), StoreError> {
+    let recs = receipts_from(alloc, first, count)?;
+    assert!(rt; recs.len() as u64 <= INTERVALS - u64::from(first));
+    store.put_receipts(alloc, first, &recs)
+}
+
+// Adds the interval of the effective checkpoint. Its bytes have to be those that were put.
+fn add_effective<S: Stable>(
+    rt: &impl Abort,
+    alloc: Global,
+    store: &mut S,
+    x: u32,
+    found: &mut Vec<u32>,
+) -> Result<(), StoreError> {
+    if let Some((c, bytes)) = store.effective(alloc, x)? {
+        assert_eq!(rt; bytes.as_slice(), checkpoint_at(c).as_slice());
+        found.push(c).map_err(AllocError::from)?;
+    }
+    Ok(())
+}
+
+// Adds the intervals of the receipts between two intervals. Their bytes have to be those that were put.
+fn add_receipts<S: Stable>(
+    rt: &impl Abort,
+    alloc: Global,
+    store: &mut S,
+    ends: (u32, u32),
+    found: &mut Vec<u32>,
+) -> Result<(), StoreError> {
+    for (x, bytes) in store.receipts(alloc, ends.0, ends.1)? {
+        assert_eq!(rt; bytes.as_slice(), receipt_at(x).as_slice());
+        found.push(x).map_err(AllocError::from)?;
+    }
+    Ok(())
+}
+
+// Makes a call, and adds the intervals that it answers.
+fn add_answer<S: Stable>(
+    rt: &impl Abort,
+    alloc: Global,
+    store: &mut S,
+    call: Call,
+    found: &mut Vec<u32>,
+) -> Result<(), StoreError> {
+    match call {
+        Call::PutReceipts(first, count) => put_receipts(rt, alloc, store, first, count),
+        Call::PutCheckpoint(x) => store.put_checkpoint(alloc, x, &checkpoint_at(x)),
+        Call::Effective(x) => add_effective(rt, alloc, store, x, found),
+        Call::Receipts(after, to) => add_receipts(rt, alloc, store, (after, to), found),
+        Call::Cut(r) => store.cut(alloc, r),
+        Call::Prune(c) => store.prune(alloc, c),
+    }
+}
+
+// The intervals that a call answers.
 fn answer<S: Stable>(
     rt: &impl Abort,
     alloc: Global,
@@ -89,28 +169,7 @@ fn answer<S: Stable>(
     call: Call,
 ) -> Result<Vec<u32>, StoreError> {
     let mut found = Vec::new(alloc);
-    match call {
-        Call::PutReceipts(first, count) => {
-            let recs = receipts_from(alloc, first, count)?;
-            assert!(rt; recs.len() as u64 <= INTERVALS - u64::from(first));
-            store.put_receipts(alloc, first, &recs)?;
-        }
-        Call::PutCheckpoint(x) => store.put_checkpoint(alloc, x, &checkpoint_at(x))?,
-        Call::Effective(x) => {
-            if let Some((c, bytes)) = store.effective(alloc, x)? {
-                assert_eq!(rt; bytes.as_slice(), checkpoint_at(c).as_slice());
-                found.push(c).map_err(AllocError::from)?;
-            }
-        }
-        Call::Receipts(after, to) => {
-            for (x, bytes) in store.receipts(alloc, after, to)? {
-                assert_eq!(rt; bytes.as_slice(), receipt_at(x).as_slice());
-                found.push(x).map_err(AllocError::from)?;
-            }
-        }
-        Call::Cut(r) => store.cut(alloc, r)?,
-        Call::Prune(c) => store.prune(alloc, c)?,
-    }
+    add_answer(rt, alloc, store, call, &mut found)?;
     Ok(found)
 }
 
@@ -157,8 +216,7 @@ fn play_in_memory(rt: &impl Abort, alloc: Global, rows: &[Row]) {
 
 #[test]
 fn rows_in_memory(rt: HostRuntime) {
-    play_in_memory(&rt, rt.alloc(), &CUT_AND_PUT_AGAIN);
-    play_in_memory(&rt, rt.alloc(), &PRUNE_AND_PUT_LAST);
+    play_all(&rt, rt.alloc(), Kind::Memory);
     laws::between_is_all_between();
     laws::with_all_holds_all();
 }
@@ -188,6 +246,10 @@ fn play_behind_each(rt: &impl Abort, alloc: Global, rows: &[Row]) {
 
 #[test]
 fn rows_behind_a_fuse(rt: HostRuntime) {
-    play_behind_each(&rt, rt.alloc(), &CUT_AND_PUT_AGAIN);
-    play_behind_each(&rt, rt.alloc(), &PRUNE_AND_PUT_LAST);
+    play_all(&rt, rt.alloc(), Kind::Fuse);
+}
+
+#[test]
+fn rows_in_tables(rt: HostRuntime) {
+    play_all(&rt, rt.alloc(), Kind::Tables);
 }

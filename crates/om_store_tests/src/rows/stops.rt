@@ -142,7 +142,7 @@ struct Outcome {
     held: Option<Held>,
 }
 
-fn carry_out<S: Alter + Drop>(alloc: Global, store: &mut SqlStable<S>, task: Task) -> Outcome {
+fn carry_out<S: Stable>(alloc: Global, store: &mut S, task: Task) -> Outcome {
     let mut held = None;
     let answer = match task {
         Task::Fill => fill(alloc, store),
@@ -160,12 +160,12 @@ fn carry_out<S: Alter + Drop>(alloc: Global, store: &mut SqlStable<S>, task: Tas
     }
 }
 
-// Makes or takes the store over the connection, and does the task.
+// Makes or takes the store over the connection, and does the task. What the tables lie in is handed back.
 fn done_over<S: Alter + Drop>(
     alloc: Global,
     conn: Connection<S>,
     task: Task,
-) -> Option<(Outcome, Connection<S>)> {
+) -> Option<(Outcome, S)> {
     if !conn.is_autocommit() {
         return None;
     }
@@ -174,7 +174,7 @@ fn done_over<S: Alter + Drop>(
         _ => SqlStable::adopt(alloc, conn).ok()?,
     };
     let outcome = carry_out(alloc, &mut store, task);
-    Some((outcome, store.into_connection()))
+    Some((outcome, store.into_connection().into_store()))
 }
 
 // Opens files with these bytes and does the task, as far as the stop lets it. This is the one place where the generic
@@ -185,8 +185,8 @@ fn done(
     calls: (u64, u64),
     task: Task,
 ) -> Option<(Outcome, Files<Fuse<Memory>>)> {
-    let (outcome, conn) = done_over(alloc, open(alloc, bytes, calls)?, task)?;
-    Some((outcome, conn.into_store().close()))
+    let (outcome, files) = done_over(alloc, open(alloc, bytes, calls)?, task)?;
+    Some((outcome, files.close()))
 }
 
 // The bytes of the files.

@@ -1,6 +1,6 @@
 //! The rows of the stores over tables in memory, and which connections are taken.
 
-use super::{CUT_AND_PUT_AGAIN, PRUNE_AND_PUT_LAST, Row, play};
+use super::{Row, play};
 use om_stable::Stable;
 use om_tables::{SqlStable, TablesError};
 use sqlite::{Connection, MemStore};
@@ -51,73 +51,89 @@ fn not_adopted(
     }
 }
 
-fn play_in_tables(rt: &impl Abort, alloc: Global, rows: &[Row]) {
+pub(super) fn play_in_tables(rt: &impl Abort, alloc: Global, rows: &[Row]) {
     let mut store = created(rt, alloc, connected(rt, alloc));
     let refused = play(rt, alloc, &mut store, rows);
     assert_eq!(rt; refused.fault, None);
     assert_eq!(rt; store.failures(), 0);
 }
 
-#[test]
-fn rows_in_tables(rt: HostRuntime) {
-    play_in_tables(&rt, rt.alloc(), &CUT_AND_PUT_AGAIN);
-    play_in_tables(&rt, rt.alloc(), &PRUNE_AND_PUT_LAST);
+fn effective_below_9<S: Stable>(alloc: Global, store: &mut S) -> Option<(u32, Vec<u8>)> {
+    store.effective(alloc, 9).ok()?
 }
 
 // A connection that is handed back still works: each is taken by the other call.
 #[test]
 fn tables_are_made_once_and_taken_where_they_are(rt: HostRuntime) {
     let alloc = rt.alloc();
-    let (error, conn) = not_adopted(&rt, alloc, connected(&rt, alloc));
-    assert_eq!(rt; error, TablesError::NoTables);
+    let (missing, conn) = not_adopted(&rt, alloc, connected(&rt, alloc));
     let mut store = created(&rt, alloc, conn);
-    assert_eq!(rt; store.put_checkpoint(alloc, 7, b"at 7"), Ok(()));
-    let (error, conn) = not_created(&rt, alloc, store.into_connection());
-    assert_eq!(rt; error, TablesError::Present);
+    let put = store.put_checkpoint(alloc, 7, b"at 7");
+    let (present, conn) = not_created(&rt, alloc, store.into_connection());
     let mut store = adopted(&rt, alloc, conn);
-    assert_eq!(rt; store.failures(), 0);
-    let (x, bytes) = store
-        .effective(alloc, 9)
-        .expect(&rt, "a read")
-        .expect(&rt, "a checkpoint");
-    assert_eq!(rt; (x, bytes.as_slice()), (7, b"at 7".as_slice()));
+    let found = effective_below_9(alloc, &mut store);
+    let found = found.as_ref().map(|(x, bytes)| (*x, bytes.as_slice()));
+    assert_eq!(rt;
+        (missing, put, present, store.failures(), found),
+        (
+            TablesError::NoTables,
+            Ok(()),
+            TablesError::Present,
+            0,
+            Some((7, b"at 7".as_slice()))
+        )
+    );
 }
 
-// What is not just the two tables of a store.
+// Statements that make what is not just the two tables of a store.
+const OTHERS: [[&str; 2]; 3] = [
+    [
+        "CREATE TABLE receipts (x INTEGER PRIMARY KEY, body BLOB NOT NULL)",
+        "",
+    ],
+    [
+        "CREATE TABLE checkpoints (x INTEGER PRIMARY KEY, body BLOB NOT NULL)",
+        "",
+    ],
+    [
+        "CREATE TABLE receipts (x INTEGER PRIMARY KEY)",
+        "CREATE TABLE others (x INTEGER PRIMARY KEY)",
+    ],
+];
+
+// What is made beside the two tables of a store.
+const MORE: [&str; 2] = [
+    "CREATE TABLE more (x INTEGER PRIMARY KEY)",
+    "CREATE INDEX bodies ON receipts (body)",
+];
+
+fn execute(rt: &impl Abort, conn: &mut Connection<MemStore>, statement: &str) {
+    assert!(rt; statement.is_empty() || conn.execute(statement, &[]).is_ok());
+}
+
+fn check_others(rt: &impl Abort, alloc: Global, statements: &[&str; 2]) {
+    let mut conn = connected(rt, alloc);
+    for statement in statements {
+        execute(rt, &mut conn, statement);
+    }
+    let (missing, conn) = not_adopted(rt, alloc, conn);
+    let (present, _conn) = not_created(rt, alloc, conn);
+    assert_eq!(rt; (missing, present), (TablesError::NoTables, TablesError::Present));
+}
+
+fn check_more(rt: &impl Abort, alloc: Global, statement: &str) {
+    let mut conn = created(rt, alloc, connected(rt, alloc)).into_connection();
+    execute(rt, &mut conn, statement);
+    let (error, _conn) = not_adopted(rt, alloc, conn);
+    assert_eq!(rt; error, TablesError::NoTables);
+}
+
 #[test]
 fn other_tables_are_not_taken(rt: HostRuntime) {
-    let alloc = rt.alloc();
-    for statements in [
-        [
-            "CREATE TABLE receipts (x INTEGER PRIMARY KEY, body BLOB NOT NULL)",
-            "",
-        ],
-        [
-            "CREATE TABLE checkpoints (x INTEGER PRIMARY KEY, body BLOB NOT NULL)",
-            "",
-        ],
-        [
-            "CREATE TABLE receipts (x INTEGER PRIMARY KEY)",
-            "CREATE TABLE others (x INTEGER PRIMARY KEY)",
-        ],
-    ] {
-        let mut conn = connected(&rt, alloc);
-        for statement in statements {
-            assert!(rt; statement.is_empty() || conn.execute(statement, &[]).is_ok());
-        }
-        assert!(rt; conn.is_autocommit());
-        let (error, conn) = not_adopted(&rt, alloc, conn);
-        assert_eq!(rt; error, TablesError::NoTables);
-        let (error, _conn) = not_created(&rt, alloc, conn);
-        assert_eq!(rt; error, TablesError::Present);
+    for statements in &OTHERS {
+        check_others(&rt, rt.alloc(), statements);
     }
-    for more in [
-        "CREATE TABLE more (x INTEGER PRIMARY KEY)",
-        "CREATE INDEX bodies ON receipts (body)",
-    ] {
-        let mut conn = created(&rt, alloc, connected(&rt, alloc)).into_connection();
-        assert!(rt; conn.execute(more, &[]).is_ok());
-        let (error, _conn) = not_adopted(&rt, alloc, conn);
-        assert_eq!(rt; error, TablesError::NoTables);
+    for statement in MORE {
+        check_more(&rt, rt.alloc(), statement);
     }
 }
