@@ -118,7 +118,10 @@ fn check_others(rt: &impl Abort, alloc: Global, statements: &[&str; 2]) {
     }
     let (missing, conn) = not_adopted(rt, alloc, conn);
     let (present, _conn) = not_created(rt, alloc, conn);
-    assert_eq!(rt; (missing, present), (TablesError::NoTables, TablesError::Present));
+    assert_eq!(rt;
+        (missing, present),
+        (TablesError::NoTables, TablesError::Present)
+    );
 }
 
 fn check_more(rt: &impl Abort, alloc: Global, statement: &str) {
