@@ -194,6 +194,3 @@ impl Records {
         self.index.prune(&self.state);
     }
 }
-
-#[cfg(test)]
-mod looks;

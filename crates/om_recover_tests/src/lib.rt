@@ -7,3 +7,5 @@ mod batch;
 mod manager;
 #[cfg(test)]
 mod records;
+#[cfg(test)]
+mod waiting;

@@ -127,6 +127,7 @@ impl<'a, S: Stable> Node<'a, S> {
     }
 
     // Stores the volatile log.
+    #[inline(never)]
     pub(crate) fn flush(&mut self, alloc: Global) -> Result<(), Trouble>
         ensures { self.new.member ≡ self.old.member }
     {
@@ -134,6 +135,7 @@ impl<'a, S: Stable> Node<'a, S> {
     }
 
     // Stores a checkpoint of now.
+    #[inline(never)]
     pub(crate) fn checkpoint(&mut self, alloc: Global) -> Result<(), Trouble>
         ensures { self.new.member ≡ self.old.member }
     {
@@ -228,6 +230,7 @@ impl<'a, S: Stable> Node<'a, S> {
 
 impl<'a, S: Stable> Fallen<'a, S> {
     // Comes back after a round that rolls it back.
+    #[inline(never)]
     pub(crate) fn come_back(
         self,
         alloc: Global,

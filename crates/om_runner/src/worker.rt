@@ -159,7 +159,8 @@ impl<'a, K: Naming> Worker<'a, K> {
         links.into_ends()
     }
 
-    // One turn.
+    // One turn. The steps behind it are not inlined: with those of the process and of a large store they would be one function,
+    // which takes the compiler minutes.
     pub(crate) fn turn<S: Stable, R: Wait>(
         &mut self,
         rt: &R,
@@ -209,6 +210,7 @@ impl<'a, K: Naming> Worker<'a, K> {
     }
 
     // Runs the process, hands in what it has, and takes a message where it waits for one.
+    #[inline(never)]
     fn advance<S: Stable, R: Wait>(
         &mut self,
         rt: &R,
@@ -375,6 +377,7 @@ impl<'a, K: Naming> Worker<'a, K> {
         }
     }
 
+    #[inline(never)]
     fn enter<S: Stable, R: Wait>(
         &mut self,
         rt: &R,
@@ -408,6 +411,7 @@ impl<'a, K: Naming> Worker<'a, K> {
     }
 
     // Waits for the round to be finished, and then goes on as its verdict says.
+    #[inline(never)]
     fn wait_in<S: Stable, R: Wait>(
         &mut self,
         rt: &R,
@@ -435,6 +439,7 @@ impl<'a, K: Naming> Worker<'a, K> {
     }
 
     // Waits for the round to be finished, and then comes back.
+    #[inline(never)]
     fn wait_down<S: Stable, R: Wait>(
         &mut self,
         rt: &R,

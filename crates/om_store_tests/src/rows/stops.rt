@@ -49,6 +49,9 @@ struct Held {
     checkpoints: Vec<(u32, Vec<u8>)>,
 }
 
+// What a store holds now. This and what follows is not inlined: over files it would be one function, which takes the compiler a
+// minute.
+#[inline(never)]
 fn content_of<S: Stable>(alloc: Global, store: &mut S) -> Result<Held, StoreError> {
     let receipts = store.receipts(alloc, 0, u32::MAX)?;
     let mut checkpoints = Vec::new(alloc);
@@ -69,6 +72,7 @@ fn content_of<S: Stable>(alloc: Global, store: &mut S) -> Result<Held, StoreErro
     })
 }
 
+#[inline(never)]
 fn fill<S: Stable>(alloc: Global, store: &mut S) -> Result<(), StoreError> {
     let receipts = receipts_from(alloc, 1, 3)?;
     if receipts.len() == 3 {
@@ -78,6 +82,7 @@ fn fill<S: Stable>(alloc: Global, store: &mut S) -> Result<(), StoreError> {
     store.put_checkpoint(alloc, 2, &checkpoint_at(2))
 }
 
+#[inline(never)]
 fn apply<S: Stable>(alloc: Global, store: &mut S, change: Change) -> Result<(), StoreError> {
     match change {
         Change::PutReceipts => {
@@ -142,6 +147,7 @@ struct Outcome {
     held: Option<Held>,
 }
 
+#[inline(never)]
 fn carry_out<S: Stable>(alloc: Global, store: &mut S, task: Task) -> Outcome {
     let mut held = None;
     let answer = match task {
