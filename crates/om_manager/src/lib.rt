@@ -9,6 +9,8 @@ mod notes;
 mod output_log;
 mod presence;
 mod rounds;
+#[cfg(test)]
+mod tests;
 
 pub use answers::{FailError, Gathered, JoinError, OutputError, OutputNote, RecordError};
 pub use manager::Manager;
