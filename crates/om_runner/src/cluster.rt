@@ -134,6 +134,7 @@ enum Turned<'a, K: Naming, S: Stable> {
 }
 
 // One turn of a worker.
+#[inline(never)]
 fn take_turn<'a, K: Naming, S: Stable, R: Wait>(
     rt: &R,
     alloc: Global,

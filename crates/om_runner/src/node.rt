@@ -193,6 +193,7 @@ impl<'a, S: Stable> Node<'a, S> {
     }
 
     // The process fails.
+    #[inline(never)]
     pub(crate) fn fail(self) -> Fallen<'a, S>
         ensures { result ≡ self.entry.member }
     {
@@ -213,6 +214,7 @@ impl<'a, S: Stable> Node<'a, S> {
     }
 
     // How the process ended, and its store; or itself, where it has not ended.
+    #[inline(never)]
     pub(crate) fn end(self) -> Result<(Status, S), Node<'a, S>>
         ensures end { IfOk result (λ e. IsEnd e.0) }
         ensures along { let m = self.entry.member in IfOk result (λ e. IsTrue (S.is_clean e.1)

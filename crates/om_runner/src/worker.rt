@@ -55,6 +55,7 @@ enum Step {
 
 impl Step {
     // Where the process stands then.
+    #[inline(never)]
     fn place_of<'a, S: Stable>(self, node: Node<'a, S>) -> Place<'a, S>
         ensures { member_of result ≡ node.entry.member }
     {
@@ -104,6 +105,7 @@ fn shed<'a, S: Stable>(
 }
 
 // The process after a finished round: as it was, or rolled back.
+#[inline(never)]
 fn after_round<'a, S: Stable>(
     alloc: Global,
     node: Node<'a, S>,
@@ -159,8 +161,9 @@ impl<'a, K: Naming> Worker<'a, K> {
         links.into_ends()
     }
 
-    // One turn. The steps behind it are not inlined: with those of the process and of a large store they would be one function,
-    // which takes the compiler minutes.
+    // One turn. Nothing that moves the process is inlined, here and below: a process over a large store is moved a field at a
+    // time where several moves stand in one function, which then takes the compiler minutes.
+    #[inline(never)]
     pub(crate) fn turn<S: Stable, R: Wait>(
         &mut self,
         rt: &R,
@@ -186,6 +189,7 @@ impl<'a, K: Naming> Worker<'a, K> {
     }
 
     // A turn of a process that runs.
+    #[inline(never)]
     fn go_on<S: Stable, R: Wait>(
         &mut self,
         rt: &R,
@@ -355,6 +359,7 @@ impl<'a, K: Naming> Worker<'a, K> {
     }
 
     // Joins the open gathering, with all that the process has stored and handed in.
+    #[inline(never)]
     fn join<S: Stable, R: Wait>(
         &mut self,
         rt: &R,
@@ -396,6 +401,7 @@ impl<'a, K: Naming> Worker<'a, K> {
     }
 
     // Tells the manager that the process failed.
+    #[inline(never)]
     fn declare<S: Stable, R: Wait>(
         &mut self,
         rt: &R,

@@ -2,13 +2,11 @@
 
 ghost use Rattle.std.specs.Prelude.{◌≡◌, false, IfOk, length};
 
-use om_commands::CommandError;
 use om_commands::replay::replay;
-use om_commands::run::run;
 use om_interval::Pid;
 use om_isa::Ext;
 use om_process::Image;
-use om_runner::{Config, Gate, OpenFault, Opener, RunFault, run_and_keep_stores, run_cluster};
+use om_runner::{Config, Gate, OpenFault, Opener, RunFault, run_and_keep_stores};
 use om_stable::Stable;
 use om_tables::{SqlStable, TablesError};
 use sqlite::{Alter, Connection, MemStore};
@@ -146,69 +144,36 @@ fn check_replay<S: Stable>(rt: &impl Abort, alloc: Global, store: &mut S, counte
     assert_eq!(rt; (told, is_there), (Ok(()), true), "{counter}");
 }
 
-// Runs the ring over such stores, and replays each of them.
-fn check_replays<R: Threads + Wait + Abort + Sync, C: Connects + Sync + Drop>(
+// Runs the ring over such stores, and gives them as they stand when it has ended.
+fn kept<R: Threads + Wait + Sync, C: Connects + Sync + Drop>(
     rt: &R,
     alloc: Global,
     connects: C,
-) -> Result<(), Fail> {
-    let config = ring(alloc)?;
+) -> Result<Vec<SqlStable<C::Disk>>, RunFault> {
+    let config = ring(alloc).map_err(|_| RunFault::Memory)?;
     let opener = InTables { connects };
     let (_, stores) = run_and_keep_stores(rt, alloc, &config, &OpenGate, &opener)?;
+    Ok(stores)
+}
+
+// Replays each of the stores.
+fn check_replays<S: Stable>(rt: &impl Abort, alloc: Global, stores: &mut [S]) {
     assert_eq!(rt; stores.len(), 8);
-    for (mut store, counter) in stores.into_iter().zip(COUNTERS) {
-        check_replay(rt, alloc, &mut store, counter);
+    for (store, counter) in stores.iter_mut().zip(COUNTERS) {
+        check_replay(rt, alloc, store, counter);
     }
-    Ok(())
-}
-
-// Runs the ring over such stores, of which that of process 5 is refused.
-fn check_refused<R: Threads + Wait + Abort + Sync, C: Connects + Sync + Drop>(
-    rt: &R,
-    alloc: Global,
-    connects: C,
-) -> Result<(), Fail> {
-    let config = ring(alloc)?;
-    let told = run_cluster(rt, alloc, &config, &OpenGate, &InTables { connects }).err();
-    assert_eq!(rt; told, Some(RunFault::Load(Pid::at(5))));
-    Ok(())
-}
-
-// Two processes that end at once.
-const TWO: &[u8] = b"program a 16 00000893 00000073\nproc p a\nproc q a\n";
-
-// What the command answers over such stores, and what it writes.
-fn check_command<R: Threads + Wait + Abort + Sync, C: Connects + Sync + Drop>(
-    rt: &R,
-    alloc: Global,
-    connects: C,
-    answer: Result<(), CommandError>,
-    written: &str,
-) {
-    let mut text = Vec::new(alloc);
-    let mut reader = TWO;
-    let opener = InTables { connects };
-    let told = run(rt, alloc, 50_000_000, &opener, &mut reader, &mut text);
-    assert_eq!(rt; told, answer);
-    assert_eq!(rt; text.as_slice(), written.as_bytes());
 }
 
 #[test]
 fn replays_of_a_ring_with_failures(rt: HostRuntime) -> Result<(), Fail> {
-    check_replays(&rt, rt.alloc(), Databases { taken: None })
+    let mut stores = kept(&rt, rt.alloc(), Databases { taken: None })?;
+    check_replays(&rt, rt.alloc(), &mut stores);
+    Ok(())
 }
 
 #[test]
-fn store_that_holds_something(rt: HostRuntime) -> Result<(), Fail> {
+fn store_that_holds_something(rt: HostRuntime) {
     let taken = Some(Pid::at(5));
-    check_refused(&rt, rt.alloc(), Databases { taken })
-}
-
-#[test]
-fn command_over_a_store_that_holds_something(rt: HostRuntime) {
-    let ended = "end p ended 0\nend q ended 0\n";
-    check_command(&rt, rt.alloc(), Databases { taken: None }, Ok(()), ended);
-    let taken = Some(Pid::at(1));
-    let refused = Err(CommandError::StoreFault);
-    check_command(&rt, rt.alloc(), Databases { taken }, refused, "");
+    let told = kept(&rt, rt.alloc(), Databases { taken }).err();
+    assert_eq!(rt; told, Some(RunFault::Load(Pid::at(5))));
 }

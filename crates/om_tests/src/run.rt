@@ -2,6 +2,9 @@
 
 use om_commands::InMemory;
 use om_commands::run::run;
+use om_interval::Pid;
+use om_runner::{OpenFault, Opener};
+use om_stable::MemStable;
 use std::alloc::Global;
 use std::process::Abort;
 use std::sync::Wait;
@@ -17,9 +20,20 @@ fn told<R: Threads + Wait + Abort + Sync>(
     turns: u64,
     input: &[u8],
 ) -> Vec<u8> {
+    told_over(rt, alloc, turns, &InMemory, input)
+}
+
+// The same over the stores that this makes.
+fn told_over<R: Threads + Wait + Abort + Sync, O: Opener<R> + Sync>(
+    rt: &R,
+    alloc: Global,
+    turns: u64,
+    opener: &O,
+    input: &[u8],
+) -> Vec<u8> {
     let mut written = Vec::new(alloc);
     let mut reader = input;
-    match run(rt, alloc, turns, &InMemory, &mut reader, &mut written) {
+    match run(rt, alloc, turns, opener, &mut reader, &mut written) {
         Ok(()) => written,
         Err(error) => {
             assert!(rt; written.is_empty());
@@ -144,6 +158,41 @@ fn faulty_cluster_files(rt: HostRuntime) {
     ] {
         let told = told(&rt, rt.alloc(), TURNS, input.as_bytes());
         assert_eq!(rt; told.as_slice(), text.as_bytes(), "{input}");
+    }
+}
+
+// Makes stores in memory, and refuses to for one process.
+#[derive(Drop)]
+struct Refusing {
+    pid: Pid,
+    fault: OpenFault,
+}
+
+impl<R> Opener<R> for Refusing {
+    type Store = MemStable;
+
+    fn make(&self, _rt: &R, alloc: Global, pid: Pid) -> Result<MemStable, OpenFault> {
+        if pid == self.pid {
+            return Err(self.fault);
+        }
+        Ok(MemStable::new(alloc))
+    }
+}
+
+#[test]
+fn stores_that_are_not_made(rt: HostRuntime) {
+    let input = format!(in rt.alloc(); "{ONE}proc q a\n").expect(&rt, "memory");
+    for (p, fault, text) in [
+        (1, OpenFault::Refused, "store fault"),
+        (1, OpenFault::Memory, "no memory"),
+        (2, OpenFault::Refused, "end p ended 0\nend q ended 0\n"),
+    ] {
+        let opener = Refusing {
+            pid: Pid::at(p),
+            fault,
+        };
+        let told = told_over(&rt, rt.alloc(), TURNS, &opener, input.as_bytes());
+        assert_eq!(rt; told.as_slice(), text.as_bytes(), "{p}");
     }
 }
 
