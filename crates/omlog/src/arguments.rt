@@ -22,6 +22,30 @@ use std::sync::Wait;
 use std::thread::Threads;
 use std::{env, io};
 
+const HELP: &str = "\
+A process takes the messages that are sent to it one at a time. With each a new
+interval begins: 0 at its start, 1 with the first message, and so on. Now and
+then it logs the messages that it received, and stores its state. A recovery
+state is an interval of each process to which all can go back together after a
+failure: none of them depends on an interval of another that is lost.
+
+Begin with run: it takes a cluster file from standard input, and processes that
+fail come back by themselves. With sim the same is played by hand, event by
+event. frontier computes recovery states from records alone, replay looks into
+the store of a process, and decode tells what words of programs mean. Each says
+with --help what it reads and writes, and has an example.
+
+Status:
+  0   done, or a help text was asked for
+  1   refused: a line on standard error says why
+  2   the arguments are not understood
+
+Beside what its own help says, a command may be refused with:
+  too long       standard input has more than 16 MiB
+  cannot read    standard input cannot be read
+  cannot write   standard output cannot be written
+  no memory      memory ran out";
+
 const DECODE: &str = "decode";
 
 const DECODE_HELP: &str = "\
@@ -35,7 +59,12 @@ without it their words are none.
 
 Empty lines, and lines that begin with '#', are passed over.
 
-A faulty line refuses the whole: 'line N: ..' on standard error, status 1.";
+A faulty line refuses the whole: 'line N: ..' on standard error, status 1.
+
+Example:
+  00500093     addi x1, x0, 5
+  FE000EE3     beq x0, x0, -4
+  022081B3     none, and with --m: mul x3, x1, x2";
 
 const M: &str = "m";
 
@@ -63,7 +92,16 @@ Answers:
   differs      interval X of P has a record with another vector
   disorder Y   the vector falls between X and the record of P at interval Y
   stranger     there is no process P
-A faulty script is refused whole: 'line N: ..' on standard error, status 1.";
+A faulty script is refused whole: 'line N: ..' on standard error, status 1.
+
+Example: process 0 depends on interval 1 of process 1, which comes last. That
+interval 3 of process 1 is stored gains nothing: it depends on interval 4 of
+process 2, of which there is no record.
+  procs 3
+  log 0 1 1 1 0        noted: 0 0 0
+  ckpt 1 3 0 3 4       noted: 0 0 0
+  log 1 1 0 1 0        raised: 1 1 0
+                       recovery 1 1 0";
 
 const SIM: &str = "sim";
 
@@ -107,7 +145,24 @@ In the end:
   recovery X0 ..                   the greatest recoverable state
   proc NAME inc I interval X STATUS, or proc NAME down
   out NAME NUMBER HEX              an output that may be released
-A faulty script is refused whole: 'line N: ..' on standard error, status 1.";
+A faulty script is refused whole: 'line N: ..' on standard error, status 1.
+
+Example: c sends its first 4 bytes to process 1, which puts them out. They may
+be released once it has stored the message.
+  program pc 64 00100893 00100513 00400613 00000073 00000893 00000073
+  program pa 128 00200893 04000513 00400593 00000073 00300893 00050593 04000513
+          00000073 00000893 00000073        (as one line)
+  proc c pc
+  proc a pa
+  run 0 100                        ran 5 ended 0 sent 1 made 0
+  run 1 100                        ran 3 waiting sent 0 made 0
+  give 1 0                         taken 1
+  run 1 100                        ran 5 ended 0 sent 0 made 1
+  flush 1                          noted 1
+                                   recovery 0 1
+                                   proc c inc 0 interval 0 ended 0
+                                   proc a inc 0 interval 1 ended 0
+                                   out a 0 93081000";
 
 const RUN: &str = "run";
 
@@ -139,7 +194,17 @@ Refused, on standard error, status 1:
   out of turns         a process did not end within its turns
   store fault          a store cannot be made, is there already, or failed
   no thread            a thread cannot be made
-A faulty file is refused whole: 'line N: ..' on standard error, status 1.";
+A faulty file is refused whole: 'line N: ..' on standard error, status 1.
+
+Example: the programs and processes of the example of sim. That a message was
+lost with what a had not stored is not to be seen in what comes out.
+  program pc 64 ..
+  program pa 128 ..
+  proc c pc
+  proc a pa
+  kill a 1             out a 0 93081000
+                       end c ended 0
+                       end a ended 0";
 
 const TURNS: &str = "turns";
 
@@ -168,7 +233,17 @@ Refused, on standard error, status 1:
   mismatch Y          the receipt of interval Y does not fit the process
   store fault         FILE is not there, or is no store
 
-FILE is neither made nor changed.";
+FILE is neither made nor changed.
+
+Example: omlog replay s1.db 1, behind omlog run --store s with the example of
+run. The message that began the interval stands at address 40.
+  interval 1
+  count 4
+  pc 00000010
+  ..
+  00000040 93081000000000000000000000000000
+  ..
+  status ready";
 
 const FILE: &str = "FILE";
 
@@ -308,6 +383,7 @@ fn command<'a>(alloc: Global) -> Result<Command<'a>, AllocError> {
         .about(
             "Recovery states of message-passing programs, from the records that their processes keep",
         )
+        .after_help(HELP)
         .subcommand_required(true);
     with_clusters(alloc, with_scripts(alloc, command)?)
 }
