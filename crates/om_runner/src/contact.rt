@@ -15,7 +15,7 @@ use std::alloc::Global;
 use std::sync::Wait;
 
 // How the manager stands.
-#[derive(Clone, Copy, Debug, PartialEq, Eq)]
+#[derive(Clone, Copy)]
 pub(crate) enum Standing {
     // No gathering is open.
     Closed,
@@ -27,7 +27,7 @@ pub(crate) enum Standing {
 
 // What need not be kept any longer: by the process what is below the bounds, and by its store what stands before the
 // checkpoint.
-#[derive(Clone, Copy, Debug)]
+#[derive(Clone, Copy)]
 pub(crate) struct Limits {
     pub(crate) bounds: Bounds,
     pub(crate) checkpoint: u32,

@@ -7,7 +7,7 @@ use om_stable::StoreError;
 use std::alloc::AllocError;
 
 // Why a worker cannot go on.
-#[derive(Clone, Copy, Debug, PartialEq, Eq)]
+#[derive(Clone, Copy)]
 pub(crate) enum Trouble {
     Memory,
     // A store, a replay or the manager refused a call.
