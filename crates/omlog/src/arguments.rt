@@ -250,7 +250,7 @@ const FILE: &str = "FILE";
 const INTERVAL: &str = "INTERVAL";
 
 // What the words of the command line ask for.
-#[derive(Clone, Copy, Debug, PartialEq, Eq)]
+#[derive(Clone, Copy)]
 pub(crate) enum Request<'a> {
     Decode(Ext),
     Frontier,
