@@ -12,8 +12,9 @@ use Rattle.om_process.specs.Process.{Program}
 use Rattle.om_process.specs.declared.image.Image.{Image}
 use Rattle.om_process.specs.declared.status.Status.{Status}
 use Rattle.om_programs.specs.Programs.{Cluster, programs_of}
-use Rattle.om_runner.specs.Reports.{AreAllReleased, AreStatusesAlong, IsEnd, IsStatusAlong}
-use Rattle.om_runner.specs.declared.report.Report.{Report}
+use Rattle.om_board.specs.Released.{AreAllReleased}
+use Rattle.om_runner.specs.Reports.{AreStatusesAlong, IsEnd, IsStatusAlong}
+use Rattle.om_board.specs.declared.report.Report.{Report}
 use Rattle.om_commands.specs.ClusterScript.{Script, meaning_of, no_lines}
 use Rattle.om_commands.specs.Command.{IsScript}
 use Rattle.om_commands.specs.Run.{AreAlong, IsAnswer, IsErrorOfRun, IsErrorOfScript}

@@ -6,8 +6,8 @@ use Rattle.om_text.specs.declared.text.ReadError.{ReadError}
 use Rattle.om_text.specs.declared.text.ReadError.TheVariants as reading
 use Rattle.om_process.specs.declared.replay.ReplayFault.{ReplayFault}
 use Rattle.om_process.specs.declared.replay.ReplayFault.TheVariants as replaying
-use Rattle.om_runner.specs.declared.report.RunFault.{RunFault}
-use Rattle.om_runner.specs.declared.report.RunFault.TheVariants as running
+use Rattle.om_runner.specs.declared.fault.RunFault.{RunFault}
+use Rattle.om_runner.specs.declared.fault.RunFault.TheVariants as running
 use Rattle.om_commands.specs.declared.error.CommandError.{CommandError}
 use Rattle.om_commands.specs.declared.error.CommandError.TheVariants.{TooLong, CannotRead, NoMemory, Script, NoCheckpoint, Damaged, MissingReceipt, Mismatch, StoreFault, OutOfTurns, GateShut, NoThread}
 

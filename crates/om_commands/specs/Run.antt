@@ -4,8 +4,9 @@ use Rattle.om_manager.specs.Outputs.{HeldOutput, held_of}
 use Rattle.om_process.specs.Process.{Program}
 use Rattle.om_process.specs.declared.status.Status.{Status}
 use Rattle.om_programs.specs.Programs.{programs_of}
-use Rattle.om_runner.specs.Reports.{AreAllReleased, IsEnd, IsStatusAlong}
-use Rattle.om_runner.specs.declared.report.Report.{Report}
+use Rattle.om_board.specs.Released.{AreAllReleased}
+use Rattle.om_runner.specs.Reports.{IsEnd, IsStatusAlong}
+use Rattle.om_board.specs.declared.report.Report.{Report}
 use Rattle.om_commands.specs.Command.{IsErrorOf, IsScript}
 use Rattle.om_commands.specs.ClusterScript.{Script, meaning_of, no_lines}
 use Rattle.om_commands.specs.RunText.{run_text}

@@ -1,7 +1,3 @@
-pub mod OrderLemmas
-pub mod PostingLemmas
-pub mod BoardLemmas
-pub mod FrontLemmas
 mod OnWay
 mod LinkLemmas
 mod ReportLemmas

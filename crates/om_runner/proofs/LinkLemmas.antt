@@ -2,31 +2,22 @@
 use Rattle.std.proofs.Common.{◌≡◌, ◌⊎◌, inl, inr, ℕ, zero, suc, ◌<◌, List, [], ◌∷◌, Option, Some, None, refl, sym, ap, ◌∙◌, subst, get_or, length, set, length-set}
 use Rattle.std.specs.Prelude.{Vec, slice_get}
 use Rattle.std.specs.declared.alloc.Global.{Global}
-use Rattle.std.proofs.lemmas.Option.{slice_get-get_or, slice_get_read}
+use Rattle.std.proofs.lemmas.Option.{none-some, same_Some, slice_get-get_or, slice_get_read}
 use Rattle.om_format.specs.declared.message.Message.{Message}
 use Rattle.om_format.specs.declared.queue.Entry.{Entry}
 use Rattle.om_process.specs.Core.{CoreState}
 use Rattle.om_process.specs.Frames.{frame_of}
-use Rattle.om_runner.specs.Inboxes.{Line, Traffic, Takings, MatchPut, MatchTake}
-use Rattle.om_runner.specs.declared.inbox.PutAnswer.{PutAnswer}
-use Rattle.om_runner.specs.declared.inbox.PutAnswer.TheVariants.{Put, Full, Gone}
+use Rattle.om_board.specs.Inboxes.{Line, Traffic, Takings, MatchPut, MatchTake}
+use Rattle.om_board.specs.declared.inbox.PutAnswer.{PutAnswer}
+use Rattle.om_board.specs.declared.inbox.PutAnswer.TheVariants.{Put, Full, Gone}
+use Rattle.om_board.proofs.ListLemmas.{none_in}
 use Rattle.om_runner.specs.steps.Network.{AreLinks, IsAt, Lines, LinksState}
 
 -- ---- lists
-pub some_same : {A : Type 0} (a b : A) → Some a ≡ Some b → a ≡ b
-some_same a b e = cc
-
-none_some : {A : Type 0} (a : A) → None ≡ Some a → ⊥
-none_some a e = cc
-
-pub none_in : {A : Type 0} (i : ℕ) (a : A) → slice_get [] i ≡ Some a → ⊥
-none_in zero a e = none_some a e
-none_in (suc i) a e = none_some a e
-
 -- an element of a list of which one is set is that one or was there
 pub set_at : {A : Type 0} (xs : List A) (i j : ℕ) (y x : A) → slice_get (set xs i y) j ≡ Some x → ((j ≡ i) × (x ≡ y)) ⊎ (slice_get xs j ≡ Some x)
 set_at [] i j y x e = absurd (none_in j x e)
-set_at (z ∷ xs) zero zero y x e = inl (refl, sym (some_same y x e))
+set_at (z ∷ xs) zero zero y x e = inl (refl, sym (same_Some y x e))
 set_at (z ∷ xs) zero (suc j) y x e = inr e
 set_at (z ∷ xs) (suc i) zero y x e = inr e
 set_at (z ∷ xs) (suc i) (suc j) y x e = elim (set_at xs i j y x e) [ inl p ↦ inl (ap suc p.0, p.1) | inr p ↦ inr p ]
@@ -34,8 +25,8 @@ set_at (z ∷ xs) (suc i) (suc j) y x e = elim (set_at xs i j y x e) [ inl p ↦
 -- ---- inboxes
 pub same_line : (lines : Lines) (from to : ℕ) (a b : Line) → IsAt lines from to a → IsAt lines from to b → a ≡ b
 same_line lines from to a b p q =
-    let row : p.0 ≡ q.0 = some_same p.0 q.0 (sym p.1 ∙ q.1) in
-    some_same a b (sym p.2 ∙ subst (λ (r : Vec Line Global). slice_get r.items to ≡ Some b) (sym row) q.2)
+    let row : p.0 ≡ q.0 = same_Some p.0 q.0 (sym p.1 ∙ q.1) in
+    same_Some a b (sym p.2 ∙ subst (λ (r : Vec Line Global). slice_get r.items to ≡ Some b) (sym row) q.2)
 
 pub put_line : (answer : PutAnswer) (message : Message) (old new : Traffic) → MatchPut answer message old new → new.line ≡ old.line
 put_line Put message old new h = ap (λ (t : Traffic). t.line) h
@@ -101,5 +92,5 @@ take_links l puts takes turn from next old new a lt is same within = record {
 -- ---- messages
 -- a frame goes from the process to the one that it is for
 pub frame_goes : (c : CoreState) (to ssn : ℕ) (o : Option Entry) (m : Message) → frame_of c to ssn o ≡ Some m → (m.from ≡ c.own) × (m.to ≡ to)
-frame_goes c to ssn None m e = absurd (none_some m e)
-frame_goes c to ssn (Some x) m e = let same = some_same _ m e in (sym (ap (λ (n : Message). n.from) same), sym (ap (λ (n : Message). n.to) same))
+frame_goes c to ssn None m e = absurd (none-some m e)
+frame_goes c to ssn (Some x) m e = let same = same_Some _ m e in (sym (ap (λ (n : Message). n.from) same), sym (ap (λ (n : Message). n.to) same))

@@ -4,6 +4,7 @@ use Rattle.std.proofs.lemmas.List.{length-replicate}
 use Rattle.std.specs.FinMap.{get, get-empty}
 use Rattle.std.specs.Ordering.{nat_cmp}
 use Rattle.std.proofs.lemmas.Bool.{cases_eq}
+use Rattle.std.proofs.lemmas.Option.{none-some, same_Some}
 use Rattle.om_format.specs.Checkpoints.{SpellsCheckpoint}
 use Rattle.om_format.specs.declared.message.Message.{Message}
 use Rattle.om_format.specs.declared.queue.Entry.{Entry}
@@ -69,17 +70,11 @@ pub way_status : (m : Member) (s : Process) → IsOnWay m s → IsStatusAlong m.
 way_status m s on = (on.0, on.1.0, on.1.1, ap status_of (same_move m.own m.n on.1.0 s on.1.2))
 
 -- ---- the store
-none_some : {A : Type 0} (x : A) → None ≡ Some x → ⊥
-none_some x e = cc
-
 pub stored_nothing : (m : Member) → AreOnWay m nothing
-stored_nothing m x bytes at c spelled = absurd (none_some bytes (sym (get-empty nat_cmp x) ∙ at))
+stored_nothing m x bytes at c spelled = absurd (none-some bytes (sym (get-empty nat_cmp x) ∙ at))
 
 pub stored_log : (m : Member) (c : CoreState) (old new : Content) → AreOnWay m old → HasGainedLog c old new → AreOnWay m new
 stored_log m c old new stored gained = subst (AreOnWay m) (sym gained.2) stored
-
-some_same : (a b : List ℕ) → Some a ≡ Some b → a ≡ b
-some_same a b e = cc
 
 pub stored_checkpoint : (m : Member) (c : CoreState) (old new : Content) → AreOnWay m old → IsOnWay m c.now → HasGainedCheckpoint c old new → AreOnWay m new
 stored_checkpoint m c old new stored on gained =
@@ -88,7 +83,7 @@ stored_checkpoint m c old new stored on gained =
     subst (AreOnWay m) (sym gained.4) (λ x found at d spelled. elim (cases_eq x c.now.interval) [
       | inl same ↦
           let here : get (with_checkpoint old c.now.interval bytes).checkpoints x ≡ Some bytes = subst (λ y. get (with_checkpoint old c.now.interval bytes).checkpoints y ≡ Some bytes) (sym same) (get-insert_here old.checkpoints c.now.interval bytes) in
-          let is : bytes ≡ found = some_same bytes found (sym here ∙ at) in
+          let is : bytes ≡ found = same_Some bytes found (sym here ∙ at) in
           let one : r ≡ d = (one_checkpoint found V2 spelled.0 r d (subst (SpellsCheckpoint V2 r) is gained.3) spelled.1).1 in
           subst (λ p. IsOnWay m p) (sym gained.1.process ∙ ap process_of one) on
       | inr apart ↦ stored x found (sym (get-insert_apart old.checkpoints c.now.interval bytes x apart) ∙ at) d spelled
@@ -96,7 +91,7 @@ stored_checkpoint m c old new stored on gained =
 
 kept_there : (b : Bool) (o : Option (List ℕ)) (bytes : List ℕ) → cond b o None ≡ Some bytes → o ≡ Some bytes
 kept_there true o bytes e = e
-kept_there false o bytes e = absurd (none_some bytes e)
+kept_there false o bytes e = absurd (none-some bytes e)
 
 pub stored_cut : (m : Member) (r : ℕ) (held : Content) → AreOnWay m held → AreOnWay m (kept_by_cut held r)
 stored_cut m r held stored x bytes at c spelled =

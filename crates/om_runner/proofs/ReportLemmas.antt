@@ -4,43 +4,23 @@ use Rattle.std.specs.Prelude.{Vec, slice_get, slice_index, Ok, Result, IfOk}
 use Rattle.std.specs.declared.alloc.Global.{Global}
 use Rattle.std.proofs.lemmas.Bool.{cases_order, le-leb, lt-leb}
 use Rattle.std.proofs.lemmas.List.{get_or-map, length-map}
-use Rattle.std.proofs.lemmas.Option.{get_or_from_slice_get, slice_get-get_or, slice_get_cases, slice_get_within}
-use Rattle.om_manager.specs.Outputs.{AreNumbered, HeldOutput, held_of, within}
-use Rattle.om_manager.specs.State.{ManagerState, held_by, released_by}
-use Rattle.om_manager.specs.declared.output_log.Output.{Output}
+use Rattle.std.proofs.lemmas.Option.{get_or_from_slice_get, same_Some, slice_get-get_or, slice_get_cases, slice_get_within}
 use Rattle.om_process.specs.Images.{program_of}
 use Rattle.om_process.specs.declared.image.Image.{Image}
 use Rattle.om_process.specs.declared.status.Status.{Status}
-use Rattle.om_runner.proofs.LinkLemmas.{none_in, some_same}
-use Rattle.om_runner.specs.Reports.{AreAllReleased, AreAlong, AreStatusesAlong, IsEnd, IsStatusAlong}
-use Rattle.om_runner.specs.Inboxes.{Traffic, Takings}
+use Rattle.om_board.proofs.ListLemmas.{map_get, map_had, more_had, none_in}
+use Rattle.om_runner.specs.Reports.{AreAlong, AreStatusesAlong, IsEnd, IsStatusAlong}
+use Rattle.om_board.specs.Inboxes.{Traffic, Takings}
 use Rattle.om_runner.specs.declared.cluster.Finished.{Finished}
 use Rattle.om_runner.specs.declared.network.Ends.{Ends}
-use Rattle.om_runner.specs.steps.Ends.{AreEndsOf, AreReleasedBy, IsEndOf}
+use Rattle.om_runner.specs.steps.Ends.{AreEndsOf, IsEndOf}
 use Rattle.om_runner.specs.steps.Network.{ArePuts, AreTakes, IsNetwork, Lines}
 use Rattle.om_runner.specs.steps.Settling.{AreLeaves}
 use Rattle.om_runner.specs.steps.Wiring.{HasEnds, IsWired}
 
 -- ---- lists
-pub map_get : {A B : Type 0} (f : A → B) (xs : List A) (i : ℕ) (x : A) → slice_get xs i ≡ Some x → slice_get (map f xs) i ≡ Some (f x)
-map_get f [] i x e = absurd (none_in i x e)
-map_get f (y ∷ xs) zero x e = ap Some (ap f (some_same y x e))
-map_get f (y ∷ xs) (suc i) x e = map_get f xs i x e
-
-pub map_had : {A B : Type 0} (f : A → B) (xs : List A) (i : ℕ) (y : B) → slice_get (map f xs) i ≡ Some y → (x : A) × (slice_get xs i ≡ Some x) × (f x ≡ y)
-map_had f [] i y e = absurd (none_in i y e)
-map_had f (x ∷ xs) zero y e = (x, refl, some_same (f x) y e)
-map_had f (x ∷ xs) (suc i) y e = map_had f xs i y e
-
--- an element of a list with one more is that one or was there
-pub more_had : {A : Type 0} (xs : List A) (i : ℕ) (y x : A) → slice_get (xs ++ y ∷ []) i ≡ Some x → ((i ≡ length xs) × (x ≡ y)) ⊎ (slice_get xs i ≡ Some x)
-more_had [] zero y x e = inl (refl, sym (some_same y x e))
-more_had [] (suc i) y x e = absurd (none_in i x e)
-more_had (z ∷ xs) zero y x e = inr e
-more_had (z ∷ xs) (suc i) y x e = elim (more_had xs i y x e) [ inl p ↦ inl (ap suc p.0, p.1) | inr p ↦ inr p ]
-
 pub any_default : {A : Type 0} (xs : List A) (i : ℕ) (d e : A) → i < length xs → get_or xs i d ≡ get_or xs i e
-any_default xs i d e lt = some_same (get_or xs i d) (get_or xs i e) (sym (slice_get-get_or xs i d lt) ∙ slice_get-get_or xs i e lt)
+any_default xs i d e lt = same_Some (get_or xs i d) (get_or xs i e) (sym (slice_get-get_or xs i d lt) ∙ slice_get-get_or xs i e lt)
 
 pub next_of : {A : Type 0} (x : A) (xs : List A) (k : ℕ) (d : A) → get_or (x ∷ xs) (k + 1) d ≡ get_or xs k d
 next_of x xs k d = let next : k + 1 ≡ suc k = omega arith in ap (λ i. get_or (x ∷ xs) i d) next
@@ -58,50 +38,6 @@ pub moved : {A B : Type 0} (f : A → B) (done more : List B) (x : A) (rest old 
     → done ++ map f old ≡ all → more ++ map f rest ≡ all
 moved f done more x rest old all next grown was =
     ap (λ l. l ++ map f rest) grown ∙ append_assoc done (f x ∷ []) (map f rest) ∙ ap (λ l. done ++ map f l) (sym next) ∙ was
-
--- ---- outputs
-cases_le_lt : (x y : ℕ) → (x ≤ y) ⊎ (y < x)
-cases_le_lt x y = elim (cases_order y x) [
-  | inl same ↦ inl (omega arith)
-  | inr apart ↦ elim apart [ inl less ↦ inr less | inr more ↦ inl (omega arith) ]
-]
-
-at_first : (x : HeldOutput) (rest : List HeldOutput) (limit j : ℕ) (y : HeldOutput) → x.interval ≤ limit → ((k : ℕ) → slice_get rest k ≡ Some y → y.interval ≤ limit)
-    → slice_get (x ∷ rest) j ≡ Some y → y.interval ≤ limit
-at_first x rest limit zero y inside later at = subst (λ (z : HeldOutput). z.interval ≤ limit) (some_same x y at) inside
-at_first x rest limit (suc j) y inside later at = later j at
-
-within_limit : (xs : List HeldOutput) (limit i : ℕ) (y : HeldOutput) → slice_get (within xs limit) i ≡ Some y → y.interval ≤ limit
-within_limit [] limit i y e = absurd (none_in i y e)
-within_limit (x ∷ xs) limit i y e = elim (cases_le_lt x.interval limit) [
-  | inl inside ↦ at_first x (within xs limit) limit i y inside (λ k at. within_limit xs limit k y at)
-      (subst (λ zs. slice_get zs i ≡ Some y) (ap (λ b. cond b (x ∷ within xs limit) (within xs limit)) (le-leb x.interval limit inside)) e)
-  | inr beyond ↦ within_limit xs limit i y (subst (λ zs. slice_get zs i ≡ Some y) (ap (λ b. cond b (x ∷ within xs limit) (within xs limit)) (lt-leb x.interval limit beyond)) e)
-]
-
-pub numbered_too : (copies outputs : List Output) → map (λ o. o.seq) copies ≡ map (λ o. o.seq) outputs → AreNumbered outputs → AreNumbered copies
-numbered_too copies outputs same numbered place d lt =
-    let long : length copies ≡ length outputs = sym (length-map copies (λ (o : Output). o.seq)) ∙ ap length same ∙ length-map outputs (λ (o : Output). o.seq) in
-    let inside : place < length outputs = subst (λ n. place < n) long lt in
-    sym (get_or-map (λ (o : Output). o.seq) copies place d 0 lt) ∙ ap (λ ns. get_or ns place 0) same ∙ get_or-map (λ (o : Output). o.seq) outputs place d 0 inside ∙ numbered place d inside
-
-pub all_released : (m : ManagerState) (released : List (Vec Output Global)) → AreReleasedBy m released → AreAllReleased m.recovery released
-all_released m released are p outputs at i o there =
-    let both = are p outputs at in (
-      subst (λ (x : Output). x.seq ≡ i) (get_or_from_slice_get outputs.items i o o there) (both.1 i o (slice_get_within outputs.items i o there)),
-      within_limit (held_by m p) (slice_index m.recovery p) i (held_of o) (subst (λ hs. slice_get hs i ≡ Some (held_of o)) both.0 (map_get held_of outputs.items i o there)),
-    )
-
-pub released_more : (m : ManagerState) (released : List (Vec Output Global)) (outputs : Vec Output Global) → AreReleasedBy m released
-    → map held_of outputs.items ≡ released_by m (length released) → AreNumbered outputs.items
-    → AreReleasedBy m (released ++ outputs ∷ [])
-released_more m released outputs are held numbered p found at = elim (more_had released p outputs found at) [
-  | inl here ↦ (
-    subst (λ q. map held_of found.items ≡ released_by m q) (sym here.0) (ap (λ (v : Vec Output Global). map held_of v.items) here.1 ∙ held),
-    subst (λ (v : Vec Output Global). AreNumbered v.items) (sym here.1) numbered,
-  )
-  | inr there ↦ are p found there
-]
 
 -- ---- ends
 -- where all ended well, each ended so
@@ -136,12 +72,12 @@ pub all_along : {S E : Type 0} (is_clean : S → Bool) (images : List Image) (li
 all_along is_clean images lines n results fs statuses stores many all long each statuses_are stores_are p image status store at_image at_status at_store clean =
     let found = map_had (λ f. f.status) fs p status (subst (λ l. slice_get l p ≡ Some status) statuses_are at_status) in
     let kept = map_had (λ f. f.store) fs p store (subst (λ l. slice_get l p ≡ Some store) stores_are at_store) in
-    let same : found.0 ≡ kept.0 = some_same found.0 kept.0 (sym found.1 ∙ kept.1) in
+    let same : found.0 ≡ kept.0 = same_Some found.0 kept.0 (sym found.1 ∙ kept.1) in
     let end = ended_so is_clean images lines n results fs many all long each p found.0 found.1 in
     let mine : IsTrue (is_clean found.0.store) = subst (λ s. IsTrue (is_clean s)) (sym (ap (λ (f : Finished _). f.store) same ∙ kept.2)) clean in
     subst (λ s. IsStatusAlong (program_of image) p (length images) s) found.2
     (subst (λ k. IsStatusAlong (program_of image) p k found.0.status) (sym many)
-    (subst (λ i. IsStatusAlong (program_of i) p n found.0.status) (some_same end.0 image (sym end.1 ∙ at_image)) (end.2.along mine)))
+    (subst (λ i. IsStatusAlong (program_of i) p n found.0.status) (same_Some end.0 image (sym end.1 ∙ at_image)) (end.2.along mine)))
 
 -- and each is an end
 pub all_ended : {S E : Type 0} (is_clean : S → Bool) (images : List Image) (lines : Lines) (n : ℕ) (results : List (Result (Finished S) E)) (fs : List (Finished S)) (statuses : List Status)

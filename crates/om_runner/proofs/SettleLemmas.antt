@@ -4,20 +4,20 @@ use Rattle.std.specs.Prelude.{Vec, slice_get}
 use Rattle.std.specs.declared.alloc.Global.{Global}
 use Rattle.std.proofs.lemmas.Bool.{cases_eq}
 use Rattle.std.proofs.lemmas.List.FromFn.{get_or-enumerate_from, length-enumerate_from}
-use Rattle.std.proofs.lemmas.Option.{get_or_from_slice_get, slice_get_cases, slice_get_read, slice_get_within}
+use Rattle.std.proofs.lemmas.Option.{get_or_from_slice_get, same_Some, slice_get_cases, slice_get_read, slice_get_within}
 use Rattle.std.specs.List.{enumerate_from}
 use mathlib.Core.List.{IsPrefix}
-use Rattle.om_runner.proofs.LinkLemmas.{same_line, some_same}
+use Rattle.om_runner.proofs.LinkLemmas.{same_line}
 use Rattle.om_runner.proofs.WireLemmas.{set_apart, set_here}
-use Rattle.om_runner.specs.Inboxes.{Line, Traffic, Takings}
+use Rattle.om_board.specs.Inboxes.{Line, Traffic, Takings}
 use Rattle.om_runner.specs.steps.Network.{Lines}
 use Rattle.om_runner.specs.steps.Settling.{AreLeaves, AreSettled, HavePairs, IsRowSettled, StandsAt, with_put}
 
 -- ---- elements of rows
 stands_same : {A : Type 0} (rows : List (Vec A Global)) (i j : ℕ) (x y : A) → StandsAt rows i j x → StandsAt rows i j y → x ≡ y
 stands_same rows i j x y p q =
-    let row : p.0 ≡ q.0 = some_same p.0 q.0 (sym p.1 ∙ q.1) in
-    some_same x y (sym p.2 ∙ subst (λ (r : Vec _ Global). slice_get r.items j ≡ Some y) (sym row) q.2)
+    let row : p.0 ≡ q.0 = same_Some p.0 q.0 (sym p.1 ∙ q.1) in
+    same_Some x y (sym p.2 ∙ subst (λ (r : Vec _ Global). slice_get r.items j ≡ Some y) (sym row) q.2)
 
 -- the element that was set
 stands_set : {A : Type 0} (rows : List (Vec A Global)) (i j : ℕ) (d new : Vec A Global) (x : A) → i < length rows
@@ -109,7 +109,7 @@ row_goes_on done from puts old now new d row put taken after was put_at taken_at
 }
   where
     put_of : (to : ℕ) (p : Traffic) → to ≡ done → slice_get puts to ≡ Some p → p ≡ put
-    put_of to p here at = some_same p put (sym at ∙ ap (λ i. slice_get puts i) here ∙ put_at)
+    put_of to p here at = same_Some p put (sym at ∙ ap (λ i. slice_get puts i) here ∙ put_at)
 
     taken_of : (to : ℕ) (t : Takings) → to ≡ done → StandsAt old to from t → t ≡ taken
     taken_of to t here stands =
@@ -131,7 +131,7 @@ pub pairs_next : (n : ℕ) (lines : Lines) (puts : List (Vec Traffic Global)) (o
     → HavePairs inboxes.items from row.items now
 pairs_next n lines puts old now from row inboxes leaves was row_at inboxes_at to put at =
     let inbox = leaves.putting from row row_at to put at in
-    let same : inbox.0 ≡ inboxes = some_same inbox.0 inboxes (sym inbox.1 ∙ inboxes_at) in
+    let same : inbox.0 ≡ inboxes = same_Some inbox.0 inboxes (sym inbox.1 ∙ inboxes_at) in
     let to_in : to < n = subst (λ k. to < k) (leaves.put from row row_at) (slice_get_within row.items to put at) in
     let from_in : from < n = subst (λ k. from < k) leaves.senders (slice_get_within puts from row row_at) in (
       subst (λ (r : Vec Line Global). slice_get r.items to ≡ Some put.line) same inbox.2,
@@ -171,7 +171,7 @@ all_go_on done puts row old now new was row_at step = record {
   where
     put_there : (from to : ℕ) (put : Traffic) → from ≡ done → StandsAt puts from to put → slice_get row.items to ≡ Some put
     put_there from to put here at =
-        let same : at.0 ≡ row = some_same at.0 row (sym at.1 ∙ ap (λ i. slice_get puts i) here ∙ row_at) in
+        let same : at.0 ≡ row = same_Some at.0 row (sym at.1 ∙ ap (λ i. slice_get puts i) here ∙ row_at) in
         subst (λ (r : Vec Traffic Global). slice_get r.items to ≡ Some put) same at.2
 
     taken_there : (from to : ℕ) (taken : Takings) → from ≡ done → StandsAt old to from taken → StandsAt now to done taken

@@ -4,13 +4,12 @@ use Rattle.std.specs.Prelude.{Vec, slice_get}
 use Rattle.std.specs.declared.alloc.Global.{Global}
 use Rattle.std.proofs.Math.Seq.{map-set_same}
 use Rattle.std.proofs.lemmas.List.{map-set, length-map}
-use Rattle.std.proofs.lemmas.Option.{slice_get_cases, slice_get_within}
-use Rattle.om_runner.specs.Inboxes.{Line, Traffic, Takings}
+use Rattle.std.proofs.lemmas.Option.{same_Some, slice_get_cases, slice_get_within}
+use Rattle.om_board.specs.Inboxes.{Line, Traffic, Takings}
 use Rattle.om_runner.specs.declared.network.Ends.{Ends}
 use Rattle.om_runner.specs.steps.Network.{IsAt, Lines}
 use Rattle.om_runner.specs.steps.Wiring.{AreRows, HasEnds, HavePuts, IsRow, IsWired, all_put, all_taken, grown_at, lines_put, lines_taken, with_row, with_rows}
-use Rattle.om_runner.proofs.LinkLemmas.{none_in, some_same}
-use Rattle.om_runner.proofs.ReportLemmas.{map_get, map_had, more_had}
+use Rattle.om_board.proofs.ListLemmas.{map_get, map_had, more_had, none_in}
 
 -- ---- one list of each process
 -- setting one end whose leaves to take have one more
@@ -82,7 +81,7 @@ pub puts_go_on : (rows : Lines) (row : Vec Line Global) (puts : List Line) (old 
 puts_go_on rows row puts old new have is lt put p r e at there = elim (more_had rows p row r at) [
   | inl here ↦
       let own : slice_get (set (all_put old) (length rows) puts) p ≡ Some puts = subst (λ k. slice_get (set (all_put old) (length rows) puts) k ≡ Some puts) (sym here.0) (set_here (all_put old) (length rows) puts (subst (λ k. length rows < k) (sym (length-map old (λ (x : Ends). lines_put x.puts.items))) lt)) in
-      some_same (lines_put e.puts.items) puts (sym now ∙ own) ∙ is ∙ sym (ap (λ (v : Vec Line Global). v.items) here.1)
+      same_Some (lines_put e.puts.items) puts (sym now ∙ own) ∙ is ∙ sym (ap (λ (v : Vec Line Global). v.items) here.1)
   | inr before ↦
       let less : p < length rows = slice_get_within rows p r before in
       let was = map_had (λ (x : Ends). lines_put x.puts.items) old p (lines_put e.puts.items) (sym (set_apart (all_put old) (length rows) p puts (omega arith)) ∙ now) in
@@ -97,7 +96,7 @@ row_had : (xss : List (List Line)) (row : List Line) (p : ℕ) (zs : List Line) 
     → (xs : List Line) × (y : Line) × (slice_get xss p ≡ Some xs) × (slice_get row p ≡ Some y) × (zs ≡ xs ++ y ∷ [])
 row_had [] row p zs lt e = absurd (none_in p zs e)
 row_had (xs ∷ xss) [] p zs lt e = absurd (omega arith)
-row_had (xs ∷ xss) (y ∷ row) zero zs lt e = (xs, y, refl, refl, sym (some_same (xs ++ y ∷ []) zs e))
+row_had (xs ∷ xss) (y ∷ row) zero zs lt e = (xs, y, refl, refl, sym (same_Some (xs ++ y ∷ []) zs e))
 row_had (xs ∷ xss) (y ∷ row) (suc p) zs lt e = row_had xss row p zs (omega arith) e
 
 pub rows_had : (n : ℕ) (xss : List (List Line)) (rows : Lines) (p : ℕ) (zs : List Line) → p < n → ((from : ℕ) (row : Vec Line Global) → slice_get rows from ≡ Some row → length row.items ≡ n)
@@ -123,7 +122,7 @@ rows_had n xss (r ∷ rows) p zs lt long e =
 
 none_of : (n p : ℕ) (xs : List Line) → slice_get (replicate n []) p ≡ Some xs → xs ≡ []
 none_of zero p xs e = absurd (none_in p xs e)
-none_of (suc n) zero xs e = sym (some_same [] xs e)
+none_of (suc n) zero xs e = sym (same_Some [] xs e)
 none_of (suc n) (suc p) xs e = none_of n p xs e
 
 -- ---- the whole

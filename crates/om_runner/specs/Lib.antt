@@ -1,6 +1,2 @@
-pub mod Inboxes
-pub mod Fronts
-pub mod CellNames
-pub mod Boards
-pub mod steps
 pub mod Reports
+pub mod steps

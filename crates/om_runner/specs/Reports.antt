@@ -1,9 +1,7 @@
 -- What a run of a cluster ends with.
-use Rattle.std.specs.Prelude.{◌≡◌, ℕ, ◌≤◌, List, Some, Bool, IsTrue, Vec, slice_get, slice_index, length}
-use Rattle.std.specs.declared.alloc.Global.{Global}
+use Rattle.std.specs.Prelude.{◌≡◌, ℕ, List, Some, Bool, IsTrue, slice_get, length}
 use Rattle.std.specs.FinMap as map
 use Rattle.om_stable.specs.Content.{Content}
-use Rattle.om_manager.specs.declared.output_log.Output.{Output}
 use Rattle.om_process.specs.Core.{status_of}
 use Rattle.om_process.specs.Images.{program_of}
 use Rattle.om_process.specs.Process.{Process, Program, Received, made}
@@ -15,15 +13,6 @@ use Rattle.om_process.specs.declared.status.Status.TheVariants.{Ready, Waiting, 
 -- a store without a record
 abbrev pub nothing : Content
 nothing = record { receipts = map.empty; checkpoints = map.empty }
-
--- the outputs are numbered from 0 without a gap, and each was made within the limit
-abbrev pub AreReleased : ℕ → List Output → Type 0
-AreReleased limit outputs = (i : ℕ) (o : Output) → slice_get outputs i ≡ Some o → (o.seq ≡ i) × (o.interval ≤ limit)
-
--- so are those of each process, within its place of the vector
-abbrev pub AreAllReleased : List ℕ → List (Vec Output Global) → Type 0
-AreAllReleased vec released = (p : ℕ) (outputs : Vec Output Global) → slice_get released p ≡ Some outputs
-    → AreReleased (slice_index vec p) outputs.items
 
 -- the process has come to an end
 abbrev pub IsEnd : Status → Type 0

@@ -1,33 +1,27 @@
 //! A cluster, a thread for each process.
 
 ghost use Rattle.std.specs.Prelude.{◌≡◌, ◌<◌, ◌≤◌, ℕ, All, IfOk, IfSome, IsTrue, length, map, slice_index_or, vec_capacity, vec_len};
+ghost use Rattle.om_board.specs.Released.{AreAllReleased};
 ghost use Rattle.om_interval.specs.declared.pid.TheConstants.{MAX_PROCESSES};
-ghost use Rattle.om_manager.specs.Outputs.{AreNumbered, held_of};
-ghost use Rattle.om_manager.specs.State as managers;
-ghost use Rattle.om_manager.specs.State.{released_by as held_within};
 ghost use Rattle.om_process.specs.Images.{program_of};
 ghost use Rattle.om_process.specs.declared.image.Image.{Image};
-ghost use Rattle.om_runner.specs.Reports.{AreAllReleased, AreAlong, AreStatusesAlong, IsEnd, IsStatusAlong};
-ghost use Rattle.om_runner.specs.steps.Ends.{AreEndsOf, AreReleasedBy, IsEndOf, IsPromised, IsTurned};
+ghost use Rattle.om_runner.specs.Reports.{AreAlong, AreStatusesAlong, IsEnd, IsStatusAlong};
+ghost use Rattle.om_runner.specs.steps.Ends.{AreEndsOf, IsEndOf, IsPromised, IsTurned};
 ghost use Rattle.om_runner.specs.steps.Places.{member_of};
 ghost use Rattle.om_runner.specs.steps.Settling.{AreLeaves};
 ghost use Rattle.om_runner.specs.steps.Wiring.{IsWired};
 
 use crate::config::Config;
-use crate::front::Front;
-use crate::frontier::{Blank, Naming, Pass};
-use crate::inbox::{Inbox, PutPass, TakePass};
+use crate::fault::RunFault;
 use crate::links::Links;
 use crate::network::{Ends, Network, connected};
 use crate::node::Node;
 use crate::opener::{Gate, OpenFault, Opener};
-use crate::report::{Report, RunFault};
 use crate::settle::settle_all;
-use crate::shared::Shared;
 use crate::trouble::load_fault;
 use crate::worker::{Place, Worker};
+use om_board::{Blank, Inbox, Naming, Pass, PutPass, Report, Shared, TakePass};
 use om_interval::{MAX_PROCESSES, Pid};
-use om_manager::{Manager, Output};
 use om_process::{Image, Status};
 use om_stable::Stable;
 use std::alloc::{AllocError, Global};
@@ -478,64 +472,6 @@ fn parted<S: Stable>(alloc: Global, all: Vec<Finished<S>>) -> Result<Parts<S>, A
     })
 }
 
-fn copy_of(alloc: Global, output: &Output) -> Result<Output, AllocError>
-    ensures held { IfOk result (λ copy. held_of copy ≡ held_of output.now) }
-    ensures seq { IfOk result (λ copy. copy.seq ≡ output.now.seq) }
-{
-    Ok(Output {
-        seq: output.seq,
-        interval: output.interval,
-        bytes: Vec::from_slice(alloc, &output.bytes)?,
-    })
-}
-
-// A copy of outputs.
-fn copied(alloc: Global, outputs: &[Output]) -> Result<Vec<Output>, AllocError>
-    ensures held { IfOk result (λ copies. map held_of copies.items ≡ map held_of outputs.now) }
-    ensures numbers { IfOk result (λ copies. map (λ o. o.seq) copies.items ≡ map (λ o. o.seq) outputs.now) }
-{
-    let mut copies = Vec::with_capacity(alloc, outputs.len())?;
-    for output in outputs {
-        copies.push(copy_of(alloc, output)?)?;
-    }
-    Ok(copies)
-}
-
-// The released outputs of a process.
-fn released_of(alloc: Global, manager: &Manager, pid: Pid) -> Result<Vec<Output>, AllocError>
-    requires { pid < managers.size_of manager.now }
-    ensures held { IfOk result (λ outputs. map held_of outputs.items ≡ held_within manager.now pid) }
-    ensures numbered { IfOk result (λ outputs. AreNumbered outputs.items) }
-{
-    copied(alloc, manager.released(pid))
-}
-
-// The released outputs of each process.
-fn released_by(alloc: Global, manager: &Manager) -> Result<Vec<Vec<Output>>, AllocError>
-    ensures long { IfOk result (λ released. length released.items ≡ managers.size_of manager.now) }
-    ensures released { IfOk result (λ released. AreReleasedBy manager.now released.items) }
-{
-    let n = manager.recovery().n();
-    let mut released = Vec::with_capacity(alloc, n)?;
-    for p in 0..n {
-        released.push(released_of(alloc, manager, Pid::at(p))?)?;
-    }
-    Ok(released)
-}
-
-// The outputs and the front of a manager, with how the processes ended.
-fn report_of(alloc: Global, manager: &Manager, statuses: Vec<Status>) -> Result<Report, AllocError>
-    ensures released { IfOk result (λ report. AreAllReleased report.front.vec report.released.items) }
-    ensures long { IfOk result (λ report. length report.released.items ≡ managers.size_of manager.now) }
-    ensures statuses { IfOk result (λ report. report.statuses ≡ statuses) }
-{
-    Ok(Report {
-        released: released_by(alloc, manager)?,
-        statuses,
-        front: Front::of(manager),
-    })
-}
-
 // What all workers of a cluster brought back, where each ended well.
 fn run_workers<
     K: Naming + Send + Sync,
@@ -593,7 +529,7 @@ fn close<K: Naming, R: Wait, G: Gate, O: Opener<R>>(
     } = parts;
     settle_all(cluster.rt, cluster.inboxes, puts, &mut takes);
     let board = cluster.shared.board.lock(cluster.rt);
-    let Ok(report) = report_of(cluster.alloc, board.manager(), statuses) else {
+    let Ok(report) = Report::of(cluster.alloc, board.manager(), statuses) else {
         return Err(RunFault::Memory);
     };
     Ok((report, stores))

@@ -3,11 +3,8 @@
 ghost use Rattle.std.specs.Prelude.{◌≡◌, ◌<◌, IfOk, IfSome, length};
 ghost use Rattle.om_manager.specs.State as managers;
 
-use crate::board::Board;
-use crate::front::Front;
-use crate::frontier::{Frontier, Naming, Pass};
-use crate::shared::Shared;
 use crate::trouble::Trouble;
+use om_board::{Board, Front, Frontier, Naming, Pass, Shared};
 use om_interval::{Bounds, Pid, Starts, Verdict};
 use om_manager::{OutputError, RecordError};
 use om_process::{Made, ProcCore, Row};

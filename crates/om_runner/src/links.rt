@@ -6,8 +6,8 @@ ghost use Rattle.om_process.specs.Core.{size_of};
 ghost use Rattle.om_runner.specs.steps.Network.{ArePuts, AreTakes, IsNetwork};
 ghost use Rattle.om_runner.specs.steps.Wiring.{HasEnds};
 
-use crate::inbox::{Inbox, PutAnswer, PutPass, TakePass};
 use crate::network::Ends;
+use om_board::{Inbox, PutAnswer, PutPass, TakePass};
 use om_format::Message;
 use om_interval::{MAX_PROCESSES, Pid};
 use om_process::ProcCore;

@@ -4,7 +4,7 @@ ghost use Rattle.std.specs.Prelude.{◌≡◌, ◌<◌, ◌≤◌, [], IfOk, OnO
 ghost use Rattle.om_interval.specs.declared.pid.TheConstants.{MAX_PROCESSES};
 ghost use Rattle.om_runner.specs.steps.Wiring.{IsRow, IsWired, all_put, all_taken, grown_at, lines_put, with_row};
 
-use crate::inbox::{Inbox, PutPass, TakePass};
+use om_board::{Inbox, PutPass, TakePass};
 use om_interval::{MAX_PROCESSES, Pid};
 use std::alloc::{AllocError, Global};
 

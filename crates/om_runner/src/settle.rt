@@ -3,7 +3,7 @@
 ghost use Rattle.std.specs.Prelude.{◌≡◌, length};
 ghost use Rattle.om_runner.specs.steps.Settling.{AreLeaves, AreSettled, HavePairs, IsRowSettled};
 
-use crate::inbox::{Inbox, PutPass, TakePass};
+use om_board::{Inbox, PutPass, TakePass};
 use std::sync::Wait;
 
 // Has each receiver take in what one sender has put for it.

@@ -1,4 +1,4 @@
-use crate::report::RunFault;
+use crate::fault::RunFault;
 use om_interval::Pid;
 use om_manager::{FailError, JoinError, OutputError, RecordError};
 use om_process::{ReplayFault, StartFault};

@@ -6,13 +6,11 @@ ghost use Rattle.om_runner.specs.steps.Wiring.{HasEnds};
 
 use crate::config::Config;
 use crate::contact::{Contact, Heard, Limits, Standing};
-use crate::front::Front;
-use crate::frontier::{Naming, Pass};
 use crate::links::Links;
 use crate::network::Ends;
 use crate::node::{Fallen, Node, has_ended};
-use crate::shared::Shared;
 use crate::trouble::Trouble;
+use om_board::{Front, Naming, Pass, Shared};
 use om_interval::Pid;
 use om_process::{Accept, Status};
 use om_stable::Stable;

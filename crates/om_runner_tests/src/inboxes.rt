@@ -1,5 +1,5 @@
 ghost use Rattle.std.specs.Prelude.{◌≡◌, IfOk};
-ghost use Rattle.om_runner.specs.Inboxes.{IsOfLine};
+ghost use Rattle.om_board.specs.Inboxes.{IsOfLine};
 
 use om_format::{Body, Message};
 use om_interval::{Pid, Tag};

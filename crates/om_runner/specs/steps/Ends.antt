@@ -1,9 +1,5 @@
 -- What a worker brings back.
-use Rattle.std.specs.Prelude.{◌≡◌, ℕ, ◌<◌, List, Bool, IfOk, IsTrue, Result, Some, Vec, map, slice_get, slice_index_or}
-use Rattle.std.specs.declared.alloc.Global.{Global}
-use Rattle.om_manager.specs.Outputs.{AreNumbered, held_of}
-use Rattle.om_manager.specs.State.{ManagerState, released_by}
-use Rattle.om_manager.specs.declared.output_log.Output.{Output}
+use Rattle.std.specs.Prelude.{◌≡◌, ℕ, ◌<◌, List, Bool, IfOk, IsTrue, Result, slice_index_or}
 use Rattle.om_process.specs.Images.{program_of}
 use Rattle.om_process.specs.Process.{Program}
 use Rattle.om_process.specs.declared.image.Image.{Image}
@@ -32,11 +28,6 @@ IsTurned is_clean m (Over status store) = IsEnd status × (IsTrue (is_clean stor
 abbrev pub AreEndsOf : {S E : Type 0} → (S → Bool) → List Image → Lines → ℕ → List (Result (Finished S) E) → Type 0
 AreEndsOf is_clean images lines n results = (i : ℕ) (image : Image) (result : Result (Finished _) _) → i < n
     → IfOk (slice_index_or results i result) (λ f. IsEndOf is_clean (program_of (slice_index_or images i image)) lines i n f)
-
--- the outputs of each process are those that the manager released, each with its place as its number
-abbrev pub AreReleasedBy : ManagerState → List (Vec Output Global) → Type 0
-AreReleasedBy m released = (p : ℕ) (outputs : Vec Output Global) → slice_get released p ≡ Some outputs
-    → (map held_of outputs.items ≡ released_by m p) × AreNumbered outputs.items
 
 -- what is promised is for this image, these inboxes, this process, and so many
 pub record IsPromised {S : Type 0} (image : Image) (lines : Lines) (own n : ℕ) (promise : EndOf S) : Type 0 where

@@ -2,7 +2,7 @@
 use Rattle.std.specs.Prelude.{◌≡◌, ℕ, ◌<◌, ◌≤◌, List, Some, Vec, length, slice_get}
 use Rattle.std.specs.declared.alloc.Global.{Global}
 use Rattle.om_interval.specs.declared.pid.TheConstants.{MAX_PROCESSES}
-use Rattle.om_runner.specs.Inboxes.{Line, Traffic, Takings}
+use Rattle.om_board.specs.Inboxes.{Line, Traffic, Takings}
 
 -- inboxes by sender, and there by receiver
 abbrev pub Lines : Type 0

@@ -2,7 +2,7 @@
 use Rattle.std.specs.Prelude.{◌≡◌, ◌≢◌, ℕ, ◌<◌, ◌≤◌, List, Some, Vec, length, slice_get}
 use Rattle.std.specs.declared.alloc.Global.{Global}
 use mathlib.Core.List.{IsPrefix}
-use Rattle.om_runner.specs.Inboxes.{Line, Traffic, Takings}
+use Rattle.om_board.specs.Inboxes.{Line, Traffic, Takings}
 use Rattle.om_runner.specs.steps.Network.{ArePuts, AreTakes, IsNetwork, Lines}
 
 -- the element at a place of a row

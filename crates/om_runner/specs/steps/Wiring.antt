@@ -1,7 +1,7 @@
 -- How the inboxes of a cluster are made.
 use Rattle.std.specs.Prelude.{◌≡◌, ℕ, zero, suc, List, [], ◌∷◌, ◌++◌, Some, Vec, length, map, slice_get}
 use Rattle.std.specs.declared.alloc.Global.{Global}
-use Rattle.om_runner.specs.Inboxes.{Line, Traffic, Takings}
+use Rattle.om_board.specs.Inboxes.{Line, Traffic, Takings}
 use Rattle.om_runner.specs.declared.network.Ends.{Ends}
 use Rattle.om_runner.specs.steps.Network.{ArePuts, AreTakes, IsNetwork, Lines}
 

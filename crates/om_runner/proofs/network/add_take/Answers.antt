@@ -1,6 +1,6 @@
 use Rattle.std.proofs.Common.{[], ◌∷◌, ◌++◌, ap, ◌∙◌}
 use Rattle.std.proofs.lemmas.List.{map-append}
-use Rattle.om_runner.specs.Inboxes.{Takings}
+use Rattle.om_board.specs.Inboxes.{Takings}
 use Rattle.om_runner.specs.declared.network.Ends.{Ends}
 use Rattle.om_runner.specs.steps.Wiring.{lines_put, lines_taken}
 use Rattle.om_runner.proofs.WireLemmas.{put_same, taken_grown}

@@ -1,6 +1,6 @@
 use Rattle.std.proofs.Common.{◌<◌, ◌+◌, [], ◌∷◌, ◌++◌, refl, sym, ap, ◌∙◌, subst, rules, length, length-append}
 use Rattle.std.proofs.lemmas.List.{map-append, length-map}
-use Rattle.om_runner.specs.Inboxes.{Traffic, Takings}
+use Rattle.om_board.specs.Inboxes.{Traffic, Takings}
 use Rattle.om_runner.specs.declared.network.Ends.{Ends}
 use Rattle.om_runner.specs.steps.Wiring.{IsRow, all_taken, grown_at, lines_put, lines_taken, with_row}
 use Rattle.om_runner.proofs.WireLemmas.{no_row, no_row_yet, row_goes_on, row_more}

@@ -6,7 +6,7 @@ use Rattle.std.specs.Prelude.{Vec}
 use Rattle.std.specs.Vec.{with_item}
 use Rattle.std.specs.declared.alloc.Global.{Global}
 use mathlib.Core.List.{IsPrefix}
-use Rattle.om_runner.specs.Inboxes.{Takings}
+use Rattle.om_board.specs.Inboxes.{Takings}
 use Rattle.om_runner.specs.steps.Settling.{IsRowSettled, with_put}
 use Rattle.om_runner.proofs.SettleLemmas.{line_read, pair_next, row_goes_on, row_inside, taken_inside, taken_read, turn_at}
 use Rattle.om_runner.proofs.settle.settle_row.Goals as goal

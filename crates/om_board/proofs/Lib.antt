@@ -1,0 +1,6 @@
+pub mod OrderLemmas
+pub mod PostingLemmas
+pub mod BoardLemmas
+pub mod FrontLemmas
+pub mod ListLemmas
+mod ReleasedLemmas

@@ -1,0 +1,55 @@
+-- What is released.
+use Rattle.std.proofs.Common.{◌≡◌, ◌⊎◌, inl, inr, ℕ, zero, suc, ◌<◌, ◌≤◌, List, [], ◌∷◌, ◌++◌, Some, cond, sym, ap, ◌∙◌, subst, arith, get_or, length, map}
+use Rattle.std.specs.Prelude.{Vec, slice_get, slice_index}
+use Rattle.std.specs.declared.alloc.Global.{Global}
+use Rattle.std.proofs.lemmas.Bool.{cases_order, le-leb, lt-leb}
+use Rattle.std.proofs.lemmas.List.{get_or-map, length-map}
+use Rattle.std.proofs.lemmas.Option.{get_or_from_slice_get, same_Some, slice_get_within}
+use Rattle.om_manager.specs.Outputs.{AreNumbered, HeldOutput, held_of, within}
+use Rattle.om_manager.specs.State.{ManagerState, held_by, released_by}
+use Rattle.om_manager.specs.declared.output_log.Output.{Output}
+use Rattle.om_board.specs.Released.{AreAllReleased, AreReleasedBy}
+use Rattle.om_board.proofs.ListLemmas.{map_get, more_had, none_in}
+
+cases_le_lt : (x y : ℕ) → (x ≤ y) ⊎ (y < x)
+cases_le_lt x y = elim (cases_order y x) [
+  | inl same ↦ inl (omega arith)
+  | inr apart ↦ elim apart [ inl less ↦ inr less | inr more ↦ inl (omega arith) ]
+]
+
+at_first : (x : HeldOutput) (rest : List HeldOutput) (limit j : ℕ) (y : HeldOutput) → x.interval ≤ limit → ((k : ℕ) → slice_get rest k ≡ Some y → y.interval ≤ limit)
+    → slice_get (x ∷ rest) j ≡ Some y → y.interval ≤ limit
+at_first x rest limit zero y inside later at = subst (λ (z : HeldOutput). z.interval ≤ limit) (same_Some x y at) inside
+at_first x rest limit (suc j) y inside later at = later j at
+
+within_limit : (xs : List HeldOutput) (limit i : ℕ) (y : HeldOutput) → slice_get (within xs limit) i ≡ Some y → y.interval ≤ limit
+within_limit [] limit i y e = absurd (none_in i y e)
+within_limit (x ∷ xs) limit i y e = elim (cases_le_lt x.interval limit) [
+  | inl inside ↦ at_first x (within xs limit) limit i y inside (λ k at. within_limit xs limit k y at)
+      (subst (λ zs. slice_get zs i ≡ Some y) (ap (λ b. cond b (x ∷ within xs limit) (within xs limit)) (le-leb x.interval limit inside)) e)
+  | inr beyond ↦ within_limit xs limit i y (subst (λ zs. slice_get zs i ≡ Some y) (ap (λ b. cond b (x ∷ within xs limit) (within xs limit)) (lt-leb x.interval limit beyond)) e)
+]
+
+pub numbered_too : (copies outputs : List Output) → map (λ o. o.seq) copies ≡ map (λ o. o.seq) outputs → AreNumbered outputs → AreNumbered copies
+numbered_too copies outputs same numbered place d lt =
+    let long : length copies ≡ length outputs = sym (length-map copies (λ (o : Output). o.seq)) ∙ ap length same ∙ length-map outputs (λ (o : Output). o.seq) in
+    let inside : place < length outputs = subst (λ n. place < n) long lt in
+    sym (get_or-map (λ (o : Output). o.seq) copies place d 0 lt) ∙ ap (λ ns. get_or ns place 0) same ∙ get_or-map (λ (o : Output). o.seq) outputs place d 0 inside ∙ numbered place d inside
+
+pub all_released : (m : ManagerState) (released : List (Vec Output Global)) → AreReleasedBy m released → AreAllReleased m.recovery released
+all_released m released are p outputs at i o there =
+    let both = are p outputs at in (
+      subst (λ (x : Output). x.seq ≡ i) (get_or_from_slice_get outputs.items i o o there) (both.1 i o (slice_get_within outputs.items i o there)),
+      within_limit (held_by m p) (slice_index m.recovery p) i (held_of o) (subst (λ hs. slice_get hs i ≡ Some (held_of o)) both.0 (map_get held_of outputs.items i o there)),
+    )
+
+pub released_more : (m : ManagerState) (released : List (Vec Output Global)) (outputs : Vec Output Global) → AreReleasedBy m released
+    → map held_of outputs.items ≡ released_by m (length released) → AreNumbered outputs.items
+    → AreReleasedBy m (released ++ outputs ∷ [])
+released_more m released outputs are held numbered p found at = elim (more_had released p outputs found at) [
+  | inl here ↦ (
+    subst (λ q. map held_of found.items ≡ released_by m q) (sym here.0) (ap (λ (v : Vec Output Global). map held_of v.items) here.1 ∙ held),
+    subst (λ (v : Vec Output Global). AreNumbered v.items) (sym here.1) numbered,
+  )
+  | inr there ↦ are p found there
+]

@@ -1,0 +1,6 @@
+pub mod Inboxes
+pub mod Fronts
+pub mod CellNames
+pub mod Boards
+pub mod Released
+pub mod steps

@@ -1,0 +1,11 @@
+//! What holds of posted fronts: each function stands for a theorem over the definitions alone.
+ghost use Rattle.std.specs.Prelude.{◌≡◌, List, Contains};
+ghost use mathlib.Core.List.{IsPrefix};
+ghost use Rattle.om_board.specs.declared.front.Front.{Front};
+ghost use Rattle.om_board.specs.Fronts.{IsPosted};
+
+/// Two passes that met the same board agree on every version that both have seen.
+pub fn each_version_has_one_front()
+    ensures { (board one other : List Front) (a b : Front) → IsPosted board → IsPrefix one board → IsPrefix other board
+        → Contains one a → Contains other b → a.version ≡ b.version → a ≡ b }
+{}

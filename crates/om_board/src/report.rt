@@ -1,0 +1,86 @@
+//! What a run of a cluster ends with.
+
+ghost use Rattle.std.specs.Prelude.{◌≡◌, ◌<◌, IfOk, length, map};
+ghost use Rattle.om_board.specs.Fronts.{front_of};
+ghost use Rattle.om_board.specs.Released.{AreAllReleased, AreReleasedBy};
+ghost use Rattle.om_manager.specs.Outputs.{AreNumbered, held_of};
+ghost use Rattle.om_manager.specs.State.{released_by as held_within, size_of};
+
+use crate::front::Front;
+use om_interval::Pid;
+use om_manager::{Manager, Output};
+use om_process::Status;
+use std::alloc::{AllocError, Global};
+
+/// What a run of a cluster ended with.
+#[derive(Debug, Drop)]
+pub struct Report {
+    /// By process, its released outputs in order.
+    pub released: Vec<Vec<Output>>,
+    /// By process, how it ended.
+    pub statuses: Vec<Status>,
+    /// The front of the manager at the end.
+    pub front: Front,
+}
+
+fn copy_of(alloc: Global, output: &Output) -> Result<Output, AllocError>
+    ensures held { IfOk result (λ copy. held_of copy ≡ held_of output.now) }
+    ensures seq { IfOk result (λ copy. copy.seq ≡ output.now.seq) }
+{
+    Ok(Output {
+        seq: output.seq,
+        interval: output.interval,
+        bytes: Vec::from_slice(alloc, &output.bytes)?,
+    })
+}
+
+// A copy of outputs.
+fn copied(alloc: Global, outputs: &[Output]) -> Result<Vec<Output>, AllocError>
+    ensures held { IfOk result (λ copies. map held_of copies.items ≡ map held_of outputs.now) }
+    ensures numbers { IfOk result (λ copies. map (λ o. o.seq) copies.items ≡ map (λ o. o.seq) outputs.now) }
+{
+    let mut copies = Vec::with_capacity(alloc, outputs.len())?;
+    for output in outputs {
+        copies.push(copy_of(alloc, output)?)?;
+    }
+    Ok(copies)
+}
+
+// The released outputs of a process.
+fn released_of(alloc: Global, manager: &Manager, pid: Pid) -> Result<Vec<Output>, AllocError>
+    requires { pid < size_of manager.now }
+    ensures held { IfOk result (λ outputs. map held_of outputs.items ≡ held_within manager.now pid) }
+    ensures numbered { IfOk result (λ outputs. AreNumbered outputs.items) }
+{
+    copied(alloc, manager.released(pid))
+}
+
+// The released outputs of each process.
+fn released_by(alloc: Global, manager: &Manager) -> Result<Vec<Vec<Output>>, AllocError>
+    ensures long { IfOk result (λ released. length released.items ≡ size_of manager.now) }
+    ensures released { IfOk result (λ released. AreReleasedBy manager.now released.items) }
+{
+    let n = manager.recovery().n();
+    let mut released = Vec::with_capacity(alloc, n)?;
+    for p in 0..n {
+        released.push(released_of(alloc, manager, Pid::at(p))?)?;
+    }
+    Ok(released)
+}
+
+impl Report {
+    /// The released outputs and the front of a manager, with how the processes ended.
+    pub fn of(alloc: Global, manager: &Manager, statuses: Vec<Status>) -> Result<Report, AllocError>
+        ensures outputs { IfOk result (λ report. AreReleasedBy manager.now report.released.items) }
+        ensures processes { IfOk result (λ report. length report.released.items ≡ size_of manager.now) }
+        ensures statuses { IfOk result (λ report. report.statuses ≡ statuses) }
+        ensures front { IfOk result (λ report. report.front ≡ front_of manager.now) }
+        ensures released { IfOk result (λ report. AreAllReleased report.front.vec report.released.items) }
+    {
+        Ok(Report {
+            released: released_by(alloc, manager)?,
+            statuses,
+            front: Front::of(manager),
+        })
+    }
+}

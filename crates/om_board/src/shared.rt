@@ -1,0 +1,50 @@
+ghost use Rattle.std.specs.Prelude.{◌≡◌, [], ◌∷◌, replicate, IfOk};
+ghost use Rattle.om_board.specs.Fronts.{first_front};
+
+use crate::board::Board;
+use crate::frontier::{Blank, Frontier, Naming, Pass, Writer};
+use om_manager::Manager;
+use std::alloc::{AllocError, Global};
+use std::sync::Mutex;
+
+/// What the threads of a cluster share: the board, under a lock, and the frontier beside it.
+#[derive(Drop)]
+pub struct Shared<K: Naming> {
+    pub board: Mutex<Board<K>>,
+    pub frontier: Frontier<K>,
+}
+
+// As many reading passes, each with all that was posted.
+fn passes_of<K: Naming>(
+    alloc: Global,
+    n: usize,
+    writer: &mut Writer<K>,
+    frontier: &Frontier<K>,
+) -> Result<Vec<Pass<K>>, AllocError>
+    ensures passes { IfOk result (λ passes. passes.items ≡ replicate n writer.old) }
+    ensures same { writer.new ≡ writer.old }
+{
+    let mut passes = Vec::with_capacity(alloc, n)?;
+    for _ in 0..n {
+        passes.push_reserved(writer.pass(frontier));
+    }
+    Ok(passes)
+}
+
+impl<K: Naming> Shared<K> {
+    /// A board of as many processes as the cell is for, at their start, with its frontier and a reading pass for each process.
+    pub fn new(alloc: Global, blank: Blank) -> Result<(Shared<K>, Vec<Pass<K>>), AllocError>
+        requires { blank ≡ K.cell }
+        ensures { IfOk result (λ made. made.1.items ≡ replicate K.cell.n (first_front K.cell.n ∷ [])) }
+    {
+        let n = blank.n();
+        let manager = Manager::new(alloc, n)?;
+        let (frontier, mut writer) = blank.open::<K>();
+        let passes = passes_of(alloc, n, &mut writer, &frontier)?;
+        let shared = Shared {
+            board: Mutex::new(Board::new(manager, writer)),
+            frontier,
+        };
+        Ok((shared, passes))
+    }
+}

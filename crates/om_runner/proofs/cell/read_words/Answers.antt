@@ -1,5 +1,0 @@
-use Rattle.om_runner.proofs.PostingLemmas.{loads}
-use Rattle.om_runner.proofs.cell.read_words.Goals as goal
-
-pub read_as-requires-clause-rule : goal.read_as-requires-clause-rule
-read_as-requires-clause-rule g c = loads _ _ c.requires.reads

@@ -1,5 +1,0 @@
-use Rattle.om_runner.proofs.PostingLemmas.{shows}
-use Rattle.om_runner.proofs.cell.show.Goals as goal
-
-pub join_as-requires-clause-rule : goal.join_as-requires-clause-rule
-join_as-requires-clause-rule c = shows _ _ _ _
