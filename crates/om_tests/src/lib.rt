@@ -11,6 +11,8 @@ mod programs;
 #[cfg(test)]
 mod replay;
 #[cfg(test)]
+mod rows;
+#[cfg(test)]
 mod run;
 #[cfg(test)]
 mod sim;

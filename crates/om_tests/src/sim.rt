@@ -1,20 +1,7 @@
 //! Scripts of worlds, and what the command writes of them.
 
-use om_commands::sim::sim;
-use std::alloc::Global;
-use std::process::Abort;
-
-// What the command writes of an input, or the text of its error.
-fn told(rt: &impl Abort, alloc: Global, input: &str) -> Vec<u8> {
-    let mut written = Vec::new(alloc);
-    match sim(alloc, &mut input.as_bytes(), &mut written) {
-        Ok(()) => written,
-        Err(error) => {
-            assert!(rt; written.is_empty());
-            error.to_string(alloc).expect(rt, "memory").into_bytes()
-        }
-    }
-}
+use crate::rows::How::{Begins, Refused, Writes};
+use crate::rows::{Command, Row, check};
 
 // Three processes: a receives and puts out what came, b receives and sends it to process 0, c sends its first 4 bytes to
 // process 1.
@@ -28,9 +15,10 @@ proc c pc
 ";
 
 // Events over them, the answers, and how the world stands in the end.
-const EVENTS: [(&str, &str, &str); 7] = [
+static EVENTS: [Row; 7] = [
     (
         "run 0 100\nrun 1 100\nrun 2 100\ngive 1 0\nrun 1 100\ngive 0 1\nrun 0 100\nflush 0\n",
+        Writes,
         "\
 ran 3 waiting sent 0 made 0
 ran 3 waiting sent 0 made 0
@@ -40,8 +28,6 @@ ran 6 ended 0 sent 1 made 0
 taken 1
 ran 5 ended 0 sent 0 made 1
 noted 1
-",
-        "\
 recovery 0 0 0
 proc a inc 0 interval 1 ended 0
 proc b inc 0 interval 1 ended 0
@@ -50,8 +36,19 @@ proc c inc 0 interval 0 ended 0
     ),
     (
         "run 0 100\ncheckpoint 0\ngive 0 5\njoin 0\nresume 0\nresend 0\ntrim 0\nrun 3 1\nfail 3\njoin 3\nresume 3\n",
-        "ran 3 waiting sent 0 made 0\npresent\nno-frame\nno-round\nnot-in\nsent 0\ntrimmed\nno-process\nno-process\nno-process\nno-process\n",
+        Writes,
         "\
+ran 3 waiting sent 0 made 0
+present
+no-frame
+no-round
+not-in
+sent 0
+trimmed
+no-process
+no-process
+no-process
+no-process
 recovery 0 0 0
 proc a inc 0 interval 0 waiting
 proc b inc 0 interval 0 ready
@@ -60,8 +57,13 @@ proc c inc 0 interval 0 ready
     ),
     (
         "prune\nprune\ncheckpoint 0\ncheckpoint 1\ncheckpoint 2\n",
-        "pruned\npruned\npresent\npresent\npresent\n",
+        Writes,
         "\
+pruned
+pruned
+present
+present
+present
 recovery 0 0 0
 proc a inc 0 interval 0 ready
 proc b inc 0 interval 0 ready
@@ -70,8 +72,15 @@ proc c inc 0 interval 0 ready
     ),
     (
         "run 2 100\nresend 2\ngive 0 0\ngive 1 0\nrun 1 3\ngive 1 1\ngive 1 0\n",
-        "ran 5 ended 0 sent 1 made 0\nsent 1\nstranger\nnot-waiting\nran 3 waiting sent 0 made 0\ntaken 1\nrepeat\n",
+        Writes,
         "\
+ran 5 ended 0 sent 1 made 0
+sent 1
+stranger
+not-waiting
+ran 3 waiting sent 0 made 0
+taken 1
+repeat
 recovery 0 0 0
 proc a inc 0 interval 0 ready
 proc b inc 0 interval 1 ready
@@ -84,6 +93,7 @@ run 0 100\nrun 1 100\nrun 2 100\ngive 1 0\nrun 1 100\ngive 0 1\nrun 0 100\nflush
 resume 0\nresume 1\nresume 2\ngive 0 1\nrun 1 100\ngive 1 0\nrun 1 100\nrun 0 100\ngive 0 1\ngive 0 2\nrun 0 100
 flush 1\nflush 0
 ",
+        Writes,
         "\
 ran 3 waiting sent 0 made 0
 ran 3 waiting sent 0 made 0
@@ -109,8 +119,6 @@ taken 1
 ran 5 ended 0 sent 0 made 1
 noted 1
 noted 1
-",
-        "\
 recovery 1 1 0
 proc a inc 1 interval 1 ended 0
 proc b inc 1 interval 1 ended 0
@@ -123,6 +131,7 @@ out a 0 93081000
 run 1 100\nrun 2 100\ngive 1 0\ncheckpoint 1\nflush 1\nprune\nfail 1\njoin 0\njoin 2\nresume 1\nresume 0\nresume 2
 give 1 0\nrun 1 100
 ",
+        Writes,
         "\
 ran 3 waiting sent 0 made 0
 ran 5 ended 0 sent 1 made 0
@@ -138,8 +147,6 @@ goes-on
 goes-on
 repeat
 ran 6 ended 0 sent 1 made 0
-",
-        "\
 recovery 0 1 0
 proc a inc 0 interval 0 ready
 proc b inc 1 interval 1 ended 0
@@ -151,6 +158,7 @@ proc c inc 0 interval 0 ended 0
 fail 0\nfail 1\ngive 2 0\njoin 2\nfail 2\nresume 0\nfail 0\nresume 2\nresume 1\njoin 1\njoin 2\nresume 0\nresume 1
 resume 2\nresume 2
 ",
+        Writes,
         "\
 waiting
 waiting
@@ -167,8 +175,6 @@ back 0 inc 2
 goes-on
 goes-on
 not-in
-",
-        "\
 recovery 0 0 0
 proc a inc 2 interval 0 ready
 proc b inc 1 interval 0 ready
@@ -177,101 +183,87 @@ proc c inc 0 interval 0 ready
     ),
 ];
 
-#[test]
-fn events_and_their_answers(rt: HostRuntime) {
-    for (events, answers, end) in EVENTS {
-        let input = format!(in rt.alloc(); "{THREE}{events}").expect(&rt, "memory");
-        let wanted = format!(in rt.alloc(); "{answers}{end}").expect(&rt, "memory");
-        let text = told(&rt, rt.alloc(), input.as_str());
-        assert_eq!(rt; text.as_slice(), wanted.as_bytes(), "{events}");
-    }
-}
-
 // Who is in or down is not up.
-#[test]
-fn processes_that_are_not_up(rt: HostRuntime) {
-    for (events, answers) in [
-        ("fail 1\n", "waiting\n"),
-        (
-            "fail 1\nfail 1\nrun 1 1\ngive 1 0\nflush 1\ncheckpoint 1\njoin 1\nresend 1\ntrim 1\nresume 1\n",
-            "waiting\nnot-up\nnot-up\nnot-up\nnot-up\nnot-up\nnot-up\nnot-up\nnot-up\nnot-in\n",
-        ),
-        (
-            "fail 1\njoin 0\nrun 0 1\njoin 0\nresume 0\nfail 0\njoin 2\n",
-            "waiting\nwaiting\nnot-up\nnot-up\nnot-in\nwaiting\nfinished\n",
-        ),
-    ] {
-        let input = format!(in rt.alloc(); "{THREE}{events}").expect(&rt, "memory");
-        let text = told(&rt, rt.alloc(), input.as_str());
-        assert!(rt; text.as_slice().starts_with(answers.as_bytes()), "{events}");
-        assert!(rt;
-            text.as_slice()[answers.len()..].starts_with(b"recovery 0 0 0\n"),
-            "{events}"
-        );
-    }
-}
+static NOT_UP: [Row; 3] = [
+    ("fail 1\n", Begins, "waiting\nrecovery 0 0 0\n"),
+    (
+        "fail 1\nfail 1\nrun 1 1\ngive 1 0\nflush 1\ncheckpoint 1\njoin 1\nresend 1\ntrim 1\nresume 1\n",
+        Begins,
+        "waiting\nnot-up\nnot-up\nnot-up\nnot-up\nnot-up\nnot-up\nnot-up\nnot-up\nnot-in\nrecovery 0 0 0\n",
+    ),
+    (
+        "fail 1\njoin 0\nrun 0 1\njoin 0\nresume 0\nfail 0\njoin 2\n",
+        Begins,
+        "waiting\nwaiting\nnot-up\nnot-up\nnot-in\nwaiting\nfinished\nrecovery 0 0 0\n",
+    ),
+];
 
 // One process; what it puts out is released, where it depends on no receipt.
-#[test]
-fn programs_are_those_of_their_flag(rt: HostRuntime) {
-    for (kind, text) in [
-        (
-            "program-m",
-            "ran 8 ended 0 sent 0 made 1\nrecovery 0\nproc d inc 0 interval 0 ended 0\nout d 0 ffffffff\n",
-        ),
-        (
-            "program",
-            "ran 1 trapped 1 sent 0 made 0\nrecovery 0\nproc d inc 0 interval 0 trapped 1\n",
-        ),
-    ] {
-        let input = format!(in rt.alloc();
-            "{kind} dv 128 00700093 0200C1B3 04302023 00300893 04000513 00400593 00000073 00000893 00000073\nproc d dv\nrun 0 100\n"
-        ).expect(&rt, "memory");
-        let written = told(&rt, rt.alloc(), input.as_str());
-        assert_eq!(rt; written.as_slice(), text.as_bytes(), "{kind}");
-    }
-}
+static FLAGS: [Row; 2] = [
+    (
+        "program-m dv 128 00700093 0200C1B3 04302023 00300893 04000513 00400593 00000073 00000893 00000073\nproc d dv\nrun 0 100\n",
+        Writes,
+        "ran 8 ended 0 sent 0 made 1\nrecovery 0\nproc d inc 0 interval 0 ended 0\nout d 0 ffffffff\n",
+    ),
+    (
+        "program dv 128 00700093 0200C1B3 04302023 00300893 04000513 00400593 00000073 00000893 00000073\nproc d dv\nrun 0 100\n",
+        Writes,
+        "ran 1 trapped 1 sent 0 made 0\nrecovery 0\nproc d inc 0 interval 0 trapped 1\n",
+    ),
+];
 
 const SEVENTEEN: &str = "program a 4
 proc p0 a\nproc p1 a\nproc p2 a\nproc p3 a\nproc p4 a\nproc p5 a\nproc p6 a\nproc p7 a\nproc p8 a
 proc p9 a\nproc p10 a\nproc p11 a\nproc p12 a\nproc p13 a\nproc p14 a\nproc p15 a\nproc p16 a\n";
 
+static FAULTY: [Row; 25] = [
+    ("", Refused, "empty script"),
+    ("program a 4\n", Refused, "empty script"),
+    ("run 0 1\n", Refused, "empty script"),
+    ("program a 6\n", Refused, "line 1: bad size"),
+    (
+        "program a 4 00000013 00000013\n",
+        Refused,
+        "line 1: image too long",
+    ),
+    ("program a-b 4\n", Refused, "line 1: bad name"),
+    ("program a 4 13\n", Refused, "line 1: bad word"),
+    ("program a 4\nprogram a 4\n", Refused, "line 2: name taken"),
+    ("proc x nosuch\n", Refused, "line 1: no such name"),
+    (SEVENTEEN, Refused, "line 18: too many"),
+    (
+        "program a 4\nproc p a\nprune\nprogram b 4\n",
+        Refused,
+        "line 4: out of place",
+    ),
+    (
+        "program a 4\nproc p a\nprune\nproc q a\n",
+        Refused,
+        "line 4: out of place",
+    ),
+    ("fail\n", Refused, "line 1: wrong count of words"),
+    ("join 0 1\n", Refused, "line 1: wrong count of words"),
+    ("resume x\n", Refused, "line 1: bad number"),
+    ("die 0\n", Refused, "line 1: unknown line"),
+    ("run 0\n", Refused, "line 1: wrong count of words"),
+    ("prune 0\n", Refused, "line 1: wrong count of words"),
+    ("flush\n", Refused, "line 1: wrong count of words"),
+    ("give 0 4294967296\n", Refused, "line 1: bad number"),
+    ("give 0 4294967295\n", Refused, "empty script"),
+    ("run 4294967296 1\n", Refused, "line 1: bad number"),
+    (
+        "run 0 18446744073709551616\n",
+        Refused,
+        "line 1: bad number",
+    ),
+    ("run 0 18446744073709551615\n", Refused, "empty script"),
+    ("checkpoint x\n", Refused, "line 1: bad number"),
+];
+
 #[test]
-fn faulty_scripts(rt: HostRuntime) {
-    for (input, text) in [
-        ("", "empty script"),
-        ("program a 4\n", "empty script"),
-        ("run 0 1\n", "empty script"),
-        ("program a 6\n", "line 1: bad size"),
-        ("program a 4 00000013 00000013\n", "line 1: image too long"),
-        ("program a-b 4\n", "line 1: bad name"),
-        ("program a 4 13\n", "line 1: bad word"),
-        ("program a 4\nprogram a 4\n", "line 2: name taken"),
-        ("proc x nosuch\n", "line 1: no such name"),
-        (SEVENTEEN, "line 18: too many"),
-        (
-            "program a 4\nproc p a\nprune\nprogram b 4\n",
-            "line 4: out of place",
-        ),
-        (
-            "program a 4\nproc p a\nprune\nproc q a\n",
-            "line 4: out of place",
-        ),
-        ("fail\n", "line 1: wrong count of words"),
-        ("join 0 1\n", "line 1: wrong count of words"),
-        ("resume x\n", "line 1: bad number"),
-        ("die 0\n", "line 1: unknown line"),
-        ("run 0\n", "line 1: wrong count of words"),
-        ("prune 0\n", "line 1: wrong count of words"),
-        ("flush\n", "line 1: wrong count of words"),
-        ("give 0 4294967296\n", "line 1: bad number"),
-        ("give 0 4294967295\n", "empty script"),
-        ("run 4294967296 1\n", "line 1: bad number"),
-        ("run 0 18446744073709551616\n", "line 1: bad number"),
-        ("run 0 18446744073709551615\n", "empty script"),
-        ("checkpoint x\n", "line 1: bad number"),
-    ] {
-        let told = told(&rt, rt.alloc(), input);
-        assert_eq!(rt; told.as_slice(), text.as_bytes(), "{input}");
-    }
+fn scripts_and_their_answers(rt: HostRuntime) {
+    check(&rt, rt.alloc(), Command::Sim, THREE, &EVENTS);
+    check(&rt, rt.alloc(), Command::Sim, THREE, &NOT_UP);
+    check(&rt, rt.alloc(), Command::Sim, "", &FLAGS);
+    check(&rt, rt.alloc(), Command::Sim, "", &FAULTY);
 }

@@ -2,7 +2,7 @@ ghost use Rattle.std.specs.Prelude.{◌≡◌, IfOk, length};
 
 use om_interval::Pid;
 use om_isa::Ext;
-use om_manager::Gathered;
+use om_manager::{Gathered, Output};
 use om_process::{Accept, Image, StartFault, Status};
 use om_stable::{FuseStable, MemStable, Stable};
 use om_world::{Answer, Event, Refusal, World, laws};
@@ -10,7 +10,7 @@ use std::alloc::{AllocError, Global};
 use std::process::Abort;
 
 // Receives, and puts out what came.
-const RECEIVES: [u32; 8] = [
+static RECEIVES: [u32; 8] = [
     0x0020_0893,
     0x0400_0513,
     0x0040_0593,
@@ -22,7 +22,7 @@ const RECEIVES: [u32; 8] = [
 ];
 
 // Receives, and sends it to process 0.
-const PASSES_ON: [u32; 9] = [
+static PASSES_ON: [u32; 9] = [
     0x0020_0893,
     0x0400_0513,
     0x0040_0593,
@@ -35,10 +35,10 @@ const PASSES_ON: [u32; 9] = [
 ];
 
 // Sends its first 4 bytes to process 1.
-const SENDS: [u32; 4] = [0x0010_0893, 0x0010_0513, 0x0040_0613, 0x0000_0073];
+static SENDS: [u32; 4] = [0x0010_0893, 0x0010_0513, 0x0040_0613, 0x0000_0073];
 
 // Ends with 0.
-const ENDS: [u32; 2] = [0x0000_0893, 0x0000_0073];
+static ENDS: [u32; 2] = [0x0000_0893, 0x0000_0073];
 
 // A program that ends with 0 after these words.
 fn image(alloc: Global, words: &[u32], size: u32) -> Result<Image, AllocError> {
@@ -83,173 +83,299 @@ fn line(alloc: Global) -> Result<World<MemStable>, StartFault> {
     World::start(alloc, &images, stores)
 }
 
-fn run(process: usize) -> Event {
-    Event::Run { process, fuel: 100 }
+// The answers to events over the three processes, of which some are compared: those from a place on.
+fn played(
+    rt: &impl Abort,
+    alloc: Global,
+    events: &[Event],
+    from: usize,
+    wanted: &[Answer],
+) -> World<MemStable> {
+    let mut world = line(alloc).expect(rt, "a world");
+    let answers = world.play(alloc, events).expect(rt, "memory");
+    let compared = answers.as_slice().get(from..).unwrap_or(&[]);
+    let compared = compared.get(..wanted.len()).unwrap_or(compared);
+    assert_eq!(rt; (answers.len(), compared), (events.len(), wanted));
+    world
 }
 
-fn ran(steps: u64, status: Status, sent: usize, made: usize) -> Answer {
+static PASSED_ON: [Event; 8] = [
+    Event::Run {
+        process: 0,
+        fuel: 100,
+    },
+    Event::Run {
+        process: 1,
+        fuel: 100,
+    },
+    Event::Run {
+        process: 2,
+        fuel: 100,
+    },
+    Event::Give {
+        process: 1,
+        frame: 0,
+    },
+    Event::Run {
+        process: 1,
+        fuel: 100,
+    },
+    Event::Give {
+        process: 0,
+        frame: 1,
+    },
+    Event::Run {
+        process: 0,
+        fuel: 100,
+    },
+    Event::Flush { process: 0 },
+];
+
+static PASSED_ON_ANSWERS: [Answer; 8] = [
     Answer::Ran {
-        steps,
-        status,
-        sent,
-        made,
-    }
-}
+        steps: 3,
+        status: Status::Waiting,
+        sent: 0,
+        made: 0,
+    },
+    Answer::Ran {
+        steps: 3,
+        status: Status::Waiting,
+        sent: 0,
+        made: 0,
+    },
+    Answer::Ran {
+        steps: 5,
+        status: Status::Ended(0),
+        sent: 1,
+        made: 0,
+    },
+    Answer::Given(Accept::Taken(1)),
+    Answer::Ran {
+        steps: 6,
+        status: Status::Ended(0),
+        sent: 1,
+        made: 0,
+    },
+    Answer::Given(Accept::Taken(1)),
+    Answer::Ran {
+        steps: 5,
+        status: Status::Ended(0),
+        sent: 0,
+        made: 1,
+    },
+    Answer::Noted(1),
+];
 
 #[test]
 fn a_message_is_passed_on(rt: HostRuntime) {
-    let alloc = rt.alloc();
-    let mut world = line(alloc).expect(&rt, "a world");
-    let events = [
-        run(0),
-        run(1),
-        run(2),
-        Event::Give {
-            process: 1,
-            frame: 0,
-        },
-        run(1),
-        Event::Give {
-            process: 0,
-            frame: 1,
-        },
-        run(0),
-        Event::Flush { process: 0 },
-    ];
-    let answers = world.play(alloc, &events).expect(&rt, "memory");
-    let expected = [
-        ran(3, Status::Waiting, 0, 0),
-        ran(3, Status::Waiting, 0, 0),
-        ran(5, Status::Ended(0), 1, 0),
-        Answer::Given(Accept::Taken(1)),
-        ran(6, Status::Ended(0), 1, 0),
-        Answer::Given(Accept::Taken(1)),
-        ran(5, Status::Ended(0), 0, 1),
-        Answer::Noted(1),
-    ];
-    assert_eq!(&rt; answers.as_slice(), expected.as_slice());
-    assert_eq!(&rt; world.live().len(), 2);
+    let world = played(&rt, rt.alloc(), &PASSED_ON, 0, &PASSED_ON_ANSWERS);
     let recovery = world.manager().recovery();
-    assert_eq!(&rt; recovery.get(Pid::at(0)), 0);
     let first = world.core(Pid::at(0)).expect(&rt, "a core");
-    assert_eq!(&rt; (first.inc(), first.interval()), (0, 1));
-    assert_eq!(&rt; world.core(Pid::at(3)).is_some(), false);
+    assert_eq!(&rt;
+        (
+            world.live().len(),
+            recovery.get(Pid::at(0)),
+            first.inc(),
+            first.interval(),
+            world.core(Pid::at(3)).is_some()
+        ),
+        (2, 0, 0, 1, false)
+    );
 }
+
+static REFUSED: [Event; 9] = [
+    Event::Run {
+        process: 0,
+        fuel: 100,
+    },
+    Event::Checkpoint { process: 0 },
+    Event::Give {
+        process: 0,
+        frame: 5,
+    },
+    Event::Resend { process: 0 },
+    Event::Trim { process: 0 },
+    Event::Run {
+        process: 3,
+        fuel: 100,
+    },
+    Event::Prune,
+    Event::Prune,
+    Event::Checkpoint { process: 2 },
+];
+
+static REFUSED_ANSWERS: [Answer; 9] = [
+    Answer::Ran {
+        steps: 3,
+        status: Status::Waiting,
+        sent: 0,
+        made: 0,
+    },
+    Answer::Refused(Refusal::Present),
+    Answer::Refused(Refusal::NoFrame),
+    Answer::Resent(0),
+    Answer::Trimmed,
+    Answer::Refused(Refusal::NoProcess),
+    Answer::Pruned,
+    Answer::Pruned,
+    Answer::Refused(Refusal::Present),
+];
 
 #[test]
 fn events_are_refused(rt: HostRuntime) {
-    let alloc = rt.alloc();
-    let mut world = line(alloc).expect(&rt, "a world");
-    let events = [
-        run(0),
-        Event::Checkpoint { process: 0 },
-        Event::Give {
-            process: 0,
-            frame: 5,
-        },
-        Event::Resend { process: 0 },
-        Event::Trim { process: 0 },
-        run(3),
-        Event::Prune,
-        Event::Prune,
-        Event::Checkpoint { process: 2 },
-    ];
-    let answers = world.play(alloc, &events).expect(&rt, "memory");
-    let expected = [
-        ran(3, Status::Waiting, 0, 0),
-        Answer::Refused(Refusal::Present),
-        Answer::Refused(Refusal::NoFrame),
-        Answer::Resent(0),
-        Answer::Trimmed,
-        Answer::Refused(Refusal::NoProcess),
-        Answer::Pruned,
-        Answer::Pruned,
-        Answer::Refused(Refusal::Present),
-    ];
-    assert_eq!(&rt; answers.as_slice(), expected.as_slice());
-}
-
-fn give(process: usize, frame: usize) -> Event {
-    Event::Give { process, frame }
+    let _ = played(&rt, rt.alloc(), &REFUSED, 0, &REFUSED_ANSWERS);
 }
 
 // The second process fails once its message has gone on to the first, whose record of it is stored: the message is an
 // orphan, and the first is rolled back.
-fn run_with_a_failure() -> [Event; 24] {
-    [
-        run(0),
-        run(1),
-        run(2),
-        give(1, 0),
-        run(1),
-        give(0, 1),
-        run(0),
-        Event::Flush { process: 0 },
-        Event::Fail { process: 1 },
-        Event::Join { process: 0 },
-        Event::Join { process: 2 },
-        Event::Resume { process: 0 },
-        Event::Resume { process: 1 },
-        Event::Resume { process: 2 },
-        give(0, 1),
-        run(1),
-        give(1, 0),
-        run(1),
-        run(0),
-        give(0, 1),
-        give(0, 2),
-        run(0),
-        Event::Flush { process: 1 },
-        Event::Flush { process: 0 },
-    ]
-}
+static RUN_WITH_A_FAILURE: [Event; 24] = [
+    Event::Run {
+        process: 0,
+        fuel: 100,
+    },
+    Event::Run {
+        process: 1,
+        fuel: 100,
+    },
+    Event::Run {
+        process: 2,
+        fuel: 100,
+    },
+    Event::Give {
+        process: 1,
+        frame: 0,
+    },
+    Event::Run {
+        process: 1,
+        fuel: 100,
+    },
+    Event::Give {
+        process: 0,
+        frame: 1,
+    },
+    Event::Run {
+        process: 0,
+        fuel: 100,
+    },
+    Event::Flush { process: 0 },
+    Event::Fail { process: 1 },
+    Event::Join { process: 0 },
+    Event::Join { process: 2 },
+    Event::Resume { process: 0 },
+    Event::Resume { process: 1 },
+    Event::Resume { process: 2 },
+    Event::Give {
+        process: 0,
+        frame: 1,
+    },
+    Event::Run {
+        process: 1,
+        fuel: 100,
+    },
+    Event::Give {
+        process: 1,
+        frame: 0,
+    },
+    Event::Run {
+        process: 1,
+        fuel: 100,
+    },
+    Event::Run {
+        process: 0,
+        fuel: 100,
+    },
+    Event::Give {
+        process: 0,
+        frame: 1,
+    },
+    Event::Give {
+        process: 0,
+        frame: 2,
+    },
+    Event::Run {
+        process: 0,
+        fuel: 100,
+    },
+    Event::Flush { process: 1 },
+    Event::Flush { process: 0 },
+];
+
+// The answers from the failure on.
+static FAILURE_ANSWERS: [Answer; 13] = [
+    Answer::Gathered(Gathered::Waiting),
+    Answer::Gathered(Gathered::Waiting),
+    Answer::Gathered(Gathered::Finished),
+    Answer::Back {
+        interval: 0,
+        inc: 1,
+    },
+    Answer::Back {
+        interval: 0,
+        inc: 1,
+    },
+    Answer::GoesOn,
+    Answer::Given(Accept::Orphan),
+    Answer::Ran {
+        steps: 3,
+        status: Status::Waiting,
+        sent: 0,
+        made: 0,
+    },
+    Answer::Given(Accept::Taken(1)),
+    Answer::Ran {
+        steps: 6,
+        status: Status::Ended(0),
+        sent: 1,
+        made: 0,
+    },
+    Answer::Ran {
+        steps: 3,
+        status: Status::Waiting,
+        sent: 0,
+        made: 0,
+    },
+    Answer::Given(Accept::Orphan),
+    Answer::Given(Accept::Taken(1)),
+];
 
 #[test]
 fn a_process_fails_and_another_is_rolled_back(rt: HostRuntime) {
-    let alloc = rt.alloc();
-    let mut world = line(alloc).expect(&rt, "a world");
-    let answers = world
-        .play(alloc, &run_with_a_failure())
-        .expect(&rt, "memory");
-    let expected = [
-        Answer::Gathered(Gathered::Waiting),
-        Answer::Gathered(Gathered::Waiting),
-        Answer::Gathered(Gathered::Finished),
-        Answer::Back {
-            interval: 0,
-            inc: 1,
-        },
-        Answer::Back {
-            interval: 0,
-            inc: 1,
-        },
-        Answer::GoesOn,
-        Answer::Given(Accept::Orphan),
-    ];
-    assert_eq!(&rt; &answers.as_slice()[8..15], expected.as_slice());
-    assert_eq!(&rt; answers.as_slice()[20], Answer::Given(Accept::Taken(1)));
+    let world = played(&rt, rt.alloc(), &RUN_WITH_A_FAILURE, 8, &FAILURE_ANSWERS);
     assert_eq!(&rt; world.live().len(), 2);
     check_the_end(&rt, &world);
 }
 
+static RECOVERED: [u32; 3] = [1, 1, 0];
+
+static RELEASED: [u8; 4] = [0x93, 0x08, 0x10, 0x00];
+
 // The end of that run.
 fn check_the_end<S: Stable>(rt: &impl Abort, world: &World<S>) {
     let recovery = world.manager().recovery();
-    assert_eq!(rt; recovery.as_slice(), [1, 1, 0].as_slice());
-    for (p, end) in [
-        (0, (1, 1, Status::Ended(0))),
-        (1, (1, 1, Status::Ended(0))),
-        (2, (0, 0, Status::Ended(0))),
-    ] {
-        let core = world.core(Pid::at(p)).expect(rt, "a core");
-        assert_eq!(rt; (core.inc(), core.interval(), core.status()), end);
-    }
-    let released = world.manager().released(Pid::at(0));
-    assert_eq!(rt; released.len(), 1);
-    assert_eq!(rt;
-        released[0].bytes.as_slice(),
-        [0x93, 0x08, 0x10, 0x00].as_slice()
+    assert_eq!(rt; recovery.as_slice(), RECOVERED.as_slice());
+    check_released(rt, world.manager().released(Pid::at(0)));
+    let ends = (
+        end_of(rt, world, Pid::at(0)),
+        end_of(rt, world, Pid::at(1)),
+        end_of(rt, world, Pid::at(2)),
     );
+    let ended = Status::Ended(0);
+    assert_eq!(rt; ends, ((1, 1, ended), (1, 1, ended), (0, 0, ended)));
+}
+
+// The incarnation, the interval and the status of a process.
+fn end_of<S: Stable>(rt: &impl Abort, world: &World<S>, pid: Pid) -> (u32, u32, Status) {
+    let core = world.core(pid).expect(rt, "a core");
+    (core.inc(), core.interval(), core.status())
+}
+
+fn check_released(rt: &impl Abort, released: &[Output]) {
+    let bytes = match released {
+        [output] => output.bytes.as_slice(),
+        _ => &[],
+    };
+    assert_eq!(rt; bytes, RELEASED.as_slice());
 }
 
 // A store in memory that stops after so many calls, where it is the one that is to.
@@ -288,8 +414,8 @@ fn play_twice<S: Stable>(
 // Plays the run with a failure, and says whether a store stopped.
 fn play_run<S: Stable>(alloc: Global, world: &mut World<S>) -> Result<bool, AllocError> {
     let mut stopped = false;
-    for event in run_with_a_failure() {
-        if play_twice(alloc, world, event)? {
+    for event in &RUN_WITH_A_FAILURE {
+        if play_twice(alloc, world, *event)? {
             stopped = true;
         }
     }
@@ -329,12 +455,17 @@ fn refused(alloc: Global, size: u32) -> Result<(), StartFault> {
     Ok(())
 }
 
+static STARTS: [(u32, Result<(), StartFault>); 3] = [
+    (24, Ok(())),
+    (20, Err(StartFault::ImageTooLong)),
+    (22, Err(StartFault::BadSize)),
+];
+
 #[test]
 fn starts_are_refused(rt: HostRuntime) {
-    let alloc = rt.alloc();
-    assert_eq!(&rt; refused(alloc, 24), Ok(()));
-    assert_eq!(&rt; refused(alloc, 20), Err(StartFault::ImageTooLong));
-    assert_eq!(&rt; refused(alloc, 22), Err(StartFault::BadSize));
+    for (size, want) in &STARTS {
+        assert_eq!(&rt; refused(rt.alloc(), *size), *want);
+    }
 }
 
 #[test]

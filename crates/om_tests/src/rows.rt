@@ -1,0 +1,116 @@
+//! Rows of the commands that read a text: what a command is given, and what it must write or be refused with.
+
+use om_commands::decode::decode;
+use om_commands::frontier::frontier;
+use om_commands::run::run;
+use om_commands::sim::sim;
+use om_commands::{CommandError, InMemory};
+use om_isa::Ext;
+use std::alloc::Global;
+use std::process::Abort;
+use std::sync::Wait;
+use std::thread::Threads;
+
+/// A command that reads a text.
+#[derive(Clone, Copy)]
+pub enum Command {
+    Frontier,
+    Decode(Ext),
+    Sim,
+    /// Over stores in memory. A worker takes so many turns.
+    Run(u64),
+}
+
+/// How the text of a row is meant.
+#[derive(Clone, Copy)]
+pub enum How {
+    /// It is all that is written.
+    Writes,
+    /// What is written begins with it.
+    Begins,
+    /// The command is refused, nothing is written, and this is the text of the error.
+    Refused,
+}
+
+/// An input, or the end of one, and what must come of it. Tables of rows are static: one in a function's body would be built
+/// there, and each of its rows proved.
+pub type Row = (&'static str, How, &'static str);
+
+/// Compares what the command makes of each row's input, behind the head that all have.
+pub fn check<R: Threads + Wait + Abort + Sync>(
+    rt: &R,
+    alloc: Global,
+    command: Command,
+    head: &str,
+    rows: &[Row],
+) {
+    for (end, how, wanted) in rows {
+        let input = format!(in alloc; "{head}{end}").expect(rt, "memory");
+        check_input(rt, alloc, command, &input, *how, wanted);
+    }
+}
+
+/// Compares what the command makes of an input.
+pub fn check_input<R: Threads + Wait + Abort + Sync>(
+    rt: &R,
+    alloc: Global,
+    command: Command,
+    input: &str,
+    how: How,
+    wanted: &str,
+) {
+    let mut written = Vec::new(alloc);
+    let answer = carry_out(rt, alloc, command, input.as_bytes(), &mut written);
+    check_answer(rt, alloc, input, (answer, &written), (how, wanted));
+}
+
+fn carry_out<R: Threads + Wait + Sync>(
+    rt: &R,
+    alloc: Global,
+    command: Command,
+    mut input: &[u8],
+    written: &mut Vec<u8>,
+) -> Result<(), CommandError> {
+    match command {
+        Command::Frontier => frontier(alloc, &mut input, written),
+        Command::Decode(ext) => decode(alloc, ext, &mut input, written),
+        Command::Sim => sim(alloc, &mut input, written),
+        Command::Run(turns) => run(rt, alloc, turns, &InMemory, &mut input, written),
+    }
+}
+
+/// Compares what a command answered to this input, and what it wrote.
+pub fn check_answer(
+    rt: &impl Abort,
+    alloc: Global,
+    input: &str,
+    (answer, written): (Result<(), CommandError>, &[u8]),
+    (how, wanted): (How, &str),
+) {
+    let error = error_text(rt, alloc, answer);
+    let told = shown(written, how, wanted.len());
+    match how {
+        How::Refused => compare(rt, input, (&error, told), (wanted, &[])),
+        _ => compare(rt, input, (&error, told), ("", wanted.as_bytes())),
+    }
+}
+
+// The text of the error, or none.
+fn error_text(rt: &impl Abort, alloc: Global, answer: Result<(), CommandError>) -> String {
+    match answer {
+        Ok(()) => String::new(alloc),
+        Err(error) => error.to_string(alloc).expect(rt, "memory"),
+    }
+}
+
+fn compare(rt: &impl Abort, input: &str, told: (&str, &[u8]), wanted: (&str, &[u8])) {
+    assert_eq!(rt; told, wanted, "{input}");
+}
+
+// What is compared of what was written: so many bytes where it has to begin with them, else all.
+fn shown(written: &[u8], how: How, count: usize) -> &[u8] {
+    match how {
+        How::Begins if count <= written.len() => &written[..count],
+        _ => written,
+    }
+}
