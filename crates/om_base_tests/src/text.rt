@@ -7,6 +7,7 @@ ghost use Rattle.std.specs.Str.{bytes_eq};
 ghost use Rattle.om_text.specs.Numbers.{number_of};
 ghost use Rattle.om_text.specs.declared.error.LineError.TheVariants.{UnknownLine, BadNumber};
 
+use crate::same::{assert_same, assert_same_at};
 use om_text::{
     BuildError, Builder, LineError, MAX_BYTES, MAX_TURNS, ReadError, ScriptError, hex_word, laws,
     number_of, read_script, read_text,
@@ -18,7 +19,7 @@ use std::io::{ErrorKind, Read};
 use std::process::Abort;
 
 // The sum of the numbers N of the lines `add N`.
-#[derive(Debug, Drop)]
+#[derive(Drop)]
 struct Sum(u64);
 
 impl Builder for Sum {
@@ -55,7 +56,7 @@ fn assert_sum(
     text: &str,
     want: Result<u64, BuildError<ScriptError>>,
 ) {
-    assert_eq!(rt; sum_of(alloc, text.as_bytes()), want, "of {text:?}");
+    assert_same_at(rt, &text, &sum_of(alloc, text.as_bytes()), &want);
 }
 
 fn faulty(line: usize, error: LineError) -> Result<u64, BuildError<ScriptError>> {
@@ -115,7 +116,7 @@ const NUMBERS: [(&str, Option<u32>); 8] = [
 #[test]
 fn words_are_numbers(rt: HostRuntime) {
     for (word, number) in &NUMBERS {
-        assert_eq!(rt; number_of(word.as_bytes()), *number, "of {word:?}");
+        assert_same_at(&rt, word, &number_of(word.as_bytes()), number);
     }
 }
 
@@ -130,7 +131,7 @@ const HEX_WORDS: [(&str, Option<u32>); 5] = [
 #[test]
 fn words_of_eight_digits_are_hexadecimal(rt: HostRuntime) {
     for (word, value) in &HEX_WORDS {
-        assert_eq!(rt; hex_word(word.as_bytes()), *value, "of {word:?}");
+        assert_same_at(&rt, word, &hex_word(word.as_bytes()), value);
     }
 }
 
@@ -149,7 +150,7 @@ fn faults_are_named(rt: HostRuntime) {
         has_text(&rt, rt.alloc(), &memory, "no memory"),
         has_text(&rt, rt.alloc(), &ReadError::TooLong, "too long"),
     ];
-    assert_eq!(rt; are_named, [true; 3]);
+    assert_same(&rt, &are_named, &[true; 3]);
 }
 
 // A reader that gives its bytes one at a time, after so many interruptions, and may refuse in place
@@ -189,7 +190,7 @@ const SCRIPT: &[u8] = b"add 1\nadd 2";
 // An input of these bytes is read to its end.
 fn assert_read(rt: &impl Abort, alloc: Global, mut input: &[u8], bytes: &[u8]) {
     let text = read_text(alloc, &mut input).expect(rt, "a text");
-    assert_eq!(rt; text.as_slice(), bytes);
+    assert_same(rt, &text.as_slice(), &bytes);
 }
 
 #[test]
@@ -207,7 +208,7 @@ fn interrupted_inputs_are_read_whole(rt: HostRuntime) {
         refuses: false,
     };
     let text = read_text(rt.alloc(), &mut drip).expect(&rt, "a text");
-    assert_eq!(rt; text.as_slice(), SCRIPT);
+    assert_same(&rt, &text.as_slice(), &SCRIPT);
 }
 
 // How long the text of an input of so many zeros is.
@@ -220,10 +221,8 @@ fn read_len(rt: &impl Abort, alloc: Global, count: usize) -> Result<usize, ReadE
 fn inputs_have_limits(rt: HostRuntime) {
     let longest = read_len(&rt, rt.alloc(), MAX_BYTES);
     let longer = read_len(&rt, rt.alloc(), MAX_BYTES + 1);
-    assert_eq!(rt;
-        (longest, longer),
-        (Ok(16_777_216), Err(ReadError::TooLong))
-    );
+    let wanted = (Ok(16_777_216), Err(ReadError::TooLong));
+    assert_same(&rt, &(longest, longer), &wanted);
 }
 
 // Why an input was not read, None where it was.
@@ -240,10 +239,8 @@ fn readers_may_refuse(rt: HostRuntime) {
         refuses: true,
     };
     let fault = read_fault(rt.alloc(), &mut refusing);
-    assert_eq!(rt;
-        (fault, refusing.bytes.is_empty()),
-        (Some(ReadError::CannotRead), true)
-    );
+    let told = (fault, refusing.bytes.is_empty());
+    assert_same(&rt, &told, &(Some(ReadError::CannotRead), true));
 }
 
 #[test]
@@ -255,8 +252,6 @@ fn readers_have_a_number_of_turns(rt: HostRuntime) {
         refuses: false,
     };
     let fault = read_fault(rt.alloc(), &mut endless);
-    assert_eq!(rt;
-        (fault, endless.turns),
-        (Some(ReadError::CannotRead), 33_554_432)
-    );
+    let told = (fault, endless.turns);
+    assert_same(&rt, &told, &(Some(ReadError::CannotRead), 33_554_432));
 }

@@ -1,6 +1,6 @@
 //! Bodies, entries, queues, messages and memories as values.
 
-use crate::format::records::assert_same;
+use crate::same::assert_same;
 use om_format::{Body, Entry, MAX_BODY, MemoryBytes, Message, Queue};
 use om_interval::{Pid, Tag};
 use std::alloc::Global;
@@ -16,7 +16,7 @@ fn body(rt: &impl Abort, alloc: Global, bytes: &[u8]) -> Body {
 #[test]
 fn bodies_give_their_bytes_back(rt: HostRuntime) {
     let bytes = body(&rt, rt.alloc(), &[1, 2]).into_vec();
-    assert_same(&rt, &bytes, &[1, 2]);
+    assert_same(&rt, &bytes.as_slice(), &[1, 2].as_slice());
 }
 
 const WORD: [u8; 4] = [1, 2, 3, 4];
@@ -31,8 +31,8 @@ fn memory(rt: &impl Abort, alloc: Global) -> MemoryBytes {
 #[test]
 fn memories_give_their_bytes_back(rt: HostRuntime) {
     let memory = memory(&rt, rt.alloc());
-    assert_same(&rt, memory.as_slice(), &WORD);
-    assert_same(&rt, &memory.into_vec(), &WORD);
+    assert_same(&rt, &memory.as_slice(), &WORD.as_slice());
+    assert_same(&rt, &memory.into_vec().as_slice(), &WORD.as_slice());
 }
 
 // A message of process 0 to process 15.
@@ -51,14 +51,9 @@ fn message(rt: &impl Abort, alloc: Global) -> Message {
 
 fn assert_copied(rt: &impl Abort, copy: &Message, message: &Message) {
     let told = (copy.from, copy.to, copy.tag, copy.ssn);
+    let wanted = (message.from, message.to, message.tag, 7);
     let body = (copy.body == message.body, copy.body.as_slice());
-    assert_eq!(rt;
-        (told, body),
-        (
-            (message.from, message.to, message.tag, 7),
-            (true, [1, 2].as_slice())
-        )
-    );
+    assert_same(rt, &(told, body), &(wanted, (true, &[1, 2])));
 }
 
 #[test]
@@ -71,7 +66,7 @@ fn messages_are_copied_whole(rt: HostRuntime) {
 #[test]
 fn bodies_are_copied(rt: HostRuntime) {
     let body = body(&rt, rt.alloc(), &[1, 2]);
-    assert_eq!(rt; body.copy(rt.alloc()), Ok(body));
+    assert_same(&rt, &body.copy(rt.alloc()), &Ok(body));
 }
 
 fn entry(rt: &impl Abort, alloc: Global, interval: u32, bytes: &[u8]) -> Entry {
@@ -81,7 +76,7 @@ fn entry(rt: &impl Abort, alloc: Global, interval: u32, bytes: &[u8]) -> Entry {
 
 fn assert_compared(rt: &impl Abort, first: &Entry, copy: &Entry, last: &Entry) {
     let told = (copy == first, first != last, first.body != last.body);
-    assert_eq!(rt; told, (true, true, true));
+    assert_same(rt, &told, &(true, true, true));
 }
 
 #[test]
@@ -109,7 +104,8 @@ fn assert_changes(rt: &impl Abort, queue: &Queue, copy: &mut Queue) {
     let differs = *copy != *queue;
     copy.first = 5;
     let _ = copy.entries.pop();
-    assert_eq!(rt; (is_copied, differs, *copy != *queue), (true, true, true));
+    let told = (is_copied, differs, *copy != *queue);
+    assert_same(rt, &told, &(true, true, true));
 }
 
 #[test]

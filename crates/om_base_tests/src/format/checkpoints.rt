@@ -2,9 +2,10 @@
 
 use crate::format::records::{
     Damage, FIRST_IN_VERSION_1, FIRST_IN_VERSION_2, OF_16_PROCESSES, Part, WITH_ENTRIES,
-    assert_damages, assert_same, assert_spelled, assert_whole, bytes_of, checkpoint_of, spelled,
+    assert_bytes, assert_damages, assert_spelled, assert_whole, bytes_of, checkpoint_of, spelled,
     with_byte,
 };
+use crate::same::assert_same;
 use om_format::{Checkpoint, DecodeError, Queue, laws};
 use om_isa::Ext;
 use std::alloc::Global;
@@ -22,20 +23,19 @@ fn records_have_their_lengths(rt: HostRuntime) {
         len_of(&rt, rt.alloc(), &WITH_ENTRIES),
         len_of(&rt, rt.alloc(), &OF_16_PROCESSES),
     ];
-    assert_eq!(rt; lengths, [184, 188, 234, 800]);
+    assert_same(&rt, &lengths, &[184, 188, 234, 800]);
 }
 
 fn assert_machine(rt: &impl Abort, checkpoint: &Checkpoint, ext: Ext) {
     let told = (checkpoint.head.ext, checkpoint.memory.as_slice());
-    let memory = [0x73, 0x00, 0x10, 0x00];
-    assert_eq!(rt; told, (ext, memory.as_slice()));
+    assert_same(rt, &told, &(ext, &[0x73, 0x00, 0x10, 0x00]));
 }
 
 // A first checkpoint is read, and is spelled in version 2.
 fn assert_newer(rt: &impl Abort, alloc: Global, bytes: &[u8], newer: &[u8], ext: Ext) {
     let checkpoint = checkpoint_of(rt, alloc, bytes);
     assert_machine(rt, &checkpoint, ext);
-    assert_same(rt, &spelled(rt, alloc, &checkpoint), newer);
+    assert_bytes(rt, &spelled(rt, alloc, &checkpoint), newer);
 }
 
 // So it is, and so is that of a machine with the M extension.
@@ -200,9 +200,11 @@ fn assert_fields(rt: &impl Abort, checkpoint: &Checkpoint) {
     let head = &checkpoint.head;
     let told = (head.interval, head.count, head.pc, head.made);
     let has_outputs = has_entries(&checkpoint.outputs, 1, &[(3, &[0x7F])]);
-    assert_eq!(rt;
-        (told, has_registers(checkpoint), has_outputs),
-        ((3, 20, 8, 2), true, true)
+    let has_registers = has_registers(checkpoint);
+    assert_same(
+        rt,
+        &(told, has_registers, has_outputs),
+        &((3, 20, 8, 2), true, true),
     );
 }
 
@@ -226,20 +228,19 @@ fn assert_of_2(rt: &impl Abort, checkpoint: &Checkpoint) {
     ];
     let memory = [0x73, 0x00, 0x10, 0x00, 0, 0, 0, 0];
     let is_kept = has_kept_of_2(&checkpoint.kept);
-    assert_eq!(rt;
-        (
-            head.pid.index(),
-            vectors,
-            checkpoint.memory.as_slice(),
-            is_kept
-        ),
-        (
-            0,
-            [[3, 1].as_slice(), &[1, 2], &[1, 4]],
-            memory.as_slice(),
-            true
-        )
+    let told = (
+        head.pid.index(),
+        vectors,
+        checkpoint.memory.as_slice(),
+        is_kept,
     );
+    let wanted = (
+        0,
+        [[3, 1].as_slice(), &[1, 2], &[1, 4]],
+        memory.as_slice(),
+        true,
+    );
+    assert_same(rt, &told, &wanted);
 }
 
 #[test]
@@ -283,7 +284,8 @@ fn assert_of_16(rt: &impl Abort, checkpoint: &Checkpoint) {
     let told = (head.ext, head.pid.index(), head.vec.n());
     let is_kept = has_kept_of_16(&checkpoint.kept);
     let has_pages = has_pages(checkpoint.memory.as_slice());
-    assert_eq!(rt; (told, is_kept, has_pages), ((Ext::Im, 15, 16), true, true));
+    let wanted = ((Ext::Im, 15, 16), true, true);
+    assert_same(rt, &(told, is_kept, has_pages), &wanted);
 }
 
 #[test]
@@ -292,5 +294,5 @@ fn checkpoints_of_16_processes_are_read_and_written(rt: HostRuntime) {
     let checkpoint = checkpoint_of(&rt, rt.alloc(), &bytes);
     assert_fields(&rt, &checkpoint);
     assert_of_16(&rt, &checkpoint);
-    assert_same(&rt, &spelled(&rt, rt.alloc(), &checkpoint), &bytes);
+    assert_bytes(&rt, &spelled(&rt, rt.alloc(), &checkpoint), &bytes);
 }

@@ -1,8 +1,9 @@
 //! Both sides of each limit of a record.
 
 use crate::format::records::{
-    Part, assert_fault, assert_spelled, bytes_of, checkpoint_fault, receipt_fault, repeat,
+    Part, assert_spelled, bytes_of, checkpoint_fault, receipt_fault, repeat,
 };
+use crate::same::{assert_same, assert_same_at};
 use om_format::{DecodeError, MAX_BODY, MAX_PROCESSES_OF_VERSION_1, MemoryBytes, PAGE};
 use om_interval::MAX_PROCESSES;
 use std::alloc::Global;
@@ -11,7 +12,7 @@ use std::process::Abort;
 #[test]
 fn the_limits_are_these(rt: HostRuntime) {
     let limits = (MAX_BODY, MAX_PROCESSES_OF_VERSION_1, MAX_PROCESSES, PAGE);
-    assert_eq!(rt; limits, (256, 8, 16, 256));
+    assert_same(&rt, &limits, &(256, 8, 16, 256));
 }
 
 const SIZES: [(usize, bool); 5] = [
@@ -25,7 +26,7 @@ const SIZES: [(usize, bool); 5] = [
 #[test]
 fn memories_have_sizes(rt: HostRuntime) {
     for (len, wanted) in &SIZES {
-        assert_eq!(rt; MemoryBytes::is_size(*len), *wanted, "{len} bytes");
+        assert_same_at(&rt, len, &MemoryBytes::is_size(*len), wanted);
     }
 }
 
@@ -53,7 +54,7 @@ const OF_RECEIPTS: [Length; 4] = [
 fn assert_receipt(rt: &impl Abort, alloc: Global, (len, want): &Length) {
     let bytes = receipt_with_body(rt, alloc, *len);
     let fault = receipt_fault(alloc, &bytes);
-    assert_fault(rt, fault, *want, ("length", &[*len as usize]));
+    assert_same_at(rt, len, &fault, want);
 }
 
 #[test]
@@ -103,8 +104,7 @@ const LIMITS: [Limit; 13] = [
 fn assert_limit(rt: &impl Abort, alloc: Global, (version, n, size, want): &Limit) {
     let bytes = checkpoint(rt, alloc, *version, *n, *size);
     let fault = checkpoint_fault(alloc, &bytes);
-    let numbers = [*version as usize, *n as usize, *size as usize];
-    assert_fault(rt, fault, *want, ("version, processes and size", &numbers));
+    assert_same_at(rt, &(version, n, size), &fault, want);
     assert_spelled(rt, alloc, &bytes);
 }
 
@@ -143,7 +143,7 @@ const OF_ENTRIES: [Length; 4] = [
 fn assert_output(rt: &impl Abort, alloc: Global, (len, want): &Length) {
     let bytes = checkpoint_with_output(rt, alloc, *len);
     let fault = checkpoint_fault(alloc, &bytes);
-    assert_fault(rt, fault, *want, ("length", &[*len as usize]));
+    assert_same_at(rt, len, &fault, want);
     assert_spelled(rt, alloc, &bytes);
 }
 

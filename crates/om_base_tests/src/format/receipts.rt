@@ -1,8 +1,9 @@
 //! Receipts as bytes.
 
 use crate::format::records::{
-    RECEIPT, assert_fault, assert_same, bytes_of, receipt_fault, receipt_of, repeat, with_byte,
+    RECEIPT, assert_bytes, bytes_of, receipt_fault, receipt_of, repeat, with_byte,
 };
+use crate::same::{assert_same, assert_same_at};
 use om_format::{DecodeError, Receipt, decode_receipt, encode_receipt, laws};
 use std::alloc::Global;
 use std::process::Abort;
@@ -16,11 +17,9 @@ fn assert_fields(rt: &impl Abort, receipt: &Receipt) {
     let processes = (receipt.to.index(), receipt.from.index());
     let intervals = (receipt.interval, receipt.sender_interval);
     let numbers = (receipt.ssn, receipt.count);
-    let body = [0x93, 0x08, 0x10, 0x00];
-    assert_eq!(rt;
-        (processes, intervals, numbers, receipt.body.as_slice()),
-        ((1, 2), (1, 0), (0, 3), body.as_slice())
-    );
+    let told = (processes, intervals, numbers, receipt.body.as_slice());
+    let body = [0x93, 0x08, 0x10, 0x00].as_slice();
+    assert_same(rt, &told, &((1, 2), (1, 0), (0, 3), body));
 }
 
 #[test]
@@ -28,7 +27,7 @@ fn receipts_are_read_and_written(rt: HostRuntime) {
     let bytes = bytes_of(&rt, rt.alloc(), &RECEIPT);
     let receipt = receipt_of(&rt, rt.alloc(), &bytes);
     assert_fields(&rt, &receipt);
-    assert_same(&rt, &spelled(&rt, rt.alloc(), &receipt), &bytes);
+    assert_bytes(&rt, &spelled(&rt, rt.alloc(), &receipt), &bytes);
     laws::one_spelling_of_a_receipt();
     laws::one_reading_of_a_receipt();
     laws::receipt_or_fault();
@@ -38,7 +37,7 @@ fn receipts_are_read_and_written(rt: HostRuntime) {
 fn assert_short(rt: &impl Abort, alloc: Global, bytes: &[u8]) {
     for cut in 0..bytes.len() {
         let fault = receipt_fault(alloc, &bytes[..cut]);
-        assert_fault(rt, fault, Some(DecodeError::Short), ("cut to", &[cut]));
+        assert_same_at(rt, &cut, &fault, &Some(DecodeError::Short));
     }
 }
 
@@ -48,12 +47,7 @@ fn receipts_are_neither_short_nor_long(rt: HostRuntime) {
     assert_short(&rt, rt.alloc(), &bytes);
     repeat(&rt, &mut bytes, &[0], 1);
     let fault = receipt_fault(rt.alloc(), &bytes);
-    assert_fault(
-        &rt,
-        fault,
-        Some(DecodeError::Trailing),
-        ("bytes more", &[1]),
-    );
+    assert_same(&rt, &fault, &Some(DecodeError::Trailing));
 }
 
 // An offset, what its byte becomes, and the fault of that, if it is one.
@@ -76,8 +70,7 @@ const DAMAGES: [Damage; 11] = [
 fn assert_damage(rt: &impl Abort, alloc: Global, record: &[u8], (offset, byte, want): &Damage) {
     let damaged = with_byte(rt, alloc, record, *offset, *byte);
     let fault = receipt_fault(alloc, &damaged);
-    let numbers = [*offset, *byte as usize];
-    assert_fault(rt, fault, *want, ("offset and byte", &numbers));
+    assert_same_at(rt, &(offset, byte), &fault, want);
 }
 
 #[test]
@@ -91,7 +84,7 @@ fn damaged_receipts_have_their_faults(rt: HostRuntime) {
 // Bytes are refused, or spell a receipt.
 fn assert_spelled(rt: &impl Abort, alloc: Global, bytes: &[u8]) {
     if let Ok(receipt) = decode_receipt(alloc, bytes) {
-        assert_same(rt, &spelled(rt, alloc, &receipt), bytes);
+        assert_bytes(rt, &spelled(rt, alloc, &receipt), bytes);
     }
 }
 

@@ -1,5 +1,6 @@
 //! Records of the tests, as bytes. Bytes are given as hexadecimal text.
 
+use crate::same::{assert_same, assert_same_at};
 use om_format::{
     Checkpoint, DecodeError, Receipt, decode_checkpoint, decode_receipt, encode_checkpoint,
 };
@@ -125,24 +126,13 @@ pub fn spelled(rt: &impl Abort, alloc: Global, checkpoint: &Checkpoint) -> Vec<u
     encode_checkpoint(alloc, checkpoint).expect(rt, "memory")
 }
 
-// The fault is the one that is wanted; else the numbers that the bytes were made with are told.
-pub fn assert_fault(
-    rt: &impl Abort,
-    fault: Option<DecodeError>,
-    want: Option<DecodeError>,
-    (what, numbers): (&str, &[usize]),
-) {
-    assert_eq!(rt; fault, want, "{what}: {numbers:?}");
-}
-
 // An offset, what its byte becomes, and the fault of that.
 pub type Damage = (usize, u8, DecodeError);
 
 fn assert_damage(rt: &impl Abort, alloc: Global, record: &[u8], (offset, byte, want): &Damage) {
     let damaged = with_byte(rt, alloc, record, *offset, *byte);
     let fault = checkpoint_fault(alloc, &damaged);
-    let numbers = [*offset, *byte as usize];
-    assert_fault(rt, fault, Some(*want), ("offset and byte", &numbers));
+    assert_same_at(rt, &(offset, byte), &fault, &Some(*want));
 }
 
 // A damaged checkpoint has its faults.
@@ -163,7 +153,7 @@ fn with_end(rt: &impl Abort, alloc: Global, bytes: &[u8]) -> Vec<u8> {
 fn assert_short(rt: &impl Abort, alloc: Global, bytes: &[u8]) {
     for cut in 0..bytes.len() {
         let fault = checkpoint_fault(alloc, &bytes[..cut]);
-        assert_fault(rt, fault, Some(DecodeError::Short), ("cut to", &[cut]));
+        assert_same_at(rt, &cut, &fault, &Some(DecodeError::Short));
     }
 }
 
@@ -175,7 +165,7 @@ pub fn assert_whole(rt: &impl Abort, alloc: Global, bytes: &[u8]) {
         checkpoint_fault(alloc, bytes),
         checkpoint_fault(alloc, &longer),
     );
-    assert_eq!(rt; faults, (None, Some(DecodeError::Trailing)));
+    assert_same(rt, &faults, &(None, Some(DecodeError::Trailing)));
 }
 
 // The bytes of the checkpoint that these bytes are.
@@ -183,16 +173,16 @@ fn respelled(rt: &impl Abort, alloc: Global, bytes: &[u8]) -> Vec<u8> {
     spelled(rt, alloc, &checkpoint_of(rt, alloc, bytes))
 }
 
-pub fn assert_same(rt: &impl Abort, bytes: &[u8], wanted: &[u8]) {
-    assert_eq!(rt; bytes, wanted);
+pub fn assert_bytes(rt: &impl Abort, bytes: &[u8], wanted: &[u8]) {
+    assert_same(rt, &bytes, &wanted);
 }
 
 // Bytes of a checkpoint of version 2 spell it; what those of version 1 spell is spelled in version 2 and read again.
 fn assert_newer(rt: &impl Abort, alloc: Global, bytes: &[u8], newer: &[u8]) {
     if bytes.get(1) == Some(&1) {
-        assert_same(rt, &respelled(rt, alloc, newer), newer);
+        assert_bytes(rt, &respelled(rt, alloc, newer), newer);
     } else {
-        assert_same(rt, newer, bytes);
+        assert_bytes(rt, newer, bytes);
     }
 }
 
