@@ -74,16 +74,40 @@ enum Field {
     Fence,
 }
 
-// What a field keeps of a number: the number, or None where it does not fit.
+// What a field keeps of a number: the number, or None where it does not fit. A match costs a proof less than a `?`.
 fn kept(field: Field, number: i32) -> Option<i32> {
     match field {
-        Field::Register => Some(i32::from(Reg::new(u8::try_from(number).ok()?)?.value())),
-        Field::Shift => Some(i32::from(Shamt::new(u8::try_from(number).ok()?)?.value())),
-        Field::Immediate => Some(Imm12::new(number)?.value()),
-        Field::Branch => Some(Off13::new(number)?.value()),
-        Field::Jump => Some(Off21::new(number)?.value()),
-        Field::Upper => i32::try_from(Upper::new(u32::try_from(number).ok()?)?.value()).ok(),
-        Field::Fence => Some(i32::from(FenceBits::new(u16::try_from(number).ok()?)?.value())),
+        Field::Register => match u8::try_from(number) {
+            Ok(number) => match Reg::new(number) {
+                Some(register) => Some(i32::from(register.value())),
+                None => None,
+            },
+            Err(_) => None,
+        },
+        Field::Shift => match u8::try_from(number) {
+            Ok(number) => match Shamt::new(number) {
+                Some(shift) => Some(i32::from(shift.value())),
+                None => None,
+            },
+            Err(_) => None,
+        },
+        Field::Immediate => Imm12::new(number).map(Imm12::value),
+        Field::Branch => Off13::new(number).map(Off13::value),
+        Field::Jump => Off21::new(number).map(Off21::value),
+        Field::Upper => match u32::try_from(number) {
+            Ok(number) => match Upper::new(number) {
+                Some(upper) => i32::try_from(upper.value()).ok(),
+                None => None,
+            },
+            Err(_) => None,
+        },
+        Field::Fence => match u16::try_from(number) {
+            Ok(number) => match FenceBits::new(number) {
+                Some(bits) => Some(i32::from(bits.value())),
+                None => None,
+            },
+            Err(_) => None,
+        },
     }
 }
 

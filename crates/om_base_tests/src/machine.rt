@@ -137,14 +137,13 @@ fn assert_results(rt: &impl Abort, alloc: Global, (a, b, results): &Results) {
     let operands = (*a, *b);
     let mut word = 0x0220_81B3;
     for result in results {
-        let told = one_step(rt, alloc, operands, word, Ext::Im);
+        let with = one_step(rt, alloc, operands, word, Ext::Im);
+        let without = one_step(rt, alloc, operands, word, Ext::I);
         let registers = [Some(*a), Some(*b), Some(*result)];
         let wanted = (Ext::Im, Event::Went, registers, (4, 1));
-        assert_same_at(rt, &word, &told, &wanted);
-        let told = one_step(rt, alloc, operands, word, Ext::I);
         let registers = [Some(*a), Some(*b), Some(0)];
-        let wanted = (Ext::I, Event::Trap(Illegal), registers, (0, 0));
-        assert_same_at(rt, &word, &told, &wanted);
+        let refused = (Ext::I, Event::Trap(Illegal), registers, (0, 0));
+        assert_same_at(rt, &word, &(with, without), &(wanted, refused));
         word = word.wrapping_add(0x1000);
     }
 }
@@ -275,11 +274,6 @@ fn assert_restored(rt: &impl Abort, machine: &Machine) {
     assert_same(rt, &(told, registers), &(wanted, (regs, Some(0), Some(1))));
 }
 
-#[test]
-fn machines_are_restored(rt: HostRuntime) {
-    assert_restored(&rt, &restored(&rt, rt.alloc()));
-}
-
 // Whether the machine that is restored from what this one tells, with this extension, is the same, and whether it is another.
 fn compared(rt: &impl Abort, alloc: Global, machine: &Machine, ext: Ext) -> (bool, bool) {
     let (regs, memory) = (machine.regs(), machine.memory());
@@ -292,6 +286,7 @@ fn compared(rt: &impl Abort, alloc: Global, machine: &Machine, ext: Ext) -> (boo
 #[test]
 fn machines_are_restored_as_they_were_told(rt: HostRuntime) {
     let machine = restored(&rt, rt.alloc());
+    assert_restored(&rt, &machine);
     let same = compared(&rt, rt.alloc(), &machine, machine.ext());
     let other = compared(&rt, rt.alloc(), &machine, Ext::I);
     assert_same(&rt, &(same, other), &((true, false), (false, true)));
@@ -351,44 +346,39 @@ fn the_last_instruction_is_counted(rt: HostRuntime) {
     assert_same(&rt, &told, &(Event::Went, u64::MAX, FULL));
 }
 
-type Call = (u32, EnvCall, (u32, u32), (u32, u64), [u8; 4]);
+// The steps of a run and the event at its end; behind the call x10 and x11, pc and the count, and the word at 16.
+type Finished = (
+    u64,
+    Event,
+    (Option<u32>, Option<u32>),
+    (u32, u64),
+    Option<&'static [u8]>,
+);
 
-// The word that puts a number into x17, the call with x10 = 16, x11 = 2 and x12 = 4, and behind it x10 and x11, pc and the
-// count, and the word at 16. The machine stays at an exit.
-const CALLS: [Call; 5] = [
-    (
-        0x00000893,
-        EnvCall::Exit { code: 16 },
-        (16, 2),
-        (16, 4),
-        [0x73, 0, 0, 0],
-    ),
-    (
-        0x00100893,
-        EnvCall::Send {
-            to: 16,
-            addr: 2,
-            len: 4,
-        },
-        (9, 2),
-        (20, 5),
-        [0x73, 0, 0, 0],
-    ),
-    (
-        0x00200893,
-        EnvCall::Receive { addr: 16, cap: 2 },
-        (3, 6),
-        (20, 5),
-        [1, 2, 0, 0],
-    ),
-    (
-        0x00300893,
-        EnvCall::Output { addr: 16, len: 2 },
-        (9, 2),
-        (20, 5),
-        [0x73, 0, 0, 0],
-    ),
-    (0x00400893, EnvCall::Who, (1, 3), (20, 5), [0x73, 0, 0, 0]),
+const ECALL: [u8; 4] = [0x73, 0, 0, 0];
+
+const EXIT: Event = Event::Call(EnvCall::Exit { code: 16 });
+
+const SEND: Event = Event::Call(EnvCall::Send {
+    to: 16,
+    addr: 2,
+    len: 4,
+});
+
+const RECEIVE: Event = Event::Call(EnvCall::Receive { addr: 16, cap: 2 });
+
+const OUTPUT: Event = Event::Call(EnvCall::Output { addr: 16, len: 2 });
+
+const WHO: Event = Event::Call(EnvCall::Who);
+
+// The word that puts a number into x17, and the call with x10 = 16, x11 = 2 and x12 = 4. The machine stays at an exit.
+#[rattlefmt::skip]
+const CALLS: [(u32, Finished); 5] = [
+    (0x00000893, (4, EXIT, (Some(16), Some(2)), (16, 4), Some(&ECALL))),
+    (0x00100893, (4, SEND, (Some(9), Some(2)), (20, 5), Some(&ECALL))),
+    (0x00200893, (4, RECEIVE, (Some(3), Some(6)), (20, 5), Some(&[1, 2, 0, 0]))),
+    (0x00300893, (4, OUTPUT, (Some(9), Some(2)), (20, 5), Some(&ECALL))),
+    (0x00400893, (4, WHO, (Some(1), Some(3)), (20, 5), Some(&ECALL))),
 ];
 
 // Finishes the call at which the machine stands, if it is no exit.
@@ -410,30 +400,19 @@ fn at_call(rt: &impl Abort, alloc: Global, number: u32) -> Machine {
     loaded(alloc, &image, 20).expect(rt, "a machine")
 }
 
-fn assert_call(
-    rt: &impl Abort,
-    machine: &Machine,
-    ran: Ran,
-    (_, call, registers, behind, word): &Call,
-) {
-    let event = Event::Call(*call);
-    let told = (reg(machine, 10), reg(machine, 11), machine.bytes(16, 4));
-    let wanted = (Some(registers.0), Some(registers.1), Some(word.as_slice()));
-    assert_same(rt, &told, &wanted);
-    assert_same(
-        rt,
-        &(ran, place(machine)),
-        &(Ran { steps: 4, event }, *behind),
-    );
+fn assert_call(rt: &impl Abort, machine: &Machine, ran: Ran, wanted: &Finished) {
+    let registers = (reg(machine, 10), reg(machine, 11));
+    let (steps, event, word) = (ran.steps, ran.event, machine.bytes(16, 4));
+    assert_same(rt, &(steps, event, registers, place(machine), word), wanted);
 }
 
 #[test]
 fn calls_are_seen_and_finished(rt: HostRuntime) {
-    for call in &CALLS {
-        let mut machine = at_call(&rt, rt.alloc(), call.0);
+    for (number, wanted) in &CALLS {
+        let mut machine = at_call(&rt, rt.alloc(), *number);
         let ran = machine.run(1000);
         finish(&rt, &mut machine);
-        assert_call(&rt, &machine, ran, call);
+        assert_call(&rt, &machine, ran, wanted);
     }
 }
 

@@ -188,15 +188,16 @@ impl Read for Drip<'_> {
 const SCRIPT: &[u8] = b"add 1\nadd 2";
 
 // An input of these bytes is read to its end.
-fn assert_read(rt: &impl Abort, alloc: Global, mut input: &[u8], bytes: &[u8]) {
-    let text = read_text(alloc, &mut input).expect(rt, "a text");
+fn assert_read<R: Read>(rt: &impl Abort, alloc: Global, input: &mut R, bytes: &[u8]) {
+    let text = read_text(alloc, input).expect(rt, "a text");
     assert_same(rt, &text.as_slice(), &bytes);
 }
 
 #[test]
 fn inputs_are_read_whole(rt: HostRuntime) {
-    assert_read(&rt, rt.alloc(), b"", b"");
-    assert_read(&rt, rt.alloc(), b"add 1\nadd 2", SCRIPT);
+    let (mut none, mut script) = (b"".as_slice(), SCRIPT);
+    assert_read(&rt, rt.alloc(), &mut none, b"");
+    assert_read(&rt, rt.alloc(), &mut script, SCRIPT);
 }
 
 #[test]
@@ -207,8 +208,7 @@ fn interrupted_inputs_are_read_whole(rt: HostRuntime) {
         interruptions: 1,
         refuses: false,
     };
-    let text = read_text(rt.alloc(), &mut drip).expect(&rt, "a text");
-    assert_same(&rt, &text.as_slice(), &SCRIPT);
+    assert_read(&rt, rt.alloc(), &mut drip, SCRIPT);
 }
 
 // How long the text of an input of so many zeros is.

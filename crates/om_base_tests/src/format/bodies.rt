@@ -74,8 +74,10 @@ fn entry(rt: &impl Abort, alloc: Global, interval: u32, bytes: &[u8]) -> Entry {
     Entry { interval, body }
 }
 
-fn assert_compared(rt: &impl Abort, first: &Entry, copy: &Entry, last: &Entry) {
-    let told = (copy == first, first != last, first.body != last.body);
+// A copy of the first entry is that entry, and the last one is another.
+fn assert_compared(rt: &impl Abort, alloc: Global, first: &Entry, last: &Entry) {
+    let copy = first.copy(alloc).expect(rt, "memory");
+    let told = (copy == *first, first != last, first.body != last.body);
     assert_same(rt, &told, &(true, true, true));
 }
 
@@ -83,15 +85,16 @@ fn assert_compared(rt: &impl Abort, first: &Entry, copy: &Entry, last: &Entry) {
 fn entries_are_copied_and_compared(rt: HostRuntime) {
     let first = entry(&rt, rt.alloc(), 1, &[1, 2]);
     let last = entry(&rt, rt.alloc(), 3, &[3, 4]);
-    let copy = first.copy(rt.alloc()).expect(&rt, "memory");
-    assert_compared(&rt, &first, &copy, &last);
+    assert_compared(&rt, rt.alloc(), &first, &last);
 }
+
+const ENTRIES: [(u32, [u8; 2]); 2] = [(1, [1, 2]), (3, [3, 4])];
 
 // A queue of two entries.
 fn queue(rt: &impl Abort, alloc: Global) -> Queue {
     let mut entries = Vec::new(alloc);
-    for (interval, bytes) in [(1, [1, 2]), (3, [3, 4])] {
-        let entry = entry(rt, alloc, interval, &bytes);
+    for (interval, bytes) in &ENTRIES {
+        let entry = entry(rt, alloc, *interval, bytes);
         entries.push(entry).expect(rt, "memory");
     }
     Queue { first: 5, entries }

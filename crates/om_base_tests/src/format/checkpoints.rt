@@ -2,8 +2,8 @@
 
 use crate::format::records::{
     Damage, FIRST_IN_VERSION_1, FIRST_IN_VERSION_2, OF_16_PROCESSES, Part, WITH_ENTRIES,
-    assert_bytes, assert_damages, assert_spelled, assert_whole, bytes_of, checkpoint_of, spelled,
-    with_byte,
+    assert_bytes, assert_damages, assert_spelled, assert_whole, bytes_of, changed, checkpoint_of,
+    spelled, with_byte,
 };
 use crate::same::assert_same;
 use om_format::{Checkpoint, DecodeError, Queue, laws};
@@ -11,19 +11,20 @@ use om_isa::Ext;
 use std::alloc::Global;
 use std::process::Abort;
 
-fn len_of(rt: &impl Abort, alloc: Global, parts: &[Part]) -> usize {
-    bytes_of(rt, alloc, parts).len()
-}
+const RECORDS: [(&[Part], usize); 4] = [
+    (&FIRST_IN_VERSION_1, 184),
+    (&FIRST_IN_VERSION_2, 188),
+    (&WITH_ENTRIES, 234),
+    (&OF_16_PROCESSES, 800),
+];
 
 #[test]
-fn records_have_their_lengths(rt: HostRuntime) {
-    let lengths = [
-        len_of(&rt, rt.alloc(), &FIRST_IN_VERSION_1),
-        len_of(&rt, rt.alloc(), &FIRST_IN_VERSION_2),
-        len_of(&rt, rt.alloc(), &WITH_ENTRIES),
-        len_of(&rt, rt.alloc(), &OF_16_PROCESSES),
-    ];
-    assert_same(&rt, &lengths, &[184, 188, 234, 800]);
+fn records_are_whole_and_have_their_lengths(rt: HostRuntime) {
+    for (parts, len) in &RECORDS {
+        let record = bytes_of(&rt, rt.alloc(), parts);
+        assert_same(&rt, &record.len(), len);
+        assert_whole(&rt, rt.alloc(), &record);
+    }
 }
 
 fn assert_machine(rt: &impl Abort, checkpoint: &Checkpoint, ext: Ext) {
@@ -38,22 +39,21 @@ fn assert_newer(rt: &impl Abort, alloc: Global, bytes: &[u8], newer: &[u8], ext:
     assert_bytes(rt, &spelled(rt, alloc, &checkpoint), newer);
 }
 
-// So it is, and so is that of a machine with the M extension.
-fn assert_first(rt: &impl Abort, alloc: Global, bytes: &[u8], newer: &[u8]) {
-    assert_newer(rt, alloc, bytes, newer, Ext::I);
-    let other = with_byte(rt, alloc, bytes, 0, 0x4D);
-    let wanted = with_byte(rt, alloc, newer, 0, 0x4D);
-    assert_newer(rt, alloc, &other, &wanted, Ext::Im);
-}
+// A first checkpoint, its first byte, and the extension that this is: the machine's own, and M.
+const FIRSTS: [(&[Part], u8, Ext); 4] = [
+    (&FIRST_IN_VERSION_1, 0x43, Ext::I),
+    (&FIRST_IN_VERSION_1, 0x4D, Ext::Im),
+    (&FIRST_IN_VERSION_2, 0x43, Ext::I),
+    (&FIRST_IN_VERSION_2, 0x4D, Ext::Im),
+];
 
 #[test]
 fn the_first_checkpoint_in_both_versions(rt: HostRuntime) {
-    let older = bytes_of(&rt, rt.alloc(), &FIRST_IN_VERSION_1);
-    let newer = bytes_of(&rt, rt.alloc(), &FIRST_IN_VERSION_2);
-    assert_whole(&rt, rt.alloc(), &older);
-    assert_whole(&rt, rt.alloc(), &newer);
-    assert_first(&rt, rt.alloc(), &older, &newer);
-    assert_first(&rt, rt.alloc(), &newer, &newer);
+    for (parts, kind, ext) in &FIRSTS {
+        let bytes = changed(&rt, rt.alloc(), parts, 0, *kind);
+        let newer = changed(&rt, rt.alloc(), &FIRST_IN_VERSION_2, 0, *kind);
+        assert_newer(&rt, rt.alloc(), &bytes, &newer, *ext);
+    }
     laws::one_spelling_of_a_checkpoint();
     laws::one_reading_of_a_checkpoint();
     laws::checkpoint_or_fault();
@@ -67,12 +67,6 @@ const DAMAGES_OF_VERSION_1: [Damage; 5] = [
     (16, 0x02, DecodeError::Field(16)),
 ];
 
-#[test]
-fn damaged_first_checkpoints_of_version_1_have_their_faults(rt: HostRuntime) {
-    let record = bytes_of(&rt, rt.alloc(), &FIRST_IN_VERSION_1);
-    assert_damages(&rt, rt.alloc(), &record, &DAMAGES_OF_VERSION_1);
-}
-
 const DAMAGES_OF_VERSION_2: [Damage; 6] = [
     (0, 0x52, DecodeError::Kind),
     (1, 0x03, DecodeError::Version),
@@ -83,14 +77,6 @@ const DAMAGES_OF_VERSION_2: [Damage; 6] = [
 ];
 
 const DAMAGES_OF_A_BLANK_PAGE: [Damage; 1] = [(174, 0x00, DecodeError::Field(172))];
-
-#[test]
-fn damaged_first_checkpoints_of_version_2_have_their_faults(rt: HostRuntime) {
-    let record = bytes_of(&rt, rt.alloc(), &FIRST_IN_VERSION_2);
-    assert_damages(&rt, rt.alloc(), &record, &DAMAGES_OF_VERSION_2);
-    let blank = with_byte(&rt, rt.alloc(), &record, 172, 0x00);
-    assert_damages(&rt, rt.alloc(), &blank, &DAMAGES_OF_A_BLANK_PAGE);
-}
 
 const DAMAGES_OF_ENTRIES: [Damage; 11] = [
     (3, 0x02, DecodeError::Field(3)),
@@ -105,13 +91,6 @@ const DAMAGES_OF_ENTRIES: [Damage; 11] = [
     (215, 0x01, DecodeError::Field(214)),
     (219, 0x03, DecodeError::Field(219)),
 ];
-
-#[test]
-fn damaged_entries_have_their_faults(rt: HostRuntime) {
-    let record = bytes_of(&rt, rt.alloc(), &WITH_ENTRIES);
-    assert_whole(&rt, rt.alloc(), &record);
-    assert_damages(&rt, rt.alloc(), &record, &DAMAGES_OF_ENTRIES);
-}
 
 const DAMAGES_OF_PAGES: [Damage; 6] = [
     (348, 0x03, DecodeError::Field(698)),
@@ -128,59 +107,64 @@ const DAMAGES_OF_SWAPPED_PAGES: [Damage; 2] = [
     (608, 0x01, DecodeError::Field(608)),
 ];
 
+// A record, an offset and its byte, and the damages of it so. The byte at 0 is the record's own, that at 172 makes its page
+// a blank one, and that at 350 swaps two pages.
+const DAMAGED: [(&[Part], (usize, u8), &[Damage]); 6] = [
+    (&FIRST_IN_VERSION_1, (0, 0x43), &DAMAGES_OF_VERSION_1),
+    (&FIRST_IN_VERSION_2, (0, 0x43), &DAMAGES_OF_VERSION_2),
+    (&FIRST_IN_VERSION_2, (172, 0x00), &DAMAGES_OF_A_BLANK_PAGE),
+    (&WITH_ENTRIES, (0, 0x43), &DAMAGES_OF_ENTRIES),
+    (&OF_16_PROCESSES, (0, 0x4D), &DAMAGES_OF_PAGES),
+    (&OF_16_PROCESSES, (350, 0x01), &DAMAGES_OF_SWAPPED_PAGES),
+];
+
 #[test]
-fn damaged_pages_have_their_faults(rt: HostRuntime) {
-    let record = bytes_of(&rt, rt.alloc(), &OF_16_PROCESSES);
-    assert_whole(&rt, rt.alloc(), &record);
-    assert_damages(&rt, rt.alloc(), &record, &DAMAGES_OF_PAGES);
-    let swapped = with_byte(&rt, rt.alloc(), &record, 350, 0x01);
-    assert_damages(&rt, rt.alloc(), &swapped, &DAMAGES_OF_SWAPPED_PAGES);
+fn damaged_checkpoints_have_their_faults(rt: HostRuntime) {
+    for (parts, (offset, byte), damages) in &DAMAGED {
+        let record = changed(&rt, rt.alloc(), parts, *offset, *byte);
+        assert_damages(&rt, rt.alloc(), &record, damages);
+    }
 }
 
-// Each byte of the record made each other byte is refused, or spells another checkpoint.
-fn assert_each_byte(rt: &impl Abort, alloc: Global, record: &[u8]) {
+// Each byte of the record made the first byte, and so many that follow it, is refused, or spells another checkpoint.
+fn assert_each_byte(rt: &impl Abort, alloc: Global, record: &[u8], (first, more): (u8, u8)) {
     for offset in 0..record.len() {
-        for byte in 0..=255 {
-            let changed = with_byte(rt, alloc, record, offset, byte);
+        for step in 0..=more {
+            let changed = with_byte(rt, alloc, record, offset, first.wrapping_add(step));
             assert_spelled(rt, alloc, &changed);
         }
     }
 }
 
-#[test]
-fn a_changed_byte_of_version_1(rt: HostRuntime) {
-    let record = bytes_of(&rt, rt.alloc(), &FIRST_IN_VERSION_1);
-    assert_each_byte(&rt, rt.alloc(), &record)
-}
+// A record, the first of the bytes that its bytes are made, and how many follow it: all, and from 0xFF to 0x02.
+const CHANGED: [(&[Part], (u8, u8)); 3] = [
+    (&FIRST_IN_VERSION_1, (0x00, 255)),
+    (&FIRST_IN_VERSION_2, (0x00, 255)),
+    (&OF_16_PROCESSES, (0xFF, 3)),
+];
 
 #[test]
-fn a_changed_byte_of_version_2(rt: HostRuntime) {
-    let record = bytes_of(&rt, rt.alloc(), &FIRST_IN_VERSION_2);
-    assert_each_byte(&rt, rt.alloc(), &record)
-}
-
-#[test]
-fn a_changed_byte_among_pages_and_entries(rt: HostRuntime) {
-    let record = bytes_of(&rt, rt.alloc(), &OF_16_PROCESSES);
-    for offset in 0..record.len() {
-        for byte in [0x00, 0x01, 0x02, 0xFF] {
-            let changed = with_byte(&rt, rt.alloc(), &record, offset, byte);
-            assert_spelled(&rt, rt.alloc(), &changed);
-        }
+fn a_changed_byte_is_refused_or_spells_another_checkpoint(rt: HostRuntime) {
+    for (parts, bytes) in &CHANGED {
+        let record = bytes_of(&rt, rt.alloc(), parts);
+        assert_each_byte(&rt, rt.alloc(), &record, *bytes);
     }
 }
 
-// Whether the entries of a queue are these: their intervals and their bodies.
-fn has_entries(queue: &Queue, first: u64, wanted: &[(u32, &[u8])]) -> bool {
-    if queue.first != first || queue.entries.len() != wanted.len() {
-        return false;
-    }
-    for (entry, (interval, body)) in queue.entries.iter().zip(wanted) {
-        if entry.interval != *interval || entry.body.as_slice() != *body {
-            return false;
-        }
-    }
-    true
+// An entry as its interval and its body.
+type ToldEntry<'a> = (u32, &'a [u8]);
+
+// A queue as its first number, the number of its entries, and its first two.
+type ToldQueue<'a> = (u64, usize, [Option<ToldEntry<'a>>; 2]);
+
+fn told_entry(queue: &Queue, place: usize) -> Option<ToldEntry<'_>> {
+    let entry = queue.entries.get(place)?;
+    Some((entry.interval, entry.body.as_slice()))
+}
+
+fn told_queue(queue: &Queue) -> ToldQueue<'_> {
+    let entries = [told_entry(queue, 0), told_entry(queue, 1)];
+    (queue.first, queue.entries.len(), entries)
 }
 
 // Whether each byte of register i is i.
@@ -199,25 +183,43 @@ fn has_registers(checkpoint: &Checkpoint) -> bool {
 fn assert_fields(rt: &impl Abort, checkpoint: &Checkpoint) {
     let head = &checkpoint.head;
     let told = (head.interval, head.count, head.pc, head.made);
-    let has_outputs = has_entries(&checkpoint.outputs, 1, &[(3, &[0x7F])]);
+    let outputs = told_queue(&checkpoint.outputs);
+    let wanted = (1, 1, [Some((3, [0x7F].as_slice())), None]);
     let has_registers = has_registers(checkpoint);
     assert_same(
         rt,
-        &(told, has_registers, has_outputs),
-        &((3, 20, 8, 2), true, true),
+        &(told, has_registers, outputs),
+        &((3, 20, 8, 2), true, wanted),
     );
 }
 
-// The messages that are kept for the two processes.
-fn has_kept_of_2(kept: &[Queue]) -> bool {
-    match kept {
-        [zero, one] => {
-            has_entries(zero, 0, &[(1, &[0xAA, 0xBB])])
-                && has_entries(one, 2, &[(1, &[]), (3, &[1, 2, 3])])
-        }
-        _ => false,
+// For how many processes messages are kept, and those for the first three.
+type ToldKept<'a> = (usize, [Option<ToldQueue<'a>>; 3]);
+
+fn told_at(kept: &[Queue], place: usize) -> Option<ToldQueue<'_>> {
+    match kept.get(place) {
+        Some(queue) => Some(told_queue(queue)),
+        None => None,
     }
 }
+
+fn told_kept(kept: &[Queue]) -> ToldKept<'_> {
+    (
+        kept.len(),
+        [told_at(kept, 0), told_at(kept, 1), told_at(kept, 2)],
+    )
+}
+
+const TO_0: ToldQueue = (0, 1, [Some((1, &[0xAA, 0xBB])), None]);
+
+const KEPT_OF_2: ToldKept = (
+    2,
+    [
+        Some(TO_0),
+        Some((2, 2, [Some((1, &[])), Some((3, &[1, 2, 3]))])),
+        None,
+    ],
+);
 
 fn assert_of_2(rt: &impl Abort, checkpoint: &Checkpoint) {
     let head = &checkpoint.head;
@@ -227,20 +229,15 @@ fn assert_of_2(rt: &impl Abort, checkpoint: &Checkpoint) {
         head.sent.as_slice(),
     ];
     let memory = [0x73, 0x00, 0x10, 0x00, 0, 0, 0, 0];
-    let is_kept = has_kept_of_2(&checkpoint.kept);
+    let kept = told_kept(&checkpoint.kept);
     let told = (
         head.pid.index(),
         vectors,
         checkpoint.memory.as_slice(),
-        is_kept,
+        kept,
     );
-    let wanted = (
-        0,
-        [[3, 1].as_slice(), &[1, 2], &[1, 4]],
-        memory.as_slice(),
-        true,
-    );
-    assert_same(rt, &told, &wanted);
+    let wanted = [[3, 1].as_slice(), &[1, 2], &[1, 4]];
+    assert_same(rt, &told, &(0, wanted, memory.as_slice(), KEPT_OF_2));
 }
 
 #[test]
@@ -266,26 +263,22 @@ fn has_pages(memory: &[u8]) -> bool {
     memory.len() == 600
 }
 
-// The messages that are kept for the first processes of 16.
-fn has_kept_of_16(kept: &[Queue]) -> bool {
-    match kept {
-        [zero, one, two, rest @ ..] => {
-            has_entries(zero, 0, &[(1, &[0xAA, 0xBB])])
-                && has_entries(one, 0, &[])
-                && has_entries(two, 0, &[(1, &[]), (3, &[1, 2, 3])])
-                && rest.len() == 13
-        }
-        _ => false,
-    }
-}
+const KEPT_OF_16: ToldKept = (
+    16,
+    [
+        Some(TO_0),
+        Some((0, 0, [None, None])),
+        Some((0, 2, [Some((1, &[])), Some((3, &[1, 2, 3]))])),
+    ],
+);
 
 fn assert_of_16(rt: &impl Abort, checkpoint: &Checkpoint) {
     let head = &checkpoint.head;
     let told = (head.ext, head.pid.index(), head.vec.n());
-    let is_kept = has_kept_of_16(&checkpoint.kept);
+    let kept = told_kept(&checkpoint.kept);
     let has_pages = has_pages(checkpoint.memory.as_slice());
-    let wanted = ((Ext::Im, 15, 16), true, true);
-    assert_same(rt, &(told, is_kept, has_pages), &wanted);
+    let wanted = ((Ext::Im, 15, 16), KEPT_OF_16, true);
+    assert_same(rt, &(told, kept, has_pages), &wanted);
 }
 
 #[test]

@@ -71,14 +71,13 @@ fn checkpoint(rt: &impl Abort, alloc: Global, version: u8, n: u8, size: u32) -> 
     repeat(rt, &mut bytes, &[0x00], 148 + 12 * n as usize);
     repeat(rt, &mut bytes, &size.to_le_bytes(), 1);
     let rest = (size as usize).saturating_sub(1);
-    if version == 1 {
-        repeat(rt, &mut bytes, &[0x01], 1);
-        repeat(rt, &mut bytes, &[0x00], rest);
+    let (page, zeros) = if version == 1 {
+        ([0x01].as_slice(), rest)
     } else {
-        repeat(rt, &mut bytes, &[0x01, 0x00, 0x00, 0x00, 0x01], 1);
-        repeat(rt, &mut bytes, &[0x00], rest.min(255));
-    }
-    repeat(rt, &mut bytes, &[0x00], 4 * n as usize + 8);
+        ([0x01, 0x00, 0x00, 0x00, 0x01].as_slice(), rest.min(255))
+    };
+    repeat(rt, &mut bytes, page, 1);
+    repeat(rt, &mut bytes, &[0x00], zeros + 4 * n as usize + 8);
     bytes
 }
 

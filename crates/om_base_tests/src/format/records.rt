@@ -76,6 +76,12 @@ pub const OF_16_PROCESSES: [Part; 19] = [
     ("01000000000000000300000001007f", 1),
 ];
 
+// A record with its byte at an offset made another one.
+pub fn changed(rt: &impl Abort, alloc: Global, parts: &[Part], offset: usize, byte: u8) -> Vec<u8> {
+    let record = bytes_of(rt, alloc, parts);
+    with_byte(rt, alloc, &record, offset, byte)
+}
+
 // The bytes that these texts spell, one after the other.
 pub fn bytes_of(rt: &impl Abort, alloc: Global, parts: &[Part]) -> Vec<u8> {
     let mut bytes = Vec::new(alloc);
@@ -143,7 +149,7 @@ pub fn assert_damages(rt: &impl Abort, alloc: Global, record: &[u8], damages: &[
 }
 
 // These bytes and one more.
-fn with_end(rt: &impl Abort, alloc: Global, bytes: &[u8]) -> Vec<u8> {
+pub fn with_end(rt: &impl Abort, alloc: Global, bytes: &[u8]) -> Vec<u8> {
     let mut longer = Vec::from_slice(alloc, bytes).expect(rt, "memory");
     repeat(rt, &mut longer, &[0], 1);
     longer
