@@ -33,17 +33,14 @@ const WORDS: [Word; 15] = [
     (0x00100073, Ext::Im, "ebreak"),
 ];
 
-fn assert_word(rt: &impl Abort, text: &[u8], instruction: &Inst, (word, _, want): &Word) {
-    let told = (text, encode(instruction));
-    assert_same(rt, &told, &(want.as_bytes(), *word));
-}
-
 #[test]
 fn words_have_their_texts(rt: HostRuntime) {
-    for word in &WORDS {
-        let instruction = decode(word.0, word.1).expect(&rt, "an instruction");
-        let text = text_of(&rt, rt.alloc(), &instruction);
-        assert_word(&rt, &text, &instruction, word);
+    let alloc = rt.alloc();
+    for (word, ext, wanted) in &WORDS {
+        let instruction = decode(*word, *ext).expect(&rt, "an instruction");
+        let text = text_of(&rt, alloc, &instruction);
+        let told = (text.as_slice(), encode(&instruction));
+        assert_same(&rt, &told, &(wanted.as_bytes(), *word));
     }
 }
 

@@ -73,8 +73,9 @@ fn assert_stop(rt: &impl Abort, machine: &mut Machine, stop: &Stop) {
 
 #[test]
 fn programs_stop_where_the_tables_say(rt: HostRuntime) {
+    let alloc = rt.alloc();
     for stop in &STOPS {
-        let mut machine = loaded(rt.alloc(), stop.0, stop.1).expect(&rt, "a machine");
+        let mut machine = loaded(alloc, stop.0, stop.1).expect(&rt, "a machine");
         assert_stop(&rt, &mut machine, stop);
     }
 }
@@ -150,8 +151,9 @@ fn assert_results(rt: &impl Abort, alloc: Global, (a, b, results): &Results) {
 
 #[test]
 fn products_and_quotients_are_those_of_the_tables(rt: HostRuntime) {
+    let alloc = rt.alloc();
     for results in &RESULTS {
-        assert_results(&rt, rt.alloc(), results);
+        assert_results(&rt, alloc, results);
     }
 }
 
@@ -182,11 +184,6 @@ fn a_jump_by_the_register_that_it_writes(rt: HostRuntime) {
     assert_same(&rt, &told, &(Event::Went, 4, Some(4)));
 }
 
-#[test]
-fn memories_have_limits(rt: HostRuntime) {
-    assert_same(&rt, &(MIN_SIZE, MAX_SIZE), &(4, 65_536));
-}
-
 type Load = (&'static [u32], u32, (bool, Result<u32, LoadFault>));
 
 // Image, size, whether a memory can have it, and the size of the machine. The sizes of a memory: 4 to 65,536 bytes, a multiple
@@ -209,8 +206,10 @@ fn loaded_size(alloc: Global, words: &[u32], size: u32) -> Result<u32, LoadFault
 
 #[test]
 fn machines_are_as_large_as_they_were_asked_to_be(rt: HostRuntime) {
+    let alloc = rt.alloc();
+    assert_same(&rt, &(MIN_SIZE, MAX_SIZE), &(4, 65_536));
     for (words, size, wanted) in &LOADS {
-        let told = (is_size(*size), loaded_size(rt.alloc(), words, *size));
+        let told = (is_size(*size), loaded_size(alloc, words, *size));
         assert_same_at(&rt, size, &told, wanted);
     }
 }
@@ -285,10 +284,11 @@ fn compared(rt: &impl Abort, alloc: Global, machine: &Machine, ext: Ext) -> (boo
 // A machine is restored as it was told, and another extension makes another machine.
 #[test]
 fn machines_are_restored_as_they_were_told(rt: HostRuntime) {
-    let machine = restored(&rt, rt.alloc());
+    let alloc = rt.alloc();
+    let machine = restored(&rt, alloc);
     assert_restored(&rt, &machine);
-    let same = compared(&rt, rt.alloc(), &machine, machine.ext());
-    let other = compared(&rt, rt.alloc(), &machine, Ext::I);
+    let same = compared(&rt, alloc, &machine, machine.ext());
+    let other = compared(&rt, alloc, &machine, Ext::I);
     assert_same(&rt, &(same, other), &((true, false), (false, true)));
     // The laws are called for the theorems on them: they do nothing.
     laws::loading_makes_a_machine();
@@ -307,7 +307,7 @@ const FULL: Event = Event::Trap(Cause::CountFull);
 
 // A machine of RV32I at this address and this count, with 7 in x5 and no operation in its memory.
 fn counted(rt: &impl Abort, alloc: Global, pc: u32, count: u64) -> Machine {
-    assert_eq!(rt; pc % 4, 0);
+    assert!(rt; pc % 4 == 0);
     let mut regs = [0; WRITABLE_REGISTERS];
     regs[4] = 7;
     Machine::restore(alloc, &regs, pc, count, &NOP, Ext::I).expect(rt, "memory")
@@ -330,11 +330,12 @@ fn assert_full(rt: &impl Abort, machine: &Machine, told: (Event, Event), pc: u32
 // A machine of a full count stays as it is, wherever pc is.
 #[test]
 fn a_full_count_stops_the_machine(rt: HostRuntime) {
-    for pc in [0, 8] {
-        let mut machine = counted(&rt, rt.alloc(), pc, u64::MAX);
+    let alloc = rt.alloc();
+    for pc in &[0, 8] {
+        let mut machine = counted(&rt, alloc, *pc, u64::MAX);
         let told = (machine.peek(), machine.step());
-        assert_full(&rt, &machine, told, pc);
-        assert_same(&rt, &is_full(&rt, rt.alloc(), &machine, pc), &true);
+        assert_full(&rt, &machine, told, *pc);
+        assert_same(&rt, &is_full(&rt, alloc, &machine, *pc), &true);
     }
 }
 
@@ -346,39 +347,63 @@ fn the_last_instruction_is_counted(rt: HostRuntime) {
     assert_same(&rt, &told, &(Event::Went, u64::MAX, FULL));
 }
 
-// The steps of a run and the event at its end; behind the call x10 and x11, pc and the count, and the word at 16.
-type Finished = (
-    u64,
-    Event,
-    (Option<u32>, Option<u32>),
-    (u32, u64),
-    Option<&'static [u8]>,
-);
+// The steps of a run and the event at its end, and behind the call x10 and x11, pc and the count.
+type Finished = (u64, Event, [Option<u32>; 2], (u32, u64));
 
-const ECALL: [u8; 4] = [0x73, 0, 0, 0];
+// The word that puts a number into x17, what comes of the call with x10 = 16, x11 = 2 and x12 = 4, and the word at 16 behind
+// it. The machine stays at an exit.
+type Call = (u32, Finished, [u8; 4]);
 
-const EXIT: Event = Event::Call(EnvCall::Exit { code: 16 });
-
-const SEND: Event = Event::Call(EnvCall::Send {
-    to: 16,
-    addr: 2,
-    len: 4,
-});
-
-const RECEIVE: Event = Event::Call(EnvCall::Receive { addr: 16, cap: 2 });
-
-const OUTPUT: Event = Event::Call(EnvCall::Output { addr: 16, len: 2 });
-
-const WHO: Event = Event::Call(EnvCall::Who);
-
-// The word that puts a number into x17, and the call with x10 = 16, x11 = 2 and x12 = 4. The machine stays at an exit.
-#[rattlefmt::skip]
-const CALLS: [(u32, Finished); 5] = [
-    (0x00000893, (4, EXIT, (Some(16), Some(2)), (16, 4), Some(&ECALL))),
-    (0x00100893, (4, SEND, (Some(9), Some(2)), (20, 5), Some(&ECALL))),
-    (0x00200893, (4, RECEIVE, (Some(3), Some(6)), (20, 5), Some(&[1, 2, 0, 0]))),
-    (0x00300893, (4, OUTPUT, (Some(9), Some(2)), (20, 5), Some(&ECALL))),
-    (0x00400893, (4, WHO, (Some(1), Some(3)), (20, 5), Some(&ECALL))),
+const CALLS: [Call; 5] = [
+    (
+        0x00000893,
+        (
+            4,
+            Event::Call(EnvCall::Exit { code: 16 }),
+            [Some(16), Some(2)],
+            (16, 4),
+        ),
+        [0x73, 0, 0, 0],
+    ),
+    (
+        0x00100893,
+        (
+            4,
+            Event::Call(EnvCall::Send {
+                to: 16,
+                addr: 2,
+                len: 4,
+            }),
+            [Some(9), Some(2)],
+            (20, 5),
+        ),
+        [0x73, 0, 0, 0],
+    ),
+    (
+        0x00200893,
+        (
+            4,
+            Event::Call(EnvCall::Receive { addr: 16, cap: 2 }),
+            [Some(3), Some(6)],
+            (20, 5),
+        ),
+        [1, 2, 0, 0],
+    ),
+    (
+        0x00300893,
+        (
+            4,
+            Event::Call(EnvCall::Output { addr: 16, len: 2 }),
+            [Some(9), Some(2)],
+            (20, 5),
+        ),
+        [0x73, 0, 0, 0],
+    ),
+    (
+        0x00400893,
+        (4, Event::Call(EnvCall::Who), [Some(1), Some(3)], (20, 5)),
+        [0x73, 0, 0, 0],
+    ),
 ];
 
 // Finishes the call at which the machine stands, if it is no exit.
@@ -400,19 +425,21 @@ fn at_call(rt: &impl Abort, alloc: Global, number: u32) -> Machine {
     loaded(alloc, &image, 20).expect(rt, "a machine")
 }
 
-fn assert_call(rt: &impl Abort, machine: &Machine, ran: Ran, wanted: &Finished) {
-    let registers = (reg(machine, 10), reg(machine, 11));
-    let (steps, event, word) = (ran.steps, ran.event, machine.bytes(16, 4));
-    assert_same(rt, &(steps, event, registers, place(machine), word), wanted);
+fn assert_call(rt: &impl Abort, machine: &Machine, ran: Ran, (_, finished, word): &Call) {
+    let registers = [reg(machine, 10), reg(machine, 11)];
+    let told = (ran.steps, ran.event, registers, place(machine));
+    let bytes = machine.bytes(16, 4);
+    assert_same(rt, &(told, bytes), &(*finished, Some(word.as_slice())));
 }
 
 #[test]
 fn calls_are_seen_and_finished(rt: HostRuntime) {
-    for (number, wanted) in &CALLS {
-        let mut machine = at_call(&rt, rt.alloc(), *number);
+    let alloc = rt.alloc();
+    for call in &CALLS {
+        let mut machine = at_call(&rt, alloc, call.0);
         let ran = machine.run(1000);
         finish(&rt, &mut machine);
-        assert_call(&rt, &machine, ran, wanted);
+        assert_call(&rt, &machine, ran, call);
     }
 }
 

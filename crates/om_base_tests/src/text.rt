@@ -76,8 +76,9 @@ const SUMS: [(&str, u64); 7] = [
 
 #[test]
 fn scripts_are_read_whole(rt: HostRuntime) {
+    let alloc = rt.alloc();
     for (text, sum) in &SUMS {
-        assert_sum(&rt, rt.alloc(), text, Ok(*sum));
+        assert_sum(&rt, alloc, text, Ok(*sum));
     }
 }
 
@@ -96,8 +97,9 @@ const FAULTS: [(&str, usize, LineError); 9] = [
 
 #[test]
 fn the_first_faulty_line_counts(rt: HostRuntime) {
+    let alloc = rt.alloc();
     for (text, line, error) in &FAULTS {
-        assert_sum(&rt, rt.alloc(), text, faulty(*line, *error));
+        assert_sum(&rt, alloc, text, faulty(*line, *error));
     }
     laws::first_faulty_line_counts::<u64>();
 }
@@ -142,13 +144,14 @@ fn has_text<E: Display>(rt: &impl Abort, alloc: Global, error: &E, text: &str) -
 
 #[test]
 fn faults_are_named(rt: HostRuntime) {
+    let alloc = rt.alloc();
     let error = LineError::WrongCount;
     let error = BuildError::Invalid(ScriptError { line: 2, error });
     let memory = BuildError::<LineError>::Memory;
     let are_named = [
-        has_text(&rt, rt.alloc(), &error, "line 2: wrong count of words"),
-        has_text(&rt, rt.alloc(), &memory, "no memory"),
-        has_text(&rt, rt.alloc(), &ReadError::TooLong, "too long"),
+        has_text(&rt, alloc, &error, "line 2: wrong count of words"),
+        has_text(&rt, alloc, &memory, "no memory"),
+        has_text(&rt, alloc, &ReadError::TooLong, "too long"),
     ];
     assert_same(&rt, &are_named, &[true; 3]);
 }
@@ -195,20 +198,17 @@ fn assert_read<R: Read>(rt: &impl Abort, alloc: Global, input: &mut R, bytes: &[
 
 #[test]
 fn inputs_are_read_whole(rt: HostRuntime) {
+    let alloc = rt.alloc();
     let (mut none, mut script) = (b"".as_slice(), SCRIPT);
-    assert_read(&rt, rt.alloc(), &mut none, b"");
-    assert_read(&rt, rt.alloc(), &mut script, SCRIPT);
-}
-
-#[test]
-fn interrupted_inputs_are_read_whole(rt: HostRuntime) {
+    assert_read(&rt, alloc, &mut none, b"");
+    assert_read(&rt, alloc, &mut script, SCRIPT);
     let mut drip = Drip {
         bytes: SCRIPT,
         turns: 0,
         interruptions: 1,
         refuses: false,
     };
-    assert_read(&rt, rt.alloc(), &mut drip, SCRIPT);
+    assert_read(&rt, alloc, &mut drip, SCRIPT);
 }
 
 // How long the text of an input of so many zeros is.
@@ -219,8 +219,9 @@ fn read_len(rt: &impl Abort, alloc: Global, count: usize) -> Result<usize, ReadE
 
 #[test]
 fn inputs_have_limits(rt: HostRuntime) {
-    let longest = read_len(&rt, rt.alloc(), MAX_BYTES);
-    let longer = read_len(&rt, rt.alloc(), MAX_BYTES + 1);
+    let alloc = rt.alloc();
+    let longest = read_len(&rt, alloc, MAX_BYTES);
+    let longer = read_len(&rt, alloc, MAX_BYTES + 1);
     let wanted = (Ok(16_777_216), Err(ReadError::TooLong));
     assert_same(&rt, &(longest, longer), &wanted);
 }

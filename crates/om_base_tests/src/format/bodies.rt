@@ -1,5 +1,6 @@
 //! Bodies, entries, queues, messages and memories as values.
 
+use crate::format::records::assert_bytes;
 use crate::same::assert_same;
 use om_format::{Body, Entry, MAX_BODY, MemoryBytes, Message, Queue};
 use om_interval::{Pid, Tag};
@@ -14,9 +15,12 @@ fn body(rt: &impl Abort, alloc: Global, bytes: &[u8]) -> Body {
 }
 
 #[test]
-fn bodies_give_their_bytes_back(rt: HostRuntime) {
-    let bytes = body(&rt, rt.alloc(), &[1, 2]).into_vec();
-    assert_same(&rt, &bytes.as_slice(), &[1, 2].as_slice());
+fn bodies_are_copied_and_give_their_bytes_back(rt: HostRuntime) {
+    let alloc = rt.alloc();
+    let body = body(&rt, alloc, &[1, 2]);
+    let copy = body.copy(alloc).expect(&rt, "memory");
+    assert_same(&rt, &copy, &body);
+    assert_bytes(&rt, &body.into_vec(), &[1, 2]);
 }
 
 const WORD: [u8; 4] = [1, 2, 3, 4];
@@ -24,15 +28,15 @@ const WORD: [u8; 4] = [1, 2, 3, 4];
 // A memory of one word.
 fn memory(rt: &impl Abort, alloc: Global) -> MemoryBytes {
     let bytes = Vec::from_slice(alloc, &WORD).expect(rt, "memory");
-    assert_eq!(rt; bytes.len(), 4);
+    assert!(rt; bytes.len() == 4);
     MemoryBytes::from_vec(bytes)
 }
 
 #[test]
 fn memories_give_their_bytes_back(rt: HostRuntime) {
     let memory = memory(&rt, rt.alloc());
-    assert_same(&rt, &memory.as_slice(), &WORD.as_slice());
-    assert_same(&rt, &memory.into_vec().as_slice(), &WORD.as_slice());
+    assert_bytes(&rt, memory.as_slice(), &WORD);
+    assert_bytes(&rt, &memory.into_vec(), &WORD);
 }
 
 // A message of process 0 to process 15.
@@ -58,15 +62,10 @@ fn assert_copied(rt: &impl Abort, copy: &Message, message: &Message) {
 
 #[test]
 fn messages_are_copied_whole(rt: HostRuntime) {
-    let message = message(&rt, rt.alloc());
-    let copy = message.copy(rt.alloc()).expect(&rt, "memory");
+    let alloc = rt.alloc();
+    let message = message(&rt, alloc);
+    let copy = message.copy(alloc).expect(&rt, "memory");
     assert_copied(&rt, &copy, &message);
-}
-
-#[test]
-fn bodies_are_copied(rt: HostRuntime) {
-    let body = body(&rt, rt.alloc(), &[1, 2]);
-    assert_same(&rt, &body.copy(rt.alloc()), &Ok(body));
 }
 
 fn entry(rt: &impl Abort, alloc: Global, interval: u32, bytes: &[u8]) -> Entry {
@@ -83,9 +82,10 @@ fn assert_compared(rt: &impl Abort, alloc: Global, first: &Entry, last: &Entry) 
 
 #[test]
 fn entries_are_copied_and_compared(rt: HostRuntime) {
-    let first = entry(&rt, rt.alloc(), 1, &[1, 2]);
-    let last = entry(&rt, rt.alloc(), 3, &[3, 4]);
-    assert_compared(&rt, rt.alloc(), &first, &last);
+    let alloc = rt.alloc();
+    let first = entry(&rt, alloc, 1, &[1, 2]);
+    let last = entry(&rt, alloc, 3, &[3, 4]);
+    assert_compared(&rt, alloc, &first, &last);
 }
 
 const ENTRIES: [(u32, [u8; 2]); 2] = [(1, [1, 2]), (3, [3, 4])];
@@ -113,7 +113,8 @@ fn assert_changes(rt: &impl Abort, queue: &Queue, copy: &mut Queue) {
 
 #[test]
 fn queues_are_copied_and_compared(rt: HostRuntime) {
-    let queue = queue(&rt, rt.alloc());
-    let mut copy = queue.copy(rt.alloc()).expect(&rt, "memory");
+    let alloc = rt.alloc();
+    let queue = queue(&rt, alloc);
+    let mut copy = queue.copy(alloc).expect(&rt, "memory");
     assert_changes(&rt, &queue, &mut copy);
 }

@@ -1,9 +1,8 @@
 //! Checkpoints as bytes, in both versions.
 
 use crate::format::records::{
-    Damage, FIRST_IN_VERSION_1, FIRST_IN_VERSION_2, OF_16_PROCESSES, Part, WITH_ENTRIES,
-    assert_bytes, assert_damages, assert_spelled, assert_whole, bytes_of, changed, checkpoint_of,
-    spelled, with_byte,
+    Damage, Record, assert_bytes, assert_damages, assert_spelled, assert_whole, bytes_of, changed,
+    checkpoint_of, spelled, with_byte,
 };
 use crate::same::assert_same;
 use om_format::{Checkpoint, DecodeError, Queue, laws};
@@ -11,19 +10,20 @@ use om_isa::Ext;
 use std::alloc::Global;
 use std::process::Abort;
 
-const RECORDS: [(&[Part], usize); 4] = [
-    (&FIRST_IN_VERSION_1, 184),
-    (&FIRST_IN_VERSION_2, 188),
-    (&WITH_ENTRIES, 234),
-    (&OF_16_PROCESSES, 800),
+const RECORDS: [(Record, usize); 4] = [
+    (Record::FirstInVersion1, 184),
+    (Record::FirstInVersion2, 188),
+    (Record::WithEntries, 234),
+    (Record::Of16Processes, 800),
 ];
 
 #[test]
 fn records_are_whole_and_have_their_lengths(rt: HostRuntime) {
-    for (parts, len) in &RECORDS {
-        let record = bytes_of(&rt, rt.alloc(), parts);
+    let alloc = rt.alloc();
+    for (record, len) in &RECORDS {
+        let record = bytes_of(&rt, alloc, *record);
         assert_same(&rt, &record.len(), len);
-        assert_whole(&rt, rt.alloc(), &record);
+        assert_whole(&rt, alloc, &record);
     }
 }
 
@@ -40,19 +40,20 @@ fn assert_newer(rt: &impl Abort, alloc: Global, bytes: &[u8], newer: &[u8], ext:
 }
 
 // A first checkpoint, its first byte, and the extension that this is: the machine's own, and M.
-const FIRSTS: [(&[Part], u8, Ext); 4] = [
-    (&FIRST_IN_VERSION_1, 0x43, Ext::I),
-    (&FIRST_IN_VERSION_1, 0x4D, Ext::Im),
-    (&FIRST_IN_VERSION_2, 0x43, Ext::I),
-    (&FIRST_IN_VERSION_2, 0x4D, Ext::Im),
+const FIRSTS: [(Record, u8, Ext); 4] = [
+    (Record::FirstInVersion1, 0x43, Ext::I),
+    (Record::FirstInVersion1, 0x4D, Ext::Im),
+    (Record::FirstInVersion2, 0x43, Ext::I),
+    (Record::FirstInVersion2, 0x4D, Ext::Im),
 ];
 
 #[test]
 fn the_first_checkpoint_in_both_versions(rt: HostRuntime) {
-    for (parts, kind, ext) in &FIRSTS {
-        let bytes = changed(&rt, rt.alloc(), parts, 0, *kind);
-        let newer = changed(&rt, rt.alloc(), &FIRST_IN_VERSION_2, 0, *kind);
-        assert_newer(&rt, rt.alloc(), &bytes, &newer, *ext);
+    let alloc = rt.alloc();
+    for (record, kind, ext) in &FIRSTS {
+        let bytes = changed(&rt, alloc, *record, 0, *kind);
+        let newer = changed(&rt, alloc, Record::FirstInVersion2, 0, *kind);
+        assert_newer(&rt, alloc, &bytes, &newer, *ext);
     }
     laws::one_spelling_of_a_checkpoint();
     laws::one_reading_of_a_checkpoint();
@@ -109,20 +110,29 @@ const DAMAGES_OF_SWAPPED_PAGES: [Damage; 2] = [
 
 // A record, an offset and its byte, and the damages of it so. The byte at 0 is the record's own, that at 172 makes its page
 // a blank one, and that at 350 swaps two pages.
-const DAMAGED: [(&[Part], (usize, u8), &[Damage]); 6] = [
-    (&FIRST_IN_VERSION_1, (0, 0x43), &DAMAGES_OF_VERSION_1),
-    (&FIRST_IN_VERSION_2, (0, 0x43), &DAMAGES_OF_VERSION_2),
-    (&FIRST_IN_VERSION_2, (172, 0x00), &DAMAGES_OF_A_BLANK_PAGE),
-    (&WITH_ENTRIES, (0, 0x43), &DAMAGES_OF_ENTRIES),
-    (&OF_16_PROCESSES, (0, 0x4D), &DAMAGES_OF_PAGES),
-    (&OF_16_PROCESSES, (350, 0x01), &DAMAGES_OF_SWAPPED_PAGES),
+const DAMAGED: [(Record, (usize, u8), &[Damage]); 6] = [
+    (Record::FirstInVersion1, (0, 0x43), &DAMAGES_OF_VERSION_1),
+    (Record::FirstInVersion2, (0, 0x43), &DAMAGES_OF_VERSION_2),
+    (
+        Record::FirstInVersion2,
+        (172, 0x00),
+        &DAMAGES_OF_A_BLANK_PAGE,
+    ),
+    (Record::WithEntries, (0, 0x43), &DAMAGES_OF_ENTRIES),
+    (Record::Of16Processes, (0, 0x4D), &DAMAGES_OF_PAGES),
+    (
+        Record::Of16Processes,
+        (350, 0x01),
+        &DAMAGES_OF_SWAPPED_PAGES,
+    ),
 ];
 
 #[test]
 fn damaged_checkpoints_have_their_faults(rt: HostRuntime) {
-    for (parts, (offset, byte), damages) in &DAMAGED {
-        let record = changed(&rt, rt.alloc(), parts, *offset, *byte);
-        assert_damages(&rt, rt.alloc(), &record, damages);
+    let alloc = rt.alloc();
+    for (record, (offset, byte), damages) in &DAMAGED {
+        let record = changed(&rt, alloc, *record, *offset, *byte);
+        assert_damages(&rt, alloc, &record, damages);
     }
 }
 
@@ -137,29 +147,32 @@ fn assert_each_byte(rt: &impl Abort, alloc: Global, record: &[u8], (first, more)
 }
 
 // A record, the first of the bytes that its bytes are made, and how many follow it: all, and from 0xFF to 0x02.
-const CHANGED: [(&[Part], (u8, u8)); 3] = [
-    (&FIRST_IN_VERSION_1, (0x00, 255)),
-    (&FIRST_IN_VERSION_2, (0x00, 255)),
-    (&OF_16_PROCESSES, (0xFF, 3)),
+const CHANGED: [(Record, (u8, u8)); 3] = [
+    (Record::FirstInVersion1, (0x00, 255)),
+    (Record::FirstInVersion2, (0x00, 255)),
+    (Record::Of16Processes, (0xFF, 3)),
 ];
 
 #[test]
 fn a_changed_byte_is_refused_or_spells_another_checkpoint(rt: HostRuntime) {
-    for (parts, bytes) in &CHANGED {
-        let record = bytes_of(&rt, rt.alloc(), parts);
-        assert_each_byte(&rt, rt.alloc(), &record, *bytes);
+    let alloc = rt.alloc();
+    for (record, bytes) in &CHANGED {
+        let record = bytes_of(&rt, alloc, *record);
+        assert_each_byte(&rt, alloc, &record, *bytes);
     }
 }
 
 // An entry as its interval and its body.
 type ToldEntry<'a> = (u32, &'a [u8]);
 
-// A queue as its first number, the number of its entries, and its first two.
-type ToldQueue<'a> = (u64, usize, [Option<ToldEntry<'a>>; 2]);
+// A queue as its first number, the number of its entries, and its first two, where there is none 0 and nothing.
+type ToldQueue<'a> = (u64, usize, [ToldEntry<'a>; 2]);
 
-fn told_entry(queue: &Queue, place: usize) -> Option<ToldEntry<'_>> {
-    let entry = queue.entries.get(place)?;
-    Some((entry.interval, entry.body.as_slice()))
+fn told_entry(queue: &Queue, place: usize) -> ToldEntry<'_> {
+    match queue.entries.get(place) {
+        Some(entry) => (entry.interval, entry.body.as_slice()),
+        None => (0, &[]),
+    }
 }
 
 fn told_queue(queue: &Queue) -> ToldQueue<'_> {
@@ -179,27 +192,28 @@ fn has_registers(checkpoint: &Checkpoint) -> bool {
     true
 }
 
+const OUTPUTS: ToldQueue = (1, 1, [(3, &[0x7F]), (0, &[])]);
+
 // The fields that the two checkpoints with entries share.
 fn assert_fields(rt: &impl Abort, checkpoint: &Checkpoint) {
     let head = &checkpoint.head;
     let told = (head.interval, head.count, head.pc, head.made);
     let outputs = told_queue(&checkpoint.outputs);
-    let wanted = (1, 1, [Some((3, [0x7F].as_slice())), None]);
-    let has_registers = has_registers(checkpoint);
     assert_same(
         rt,
-        &(told, has_registers, outputs),
-        &((3, 20, 8, 2), true, wanted),
+        &(told, has_registers(checkpoint)),
+        &((3, 20, 8, 2), true),
     );
+    assert_same(rt, &outputs, &OUTPUTS);
 }
 
-// For how many processes messages are kept, and those for the first three.
-type ToldKept<'a> = (usize, [Option<ToldQueue<'a>>; 3]);
+// For how many processes messages are kept, and those for the first three, where there is none as for an empty queue.
+type ToldKept<'a> = (usize, [ToldQueue<'a>; 3]);
 
-fn told_at(kept: &[Queue], place: usize) -> Option<ToldQueue<'_>> {
+fn told_at(kept: &[Queue], place: usize) -> ToldQueue<'_> {
     match kept.get(place) {
-        Some(queue) => Some(told_queue(queue)),
-        None => None,
+        Some(queue) => told_queue(queue),
+        None => (0, 0, [(0, &[]), (0, &[])]),
     }
 }
 
@@ -210,16 +224,19 @@ fn told_kept(kept: &[Queue]) -> ToldKept<'_> {
     )
 }
 
-const TO_0: ToldQueue = (0, 1, [Some((1, &[0xAA, 0xBB])), None]);
-
 const KEPT_OF_2: ToldKept = (
     2,
     [
-        Some(TO_0),
-        Some((2, 2, [Some((1, &[])), Some((3, &[1, 2, 3]))])),
-        None,
+        (0, 1, [(1, &[0xAA, 0xBB]), (0, &[])]),
+        (2, 2, [(1, &[]), (3, &[1, 2, 3])]),
+        (0, 0, [(0, &[]), (0, &[])]),
     ],
 );
+
+type Vectors = (usize, [&'static [u32]; 3]);
+
+// The process of the checkpoint of two, and its vectors.
+const VECTORS_OF_2: Vectors = (0, [&[3, 1], &[1, 2], &[1, 4]]);
 
 fn assert_of_2(rt: &impl Abort, checkpoint: &Checkpoint) {
     let head = &checkpoint.head;
@@ -228,22 +245,17 @@ fn assert_of_2(rt: &impl Abort, checkpoint: &Checkpoint) {
         head.got.as_slice(),
         head.sent.as_slice(),
     ];
+    assert_same(rt, &(head.pid.index(), vectors), &VECTORS_OF_2);
     let memory = [0x73, 0x00, 0x10, 0x00, 0, 0, 0, 0];
-    let kept = told_kept(&checkpoint.kept);
-    let told = (
-        head.pid.index(),
-        vectors,
-        checkpoint.memory.as_slice(),
-        kept,
-    );
-    let wanted = [[3, 1].as_slice(), &[1, 2], &[1, 4]];
-    assert_same(rt, &told, &(0, wanted, memory.as_slice(), KEPT_OF_2));
+    assert_bytes(rt, checkpoint.memory.as_slice(), &memory);
+    assert_same(rt, &told_kept(&checkpoint.kept), &KEPT_OF_2);
 }
 
 #[test]
 fn checkpoints_with_entries_are_read_and_written(rt: HostRuntime) {
-    let bytes = bytes_of(&rt, rt.alloc(), &WITH_ENTRIES);
-    let checkpoint = checkpoint_of(&rt, rt.alloc(), &bytes);
+    let alloc = rt.alloc();
+    let bytes = bytes_of(&rt, alloc, Record::WithEntries);
+    let checkpoint = checkpoint_of(&rt, alloc, &bytes);
     assert_fields(&rt, &checkpoint);
     assert_of_2(&rt, &checkpoint);
 }
@@ -266,26 +278,26 @@ fn has_pages(memory: &[u8]) -> bool {
 const KEPT_OF_16: ToldKept = (
     16,
     [
-        Some(TO_0),
-        Some((0, 0, [None, None])),
-        Some((0, 2, [Some((1, &[])), Some((3, &[1, 2, 3]))])),
+        (0, 1, [(1, &[0xAA, 0xBB]), (0, &[])]),
+        (0, 0, [(0, &[]), (0, &[])]),
+        (0, 2, [(1, &[]), (3, &[1, 2, 3])]),
     ],
 );
 
 fn assert_of_16(rt: &impl Abort, checkpoint: &Checkpoint) {
     let head = &checkpoint.head;
     let told = (head.ext, head.pid.index(), head.vec.n());
-    let kept = told_kept(&checkpoint.kept);
     let has_pages = has_pages(checkpoint.memory.as_slice());
-    let wanted = ((Ext::Im, 15, 16), KEPT_OF_16, true);
-    assert_same(rt, &(told, kept, has_pages), &wanted);
+    assert_same(rt, &(told, has_pages), &((Ext::Im, 15, 16), true));
+    assert_same(rt, &told_kept(&checkpoint.kept), &KEPT_OF_16);
 }
 
 #[test]
 fn checkpoints_of_16_processes_are_read_and_written(rt: HostRuntime) {
-    let bytes = bytes_of(&rt, rt.alloc(), &OF_16_PROCESSES);
-    let checkpoint = checkpoint_of(&rt, rt.alloc(), &bytes);
+    let alloc = rt.alloc();
+    let bytes = bytes_of(&rt, alloc, Record::Of16Processes);
+    let checkpoint = checkpoint_of(&rt, alloc, &bytes);
     assert_fields(&rt, &checkpoint);
     assert_of_16(&rt, &checkpoint);
-    assert_bytes(&rt, &spelled(&rt, rt.alloc(), &checkpoint), &bytes);
+    assert_bytes(&rt, &spelled(&rt, alloc, &checkpoint), &bytes);
 }

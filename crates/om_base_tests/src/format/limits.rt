@@ -1,19 +1,13 @@
 //! Both sides of each limit of a record.
 
 use crate::format::records::{
-    Part, assert_spelled, bytes_of, checkpoint_fault, receipt_fault, repeat,
+    Record, assert_spelled, bytes_of, checkpoint_fault, receipt_fault, repeat,
 };
 use crate::same::{assert_same, assert_same_at};
 use om_format::{DecodeError, MAX_BODY, MAX_PROCESSES_OF_VERSION_1, MemoryBytes, PAGE};
 use om_interval::MAX_PROCESSES;
 use std::alloc::Global;
 use std::process::Abort;
-
-#[test]
-fn the_limits_are_these(rt: HostRuntime) {
-    let limits = (MAX_BODY, MAX_PROCESSES_OF_VERSION_1, MAX_PROCESSES, PAGE);
-    assert_same(&rt, &limits, &(256, 8, 16, 256));
-}
 
 const SIZES: [(usize, bool); 5] = [
     (0, false),
@@ -24,18 +18,17 @@ const SIZES: [(usize, bool); 5] = [
 ];
 
 #[test]
-fn memories_have_sizes(rt: HostRuntime) {
+fn limits_and_sizes_are_these(rt: HostRuntime) {
+    let limits = (MAX_BODY, MAX_PROCESSES_OF_VERSION_1, MAX_PROCESSES, PAGE);
+    assert_same(&rt, &limits, &(256, 8, 16, 256));
     for (len, wanted) in &SIZES {
         assert_same_at(&rt, len, &MemoryBytes::is_size(*len), wanted);
     }
 }
 
-// The receipt of a body, up to the length of it.
-const BEFORE_BODY: [Part; 1] = [("520101020100000000000000000000000300000000000000", 1)];
-
 // The receipt with another body, of so many bytes.
 fn receipt_with_body(rt: &impl Abort, alloc: Global, len: u16) -> Vec<u8> {
-    let mut bytes = bytes_of(rt, alloc, &BEFORE_BODY);
+    let mut bytes = bytes_of(rt, alloc, Record::BeforeBody);
     repeat(rt, &mut bytes, &len.to_le_bytes(), 1);
     repeat(rt, &mut bytes, &[0xAB], len as usize);
     bytes
@@ -59,8 +52,9 @@ fn assert_receipt(rt: &impl Abort, alloc: Global, (len, want): &Length) {
 
 #[test]
 fn bodies_of_receipts_have_at_most_256_bytes(rt: HostRuntime) {
+    let alloc = rt.alloc();
     for length in &OF_RECEIPTS {
-        assert_receipt(&rt, rt.alloc(), length);
+        assert_receipt(&rt, alloc, length);
     }
 }
 
@@ -109,24 +103,15 @@ fn assert_limit(rt: &impl Abort, alloc: Global, (version, n, size, want): &Limit
 
 #[test]
 fn processes_and_memories_have_their_limits(rt: HostRuntime) {
+    let alloc = rt.alloc();
     for limit in &LIMITS {
-        assert_limit(&rt, rt.alloc(), limit);
+        assert_limit(&rt, alloc, limit);
     }
 }
 
-// A checkpoint of version 2 of one process that made an output, up to the length of it: one instruction, one page of zeros.
-const BEFORE_OUTPUT: [Part; 6] = [
-    ("43020100000000000100000000000000", 1),
-    ("00", 140),
-    ("0100000000000000040000000000", 1),
-    ("00000000", 1),
-    ("0000000000000000", 1),
-    ("00000000", 1),
-];
-
-// The same with an output of so many bytes.
+// The checkpoint with an output of so many bytes.
 fn checkpoint_with_output(rt: &impl Abort, alloc: Global, len: u16) -> Vec<u8> {
-    let mut bytes = bytes_of(rt, alloc, &BEFORE_OUTPUT);
+    let mut bytes = bytes_of(rt, alloc, Record::BeforeOutput);
     repeat(rt, &mut bytes, &len.to_le_bytes(), 1);
     repeat(rt, &mut bytes, &[0xCD], len as usize);
     bytes
@@ -148,7 +133,8 @@ fn assert_output(rt: &impl Abort, alloc: Global, (len, want): &Length) {
 
 #[test]
 fn bodies_of_entries_have_at_most_256_bytes(rt: HostRuntime) {
+    let alloc = rt.alloc();
     for length in &OF_ENTRIES {
-        assert_output(&rt, rt.alloc(), length);
+        assert_output(&rt, alloc, length);
     }
 }

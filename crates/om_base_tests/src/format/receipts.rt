@@ -1,7 +1,7 @@
 //! Receipts as bytes.
 
 use crate::format::records::{
-    RECEIPT, assert_bytes, bytes_of, receipt_fault, receipt_of, with_byte, with_end,
+    Record, assert_bytes, bytes_of, receipt_fault, receipt_of, with_byte, with_end,
 };
 use crate::same::{assert_same, assert_same_at};
 use om_format::{DecodeError, Receipt, decode_receipt, encode_receipt, laws};
@@ -92,12 +92,13 @@ fn assert_each_byte(rt: &impl Abort, alloc: Global, record: &[u8]) {
 
 #[test]
 fn receipts_are_read_whole_or_not_at_all(rt: HostRuntime) {
-    let record = bytes_of(&rt, rt.alloc(), &RECEIPT);
-    assert_read(&rt, rt.alloc(), &record);
-    assert_short(&rt, rt.alloc(), &record);
-    assert_long(&rt, rt.alloc(), &record);
-    assert_damages(&rt, rt.alloc(), &record);
-    assert_each_byte(&rt, rt.alloc(), &record);
+    let alloc = rt.alloc();
+    let record = bytes_of(&rt, alloc, Record::Receipt);
+    assert_read(&rt, alloc, &record);
+    assert_short(&rt, alloc, &record);
+    assert_long(&rt, alloc, &record);
+    assert_damages(&rt, alloc, &record);
+    assert_each_byte(&rt, alloc, &record);
     laws::one_spelling_of_a_receipt();
     laws::one_reading_of_a_receipt();
     laws::receipt_or_fault();

@@ -8,10 +8,10 @@ use std::alloc::Global;
 use std::process::Abort;
 
 // A text, and how many times it stands.
-pub type Part = (&'static str, usize);
+type Part = (&'static str, usize);
 
 // The receipt of the second process in a run of three.
-pub const RECEIPT: [Part; 1] = [(
+const RECEIPT: [Part; 1] = [(
     "520101020100000000000000000000000300000000000000040093081000",
     1,
 )];
@@ -24,7 +24,7 @@ const REGISTERS: &str = "\
 191919191a1a1a1a1b1b1b1b1c1c1c1c1d1d1d1d1e1e1e1e1f1f1f1f";
 
 // The checkpoint, in version 1, of a machine of four bytes at its start: 184 bytes.
-pub const FIRST_IN_VERSION_1: [Part; 4] = [
+const FIRST_IN_VERSION_1: [Part; 4] = [
     ("43010100", 1),
     ("00", 160),
     ("0400000073001000", 1),
@@ -32,7 +32,7 @@ pub const FIRST_IN_VERSION_1: [Part; 4] = [
 ];
 
 // The same in version 2: 188 bytes.
-pub const FIRST_IN_VERSION_2: [Part; 4] = [
+const FIRST_IN_VERSION_2: [Part; 4] = [
     ("43020100", 1),
     ("00", 160),
     ("040000000100000073001000", 1),
@@ -41,7 +41,7 @@ pub const FIRST_IN_VERSION_2: [Part; 4] = [
 
 // A checkpoint of version 1 with entries: 234 bytes. Its first fields, the registers, its vectors with the number of its outputs,
 // its memory, its messages to process 0 and to process 1, and its outputs.
-pub const WITH_ENTRIES: [Part; 8] = [
+const WITH_ENTRIES: [Part; 8] = [
     ("4301020003000000140000000000000008000000", 1),
     (REGISTERS, 1),
     ("03000000010000000100000002000000", 1),
@@ -54,7 +54,7 @@ pub const WITH_ENTRIES: [Part; 8] = [
 
 // A checkpoint of version 2 of 16 processes, with entries and a memory of 600 bytes: its first page is kept, the second is
 // all zero, and the last has 88 bytes. 800 bytes.
-pub const OF_16_PROCESSES: [Part; 19] = [
+const OF_16_PROCESSES: [Part; 19] = [
     ("4d02100f03000000140000000000000008000000", 1),
     (REGISTERS, 1),
     ("01000000", 1),
@@ -76,16 +76,54 @@ pub const OF_16_PROCESSES: [Part; 19] = [
     ("01000000000000000300000001007f", 1),
 ];
 
+// The receipt of a body, up to the length of it.
+const BEFORE_BODY: [Part; 1] = [("520101020100000000000000000000000300000000000000", 1)];
+
+// A checkpoint of version 2 of one process that made an output, up to the length of it: one instruction, one page of zeros.
+const BEFORE_OUTPUT: [Part; 6] = [
+    ("43020100000000000100000000000000", 1),
+    ("00", 140),
+    ("0100000000000000040000000000", 1),
+    ("00000000", 1),
+    ("0000000000000000", 1),
+    ("00000000", 1),
+];
+
+// The records, and what stands before the length of a body or of an output. The texts are named in one function, since each
+// that names them builds them anew.
+#[derive(Clone, Copy)]
+pub enum Record {
+    Receipt,
+    FirstInVersion1,
+    FirstInVersion2,
+    WithEntries,
+    Of16Processes,
+    BeforeBody,
+    BeforeOutput,
+}
+
+fn parts_of(record: Record) -> &'static [Part] {
+    match record {
+        Record::Receipt => &RECEIPT,
+        Record::FirstInVersion1 => &FIRST_IN_VERSION_1,
+        Record::FirstInVersion2 => &FIRST_IN_VERSION_2,
+        Record::WithEntries => &WITH_ENTRIES,
+        Record::Of16Processes => &OF_16_PROCESSES,
+        Record::BeforeBody => &BEFORE_BODY,
+        Record::BeforeOutput => &BEFORE_OUTPUT,
+    }
+}
+
 // A record with its byte at an offset made another one.
-pub fn changed(rt: &impl Abort, alloc: Global, parts: &[Part], offset: usize, byte: u8) -> Vec<u8> {
-    let record = bytes_of(rt, alloc, parts);
+pub fn changed(rt: &impl Abort, alloc: Global, record: Record, offset: usize, byte: u8) -> Vec<u8> {
+    let record = bytes_of(rt, alloc, record);
     with_byte(rt, alloc, &record, offset, byte)
 }
 
-// The bytes that these texts spell, one after the other.
-pub fn bytes_of(rt: &impl Abort, alloc: Global, parts: &[Part]) -> Vec<u8> {
+// The bytes that the texts of a record spell, one after the other.
+pub fn bytes_of(rt: &impl Abort, alloc: Global, record: Record) -> Vec<u8> {
     let mut bytes = Vec::new(alloc);
-    for (text, times) in parts {
+    for (text, times) in parts_of(record) {
         let part = hex::decode(alloc, text).expect(rt, "hexadecimal");
         repeat(rt, &mut bytes, &part, *times);
     }
