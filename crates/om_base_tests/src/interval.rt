@@ -1,3 +1,4 @@
+use crate::same::{assert_same, assert_same_at};
 use om_interval::{Bounds, DepVec, MAX_PROCESSES, Pid, Starts, Tag, laws};
 use std::alloc::Global;
 use std::process::Abort;
@@ -6,7 +7,7 @@ use std::process::Abort;
 fn processes_are_numbered_below_the_limit(rt: HostRuntime) {
     let last = Pid::new(15).expect(&rt, "a process");
     let told = (MAX_PROCESSES, last.index(), Pid::at(3).index());
-    assert_eq!(rt; (told, Pid::new(16)), ((16, 15, 3), None));
+    assert_same(&rt, &(told, Pid::new(16)), &((16, 15, 3), None));
 }
 
 // A vector with these places.
@@ -30,10 +31,8 @@ const SEVENS: [u32; 17] = [7; 17];
 fn vectors_have_1_to_16_places(rt: HostRuntime) {
     let lengths = [zeros(0), zeros(1), zeros(16), zeros(17)];
     let are_kept = [keeps(&[]), keeps(&SEVENS[..16]), keeps(&SEVENS)];
-    assert_eq!(rt;
-        (lengths, are_kept),
-        ([None, Some(1), Some(16), None], [None, Some(true), None])
-    );
+    let wanted = ([None, Some(1), Some(16), None], [None, Some(true), None]);
+    assert_same(&rt, &(lengths, are_kept), &wanted);
 }
 
 // Whether a vector of these places is this one, None where there is none.
@@ -45,16 +44,15 @@ fn is_vector(vector: &DepVec, places: &[u32]) -> Option<bool> {
 #[test]
 fn vectors_are_read_and_changed_by_place(rt: HostRuntime) {
     let mut vector = DepVec::zeros(3).expect(&rt, "3 places");
-    assert_eq!(rt; vector.n(), 3);
-    vector.set(Pid::at(1), 5);
-    vector.join_tag(Pid::at(1), 4);
+    assert!(rt; vector.n() == 3);
+    let pid = Pid::at(1);
+    vector.set(pid, 5);
+    vector.join_tag(pid, 4);
     vector.join_tag(Pid::at(2), 9);
-    let second = vector.get(Pid::at(1));
+    let second = vector.get(pid);
     let is_same = is_vector(&vector, &[0, 5, 9]);
-    assert_eq!(rt;
-        (second, vector.as_slice(), is_same),
-        (5, [0, 5, 9].as_slice(), Some(true))
-    );
+    let told = (second, vector.as_slice(), is_same);
+    assert_same(&rt, &told, &(5, &[0, 5, 9], Some(true)));
 }
 
 type Pair = (&'static [u32], &'static [u32], bool);
@@ -75,8 +73,7 @@ fn is_leq(rt: &impl Abort, low: &[u32], high: &[u32]) -> bool {
 #[test]
 fn vectors_are_compared_by_place(rt: HostRuntime) {
     for (low, high, want) in &PAIRS {
-        let pair = (*low, *high);
-        assert_eq!(rt; (pair, is_leq(&rt, low, high)), (pair, *want));
+        assert_same_at(&rt, &(low, high), &is_leq(&rt, low, high), want);
     }
     laws::lower_vector_has_smaller_sum();
 }
@@ -87,13 +84,13 @@ fn bounds_are_compared(rt: HostRuntime) {
     let bounds = Bounds { got, released: 5 };
     let is_same = bounds == Bounds { got, released: 5 };
     let is_other = bounds == Bounds { got, released: 6 };
-    assert_eq!(rt; (is_same, is_other), (true, false));
+    assert_same(&rt, &(is_same, is_other), &(true, false));
 }
 
 // The starts of two processes of which process 1 goes back to interval 4.
 fn cut(rt: &impl Abort, alloc: Global) -> Starts {
     let mut starts = Starts::new(alloc, 2).expect(rt, "memory");
-    assert_eq!(rt; starts.n(), 2);
+    assert!(rt; starts.n() == 2);
     let state = DepVec::from_slice(&[3, 4]).expect(rt, "2 places");
     let mut who = [false; MAX_PROCESSES];
     who[1] = true;
@@ -116,45 +113,46 @@ fn is_orphan(starts: &Starts, (pid, inc): (usize, u32), interval: u32) -> Option
     Some(starts.is_orphan(Pid::at(pid), Tag { inc, interval }))
 }
 
-type Start = ((usize, u32), (u32, Option<u64>));
+type Start = ((usize, u32), Option<(u32, Option<u64>)>);
 
 // A process and an incarnation, the newest one of the process, and where the first one starts.
 const STARTS: [Start; 5] = [
-    ((0, 0), (0, Some(0))),
-    ((0, 1), (0, None)),
-    ((1, 0), (1, Some(0))),
-    ((1, 1), (1, Some(5))),
-    ((1, 2), (1, None)),
+    ((0, 0), Some((0, Some(0)))),
+    ((0, 1), Some((0, None))),
+    ((1, 0), Some((1, Some(0)))),
+    ((1, 1), Some((1, Some(5)))),
+    ((1, 2), Some((1, None))),
 ];
 
 fn assert_starts(rt: &impl Abort, starts: &Starts) {
     for (place, told) in &STARTS {
-        assert_eq!(rt; (*place, start(starts, *place)), (*place, Some(*told)));
+        assert_same_at(rt, place, &start(starts, *place), told);
     }
 }
 
-type Orphan = ((usize, u32), u32, bool);
+type Orphan = ((usize, u32), u32, Option<bool>);
 
 // A process, an incarnation and an interval of it, and whether that is an orphan.
 const ORPHANS: [Orphan; 5] = [
-    ((1, 0), 4, false),
-    ((1, 0), 5, true),
-    ((1, 0), 6, true),
-    ((1, 1), 6, false),
-    ((0, 0), 6, false),
+    ((1, 0), 4, Some(false)),
+    ((1, 0), 5, Some(true)),
+    ((1, 0), 6, Some(true)),
+    ((1, 1), 6, Some(false)),
+    ((0, 0), 6, Some(false)),
 ];
 
 fn assert_orphans(rt: &impl Abort, starts: &Starts) {
     for (place, interval, want) in &ORPHANS {
         let told = is_orphan(starts, *place, *interval);
-        assert_eq!(rt; (*place, *interval, told), (*place, *interval, Some(*want)));
+        assert_same_at(rt, &(place, interval), &told, want);
     }
 }
 
 #[test]
 fn incarnations_begin_above_the_state(rt: HostRuntime) {
-    let starts = cut(&rt, rt.alloc());
-    let starts = starts.copy(rt.alloc()).expect(&rt, "memory");
+    let alloc = rt.alloc();
+    let starts = cut(&rt, alloc);
+    let starts = starts.copy(alloc).expect(&rt, "memory");
     assert_starts(&rt, &starts);
     assert_orphans(&rt, &starts);
 }

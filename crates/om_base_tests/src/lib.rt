@@ -10,4 +10,6 @@ mod isa;
 #[cfg(test)]
 mod machine;
 #[cfg(test)]
+mod same;
+#[cfg(test)]
 mod text;

@@ -1,3 +1,4 @@
+use crate::same::{assert_same, assert_same_at};
 use om_isa::{Ext, Reg, WRITABLE_REGISTERS};
 use om_machine::Cause::{
     Break, DataMisaligned, DataOutside, FetchOutside, Illegal, TargetMisaligned, UnknownCall,
@@ -19,6 +20,10 @@ fn loaded(alloc: Global, words: &[u32], size: u32) -> Result<Machine, LoadFault>
 
 fn reg(machine: &Machine, r: u8) -> Option<u32> {
     Reg::new(r).map(|r| machine.reg(r))
+}
+
+fn place(machine: &Machine) -> (u32, u64) {
+    (machine.pc(), machine.count())
 }
 
 // A branch to the address two behind its own, untaken and then taken.
@@ -60,19 +65,17 @@ fn assert_stop(rt: &impl Abort, machine: &mut Machine, stop: &Stop) {
     let (image, _, steps, cause, pc, (r, value)) = *stop;
     let event = Event::Trap(cause);
     let told = (machine.run(1000), machine.peek(), machine.step());
-    let state = (machine.pc(), machine.count(), reg(machine, r));
+    let state = (place(machine), reg(machine, r));
     let ran = Ran { steps, event };
-    assert_eq!(rt;
-        (told, state),
-        ((ran, event, event), (pc, steps, Some(value))),
-        "{image:?}"
-    );
+    let wanted = ((ran, event, event), ((pc, steps), Some(value)));
+    assert_same_at(rt, &image, &(told, state), &wanted);
 }
 
 #[test]
 fn programs_stop_where_the_tables_say(rt: HostRuntime) {
+    let alloc = rt.alloc();
     for stop in &STOPS {
-        let mut machine = loaded(rt.alloc(), stop.0, stop.1).expect(&rt, "a machine");
+        let mut machine = loaded(alloc, stop.0, stop.1).expect(&rt, "a machine");
         assert_stop(&rt, &mut machine, stop);
     }
 }
@@ -120,18 +123,14 @@ const RESULTS: [Results; 3] = [
     (7, 0, [0, 0, 0, 0, 0xFFFF_FFFF, 0xFFFF_FFFF, 7, 7]),
 ];
 
-type Step = (Ext, Event, [Option<u32>; 3], u32, u64);
+type Step = (Ext, Event, [Option<u32>; 3], (u32, u64));
 
 // The extension, the event of one step over a word of x1 and x2 into x3, and then these registers, pc and the count.
 fn one_step(rt: &impl Abort, alloc: Global, (a, b): (u32, u32), word: u32, ext: Ext) -> Step {
     let mut machine = with_operands(alloc, a, b, word, ext).expect(rt, "a machine");
     let (ext, event) = (machine.ext(), machine.step());
     let registers = [reg(&machine, 1), reg(&machine, 2), reg(&machine, 3)];
-    (ext, event, registers, machine.pc(), machine.count())
-}
-
-fn assert_step(rt: &impl Abort, told: Step, want: Step, word: u32) {
-    assert_eq!(rt; told, want, "at {word:08x}");
+    (ext, event, registers, place(&machine))
 }
 
 // Without the M extension there is no such instruction.
@@ -139,25 +138,22 @@ fn assert_results(rt: &impl Abort, alloc: Global, (a, b, results): &Results) {
     let operands = (*a, *b);
     let mut word = 0x0220_81B3;
     for result in results {
-        let told = one_step(rt, alloc, operands, word, Ext::Im);
+        let with = one_step(rt, alloc, operands, word, Ext::Im);
+        let without = one_step(rt, alloc, operands, word, Ext::I);
         let registers = [Some(*a), Some(*b), Some(*result)];
-        assert_step(rt, told, (Ext::Im, Event::Went, registers, 4, 1), word);
-        let told = one_step(rt, alloc, operands, word, Ext::I);
+        let wanted = (Ext::Im, Event::Went, registers, (4, 1));
         let registers = [Some(*a), Some(*b), Some(0)];
-        assert_step(
-            rt,
-            told,
-            (Ext::I, Event::Trap(Illegal), registers, 0, 0),
-            word,
-        );
+        let refused = (Ext::I, Event::Trap(Illegal), registers, (0, 0));
+        assert_same_at(rt, &word, &(with, without), &(wanted, refused));
         word = word.wrapping_add(0x1000);
     }
 }
 
 #[test]
 fn products_and_quotients_are_those_of_the_tables(rt: HostRuntime) {
+    let alloc = rt.alloc();
     for results in &RESULTS {
-        assert_results(&rt, rt.alloc(), results);
+        assert_results(&rt, alloc, results);
     }
 }
 
@@ -170,9 +166,8 @@ fn assert_runs(rt: &impl Abort, machine: &mut Machine) {
             steps: *fuel,
             event: Event::Went,
         };
-        let told = (machine.run(*fuel), machine.peek());
-        let state = (machine.pc(), machine.count());
-        assert_eq!(rt; (told, state), ((ran, Event::Went), (0, *count)), "{fuel}");
+        let told = (machine.run(*fuel), machine.peek(), place(machine));
+        assert_same_at(rt, fuel, &told, &(ran, Event::Went, (0, *count)));
     }
 }
 
@@ -186,28 +181,23 @@ fn fuel_ends_a_run(rt: HostRuntime) {
 fn a_jump_by_the_register_that_it_writes(rt: HostRuntime) {
     let mut machine = loaded(rt.alloc(), &[0x005000E7], 8).expect(&rt, "a machine");
     let told = (machine.step(), machine.pc(), reg(&machine, 1));
-    assert_eq!(rt; told, (Event::Went, 4, Some(4)));
+    assert_same(&rt, &told, &(Event::Went, 4, Some(4)));
 }
 
-#[test]
-fn memories_have_limits(rt: HostRuntime) {
-    assert_eq!(rt; (MIN_SIZE, MAX_SIZE), (4, 65_536));
-}
-
-type Load = (&'static [u32], u32, bool, Result<u32, LoadFault>);
+type Load = (&'static [u32], u32, (bool, Result<u32, LoadFault>));
 
 // Image, size, whether a memory can have it, and the size of the machine. The sizes of a memory: 4 to 65,536 bytes, a multiple
 // of 4. An image may be as long as its memory.
 const LOADS: [Load; 9] = [
-    (&[0, 0], 6, false, Err(LoadFault::BadSize)),
-    (&[0, 0], 4, true, Err(LoadFault::ImageTooLong)),
-    (&[0, 0], 8, true, Ok(8)),
-    (&[], 0, false, Err(LoadFault::BadSize)),
-    (&[], 3, false, Err(LoadFault::BadSize)),
-    (&[], 4, true, Ok(4)),
-    (&[], 65_535, false, Err(LoadFault::BadSize)),
-    (&[], 65_536, true, Ok(65_536)),
-    (&[], 65_540, false, Err(LoadFault::BadSize)),
+    (&[0, 0], 6, (false, Err(LoadFault::BadSize))),
+    (&[0, 0], 4, (true, Err(LoadFault::ImageTooLong))),
+    (&[0, 0], 8, (true, Ok(8))),
+    (&[], 0, (false, Err(LoadFault::BadSize))),
+    (&[], 3, (false, Err(LoadFault::BadSize))),
+    (&[], 4, (true, Ok(4))),
+    (&[], 65_535, (false, Err(LoadFault::BadSize))),
+    (&[], 65_536, (true, Ok(65_536))),
+    (&[], 65_540, (false, Err(LoadFault::BadSize))),
 ];
 
 fn loaded_size(alloc: Global, words: &[u32], size: u32) -> Result<u32, LoadFault> {
@@ -216,9 +206,11 @@ fn loaded_size(alloc: Global, words: &[u32], size: u32) -> Result<u32, LoadFault
 
 #[test]
 fn machines_are_as_large_as_they_were_asked_to_be(rt: HostRuntime) {
-    for (words, size, lawful, answer) in &LOADS {
-        let told = (is_size(*size), loaded_size(rt.alloc(), words, *size));
-        assert_eq!(rt; told, (*lawful, *answer), "{size}");
+    let alloc = rt.alloc();
+    assert_same(&rt, &(MIN_SIZE, MAX_SIZE), &(4, 65_536));
+    for (words, size, wanted) in &LOADS {
+        let told = (is_size(*size), loaded_size(alloc, words, *size));
+        assert_same_at(&rt, size, &told, wanted);
     }
 }
 
@@ -230,11 +222,9 @@ fn small(rt: &impl Abort, alloc: Global) -> Machine {
 #[test]
 fn images_lie_at_the_start_of_memory(rt: HostRuntime) {
     let machine = small(&rt, rt.alloc());
-    let memory = [1, 2, 3, 0, 0, 0, 0, 0];
-    assert_eq!(rt;
-        (machine.ext(), machine.regs(), machine.memory()),
-        (Ext::I, [0; WRITABLE_REGISTERS], memory.as_slice())
-    );
+    let told = (machine.ext(), machine.regs(), machine.memory());
+    let memory = [1, 2, 3, 0, 0, 0, 0, 0].as_slice();
+    assert_same(&rt, &told, &(Ext::I, [0; WRITABLE_REGISTERS], memory));
 }
 
 type Range = (u32, u32, Option<&'static [u8]>);
@@ -248,8 +238,8 @@ const RANGES: [Range; 5] = [
     (0xFFFF_FFFF, 1, None),
 ];
 
-fn assert_bytes(rt: &impl Abort, bytes: Option<&[u8]>, (addr, len, want): &Range) {
-    assert_eq!(rt; bytes, *want, "{len} bytes at {addr}");
+fn assert_bytes(rt: &impl Abort, bytes: Option<&[u8]>, (addr, len, wanted): &Range) {
+    assert_same_at(rt, &(addr, len), &bytes, wanted);
 }
 
 fn assert_ranges(rt: &impl Abort, machine: &Machine) {
@@ -277,17 +267,10 @@ fn assert_restored(rt: &impl Abort, machine: &Machine) {
     let mut regs = [0; WRITABLE_REGISTERS];
     regs[0] = 1;
     regs[30] = 0xFFFF_FFFF;
-    let told = (machine.pc(), machine.count(), machine.ext());
+    let told = (place(machine), machine.ext(), machine.memory());
     let registers = (machine.regs(), reg(machine, 0), reg(machine, 1));
-    assert_eq!(rt;
-        (told, registers, machine.memory()),
-        ((4, 9, Ext::Im), (regs, Some(0), Some(1)), WORDS.as_slice())
-    );
-}
-
-#[test]
-fn machines_are_restored(rt: HostRuntime) {
-    assert_restored(&rt, &restored(&rt, rt.alloc()));
+    let wanted = ((4, 9), Ext::Im, WORDS.as_slice());
+    assert_same(rt, &(told, registers), &(wanted, (regs, Some(0), Some(1))));
 }
 
 // Whether the machine that is restored from what this one tells, with this extension, is the same, and whether it is another.
@@ -301,10 +284,12 @@ fn compared(rt: &impl Abort, alloc: Global, machine: &Machine, ext: Ext) -> (boo
 // A machine is restored as it was told, and another extension makes another machine.
 #[test]
 fn machines_are_restored_as_they_were_told(rt: HostRuntime) {
-    let machine = restored(&rt, rt.alloc());
-    let same = compared(&rt, rt.alloc(), &machine, machine.ext());
-    let other = compared(&rt, rt.alloc(), &machine, Ext::I);
-    assert_eq!(rt; (same, other), ((true, false), (false, true)));
+    let alloc = rt.alloc();
+    let machine = restored(&rt, alloc);
+    assert_restored(&rt, &machine);
+    let same = compared(&rt, alloc, &machine, machine.ext());
+    let other = compared(&rt, alloc, &machine, Ext::I);
+    assert_same(&rt, &(same, other), &((true, false), (false, true)));
     // The laws are called for the theorems on them: they do nothing.
     laws::loading_makes_a_machine();
     laws::restoring_gives_the_machine();
@@ -322,7 +307,7 @@ const FULL: Event = Event::Trap(Cause::CountFull);
 
 // A machine of RV32I at this address and this count, with 7 in x5 and no operation in its memory.
 fn counted(rt: &impl Abort, alloc: Global, pc: u32, count: u64) -> Machine {
-    assert_eq!(rt; pc % 4, 0);
+    assert!(rt; pc % 4 == 0);
     let mut regs = [0; WRITABLE_REGISTERS];
     regs[4] = 7;
     Machine::restore(alloc, &regs, pc, count, &NOP, Ext::I).expect(rt, "memory")
@@ -334,18 +319,23 @@ fn is_full(rt: &impl Abort, alloc: Global, machine: &Machine, pc: u32) -> bool {
 }
 
 fn assert_full(rt: &impl Abort, machine: &Machine, told: (Event, Event), pc: u32) {
-    let state = (machine.pc(), machine.count(), reg(machine, 5));
-    assert_eq!(rt; (told, state), ((FULL, FULL), (pc, u64::MAX, Some(7))));
+    let state = (place(machine), reg(machine, 5));
+    assert_same(
+        rt,
+        &(told, state),
+        &((FULL, FULL), ((pc, u64::MAX), Some(7))),
+    );
 }
 
 // A machine of a full count stays as it is, wherever pc is.
 #[test]
 fn a_full_count_stops_the_machine(rt: HostRuntime) {
-    for pc in [0, 8] {
-        let mut machine = counted(&rt, rt.alloc(), pc, u64::MAX);
+    let alloc = rt.alloc();
+    for pc in &[0, 8] {
+        let mut machine = counted(&rt, alloc, *pc, u64::MAX);
         let told = (machine.peek(), machine.step());
-        assert_full(&rt, &machine, told, pc);
-        assert!(rt; is_full(&rt, rt.alloc(), &machine, pc));
+        assert_full(&rt, &machine, told, *pc);
+        assert_same(&rt, &is_full(&rt, alloc, &machine, *pc), &true);
     }
 }
 
@@ -354,47 +344,66 @@ fn a_full_count_stops_the_machine(rt: HostRuntime) {
 fn the_last_instruction_is_counted(rt: HostRuntime) {
     let mut machine = counted(&rt, rt.alloc(), 0, u64::MAX - 1);
     let told = (machine.step(), machine.count(), machine.step());
-    assert_eq!(rt; told, (Event::Went, u64::MAX, FULL));
+    assert_same(&rt, &told, &(Event::Went, u64::MAX, FULL));
 }
 
-type Call = (u32, EnvCall, (u32, u32), (u32, u64), [u8; 4]);
+// The steps of a run and the event at its end, and behind the call x10 and x11, pc and the count.
+type Finished = (u64, Event, [Option<u32>; 2], (u32, u64));
 
-// The word that puts a number into x17, the call with x10 = 16, x11 = 2 and x12 = 4, and behind it x10 and x11, pc and the
-// count, and the word at 16. The machine stays at an exit.
+// The word that puts a number into x17, what comes of the call with x10 = 16, x11 = 2 and x12 = 4, and the word at 16 behind
+// it. The machine stays at an exit.
+type Call = (u32, Finished, [u8; 4]);
+
 const CALLS: [Call; 5] = [
     (
         0x00000893,
-        EnvCall::Exit { code: 16 },
-        (16, 2),
-        (16, 4),
+        (
+            4,
+            Event::Call(EnvCall::Exit { code: 16 }),
+            [Some(16), Some(2)],
+            (16, 4),
+        ),
         [0x73, 0, 0, 0],
     ),
     (
         0x00100893,
-        EnvCall::Send {
-            to: 16,
-            addr: 2,
-            len: 4,
-        },
-        (9, 2),
-        (20, 5),
+        (
+            4,
+            Event::Call(EnvCall::Send {
+                to: 16,
+                addr: 2,
+                len: 4,
+            }),
+            [Some(9), Some(2)],
+            (20, 5),
+        ),
         [0x73, 0, 0, 0],
     ),
     (
         0x00200893,
-        EnvCall::Receive { addr: 16, cap: 2 },
-        (3, 6),
-        (20, 5),
+        (
+            4,
+            Event::Call(EnvCall::Receive { addr: 16, cap: 2 }),
+            [Some(3), Some(6)],
+            (20, 5),
+        ),
         [1, 2, 0, 0],
     ),
     (
         0x00300893,
-        EnvCall::Output { addr: 16, len: 2 },
-        (9, 2),
-        (20, 5),
+        (
+            4,
+            Event::Call(EnvCall::Output { addr: 16, len: 2 }),
+            [Some(9), Some(2)],
+            (20, 5),
+        ),
         [0x73, 0, 0, 0],
     ),
-    (0x00400893, EnvCall::Who, (1, 3), (20, 5), [0x73, 0, 0, 0]),
+    (
+        0x00400893,
+        (4, Event::Call(EnvCall::Who), [Some(1), Some(3)], (20, 5)),
+        [0x73, 0, 0, 0],
+    ),
 ];
 
 // Finishes the call at which the machine stands, if it is no exit.
@@ -416,30 +425,18 @@ fn at_call(rt: &impl Abort, alloc: Global, number: u32) -> Machine {
     loaded(alloc, &image, 20).expect(rt, "a machine")
 }
 
-fn assert_call(
-    rt: &impl Abort,
-    machine: &Machine,
-    ran: Ran,
-    (_, call, registers, place, word): &Call,
-) {
-    let event = Event::Call(*call);
-    let told = (reg(machine, 10), reg(machine, 11));
-    let state = (machine.pc(), machine.count());
-    assert_eq!(rt;
-        (ran, told, state, machine.bytes(16, 4)),
-        (
-            Ran { steps: 4, event },
-            (Some(registers.0), Some(registers.1)),
-            *place,
-            Some(word.as_slice())
-        )
-    );
+fn assert_call(rt: &impl Abort, machine: &Machine, ran: Ran, (_, finished, word): &Call) {
+    let registers = [reg(machine, 10), reg(machine, 11)];
+    let told = (ran.steps, ran.event, registers, place(machine));
+    let bytes = machine.bytes(16, 4);
+    assert_same(rt, &(told, bytes), &(*finished, Some(word.as_slice())));
 }
 
 #[test]
 fn calls_are_seen_and_finished(rt: HostRuntime) {
+    let alloc = rt.alloc();
     for call in &CALLS {
-        let mut machine = at_call(&rt, rt.alloc(), call.0);
+        let mut machine = at_call(&rt, alloc, call.0);
         let ran = machine.run(1000);
         finish(&rt, &mut machine);
         assert_call(&rt, &machine, ran, call);
@@ -461,6 +458,6 @@ const CAUSES: [(u32, Cause); 9] = [
 #[test]
 fn causes_have_their_numbers(rt: HostRuntime) {
     for (number, cause) in &CAUSES {
-        assert_eq!(rt; cause.number(), *number);
+        assert_same(&rt, &cause.number(), number);
     }
 }

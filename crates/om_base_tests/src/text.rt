@@ -7,6 +7,7 @@ ghost use Rattle.std.specs.Str.{bytes_eq};
 ghost use Rattle.om_text.specs.Numbers.{number_of};
 ghost use Rattle.om_text.specs.declared.error.LineError.TheVariants.{UnknownLine, BadNumber};
 
+use crate::same::{assert_same, assert_same_at};
 use om_text::{
     BuildError, Builder, LineError, MAX_BYTES, MAX_TURNS, ReadError, ScriptError, hex_word, laws,
     number_of, read_script, read_text,
@@ -18,7 +19,7 @@ use std::io::{ErrorKind, Read};
 use std::process::Abort;
 
 // The sum of the numbers N of the lines `add N`.
-#[derive(Debug, Drop)]
+#[derive(Drop)]
 struct Sum(u64);
 
 impl Builder for Sum {
@@ -55,7 +56,7 @@ fn assert_sum(
     text: &str,
     want: Result<u64, BuildError<ScriptError>>,
 ) {
-    assert_eq!(rt; sum_of(alloc, text.as_bytes()), want, "of {text:?}");
+    assert_same_at(rt, &text, &sum_of(alloc, text.as_bytes()), &want);
 }
 
 fn faulty(line: usize, error: LineError) -> Result<u64, BuildError<ScriptError>> {
@@ -75,8 +76,9 @@ const SUMS: [(&str, u64); 7] = [
 
 #[test]
 fn scripts_are_read_whole(rt: HostRuntime) {
+    let alloc = rt.alloc();
     for (text, sum) in &SUMS {
-        assert_sum(&rt, rt.alloc(), text, Ok(*sum));
+        assert_sum(&rt, alloc, text, Ok(*sum));
     }
 }
 
@@ -95,8 +97,9 @@ const FAULTS: [(&str, usize, LineError); 9] = [
 
 #[test]
 fn the_first_faulty_line_counts(rt: HostRuntime) {
+    let alloc = rt.alloc();
     for (text, line, error) in &FAULTS {
-        assert_sum(&rt, rt.alloc(), text, faulty(*line, *error));
+        assert_sum(&rt, alloc, text, faulty(*line, *error));
     }
     laws::first_faulty_line_counts::<u64>();
 }
@@ -115,7 +118,7 @@ const NUMBERS: [(&str, Option<u32>); 8] = [
 #[test]
 fn words_are_numbers(rt: HostRuntime) {
     for (word, number) in &NUMBERS {
-        assert_eq!(rt; number_of(word.as_bytes()), *number, "of {word:?}");
+        assert_same_at(&rt, word, &number_of(word.as_bytes()), number);
     }
 }
 
@@ -130,7 +133,7 @@ const HEX_WORDS: [(&str, Option<u32>); 5] = [
 #[test]
 fn words_of_eight_digits_are_hexadecimal(rt: HostRuntime) {
     for (word, value) in &HEX_WORDS {
-        assert_eq!(rt; hex_word(word.as_bytes()), *value, "of {word:?}");
+        assert_same_at(&rt, word, &hex_word(word.as_bytes()), value);
     }
 }
 
@@ -141,15 +144,16 @@ fn has_text<E: Display>(rt: &impl Abort, alloc: Global, error: &E, text: &str) -
 
 #[test]
 fn faults_are_named(rt: HostRuntime) {
+    let alloc = rt.alloc();
     let error = LineError::WrongCount;
     let error = BuildError::Invalid(ScriptError { line: 2, error });
     let memory = BuildError::<LineError>::Memory;
     let are_named = [
-        has_text(&rt, rt.alloc(), &error, "line 2: wrong count of words"),
-        has_text(&rt, rt.alloc(), &memory, "no memory"),
-        has_text(&rt, rt.alloc(), &ReadError::TooLong, "too long"),
+        has_text(&rt, alloc, &error, "line 2: wrong count of words"),
+        has_text(&rt, alloc, &memory, "no memory"),
+        has_text(&rt, alloc, &ReadError::TooLong, "too long"),
     ];
-    assert_eq!(rt; are_named, [true; 3]);
+    assert_same(&rt, &are_named, &[true; 3]);
 }
 
 // A reader that gives its bytes one at a time, after so many interruptions, and may refuse in place
@@ -187,27 +191,24 @@ impl Read for Drip<'_> {
 const SCRIPT: &[u8] = b"add 1\nadd 2";
 
 // An input of these bytes is read to its end.
-fn assert_read(rt: &impl Abort, alloc: Global, mut input: &[u8], bytes: &[u8]) {
-    let text = read_text(alloc, &mut input).expect(rt, "a text");
-    assert_eq!(rt; text.as_slice(), bytes);
+fn assert_read<R: Read>(rt: &impl Abort, alloc: Global, input: &mut R, bytes: &[u8]) {
+    let text = read_text(alloc, input).expect(rt, "a text");
+    assert_same(rt, &text.as_slice(), &bytes);
 }
 
 #[test]
 fn inputs_are_read_whole(rt: HostRuntime) {
-    assert_read(&rt, rt.alloc(), b"", b"");
-    assert_read(&rt, rt.alloc(), b"add 1\nadd 2", SCRIPT);
-}
-
-#[test]
-fn interrupted_inputs_are_read_whole(rt: HostRuntime) {
+    let alloc = rt.alloc();
+    let (mut none, mut script) = (b"".as_slice(), SCRIPT);
+    assert_read(&rt, alloc, &mut none, b"");
+    assert_read(&rt, alloc, &mut script, SCRIPT);
     let mut drip = Drip {
         bytes: SCRIPT,
         turns: 0,
         interruptions: 1,
         refuses: false,
     };
-    let text = read_text(rt.alloc(), &mut drip).expect(&rt, "a text");
-    assert_eq!(rt; text.as_slice(), SCRIPT);
+    assert_read(&rt, alloc, &mut drip, SCRIPT);
 }
 
 // How long the text of an input of so many zeros is.
@@ -218,12 +219,11 @@ fn read_len(rt: &impl Abort, alloc: Global, count: usize) -> Result<usize, ReadE
 
 #[test]
 fn inputs_have_limits(rt: HostRuntime) {
-    let longest = read_len(&rt, rt.alloc(), MAX_BYTES);
-    let longer = read_len(&rt, rt.alloc(), MAX_BYTES + 1);
-    assert_eq!(rt;
-        (longest, longer),
-        (Ok(16_777_216), Err(ReadError::TooLong))
-    );
+    let alloc = rt.alloc();
+    let longest = read_len(&rt, alloc, MAX_BYTES);
+    let longer = read_len(&rt, alloc, MAX_BYTES + 1);
+    let wanted = (Ok(16_777_216), Err(ReadError::TooLong));
+    assert_same(&rt, &(longest, longer), &wanted);
 }
 
 // Why an input was not read, None where it was.
@@ -240,10 +240,8 @@ fn readers_may_refuse(rt: HostRuntime) {
         refuses: true,
     };
     let fault = read_fault(rt.alloc(), &mut refusing);
-    assert_eq!(rt;
-        (fault, refusing.bytes.is_empty()),
-        (Some(ReadError::CannotRead), true)
-    );
+    let told = (fault, refusing.bytes.is_empty());
+    assert_same(&rt, &told, &(Some(ReadError::CannotRead), true));
 }
 
 #[test]
@@ -255,8 +253,6 @@ fn readers_have_a_number_of_turns(rt: HostRuntime) {
         refuses: false,
     };
     let fault = read_fault(rt.alloc(), &mut endless);
-    assert_eq!(rt;
-        (fault, endless.turns),
-        (Some(ReadError::CannotRead), 33_554_432)
-    );
+    let told = (fault, endless.turns);
+    assert_same(&rt, &told, &(Some(ReadError::CannotRead), 33_554_432));
 }

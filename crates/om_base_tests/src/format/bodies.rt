@@ -1,6 +1,7 @@
 //! Bodies, entries, queues, messages and memories as values.
 
-use crate::format::records::assert_same;
+use crate::format::records::assert_bytes;
+use crate::same::assert_same;
 use om_format::{Body, Entry, MAX_BODY, MemoryBytes, Message, Queue};
 use om_interval::{Pid, Tag};
 use std::alloc::Global;
@@ -14,9 +15,12 @@ fn body(rt: &impl Abort, alloc: Global, bytes: &[u8]) -> Body {
 }
 
 #[test]
-fn bodies_give_their_bytes_back(rt: HostRuntime) {
-    let bytes = body(&rt, rt.alloc(), &[1, 2]).into_vec();
-    assert_same(&rt, &bytes, &[1, 2]);
+fn bodies_are_copied_and_give_their_bytes_back(rt: HostRuntime) {
+    let alloc = rt.alloc();
+    let body = body(&rt, alloc, &[1, 2]);
+    let copy = body.copy(alloc).expect(&rt, "memory");
+    assert_same(&rt, &copy, &body);
+    assert_bytes(&rt, &body.into_vec(), &[1, 2]);
 }
 
 const WORD: [u8; 4] = [1, 2, 3, 4];
@@ -24,15 +28,15 @@ const WORD: [u8; 4] = [1, 2, 3, 4];
 // A memory of one word.
 fn memory(rt: &impl Abort, alloc: Global) -> MemoryBytes {
     let bytes = Vec::from_slice(alloc, &WORD).expect(rt, "memory");
-    assert_eq!(rt; bytes.len(), 4);
+    assert!(rt; bytes.len() == 4);
     MemoryBytes::from_vec(bytes)
 }
 
 #[test]
 fn memories_give_their_bytes_back(rt: HostRuntime) {
     let memory = memory(&rt, rt.alloc());
-    assert_same(&rt, memory.as_slice(), &WORD);
-    assert_same(&rt, &memory.into_vec(), &WORD);
+    assert_bytes(&rt, memory.as_slice(), &WORD);
+    assert_bytes(&rt, &memory.into_vec(), &WORD);
 }
 
 // A message of process 0 to process 15.
@@ -51,27 +55,17 @@ fn message(rt: &impl Abort, alloc: Global) -> Message {
 
 fn assert_copied(rt: &impl Abort, copy: &Message, message: &Message) {
     let told = (copy.from, copy.to, copy.tag, copy.ssn);
+    let wanted = (message.from, message.to, message.tag, 7);
     let body = (copy.body == message.body, copy.body.as_slice());
-    assert_eq!(rt;
-        (told, body),
-        (
-            (message.from, message.to, message.tag, 7),
-            (true, [1, 2].as_slice())
-        )
-    );
+    assert_same(rt, &(told, body), &(wanted, (true, &[1, 2])));
 }
 
 #[test]
 fn messages_are_copied_whole(rt: HostRuntime) {
-    let message = message(&rt, rt.alloc());
-    let copy = message.copy(rt.alloc()).expect(&rt, "memory");
+    let alloc = rt.alloc();
+    let message = message(&rt, alloc);
+    let copy = message.copy(alloc).expect(&rt, "memory");
     assert_copied(&rt, &copy, &message);
-}
-
-#[test]
-fn bodies_are_copied(rt: HostRuntime) {
-    let body = body(&rt, rt.alloc(), &[1, 2]);
-    assert_eq!(rt; body.copy(rt.alloc()), Ok(body));
 }
 
 fn entry(rt: &impl Abort, alloc: Global, interval: u32, bytes: &[u8]) -> Entry {
@@ -79,24 +73,28 @@ fn entry(rt: &impl Abort, alloc: Global, interval: u32, bytes: &[u8]) -> Entry {
     Entry { interval, body }
 }
 
-fn assert_compared(rt: &impl Abort, first: &Entry, copy: &Entry, last: &Entry) {
-    let told = (copy == first, first != last, first.body != last.body);
-    assert_eq!(rt; told, (true, true, true));
+// A copy of the first entry is that entry, and the last one is another.
+fn assert_compared(rt: &impl Abort, alloc: Global, first: &Entry, last: &Entry) {
+    let copy = first.copy(alloc).expect(rt, "memory");
+    let told = (copy == *first, first != last, first.body != last.body);
+    assert_same(rt, &told, &(true, true, true));
 }
 
 #[test]
 fn entries_are_copied_and_compared(rt: HostRuntime) {
-    let first = entry(&rt, rt.alloc(), 1, &[1, 2]);
-    let last = entry(&rt, rt.alloc(), 3, &[3, 4]);
-    let copy = first.copy(rt.alloc()).expect(&rt, "memory");
-    assert_compared(&rt, &first, &copy, &last);
+    let alloc = rt.alloc();
+    let first = entry(&rt, alloc, 1, &[1, 2]);
+    let last = entry(&rt, alloc, 3, &[3, 4]);
+    assert_compared(&rt, alloc, &first, &last);
 }
+
+const ENTRIES: [(u32, [u8; 2]); 2] = [(1, [1, 2]), (3, [3, 4])];
 
 // A queue of two entries.
 fn queue(rt: &impl Abort, alloc: Global) -> Queue {
     let mut entries = Vec::new(alloc);
-    for (interval, bytes) in [(1, [1, 2]), (3, [3, 4])] {
-        let entry = entry(rt, alloc, interval, &bytes);
+    for (interval, bytes) in &ENTRIES {
+        let entry = entry(rt, alloc, *interval, bytes);
         entries.push(entry).expect(rt, "memory");
     }
     Queue { first: 5, entries }
@@ -109,12 +107,14 @@ fn assert_changes(rt: &impl Abort, queue: &Queue, copy: &mut Queue) {
     let differs = *copy != *queue;
     copy.first = 5;
     let _ = copy.entries.pop();
-    assert_eq!(rt; (is_copied, differs, *copy != *queue), (true, true, true));
+    let told = (is_copied, differs, *copy != *queue);
+    assert_same(rt, &told, &(true, true, true));
 }
 
 #[test]
 fn queues_are_copied_and_compared(rt: HostRuntime) {
-    let queue = queue(&rt, rt.alloc());
-    let mut copy = queue.copy(rt.alloc()).expect(&rt, "memory");
+    let alloc = rt.alloc();
+    let queue = queue(&rt, alloc);
+    let mut copy = queue.copy(alloc).expect(&rt, "memory");
     assert_changes(&rt, &queue, &mut copy);
 }

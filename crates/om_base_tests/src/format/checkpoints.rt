@@ -1,59 +1,60 @@
 //! Checkpoints as bytes, in both versions.
 
 use crate::format::records::{
-    Damage, FIRST_IN_VERSION_1, FIRST_IN_VERSION_2, OF_16_PROCESSES, Part, WITH_ENTRIES,
-    assert_damages, assert_same, assert_spelled, assert_whole, bytes_of, checkpoint_of, spelled,
-    with_byte,
+    Damage, Record, assert_bytes, assert_damages, assert_spelled, assert_whole, bytes_of, changed,
+    checkpoint_of, spelled, with_byte,
 };
+use crate::same::assert_same;
 use om_format::{Checkpoint, DecodeError, Queue, laws};
 use om_isa::Ext;
 use std::alloc::Global;
 use std::process::Abort;
 
-fn len_of(rt: &impl Abort, alloc: Global, parts: &[Part]) -> usize {
-    bytes_of(rt, alloc, parts).len()
-}
+const RECORDS: [(Record, usize); 4] = [
+    (Record::FirstInVersion1, 184),
+    (Record::FirstInVersion2, 188),
+    (Record::WithEntries, 234),
+    (Record::Of16Processes, 800),
+];
 
 #[test]
-fn records_have_their_lengths(rt: HostRuntime) {
-    let lengths = [
-        len_of(&rt, rt.alloc(), &FIRST_IN_VERSION_1),
-        len_of(&rt, rt.alloc(), &FIRST_IN_VERSION_2),
-        len_of(&rt, rt.alloc(), &WITH_ENTRIES),
-        len_of(&rt, rt.alloc(), &OF_16_PROCESSES),
-    ];
-    assert_eq!(rt; lengths, [184, 188, 234, 800]);
+fn records_are_whole_and_have_their_lengths(rt: HostRuntime) {
+    let alloc = rt.alloc();
+    for (record, len) in &RECORDS {
+        let record = bytes_of(&rt, alloc, *record);
+        assert_same(&rt, &record.len(), len);
+        assert_whole(&rt, alloc, &record);
+    }
 }
 
 fn assert_machine(rt: &impl Abort, checkpoint: &Checkpoint, ext: Ext) {
     let told = (checkpoint.head.ext, checkpoint.memory.as_slice());
-    let memory = [0x73, 0x00, 0x10, 0x00];
-    assert_eq!(rt; told, (ext, memory.as_slice()));
+    assert_same(rt, &told, &(ext, &[0x73, 0x00, 0x10, 0x00]));
 }
 
 // A first checkpoint is read, and is spelled in version 2.
 fn assert_newer(rt: &impl Abort, alloc: Global, bytes: &[u8], newer: &[u8], ext: Ext) {
     let checkpoint = checkpoint_of(rt, alloc, bytes);
     assert_machine(rt, &checkpoint, ext);
-    assert_same(rt, &spelled(rt, alloc, &checkpoint), newer);
+    assert_bytes(rt, &spelled(rt, alloc, &checkpoint), newer);
 }
 
-// So it is, and so is that of a machine with the M extension.
-fn assert_first(rt: &impl Abort, alloc: Global, bytes: &[u8], newer: &[u8]) {
-    assert_newer(rt, alloc, bytes, newer, Ext::I);
-    let other = with_byte(rt, alloc, bytes, 0, 0x4D);
-    let wanted = with_byte(rt, alloc, newer, 0, 0x4D);
-    assert_newer(rt, alloc, &other, &wanted, Ext::Im);
-}
+// A first checkpoint, its first byte, and the extension that this is: the machine's own, and M.
+const FIRSTS: [(Record, u8, Ext); 4] = [
+    (Record::FirstInVersion1, 0x43, Ext::I),
+    (Record::FirstInVersion1, 0x4D, Ext::Im),
+    (Record::FirstInVersion2, 0x43, Ext::I),
+    (Record::FirstInVersion2, 0x4D, Ext::Im),
+];
 
 #[test]
 fn the_first_checkpoint_in_both_versions(rt: HostRuntime) {
-    let older = bytes_of(&rt, rt.alloc(), &FIRST_IN_VERSION_1);
-    let newer = bytes_of(&rt, rt.alloc(), &FIRST_IN_VERSION_2);
-    assert_whole(&rt, rt.alloc(), &older);
-    assert_whole(&rt, rt.alloc(), &newer);
-    assert_first(&rt, rt.alloc(), &older, &newer);
-    assert_first(&rt, rt.alloc(), &newer, &newer);
+    let alloc = rt.alloc();
+    for (record, kind, ext) in &FIRSTS {
+        let bytes = changed(&rt, alloc, *record, 0, *kind);
+        let newer = changed(&rt, alloc, Record::FirstInVersion2, 0, *kind);
+        assert_newer(&rt, alloc, &bytes, &newer, *ext);
+    }
     laws::one_spelling_of_a_checkpoint();
     laws::one_reading_of_a_checkpoint();
     laws::checkpoint_or_fault();
@@ -67,12 +68,6 @@ const DAMAGES_OF_VERSION_1: [Damage; 5] = [
     (16, 0x02, DecodeError::Field(16)),
 ];
 
-#[test]
-fn damaged_first_checkpoints_of_version_1_have_their_faults(rt: HostRuntime) {
-    let record = bytes_of(&rt, rt.alloc(), &FIRST_IN_VERSION_1);
-    assert_damages(&rt, rt.alloc(), &record, &DAMAGES_OF_VERSION_1);
-}
-
 const DAMAGES_OF_VERSION_2: [Damage; 6] = [
     (0, 0x52, DecodeError::Kind),
     (1, 0x03, DecodeError::Version),
@@ -83,14 +78,6 @@ const DAMAGES_OF_VERSION_2: [Damage; 6] = [
 ];
 
 const DAMAGES_OF_A_BLANK_PAGE: [Damage; 1] = [(174, 0x00, DecodeError::Field(172))];
-
-#[test]
-fn damaged_first_checkpoints_of_version_2_have_their_faults(rt: HostRuntime) {
-    let record = bytes_of(&rt, rt.alloc(), &FIRST_IN_VERSION_2);
-    assert_damages(&rt, rt.alloc(), &record, &DAMAGES_OF_VERSION_2);
-    let blank = with_byte(&rt, rt.alloc(), &record, 172, 0x00);
-    assert_damages(&rt, rt.alloc(), &blank, &DAMAGES_OF_A_BLANK_PAGE);
-}
 
 const DAMAGES_OF_ENTRIES: [Damage; 11] = [
     (3, 0x02, DecodeError::Field(3)),
@@ -105,13 +92,6 @@ const DAMAGES_OF_ENTRIES: [Damage; 11] = [
     (215, 0x01, DecodeError::Field(214)),
     (219, 0x03, DecodeError::Field(219)),
 ];
-
-#[test]
-fn damaged_entries_have_their_faults(rt: HostRuntime) {
-    let record = bytes_of(&rt, rt.alloc(), &WITH_ENTRIES);
-    assert_whole(&rt, rt.alloc(), &record);
-    assert_damages(&rt, rt.alloc(), &record, &DAMAGES_OF_ENTRIES);
-}
 
 const DAMAGES_OF_PAGES: [Damage; 6] = [
     (348, 0x03, DecodeError::Field(698)),
@@ -128,59 +108,76 @@ const DAMAGES_OF_SWAPPED_PAGES: [Damage; 2] = [
     (608, 0x01, DecodeError::Field(608)),
 ];
 
+// A record, an offset and its byte, and the damages of it so. The byte at 0 is the record's own, that at 172 makes its page
+// a blank one, and that at 350 swaps two pages.
+const DAMAGED: [(Record, (usize, u8), &[Damage]); 6] = [
+    (Record::FirstInVersion1, (0, 0x43), &DAMAGES_OF_VERSION_1),
+    (Record::FirstInVersion2, (0, 0x43), &DAMAGES_OF_VERSION_2),
+    (
+        Record::FirstInVersion2,
+        (172, 0x00),
+        &DAMAGES_OF_A_BLANK_PAGE,
+    ),
+    (Record::WithEntries, (0, 0x43), &DAMAGES_OF_ENTRIES),
+    (Record::Of16Processes, (0, 0x4D), &DAMAGES_OF_PAGES),
+    (
+        Record::Of16Processes,
+        (350, 0x01),
+        &DAMAGES_OF_SWAPPED_PAGES,
+    ),
+];
+
 #[test]
-fn damaged_pages_have_their_faults(rt: HostRuntime) {
-    let record = bytes_of(&rt, rt.alloc(), &OF_16_PROCESSES);
-    assert_whole(&rt, rt.alloc(), &record);
-    assert_damages(&rt, rt.alloc(), &record, &DAMAGES_OF_PAGES);
-    let swapped = with_byte(&rt, rt.alloc(), &record, 350, 0x01);
-    assert_damages(&rt, rt.alloc(), &swapped, &DAMAGES_OF_SWAPPED_PAGES);
+fn damaged_checkpoints_have_their_faults(rt: HostRuntime) {
+    let alloc = rt.alloc();
+    for (record, (offset, byte), damages) in &DAMAGED {
+        let record = changed(&rt, alloc, *record, *offset, *byte);
+        assert_damages(&rt, alloc, &record, damages);
+    }
 }
 
-// Each byte of the record made each other byte is refused, or spells another checkpoint.
-fn assert_each_byte(rt: &impl Abort, alloc: Global, record: &[u8]) {
+// Each byte of the record made the first byte, and so many that follow it, is refused, or spells another checkpoint.
+fn assert_each_byte(rt: &impl Abort, alloc: Global, record: &[u8], (first, more): (u8, u8)) {
     for offset in 0..record.len() {
-        for byte in 0..=255 {
-            let changed = with_byte(rt, alloc, record, offset, byte);
+        for step in 0..=more {
+            let changed = with_byte(rt, alloc, record, offset, first.wrapping_add(step));
             assert_spelled(rt, alloc, &changed);
         }
     }
 }
 
-#[test]
-fn a_changed_byte_of_version_1(rt: HostRuntime) {
-    let record = bytes_of(&rt, rt.alloc(), &FIRST_IN_VERSION_1);
-    assert_each_byte(&rt, rt.alloc(), &record)
-}
+// A record, the first of the bytes that its bytes are made, and how many follow it: all, and from 0xFF to 0x02.
+const CHANGED: [(Record, (u8, u8)); 3] = [
+    (Record::FirstInVersion1, (0x00, 255)),
+    (Record::FirstInVersion2, (0x00, 255)),
+    (Record::Of16Processes, (0xFF, 3)),
+];
 
 #[test]
-fn a_changed_byte_of_version_2(rt: HostRuntime) {
-    let record = bytes_of(&rt, rt.alloc(), &FIRST_IN_VERSION_2);
-    assert_each_byte(&rt, rt.alloc(), &record)
-}
-
-#[test]
-fn a_changed_byte_among_pages_and_entries(rt: HostRuntime) {
-    let record = bytes_of(&rt, rt.alloc(), &OF_16_PROCESSES);
-    for offset in 0..record.len() {
-        for byte in [0x00, 0x01, 0x02, 0xFF] {
-            let changed = with_byte(&rt, rt.alloc(), &record, offset, byte);
-            assert_spelled(&rt, rt.alloc(), &changed);
-        }
+fn a_changed_byte_is_refused_or_spells_another_checkpoint(rt: HostRuntime) {
+    let alloc = rt.alloc();
+    for (record, bytes) in &CHANGED {
+        let record = bytes_of(&rt, alloc, *record);
+        assert_each_byte(&rt, alloc, &record, *bytes);
     }
 }
 
-// Whether the entries of a queue are these: their intervals and their bodies.
-fn has_entries(queue: &Queue, first: u64, wanted: &[(u32, &[u8])]) -> bool {
-    if queue.first != first || queue.entries.len() != wanted.len() {
-        return false;
+// An entry as its interval and its body.
+type ToldEntry<'a> = (u32, &'a [u8]);
+
+// A queue as its first number, the number of its entries, and its first two, where there is none 0 and nothing.
+type ToldQueue<'a> = (u64, usize, [ToldEntry<'a>; 2]);
+
+fn told_entry(queue: &Queue, place: usize) -> ToldEntry<'_> {
+    match queue.entries.get(place) {
+        Some(entry) => (entry.interval, entry.body.as_slice()),
+        None => (0, &[]),
     }
-    for (entry, (interval, body)) in queue.entries.iter().zip(wanted) {
-        if entry.interval != *interval || entry.body.as_slice() != *body {
-            return false;
-        }
-    }
-    true
+}
+
+fn told_queue(queue: &Queue) -> ToldQueue<'_> {
+    let entries = [told_entry(queue, 0), told_entry(queue, 1)];
+    (queue.first, queue.entries.len(), entries)
 }
 
 // Whether each byte of register i is i.
@@ -195,27 +192,51 @@ fn has_registers(checkpoint: &Checkpoint) -> bool {
     true
 }
 
+const OUTPUTS: ToldQueue = (1, 1, [(3, &[0x7F]), (0, &[])]);
+
 // The fields that the two checkpoints with entries share.
 fn assert_fields(rt: &impl Abort, checkpoint: &Checkpoint) {
     let head = &checkpoint.head;
     let told = (head.interval, head.count, head.pc, head.made);
-    let has_outputs = has_entries(&checkpoint.outputs, 1, &[(3, &[0x7F])]);
-    assert_eq!(rt;
-        (told, has_registers(checkpoint), has_outputs),
-        ((3, 20, 8, 2), true, true)
+    let outputs = told_queue(&checkpoint.outputs);
+    assert_same(
+        rt,
+        &(told, has_registers(checkpoint)),
+        &((3, 20, 8, 2), true),
     );
+    assert_same(rt, &outputs, &OUTPUTS);
 }
 
-// The messages that are kept for the two processes.
-fn has_kept_of_2(kept: &[Queue]) -> bool {
-    match kept {
-        [zero, one] => {
-            has_entries(zero, 0, &[(1, &[0xAA, 0xBB])])
-                && has_entries(one, 2, &[(1, &[]), (3, &[1, 2, 3])])
-        }
-        _ => false,
+// For how many processes messages are kept, and those for the first three, where there is none as for an empty queue.
+type ToldKept<'a> = (usize, [ToldQueue<'a>; 3]);
+
+fn told_at(kept: &[Queue], place: usize) -> ToldQueue<'_> {
+    match kept.get(place) {
+        Some(queue) => told_queue(queue),
+        None => (0, 0, [(0, &[]), (0, &[])]),
     }
 }
+
+fn told_kept(kept: &[Queue]) -> ToldKept<'_> {
+    (
+        kept.len(),
+        [told_at(kept, 0), told_at(kept, 1), told_at(kept, 2)],
+    )
+}
+
+const KEPT_OF_2: ToldKept = (
+    2,
+    [
+        (0, 1, [(1, &[0xAA, 0xBB]), (0, &[])]),
+        (2, 2, [(1, &[]), (3, &[1, 2, 3])]),
+        (0, 0, [(0, &[]), (0, &[])]),
+    ],
+);
+
+type Vectors = (usize, [&'static [u32]; 3]);
+
+// The process of the checkpoint of two, and its vectors.
+const VECTORS_OF_2: Vectors = (0, [&[3, 1], &[1, 2], &[1, 4]]);
 
 fn assert_of_2(rt: &impl Abort, checkpoint: &Checkpoint) {
     let head = &checkpoint.head;
@@ -224,28 +245,17 @@ fn assert_of_2(rt: &impl Abort, checkpoint: &Checkpoint) {
         head.got.as_slice(),
         head.sent.as_slice(),
     ];
+    assert_same(rt, &(head.pid.index(), vectors), &VECTORS_OF_2);
     let memory = [0x73, 0x00, 0x10, 0x00, 0, 0, 0, 0];
-    let is_kept = has_kept_of_2(&checkpoint.kept);
-    assert_eq!(rt;
-        (
-            head.pid.index(),
-            vectors,
-            checkpoint.memory.as_slice(),
-            is_kept
-        ),
-        (
-            0,
-            [[3, 1].as_slice(), &[1, 2], &[1, 4]],
-            memory.as_slice(),
-            true
-        )
-    );
+    assert_bytes(rt, checkpoint.memory.as_slice(), &memory);
+    assert_same(rt, &told_kept(&checkpoint.kept), &KEPT_OF_2);
 }
 
 #[test]
 fn checkpoints_with_entries_are_read_and_written(rt: HostRuntime) {
-    let bytes = bytes_of(&rt, rt.alloc(), &WITH_ENTRIES);
-    let checkpoint = checkpoint_of(&rt, rt.alloc(), &bytes);
+    let alloc = rt.alloc();
+    let bytes = bytes_of(&rt, alloc, Record::WithEntries);
+    let checkpoint = checkpoint_of(&rt, alloc, &bytes);
     assert_fields(&rt, &checkpoint);
     assert_of_2(&rt, &checkpoint);
 }
@@ -265,32 +275,29 @@ fn has_pages(memory: &[u8]) -> bool {
     memory.len() == 600
 }
 
-// The messages that are kept for the first processes of 16.
-fn has_kept_of_16(kept: &[Queue]) -> bool {
-    match kept {
-        [zero, one, two, rest @ ..] => {
-            has_entries(zero, 0, &[(1, &[0xAA, 0xBB])])
-                && has_entries(one, 0, &[])
-                && has_entries(two, 0, &[(1, &[]), (3, &[1, 2, 3])])
-                && rest.len() == 13
-        }
-        _ => false,
-    }
-}
+const KEPT_OF_16: ToldKept = (
+    16,
+    [
+        (0, 1, [(1, &[0xAA, 0xBB]), (0, &[])]),
+        (0, 0, [(0, &[]), (0, &[])]),
+        (0, 2, [(1, &[]), (3, &[1, 2, 3])]),
+    ],
+);
 
 fn assert_of_16(rt: &impl Abort, checkpoint: &Checkpoint) {
     let head = &checkpoint.head;
     let told = (head.ext, head.pid.index(), head.vec.n());
-    let is_kept = has_kept_of_16(&checkpoint.kept);
     let has_pages = has_pages(checkpoint.memory.as_slice());
-    assert_eq!(rt; (told, is_kept, has_pages), ((Ext::Im, 15, 16), true, true));
+    assert_same(rt, &(told, has_pages), &((Ext::Im, 15, 16), true));
+    assert_same(rt, &told_kept(&checkpoint.kept), &KEPT_OF_16);
 }
 
 #[test]
 fn checkpoints_of_16_processes_are_read_and_written(rt: HostRuntime) {
-    let bytes = bytes_of(&rt, rt.alloc(), &OF_16_PROCESSES);
-    let checkpoint = checkpoint_of(&rt, rt.alloc(), &bytes);
+    let alloc = rt.alloc();
+    let bytes = bytes_of(&rt, alloc, Record::Of16Processes);
+    let checkpoint = checkpoint_of(&rt, alloc, &bytes);
     assert_fields(&rt, &checkpoint);
     assert_of_16(&rt, &checkpoint);
-    assert_same(&rt, &spelled(&rt, rt.alloc(), &checkpoint), &bytes);
+    assert_bytes(&rt, &spelled(&rt, alloc, &checkpoint), &bytes);
 }

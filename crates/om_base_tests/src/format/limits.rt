@@ -1,18 +1,13 @@
 //! Both sides of each limit of a record.
 
 use crate::format::records::{
-    Part, assert_fault, assert_spelled, bytes_of, checkpoint_fault, receipt_fault, repeat,
+    Record, assert_spelled, bytes_of, checkpoint_fault, receipt_fault, repeat,
 };
+use crate::same::{assert_same, assert_same_at};
 use om_format::{DecodeError, MAX_BODY, MAX_PROCESSES_OF_VERSION_1, MemoryBytes, PAGE};
 use om_interval::MAX_PROCESSES;
 use std::alloc::Global;
 use std::process::Abort;
-
-#[test]
-fn the_limits_are_these(rt: HostRuntime) {
-    let limits = (MAX_BODY, MAX_PROCESSES_OF_VERSION_1, MAX_PROCESSES, PAGE);
-    assert_eq!(rt; limits, (256, 8, 16, 256));
-}
 
 const SIZES: [(usize, bool); 5] = [
     (0, false),
@@ -23,18 +18,17 @@ const SIZES: [(usize, bool); 5] = [
 ];
 
 #[test]
-fn memories_have_sizes(rt: HostRuntime) {
+fn limits_and_sizes_are_these(rt: HostRuntime) {
+    let limits = (MAX_BODY, MAX_PROCESSES_OF_VERSION_1, MAX_PROCESSES, PAGE);
+    assert_same(&rt, &limits, &(256, 8, 16, 256));
     for (len, wanted) in &SIZES {
-        assert_eq!(rt; MemoryBytes::is_size(*len), *wanted, "{len} bytes");
+        assert_same_at(&rt, len, &MemoryBytes::is_size(*len), wanted);
     }
 }
 
-// The receipt of a body, up to the length of it.
-const BEFORE_BODY: [Part; 1] = [("520101020100000000000000000000000300000000000000", 1)];
-
 // The receipt with another body, of so many bytes.
 fn receipt_with_body(rt: &impl Abort, alloc: Global, len: u16) -> Vec<u8> {
-    let mut bytes = bytes_of(rt, alloc, &BEFORE_BODY);
+    let mut bytes = bytes_of(rt, alloc, Record::BeforeBody);
     repeat(rt, &mut bytes, &len.to_le_bytes(), 1);
     repeat(rt, &mut bytes, &[0xAB], len as usize);
     bytes
@@ -53,13 +47,14 @@ const OF_RECEIPTS: [Length; 4] = [
 fn assert_receipt(rt: &impl Abort, alloc: Global, (len, want): &Length) {
     let bytes = receipt_with_body(rt, alloc, *len);
     let fault = receipt_fault(alloc, &bytes);
-    assert_fault(rt, fault, *want, ("length", &[*len as usize]));
+    assert_same_at(rt, len, &fault, want);
 }
 
 #[test]
 fn bodies_of_receipts_have_at_most_256_bytes(rt: HostRuntime) {
+    let alloc = rt.alloc();
     for length in &OF_RECEIPTS {
-        assert_receipt(&rt, rt.alloc(), length);
+        assert_receipt(&rt, alloc, length);
     }
 }
 
@@ -70,14 +65,13 @@ fn checkpoint(rt: &impl Abort, alloc: Global, version: u8, n: u8, size: u32) -> 
     repeat(rt, &mut bytes, &[0x00], 148 + 12 * n as usize);
     repeat(rt, &mut bytes, &size.to_le_bytes(), 1);
     let rest = (size as usize).saturating_sub(1);
-    if version == 1 {
-        repeat(rt, &mut bytes, &[0x01], 1);
-        repeat(rt, &mut bytes, &[0x00], rest);
+    let (page, zeros) = if version == 1 {
+        ([0x01].as_slice(), rest)
     } else {
-        repeat(rt, &mut bytes, &[0x01, 0x00, 0x00, 0x00, 0x01], 1);
-        repeat(rt, &mut bytes, &[0x00], rest.min(255));
-    }
-    repeat(rt, &mut bytes, &[0x00], 4 * n as usize + 8);
+        ([0x01, 0x00, 0x00, 0x00, 0x01].as_slice(), rest.min(255))
+    };
+    repeat(rt, &mut bytes, page, 1);
+    repeat(rt, &mut bytes, &[0x00], zeros + 4 * n as usize + 8);
     bytes
 }
 
@@ -103,31 +97,21 @@ const LIMITS: [Limit; 13] = [
 fn assert_limit(rt: &impl Abort, alloc: Global, (version, n, size, want): &Limit) {
     let bytes = checkpoint(rt, alloc, *version, *n, *size);
     let fault = checkpoint_fault(alloc, &bytes);
-    let numbers = [*version as usize, *n as usize, *size as usize];
-    assert_fault(rt, fault, *want, ("version, processes and size", &numbers));
+    assert_same_at(rt, &(version, n, size), &fault, want);
     assert_spelled(rt, alloc, &bytes);
 }
 
 #[test]
 fn processes_and_memories_have_their_limits(rt: HostRuntime) {
+    let alloc = rt.alloc();
     for limit in &LIMITS {
-        assert_limit(&rt, rt.alloc(), limit);
+        assert_limit(&rt, alloc, limit);
     }
 }
 
-// A checkpoint of version 2 of one process that made an output, up to the length of it: one instruction, one page of zeros.
-const BEFORE_OUTPUT: [Part; 6] = [
-    ("43020100000000000100000000000000", 1),
-    ("00", 140),
-    ("0100000000000000040000000000", 1),
-    ("00000000", 1),
-    ("0000000000000000", 1),
-    ("00000000", 1),
-];
-
-// The same with an output of so many bytes.
+// The checkpoint with an output of so many bytes.
 fn checkpoint_with_output(rt: &impl Abort, alloc: Global, len: u16) -> Vec<u8> {
-    let mut bytes = bytes_of(rt, alloc, &BEFORE_OUTPUT);
+    let mut bytes = bytes_of(rt, alloc, Record::BeforeOutput);
     repeat(rt, &mut bytes, &len.to_le_bytes(), 1);
     repeat(rt, &mut bytes, &[0xCD], len as usize);
     bytes
@@ -143,13 +127,14 @@ const OF_ENTRIES: [Length; 4] = [
 fn assert_output(rt: &impl Abort, alloc: Global, (len, want): &Length) {
     let bytes = checkpoint_with_output(rt, alloc, *len);
     let fault = checkpoint_fault(alloc, &bytes);
-    assert_fault(rt, fault, *want, ("length", &[*len as usize]));
+    assert_same_at(rt, len, &fault, want);
     assert_spelled(rt, alloc, &bytes);
 }
 
 #[test]
 fn bodies_of_entries_have_at_most_256_bytes(rt: HostRuntime) {
+    let alloc = rt.alloc();
     for length in &OF_ENTRIES {
-        assert_output(&rt, rt.alloc(), length);
+        assert_output(&rt, alloc, length);
     }
 }

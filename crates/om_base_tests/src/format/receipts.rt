@@ -1,8 +1,9 @@
 //! Receipts as bytes.
 
 use crate::format::records::{
-    RECEIPT, assert_fault, assert_same, bytes_of, receipt_fault, receipt_of, repeat, with_byte,
+    Record, assert_bytes, bytes_of, receipt_fault, receipt_of, with_byte, with_end,
 };
+use crate::same::{assert_same, assert_same_at};
 use om_format::{DecodeError, Receipt, decode_receipt, encode_receipt, laws};
 use std::alloc::Global;
 use std::process::Abort;
@@ -16,44 +17,31 @@ fn assert_fields(rt: &impl Abort, receipt: &Receipt) {
     let processes = (receipt.to.index(), receipt.from.index());
     let intervals = (receipt.interval, receipt.sender_interval);
     let numbers = (receipt.ssn, receipt.count);
-    let body = [0x93, 0x08, 0x10, 0x00];
-    assert_eq!(rt;
-        (processes, intervals, numbers, receipt.body.as_slice()),
-        ((1, 2), (1, 0), (0, 3), body.as_slice())
-    );
+    let told = (processes, intervals, numbers, receipt.body.as_slice());
+    let body = [0x93, 0x08, 0x10, 0x00].as_slice();
+    assert_same(rt, &told, &((1, 2), (1, 0), (0, 3), body));
 }
 
-#[test]
-fn receipts_are_read_and_written(rt: HostRuntime) {
-    let bytes = bytes_of(&rt, rt.alloc(), &RECEIPT);
-    let receipt = receipt_of(&rt, rt.alloc(), &bytes);
-    assert_fields(&rt, &receipt);
-    assert_same(&rt, &spelled(&rt, rt.alloc(), &receipt), &bytes);
-    laws::one_spelling_of_a_receipt();
-    laws::one_reading_of_a_receipt();
-    laws::receipt_or_fault();
+// The receipt is read, and spelled as it was.
+fn assert_read(rt: &impl Abort, alloc: Global, bytes: &[u8]) {
+    let receipt = receipt_of(rt, alloc, bytes);
+    assert_fields(rt, &receipt);
+    assert_bytes(rt, &spelled(rt, alloc, &receipt), bytes);
 }
 
 // A receipt that is cut anywhere is short.
 fn assert_short(rt: &impl Abort, alloc: Global, bytes: &[u8]) {
     for cut in 0..bytes.len() {
         let fault = receipt_fault(alloc, &bytes[..cut]);
-        assert_fault(rt, fault, Some(DecodeError::Short), ("cut to", &[cut]));
+        assert_same_at(rt, &cut, &fault, &Some(DecodeError::Short));
     }
 }
 
-#[test]
-fn receipts_are_neither_short_nor_long(rt: HostRuntime) {
-    let mut bytes = bytes_of(&rt, rt.alloc(), &RECEIPT);
-    assert_short(&rt, rt.alloc(), &bytes);
-    repeat(&rt, &mut bytes, &[0], 1);
-    let fault = receipt_fault(rt.alloc(), &bytes);
-    assert_fault(
-        &rt,
-        fault,
-        Some(DecodeError::Trailing),
-        ("bytes more", &[1]),
-    );
+// A receipt of a byte more is too long.
+fn assert_long(rt: &impl Abort, alloc: Global, bytes: &[u8]) {
+    let longer = with_end(rt, alloc, bytes);
+    let fault = receipt_fault(alloc, &longer);
+    assert_same(rt, &fault, &Some(DecodeError::Trailing));
 }
 
 // An offset, what its byte becomes, and the fault of that, if it is one.
@@ -76,32 +64,42 @@ const DAMAGES: [Damage; 11] = [
 fn assert_damage(rt: &impl Abort, alloc: Global, record: &[u8], (offset, byte, want): &Damage) {
     let damaged = with_byte(rt, alloc, record, *offset, *byte);
     let fault = receipt_fault(alloc, &damaged);
-    let numbers = [*offset, *byte as usize];
-    assert_fault(rt, fault, *want, ("offset and byte", &numbers));
+    assert_same_at(rt, &(offset, byte), &fault, want);
 }
 
-#[test]
-fn damaged_receipts_have_their_faults(rt: HostRuntime) {
-    let record = bytes_of(&rt, rt.alloc(), &RECEIPT);
+fn assert_damages(rt: &impl Abort, alloc: Global, record: &[u8]) {
     for damage in &DAMAGES {
-        assert_damage(&rt, rt.alloc(), &record, damage);
+        assert_damage(rt, alloc, record, damage);
     }
 }
 
 // Bytes are refused, or spell a receipt.
 fn assert_spelled(rt: &impl Abort, alloc: Global, bytes: &[u8]) {
     if let Ok(receipt) = decode_receipt(alloc, bytes) {
-        assert_same(rt, &spelled(rt, alloc, &receipt), bytes);
+        assert_bytes(rt, &spelled(rt, alloc, &receipt), bytes);
+    }
+}
+
+// So does each byte of the receipt that is made each other byte.
+fn assert_each_byte(rt: &impl Abort, alloc: Global, record: &[u8]) {
+    for offset in 0..record.len() {
+        for byte in 0..=255 {
+            let changed = with_byte(rt, alloc, record, offset, byte);
+            assert_spelled(rt, alloc, &changed);
+        }
     }
 }
 
 #[test]
-fn a_changed_byte_is_refused_or_spells_another_receipt(rt: HostRuntime) {
-    let bytes = bytes_of(&rt, rt.alloc(), &RECEIPT);
-    for offset in 0..bytes.len() {
-        for byte in 0..=255 {
-            let changed = with_byte(&rt, rt.alloc(), &bytes, offset, byte);
-            assert_spelled(&rt, rt.alloc(), &changed);
-        }
-    }
+fn receipts_are_read_whole_or_not_at_all(rt: HostRuntime) {
+    let alloc = rt.alloc();
+    let record = bytes_of(&rt, alloc, Record::Receipt);
+    assert_read(&rt, alloc, &record);
+    assert_short(&rt, alloc, &record);
+    assert_long(&rt, alloc, &record);
+    assert_damages(&rt, alloc, &record);
+    assert_each_byte(&rt, alloc, &record);
+    laws::one_spelling_of_a_receipt();
+    laws::one_reading_of_a_receipt();
+    laws::receipt_or_fault();
 }

@@ -1,5 +1,6 @@
 //! Records of the tests, as bytes. Bytes are given as hexadecimal text.
 
+use crate::same::{assert_same, assert_same_at};
 use om_format::{
     Checkpoint, DecodeError, Receipt, decode_checkpoint, decode_receipt, encode_checkpoint,
 };
@@ -7,10 +8,10 @@ use std::alloc::Global;
 use std::process::Abort;
 
 // A text, and how many times it stands.
-pub type Part = (&'static str, usize);
+type Part = (&'static str, usize);
 
 // The receipt of the second process in a run of three.
-pub const RECEIPT: [Part; 1] = [(
+const RECEIPT: [Part; 1] = [(
     "520101020100000000000000000000000300000000000000040093081000",
     1,
 )];
@@ -23,7 +24,7 @@ const REGISTERS: &str = "\
 191919191a1a1a1a1b1b1b1b1c1c1c1c1d1d1d1d1e1e1e1e1f1f1f1f";
 
 // The checkpoint, in version 1, of a machine of four bytes at its start: 184 bytes.
-pub const FIRST_IN_VERSION_1: [Part; 4] = [
+const FIRST_IN_VERSION_1: [Part; 4] = [
     ("43010100", 1),
     ("00", 160),
     ("0400000073001000", 1),
@@ -31,7 +32,7 @@ pub const FIRST_IN_VERSION_1: [Part; 4] = [
 ];
 
 // The same in version 2: 188 bytes.
-pub const FIRST_IN_VERSION_2: [Part; 4] = [
+const FIRST_IN_VERSION_2: [Part; 4] = [
     ("43020100", 1),
     ("00", 160),
     ("040000000100000073001000", 1),
@@ -40,7 +41,7 @@ pub const FIRST_IN_VERSION_2: [Part; 4] = [
 
 // A checkpoint of version 1 with entries: 234 bytes. Its first fields, the registers, its vectors with the number of its outputs,
 // its memory, its messages to process 0 and to process 1, and its outputs.
-pub const WITH_ENTRIES: [Part; 8] = [
+const WITH_ENTRIES: [Part; 8] = [
     ("4301020003000000140000000000000008000000", 1),
     (REGISTERS, 1),
     ("03000000010000000100000002000000", 1),
@@ -53,7 +54,7 @@ pub const WITH_ENTRIES: [Part; 8] = [
 
 // A checkpoint of version 2 of 16 processes, with entries and a memory of 600 bytes: its first page is kept, the second is
 // all zero, and the last has 88 bytes. 800 bytes.
-pub const OF_16_PROCESSES: [Part; 19] = [
+const OF_16_PROCESSES: [Part; 19] = [
     ("4d02100f03000000140000000000000008000000", 1),
     (REGISTERS, 1),
     ("01000000", 1),
@@ -75,10 +76,54 @@ pub const OF_16_PROCESSES: [Part; 19] = [
     ("01000000000000000300000001007f", 1),
 ];
 
-// The bytes that these texts spell, one after the other.
-pub fn bytes_of(rt: &impl Abort, alloc: Global, parts: &[Part]) -> Vec<u8> {
+// The receipt of a body, up to the length of it.
+const BEFORE_BODY: [Part; 1] = [("520101020100000000000000000000000300000000000000", 1)];
+
+// A checkpoint of version 2 of one process that made an output, up to the length of it: one instruction, one page of zeros.
+const BEFORE_OUTPUT: [Part; 6] = [
+    ("43020100000000000100000000000000", 1),
+    ("00", 140),
+    ("0100000000000000040000000000", 1),
+    ("00000000", 1),
+    ("0000000000000000", 1),
+    ("00000000", 1),
+];
+
+// The records, and what stands before the length of a body or of an output. The texts are named in one function, since each
+// that names them builds them anew.
+#[derive(Clone, Copy)]
+pub enum Record {
+    Receipt,
+    FirstInVersion1,
+    FirstInVersion2,
+    WithEntries,
+    Of16Processes,
+    BeforeBody,
+    BeforeOutput,
+}
+
+fn parts_of(record: Record) -> &'static [Part] {
+    match record {
+        Record::Receipt => &RECEIPT,
+        Record::FirstInVersion1 => &FIRST_IN_VERSION_1,
+        Record::FirstInVersion2 => &FIRST_IN_VERSION_2,
+        Record::WithEntries => &WITH_ENTRIES,
+        Record::Of16Processes => &OF_16_PROCESSES,
+        Record::BeforeBody => &BEFORE_BODY,
+        Record::BeforeOutput => &BEFORE_OUTPUT,
+    }
+}
+
+// A record with its byte at an offset made another one.
+pub fn changed(rt: &impl Abort, alloc: Global, record: Record, offset: usize, byte: u8) -> Vec<u8> {
+    let record = bytes_of(rt, alloc, record);
+    with_byte(rt, alloc, &record, offset, byte)
+}
+
+// The bytes that the texts of a record spell, one after the other.
+pub fn bytes_of(rt: &impl Abort, alloc: Global, record: Record) -> Vec<u8> {
     let mut bytes = Vec::new(alloc);
-    for (text, times) in parts {
+    for (text, times) in parts_of(record) {
         let part = hex::decode(alloc, text).expect(rt, "hexadecimal");
         repeat(rt, &mut bytes, &part, *times);
     }
@@ -125,24 +170,13 @@ pub fn spelled(rt: &impl Abort, alloc: Global, checkpoint: &Checkpoint) -> Vec<u
     encode_checkpoint(alloc, checkpoint).expect(rt, "memory")
 }
 
-// The fault is the one that is wanted; else the numbers that the bytes were made with are told.
-pub fn assert_fault(
-    rt: &impl Abort,
-    fault: Option<DecodeError>,
-    want: Option<DecodeError>,
-    (what, numbers): (&str, &[usize]),
-) {
-    assert_eq!(rt; fault, want, "{what}: {numbers:?}");
-}
-
 // An offset, what its byte becomes, and the fault of that.
 pub type Damage = (usize, u8, DecodeError);
 
 fn assert_damage(rt: &impl Abort, alloc: Global, record: &[u8], (offset, byte, want): &Damage) {
     let damaged = with_byte(rt, alloc, record, *offset, *byte);
     let fault = checkpoint_fault(alloc, &damaged);
-    let numbers = [*offset, *byte as usize];
-    assert_fault(rt, fault, Some(*want), ("offset and byte", &numbers));
+    assert_same_at(rt, &(offset, byte), &fault, &Some(*want));
 }
 
 // A damaged checkpoint has its faults.
@@ -153,7 +187,7 @@ pub fn assert_damages(rt: &impl Abort, alloc: Global, record: &[u8], damages: &[
 }
 
 // These bytes and one more.
-fn with_end(rt: &impl Abort, alloc: Global, bytes: &[u8]) -> Vec<u8> {
+pub fn with_end(rt: &impl Abort, alloc: Global, bytes: &[u8]) -> Vec<u8> {
     let mut longer = Vec::from_slice(alloc, bytes).expect(rt, "memory");
     repeat(rt, &mut longer, &[0], 1);
     longer
@@ -163,7 +197,7 @@ fn with_end(rt: &impl Abort, alloc: Global, bytes: &[u8]) -> Vec<u8> {
 fn assert_short(rt: &impl Abort, alloc: Global, bytes: &[u8]) {
     for cut in 0..bytes.len() {
         let fault = checkpoint_fault(alloc, &bytes[..cut]);
-        assert_fault(rt, fault, Some(DecodeError::Short), ("cut to", &[cut]));
+        assert_same_at(rt, &cut, &fault, &Some(DecodeError::Short));
     }
 }
 
@@ -175,7 +209,7 @@ pub fn assert_whole(rt: &impl Abort, alloc: Global, bytes: &[u8]) {
         checkpoint_fault(alloc, bytes),
         checkpoint_fault(alloc, &longer),
     );
-    assert_eq!(rt; faults, (None, Some(DecodeError::Trailing)));
+    assert_same(rt, &faults, &(None, Some(DecodeError::Trailing)));
 }
 
 // The bytes of the checkpoint that these bytes are.
@@ -183,16 +217,16 @@ fn respelled(rt: &impl Abort, alloc: Global, bytes: &[u8]) -> Vec<u8> {
     spelled(rt, alloc, &checkpoint_of(rt, alloc, bytes))
 }
 
-pub fn assert_same(rt: &impl Abort, bytes: &[u8], wanted: &[u8]) {
-    assert_eq!(rt; bytes, wanted);
+pub fn assert_bytes(rt: &impl Abort, bytes: &[u8], wanted: &[u8]) {
+    assert_same(rt, &bytes, &wanted);
 }
 
 // Bytes of a checkpoint of version 2 spell it; what those of version 1 spell is spelled in version 2 and read again.
 fn assert_newer(rt: &impl Abort, alloc: Global, bytes: &[u8], newer: &[u8]) {
     if bytes.get(1) == Some(&1) {
-        assert_same(rt, &respelled(rt, alloc, newer), newer);
+        assert_bytes(rt, &respelled(rt, alloc, newer), newer);
     } else {
-        assert_same(rt, newer, bytes);
+        assert_bytes(rt, newer, bytes);
     }
 }
 
