@@ -2,6 +2,7 @@ use crate::parts::{bytes_of, message, x};
 use om_format::Message;
 use om_interval::{Bounds, DepVec, Pid, Tag};
 use om_isa::Ext;
+use om_machine::Cause;
 use om_machine::Cause::{BufferOutside, FetchOutside};
 use om_process::{Accept, LAST_INTERVAL, ProcCore, Ran, StartFault, Status, laws};
 use om_stable::MemStable;
@@ -37,15 +38,10 @@ fn start(
 ) -> Result<ProcCore, StartFault> {
     let image = bytes_of(rt, alloc, program);
     let pid = Pid::new(pid).expect(rt, "a process");
-    ProcCore::start(
-        alloc,
-        &image,
-        size,
-        Ext::I,
-        pid,
-        n,
-        &mut MemStable::new(alloc),
-    )
+    let mut store = MemStable::new(alloc);
+    let answer = ProcCore::start(alloc, &image, size, Ext::I, pid, n, &mut store);
+    drop(store);
+    answer
 }
 
 fn started(
@@ -72,27 +68,41 @@ fn has_outputs(core: &ProcCore, from: u64, count: usize, bytes: &[u8]) -> bool {
     is_first && outputs.len() == count
 }
 
-// Program, size, the steps, why it stops, x10, and how many outputs it makes: a send to a process that is not there, an output
-// of 8 bytes, one of which a byte lies outside memory, and one that is too long.
+// Whether a process of one stopped for this cause after so many steps, with this value in x10 and nothing sent.
+fn has_stopped(core: &ProcCore, ran: Ran, steps: u64, cause: Cause, value: u32) -> bool {
+    let status = Status::Trapped(cause);
+    core.vec().n() == 1
+        && core.outbox(Pid::at(0)).is_empty()
+        && (ran, core.status()) == (Ran { steps, status }, status)
+        && x(core, 10) == Some(value)
+}
+
+// Program, size, the steps, why it stops, x10, and how many outputs it makes.
+type Call = (&'static str, u32, u64, Cause, u32, usize);
+
+// A send to a process that is not there, an output of 8 bytes, one of which a byte lies outside memory, and one that is too long.
+const CALLS: [Call; 4] = [
+    (SENDS, 12, 3, FetchOutside, u32::MAX, 0),
+    (OUTPUTS_EIGHT, 16, 4, FetchOutside, 0, 1),
+    (OUTPUTS_NINE, 16, 3, BufferOutside, 8, 0),
+    (OUTPUTS_TOO_LONG, 16, 4, FetchOutside, u32::MAX, 0),
+];
+
+fn assert_call(rt: &impl Abort, alloc: Global, call: Call) {
+    let (program, size, steps, cause, value, made) = call;
+    let mut core = started(rt, alloc, program, size, (0, 1));
+    let ran = run(rt, alloc, &mut core, 10);
+    let bytes = bytes_of(rt, alloc, "9305800073000000");
+    let is_right = has_stopped(&core, ran, steps, cause, value)
+        && has_outputs(&core, 0, made, &bytes);
+    drop(core);
+    assert!(rt; is_right, "{program}");
+}
+
 #[test]
 fn calls_are_carried_out_or_refused(rt: HostRuntime) {
-    let bytes = bytes_of(&rt, rt.alloc(), "9305800073000000");
-    for (program, size, steps, cause, value, made) in [
-        (SENDS, 12, 3, FetchOutside, u32::MAX, 0),
-        (OUTPUTS_EIGHT, 16, 4, FetchOutside, 0, 1),
-        (OUTPUTS_NINE, 16, 3, BufferOutside, 8, 0),
-        (OUTPUTS_TOO_LONG, 16, 4, FetchOutside, u32::MAX, 0),
-    ] {
-        let mut core = started(&rt, rt.alloc(), program, size, (0, 1));
-        let status = Status::Trapped(cause);
-        let told = (run(&rt, rt.alloc(), &mut core, 10), core.status());
-        let left = (x(&core, 10), core.outbox(Pid::at(0)).is_empty());
-        assert_eq!(rt;
-            (told, left),
-            ((Ran { steps, status }, status), (Some(value), true)),
-            "{program}"
-        );
-        assert!(rt; has_outputs(&core, 0, made, &bytes), "{program}");
+    for call in CALLS {
+        assert_call(&rt, rt.alloc(), call);
     }
 }
 
@@ -107,7 +117,9 @@ fn accepted(
     run(rt, alloc, core, fuel);
     let mut offered = message(rt, alloc, from, to, ssn, "01020304");
     offered.tag = Tag { inc, interval: 7 };
-    core.accept(alloc, &offered)
+    let answer = core.accept(alloc, &offered);
+    drop(offered);
+    answer
 }
 
 // The process took one message, which was sent in interval 7.
@@ -141,6 +153,7 @@ fn messages_are_taken_or_refused(rt: HostRuntime) {
         assert_eq!(rt; told, answer, "{offered:?}");
     }
     assert_taken(&rt, &core);
+    drop(core);
     assert_eq!(rt; LAST_INTERVAL, u32::MAX);
 }
 
@@ -161,8 +174,17 @@ fn trim(rt: &impl Abort, core: &mut ProcCore, numbers: &[u32], released: u64) {
     core.trim(&Bounds { got, released });
 }
 
-// The message from the third of three processes to the second.
-fn assert_framed(rt: &impl Abort, alloc: Global, framed: &Message) {
+// Whether that message is kept.
+fn is_framed(rt: &impl Abort, alloc: Global, core: &ProcCore, k: usize) -> bool {
+    let framed = frame(rt, alloc, core, k);
+    let is_kept = framed.is_some();
+    drop(framed);
+    is_kept
+}
+
+// The first message is from the third of three processes to the second.
+fn assert_framed(rt: &impl Abort, alloc: Global, core: &ProcCore) {
+    let framed = frame(rt, alloc, core, 0).expect(rt, "a message");
     let told = (framed.from, framed.to, framed.tag, framed.ssn);
     let tag = Tag {
         inc: 0,
@@ -171,6 +193,7 @@ fn assert_framed(rt: &impl Abort, alloc: Global, framed: &Message) {
     assert_eq!(rt; told, (Pid::at(2), Pid::at(1), tag, 0));
     let body = bytes_of(rt, alloc, "93081000");
     assert_eq!(rt; framed.body.as_slice(), body.as_slice());
+    drop(framed);
 }
 
 // The third of three processes sends to the second.
@@ -180,14 +203,13 @@ fn messages_are_framed_until_they_are_trimmed(rt: HostRuntime) {
     let mut core = started(&rt, heap, SENDS_FIRST, 64, (2, 3));
     let status = Status::Ended(0);
     assert_eq!(rt; run(&rt, heap, &mut core, 10), Ran { steps: 5, status });
-    let framed = frame(&rt, heap, &core, 0).expect(&rt, "a message");
-    assert_framed(&rt, heap, &framed);
-    assert!(rt; frame(&rt, heap, &core, 1).is_none());
+    assert_framed(&rt, heap, &core);
+    assert!(rt; !is_framed(&rt, heap, &core, 1));
     for (number, is_kept) in [(0, true), (1, false)] {
         trim(&rt, &mut core, &[0, number, 0], 0);
-        let kept = frame(&rt, heap, &core, 0);
-        assert_eq!(rt; kept.is_some(), is_kept, "{number}");
+        assert_eq!(rt; is_framed(&rt, heap, &core, 0), is_kept, "{number}");
     }
+    drop(core);
 }
 
 // A process that puts out one text of 8 bytes: a bound above what was made drops all there is.
@@ -199,6 +221,7 @@ fn outputs_are_kept_until_they_are_trimmed(rt: HostRuntime) {
         run(&rt, rt.alloc(), &mut core, 10);
         trim(&rt, &mut core, &[0], released);
         let are_left = has_outputs(&core, 0, left, &bytes) && has_outputs(&core, 1, 0, &bytes);
+        drop(core);
         assert!(rt; are_left, "{released}");
     }
 }
@@ -236,6 +259,7 @@ fn a_store_takes_one_start(rt: HostRuntime) {
         let answer = ProcCore::start(rt.alloc(), &image, 4, Ext::I, pid, 1, &mut store);
         assert_eq!(rt; answer.err(), fault);
     }
+    drop(store);
 }
 
 #[test]

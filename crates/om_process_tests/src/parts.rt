@@ -60,15 +60,17 @@ pub fn started<S: Stable>(rt: &impl Abort, alloc: Global, store: &mut S) -> Proc
 }
 
 // Goes on to the next wait and offers a message.
-fn offer(rt: &impl Abort, alloc: Global, core: &mut ProcCore, next: &Message) -> Accept {
+fn offer(rt: &impl Abort, alloc: Global, core: &mut ProcCore, next: Message) -> Accept {
     assert!(rt; core.run(alloc, 100).is_ok());
-    core.accept(alloc, next)
+    let answer = core.accept(alloc, &next);
+    drop(next);
+    answer
 }
 
 // Takes its first message.
 pub fn take_first(rt: &impl Abort, alloc: Global, core: &mut ProcCore) {
     let first = message(rt, alloc, 2, 1, 0, "93081000");
-    assert_eq!(rt; offer(rt, alloc, core, &first), Accept::Taken(1));
+    assert_eq!(rt; offer(rt, alloc, core, first), Accept::Taken(1));
 }
 
 // Process 0 of 2 at its start.
@@ -88,7 +90,7 @@ pub fn passing_on<S: Stable>(rt: &impl Abort, alloc: Global, store: &mut S) -> P
 // It goes on to the next wait and takes the message of that number.
 pub fn go_on(rt: &impl Abort, alloc: Global, core: &mut ProcCore, ssn: u32) {
     let next = message(rt, alloc, 1, 0, ssn, "0a0b0c0d");
-    let answer = offer(rt, alloc, core, &next);
+    let answer = offer(rt, alloc, core, next);
     assert!(rt; matches!(answer, Accept::Taken(_)), "{ssn}: {answer:?}");
 }
 

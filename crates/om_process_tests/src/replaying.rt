@@ -14,6 +14,7 @@ pub fn stored(rt: &impl Abort, alloc: Global) -> MemStable {
     let mut core = started(rt, alloc, &mut store);
     take_first(rt, alloc, &mut core);
     flush(rt, alloc, &mut core, &mut store);
+    drop(core);
     store
 }
 
@@ -34,6 +35,8 @@ fn a_checkpoint_is_replayed(rt: HostRuntime) {
     let mut store = stored(&rt, rt.alloc());
     let core = replayed(&rt, rt.alloc(), &mut store, 0);
     assert_machine(&rt, &core, (0, 0), [0; WRITABLE_REGISTERS]);
+    drop(store);
+    drop(core);
 }
 
 #[test]
@@ -48,6 +51,8 @@ fn a_receipt_is_replayed(rt: HostRuntime) {
     assert_machine(&rt, &core, (4, 16), regs);
     let body = bytes_of(&rt, rt.alloc(), "93081000");
     assert_eq!(rt; core.machine().bytes(64, 4), Some(body.as_slice()));
+    drop(store);
+    drop(core);
 }
 
 fn fault(alloc: Global, store: &mut MemStable, x: u32) -> Option<ReplayFault> {
@@ -56,11 +61,18 @@ fn fault(alloc: Global, store: &mut MemStable, x: u32) -> Option<ReplayFault> {
 
 #[test]
 fn what_is_missing_is_told(rt: HostRuntime) {
-    let mut store = stored(&rt, rt.alloc());
-    let missing = Some(ReplayFault::MissingReceipt(2));
-    assert_eq!(rt; fault(rt.alloc(), &mut store, 2), missing);
-    let nothing = fault(rt.alloc(), &mut MemStable::new(rt.alloc()), 0);
-    assert_eq!(rt; nothing, Some(ReplayFault::NoCheckpoint));
+    let (mut store, mut empty) = (stored(&rt, rt.alloc()), MemStable::new(rt.alloc()));
+    let missing = fault(rt.alloc(), &mut store, 2);
+    let nothing = fault(rt.alloc(), &mut empty, 0);
+    drop(store);
+    drop(empty);
+    assert_eq!(rt;
+        [missing, nothing],
+        [
+            Some(ReplayFault::MissingReceipt(2)),
+            Some(ReplayFault::NoCheckpoint)
+        ]
+    );
 }
 
 // What a replay to 1 answers where receipt 1 has another byte at a place, and is as long as that.
@@ -77,9 +89,11 @@ fn refused(
     }
     receipt.truncate(len);
     let mut store = MemStable::new(alloc);
-    let _ = started(rt, alloc, &mut store);
+    drop(started(rt, alloc, &mut store));
     put(rt, alloc, &mut store, receipt);
-    fault(alloc, &mut store, 1)
+    let answer = fault(alloc, &mut store, 1);
+    drop(store);
+    answer
 }
 
 // Cut; of another interval; with a number that is none; of another receiver, of a sender that is not there, one that is not the
@@ -118,14 +132,15 @@ fn store_checkpoint(rt: &impl Abort, alloc: Global, store: &mut MemStable, x: u3
 #[test]
 fn a_checkpoint_of_version_1_is_replayed(rt: HostRuntime) {
     let bytes = bytes_of(&rt, rt.alloc(), FIRST_VERSION);
-    assert_eq!(rt; bytes.len(), 184);
     let mut store = MemStable::new(rt.alloc());
     store_checkpoint(&rt, rt.alloc(), &mut store, 0, &bytes);
     let core = replayed(&rt, rt.alloc(), &mut store, 0);
-    assert_eq!(rt; (core.machine().count(), core.vec().n()), (0, 1));
+    let told = (bytes.len(), core.machine().count(), core.vec().n());
+    drop(core);
     store_checkpoint(&rt, rt.alloc(), &mut store, 3, &bytes);
     let other = fault(rt.alloc(), &mut store, 4);
-    assert_eq!(rt; other, Some(ReplayFault::Damaged(3)));
+    drop(store);
+    assert_eq!(rt; (told, other), ((184, 0, 1), Some(ReplayFault::Damaged(3))));
 }
 
 // Process 0 of 2 waits in the last interval, and has got all but two of the messages from process 1. 204 bytes.
@@ -143,7 +158,9 @@ ffffffff0000000001000000feffffff\
 // What it answers to an empty message of that number.
 fn answered(rt: &impl Abort, alloc: Global, core: &mut ProcCore, ssn: u32) -> Accept {
     let next = message(rt, alloc, 1, 0, ssn, "");
-    core.accept(alloc, &next)
+    let answer = core.accept(alloc, &next);
+    drop(next);
+    answer
 }
 
 #[test]
@@ -153,10 +170,12 @@ fn the_last_interval_takes_nothing(rt: HostRuntime) {
     let mut store = MemStable::new(rt.alloc());
     store_checkpoint(&rt, rt.alloc(), &mut store, u32::MAX, &bytes);
     let mut core = replayed(&rt, rt.alloc(), &mut store, u32::MAX);
+    drop(store);
     for (ssn, answer) in [(u32::MAX - 1, Accept::Full), (0, Accept::Repeat)] {
         let told = answered(&rt, rt.alloc(), &mut core, ssn);
         assert_eq!(rt; told, answer, "{ssn}");
     }
+    drop(core);
 }
 
 // Whether a replay to an interval is this process.
@@ -167,21 +186,25 @@ fn is_replayed(
     interval: u32,
     core: &ProcCore,
 ) -> bool {
-    are_same(&replayed(rt, alloc, store, interval), core)
+    let replayed = replayed(rt, alloc, store, interval);
+    let is_it = are_same(&replayed, core);
+    drop(replayed);
+    is_it
 }
 
 // A store with all that the process stored.
 fn stored_ten(rt: &impl Abort, alloc: Global) -> MemStable {
     let mut store = MemStable::new(alloc);
-    let _ = ten(rt, alloc, &mut store);
+    drop(ten(rt, alloc, &mut store));
     store
 }
 
 // A replay to each interval has to be the process as it was then.
 #[test]
 fn ten_receipts_are_replayed(rt: HostRuntime) {
-    let mut store = stored_ten(&rt, rt.alloc());
-    let mut core = passing_on(&rt, rt.alloc(), &mut MemStable::new(rt.alloc()));
+    let (mut store, mut unused) = (stored_ten(&rt, rt.alloc()), MemStable::new(rt.alloc()));
+    let mut core = passing_on(&rt, rt.alloc(), &mut unused);
+    drop(unused);
     for ssn in 0..10 {
         let is_it = is_replayed(&rt, rt.alloc(), &mut store, ssn, &core);
         assert!(rt; is_it, "{ssn}");
@@ -189,4 +212,6 @@ fn ten_receipts_are_replayed(rt: HostRuntime) {
     }
     assert!(rt; is_replayed(&rt, rt.alloc(), &mut store, 10, &core));
     assert_eq!(rt; core.outputs_from(0).len(), 9);
+    drop(store);
+    drop(core);
 }

@@ -30,12 +30,16 @@ fn roll_back<S: Stable>(
 ) -> Result<ProcCore, (Down, ReplayFault)> {
     let starts = starts(rt, alloc, down.n);
     assert!(rt; starts.n() == down.n);
-    down.roll_back(alloc, store, &starts, &verdict(r, true))
+    let answer = down.roll_back(alloc, store, &starts, &verdict(r, true));
+    drop(starts);
+    answer
 }
 
 // The process that took ten messages fails, and comes back to interval 6 over this store.
 fn ten_come_back(rt: &impl Abort, alloc: Global, store: &mut MemStable) -> ProcCore {
-    let down = ten(rt, alloc, &mut MemStable::new(alloc)).fail();
+    let mut lost = MemStable::new(alloc);
+    let down = ten(rt, alloc, &mut lost).fail();
+    drop(lost);
     roll_back(rt, alloc, down, store, 6).expect(rt, "a process")
 }
 
@@ -58,22 +62,29 @@ fn a_process_that_comes_back_comes_to_the_same_end(rt: HostRuntime) {
         go_on(&rt, rt.alloc(), &mut back, ssn);
     }
     assert!(rt; are_same(&back, &core));
+    drop(back);
+    drop(store);
+    drop(core);
 }
 
 // Whether it goes on from its interval, which is not cut.
 fn goes_on(rt: &impl Abort, alloc: Global, core: &mut ProcCore) -> bool {
     let starts = starts(rt, alloc, 2);
-    if core.vec().n() != starts.n() {
-        return false;
-    }
-    core.resume(alloc, &starts, &verdict(0, false)).is_ok()
+    let goes_on = core.vec().n() == starts.n()
+        && core.resume(alloc, &starts, &verdict(0, false)).is_ok();
+    drop(starts);
+    goes_on
 }
 
 #[test]
 fn a_process_that_is_not_rolled_back_goes_on(rt: HostRuntime) {
-    let mut core = passing_on(&rt, rt.alloc(), &mut MemStable::new(rt.alloc()));
-    assert!(rt; goes_on(&rt, rt.alloc(), &mut core));
-    assert_eq!(rt; (core.round(), core.inc()), (1, 0));
+    let mut store = MemStable::new(rt.alloc());
+    let mut core = passing_on(&rt, rt.alloc(), &mut store);
+    drop(store);
+    let goes_on = goes_on(&rt, rt.alloc(), &mut core);
+    let told = (goes_on, core.round(), core.inc());
+    drop(core);
+    assert_eq!(rt; told, (true, 1, 0));
 }
 
 // Over the store of process 1 of 3 with receipt 1: why a process of that number, of so many, does not come back to interval 2. The
@@ -92,6 +103,7 @@ fn a_checkpoint_of_another_process_is_damaged(rt: HostRuntime) {
         assert_eq!(rt; told, Some(fault), "{pid:?} {n}");
     }
     assert_eq!(rt; receipts(&rt, rt.alloc(), &mut store, 0, 9), 1);
+    drop(store);
 }
 
 // Stores all, once more what was refused once.
@@ -127,9 +139,11 @@ fn assert_done(rt: &impl Abort, alloc: Global, calls: u64) {
     }
     store_all(rt, alloc, &mut core, &mut store);
     assert_eq!(rt; core.pending().len(), 7, "{calls}");
-    let back = come_back(rt, alloc, core.fail(), &mut store).interval();
-    let failures = u64::from(calls < 6);
-    assert_eq!(rt; (back, store.failures()), (6, failures), "{calls}");
+    let back = come_back(rt, alloc, core.fail(), &mut store);
+    let told = (back.interval(), store.failures());
+    drop(back);
+    drop(store);
+    assert_eq!(rt; told, (6, u64::from(calls < 6)), "{calls}");
 }
 
 // A fuse at each call of a store in turn, until none is reached: start, flush, checkpoint and the three of a roll back.

@@ -23,6 +23,8 @@ fn a_flush_stores_the_receipt(rt: HostRuntime) {
     take_first(&rt, rt.alloc(), &mut core);
     flush(&rt, rt.alloc(), &mut core, &mut store);
     assert_stored(&rt, rt.alloc(), &mut store, RECEIPT);
+    drop(store);
+    drop(core);
 }
 
 // Whether the row is of interval 1 of process 1 of 3, after a message from process 2, and of this kind.
@@ -56,21 +58,28 @@ fn what_is_stored_is_pending_until_it_is_noted(rt: HostRuntime) {
         let is_first = is_row(core.pending().first(), ckpt);
         assert_eq!(rt; (core.pending().len(), is_first), (left, true));
     }
+    drop(store);
+    drop(core);
 }
 
 // Starts a process of 1 with this word and 4 bytes of memory: whether it is started.
 fn is_started(rt: &impl Abort, alloc: Global, ext: Ext, store: &mut MemStable) -> bool {
     let word = bytes_of(rt, alloc, "73001000");
-    ProcCore::start(alloc, &word, 4, ext, Pid::at(0), 1, store).is_ok()
+    let answer = ProcCore::start(alloc, &word, 4, ext, Pid::at(0), 1, store);
+    let is_ok = answer.is_ok();
+    drop(answer);
+    is_ok
 }
 
 // The checkpoint that it stores at its start.
 fn first_checkpoint(rt: &impl Abort, alloc: Global, ext: Ext) -> Vec<u8> {
     let mut store = MemStable::new(alloc);
     assert!(rt; is_started(rt, alloc, ext, &mut store));
-    let restored = replayed(rt, alloc, &mut store, 0).machine().ext();
-    assert_eq!(rt; restored, ext);
+    let restored = replayed(rt, alloc, &mut store, 0);
+    assert_eq!(rt; restored.machine().ext(), ext);
+    drop(restored);
     let stored = store.effective(alloc, 0).expect(rt, "a store");
+    drop(store);
     stored.expect(rt, "a checkpoint").1
 }
 
