@@ -68,9 +68,18 @@ fn offer(rt: &impl Abort, alloc: Global, core: &mut ProcCore, next: Message) -> 
 }
 
 // Takes its first message.
-pub fn take_first(rt: &impl Abort, alloc: Global, core: &mut ProcCore) {
+fn take_first(rt: &impl Abort, alloc: Global, core: &mut ProcCore) {
     let first = message(rt, alloc, 2, 1, 0, "93081000");
-    assert_eq!(rt; offer(rt, alloc, core, first), Accept::Taken(1));
+    let answer = offer(rt, alloc, core, first);
+    assert_eq!(rt; answer, Accept::Taken(1));
+}
+
+// Process 1 of 3 that took its first message, and stored it.
+pub fn first_stored<S: Stable>(rt: &impl Abort, alloc: Global, store: &mut S) -> ProcCore {
+    let mut core = started(rt, alloc, store);
+    take_first(rt, alloc, &mut core);
+    flush(rt, alloc, &mut core, store);
+    core
 }
 
 // Process 0 of 2 at its start.
@@ -95,11 +104,11 @@ pub fn go_on(rt: &impl Abort, alloc: Global, core: &mut ProcCore, ssn: u32) {
 }
 
 pub fn flush<S: Stable>(rt: &impl Abort, alloc: Global, core: &mut ProcCore, store: &mut S) {
-    assert_eq!(rt; core.flush(alloc, store), Ok(()));
+    assert!(rt; core.flush(alloc, store).is_ok());
 }
 
 pub fn checkpoint<S: Stable>(rt: &impl Abort, alloc: Global, core: &mut ProcCore, store: &mut S) {
-    assert_eq!(rt; core.checkpoint(alloc, store), Ok(()));
+    assert!(rt; core.checkpoint(alloc, store).is_ok());
 }
 
 // It took ten messages, and stored each, and a checkpoint of interval 4.
@@ -119,8 +128,8 @@ pub fn ten<S: Stable>(rt: &impl Abort, alloc: Global, store: &mut S) -> ProcCore
 pub fn put<S: Stable>(rt: &impl Abort, alloc: Global, store: &mut S, receipt: Vec<u8>) {
     let mut receipts = Vec::new(alloc);
     receipts.push(receipt).expect(rt, "memory");
-    assert_eq!(rt; receipts.len(), 1);
-    assert_eq!(rt; store.put_receipts(alloc, 1, &receipts), Ok(()));
+    let is_put = receipts.len() == 1 && store.put_receipts(alloc, 1, &receipts).is_ok();
+    assert!(rt; is_put);
 }
 
 pub fn replayed<S: Stable>(rt: &impl Abort, alloc: Global, store: &mut S, x: u32) -> ProcCore {
@@ -129,7 +138,7 @@ pub fn replayed<S: Stable>(rt: &impl Abort, alloc: Global, store: &mut S, x: u32
 
 // A register of a process.
 pub fn x(core: &ProcCore, r: u8) -> Option<u32> {
-    Reg::new(r).map(|r| core.machine().reg(r))
+    Some(core.machine().reg(Reg::new(r)?))
 }
 
 // Whether two processes of 2 are one: in all but their incarnation, their round, the starts and what is still to be stored.
