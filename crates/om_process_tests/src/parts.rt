@@ -70,8 +70,7 @@ fn offer(rt: &impl Abort, alloc: Global, core: &mut ProcCore, next: Message) -> 
 // Takes its first message.
 fn take_first(rt: &impl Abort, alloc: Global, core: &mut ProcCore) {
     let first = message(rt, alloc, 2, 1, 0, "93081000");
-    let answer = offer(rt, alloc, core, first);
-    assert_eq!(rt; answer, Accept::Taken(1));
+    assert!(rt; offer(rt, alloc, core, first) == Accept::Taken(1));
 }
 
 // Process 1 of 3 that took its first message, and stored it.
@@ -141,15 +140,19 @@ pub fn x(core: &ProcCore, r: u8) -> Option<u32> {
     Some(core.machine().reg(Reg::new(r)?))
 }
 
+// Whether two processes of 2 made the same.
+fn made_same(a: &ProcCore, b: &ProcCore) -> bool {
+    a.vec().n() == 2
+        && b.vec().n() == 2
+        && a.outbox(Pid::at(1)) == b.outbox(Pid::at(1))
+        && a.outputs_from(0) == b.outputs_from(0)
+}
+
 // Whether two processes of 2 are one: in all but their incarnation, their round, the starts and what is still to be stored.
 pub fn are_same(a: &ProcCore, b: &ProcCore) -> bool {
-    if a.vec().n() != 2 || b.vec().n() != 2 {
-        return false;
-    }
     a.machine() == b.machine()
         && a.interval() == b.interval()
         && a.vec() == b.vec()
         && a.got() == b.got()
-        && a.outbox(Pid::at(1)) == b.outbox(Pid::at(1))
-        && a.outputs_from(0) == b.outputs_from(0)
+        && made_same(a, b)
 }

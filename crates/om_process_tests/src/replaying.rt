@@ -31,8 +31,8 @@ fn assert_machine(
     regs: [u32; WRITABLE_REGISTERS],
 ) {
     let machine = core.machine();
-    let told = (machine.count(), machine.pc(), x(core, 0));
-    assert_eq!(rt; (told, machine.regs()), ((state.0, state.1, Some(0)), regs));
+    assert!(rt; (machine.count(), machine.pc()) == state);
+    assert!(rt; x(core, 0) == Some(0) && machine.regs() == regs);
 }
 
 #[test]
@@ -45,7 +45,7 @@ fn a_checkpoint_is_replayed(rt: HostRuntime) {
 // The memory has what was received.
 fn assert_received(rt: &impl Abort, alloc: Global, core: &ProcCore) {
     let body = bytes_of(rt, alloc, "93081000");
-    assert_eq!(rt; core.machine().bytes(64, 4), Some(body.as_slice()));
+    assert!(rt; core.machine().bytes(64, 4) == Some(body.as_slice()));
 }
 
 #[test]
@@ -72,13 +72,8 @@ fn what_is_missing_is_told(rt: HostRuntime) {
     let nothing = fault(rt.alloc(), &mut empty, 0);
     drop(store);
     drop(empty);
-    assert_eq!(rt;
-        [missing, nothing],
-        [
-            Some(ReplayFault::MissingReceipt(2)),
-            Some(ReplayFault::NoCheckpoint)
-        ]
-    );
+    assert!(rt; missing == Some(ReplayFault::MissingReceipt(2)));
+    assert!(rt; nothing == Some(ReplayFault::NoCheckpoint));
 }
 
 // The receipt with another byte at a place, and as long as that.
@@ -119,7 +114,10 @@ const ALTERED: [Altered; 8] = [
 
 fn assert_altered(rt: &impl Abort, alloc: Global, (len, place, byte, fault): Altered) {
     let receipt = altered(rt, alloc, len, place, byte);
-    assert_eq!(rt; refused(rt, alloc, receipt), fault, "{len} {place} {byte}");
+    assert!(rt;
+        refused(rt, alloc, receipt) == fault,
+        "{len} {place} {byte}"
+    );
 }
 
 #[test]
@@ -149,7 +147,7 @@ fn store_checkpoint(
 ) {
     let bytes = bytes_of(rt, alloc, text);
     let is_put = store.put_checkpoint(alloc, x, &bytes).is_ok();
-    assert_eq!(rt; (bytes.len(), is_put), (len, true));
+    assert!(rt; is_put && bytes.len() == len);
 }
 
 // The count of instructions and the number of processes of what this store has at its start.
@@ -168,7 +166,7 @@ fn a_checkpoint_of_version_1_is_replayed(rt: HostRuntime) {
     store_checkpoint(&rt, rt.alloc(), &mut store, 3, (FIRST_VERSION, 184));
     let other = fault(rt.alloc(), &mut store, 4);
     drop(store);
-    assert_eq!(rt; (told, other), ((0, 1), Some(ReplayFault::Damaged(3))));
+    assert!(rt; told == (0, 1) && other == Some(ReplayFault::Damaged(3)));
 }
 
 // Process 0 of 2 waits in the last interval, and has got all but two of the messages from process 1. 204 bytes.
@@ -197,12 +195,12 @@ fn assert_answered(rt: &impl Abort, alloc: Global, core: &mut ProcCore, ssn: u32
     let next = message(rt, alloc, 1, 0, ssn, "");
     let told = core.accept(alloc, &next);
     drop(next);
-    assert_eq!(rt; told, answer, "{ssn}");
+    assert!(rt; told == answer, "{ssn}");
 }
 
 #[test]
 fn the_last_interval_takes_nothing(rt: HostRuntime) {
-    assert_eq!(rt; LAST_INTERVAL, u32::MAX);
+    assert!(rt; LAST_INTERVAL == u32::MAX);
     let mut core = in_last_interval(&rt, rt.alloc());
     assert_answered(&rt, rt.alloc(), &mut core, u32::MAX - 1, Accept::Full);
     assert_answered(&rt, rt.alloc(), &mut core, 0, Accept::Repeat);

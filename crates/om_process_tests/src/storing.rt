@@ -9,8 +9,9 @@ use std::process::Abort;
 // The one receipt that is stored has to be of interval 1, and these bytes.
 fn is_stored(rt: &impl Abort, alloc: Global, store: &mut MemStable, text: &str) -> bool {
     let found = store.receipts(alloc, 0, 10).expect(rt, "receipts");
+    let wanted = bytes_of(rt, alloc, text);
     let is_it = match found.first() {
-        Some((x, bytes)) => *x == 1 && *bytes == bytes_of(rt, alloc, text),
+        Some((x, bytes)) => *x == 1 && *bytes == wanted,
         None => false,
     };
     is_it && found.len() == 1
@@ -49,7 +50,7 @@ fn store_twice(rt: &impl Abort, alloc: Global, core: &mut ProcCore, store: &mut 
     flush(rt, alloc, core, store);
     checkpoint(rt, alloc, core, store);
     let again = core.checkpoint(alloc, store);
-    assert_eq!(rt; again, Err(StoreError::Present));
+    assert!(rt; again == Err(StoreError::Present));
 }
 
 #[test]
@@ -110,7 +111,7 @@ fn assert_first(rt: &impl Abort, alloc: Global, ext: Ext, head: &str) {
     let bytes = first_checkpoint(rt, alloc, &mut store);
     drop(store);
     let is_wanted = bytes.len() == 188 && bytes == wanted(rt, alloc, head);
-    assert_eq!(rt; (is_started, restored, is_wanted), (true, ext, true));
+    assert!(rt; is_started && is_wanted && restored == ext);
 }
 
 #[test]
