@@ -1,8 +1,8 @@
 ghost use Rattle.std.specs.Prelude.{◌≡◌};
 
-use crate::rows::{front, process, vector};
+use crate::rows::{front, last, process, vector};
 use om_interval::DepVec;
-use om_manager::{Gathered, JoinError, OutputNote, RecordError};
+use om_manager::{Gathered, JoinError, OutputError, OutputNote, RecordError};
 use om_recover::Note;
 use om_runner::{Blank, Board, Frontier, Naming, Pass, Shared};
 use std::alloc::Global;
@@ -19,20 +19,32 @@ fn assert_quiet<K: Naming, R: Abort>(
     all: bool,
 ) {
     let pid = process(rt, number);
-    assert!(rt; pid.index() < board.manager().recovery().n());
-    assert!(rt; board.quiet(pid, round) == all, "{number} in round {round}");
+    let is_right = pid.index() < board.manager().recovery().n() && board.quiet(pid, round) == all;
+    assert!(rt; is_right, "{number} in round {round}");
 }
 
 // Notes a receipt of process 0 that is beyond the recovery state.
-fn logged<K: Naming, R: Wait + Abort>(
+fn assert_logged<K: Naming, R: Wait + Abort>(
     rt: &R,
     alloc: Global,
     board: &mut Board<K>,
     frontier: &Frontier<K>,
     round: u32,
-) -> Result<Note, RecordError> {
+    wanted: Result<Note, RecordError>,
+) {
     let (vec, got) = (vector(rt, &[1, 1]), vector(rt, &[0, 1]));
-    board.note_logged(rt, alloc, process(rt, 0), round, 1, &vec, &got, frontier)
+    let told = board.note_logged(rt, alloc, process(rt, 0), round, 1, &vec, &got, frontier);
+    assert!(rt; told == wanted);
+}
+
+// Hands in an output of that receipt.
+fn held<K: Naming, R: Wait + Abort>(
+    rt: &R,
+    alloc: Global,
+    board: &mut Board<K>,
+    frontier: &Frontier<K>,
+) -> Result<OutputNote, OutputError> {
+    board.note_output(rt, alloc, process(rt, 0), 0, 1, 0, b"A", frontier)
 }
 
 // Notes a checkpoint of process 1 that is beyond it.
@@ -55,10 +67,9 @@ fn waiting_rows<K: Naming, R: Wait + Abort>(
 ) {
     let below = Ok(Note::Noted { raised: false });
     let stale = Err(RecordError::Stale { round: 0 });
-    assert!(rt; logged(rt, alloc, board, frontier, 0) == below);
-    assert!(rt; logged(rt, alloc, board, frontier, 1) == stale);
-    let held = board.note_output(rt, alloc, process(rt, 0), 0, 1, 0, b"A", frontier);
-    assert!(rt; held == Ok(OutputNote::Held));
+    assert_logged(rt, alloc, board, frontier, 0, below);
+    assert_logged(rt, alloc, board, frontier, 1, stale);
+    assert!(rt; held(rt, alloc, board, frontier) == Ok(OutputNote::Held));
     assert!(rt; stored(rt, alloc, board, frontier) == below);
     board.prune(rt, frontier);
 }
@@ -136,18 +147,28 @@ fn assert_met<K: Naming, R: Wait + Abort>(
     drop(pass);
 }
 
-fn rows_of_a_board<K: Naming, R: Wait + Abort>(rt: &R, alloc: Global, blank: Blank)
-    requires { blank ≡ K.cell }
-{
-    let (shared, mut passes) = Shared::<K>::new(alloc, blank).expect(rt, "memory");
-    assert!(rt; passes.len() == 2);
-    let mut pass = passes.pop().expect(rt, "a pass");
-    drop(passes);
+fn rows_under_lock<K: Naming, R: Wait + Abort>(
+    rt: &R,
+    alloc: Global,
+    shared: &Shared<K>,
+    mut pass: Pass<K>,
+) {
     let mut board = shared.board.lock(rt);
     rows_in_order(rt, alloc, &mut board, &shared.frontier, &mut pass);
     assert_met(rt, &mut board, &shared.frontier, pass);
     drop(board);
+}
+
+fn rows_of_a_board<K: Naming, R: Wait + Abort>(rt: &R, alloc: Global, blank: Blank)
+    requires { blank ≡ K.cell }
+{
+    let (shared, mut passes) = Shared::<K>::new(alloc, blank).expect(rt, "memory");
+    let count = passes.len();
+    let pass = last(rt, &mut passes);
+    drop(passes);
+    rows_under_lock(rt, alloc, &shared, pass);
     drop(shared);
+    assert!(rt; count == 2);
 }
 
 #[test]
@@ -161,8 +182,5 @@ fn vectors_go_to_words_and_back(rt: HostRuntime) {
     let numbers = vector(&rt, &[7, 0, 4_294_967_295]);
     let words = numbers.to_words();
     let wanted = [7, 0, 4_294_967_295, 0, 0, 0, 0, 0, 0, 0, 0, 0, 0, 0, 0, 0];
-    assert!(&rt;
-        words == wanted && DepVec::from_words(&words[..3]) == numbers,
-        "{words:?}"
-    );
+    assert!(&rt; words == wanted && DepVec::from_words(&words[..3]) == numbers);
 }

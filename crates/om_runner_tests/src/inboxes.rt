@@ -5,6 +5,7 @@ use om_format::{Body, Message};
 use om_interval::{Pid, Tag};
 use om_runner::{CAPACITY, Inbox, PutAnswer, PutPass, TakePass};
 use std::alloc::Global;
+use std::process::Abort;
 use std::sync::Wait;
 
 // A message of an inbox.
@@ -86,21 +87,31 @@ fn drain(rt: &impl Wait, inbox: &Inbox, pass: &mut TakePass) -> usize
     count
 }
 
+// It is filled, and what does not fit comes back. One is taken, and there is room. What was put is taken in order.
+fn assert_in_order(
+    rt: &(impl Wait + Abort),
+    alloc: Global,
+    inbox: &Inbox,
+    mut put: PutPass,
+    take: &mut TakePass,
+)
+    requires put { put.line ≡ inbox.now }
+    requires take { take.old.line ≡ inbox.now }
+{
+    assert!(rt; fill(rt, alloc, inbox, &mut put) == 64);
+    assert!(rt; put_back(rt, alloc, inbox, &mut put, 64) == Some(64));
+    assert!(rt; taken(rt, inbox, take) == Some(0));
+    assert!(rt; put_back(rt, alloc, inbox, &mut put, 64).is_none());
+    inbox.settle(rt, take, put);
+    assert!(rt; taken(rt, inbox, take) == Some(1));
+    assert!(rt; drain(rt, inbox, take) == 63);
+}
+
 #[test]
 fn full_inbox(rt: HostRuntime) {
-    let heap = rt.alloc();
-    let made = Inbox::new(heap, Pid::at(0), Pid::at(1));
-    let (inbox, mut put, mut take) = made.expect(&rt, "memory");
-    let filled = fill(&rt, heap, &inbox, &mut put);
-    let full = put_back(&rt, heap, &inbox, &mut put, 64);
-    let first = taken(&rt, &inbox, &mut take);
-    let room = put_back(&rt, heap, &inbox, &mut put, 64);
-    inbox.settle(&rt, &mut take, put);
-    let second = taken(&rt, &inbox, &mut take);
-    let left = drain(&rt, &inbox, &mut take);
+    let made = Inbox::new(rt.alloc(), Pid::at(0), Pid::at(1));
+    let (inbox, put, mut take) = made.expect(&rt, "memory");
+    assert_in_order(&rt, rt.alloc(), &inbox, put, &mut take);
     drop(inbox);
     drop(take);
-    assert!(&rt; (filled, left) == (64, 63), "{filled} {left}");
-    let told = [full, first, room, second];
-    assert!(&rt; told == [Some(64), Some(0), None, Some(1)], "{told:?}");
 }

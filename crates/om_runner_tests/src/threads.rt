@@ -1,6 +1,6 @@
 ghost use Rattle.std.specs.Prelude.{◌≡◌};
 
-use crate::rows::{front, is_set, noted};
+use crate::rows::{front, is_set, last, noted};
 use om_runner::{Blank, Front, Frontier, Naming, Pass, Shared, laws};
 use std::alloc::Global;
 use std::marker::Brand;
@@ -48,8 +48,8 @@ fn met_and_read<K: Naming + Send + Sync, R: Threads + Wait + Abort + Sync>(
     requires { blank ≡ K.cell }
 {
     let (shared, mut passes) = Shared::<K>::new(alloc, blank).expect(rt, "memory");
-    let second = passes.pop().expect(rt, "a second pass");
-    let first = passes.pop().expect(rt, "a first pass");
+    let second = last(rt, &mut passes);
+    let first = last(rt, &mut passes);
     drop(passes);
     noted_beside(rt, alloc, &shared);
     let met = met(rt, &shared, first);
@@ -63,7 +63,7 @@ fn meet_then_read(rt: HostRuntime) {
     let blank = Blank::new(rt.alloc(), 2).expect(&rt, "memory");
     let (met, read) = met_and_read::<Brand, _>(&rt, rt.alloc(), blank);
     let wanted = front(&rt, 1, 0, &[1, 0]);
-    assert!(&rt; met == wanted && read == wanted, "{met:?} {read:?}");
+    assert!(&rt; met == wanted && read == wanted);
     laws::each_version_has_one_front();
 }
 
@@ -120,7 +120,7 @@ fn read_beside_the_lock<K: Naming + Send + Sync, R: Threads + Wait + Abort + Syn
     requires { blank ≡ K.cell }
 {
     let (shared, mut passes) = Shared::<K>::new(alloc, blank).expect(rt, "memory");
-    let mut pass = passes.pop().expect(rt, "a pass");
+    let mut pass = last(rt, &mut passes);
     drop(passes);
     let told = read_in_two_threads(rt, &shared, &mut pass);
     drop(pass);
@@ -133,8 +133,5 @@ fn read_while_locked(rt: HostRuntime) {
     let blank = Blank::new(rt.alloc(), 1).expect(&rt, "memory");
     let (answered_in_time, read) = read_beside_the_lock::<Brand, _>(&rt, rt.alloc(), blank);
     let wanted = Some(front(&rt, 0, 0, &[0]));
-    assert!(&rt;
-        answered_in_time && read == wanted,
-        "{answered_in_time} {read:?}"
-    );
+    assert!(&rt; answered_in_time && read == wanted);
 }
