@@ -2,8 +2,9 @@ use crate::parts::{bytes_of, message, x};
 use om_format::Message;
 use om_interval::{Bounds, DepVec, Pid, Tag};
 use om_isa::Ext;
+use om_machine::Cause;
 use om_machine::Cause::{BufferOutside, FetchOutside};
-use om_process::{Accept, LAST_INTERVAL, ProcCore, Ran, StartFault, Status, laws};
+use om_process::{Accept, ProcCore, Ran, StartFault, Status, laws};
 use om_stable::MemStable;
 use std::alloc::Global;
 use std::process::Abort;
@@ -24,6 +25,9 @@ const OUTPUTS_NINE: &str = "93083000130580009305900073000000";
 // Puts out the 257 bytes from address 8 on.
 const OUTPUTS_TOO_LONG: &str = "93083000130580009305101073000000";
 
+// What they put out.
+const EIGHT: &str = "9305800073000000";
+
 // Sends to process 1.
 const SENDS: &str = "930810001305100073000000";
 
@@ -37,15 +41,10 @@ fn start(
 ) -> Result<ProcCore, StartFault> {
     let image = bytes_of(rt, alloc, program);
     let pid = Pid::new(pid).expect(rt, "a process");
-    ProcCore::start(
-        alloc,
-        &image,
-        size,
-        Ext::I,
-        pid,
-        n,
-        &mut MemStable::new(alloc),
-    )
+    let mut store = MemStable::new(alloc);
+    let answer = ProcCore::start(alloc, &image, size, Ext::I, pid, n, &mut store);
+    drop(store);
+    answer
 }
 
 fn started(
@@ -72,27 +71,44 @@ fn has_outputs(core: &ProcCore, from: u64, count: usize, bytes: &[u8]) -> bool {
     is_first && outputs.len() == count
 }
 
-// Program, size, the steps, why it stops, x10, and how many outputs it makes: a send to a process that is not there, an output
-// of 8 bytes, one of which a byte lies outside memory, and one that is too long.
+// Whether a process of one stopped for this cause after so many steps, with this value in x10 and nothing sent.
+fn has_stopped(core: &ProcCore, ran: Ran, steps: u64, cause: Cause, value: u32) -> bool {
+    let status = Status::Trapped(cause);
+    core.vec().n() == 1
+        && core.outbox(Pid::at(0)).is_empty()
+        && (ran, core.status()) == (Ran { steps, status }, status)
+        && x(core, 10) == Some(value)
+}
+
+// Program, size, the steps, why it stops, x10, and how many outputs it makes.
+type Call = (&'static str, u32, u64, Cause, u32, usize);
+
+// A send to a process that is not there, an output of 8 bytes, one of which a byte lies outside memory, and one that is too long.
+const CALLS: [Call; 4] = [
+    (SENDS, 12, 3, FetchOutside, u32::MAX, 0),
+    (OUTPUTS_EIGHT, 16, 4, FetchOutside, 0, 1),
+    (OUTPUTS_NINE, 16, 3, BufferOutside, 8, 0),
+    (OUTPUTS_TOO_LONG, 16, 4, FetchOutside, u32::MAX, 0),
+];
+
+fn is_carried_out(rt: &impl Abort, alloc: Global, call: Call) -> bool {
+    let (program, size, steps, cause, value, made) = call;
+    let mut core = started(rt, alloc, program, size, (0, 1));
+    let ran = run(rt, alloc, &mut core, 10);
+    let bytes = bytes_of(rt, alloc, EIGHT);
+    let is_it = has_stopped(&core, ran, steps, cause, value) && has_outputs(&core, 0, made, &bytes);
+    drop(core);
+    is_it
+}
+
+fn assert_call(rt: &impl Abort, alloc: Global, call: Call) {
+    assert!(rt; is_carried_out(rt, alloc, call), "{}", call.0);
+}
+
 #[test]
 fn calls_are_carried_out_or_refused(rt: HostRuntime) {
-    let bytes = bytes_of(&rt, rt.alloc(), "9305800073000000");
-    for (program, size, steps, cause, value, made) in [
-        (SENDS, 12, 3, FetchOutside, u32::MAX, 0),
-        (OUTPUTS_EIGHT, 16, 4, FetchOutside, 0, 1),
-        (OUTPUTS_NINE, 16, 3, BufferOutside, 8, 0),
-        (OUTPUTS_TOO_LONG, 16, 4, FetchOutside, u32::MAX, 0),
-    ] {
-        let mut core = started(&rt, rt.alloc(), program, size, (0, 1));
-        let status = Status::Trapped(cause);
-        let told = (run(&rt, rt.alloc(), &mut core, 10), core.status());
-        let left = (x(&core, 10), core.outbox(Pid::at(0)).is_empty());
-        assert_eq!(rt;
-            (told, left),
-            ((Ran { steps, status }, status), (Some(value), true)),
-            "{program}"
-        );
-        assert!(rt; has_outputs(&core, 0, made, &bytes), "{program}");
+    for call in CALLS {
+        assert_call(&rt, rt.alloc(), call);
     }
 }
 
@@ -107,41 +123,49 @@ fn accepted(
     run(rt, alloc, core, fuel);
     let mut offered = message(rt, alloc, from, to, ssn, "01020304");
     offered.tag = Tag { inc, interval: 7 };
-    core.accept(alloc, &offered)
+    let answer = core.accept(alloc, &offered);
+    drop(offered);
+    answer
 }
 
-// The process took one message, which was sent in interval 7.
-fn assert_taken(rt: &impl Abort, core: &ProcCore) {
-    let told = (
-        core.interval(),
-        core.vec().as_slice(),
-        core.got().as_slice(),
-    );
-    assert_eq!(rt; told, (1, [1, 7].as_slice(), [0, 1].as_slice()));
-    let taken = core.machine().bytes(64, 4);
-    assert_eq!(rt; taken, Some([1, 2, 3, 4].as_slice()));
+// The fuel before it is offered, sender, receiver, incarnation and number of a message, and its answer.
+type Offer = (u64, (u32, u32, u32, u32), Accept);
+
+// To process 0 of 2: before the process waits, as it waits, and after it took the first message from 1.
+const OFFERS: [Offer; 8] = [
+    (0, (1, 0, 0, 0), Accept::NotWaiting),
+    (10, (1, 1, 0, 0), Accept::Stranger),
+    (10, (2, 0, 0, 0), Accept::Stranger),
+    (10, (1, 0, 1, 0), Accept::Stranger),
+    (10, (1, 0, 0, 1), Accept::Ahead),
+    (10, (1, 0, 0, 0), Accept::Taken(1)),
+    (0, (1, 0, 0, 0), Accept::Repeat),
+    (0, (0, 0, 0, 0), Accept::NotWaiting),
+];
+
+fn assert_offer(rt: &impl Abort, alloc: Global, core: &mut ProcCore, offer: Offer) {
+    let (fuel, offered, answer) = offer;
+    let told = accepted(rt, alloc, core, fuel, offered);
+    assert!(rt; told == answer, "{offered:?}");
 }
 
-// Sender, receiver, incarnation and number of a message to process 0 of 2, and its answer: before the process waits, as it
-// waits, and after it took the first message from 1.
+// Whether the process took one message, which was sent in interval 7.
+fn has_taken(core: &ProcCore) -> bool {
+    core.interval() == 1
+        && core.vec().as_slice() == [1, 7].as_slice()
+        && core.got().as_slice() == [0, 1].as_slice()
+        && core.machine().bytes(64, 4) == Some([1, 2, 3, 4].as_slice())
+}
+
 #[test]
 fn messages_are_taken_or_refused(rt: HostRuntime) {
     let mut core = started(&rt, rt.alloc(), OUTPUTS_IT, 128, (0, 2));
-    for (fuel, offered, answer) in [
-        (0, (1, 0, 0, 0), Accept::NotWaiting),
-        (10, (1, 1, 0, 0), Accept::Stranger),
-        (10, (2, 0, 0, 0), Accept::Stranger),
-        (10, (1, 0, 1, 0), Accept::Stranger),
-        (10, (1, 0, 0, 1), Accept::Ahead),
-        (10, (1, 0, 0, 0), Accept::Taken(1)),
-        (0, (1, 0, 0, 0), Accept::Repeat),
-        (0, (0, 0, 0, 0), Accept::NotWaiting),
-    ] {
-        let told = accepted(&rt, rt.alloc(), &mut core, fuel, offered);
-        assert_eq!(rt; told, answer, "{offered:?}");
+    for offer in OFFERS {
+        assert_offer(&rt, rt.alloc(), &mut core, offer);
     }
-    assert_taken(&rt, &core);
-    assert_eq!(rt; LAST_INTERVAL, u32::MAX);
+    let has_taken = has_taken(&core);
+    drop(core);
+    assert!(rt; has_taken);
 }
 
 // The `k`-th message to process 1 that is kept.
@@ -150,92 +174,125 @@ fn frame(rt: &impl Abort, alloc: Global, core: &ProcCore, k: usize) -> Option<Me
     core.frame(alloc, Pid::at(1), k).expect(rt, "memory")
 }
 
-fn vector(rt: &impl Abort, numbers: &[u32]) -> DepVec {
-    DepVec::from_slice(numbers).expect(rt, "a vector")
-}
-
 // Drops the messages below these numbers, by receiver, and the outputs below one.
 fn trim(rt: &impl Abort, core: &mut ProcCore, numbers: &[u32], released: u64) {
-    let got = vector(rt, numbers);
+    let got = DepVec::from_slice(numbers).expect(rt, "a vector");
     assert!(rt; got.n() == core.vec().n());
     core.trim(&Bounds { got, released });
 }
 
 // The message from the third of three processes to the second.
 fn assert_framed(rt: &impl Abort, alloc: Global, framed: &Message) {
-    let told = (framed.from, framed.to, framed.tag, framed.ssn);
     let tag = Tag {
         inc: 0,
         interval: 0,
     };
-    assert_eq!(rt; told, (Pid::at(2), Pid::at(1), tag, 0));
+    let told = (framed.from, framed.to, framed.tag, framed.ssn);
     let body = bytes_of(rt, alloc, "93081000");
-    assert_eq!(rt; framed.body.as_slice(), body.as_slice());
+    let is_body = framed.body.as_slice() == body.as_slice();
+    assert!(rt; is_body && told == (Pid::at(2), Pid::at(1), tag, 0));
+}
+
+fn assert_first_framed(rt: &impl Abort, alloc: Global, core: &ProcCore) {
+    let framed = frame(rt, alloc, core, 0).expect(rt, "a message");
+    assert_framed(rt, alloc, &framed);
+    drop(framed);
+}
+
+// Whether that message is kept.
+fn assert_kept(rt: &impl Abort, alloc: Global, core: &ProcCore, k: usize, is_kept: bool) {
+    let framed = frame(rt, alloc, core, k);
+    let told = framed.is_some();
+    drop(framed);
+    assert!(rt; told == is_kept, "message {k} kept: {told}");
 }
 
 // The third of three processes sends to the second.
+fn sent(rt: &impl Abort, alloc: Global) -> ProcCore {
+    let mut core = started(rt, alloc, SENDS_FIRST, 64, (2, 3));
+    let status = Status::Ended(0);
+    assert!(rt; run(rt, alloc, &mut core, 10) == Ran { steps: 5, status });
+    core
+}
+
 #[test]
 fn messages_are_framed_until_they_are_trimmed(rt: HostRuntime) {
     let heap = rt.alloc();
-    let mut core = started(&rt, heap, SENDS_FIRST, 64, (2, 3));
-    let status = Status::Ended(0);
-    assert_eq!(rt; run(&rt, heap, &mut core, 10), Ran { steps: 5, status });
-    let framed = frame(&rt, heap, &core, 0).expect(&rt, "a message");
-    assert_framed(&rt, heap, &framed);
-    assert!(rt; frame(&rt, heap, &core, 1).is_none());
-    for (number, is_kept) in [(0, true), (1, false)] {
-        trim(&rt, &mut core, &[0, number, 0], 0);
-        let kept = frame(&rt, heap, &core, 0);
-        assert_eq!(rt; kept.is_some(), is_kept, "{number}");
-    }
+    let mut core = sent(&rt, heap);
+    assert_first_framed(&rt, heap, &core);
+    assert_kept(&rt, heap, &core, 1, false);
+    trim(&rt, &mut core, &[0, 0, 0], 0);
+    assert_kept(&rt, heap, &core, 0, true);
+    trim(&rt, &mut core, &[0, 1, 0], 0);
+    assert_kept(&rt, heap, &core, 0, false);
+    drop(core);
 }
 
-// A process that puts out one text of 8 bytes: a bound above what was made drops all there is.
+// Whether so many outputs are left of a process that put out one text of 8 bytes.
+fn are_left(rt: &impl Abort, alloc: Global, released: u64, left: usize) -> bool {
+    let bytes = bytes_of(rt, alloc, EIGHT);
+    let mut core = started(rt, alloc, OUTPUTS_EIGHT, 16, (0, 1));
+    run(rt, alloc, &mut core, 10);
+    trim(rt, &mut core, &[0], released);
+    let are_left = has_outputs(&core, 0, left, &bytes) && has_outputs(&core, 1, 0, &bytes);
+    drop(core);
+    are_left
+}
+
+// A bound above what was made drops all there is.
 #[test]
 fn outputs_are_kept_until_they_are_trimmed(rt: HostRuntime) {
-    let bytes = bytes_of(&rt, rt.alloc(), "9305800073000000");
     for (released, left) in [(0, 1), (1, 0), (9, 0)] {
-        let mut core = started(&rt, rt.alloc(), OUTPUTS_EIGHT, 16, (0, 1));
-        run(&rt, rt.alloc(), &mut core, 10);
-        trim(&rt, &mut core, &[0], released);
-        let are_left = has_outputs(&core, 0, left, &bytes) && has_outputs(&core, 1, 0, &bytes);
-        assert!(rt; are_left, "{released}");
+        assert!(rt; are_left(&rt, rt.alloc(), released, left), "{released}");
     }
 }
 
 #[test]
 fn a_failed_process_keeps_its_place(rt: HostRuntime) {
     let down = started(&rt, rt.alloc(), SENDS_FIRST, 64, (2, 3)).fail();
-    assert_eq!(rt; (down.pid, down.n), (Pid::at(2), 3));
+    assert!(rt; down.pid == Pid::at(2) && down.n == 3);
 }
 
+// Process, number of processes, size of its memory, and what is answered.
+type Start = (u32, usize, u32, Option<StartFault>);
+
 // Both sides of each limit, in the order of the refusals.
+const STARTS: [Start; 8] = [
+    (0, 0, 6, Some(StartFault::BadPlace)),
+    (0, 17, 6, Some(StartFault::BadPlace)),
+    (1, 1, 6, Some(StartFault::BadPlace)),
+    (0, 1, 6, Some(StartFault::BadSize)),
+    (15, 16, 65_540, Some(StartFault::BadSize)),
+    (0, 1, 20, Some(StartFault::ImageTooLong)),
+    (15, 16, 24, None),
+    (0, 1, 65_536, None),
+];
+
+fn assert_start(rt: &impl Abort, alloc: Global, (pid, n, size, fault): Start) {
+    let answer = start(rt, alloc, SENDS_FIRST, size, (pid, n)).err();
+    assert!(rt; answer == fault, "{pid} {n} {size}");
+}
+
 #[test]
 fn starts_are_refused_in_their_order(rt: HostRuntime) {
-    for (pid, n, size, fault) in [
-        (0, 0, 6, Some(StartFault::BadPlace)),
-        (0, 17, 6, Some(StartFault::BadPlace)),
-        (1, 1, 6, Some(StartFault::BadPlace)),
-        (0, 1, 6, Some(StartFault::BadSize)),
-        (15, 16, 65_540, Some(StartFault::BadSize)),
-        (0, 1, 20, Some(StartFault::ImageTooLong)),
-        (15, 16, 24, None),
-        (0, 1, 65_536, None),
-    ] {
-        let answer = start(&rt, rt.alloc(), SENDS_FIRST, size, (pid, n));
-        assert_eq!(rt; answer.err(), fault, "{pid} {n} {size}");
+    for start in STARTS {
+        assert_start(&rt, rt.alloc(), start);
     }
+}
+
+// What is answered to a start over this store.
+fn started_over(rt: &impl Abort, alloc: Global, store: &mut MemStable) -> Option<StartFault> {
+    let image = bytes_of(rt, alloc, "73000000");
+    ProcCore::start(alloc, &image, 4, Ext::I, Pid::at(0), 1, store).err()
 }
 
 #[test]
 fn a_store_takes_one_start(rt: HostRuntime) {
     let mut store = MemStable::new(rt.alloc());
-    let image = bytes_of(&rt, rt.alloc(), "73000000");
-    for fault in [None, Some(StartFault::Present)] {
-        let pid = Pid::at(0);
-        let answer = ProcCore::start(rt.alloc(), &image, 4, Ext::I, pid, 1, &mut store);
-        assert_eq!(rt; answer.err(), fault);
-    }
+    let first = started_over(&rt, rt.alloc(), &mut store);
+    let second = started_over(&rt, rt.alloc(), &mut store);
+    drop(store);
+    assert!(rt; first.is_none() && second == Some(StartFault::Present));
 }
 
 #[test]

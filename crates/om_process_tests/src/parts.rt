@@ -60,15 +60,25 @@ pub fn started<S: Stable>(rt: &impl Abort, alloc: Global, store: &mut S) -> Proc
 }
 
 // Goes on to the next wait and offers a message.
-fn offer(rt: &impl Abort, alloc: Global, core: &mut ProcCore, next: &Message) -> Accept {
+fn offer(rt: &impl Abort, alloc: Global, core: &mut ProcCore, next: Message) -> Accept {
     assert!(rt; core.run(alloc, 100).is_ok());
-    core.accept(alloc, next)
+    let answer = core.accept(alloc, &next);
+    drop(next);
+    answer
 }
 
 // Takes its first message.
-pub fn take_first(rt: &impl Abort, alloc: Global, core: &mut ProcCore) {
+fn take_first(rt: &impl Abort, alloc: Global, core: &mut ProcCore) {
     let first = message(rt, alloc, 2, 1, 0, "93081000");
-    assert_eq!(rt; offer(rt, alloc, core, &first), Accept::Taken(1));
+    assert!(rt; offer(rt, alloc, core, first) == Accept::Taken(1));
+}
+
+// Process 1 of 3 that took its first message, and stored it.
+pub fn first_stored<S: Stable>(rt: &impl Abort, alloc: Global, store: &mut S) -> ProcCore {
+    let mut core = started(rt, alloc, store);
+    take_first(rt, alloc, &mut core);
+    flush(rt, alloc, &mut core, store);
+    core
 }
 
 // Process 0 of 2 at its start.
@@ -88,16 +98,16 @@ pub fn passing_on<S: Stable>(rt: &impl Abort, alloc: Global, store: &mut S) -> P
 // It goes on to the next wait and takes the message of that number.
 pub fn go_on(rt: &impl Abort, alloc: Global, core: &mut ProcCore, ssn: u32) {
     let next = message(rt, alloc, 1, 0, ssn, "0a0b0c0d");
-    let answer = offer(rt, alloc, core, &next);
+    let answer = offer(rt, alloc, core, next);
     assert!(rt; matches!(answer, Accept::Taken(_)), "{ssn}: {answer:?}");
 }
 
 pub fn flush<S: Stable>(rt: &impl Abort, alloc: Global, core: &mut ProcCore, store: &mut S) {
-    assert_eq!(rt; core.flush(alloc, store), Ok(()));
+    assert!(rt; core.flush(alloc, store).is_ok());
 }
 
 pub fn checkpoint<S: Stable>(rt: &impl Abort, alloc: Global, core: &mut ProcCore, store: &mut S) {
-    assert_eq!(rt; core.checkpoint(alloc, store), Ok(()));
+    assert!(rt; core.checkpoint(alloc, store).is_ok());
 }
 
 // It took ten messages, and stored each, and a checkpoint of interval 4.
@@ -117,8 +127,8 @@ pub fn ten<S: Stable>(rt: &impl Abort, alloc: Global, store: &mut S) -> ProcCore
 pub fn put<S: Stable>(rt: &impl Abort, alloc: Global, store: &mut S, receipt: Vec<u8>) {
     let mut receipts = Vec::new(alloc);
     receipts.push(receipt).expect(rt, "memory");
-    assert_eq!(rt; receipts.len(), 1);
-    assert_eq!(rt; store.put_receipts(alloc, 1, &receipts), Ok(()));
+    let is_put = receipts.len() == 1 && store.put_receipts(alloc, 1, &receipts).is_ok();
+    assert!(rt; is_put);
 }
 
 pub fn replayed<S: Stable>(rt: &impl Abort, alloc: Global, store: &mut S, x: u32) -> ProcCore {
@@ -127,18 +137,22 @@ pub fn replayed<S: Stable>(rt: &impl Abort, alloc: Global, store: &mut S, x: u32
 
 // A register of a process.
 pub fn x(core: &ProcCore, r: u8) -> Option<u32> {
-    Reg::new(r).map(|r| core.machine().reg(r))
+    Some(core.machine().reg(Reg::new(r)?))
+}
+
+// Whether two processes of 2 made the same.
+fn made_same(a: &ProcCore, b: &ProcCore) -> bool {
+    a.vec().n() == 2
+        && b.vec().n() == 2
+        && a.outbox(Pid::at(1)) == b.outbox(Pid::at(1))
+        && a.outputs_from(0) == b.outputs_from(0)
 }
 
 // Whether two processes of 2 are one: in all but their incarnation, their round, the starts and what is still to be stored.
 pub fn are_same(a: &ProcCore, b: &ProcCore) -> bool {
-    if a.vec().n() != 2 || b.vec().n() != 2 {
-        return false;
-    }
     a.machine() == b.machine()
         && a.interval() == b.interval()
         && a.vec() == b.vec()
         && a.got() == b.got()
-        && a.outbox(Pid::at(1)) == b.outbox(Pid::at(1))
-        && a.outputs_from(0) == b.outputs_from(0)
+        && made_same(a, b)
 }

@@ -1,4 +1,4 @@
-use super::parts::{RECEIPT, bytes_of, checkpoint, flush, replayed, started, take_first};
+use super::parts::{RECEIPT, bytes_of, checkpoint, first_stored, flush, replayed};
 use om_interval::Pid;
 use om_isa::Ext;
 use om_process::{ProcCore, Row};
@@ -7,22 +7,23 @@ use std::alloc::Global;
 use std::process::Abort;
 
 // The one receipt that is stored has to be of interval 1, and these bytes.
-fn assert_stored(rt: &impl Abort, alloc: Global, store: &mut MemStable, text: &str) {
+fn is_stored(rt: &impl Abort, alloc: Global, store: &mut MemStable, text: &str) -> bool {
     let found = store.receipts(alloc, 0, 10).expect(rt, "receipts");
+    let wanted = bytes_of(rt, alloc, text);
     let is_it = match found.first() {
-        Some((x, bytes)) => *x == 1 && *bytes == bytes_of(rt, alloc, text),
+        Some((x, bytes)) => *x == 1 && *bytes == wanted,
         None => false,
     };
-    assert_eq!(rt; (found.len(), is_it), (1, true));
+    is_it && found.len() == 1
 }
 
 #[test]
 fn a_flush_stores_the_receipt(rt: HostRuntime) {
     let mut store = MemStable::new(rt.alloc());
-    let mut core = started(&rt, rt.alloc(), &mut store);
-    take_first(&rt, rt.alloc(), &mut core);
-    flush(&rt, rt.alloc(), &mut core, &mut store);
-    assert_stored(&rt, rt.alloc(), &mut store, RECEIPT);
+    drop(first_stored(&rt, rt.alloc(), &mut store));
+    let is_stored = is_stored(&rt, rt.alloc(), &mut store, RECEIPT);
+    drop(store);
+    assert!(rt; is_stored);
 }
 
 // Whether the row is of interval 1 of process 1 of 3, after a message from process 2, and of this kind.
@@ -36,42 +37,54 @@ fn is_row(row: Option<&Row>, ckpt: bool) -> bool {
         && row.got.as_slice() == [0, 0, 1].as_slice()
 }
 
-fn note(rt: &impl Abort, core: &mut ProcCore, k: usize) {
-    assert!(rt; k <= core.pending().len());
-    core.noted(k);
+// Notes so many rows: so many are left, of which the first is of this kind.
+fn assert_left(rt: &impl Abort, core: &mut ProcCore, noted: usize, left: usize, ckpt: bool) {
+    assert!(rt; noted <= core.pending().len());
+    core.noted(noted);
+    let is_first = is_row(core.pending().first(), ckpt);
+    assert!(rt; is_first && core.pending().len() == left, "{left} left");
+}
+
+// What is stored a second time is refused, or nothing.
+fn store_twice(rt: &impl Abort, alloc: Global, core: &mut ProcCore, store: &mut MemStable) {
+    flush(rt, alloc, core, store);
+    checkpoint(rt, alloc, core, store);
+    let again = core.checkpoint(alloc, store);
+    assert!(rt; again == Err(StoreError::Present));
 }
 
 #[test]
 fn what_is_stored_is_pending_until_it_is_noted(rt: HostRuntime) {
     let mut store = MemStable::new(rt.alloc());
-    let mut core = started(&rt, rt.alloc(), &mut store);
-    take_first(&rt, rt.alloc(), &mut core);
-    flush(&rt, rt.alloc(), &mut core, &mut store);
-    flush(&rt, rt.alloc(), &mut core, &mut store);
-    checkpoint(&rt, rt.alloc(), &mut core, &mut store);
-    let again = core.checkpoint(rt.alloc(), &mut store);
-    assert_eq!(rt; again, Err(StoreError::Present));
-    for (noted, left, ckpt) in [(0, 2, false), (1, 1, true)] {
-        note(&rt, &mut core, noted);
-        let is_first = is_row(core.pending().first(), ckpt);
-        assert_eq!(rt; (core.pending().len(), is_first), (left, true));
-    }
+    let mut core = first_stored(&rt, rt.alloc(), &mut store);
+    store_twice(&rt, rt.alloc(), &mut core, &mut store);
+    assert_left(&rt, &mut core, 0, 2, false);
+    assert_left(&rt, &mut core, 1, 1, true);
+    drop(store);
+    drop(core);
 }
 
 // Starts a process of 1 with this word and 4 bytes of memory: whether it is started.
 fn is_started(rt: &impl Abort, alloc: Global, ext: Ext, store: &mut MemStable) -> bool {
     let word = bytes_of(rt, alloc, "73001000");
-    ProcCore::start(alloc, &word, 4, ext, Pid::at(0), 1, store).is_ok()
+    let answer = ProcCore::start(alloc, &word, 4, ext, Pid::at(0), 1, store);
+    let is_ok = answer.is_ok();
+    drop(answer);
+    is_ok
 }
 
 // The checkpoint that it stores at its start.
-fn first_checkpoint(rt: &impl Abort, alloc: Global, ext: Ext) -> Vec<u8> {
-    let mut store = MemStable::new(alloc);
-    assert!(rt; is_started(rt, alloc, ext, &mut store));
-    let restored = replayed(rt, alloc, &mut store, 0).machine().ext();
-    assert_eq!(rt; restored, ext);
+fn first_checkpoint(rt: &impl Abort, alloc: Global, store: &mut MemStable) -> Vec<u8> {
     let stored = store.effective(alloc, 0).expect(rt, "a store");
     stored.expect(rt, "a checkpoint").1
+}
+
+// What may be used once a process is replayed.
+fn restored(rt: &impl Abort, alloc: Global, store: &mut MemStable) -> Ext {
+    let core = replayed(rt, alloc, store, 0);
+    let ext = core.machine().ext();
+    drop(core);
+    ext
 }
 
 // Behind kind, version, number of processes and process: 160 zeros, and from the size of the memory on.
@@ -83,13 +96,26 @@ const BEHIND_HEAD: &str = "\
 0000000000000000000000000000000000000000000000000000000000000000\
 040000000100000073001000000000000000000000000000";
 
+// The checkpoint that is wanted, behind this head.
+fn wanted(rt: &impl Abort, alloc: Global, head: &str) -> Vec<u8> {
+    let mut want = bytes_of(rt, alloc, head);
+    let behind = bytes_of(rt, alloc, BEHIND_HEAD);
+    want.extend_from_slice(&behind).expect(rt, "memory");
+    want
+}
+
+fn assert_first(rt: &impl Abort, alloc: Global, ext: Ext, head: &str) {
+    let mut store = MemStable::new(alloc);
+    let is_started = is_started(rt, alloc, ext, &mut store);
+    let restored = restored(rt, alloc, &mut store);
+    let bytes = first_checkpoint(rt, alloc, &mut store);
+    drop(store);
+    let is_wanted = bytes.len() == 188 && bytes == wanted(rt, alloc, head);
+    assert!(rt; is_started && is_wanted && restored == ext);
+}
+
 #[test]
 fn a_start_stores_its_checkpoint(rt: HostRuntime) {
-    for (ext, head) in [(Ext::I, "43020100"), (Ext::Im, "4d020100")] {
-        let mut want = bytes_of(&rt, rt.alloc(), head);
-        let behind = bytes_of(&rt, rt.alloc(), BEHIND_HEAD);
-        want.extend_from_slice(&behind).expect(&rt, "memory");
-        let bytes = first_checkpoint(&rt, rt.alloc(), ext);
-        assert_eq!(rt; (bytes.len(), bytes), (188, want));
-    }
+    assert_first(&rt, rt.alloc(), Ext::I, "43020100");
+    assert_first(&rt, rt.alloc(), Ext::Im, "4d020100");
 }

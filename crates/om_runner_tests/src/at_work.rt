@@ -1,13 +1,15 @@
-use crate::clusters::{Always, image_of};
+use crate::clusters::{Always, images};
 use crate::rows::is_set;
 use om_interval::Pid;
 use om_process::Status;
-use om_runner::{Config, OpenFault, Opener, run_cluster};
+use om_runner::{Config, OpenFault, Opener, Report, run_cluster};
 use om_stable::{FuseStable, MemStable, Stable, Stop, StoreError};
 use std::alloc::Global;
+use std::process::Abort;
+use std::sync::Wait;
 use std::sync::atomic::AtomicBool;
 use std::sync::atomic::Ordering::SeqCst;
-use std::test::Fail;
+use std::thread::Threads;
 
 // Sends to itself, receives, and ends.
 const SELF: [u32; 12] = [
@@ -104,13 +106,33 @@ impl<'a, R> Opener<R> for MeetingPairs<'a> {
     }
 }
 
+// A run of the two over such stores.
+fn run<R: Threads + Wait + Abort + Sync>(rt: &R, alloc: Global, config: &Config) -> Report {
+    let (zero, one) = (AtomicBool::new(false), AtomicBool::new(false));
+    let stores = MeetingPairs {
+        zero: &zero,
+        one: &one,
+    };
+    assert!(rt; config.images.len() == 2);
+    run_cluster(rt, alloc, config, &Always(true), &stores).expect(rt, "a report")
+}
+
+// Whether both ended with 4 in interval 1, and nothing was put out.
+fn is_right(report: &Report) -> bool {
+    let ended = [Status::Ended(4), Status::Ended(4)];
+    for outputs in &report.released {
+        if !outputs.is_empty() {
+            return false;
+        }
+    }
+    report.statuses.as_slice() == ended.as_slice()
+        && report.front.vec.as_slice() == [1, 1].as_slice()
+}
+
 #[test]
-fn two_at_work(rt: HostRuntime) -> Result<(), Fail> {
-    let mut images = Vec::new(rt.alloc());
-    images.push(image_of(rt.alloc(), &SELF, 128)?)?;
-    images.push(image_of(rt.alloc(), &SELF, 128)?)?;
+fn two_at_work(rt: HostRuntime) {
     let config = Config {
-        images,
+        images: images(&rt, rt.alloc(), 2, &SELF, 128),
         kills: Vec::new(rt.alloc()),
         flush: 1,
         checkpoint: 16,
@@ -118,17 +140,9 @@ fn two_at_work(rt: HostRuntime) -> Result<(), Fail> {
         turns: 50_000_000,
         gate_turns: 1,
     };
-    let (zero, one) = (AtomicBool::new(false), AtomicBool::new(false));
-    let stores = MeetingPairs {
-        zero: &zero,
-        one: &one,
-    };
-    let report = run_cluster(&rt, rt.alloc(), &config, &Always(true), &stores)?;
-    let ended = [Status::Ended(4), Status::Ended(4)];
-    assert_eq!(&rt;
-        (report.statuses.as_slice(), report.front.vec.as_slice()),
-        (ended.as_slice(), [1, 1].as_slice())
-    );
-    assert!(&rt; report.released.iter().all(|outputs| outputs.is_empty()));
-    Ok(())
+    let report = run(&rt, rt.alloc(), &config);
+    drop(config);
+    let is_right = is_right(&report);
+    drop(report);
+    assert!(&rt; is_right);
 }

@@ -1,18 +1,18 @@
-ghost use Rattle.std.specs.Prelude.{◌≡◌, IfOk};
+ghost use Rattle.std.specs.Prelude.{◌≡◌};
 ghost use Rattle.om_board.specs.Inboxes.{IsOfLine};
 
 use om_format::{Body, Message};
 use om_interval::{Pid, Tag};
 use om_runner::{CAPACITY, Inbox, PutAnswer, PutPass, TakePass};
-use std::alloc::{AllocError, Global};
+use std::alloc::Global;
+use std::process::Abort;
 use std::sync::Wait;
-use std::test::Fail;
 
 // A message of an inbox.
-fn message_of(alloc: Global, inbox: &Inbox, ssn: u32) -> Result<Message, AllocError>
-    ensures { IfOk result (λ message. IsOfLine inbox.now message) }
+fn message_of(alloc: Global, inbox: &Inbox, ssn: u32) -> Message
+    ensures { IsOfLine inbox.now result }
 {
-    Ok(Message {
+    Message {
         from: inbox.from(),
         to: inbox.to(),
         tag: Tag {
@@ -21,7 +21,13 @@ fn message_of(alloc: Global, inbox: &Inbox, ssn: u32) -> Result<Message, AllocEr
         },
         ssn,
         body: Body::from_vec(Vec::new(alloc)),
-    })
+    }
+}
+
+fn number_of(message: Message) -> u32 {
+    let ssn = message.ssn;
+    drop(message);
+    ssn
 }
 
 // Puts a message of this number: None where it is in the inbox, else the number of what came back.
@@ -31,62 +37,81 @@ fn put_back(
     inbox: &Inbox,
     pass: &mut PutPass,
     ssn: u32,
-) -> Result<Option<u32>, AllocError>
+) -> Option<u32>
     requires { pass.old.line ≡ inbox.now }
     ensures { pass.new.line ≡ pass.old.line }
 {
-    let message = message_of(alloc, inbox, ssn)?;
+    let message = message_of(alloc, inbox, ssn);
     match inbox.put(rt, pass, message) {
-        PutAnswer::Put => Ok(None),
-        PutAnswer::Full(back) => Ok(Some(back.ssn)),
-        PutAnswer::Gone(back) => Ok(Some(back.ssn)),
+        PutAnswer::Put => None,
+        PutAnswer::Full(back) => Some(number_of(back)),
+        PutAnswer::Gone(back) => Some(number_of(back)),
     }
 }
 
 // How many of the messages from number 0 on, as many as an inbox holds, are put.
-fn fill(
-    rt: &impl Wait,
-    alloc: Global,
-    inbox: &Inbox,
-    pass: &mut PutPass,
-) -> Result<usize, AllocError>
+fn fill(rt: &impl Wait, alloc: Global, inbox: &Inbox, pass: &mut PutPass) -> usize
     requires { pass.old.line ≡ inbox.now }
     ensures { pass.new.line ≡ pass.old.line }
 {
     let mut filled = 0;
     for ssn in 0..CAPACITY {
-        if put_back(rt, alloc, inbox, pass, ssn as u32)?.is_none() {
+        if put_back(rt, alloc, inbox, pass, ssn as u32).is_none() {
             filled += 1;
         }
     }
-    Ok(filled)
+    filled
+}
+
+// Takes a message: its number.
+fn taken(rt: &impl Wait, inbox: &Inbox, pass: &mut TakePass) -> Option<u32>
+    requires { pass.old.line ≡ inbox.now }
+    ensures { pass.new.line ≡ pass.old.line }
+{
+    match inbox.take(rt, pass) {
+        Some(message) => Some(number_of(message)),
+        None => None,
+    }
 }
 
 // How many messages are left, taken one by one.
 fn drain(rt: &impl Wait, inbox: &Inbox, pass: &mut TakePass) -> usize
     requires { pass.old.line ≡ inbox.now }
 {
-    let mut taken = 0;
+    let mut count = 0;
     for _ in 0..2 * CAPACITY {
-        if inbox.take(rt, pass).is_some() {
-            taken += 1;
+        if taken(rt, inbox, pass).is_some() {
+            count += 1;
         }
     }
-    taken
+    count
+}
+
+// It is filled, and what does not fit comes back. One is taken, and there is room. What was put is taken in order.
+fn assert_in_order(
+    rt: &(impl Wait + Abort),
+    alloc: Global,
+    inbox: &Inbox,
+    mut put: PutPass,
+    take: &mut TakePass,
+)
+    requires put { put.line ≡ inbox.now }
+    requires take { take.old.line ≡ inbox.now }
+{
+    assert!(rt; fill(rt, alloc, inbox, &mut put) == 64);
+    assert!(rt; put_back(rt, alloc, inbox, &mut put, 64) == Some(64));
+    assert!(rt; taken(rt, inbox, take) == Some(0));
+    assert!(rt; put_back(rt, alloc, inbox, &mut put, 64).is_none());
+    inbox.settle(rt, take, put);
+    assert!(rt; taken(rt, inbox, take) == Some(1));
+    assert!(rt; drain(rt, inbox, take) == 63);
 }
 
 #[test]
-fn full_inbox(rt: HostRuntime) -> Result<(), Fail> {
-    let heap = rt.alloc();
-    let (inbox, mut put, mut take) = Inbox::new(heap, Pid::at(0), Pid::at(1))?;
-    let filled = fill(&rt, heap, &inbox, &mut put)?;
-    let full = put_back(&rt, heap, &inbox, &mut put, 64)?;
-    let first = inbox.take(&rt, &mut take).ok_or("a message")?.ssn;
-    let room = put_back(&rt, heap, &inbox, &mut put, 64)?;
-    inbox.settle(&rt, &mut take, put);
-    let second = inbox.take(&rt, &mut take).ok_or("a message")?.ssn;
-    let left = drain(&rt, &inbox, &mut take);
-    assert_eq!(&rt; (filled, full, first), (64, Some(64), 0));
-    assert_eq!(&rt; (room, second, left), (None, 1, 63));
-    Ok(())
+fn full_inbox(rt: HostRuntime) {
+    let made = Inbox::new(rt.alloc(), Pid::at(0), Pid::at(1));
+    let (inbox, put, mut take) = made.expect(&rt, "memory");
+    assert_in_order(&rt, rt.alloc(), &inbox, put, &mut take);
+    drop(inbox);
+    drop(take);
 }

@@ -1,6 +1,6 @@
 use om_interval::{DepVec, Pid};
 use om_recover::Note;
-use om_runner::{Board, Front, Frontier, Naming};
+use om_runner::{Board, Front, Frontier, Naming, Pass};
 use std::alloc::Global;
 use std::process::Abort;
 use std::sync::Wait;
@@ -39,7 +39,11 @@ pub fn noted<K: Naming, R: Wait + Abort>(
 ) {
     let (vec, got) = (vector(rt, &[1, 0]), vector(rt, &[0, 1]));
     let told = board.note_logged(rt, alloc, process(rt, 0), 0, 1, &vec, &got, frontier);
-    assert_eq!(rt; told, Ok(Note::Noted { raised: true }));
+    assert!(rt; told == Ok(Note::Noted { raised: true }));
+}
+
+pub fn last<K: Naming>(rt: &impl Abort, passes: &mut Vec<Pass<K>>) -> Pass<K> {
+    passes.pop().expect(rt, "a pass")
 }
 
 pub fn front(rt: &impl Abort, version: u64, round: u32, vec: &[u32]) -> Front {
