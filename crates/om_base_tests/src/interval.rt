@@ -66,14 +66,15 @@ const PAIRS: [Pair; 5] = [
     (&[0, 0], &[0, 5, 9], false),
 ];
 
-fn is_leq(rt: &impl Abort, low: &[u32], high: &[u32]) -> bool {
-    vector_of(rt, low).leq(&vector_of(rt, high))
-}
-
 #[test]
 fn vectors_are_compared_by_place(rt: HostRuntime) {
     for (low, high, want) in &PAIRS {
-        assert_same_at(&rt, &(low, high), &is_leq(&rt, low, high), want);
+        assert_same_at(
+            &rt,
+            &(low, high),
+            &vector_of(&rt, low).leq(&vector_of(&rt, high)),
+            want,
+        );
     }
     laws::lower_vector_has_smaller_sum();
 }
