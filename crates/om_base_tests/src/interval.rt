@@ -35,11 +35,6 @@ fn vectors_have_1_to_16_places(rt: HostRuntime) {
     assert_same(&rt, &(lengths, are_kept), &wanted);
 }
 
-// Whether a vector of these places is this one, None where there is none.
-fn is_vector(vector: &DepVec, places: &[u32]) -> Option<bool> {
-    Some(DepVec::from_slice(places)? == *vector)
-}
-
 // The vector 0, 5, 9, made place by place.
 #[test]
 fn vectors_are_read_and_changed_by_place(rt: HostRuntime) {
@@ -50,9 +45,9 @@ fn vectors_are_read_and_changed_by_place(rt: HostRuntime) {
     vector.join_tag(pid, 4);
     vector.join_tag(Pid::at(2), 9);
     let second = vector.get(pid);
-    let is_same = is_vector(&vector, &[0, 5, 9]);
+    let is_same = vector_of(&rt, &[0, 5, 9]) == vector;
     let told = (second, vector.as_slice(), is_same);
-    assert_same(&rt, &told, &(5, &[0, 5, 9], Some(true)));
+    assert_same(&rt, &told, &(5, &[0, 5, 9], true));
 }
 
 type Pair = (&'static [u32], &'static [u32], bool);

@@ -40,7 +40,9 @@ impl Builder for Sum {
         if *name != b"add".as_slice() {
             return Err(LineError::UnknownLine.into());
         }
-        let number = number_of(number).ok_or(LineError::BadNumber)?;
+        let Some(number) = number_of(number) else {
+            return Err(LineError::BadNumber.into());
+        };
         self.0 = self.0.saturating_add(u64::from(number));
         Ok(())
     }
