@@ -35,11 +35,6 @@ fn vectors_have_1_to_16_places(rt: HostRuntime) {
     assert_same(&rt, &(lengths, are_kept), &wanted);
 }
 
-// Whether a vector of these places is this one, None where there is none.
-fn is_vector(vector: &DepVec, places: &[u32]) -> Option<bool> {
-    Some(DepVec::from_slice(places)? == *vector)
-}
-
 // The vector 0, 5, 9, made place by place.
 #[test]
 fn vectors_are_read_and_changed_by_place(rt: HostRuntime) {
@@ -50,9 +45,9 @@ fn vectors_are_read_and_changed_by_place(rt: HostRuntime) {
     vector.join_tag(pid, 4);
     vector.join_tag(Pid::at(2), 9);
     let second = vector.get(pid);
-    let is_same = is_vector(&vector, &[0, 5, 9]);
+    let is_same = vector_of(&rt, &[0, 5, 9]) == vector;
     let told = (second, vector.as_slice(), is_same);
-    assert_same(&rt, &told, &(5, &[0, 5, 9], Some(true)));
+    assert_same(&rt, &told, &(5, &[0, 5, 9], true));
 }
 
 type Pair = (&'static [u32], &'static [u32], bool);
@@ -66,14 +61,15 @@ const PAIRS: [Pair; 5] = [
     (&[0, 0], &[0, 5, 9], false),
 ];
 
-fn is_leq(rt: &impl Abort, low: &[u32], high: &[u32]) -> bool {
-    vector_of(rt, low).leq(&vector_of(rt, high))
-}
-
 #[test]
 fn vectors_are_compared_by_place(rt: HostRuntime) {
     for (low, high, want) in &PAIRS {
-        assert_same_at(&rt, &(low, high), &is_leq(&rt, low, high), want);
+        assert_same_at(
+            &rt,
+            &(low, high),
+            &vector_of(&rt, low).leq(&vector_of(&rt, high)),
+            want,
+        );
     }
     laws::lower_vector_has_smaller_sum();
 }

@@ -201,7 +201,10 @@ const LOADS: [Load; 9] = [
 ];
 
 fn loaded_size(alloc: Global, words: &[u32], size: u32) -> Result<u32, LoadFault> {
-    Ok(loaded(alloc, words, size)?.size())
+    match loaded(alloc, words, size) {
+        Ok(machine) => Ok(machine.size()),
+        Err(fault) => Err(fault),
+    }
 }
 
 #[test]
@@ -347,63 +350,44 @@ fn the_last_instruction_is_counted(rt: HostRuntime) {
     assert_same(&rt, &told, &(Event::Went, u64::MAX, FULL));
 }
 
-// The steps of a run and the event at its end, and behind the call x10 and x11, pc and the count.
-type Finished = (u64, Event, [Option<u32>; 2], (u32, u64));
+type Call = (u32, EnvCall, (u32, u32), (u32, u64), [u8; 4]);
 
-// The word that puts a number into x17, what comes of the call with x10 = 16, x11 = 2 and x12 = 4, and the word at 16 behind
-// it. The machine stays at an exit.
-type Call = (u32, Finished, [u8; 4]);
-
+// The word that puts a number into x17, the call with x10 = 16, x11 = 2 and x12 = 4, and behind it x10 and x11, pc and the
+// count, and the word at 16. The machine stays at an exit.
 const CALLS: [Call; 5] = [
     (
         0x00000893,
-        (
-            4,
-            Event::Call(EnvCall::Exit { code: 16 }),
-            [Some(16), Some(2)],
-            (16, 4),
-        ),
+        EnvCall::Exit { code: 16 },
+        (16, 2),
+        (16, 4),
         [0x73, 0, 0, 0],
     ),
     (
         0x00100893,
-        (
-            4,
-            Event::Call(EnvCall::Send {
-                to: 16,
-                addr: 2,
-                len: 4,
-            }),
-            [Some(9), Some(2)],
-            (20, 5),
-        ),
+        EnvCall::Send {
+            to: 16,
+            addr: 2,
+            len: 4,
+        },
+        (9, 2),
+        (20, 5),
         [0x73, 0, 0, 0],
     ),
     (
         0x00200893,
-        (
-            4,
-            Event::Call(EnvCall::Receive { addr: 16, cap: 2 }),
-            [Some(3), Some(6)],
-            (20, 5),
-        ),
+        EnvCall::Receive { addr: 16, cap: 2 },
+        (3, 6),
+        (20, 5),
         [1, 2, 0, 0],
     ),
     (
         0x00300893,
-        (
-            4,
-            Event::Call(EnvCall::Output { addr: 16, len: 2 }),
-            [Some(9), Some(2)],
-            (20, 5),
-        ),
+        EnvCall::Output { addr: 16, len: 2 },
+        (9, 2),
+        (20, 5),
         [0x73, 0, 0, 0],
     ),
-    (
-        0x00400893,
-        (4, Event::Call(EnvCall::Who), [Some(1), Some(3)], (20, 5)),
-        [0x73, 0, 0, 0],
-    ),
+    (0x00400893, EnvCall::Who, (1, 3), (20, 5), [0x73, 0, 0, 0]),
 ];
 
 // Finishes the call at which the machine stands, if it is no exit.
@@ -425,11 +409,17 @@ fn at_call(rt: &impl Abort, alloc: Global, number: u32) -> Machine {
     loaded(alloc, &image, 20).expect(rt, "a machine")
 }
 
-fn assert_call(rt: &impl Abort, machine: &Machine, ran: Ran, (_, finished, word): &Call) {
-    let registers = [reg(machine, 10), reg(machine, 11)];
-    let told = (ran.steps, ran.event, registers, place(machine));
-    let bytes = machine.bytes(16, 4);
-    assert_same(rt, &(told, bytes), &(*finished, Some(word.as_slice())));
+fn assert_call(rt: &impl Abort, machine: &Machine, ran: Ran, call: &Call) {
+    let (_, call, (first, second), behind, word) = *call;
+    let event = Event::Call(call);
+    let told = (reg(machine, 10), reg(machine, 11), machine.bytes(16, 4));
+    let wanted = (Some(first), Some(second), Some(word.as_slice()));
+    let ran = (ran, place(machine));
+    assert_same(
+        rt,
+        &(ran, told),
+        &((Ran { steps: 4, event }, behind), wanted),
+    );
 }
 
 #[test]

@@ -40,14 +40,19 @@ impl Builder for Sum {
         if *name != b"add".as_slice() {
             return Err(LineError::UnknownLine.into());
         }
-        let number = number_of(number).ok_or(LineError::BadNumber)?;
+        let Some(number) = number_of(number) else {
+            return Err(LineError::BadNumber.into());
+        };
         self.0 = self.0.saturating_add(u64::from(number));
         Ok(())
     }
 }
 
 fn sum_of(alloc: Global, text: &[u8]) -> Result<u64, BuildError<ScriptError>> {
-    Ok(read_script(alloc, text, Sum(0))?.0)
+    match read_script(alloc, text, Sum(0)) {
+        Ok(sum) => Ok(sum.0),
+        Err(error) => Err(error),
+    }
 }
 
 fn assert_sum(
@@ -214,7 +219,10 @@ fn inputs_are_read_whole(rt: HostRuntime) {
 // How long the text of an input of so many zeros is.
 fn read_len(rt: &impl Abort, alloc: Global, count: usize) -> Result<usize, ReadError> {
     let input = vec![in alloc; 0; count].expect(rt, "memory");
-    Ok(read_text(alloc, &mut input.as_slice())?.len())
+    match read_text(alloc, &mut input.as_slice()) {
+        Ok(text) => Ok(text.len()),
+        Err(fault) => Err(fault),
+    }
 }
 
 #[test]
