@@ -204,7 +204,7 @@ fn assert_kept(rt: &impl Abort, alloc: Global, core: &ProcCore, k: usize, is_kep
     let framed = frame(rt, alloc, core, k);
     let told = framed.is_some();
     drop(framed);
-    assert!(rt; told == is_kept, "message {k} kept: {told}");
+    assert!(rt; told == is_kept, "{k}");
 }
 
 // The third of three processes sends to the second.

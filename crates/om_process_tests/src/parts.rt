@@ -99,7 +99,7 @@ pub fn passing_on<S: Stable>(rt: &impl Abort, alloc: Global, store: &mut S) -> P
 pub fn go_on(rt: &impl Abort, alloc: Global, core: &mut ProcCore, ssn: u32) {
     let next = message(rt, alloc, 1, 0, ssn, "0a0b0c0d");
     let answer = offer(rt, alloc, core, next);
-    assert!(rt; matches!(answer, Accept::Taken(_)), "{ssn}: {answer:?}");
+    assert!(rt; matches!(answer, Accept::Taken(_)), "{ssn}");
 }
 
 pub fn flush<S: Stable>(rt: &impl Abort, alloc: Global, core: &mut ProcCore, store: &mut S) {

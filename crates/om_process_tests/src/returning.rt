@@ -177,22 +177,19 @@ fn done<S: Stable>(rt: &impl Abort, alloc: Global, store: &mut S) -> (usize, u32
     (pending, interval)
 }
 
-// Over a store with a fuse of so many calls.
-fn assert_done(rt: &impl Abort, alloc: Global, calls: u64) {
+// Whether all is done over a store with a fuse of so many calls.
+fn is_done(rt: &impl Abort, alloc: Global, calls: u64) -> bool {
     let mut store = FuseStable::new(MemStable::new(alloc), calls);
     let told = done(rt, alloc, &mut store);
     let failures = store.failures();
     drop(store);
-    assert!(rt;
-        told == (7, 6) && failures == u64::from(calls < 6),
-        "{calls}"
-    );
+    told == (7, 6) && failures == u64::from(calls < 6)
 }
 
 // A fuse at each call of a store in turn, until none is reached: start, flush, checkpoint and the three of a roll back.
 #[test]
 fn what_a_store_refused_is_done_again(rt: HostRuntime) {
     for calls in 0..7 {
-        assert_done(&rt, rt.alloc(), calls);
+        assert!(rt; is_done(&rt, rt.alloc(), calls), "{calls}");
     }
 }

@@ -6,15 +6,19 @@ use om_stable::{MemStable, Stable, StoreError};
 use std::alloc::Global;
 use std::process::Abort;
 
-// The one receipt that is stored has to be of interval 1, and these bytes.
+// Whether there is one receipt, of interval 1, and these bytes.
+fn is_first_receipt(receipts: &[(u32, Vec<u8>)], wanted: &[u8]) -> bool {
+    match receipts.first() {
+        Some((x, bytes)) => receipts.len() == 1 && *x == 1 && bytes.as_slice() == wanted,
+        None => false,
+    }
+}
+
+// Whether that receipt is stored, and no other.
 fn is_stored(rt: &impl Abort, alloc: Global, store: &mut MemStable, text: &str) -> bool {
     let found = store.receipts(alloc, 0, 10).expect(rt, "receipts");
     let wanted = bytes_of(rt, alloc, text);
-    let is_it = match found.first() {
-        Some((x, bytes)) => *x == 1 && *bytes == wanted,
-        None => false,
-    };
-    is_it && found.len() == 1
+    is_first_receipt(&found, &wanted)
 }
 
 #[test]
@@ -37,12 +41,16 @@ fn is_row(row: Option<&Row>, ckpt: bool) -> bool {
         && row.got.as_slice() == [0, 0, 1].as_slice()
 }
 
-// Notes so many rows: so many are left, of which the first is of this kind.
+// Whether so many rows are left, of which the first is of this kind.
+fn are_left(rows: &[Row], left: usize, ckpt: bool) -> bool {
+    is_row(rows.first(), ckpt) && rows.len() == left
+}
+
+// Notes so many rows, and compares what is left.
 fn assert_left(rt: &impl Abort, core: &mut ProcCore, noted: usize, left: usize, ckpt: bool) {
     assert!(rt; noted <= core.pending().len());
     core.noted(noted);
-    let is_first = is_row(core.pending().first(), ckpt);
-    assert!(rt; is_first && core.pending().len() == left, "{left} left");
+    assert!(rt; are_left(core.pending(), left, ckpt), "{noted}");
 }
 
 // What is stored a second time is refused, or nothing.
@@ -110,8 +118,9 @@ fn assert_first(rt: &impl Abort, alloc: Global, ext: Ext, head: &str) {
     let restored = restored(rt, alloc, &mut store);
     let bytes = first_checkpoint(rt, alloc, &mut store);
     drop(store);
-    let is_wanted = bytes.len() == 188 && bytes == wanted(rt, alloc, head);
-    assert!(rt; is_started && is_wanted && restored == ext);
+    let wanted = wanted(rt, alloc, head);
+    assert!(rt; is_started && restored == ext);
+    assert!(rt; bytes.len() == 188 && bytes == wanted);
 }
 
 #[test]

@@ -2,7 +2,7 @@ ghost use Rattle.std.specs.Prelude.{◌≡◌};
 
 use crate::rows::{front, last, process, vector};
 use om_interval::DepVec;
-use om_manager::{Gathered, JoinError, OutputError, OutputNote, RecordError};
+use om_manager::{Gathered, JoinError, OutputNote, RecordError};
 use om_recover::Note;
 use om_runner::{Blank, Board, Frontier, Naming, Pass, Shared};
 use std::alloc::Global;
@@ -38,24 +38,26 @@ fn assert_logged<K: Naming, R: Wait + Abort>(
 }
 
 // Hands in an output of that receipt.
-fn held<K: Naming, R: Wait + Abort>(
+fn assert_held<K: Naming, R: Wait + Abort>(
     rt: &R,
     alloc: Global,
     board: &mut Board<K>,
     frontier: &Frontier<K>,
-) -> Result<OutputNote, OutputError> {
-    board.note_output(rt, alloc, process(rt, 0), 0, 1, 0, b"A", frontier)
+) {
+    let told = board.note_output(rt, alloc, process(rt, 0), 0, 1, 0, b"A", frontier);
+    assert!(rt; told == Ok(OutputNote::Held));
 }
 
 // Notes a checkpoint of process 1 that is beyond it.
-fn stored<K: Naming, R: Wait + Abort>(
+fn assert_stored<K: Naming, R: Wait + Abort>(
     rt: &R,
     alloc: Global,
     board: &mut Board<K>,
     frontier: &Frontier<K>,
-) -> Result<Note, RecordError> {
+) {
     let (vec, got) = (vector(rt, &[2, 2]), vector(rt, &[1, 1]));
-    board.note_checkpoint(rt, alloc, process(rt, 1), 0, 2, &vec, &got, frontier)
+    let told = board.note_checkpoint(rt, alloc, process(rt, 1), 0, 2, &vec, &got, frontier);
+    assert!(rt; told == Ok(Note::Noted { raised: false }));
 }
 
 // Notes and hands in what is beyond the recovery state: no front comes of it.
@@ -69,8 +71,8 @@ fn waiting_rows<K: Naming, R: Wait + Abort>(
     let stale = Err(RecordError::Stale { round: 0 });
     assert_logged(rt, alloc, board, frontier, 0, below);
     assert_logged(rt, alloc, board, frontier, 1, stale);
-    assert!(rt; held(rt, alloc, board, frontier) == Ok(OutputNote::Held));
-    assert!(rt; stored(rt, alloc, board, frontier) == below);
+    assert_held(rt, alloc, board, frontier);
+    assert_stored(rt, alloc, board, frontier);
     board.prune(rt, frontier);
 }
 

@@ -87,21 +87,30 @@ fn drain(rt: &impl Wait, inbox: &Inbox, pass: &mut TakePass) -> usize
     count
 }
 
-// It is filled, and what does not fit comes back. One is taken, and there is room. What was put is taken in order.
-fn assert_in_order(
+// It is filled, and what does not fit comes back. One is taken, and there is room.
+fn assert_filled(
     rt: &(impl Wait + Abort),
     alloc: Global,
     inbox: &Inbox,
-    mut put: PutPass,
+    put: &mut PutPass,
     take: &mut TakePass,
 )
+    requires put { put.old.line ≡ inbox.now }
+    requires take { take.old.line ≡ inbox.now }
+    ensures put { put.new.line ≡ put.old.line }
+    ensures take { take.new.line ≡ take.old.line }
+{
+    assert!(rt; fill(rt, alloc, inbox, put) == 64);
+    assert!(rt; put_back(rt, alloc, inbox, put, 64) == Some(64));
+    assert!(rt; taken(rt, inbox, take) == Some(0));
+    assert!(rt; put_back(rt, alloc, inbox, put, 64).is_none());
+}
+
+// What was put is taken in order.
+fn assert_drained(rt: &(impl Wait + Abort), inbox: &Inbox, put: PutPass, take: &mut TakePass)
     requires put { put.line ≡ inbox.now }
     requires take { take.old.line ≡ inbox.now }
 {
-    assert!(rt; fill(rt, alloc, inbox, &mut put) == 64);
-    assert!(rt; put_back(rt, alloc, inbox, &mut put, 64) == Some(64));
-    assert!(rt; taken(rt, inbox, take) == Some(0));
-    assert!(rt; put_back(rt, alloc, inbox, &mut put, 64).is_none());
     inbox.settle(rt, take, put);
     assert!(rt; taken(rt, inbox, take) == Some(1));
     assert!(rt; drain(rt, inbox, take) == 63);
@@ -110,8 +119,9 @@ fn assert_in_order(
 #[test]
 fn full_inbox(rt: HostRuntime) {
     let made = Inbox::new(rt.alloc(), Pid::at(0), Pid::at(1));
-    let (inbox, put, mut take) = made.expect(&rt, "memory");
-    assert_in_order(&rt, rt.alloc(), &inbox, put, &mut take);
+    let (inbox, mut put, mut take) = made.expect(&rt, "memory");
+    assert_filled(&rt, rt.alloc(), &inbox, &mut put, &mut take);
+    assert_drained(&rt, &inbox, put, &mut take);
     drop(inbox);
     drop(take);
 }
