@@ -4,6 +4,8 @@
 #[cfg(test)]
 mod clusters;
 #[cfg(test)]
+mod databases;
+#[cfg(test)]
 mod replay;
 #[cfg(test)]
 mod rows;
