@@ -1,6 +1,7 @@
 //! Clusters over stores in tables: what each store holds when the run has ended, and a store that is refused.
 
-ghost use Rattle.std.specs.Prelude.{◌≡◌, false, IfOk, length};
+ghost use Rattle.std.specs.Prelude.{◌≡◌, ◌≤◌, false, IfOk, length};
+ghost use Rattle.om_interval.specs.declared.pid.TheConstants.{MAX_PROCESSES};
 
 use om_commands::replay::replay;
 use om_interval::Pid;
@@ -13,12 +14,11 @@ use sqlite::{Alter, Connection, MemStore};
 use std::alloc::{AllocError, Global};
 use std::process::Abort;
 use std::sync::Wait;
-use std::test::Fail;
 use std::thread::Threads;
 
 // Each process takes 6 receipts; at each it adds 1 to the counter at address 0100, puts it out and sends it on. Process 0
 // starts with 0, and at the end the code is the counter.
-const RING: [u32; 34] = [
+static RING: [u32; 34] = [
     0x00400893, 0x00000073, 0x00050293, 0x00150313, 0x00B36463, 0x00000313, 0x00600393, 0x00029C63,
     0x00100893, 0x00030513, 0x10000593, 0x00400613, 0x00000073, 0x00200893, 0x10000513, 0x00400593,
     0x00000073, 0x10002403, 0x00140413, 0x10802023, 0x00300893, 0x10000513, 0x00400593, 0x00000073,
@@ -98,7 +98,7 @@ impl Gate for OpenGate {
 
 fn ring_image(alloc: Global) -> Result<Image, AllocError> {
     let mut bytes = Vec::new(alloc);
-    for word in RING {
+    for word in &RING {
         bytes.extend_from_slice(&word.to_le_bytes())?;
     }
     Ok(Image {
@@ -131,7 +131,7 @@ fn ring(alloc: Global) -> Result<Config, AllocError>
 }
 
 // By process, the counter that comes with its last message. In the interval that this begins it stands as it came.
-const COUNTERS: [u32; 8] = [47, 40, 41, 42, 43, 44, 45, 46];
+static COUNTERS: [u32; 8] = [47, 40, 41, 42, 43, 44, 45, 46];
 
 fn check_replay<S: Stable>(rt: &impl Abort, alloc: Global, store: &mut S, counter: u32) {
     let mut written = Vec::new(alloc);
@@ -144,7 +144,21 @@ fn check_replay<S: Stable>(rt: &impl Abort, alloc: Global, store: &mut S, counte
     assert_eq!(rt; (told, is_there), (Ok(()), true), "{counter}");
 }
 
-// Runs the ring over such stores, and gives them as they stand when it has ended.
+// Runs a cluster over stores that are made so, and gives them as they stand when it has ended.
+fn kept_over<R: Threads + Wait + Sync, O: Opener<R> + Sync>(
+    rt: &R,
+    alloc: Global,
+    config: &Config,
+    opener: &O,
+) -> Result<Vec<O::Store>, RunFault>
+    requires some { 1 ≤ length config.now.images.items }
+    requires few { length config.now.images.items ≤ MAX_PROCESSES }
+{
+    let (_, stores) = run_and_keep_stores(rt, alloc, config, &OpenGate, opener)?;
+    Ok(stores)
+}
+
+// The same of the ring over such databases.
 fn kept<R: Threads + Wait + Sync, C: Connects + Sync + Drop>(
     rt: &R,
     alloc: Global,
@@ -152,28 +166,39 @@ fn kept<R: Threads + Wait + Sync, C: Connects + Sync + Drop>(
 ) -> Result<Vec<SqlStable<C::Disk>>, RunFault> {
     let config = ring(alloc).map_err(|_| RunFault::Memory)?;
     let opener = InTables { connects };
-    let (_, stores) = run_and_keep_stores(rt, alloc, &config, &OpenGate, &opener)?;
-    Ok(stores)
+    kept_over(rt, alloc, &config, &opener)
 }
 
 // Replays each of the stores.
 fn check_replays<S: Stable>(rt: &impl Abort, alloc: Global, stores: &mut [S]) {
     assert_eq!(rt; stores.len(), 8);
-    for (store, counter) in stores.iter_mut().zip(COUNTERS) {
-        check_replay(rt, alloc, store, counter);
+    for (store, counter) in stores.iter_mut().zip(&COUNTERS) {
+        check_replay(rt, alloc, store, *counter);
     }
 }
 
-#[test]
-fn replays_of_a_ring_with_failures(rt: HostRuntime) -> Result<(), Fail> {
-    let mut stores = kept(&rt, rt.alloc(), Databases { taken: None })?;
-    check_replays(&rt, rt.alloc(), &mut stores);
-    Ok(())
+// Runs the ring, and replays each of its stores, or has this fault.
+fn check_ring<R: Threads + Wait + Abort + Sync, C: Connects + Sync + Drop>(
+    rt: &R,
+    alloc: Global,
+    connects: C,
+    fault: Option<RunFault>,
+) {
+    let told = match kept(rt, alloc, connects) {
+        Ok(mut stores) => {
+            check_replays(rt, alloc, &mut stores);
+            None
+        }
+        Err(fault) => Some(fault),
+    };
+    assert_eq!(rt; told, fault);
 }
 
+// A store that holds something is refused.
 #[test]
-fn store_that_holds_something(rt: HostRuntime) {
-    let taken = Some(Pid::at(5));
-    let told = kept(&rt, rt.alloc(), Databases { taken }).err();
-    assert_eq!(rt; told, Some(RunFault::Load(Pid::at(5))));
+fn replays_of_a_ring_with_failures(rt: HostRuntime) {
+    let taken = Pid::at(5);
+    for (taken, fault) in [(None, None), (Some(taken), Some(RunFault::Load(taken)))] {
+        check_ring(&rt, rt.alloc(), Databases { taken }, fault);
+    }
 }

@@ -7,6 +7,8 @@ mod clusters;
 #[cfg(test)]
 mod commands;
 #[cfg(test)]
+mod databases;
+#[cfg(test)]
 mod programs;
 #[cfg(test)]
 mod replay;

@@ -10,9 +10,8 @@ use om_tables::SqlStable;
 use sqlite::Connection;
 use std::alloc::Global;
 use std::process::Abort;
-use std::test::Fail;
 
-const PROGRAM: [u32; 11] = [
+static PROGRAM: [u32; 11] = [
     0x00200893, 0x04000513, 0x00400593, 0x00000073, 0x00100893, 0x00050613, 0x00000513, 0x04000593,
     0x00000073, 0x00000893, 0x00000073,
 ];
@@ -120,7 +119,7 @@ status ready
 // The process has started over the store, and these bytes are its receipt of interval 1.
 fn fill<S: Stable>(rt: &impl Abort, alloc: Global, store: &mut S, receipt: &[u8]) {
     let mut image = Vec::new(alloc);
-    for word in PROGRAM {
+    for word in &PROGRAM {
         image
             .extend_from_slice(&word.to_le_bytes())
             .expect(rt, "memory");
@@ -156,15 +155,17 @@ fn check<S: Stable>(
     );
 }
 
+static ROWS: [(u32, &str, Result<(), CommandError>); 4] = [
+    (0, AT_START, Ok(())),
+    (1, AFTER_RECEIPT, Ok(())),
+    (2, "", Err(CommandError::MissingReceipt(2))),
+    (u32::MAX, "", Err(CommandError::MissingReceipt(2))),
+];
+
 fn check_store<S: Stable>(rt: &impl Abort, alloc: Global, store: &mut S) {
     fill(rt, alloc, store, &RECEIPT);
-    for (interval, written, answer) in [
-        (0, AT_START, Ok(())),
-        (1, AFTER_RECEIPT, Ok(())),
-        (2, "", Err(CommandError::MissingReceipt(2))),
-        (u32::MAX, "", Err(CommandError::MissingReceipt(2))),
-    ] {
-        check(rt, alloc, store, interval, written, answer);
+    for (interval, written, answer) in &ROWS {
+        check(rt, alloc, store, *interval, written, *answer);
     }
 }
 
@@ -209,16 +210,18 @@ fn check_altered(
 }
 
 // A receipt with another byte at a place, and one that is cut.
+static ALTERED: [(usize, (usize, u8), CommandError); 5] = [
+    (30, (4, 2), CommandError::Damaged(1)),
+    (30, (2, 0), CommandError::Mismatch(1)),
+    (30, (3, 3), CommandError::Mismatch(1)),
+    (30, (16, 2), CommandError::Mismatch(1)),
+    (29, (0, 0x52), CommandError::Damaged(1)),
+];
+
 #[test]
 fn records_that_are_altered(rt: HostRuntime) {
-    for (len, change, answer) in [
-        (30, (4, 2), CommandError::Damaged(1)),
-        (30, (2, 0), CommandError::Mismatch(1)),
-        (30, (3, 3), CommandError::Mismatch(1)),
-        (30, (16, 2), CommandError::Mismatch(1)),
-        (29, (0, 0x52), CommandError::Damaged(1)),
-    ] {
-        check_altered(&rt, rt.alloc(), len, change, answer);
+    for (len, change, answer) in &ALTERED {
+        check_altered(&rt, rt.alloc(), *len, *change, *answer);
     }
 }
 
@@ -238,17 +241,18 @@ fn a_store_that_fails(rt: HostRuntime) {
     check(&rt, rt.alloc(), &mut store, 1, AFTER_RECEIPT, Ok(()));
 }
 
+static REFUSALS: [(CommandError, &str); 5] = [
+    (CommandError::NoCheckpoint, "no checkpoint"),
+    (CommandError::Damaged(7), "damaged 7"),
+    (CommandError::MissingReceipt(8), "missing receipt 8"),
+    (CommandError::Mismatch(9), "mismatch 9"),
+    (CommandError::StoreFault, "store fault"),
+];
+
 #[test]
-fn texts_of_refusals(rt: HostRuntime) -> Result<(), Fail> {
-    for (error, text) in [
-        (CommandError::NoCheckpoint, "no checkpoint"),
-        (CommandError::Damaged(7), "damaged 7"),
-        (CommandError::MissingReceipt(8), "missing receipt 8"),
-        (CommandError::Mismatch(9), "mismatch 9"),
-        (CommandError::StoreFault, "store fault"),
-    ] {
-        let told = error.to_string(rt.alloc())?;
-        assert_eq!(rt; told.as_str(), text);
+fn texts_of_refusals(rt: HostRuntime) {
+    for (error, text) in &REFUSALS {
+        let told = error.to_string(rt.alloc()).expect(&rt, "memory");
+        assert_eq!(rt; told.as_str(), *text);
     }
-    Ok(())
 }

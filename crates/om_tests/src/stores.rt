@@ -10,7 +10,7 @@ mod tables;
 const LAST: u32 = u32::MAX;
 
 // A call of a store. A record put at `x` is `receipt_at(x)` or `checkpoint_at(x)`.
-#[derive(Clone, Copy, Debug)]
+#[derive(Clone, Copy)]
 enum Call {
     /// Puts this many receipts from this interval on.
     PutReceipts(u32, u32),
@@ -24,7 +24,7 @@ enum Call {
 // A call, and the intervals of the records that it answers or why it is refused.
 type Row = (Call, Result<&'static [u32], StoreError>);
 
-const CUT_AND_PUT_AGAIN: [Row; 18] = [
+static CUT_AND_PUT_AGAIN: [Row; 18] = [
     (Call::PutReceipts(1, 3), Ok(&[])),
     (Call::PutCheckpoint(0), Ok(&[])),
     (Call::PutCheckpoint(2), Ok(&[])),
@@ -45,7 +45,7 @@ const CUT_AND_PUT_AGAIN: [Row; 18] = [
     (Call::Receipts(2, 1), Ok(&[])),
 ];
 
-const PRUNE_AND_PUT_LAST: [Row; 12] = [
+static PRUNE_AND_PUT_LAST: [Row; 12] = [
     (Call::PutReceipts(1, 3), Ok(&[])),
     (Call::PutCheckpoint(0), Ok(&[])),
     (Call::PutCheckpoint(2), Ok(&[])),
@@ -70,7 +70,7 @@ enum Kind {
 
 // Plays each list of rows at an empty store of the kind.
 fn play_all(rt: &impl Abort, alloc: Global, kind: Kind) {
-    for rows in [CUT_AND_PUT_AGAIN.as_slice(), &PRUNE_AND_PUT_LAST] {
+    for rows in [CUT_AND_PUT_AGAIN.as_slice(), PRUNE_AND_PUT_LAST.as_slice()] {
         match kind {
             Kind::Memory => play_in_memory(rt, alloc, rows),
             Kind::Fuse => play_behind_each(rt, alloc, rows),
@@ -113,7 +113,19 @@ fn put_receipts<S: Stable>(
     store.put_receipts(alloc, first, &recs)
 }
 
-// Adds the interval of the effective checkpoint. Its bytes have to be those that were put.
+// Adds the interval of a record. Its bytes have to be those that were put.
+fn add_found(
+    rt: &impl Abort,
+    (x, bytes): (u32, &[u8]),
+    put: [u8; 5],
+    found: &mut Vec<u32>,
+) -> Result<(), StoreError> {
+    assert_eq!(rt; bytes, put.as_slice());
+    found.push(x).map_err(AllocError::from)?;
+    Ok(())
+}
+
+// Adds the interval of the effective checkpoint.
 fn add_effective<S: Stable>(
     rt: &impl Abort,
     alloc: Global,
@@ -121,14 +133,13 @@ fn add_effective<S: Stable>(
     x: u32,
     found: &mut Vec<u32>,
 ) -> Result<(), StoreError> {
-    if let Some((c, bytes)) = store.effective(alloc, x)? {
-        assert_eq!(rt; bytes.as_slice(), checkpoint_at(c).as_slice());
-        found.push(c).map_err(AllocError::from)?;
+    match &store.effective(alloc, x)? {
+        Some((c, bytes)) => add_found(rt, (*c, bytes), checkpoint_at(*c), found),
+        None => Ok(()),
     }
-    Ok(())
 }
 
-// Adds the intervals of the receipts between two intervals. Their bytes have to be those that were put.
+// Adds the intervals of the receipts between two intervals.
 fn add_receipts<S: Stable>(
     rt: &impl Abort,
     alloc: Global,
@@ -136,9 +147,17 @@ fn add_receipts<S: Stable>(
     ends: (u32, u32),
     found: &mut Vec<u32>,
 ) -> Result<(), StoreError> {
-    for (x, bytes) in store.receipts(alloc, ends.0, ends.1)? {
-        assert_eq!(rt; bytes.as_slice(), receipt_at(x).as_slice());
-        found.push(x).map_err(AllocError::from)?;
+    let receipts = store.receipts(alloc, ends.0, ends.1)?;
+    add_all(rt, &receipts, found)
+}
+
+fn add_all(
+    rt: &impl Abort,
+    receipts: &[(u32, Vec<u8>)],
+    found: &mut Vec<u32>,
+) -> Result<(), StoreError> {
+    for (x, bytes) in receipts {
+        add_found(rt, (*x, bytes), receipt_at(*x), found)?;
     }
     Ok(())
 }
@@ -174,7 +193,7 @@ fn answer<S: Stable>(
 }
 
 // At which row a Fault came, and whether a call was refused for want of memory.
-#[derive(Drop)]
+#[derive(Clone, Copy)]
 struct Refused {
     fault: Option<usize>,
     memory: bool,
@@ -207,11 +226,15 @@ fn play<S: Stable>(rt: &impl Abort, alloc: Global, store: &mut S, rows: &[Row]) 
     Refused { fault, memory }
 }
 
+// Plays the rows at a store that does not fail.
+fn play_whole<S: Stable>(rt: &impl Abort, alloc: Global, store: &mut S, rows: &[Row]) {
+    let refused = play(rt, alloc, store, rows);
+    assert_eq!(rt; (refused.fault, store.failures()), (None, 0));
+}
+
 fn play_in_memory(rt: &impl Abort, alloc: Global, rows: &[Row]) {
     let mut store = MemStable::new(alloc);
-    let refused = play(rt, alloc, &mut store, rows);
-    assert_eq!(rt; refused.fault, None);
-    assert_eq!(rt; store.failures(), 0);
+    play_whole(rt, alloc, &mut store, rows);
 }
 
 #[test]
@@ -226,16 +249,17 @@ fn play_behind(rt: &impl Abort, alloc: Global, rows: &[Row], calls: usize) {
     let mut store = FuseStable::new(MemStable::new(alloc), calls as u64);
     let refused = play(rt, alloc, &mut store, rows);
     let reached = refused.fault.is_some();
-    assert_eq!(rt; store.failures(), u64::from(reached));
-    assert_eq!(rt; store.stop == Stop::Past, reached);
-    if !refused.memory {
-        let stopped = if calls < rows.len() {
-            Some(calls)
-        } else {
-            None
-        };
-        assert_eq!(rt; refused.fault, stopped);
-    }
+    let stopped = if refused.memory {
+        refused.fault
+    } else if calls < rows.len() {
+        Some(calls)
+    } else {
+        None
+    };
+    assert_eq!(rt;
+        (store.failures(), store.stop == Stop::Past, refused.fault),
+        (u64::from(reached), reached, stopped)
+    );
 }
 
 fn play_behind_each(rt: &impl Abort, alloc: Global, rows: &[Row]) {

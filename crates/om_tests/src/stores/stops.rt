@@ -1,6 +1,7 @@
 //! Stores over files that stop: what is found after the stop is what was there before the stopped call, or after it.
 
 use super::{checkpoint_at, receipts_from};
+use crate::databases::store_over;
 use om_stable::{MemStable, Stable, StoreError};
 use om_tables::SqlStable;
 use sqlite::{Alter, Connection, FileStore, Files, Options};
@@ -14,7 +15,7 @@ type Stopping = FileStore<Fuse<Memory>>;
 const ENDLESS: (u64, u64) = (u64::MAX, u64::MAX);
 
 // The call that a stop falls into, over a store with receipts 1 to 3 and checkpoints 0 and 2.
-#[derive(Clone, Copy, Debug)]
+#[derive(Clone, Copy)]
 enum Change {
     PutReceipts,
     PutCheckpoint,
@@ -23,14 +24,14 @@ enum Change {
 }
 
 // Which of the two files stops.
-#[derive(Clone, Copy, Debug)]
+#[derive(Clone, Copy)]
 enum Which {
     Log,
     Database,
 }
 
 // How a run ended.
-#[derive(Clone, Copy, Debug)]
+#[derive(Clone, Copy)]
 enum Ended {
     /// Before the call.
     Early,
@@ -167,32 +168,41 @@ fn carry_out<S: Stable>(alloc: Global, store: &mut S, task: Task) -> Outcome {
 }
 
 // Makes or takes the store over the connection, and does the task. What the tables lie in is handed back.
+#[inline(never)]
 fn done_over<S: Alter + Drop>(
+    rt: &impl Abort,
     alloc: Global,
     conn: Connection<S>,
     task: Task,
 ) -> Option<(Outcome, S)> {
-    if !conn.is_autocommit() {
-        return None;
-    }
-    let mut store = match task {
-        Task::Fill => SqlStable::create(alloc, conn).ok()?,
-        _ => SqlStable::adopt(alloc, conn).ok()?,
-    };
+    let is_new = matches!(task, Task::Fill);
+    let mut store = store_over(rt, alloc, conn, is_new).ok()?;
     let outcome = carry_out(alloc, &mut store, task);
-    Some((outcome, store.into_connection().into_store()))
+    Some((outcome, handed_back(store)))
+}
+
+#[inline(never)]
+fn handed_back<S: Alter + Drop>(store: SqlStable<S>) -> S {
+    store.into_connection().into_store()
+}
+
+#[inline(never)]
+fn closed(store: Stopping) -> Files<Fuse<Memory>> {
+    store.close()
 }
 
 // Opens files with these bytes and does the task, as far as the stop lets it. This is the one place where the generic
 // calls meet the files: each such place is dear to prove.
 fn done(
+    rt: &impl Abort,
     alloc: Global,
     bytes: (&[u8], &[u8]),
     calls: (u64, u64),
     task: Task,
 ) -> Option<(Outcome, Files<Fuse<Memory>>)> {
-    let (outcome, files) = done_over(alloc, open(alloc, bytes, calls)?, task)?;
-    Some((outcome, files.close()))
+    let conn = open(alloc, bytes, calls)?;
+    let (outcome, store) = done_over(rt, alloc, conn, task)?;
+    Some((outcome, closed(store)))
 }
 
 // The bytes of the files.
@@ -201,30 +211,31 @@ fn bytes_of(files: &Files<Fuse<Memory>>) -> (&[u8], &[u8]) {
 }
 
 // The files of a store that was filled without a stop.
-fn filled(alloc: Global) -> Option<Files<Fuse<Memory>>> {
-    let (filled, files) = done(alloc, (&[], &[]), ENDLESS, Task::Fill)?;
+fn filled(rt: &impl Abort, alloc: Global) -> Option<Files<Fuse<Memory>>> {
+    let (filled, files) = done(rt, alloc, (&[], &[]), ENDLESS, Task::Fill)?;
     filled.answer.ok()?;
     Some(files)
 }
 
 // What the files hold, opened and adopted without a stop.
-fn found(alloc: Global, files: &Files<Fuse<Memory>>) -> Option<Held> {
-    let (looked, _files) = done(alloc, bytes_of(files), ENDLESS, Task::Look)?;
+fn found(rt: &impl Abort, alloc: Global, files: &Files<Fuse<Memory>>) -> Option<Held> {
+    let (looked, _files) = done(rt, alloc, bytes_of(files), ENDLESS, Task::Look)?;
     looked.held
 }
 
 // Makes the change with a stop, and looks at what is there afterwards.
 fn run(
+    rt: &impl Abort,
     alloc: Global,
     start: &Files<Fuse<Memory>>,
     change: Change,
     calls: (u64, u64),
 ) -> Result<Ended, StoreError> {
     let task = Task::Apply(change);
-    let Some((changed, files)) = done(alloc, bytes_of(start), calls, task) else {
+    let Some((changed, files)) = done(rt, alloc, bytes_of(start), calls, task) else {
         return Ok(Ended::Early);
     };
-    let left = found(alloc, &files);
+    let left = found(rt, alloc, &files);
     let before = left == Some(expected(alloc, None)?);
     let after = left == Some(expected(alloc, Some(change))?);
     Ok(match changed.answer {
@@ -244,21 +255,21 @@ fn check_stops(rt: &impl Abort, alloc: Global, change: Change) {
 
 // Stops at each call of one file in turn, until a run ends without a stop: how many stops fell into the change.
 fn stops(rt: &impl Abort, alloc: Global, change: Change, which: Which) -> u64 {
-    let start = filled(alloc).expect(rt, "files without a stop");
+    let start = filled(rt, alloc).expect(rt, "files without a stop");
     let mut stopped = 0;
     for calls in 0..200u64 {
         let calls = match which {
             Which::Log => (calls, u64::MAX),
             Which::Database => (u64::MAX, calls),
         };
-        match run(alloc, &start, change, calls) {
+        match run(rt, alloc, &start, change, calls) {
             Ok(Ended::Early) => {}
             Ok(Ended::Stopped) => stopped = u64::saturating_add(stopped, 1),
             Ok(Ended::Done) => return stopped,
-            ended => panic!(rt; "{change:?} {which:?} {calls:?}: {ended:?}"),
+            _ => panic!(rt; "torn or refused at {calls:?}"),
         }
     }
-    panic!(rt; "{change:?} {which:?}: each run was stopped");
+    panic!(rt; "each run was stopped");
 }
 
 #[test]

@@ -1,9 +1,10 @@
 //! The rows of the stores over tables in memory, and which connections are taken.
 
-use super::{Row, play};
+use super::{Row, play_whole};
+use crate::databases::{expected, refused, store_over};
 use om_stable::Stable;
-use om_tables::{SqlStable, TablesError};
-use sqlite::{Connection, MemStore};
+use om_tables::TablesError;
+use sqlite::{Alter, Connection, MemStore};
 use std::alloc::Global;
 use std::process::Abort;
 
@@ -11,51 +12,13 @@ fn connected(rt: &impl Abort, alloc: Global) -> Connection<MemStore> {
     Connection::open_in_memory(alloc).expect(rt, "memory")
 }
 
-fn created(rt: &impl Abort, alloc: Global, conn: Connection<MemStore>) -> SqlStable<MemStore> {
-    assert!(rt; conn.is_autocommit());
-    match SqlStable::create(alloc, conn) {
-        Ok(store) => store,
-        Err((error, _conn)) => panic!(rt; "{error:?}"),
-    }
-}
-
-fn not_created(
-    rt: &impl Abort,
-    alloc: Global,
-    conn: Connection<MemStore>,
-) -> (TablesError, Connection<MemStore>) {
-    assert!(rt; conn.is_autocommit());
-    match SqlStable::create(alloc, conn) {
-        Ok(_) => panic!(rt; "made"),
-        Err(refused) => refused,
-    }
-}
-
-fn adopted(rt: &impl Abort, alloc: Global, conn: Connection<MemStore>) -> SqlStable<MemStore> {
-    assert!(rt; conn.is_autocommit());
-    match SqlStable::adopt(alloc, conn) {
-        Ok(store) => store,
-        Err((error, _conn)) => panic!(rt; "{error:?}"),
-    }
-}
-
-fn not_adopted(
-    rt: &impl Abort,
-    alloc: Global,
-    conn: Connection<MemStore>,
-) -> (TablesError, Connection<MemStore>) {
-    assert!(rt; conn.is_autocommit());
-    match SqlStable::adopt(alloc, conn) {
-        Ok(_) => panic!(rt; "taken"),
-        Err(refused) => refused,
-    }
-}
-
 pub(super) fn play_in_tables(rt: &impl Abort, alloc: Global, rows: &[Row]) {
-    let mut store = created(rt, alloc, connected(rt, alloc));
-    let refused = play(rt, alloc, &mut store, rows);
-    assert_eq!(rt; refused.fault, None);
-    assert_eq!(rt; store.failures(), 0);
+    play_over(rt, alloc, connected(rt, alloc), rows);
+}
+
+fn play_over<S: Alter + Drop>(rt: &impl Abort, alloc: Global, conn: Connection<S>, rows: &[Row]) {
+    let mut store = expected(rt, store_over(rt, alloc, conn, true));
+    play_whole(rt, alloc, &mut store, rows);
 }
 
 fn effective_below_9<S: Stable>(alloc: Global, store: &mut S) -> Option<(u32, Vec<u8>)> {
@@ -63,14 +26,12 @@ fn effective_below_9<S: Stable>(alloc: Global, store: &mut S) -> Option<(u32, Ve
 }
 
 // A connection that is handed back still works: each is taken by the other call.
-#[test]
-fn tables_are_made_once_and_taken_where_they_are(rt: HostRuntime) {
-    let alloc = rt.alloc();
-    let (missing, conn) = not_adopted(&rt, alloc, connected(&rt, alloc));
-    let mut store = created(&rt, alloc, conn);
+fn check_once<S: Alter + Drop>(rt: &impl Abort, alloc: Global, conn: Connection<S>) {
+    let (missing, conn) = refused(rt, store_over(rt, alloc, conn, false));
+    let mut store = expected(rt, store_over(rt, alloc, conn, true));
     let put = store.put_checkpoint(alloc, 7, b"at 7");
-    let (present, conn) = not_created(&rt, alloc, store.into_connection());
-    let mut store = adopted(&rt, alloc, conn);
+    let (present, conn) = refused(rt, store_over(rt, alloc, store.into_connection(), true));
+    let mut store = expected(rt, store_over(rt, alloc, conn, false));
     let found = effective_below_9(alloc, &mut store);
     let found = found.as_ref().map(|(x, bytes)| (*x, bytes.as_slice()));
     assert_eq!(rt;
@@ -85,58 +46,63 @@ fn tables_are_made_once_and_taken_where_they_are(rt: HostRuntime) {
     );
 }
 
-// Statements that make what is not just the two tables of a store.
-const OTHERS: [[&str; 2]; 3] = [
-    [
-        "CREATE TABLE receipts (x INTEGER PRIMARY KEY, body BLOB NOT NULL)",
-        "",
-    ],
-    [
-        "CREATE TABLE checkpoints (x INTEGER PRIMARY KEY, body BLOB NOT NULL)",
-        "",
-    ],
-    [
-        "CREATE TABLE receipts (x INTEGER PRIMARY KEY)",
-        "CREATE TABLE others (x INTEGER PRIMARY KEY)",
-    ],
-];
-
-// What is made beside the two tables of a store.
-const MORE: [&str; 2] = [
-    "CREATE TABLE more (x INTEGER PRIMARY KEY)",
-    "CREATE INDEX bodies ON receipts (body)",
-];
-
-fn execute(rt: &impl Abort, conn: &mut Connection<MemStore>, statement: &str) {
-    assert!(rt; statement.is_empty() || conn.execute(statement, &[]).is_ok());
+#[test]
+fn tables_are_made_once_and_taken_where_they_are(rt: HostRuntime) {
+    check_once(&rt, rt.alloc(), connected(&rt, rt.alloc()));
 }
 
-fn check_others(rt: &impl Abort, alloc: Global, statements: &[&str; 2]) {
-    let mut conn = connected(rt, alloc);
-    for statement in statements {
-        execute(rt, &mut conn, statement);
+// Whether the two tables of a store are made first, and statements then. What these make is not just such tables.
+static OTHERS: [(bool, [&str; 2]); 5] = [
+    (
+        false,
+        [
+            "CREATE TABLE receipts (x INTEGER PRIMARY KEY, body BLOB NOT NULL)",
+            "",
+        ],
+    ),
+    (
+        false,
+        [
+            "CREATE TABLE checkpoints (x INTEGER PRIMARY KEY, body BLOB NOT NULL)",
+            "",
+        ],
+    ),
+    (
+        false,
+        [
+            "CREATE TABLE receipts (x INTEGER PRIMARY KEY)",
+            "CREATE TABLE others (x INTEGER PRIMARY KEY)",
+        ],
+    ),
+    (true, ["CREATE TABLE more (x INTEGER PRIMARY KEY)", ""]),
+    (true, ["CREATE INDEX bodies ON receipts (body)", ""]),
+];
+
+fn check_others<S: Alter + Drop>(
+    rt: &impl Abort,
+    alloc: Global,
+    mut conn: Connection<S>,
+    has_tables: bool,
+    statements: &[&str; 2],
+) {
+    if has_tables {
+        conn = expected(rt, store_over(rt, alloc, conn, true)).into_connection();
     }
-    let (missing, conn) = not_adopted(rt, alloc, conn);
-    let (present, _conn) = not_created(rt, alloc, conn);
+    for statement in statements {
+        assert!(rt; statement.is_empty() || conn.execute(statement, &[]).is_ok());
+    }
+    let (missing, conn) = refused(rt, store_over(rt, alloc, conn, false));
+    let (present, _conn) = refused(rt, store_over(rt, alloc, conn, true));
     assert_eq!(rt;
         (missing, present),
         (TablesError::NoTables, TablesError::Present)
     );
 }
 
-fn check_more(rt: &impl Abort, alloc: Global, statement: &str) {
-    let mut conn = created(rt, alloc, connected(rt, alloc)).into_connection();
-    execute(rt, &mut conn, statement);
-    let (error, _conn) = not_adopted(rt, alloc, conn);
-    assert_eq!(rt; error, TablesError::NoTables);
-}
-
 #[test]
 fn other_tables_are_not_taken(rt: HostRuntime) {
-    for statements in &OTHERS {
-        check_others(&rt, rt.alloc(), statements);
-    }
-    for statement in MORE {
-        check_more(&rt, rt.alloc(), statement);
+    for (has_tables, statements) in &OTHERS {
+        let conn = connected(&rt, rt.alloc());
+        check_others(&rt, rt.alloc(), conn, *has_tables, statements);
     }
 }
