@@ -3,8 +3,8 @@ use om_interval::Pid;
 use om_isa::Ext;
 use om_manager::Output;
 use om_process::{Image, Status};
-use om_runner::{Config, Gate, OpenFault, Opener, Report, RunFault, run_cluster};
-use om_stable::MemStable;
+use om_runner::{Config, Gate, OpenFault, Opener, Report, RunFault, run_and_keep_stores};
+use om_stable::{FuseStable, MemStable, Stable, Stop};
 use std::alloc::Global;
 use std::process::Abort;
 use std::sync::Wait;
@@ -22,15 +22,42 @@ const RING: [u32; 34] = [
     0x00040513, 0x00000073,
 ];
 
-// Makes stores in memory.
+// A store in memory, which counts its calls.
+type Counted = FuseStable<MemStable>;
+
+// Makes such stores, of which that of one process stops a call.
 #[derive(Drop)]
-struct InMemory;
+struct Fused {
+    pid: Pid,
+    calls: u64,
+}
 
-impl<R> Opener<R> for InMemory {
-    type Store = MemStable;
+// None of their calls is stopped.
+fn unstopped() -> Fused {
+    Fused {
+        pid: Pid::at(0),
+        calls: u64::MAX,
+    }
+}
 
-    fn make(&self, _rt: &R, alloc: Global, _pid: Pid) -> Result<MemStable, OpenFault> {
-        Ok(MemStable::new(alloc))
+impl<R> Opener<R> for Fused {
+    type Store = Counted;
+
+    fn make(&self, _rt: &R, alloc: Global, pid: Pid) -> Result<Counted, OpenFault> {
+        let calls = if pid == self.pid {
+            self.calls
+        } else {
+            u64::MAX
+        };
+        Ok(FuseStable::new(MemStable::new(alloc), calls))
+    }
+}
+
+// How many calls a store has had that stops none.
+fn calls_of(store: &Counted) -> u64 {
+    match store.stop {
+        Stop::After(left) => u64::MAX - left,
+        Stop::Past => u64::MAX,
     }
 }
 
@@ -129,38 +156,112 @@ fn run<R: Threads + Wait + Abort + Sync, G: Gate + Sync>(
     alloc: Global,
     config: &Config,
     gate: &G,
-) -> Result<Report, RunFault> {
+    opener: &Fused,
+) -> Result<(Report, Vec<Counted>), RunFault> {
     assert!(rt; 1 <= config.images.len() && config.images.len() <= 16);
-    run_cluster(rt, alloc, config, gate, &InMemory)
+    run_and_keep_stores(rt, alloc, config, gate, opener)
 }
 
+// A ring goes round one process at a time, so no two kills meet in one round of recovery: each that happens makes one.
 fn assert_ring_runs<R: Threads + Wait + Abort + Sync, G: Gate + Sync>(
     rt: &R,
     alloc: Global,
     gate: &G,
     n: u32,
-    kills: &[(u32, u32)],
+    (kills, rounds): (&[(u32, u32)], u32),
 ) {
     let config = ring(rt, alloc, n as usize, kills);
-    let report = run(rt, alloc, &config, gate).expect(rt, "a report");
+    let (report, stores) = run(rt, alloc, &config, gate, &unstopped()).expect(rt, "a report");
     drop(config);
+    drop(stores);
     assert_ring(rt, n, &report);
+    let round = report.front.round;
     drop(report);
+    assert!(rt; round == rounds, "{round}");
 }
 
 fn assert_kills<R: Threads + Wait + Abort + Sync>(
     rt: &R,
     alloc: Global,
     n: u32,
-    kills: &[(u32, u32)],
+    row: (&[(u32, u32)], u32),
 ) {
-    assert_ring_runs(rt, alloc, &Always(true), n, kills);
+    assert_ring_runs(rt, alloc, &Always(true), n, row);
 }
 
 #[test]
-fn rings_with_two_kills(rt: HostRuntime) {
-    assert_kills(&rt, rt.alloc(), 8, &[(3, 3), (5, 5)]);
-    assert_kills(&rt, rt.alloc(), 16, &[(3, 3), (5, 5), (5, 5)]);
+fn rings_with_kills(rt: HostRuntime) {
+    assert_kills(&rt, rt.alloc(), 8, (&[(3, 3), (5, 5)], 2));
+    assert_kills(&rt, rt.alloc(), 8, (&[(7, 6)], 1));
+    assert_kills(&rt, rt.alloc(), 8, (&[(3, 7), (5, 0)], 0));
+    assert_kills(&rt, rt.alloc(), 16, (&[(3, 3), (5, 5), (5, 5)], 3));
+}
+
+// What one process's store of a ring of eight has had to do: so many calls, and the newest checkpoint's interval.
+fn kept_by<R: Threads + Wait + Abort + Sync>(
+    rt: &R,
+    alloc: Global,
+    config: &Config,
+    p: usize,
+) -> (u64, Option<u32>) {
+    let (report, mut stores) = run(rt, alloc, config, &Always(true), &unstopped()).expect(
+        rt, "a report",
+    );
+    drop(report);
+    let store = stores.get_mut(p).expect(rt, "a store");
+    let calls = calls_of(store);
+    let newest = store.effective(alloc, u32::MAX).expect(rt, "a checkpoint");
+    drop(stores);
+    (calls, newest.map(|(x, _)| x))
+}
+
+// Process 1 of a ring of eight, by the numbers of `flush` and `checkpoint`: its store is called for checkpoint 0 and for each
+// flush, of which the last comes as the process ends where anything is left.
+static NUMBERS: [(u32, u32, u64, u32); 4] = [
+    (1, 7, 7, 0),
+    (2, 7, 4, 0),
+    (4, 7, 3, 0),
+    (7, 7, 2, 0),
+];
+
+#[test]
+fn flushes_by_their_number(rt: HostRuntime) {
+    for (flush, checkpoint, calls, newest) in &NUMBERS {
+        let mut config = ring(&rt, rt.alloc(), 8, &[]);
+        config.flush = *flush;
+        config.checkpoint = *checkpoint;
+        let kept = kept_by(&rt, rt.alloc(), &config, 1);
+        drop(config);
+        assert!(&rt; kept == (*calls, Some(*newest)), "{kept:?}");
+    }
+}
+
+// The newest checkpoint of each, where one is taken every so many receipts.
+static CHECKPOINTS: [(u32, u32); 3] = [(4, 4), (3, 6), (6, 6)];
+
+#[test]
+fn checkpoints_by_their_number(rt: HostRuntime) {
+    for (checkpoint, newest) in &CHECKPOINTS {
+        let mut config = ring(&rt, rt.alloc(), 8, &[]);
+        config.checkpoint = *checkpoint;
+        let (_, kept) = kept_by(&rt, rt.alloc(), &config, 1);
+        drop(config);
+        assert!(&rt; kept == Some(*newest), "{kept:?}");
+    }
+}
+
+// Process 3 fails as its third message comes, and nobody has flushed. Process 1 stores its log as it joins, and as its first
+// receipt depends on nothing that is lost, it is rolled back to interval 1: a call to join, three to roll back (the newest
+// checkpoint, the receipts, the cut) and one as it ends, beside that for checkpoint 0. A process that stored nothing as it
+// joined would go back to interval 0 and need one call less.
+#[test]
+fn a_join_stores_the_log(rt: HostRuntime) {
+    let mut config = ring(&rt, rt.alloc(), 8, &[(3, 3)]);
+    config.flush = 7;
+    config.checkpoint = 7;
+    let kept = kept_by(&rt, rt.alloc(), &config, 1);
+    drop(config);
+    assert!(&rt; kept == (6, Some(0)), "{kept:?}");
 }
 
 // Why a ring of eight does not come to its end, with a gate that always gives this answer.
@@ -168,26 +269,42 @@ fn assert_fault<R: Threads + Wait + Abort + Sync>(
     rt: &R,
     alloc: Global,
     (is_open, turns, gate_turns): (bool, u64, u64),
+    opener: &Fused,
     wanted: RunFault,
 ) {
     let mut config = ring(rt, alloc, 8, &[]);
     config.turns = turns;
     config.gate_turns = gate_turns;
-    let told = run(rt, alloc, &config, &Always(is_open)).err();
+    let told = run(rt, alloc, &config, &Always(is_open), opener).err();
     drop(config);
     assert!(rt; told == Some(wanted), "{told:?}");
+}
+
+// The store of process 2 fails as it starts, and as it flushes first.
+#[test]
+fn a_store_fails(rt: HostRuntime) {
+    for calls in 0..2 {
+        let opener = Fused {
+            pid: Pid::at(2),
+            calls,
+        };
+        let wanted = RunFault::Fault(Pid::at(2));
+        assert_fault(&rt, rt.alloc(), (true, 50_000_000, 1), &opener, wanted);
+    }
 }
 
 #[test]
 fn shut_gate(rt: HostRuntime) {
     let row = (false, 50_000_000, 10);
-    assert_fault(&rt, rt.alloc(), row, RunFault::GateShut(Pid::at(0)));
+    let wanted = RunFault::GateShut(Pid::at(0));
+    assert_fault(&rt, rt.alloc(), row, &unstopped(), wanted);
 }
 
 #[test]
 fn one_turn(rt: HostRuntime) {
     let row = (true, 1, 1);
-    assert_fault(&rt, rt.alloc(), row, RunFault::Turns(Pid::at(0)));
+    let wanted = RunFault::Turns(Pid::at(0));
+    assert_fault(&rt, rt.alloc(), row, &unstopped(), wanted);
 }
 
 // Lets each of two processes start only once it was asked for the other.
@@ -215,5 +332,5 @@ fn two_at_once(rt: HostRuntime) {
         zero: AtomicBool::new(false),
         one: AtomicBool::new(false),
     };
-    assert_ring_runs(&rt, rt.alloc(), &gate, 2, &[]);
+    assert_ring_runs(&rt, rt.alloc(), &gate, 2, (&[], 0));
 }

@@ -30,22 +30,24 @@ fn number_of(message: Message) -> u32 {
     ssn
 }
 
-// Puts a message of this number: None where it is in the inbox, else the number of what came back.
-fn put_back(
-    rt: &impl Wait,
-    alloc: Global,
-    inbox: &Inbox,
-    pass: &mut PutPass,
-    ssn: u32,
-) -> Option<u32>
+// What is answered to a put, with the number of what comes back.
+#[derive(Clone, Copy, PartialEq, Eq, Drop)]
+enum Told {
+    Put,
+    Full(u32),
+    Gone(u32),
+}
+
+// Puts a message of this number.
+fn put_back(rt: &impl Wait, alloc: Global, inbox: &Inbox, pass: &mut PutPass, ssn: u32) -> Told
     requires { pass.old.line ≡ inbox.now }
     ensures { pass.new.line ≡ pass.old.line }
 {
     let message = message_of(alloc, inbox, ssn);
     match inbox.put(rt, pass, message) {
-        PutAnswer::Put => None,
-        PutAnswer::Full(back) => Some(number_of(back)),
-        PutAnswer::Gone(back) => Some(number_of(back)),
+        PutAnswer::Put => Told::Put,
+        PutAnswer::Full(back) => Told::Full(number_of(back)),
+        PutAnswer::Gone(back) => Told::Gone(number_of(back)),
     }
 }
 
@@ -56,7 +58,7 @@ fn fill(rt: &impl Wait, alloc: Global, inbox: &Inbox, pass: &mut PutPass) -> usi
 {
     let mut filled = 0;
     for ssn in 0..CAPACITY {
-        if put_back(rt, alloc, inbox, pass, ssn as u32).is_none() {
+        if put_back(rt, alloc, inbox, pass, ssn as u32) == Told::Put {
             filled += 1;
         }
     }
@@ -74,17 +76,16 @@ fn taken(rt: &impl Wait, inbox: &Inbox, pass: &mut TakePass) -> Option<u32>
     }
 }
 
-// How many messages are left, taken one by one.
-fn drain(rt: &impl Wait, inbox: &Inbox, pass: &mut TakePass) -> usize
+// Whether the messages from number 1 to 64 are left, in this order, and no other.
+fn drains(rt: &impl Wait, inbox: &Inbox, pass: &mut TakePass) -> bool
     requires { pass.old.line ≡ inbox.now }
 {
-    let mut count = 0;
-    for _ in 0..2 * CAPACITY {
-        if taken(rt, inbox, pass).is_some() {
-            count += 1;
+    for ssn in 1..=64 {
+        if taken(rt, inbox, pass) != Some(ssn) {
+            return false;
         }
     }
-    count
+    taken(rt, inbox, pass).is_none()
 }
 
 // It is filled, and what does not fit comes back. One is taken, and there is room.
@@ -101,9 +102,9 @@ fn assert_filled(
     ensures take { take.new.line ≡ take.old.line }
 {
     assert!(rt; fill(rt, alloc, inbox, put) == 64);
-    assert!(rt; put_back(rt, alloc, inbox, put, 64) == Some(64));
+    assert!(rt; put_back(rt, alloc, inbox, put, 64) == Told::Full(64));
     assert!(rt; taken(rt, inbox, take) == Some(0));
-    assert!(rt; put_back(rt, alloc, inbox, put, 64).is_none());
+    assert!(rt; put_back(rt, alloc, inbox, put, 64) == Told::Put);
 }
 
 // What was put is taken in order.
@@ -112,8 +113,7 @@ fn assert_drained(rt: &(impl Wait + Abort), inbox: &Inbox, put: PutPass, take: &
     requires take { take.old.line ≡ inbox.now }
 {
     inbox.settle(rt, take, put);
-    assert!(rt; taken(rt, inbox, take) == Some(1));
-    assert!(rt; drain(rt, inbox, take) == 63);
+    assert!(rt; drains(rt, inbox, take));
 }
 
 #[test]

@@ -24,12 +24,11 @@ fn noted_beside<K: Naming + Send + Sync, R: Threads + Wait + Abort + Sync>(
 }
 
 // A pass meets.
-fn met<K: Naming, R: Wait>(rt: &R, shared: &Shared<K>, pass: Pass<K>) -> Front {
+fn met<K: Naming, R: Wait>(rt: &R, shared: &Shared<K>, pass: Pass<K>) -> (Front, Pass<K>) {
     let mut board = shared.board.lock(rt);
-    let (met, pass) = shared.frontier.meet(rt, &mut board, pass);
-    drop(pass);
+    let told = shared.frontier.meet(rt, &mut board, pass);
     drop(board);
-    met
+    told
 }
 
 // A pass reads.
@@ -39,12 +38,12 @@ fn read<K: Naming, R: Wait>(rt: &R, frontier: &Frontier<K>, mut pass: Pass<K>) -
     front
 }
 
-// A thread notes, posts and ends. Then a first pass meets, and after it a second one reads, which has not met.
+// A thread notes, posts and ends. Then a first pass meets and reads, and after it a second one reads, which has not met.
 fn met_and_read<K: Naming + Send + Sync, R: Threads + Wait + Abort + Sync>(
     rt: &R,
     alloc: Global,
     blank: Blank,
-) -> (Front, Front)
+) -> (Front, Front, Front)
     requires { blank ≡ K.cell }
 {
     let (shared, mut passes) = Shared::<K>::new(alloc, blank).expect(rt, "memory");
@@ -52,18 +51,19 @@ fn met_and_read<K: Naming + Send + Sync, R: Threads + Wait + Abort + Sync>(
     let first = last(rt, &mut passes);
     drop(passes);
     noted_beside(rt, alloc, &shared);
-    let met = met(rt, &shared, first);
-    let read = read(rt, &shared.frontier, second);
+    let (met, first) = met(rt, &shared, first);
+    let read_after = read(rt, &shared.frontier, first);
+    let read_beside = read(rt, &shared.frontier, second);
     drop(shared);
-    (met, read)
+    (met, read_after, read_beside)
 }
 
 #[test]
 fn meet_then_read(rt: HostRuntime) {
     let blank = Blank::new(rt.alloc(), 2).expect(&rt, "memory");
-    let (met, read) = met_and_read::<Brand, _>(&rt, rt.alloc(), blank);
+    let (met, read_after, read_beside) = met_and_read::<Brand, _>(&rt, rt.alloc(), blank);
     let wanted = front(&rt, 1, 0, &[1, 0]);
-    assert!(&rt; met == wanted && read == wanted);
+    assert!(&rt; met == wanted && read_after == wanted && read_beside == wanted);
     laws::each_version_has_one_front();
 }
 
