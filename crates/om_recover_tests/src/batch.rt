@@ -6,6 +6,9 @@ use std::ops::Range;
 use std::process::Abort;
 use std::test::Fail;
 
+// The receipts of a script, for each process.
+const RECEIPTS: usize = 12;
+
 // Numbers that look random: the generator of Knuth's MMIX.
 #[derive(Drop)]
 struct Numbers(u64);
@@ -23,26 +26,48 @@ impl Numbers {
     }
 }
 
-fn is_there(rows: &[Row], kind: RowKind, pid: Pid, x: u32) -> bool {
-    rows.iter().any(|row| row.kind == kind && row.pid == pid && row.interval == x)
+// What stands at an interval of a process: a checkpoint, a log.
+#[derive(Clone, Copy)]
+struct AtInterval {
+    stored: bool,
+    logged: bool,
 }
 
-// Whether a checkpoint stands at or below the interval, and a log of each interval between.
-fn is_stable(rows: &[Row], pid: Pid, x: u32) -> bool {
-    for y in (0..=x).rev() {
-        if is_there(rows, RowKind::Checkpoint, pid, y) {
-            return true;
-        }
-        if !is_there(rows, RowKind::Log, pid, y) {
-            return false;
+// By interval, what stands there of a process.
+fn standing(alloc: Global, rows: &[Row], pid: Pid) -> Result<Vec<AtInterval>, AllocError> {
+    let nothing = AtInterval {
+        stored: false,
+        logged: false,
+    };
+    let mut by_interval = vec![in alloc; nothing; top(rows, pid) as usize + 1]?;
+    for row in rows {
+        if row.pid == pid
+            && let Some(there) = by_interval.get_mut(row.interval as usize)
+        {
+            match row.kind {
+                RowKind::Checkpoint => there.stored = true,
+                RowKind::Log => there.logged = true,
+            }
         }
     }
-    false
+    Ok(by_interval)
 }
 
-fn greatest_stable(rows: &[Row], pid: Pid, bound: u32) -> u32 {
+// By interval, whether it is stable: a checkpoint stands at it or below, and a log at each interval between.
+fn stable(alloc: Global, rows: &[Row], pid: Pid) -> Result<Vec<bool>, AllocError> {
+    let mut by_interval = Vec::new(alloc);
+    let mut is_below = false;
+    for at in &standing(alloc, rows, pid)? {
+        is_below = at.stored || (at.logged && is_below);
+        by_interval.push(is_below)?;
+    }
+    Ok(by_interval)
+}
+
+// The greatest stable interval up to a bound.
+fn greatest_stable(stable: &[bool], bound: u32) -> u32 {
     for x in (0..=bound).rev() {
-        if is_stable(rows, pid, x) {
+        if stable.get(x as usize) == Some(&true) {
             return x;
         }
     }
@@ -86,30 +111,34 @@ fn top(rows: &[Row], pid: Pid) -> u32 {
 }
 
 // The greatest recoverable state, from the tops downwards.
-fn recovered(rows: &[Row], n: usize) -> Option<DepVec> {
-    let mut state = DepVec::zeros(n)?;
+fn recovered(alloc: Global, rows: &[Row], n: usize) -> Result<DepVec, Fail> {
+    let mut state = DepVec::zeros(n).ok_or("a cluster")?;
+    let mut stables = Vec::new(alloc);
     for p in 0..n {
-        let pid = process(p)?;
-        let stable = greatest_stable(rows, pid, top(rows, pid));
-        state = with_place(&state, pid, stable);
+        let pid = process(p).ok_or("a process")?;
+        let intervals = stable(alloc, rows, pid)?;
+        state = with_place(&state, pid, greatest_stable(&intervals, top(rows, pid)));
+        stables.push(intervals)?;
     }
     for _ in 0..100_000 {
         let Some(pid) = blocked(rows, &state) else {
-            return Some(state);
+            return Ok(state);
         };
         let lower = place(&state, pid).saturating_sub(1);
-        state = with_place(&state, pid, greatest_stable(rows, pid, lower));
+        let intervals = stables.get(pid.index()).ok_or("a process")?;
+        state = with_place(&state, pid, greatest_stable(intervals, lower));
     }
-    None
+    Err("the search did not end".into())
 }
 
 fn greatest_checkpoint(rows: &[Row], pid: Pid, bound: u32) -> u32 {
-    for x in (0..=bound).rev() {
-        if is_there(rows, RowKind::Checkpoint, pid, x) {
-            return x;
+    let mut greatest = 0;
+    for row in rows {
+        if row.pid == pid && row.kind == RowKind::Checkpoint && row.interval <= bound {
+            greatest = row.interval.max(greatest);
         }
     }
-    0
+    greatest
 }
 
 // By process, the checkpoint that is used for its place of the state.
@@ -201,22 +230,48 @@ fn shuffle(rows: &mut [Row], numbers: &mut Numbers) {
     }
 }
 
-// Notes a row in the records and in the list: whether the records answer as the list has it.
+// Notes a row in the records and in the list: whether the records answer as the list has it, of which this was the state.
 fn offer(
     alloc: Global,
     records: &mut Records,
     rows: &mut Vec<Row>,
     row: Row,
-) -> Result<bool, AllocError> {
+    state: &mut DepVec,
+) -> Result<bool, Fail> {
     let was_there = rows.contains(&row);
     if !was_there {
         rows.push(row)?;
     }
+    let before = *state;
+    *state = recovered(alloc, rows, records.n())?;
     Ok(match records.note(alloc, row, &mut Work::new()) {
         Ok(Note::Known) => was_there,
-        Ok(_) => !was_there,
+        Ok(Note::Noted { raised }) => !was_there && raised == (before != *state),
         Err(_) => false,
     })
+}
+
+// Whether the records tell of a process the checkpoint that is used for its place of the state, and what it had received there.
+fn tells_of(records: &Records, rows: &[Row], number: usize) -> Option<bool> {
+    let pid = process(number)?;
+    if pid.index() >= records.n() {
+        return None;
+    }
+    let at = place(&records.recovery(), pid);
+    let row = rows
+        .iter()
+        .find(|row| row.pid == pid && row.interval == at)?;
+    let used = greatest_checkpoint(rows, pid, at);
+    Some(records.effective(pid) == used && records.got(pid) == row.got)
+}
+
+fn tells_of_all(records: &Records, rows: &[Row]) -> bool {
+    for p in 0..records.n() {
+        if tells_of(records, rows, p) != Some(true) {
+            return false;
+        }
+    }
+    true
 }
 
 fn cut(records: &mut Records, rows: &mut Vec<Row>) {
@@ -248,21 +303,23 @@ fn first_rows(alloc: Global, n: usize) -> Result<Vec<Row>, Fail> {
     Ok(rows)
 }
 
-// A script twice over, with a cut or a prune now and then: after each step the state is that of the plain search.
+// A script twice over, with a cut or a prune now and then: after each step the state is that of the plain search, with the
+// checkpoints that are used for it and what was received there.
 fn assert_script(rt: &impl Abort, alloc: Global, seed: u64) -> Result<(), Fail> {
     let mut numbers = Numbers(seed);
     let n = 2 + (seed % 15) as usize;
-    let script = rows_of_a_run(alloc, &mut numbers, n, 24)?;
+    let script = rows_of_a_run(alloc, &mut numbers, n, RECEIPTS * n)?;
     let mut records = Records::new(alloc, n)?;
     let mut rows = first_rows(alloc, n)?;
+    let mut state = DepVec::zeros(n).ok_or("a cluster")?;
     for row in script.iter().chain(&script) {
-        let is_told = offer(alloc, &mut records, &mut rows, *row)?;
+        let is_told = offer(alloc, &mut records, &mut rows, *row, &mut state)?;
         match numbers.below(12) {
             0 => cut(&mut records, &mut rows),
             1 => prune(&mut records, &mut rows)?,
             _ => {}
         }
-        let is_state = Some(records.recovery()) == recovered(&rows, n);
+        let is_state = records.recovery() == state && tells_of_all(&records, &rows);
         assert!(rt; is_told && is_state, "script {seed}: {row:?}");
     }
     Ok(())
