@@ -208,3 +208,16 @@ makes old new text r runs ended made = record {
     | inr none ↦ same_keeps old new (ended none)
   ];
 }
+
+-- ---- two statements
+abbrev done : {A : Type 0} → A → Result A Error
+done x = Ok x
+
+-- two statements one after the other
+pub makes_both : {A B C : Type 0} {Before Mid After : Database → Type 0} (old mid new : State) (x : A) (y : C) → Makes Before Mid old mid (done x)
+    → (HasCleanDisk new → HasCleanDisk mid) → {z : B} → Makes Mid After mid new (done z) → Makes Before After old new (done y)
+makes_both old mid new x y a back b = record {
+  made = λ h had begun. b.made h (a.made (back h) had begun) (a.goes_on (back h) begun);
+  goes_on = λ h begun. b.goes_on h (a.goes_on (back h) begun);
+  kept = λ h. keeps_then old mid new (a.kept (back h)) (b.kept h);
+}

@@ -64,3 +64,8 @@ pub record HasBothTables (schema : Schema) : Type 0 where
   pub tables : map (λ (t : Table). t.name) schema.tables ≡ codes "receipts" ∷ codes "checkpoints" ∷ []
   pub indexes : schema.indexes ≡ []
   pub views : schema.views ≡ []
+
+-- the database stands as it was last committed: nothing was changed, or all was undone
+pub record LeavesCommitted (old new : State) : Type 0 where
+  pub now : new.now ≡ old.committed
+  pub committed : new.committed ≡ old.committed

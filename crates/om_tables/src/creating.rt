@@ -1,5 +1,6 @@
 //! The two tables are made.
-ghost use Rattle.std.specs.Prelude.{◌≡◌, false, OnOk};
+ghost use Rattle.std.specs.Prelude.{◌≡◌, false, IsTrue, OnOk, OnErr};
+ghost use Rattle.om_tables.specs.Store.{LeavesCommitted};
 ghost use Rattle.om_tables.specs.steps.Statements.{Follows, Makes, HasNoTables, HasReceipts, HoldsNothing};
 ghost use Rattle.sqlite.specs.Held.{state};
 ghost use Rattle.sqlite.specs.State.{HasCleanDisk};
@@ -30,6 +31,17 @@ fn create_checkpoints<S: Alter>(tx: &mut Transaction<'_, S>) -> Result<usize, Er
     )
 }
 
+fn create_both<S: Alter>(tx: &mut Transaction<'_, S>) -> Result<(), Error>
+    ensures same_reference { tx.new.conn.ghost_name ≡ tx.old.conn.ghost_name }
+    ensures makes { Makes HasNoTables HoldsNothing
+        (state S.Store tx.old.conn.now) (state S.Store tx.new.conn.now) result }
+    ensures clean { HasCleanDisk (state S.Store tx.new.conn.now) → HasCleanDisk (state S.Store tx.old.conn.now) }
+{
+    create_receipts(tx)?;
+    create_checkpoints(tx)?;
+    Ok(())
+}
+
 // Makes both tables, or none.
 pub(crate) fn create_tables<S: Alter>(conn: &mut Connection<S>) -> Result<(), Error>
     requires idle { (state S.Store conn.old).in_transaction ≡ false }
@@ -38,10 +50,11 @@ pub(crate) fn create_tables<S: Alter>(conn: &mut Connection<S>) -> Result<(), Er
         → OnOk result (HoldsNothing (state S.Store conn.new).now) }
     ensures settled { HasCleanDisk (state S.Store conn.new)
         → OnOk result ((state S.Store conn.new).committed ≡ (state S.Store conn.new).now) }
+    ensures refused { HasCleanDisk (state S.Store conn.new) → IsTrue (state S.Store conn.new).is_open
+        → OnErr result (LeavesCommitted (state S.Store conn.old) (state S.Store conn.new)) }
     ensures follows { Follows (state S.Store conn.old) (state S.Store conn.new) }
 {
     let mut tx = conn.transaction();
-    create_receipts(&mut tx)?;
-    create_checkpoints(&mut tx)?;
+    create_both(&mut tx)?;
     tx.commit()
 }

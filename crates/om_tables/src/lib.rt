@@ -5,6 +5,7 @@ mod creating;
 mod deleting;
 mod error;
 mod inserting;
+pub mod laws;
 mod reading;
 mod sql_stable;
 

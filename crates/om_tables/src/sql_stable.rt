@@ -1,11 +1,11 @@
 //! The store over tables, as a `Stable`.
-ghost use Rattle.std.specs.Prelude.{◌≡◌, ◌≢◌, ◌≤◌, ℕ, [], ◌∷◌, map, codes, false, IsTrue, Some, None, ◌↔◌, is_ok, IfOk, IfErr, OnOk, OnErr};
+ghost use Rattle.std.specs.Prelude.{◌≡◌, ◌≢◌, ◌≤◌, ℕ, [], ◌∷◌, map, codes, false, IsTrue, Some, None, ◌↔◌, is_ok, IfOk, IfErr, IsErrOf, OnOk, OnErr};
 ghost use Rattle.std.specs.Result.{result_err};
 ghost use Rattle.std.specs.FinMap as map;
 ghost use Rattle.om_stable.specs.Count.{Rose};
 ghost use Rattle.om_stable.specs.declared.error.StoreError.TheVariants.{Fault};
 ghost use Rattle.om_tables.specs.Tables.{no_schema};
-ghost use Rattle.om_tables.specs.Store.{content_in, IsFormed, HasBothTables, is_sure};
+ghost use Rattle.om_tables.specs.Store.{content_in, IsFormed, HasBothTables, LeavesCommitted, is_sure};
 ghost use Rattle.sqlite.specs.Held.{state};
 
 use crate::creating::create_tables;
@@ -40,7 +40,8 @@ impl<S: Alter> Model for SqlStable<S> {
 }
 
 impl<S: Alter> SqlStable<S> {
-    /// Makes the tables in a database that has nothing. A refusal hands the connection back: Present, Fault, Memory.
+    /// Makes the tables in a database that has nothing. A refusal hands the connection back: Present, where there is a
+    /// table, an index or a view, Fault, Memory. Then the database stands as it was, or as it was last committed.
     pub fn create(
         _alloc: Global,
         mut conn: Connection<S>,
@@ -51,8 +52,11 @@ impl<S: Alter> SqlStable<S> {
             → content_in (state S.Store s.connection).now ≡ record { receipts = map.empty; checkpoints = map.empty }) }
         ensures clean { IfOk result (λ s. IsTrue (is_sure (state S.Store s.connection)) → IsTrue (is_sure (state S.Store conn))) }
         ensures count { IfOk result (λ s. s.failures ≡ 0) }
-        ensures present { IfErr result (λ e. e.0 ≡ TablesError.Present
-            → ((state S.Store conn).now.schema ≢ no_schema) × (e.1 ≡ conn)) }
+        ensures none { OnOk result ((state S.Store conn).now.schema ≡ no_schema) }
+        ensures present { IfErr result (λ e. (e.0 ≡ TablesError.Present) ↔ ((state S.Store conn).now.schema ≢ no_schema)) }
+        ensures untouched { IfErr result (λ e. e.0 ≡ TablesError.Present → e.1 ≡ conn) }
+        ensures undone { IfErr result (λ e. e.0 ≢ TablesError.Present → IsTrue (is_sure (state S.Store e.1))
+            → LeavesCommitted (state S.Store conn) (state S.Store e.1)) }
         ensures other { IfErr result (λ e. e.0 ≢ TablesError.NoTables) }
         ensures idle { IfErr result (λ e. e.1.in_transaction ≡ false) }
     {
@@ -62,8 +66,7 @@ impl<S: Alter> SqlStable<S> {
         }
         match create_tables(&mut conn) {
             Ok(()) => Ok(SqlStable { conn, failures: 0 }),
-            Err(Error::SqliteFailure(ErrorCode::OutOfMemory)) => Err((TablesError::Memory, conn)),
-            Err(_) => Err((TablesError::Fault, conn)),
+            Err(error) => Err((refusal_of(error), conn)),
         }
     }
 
@@ -116,11 +119,23 @@ fn are_receipts_and_checkpoints(tables: &[Table]) -> bool
     checkpoints.name.as_slice() == b"checkpoints".as_slice()
 }
 
+// Why the tables were not made, by the error of `sqlite`.
+fn refusal_of(error: Error) -> TablesError
+    ensures memory { (result ≡ TablesError.Memory) ↔ (error ≡ Error.SqliteFailure ErrorCode.OutOfMemory) }
+    ensures fault { result ≢ TablesError.Memory → result ≡ TablesError.Fault }
+{
+    match error {
+        Error::SqliteFailure(ErrorCode::OutOfMemory) => TablesError::Memory,
+        _ => TablesError::Fault,
+    }
+}
+
 // Counts an error of `sqlite`, except want of memory.
 fn told<T>(failures: &mut u64, outcome: Result<T, Error>) -> Result<T, StoreError>
     ensures ok { IfOk result (λ x. outcome ≡ Ok x) }
     ensures err { is_ok result ≡ is_ok outcome }
     ensures never_present { result ≢ Err StoreError.Present }
+    ensures memory { IsErrOf result StoreError.Memory ↔ IsErrOf outcome (Error.SqliteFailure ErrorCode.OutOfMemory) }
     ensures fault { result_err result ≡ Some Fault → Rose failures.old failures.new }
     ensures count { failures.old ≤ failures.new }
     ensures kept { result_err result ≢ Some Fault → failures.new ≡ failures.old }

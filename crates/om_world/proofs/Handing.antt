@@ -294,19 +294,6 @@ behind w p held c h lt own r =
     number : (first next k : ℕ) → first ≤ next → next + k ≡ first + ((next - first) + k)
     number first next k le = omega arith
 
--- ---- in a loop
-pub handed_next : (old mid new : ManagerState) (round p : ℕ) (ms : List Made) (m : Made) (note : OutputNote) → AreHanded old round p ms mid → IsHanded mid round p m (Ok note) new → AreHanded old round p (ms ++ m ∷ []) new
-handed_next old mid new round p [] m note same one = (new, note, subst (λ k. IsHanded k round p m (Ok note) new) same one, refl)
-handed_next old mid new round p (d ∷ ms) m note handed one = (handed.0, handed.1, handed.2, handed_next handed.0 mid new round p ms m note handed.3 one)
-
-pub take_next : (ms : List Made) (i : ℕ) (m : Made) → slice_get ms i ≡ Some m → take i ms ++ m ∷ [] ≡ take (i + 1) ms
-take_next [] i m at = absurd (none_in i m at)
-take_next (d ∷ ms) zero m at = ap (λ x. x ∷ []) (sym (once d m at))
-take_next (d ∷ ms) (suc i) m at = ap (λ l. d ∷ l) (take_next ms i m at) ∙ ap (λ k. take k (d ∷ ms)) (next i)
-  where
-    next : (i : ℕ) → suc (i + 1) ≡ suc i + 1
-    next i = omega arith
-
 -- ---- a process that is up hands in
 abbrev pub IsHandedIn : WorldState → ℕ → Result (Unit {0}) OutputError → ManagerState → Type 0
 IsHandedIn w p end m = (c : CoreState) × (slice_get w.cores p ≡ Some (Some c)) × AreHandedUpTo w.manager c.round p (outputs_from c (length (held_by w.manager p))) end m

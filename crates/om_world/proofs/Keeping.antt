@@ -1,28 +1,15 @@
 -- What each event leaves.
-use Rattle.std.proofs.Common.{◌≡◌, ℕ, List, [], ◌∷◌, ◌++◌, Result, refl, sym, ap, ◌∙◌, subst, arith}
-use mathlib.Core.List.{IsPrefix}
+use Rattle.std.proofs.Common.{◌≡◌, ℕ, List, [], ◌∷◌, Result, sym, ap, ◌∙◌, subst, arith}
 use Rattle.om_stable.specs.declared.error.StoreError.{StoreError}
 use Rattle.om_process.specs.declared.row.Row.{Row}
 use Rattle.om_recover.specs.declared.row.RowKind.{RowKind}
 use Rattle.om_manager.specs.Sound.{KeepsReleased}
 use Rattle.om_manager.specs.State.{ManagerState, released_by, size_of}
 use Rattle.om_manager.specs.declared.answers.RecordError.{RecordError}
+pub use Rattle.om_member.proofs.KeepLemmas.{prefix_then}
+use Rattle.om_member.proofs.KeepLemmas.{prefix_same}
 use Rattle.om_world.specs.World.{WorldState, all_clean}
 use Rattle.om_world.specs.steps.Moves.{AreTold, HasCalled, HasTold, Keeps}
-
-prefix_same : {A : Type 0} (xs : List A) → IsPrefix xs xs
-prefix_same xs = ([], nothing xs)
-  where
-    nothing : {A : Type 0} (xs : List A) → xs ++ [] ≡ xs
-    nothing [] = refl
-    nothing (x ∷ xs) = ap (λ l. x ∷ l) (nothing xs)
-
-pub prefix_then : {A : Type 0} (xs ys zs : List A) → IsPrefix xs ys → IsPrefix ys zs → IsPrefix xs zs
-prefix_then xs ys zs a b = (a.0 ++ b.0, joined xs a.0 b.0 ∙ ap (λ l. l ++ b.0) a.1 ∙ b.1)
-  where
-    joined : {A : Type 0} (xs ys zs : List A) → xs ++ (ys ++ zs) ≡ (xs ++ ys) ++ zs
-    joined [] ys zs = refl
-    joined (x ∷ xs) ys zs = ap (λ l. x ∷ l) (joined xs ys zs)
 
 pub keeps_same : (m : ManagerState) → KeepsReleased m m
 keeps_same m p lt = prefix_same (released_by m p)

@@ -1,6 +1,6 @@
 -- Rows that the manager is told.
-use Rattle.std.proofs.Common.{◌≡◌, ◌⊎◌, inl, inr, ℕ, zero, suc, ◌+◌, ◌≤◌, List, [], ◌∷◌, ◌++◌, length, take, get_or, Some, true, false, Ok, Err, refl, sym, ap, ◌∙◌, subst, arith, length-append}
-use Rattle.std.specs.Prelude.{slice_get, slice_index, slice_index_or}
+use Rattle.std.proofs.Common.{◌≡◌, ◌⊎◌, inl, inr, ℕ, zero, suc, ◌+◌, ◌≤◌, List, [], ◌∷◌, ◌++◌, length, get_or, true, false, Ok, refl, sym, ap, ◌∙◌, subst, arith, length-append}
+use Rattle.std.specs.Prelude.{slice_index, slice_index_or}
 use Rattle.om_interval.specs.Vectors.{IsBelow}
 use Rattle.om_process.specs.declared.row.Row.{Row}
 use Rattle.om_recover.specs.Rows.{HasRow, Rows}
@@ -8,35 +8,14 @@ use Rattle.om_recover.specs.declared.row.Row as noted
 use Rattle.om_recover.specs.declared.note.Note.{Note}
 use Rattle.om_recover.specs.declared.note.Note.TheVariants.{Noted, Known}
 use Rattle.om_recover.proofs.RowsLemmas.{kept, of_inserted}
-use Rattle.om_manager.specs.Notes.{Notes, after_note}
+use Rattle.om_manager.specs.Notes.{after_note}
 use Rattle.om_manager.specs.Outputs.{HeldOutput, within}
 use Rattle.om_manager.specs.Sound.{IsManager, KeepsReleased}
 use Rattle.om_manager.specs.State as managers
 use Rattle.om_manager.specs.State.{ManagerState, held_by, released_by}
-use Rattle.om_manager.specs.declared.answers.RecordError.{RecordError}
-use Rattle.om_manager.specs.declared.answers.RecordError.TheVariants.{Stale, Refused}
 use Rattle.om_world.specs.Changes.{NotesAll, row_for}
 use Rattle.om_world.specs.steps.Moves.{AreTold, IsTold}
-use Rattle.om_world.proofs.Lists.{none_in, once}
 use Rattle.om_world.proofs.Raising.{GoesOn, beyond, less}
-
--- ---- one row more
-pub told_more : (old mid new : ManagerState) (round p : ℕ) (rows : List Row) (row : Row) (note : Note) → AreTold old round p rows mid → IsTold mid round p row (Ok note) new → AreTold old round p (rows ++ row ∷ []) new
-told_more old mid new round p [] row note same one = (new, note, subst (λ m. IsTold m round p row (Ok note) new) same one, refl)
-told_more old mid new round p (r ∷ rows) row note told one = (told.0, told.1, told.2, told_more told.0 mid new round p rows row note told.3 one)
-
-pub take_next : (rows : List Row) (i : ℕ) (row : Row) → slice_get rows i ≡ Some row → take i rows ++ row ∷ [] ≡ take (i + 1) rows
-take_next [] i row at = absurd (none_in i row at)
-take_next (r ∷ rows) zero row at = ap (λ x. x ∷ []) (sym (once r row at))
-take_next (r ∷ rows) (suc i) row at = ap (λ l. r ∷ l) (take_next rows i row at) ∙ ap (λ k. take k (r ∷ rows)) (next i)
-  where
-    next : (i : ℕ) → suc (i + 1) ≡ suc i + 1
-    next i = omega arith
-
--- a refusal leaves the manager
-pub refused_same : (old new : ManagerState) (round : ℕ) (row : noted.Row) (fault : RecordError) → Notes old round row (Err fault) new → new ≡ old
-refused_same old new round row (Stale told) n = n.3
-refused_same old new round row (Refused fault) n = n.2
 
 -- as the rows are said to be noted
 pub told_notes : (old new : ManagerState) (round p : ℕ) (rows : List Row) → AreTold old round p rows new → NotesAll old p rows new

@@ -1,5 +1,5 @@
 -- What is said of several events: who changes, what is sent, handed in and stored.
-use Rattle.std.specs.Prelude.{◌≡◌, ◌⊎◌, ℕ, zero, suc, ◌<◌, ◌≤◌, List, [], ◌∷◌, ◌++◌, length, take, drop, slice_get, slice_set, Some, Ok, if◌then◌else◌}
+use Rattle.std.specs.Prelude.{◌≡◌, ◌⊎◌, ℕ, zero, suc, ◌<◌, ◌≤◌, List, [], ◌∷◌, ◌++◌, length, take, drop, slice_get, slice_set, Some, Ok}
 use Rattle.om_format.specs.declared.queue.Entry as kept
 use Rattle.om_format.specs.declared.message.Message.{Message}
 use Rattle.om_format.specs.Queues.{queue_end}
@@ -9,8 +9,6 @@ use Rattle.om_process.specs.Core.{CoreState, size_of, with_pending}
 use Rattle.om_process.specs.Frames.{messages_to, outputs_of}
 use Rattle.om_process.specs.Kept.{numbered}
 use Rattle.om_process.specs.Stores.{HasGainedLog, HasGainedCheckpoint, flushed, checkpointed}
-use Rattle.om_recover.specs.Records.{log_of, checkpoint_of}
-use Rattle.om_recover.specs.declared.row.Row as noted
 use Rattle.om_recover.specs.declared.note.Note.{Note}
 use Rattle.om_recover.specs.declared.row.RowKind.{RowKind}
 use Rattle.om_recover.specs.declared.row.RowKind.TheVariants.{Checkpoint, Log}
@@ -19,6 +17,7 @@ use Rattle.om_manager.specs.Outputs.{HeldOutput}
 use Rattle.om_manager.specs.State.{ManagerState, held_by}
 use Rattle.om_world.specs.declared.place.Place.{Place}
 use Rattle.om_world.specs.World.{WorldState}
+pub use Rattle.om_member.specs.Told.{row_for}
 
 -- what was received stays, and who is up
 pub record Stays (old new : WorldState) : Type 0 where
@@ -72,10 +71,6 @@ abbrev pub HoldsMore : ManagerState → ℕ → ManagerState → Type 0
 HoldsMore old p new = (more : List HeldOutput) × (new ≡ record old { outputs = slice_set old.outputs p (held_by old p ++ more) })
 
 -- ---- records that are stored and noted
--- a pending row of a process, as the manager is told it
-abbrev pub row_for : ℕ → pending.Row → noted.Row
-row_for p row = if row.ckpt then checkpoint_of p row.x row.vec row.got else log_of p row.x row.vec row.got
-
 -- the rows are offered in order, and each is noted or known
 abbrev pub NotesAll : ManagerState → ℕ → List pending.Row → ManagerState → Type 0
 NotesAll old p [] new = new ≡ old

@@ -16,8 +16,8 @@ ghost use Rattle.om_world.specs.steps.Running.{AreHandedUpTo, AreKept, HasHanded
 use crate::event::{Answer, Refusal};
 use crate::world::World;
 use om_interval::{MAX_PROCESSES, Pid};
-use om_manager::{Manager, OutputError, OutputNote};
-use om_process::{Made, ProcCore, Ran};
+use om_manager::{Manager, OutputError};
+use om_process::{ProcCore, Ran};
 use om_stable::Stable;
 use std::alloc::{AllocError, Global};
 
@@ -71,42 +71,6 @@ fn outputs_at(cores: &Vec<Option<ProcCore>>, p: usize) -> usize
     }
 }
 
-// Hands an output in.
-fn hand_one(
-    manager: &mut Manager,
-    alloc: Global,
-    pid: Pid,
-    round: u32,
-    output: &Made,
-) -> Result<OutputNote, OutputError>
-    ensures { IsHanded manager.old round pid output.now result manager.new }
-{
-    manager.note_output(
-        alloc,
-        pid,
-        round,
-        output.interval,
-        output.seq,
-        output.bytes.as_slice(),
-    )
-}
-
-// Hands outputs in, in order, up to the first that is refused.
-fn hand_all(
-    manager: &mut Manager,
-    alloc: Global,
-    pid: Pid,
-    round: u32,
-    outputs: &[Made],
-) -> Result<(), OutputError>
-    ensures { AreHandedUpTo manager.old round pid outputs.now result manager.new }
-{
-    for i in 0..outputs.len() {
-        hand_one(manager, alloc, pid, round, &outputs[i])?;
-    }
-    Ok(())
-}
-
 // Hands in the outputs of the process at a place from the manager's next one on.
 fn hand_at(
     cores: &Vec<Option<ProcCore>>,
@@ -120,10 +84,8 @@ fn hand_at(
     ensures { (c : CoreState) × (slice_get cores.now.items p ≡ Some (Some c))
         × AreHandedUpTo manager.old c.round p (outputs_from c (length (held_by manager.old p))) result manager.new }
 {
-    let pid = Pid::at(p);
-    let next = manager.next_output(pid);
     match &cores[p] {
-        Some(core) => hand_all(manager, alloc, pid, core.round(), core.outputs_from(next)),
+        Some(core) => om_member::hand_in(core, manager, alloc, Pid::at(p)),
         None => unreachable!(),
     }
 }

@@ -12,8 +12,8 @@ use crate::event::{Answer, Refusal};
 use crate::world::World;
 use om_interval::Pid;
 use om_manager::{Manager, RecordError};
-use om_process::{ProcCore, Row};
-use om_recover::{Note, RowKind};
+use om_process::ProcCore;
+use om_recover::RowKind;
 use om_stable::{Stable, StoreError};
 use std::alloc::Global;
 
@@ -41,41 +41,6 @@ fn store_at<S: Stable>(
     }
 }
 
-// Offers a row to the manager.
-fn tell(
-    manager: &mut Manager,
-    alloc: Global,
-    pid: Pid,
-    round: u32,
-    row: &Row,
-) -> Result<Note, RecordError>
-    ensures { IsTold manager.old round pid row.now result manager.new }
-{
-    if row.ckpt {
-        manager.note_checkpoint(alloc, pid, round, row.x, &row.vec, &row.got)
-    } else {
-        manager.note_logged(alloc, pid, round, row.x, &row.vec, &row.got)
-    }
-}
-
-// Offers rows in order, up to the first that is refused, and says how many were not.
-fn tell_all(
-    manager: &mut Manager,
-    alloc: Global,
-    pid: Pid,
-    round: u32,
-    rows: &[Row],
-) -> (usize, Result<(), RecordError>)
-    ensures { IsToldUpTo manager.old round pid rows.now result.0 result.1 manager.new }
-{
-    for count in 0..rows.len() {
-        if let Err(fault) = tell(manager, alloc, pid, round, &rows[count]) {
-            return (count, Err(fault));
-        }
-    }
-    (rows.len(), Ok(()))
-}
-
 // Offers the pending rows of the process at a place, and drops those that were not refused.
 fn note_at(
     cores: &mut Vec<Option<ProcCore>>,
@@ -90,11 +55,7 @@ fn note_at(
         × (cores.new.items ≡ slice_set cores.old.items p (Some (with_pending c (drop result.0 c.pending)))) }
 {
     match &mut cores[p] {
-        Some(core) => {
-            let (count, end) = tell_all(manager, alloc, Pid::at(p), core.round(), core.pending());
-            core.noted(count);
-            (count, end)
-        }
+        Some(core) => om_member::note(core, manager, alloc, Pid::at(p)),
         None => unreachable!(),
     }
 }

@@ -1,20 +1,16 @@
 -- What a call makes of the cores.
-use Rattle.std.specs.Prelude.{◌≡◌, ℕ, ◌≤◌, List, [], ◌∷◌, ◌++◌, length, take, drop, slice_get, slice_set, Bool, true, IsTrue, IsSome, Option, Some, Result, Ok, Err, OnOk, IfErr}
+use Rattle.std.specs.Prelude.{◌≡◌, ℕ, ◌≤◌, List, [], ◌∷◌, ◌++◌, length, drop, slice_get, slice_set, Bool, true, IsTrue, IsSome, Option, Some, Result, Ok, Err, IfErr}
 use Rattle.std.specs.FinMap.{get}
-use Rattle.om_interval.specs.Vectors.{IsBelow}
 use Rattle.om_stable.specs.Content.{Content, IsTaken}
 use Rattle.om_stable.specs.declared.error.StoreError.{StoreError}
 use Rattle.om_stable.specs.declared.error.StoreError.TheVariants.{Present}
 use Rattle.om_stable.specs.declared.error.StoreError.TheVariants as store_errors
-use Rattle.om_process.specs.declared.row.Row.{Row}
 use Rattle.om_process.specs.Stores.{first_logged}
 use Rattle.om_process.specs.Trims.{trimmed}
-use Rattle.om_recover.specs.declared.note.Note.{Note}
 use Rattle.om_recover.specs.declared.row.RowKind.{RowKind}
 use Rattle.om_recover.specs.declared.row.RowKind.TheVariants.{Checkpoint, Log}
-use Rattle.om_manager.specs.Notes.{Notes}
-use Rattle.om_manager.specs.Sound.{IsManager, KeepsReleased}
-use Rattle.om_manager.specs.State.{ManagerState, size_of}
+use Rattle.om_manager.specs.Sound.{KeepsReleased}
+use Rattle.om_manager.specs.State.{size_of}
 use Rattle.om_recover.specs.declared.note.NoteError.TheVariants as refusals
 use Rattle.om_manager.specs.declared.answers.RecordError.{RecordError}
 use Rattle.om_manager.specs.declared.answers.FailError.{FailError}
@@ -36,8 +32,9 @@ use Rattle.om_world.specs.declared.event.Event.{Event}
 use Rattle.om_world.specs.declared.event.Refusal.{Refusal}
 use Rattle.om_world.specs.declared.event.Refusal.TheVariants as why
 use Rattle.om_process.specs.Core.{CoreState, CoreTurns, with_now, with_pending}
-use Rattle.om_world.specs.Changes.{HasGained, row_for, stored}
+use Rattle.om_world.specs.Changes.{HasGained, stored}
 use Rattle.om_world.specs.Happened.{HasRun}
+pub use Rattle.om_member.specs.Told.{AreTold, IsTold, IsToldUpTo}
 
 -- there is a core at this place
 abbrev pub HasCore : List (Option CoreState) → ℕ → Type 0
@@ -100,27 +97,6 @@ pub record IsCalled {S : Type 0} (content : S → Content) (is_clean : S → Boo
   pub did : IsTrue (is_clean after) → IsSound before → Did (content before) (content after)
 
 -- ---- the manager
--- a row is offered to the manager
-pub record IsTold (old : ManagerState) (round p : ℕ) (row : Row) (answer : Result Note RecordError) (new : ManagerState) : Type 0 where
-  pub answers : Notes old round (row_for p row) answer new
-  pub sound : IsManager new
-  pub below : IsBelow old.recovery new.recovery
-  pub released : KeepsReleased old new
-
--- rows are offered in order, and none is refused
-abbrev pub AreTold : ManagerState → ℕ → ℕ → List Row → ManagerState → Type 0
-AreTold old round p [] new = new ≡ old
-AreTold old round p (row ∷ rows) new =
-    (mid : ManagerState) × (note : Note) × IsTold old round p row (Ok note) mid × AreTold mid round p rows new
-
--- the rows are offered up to the first that is refused
-pub record IsToldUpTo (old : ManagerState) (round p : ℕ) (rows : List Row) (count : ℕ)
-    (end : Result (Unit {0}) RecordError) (new : ManagerState) : Type 0 where
-  pub within : count ≤ length rows
-  pub told : AreTold old round p (take count rows) new
-  pub all : OnOk end (count ≡ length rows)
-  pub refused : IfErr end (λ fault. (row : Row) × (slice_get rows count ≡ Some row) × Notes new round (row_for p row) (Err fault) new)
-
 -- a process stored what it keeps of a kind, or its store refused; a log's receipts are never there already
 pub record HasCalled (kind : RowKind) (old : WorldState) (p : ℕ) (answer : Result (Unit {0}) StoreError) (new : WorldState) : Type 0 where
   pub core : CoreState

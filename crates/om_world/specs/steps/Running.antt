@@ -1,21 +1,17 @@
 -- What the calls of a run do.
-use Rattle.std.specs.Prelude.{◌≡◌, ℕ, ◌-◌, ◌<◌, ◌≤◌, List, [], ◌∷◌, ◌++◌, length, take, drop, max, slice_get, slice_index, Option, Some, Result, Ok, Err, OnOk, IfErr}
-use Rattle.om_interval.specs.Vectors.{IsBelow}
+use Rattle.std.specs.Prelude.{◌≡◌, ℕ, ◌<◌, ◌≤◌, List, ◌++◌, length, slice_get, slice_index, Option, Some, Result, OnOk, IfErr}
 use Rattle.om_format.specs.declared.message.Message.{Message}
 use Rattle.om_process.specs.Core.{CoreState, size_of}
-use Rattle.om_process.specs.Frames.{messages_to, outputs_of}
-use Rattle.om_process.specs.Kept.{made_as, numbered}
-use Rattle.om_process.specs.declared.queues.Made.{Made}
-use Rattle.om_manager.specs.Notes.{NotesOutput, Offer}
-use Rattle.om_manager.specs.Sound.{IsManager, KeepsReleased}
-use Rattle.om_manager.specs.State.{ManagerState, held_by}
-use Rattle.om_manager.specs.declared.answers.OutputNote.{OutputNote}
+use Rattle.om_process.specs.Frames.{messages_to}
+use Rattle.om_manager.specs.Sound.{KeepsReleased}
+use Rattle.om_manager.specs.State.{held_by}
 use Rattle.om_manager.specs.declared.answers.OutputError.{OutputError}
 use Rattle.om_manager.specs.declared.answers.OutputError.TheVariants as refused
 use Rattle.om_world.specs.declared.event.Refusal.{Refusal}
 use Rattle.om_world.specs.declared.event.Refusal.TheVariants as why
 use Rattle.om_world.specs.Changes.{HoldsMore, made_by, messages_behind}
 use Rattle.om_world.specs.World.{WorldState, IsKnown}
+pub use Rattle.om_member.specs.Handed.{AreHanded, AreHandedUpTo, IsHanded, offer_of, outputs_from}
 
 -- ---- messages
 -- these are how many messages to each process a core keeps
@@ -39,37 +35,6 @@ HasSent old p few sent new =
     × (new ≡ record old { frames = old.frames ++ messages_past c few })
 
 -- ---- outputs
--- the outputs of a core from this number on
-abbrev pub outputs_from : CoreState → ℕ → List Made
-outputs_from c seq = numbered made_as (max (outputs_of c).first seq) (drop (seq - (outputs_of c).first) (outputs_of c).entries)
-
--- an output as it is offered to the manager
-abbrev pub offer_of : ℕ → ℕ → Made → Offer
-offer_of round p m = record { pid = p; round = round; seq = m.seq; output = record { interval = m.interval; bytes = m.bytes } }
-
--- an output is handed in
-pub record IsHanded (old : ManagerState) (round p : ℕ) (m : Made) (answer : Result OutputNote OutputError)
-    (new : ManagerState) : Type 0 where
-  pub answers : NotesOutput old (offer_of round p m) answer new
-  pub sound : IsManager new
-  pub below : IsBelow old.recovery new.recovery
-  pub released : KeepsReleased old new
-
--- outputs are handed in in order, and none is refused
-abbrev pub AreHanded : ManagerState → ℕ → ℕ → List Made → ManagerState → Type 0
-AreHanded old round p [] new = new ≡ old
-AreHanded old round p (m ∷ ms) new =
-    (mid : ManagerState) × (note : OutputNote) × IsHanded old round p m (Ok note) mid × AreHanded mid round p ms new
-
--- the outputs are handed in up to the first that is refused
-pub record AreHandedUpTo (old : ManagerState) (round p : ℕ) (ms : List Made) (end : Result (Unit {0}) OutputError)
-    (new : ManagerState) : Type 0 where
-  pub count : ℕ
-  pub within : count ≤ length ms
-  pub handed : AreHanded old round p (take count ms) new
-  pub all : OnOk end (count ≡ length ms)
-  pub refused : IfErr end (λ fault. (m : Made) × (slice_get ms count ≡ Some m) × NotesOutput new (offer_of round p m) (Err fault) new)
-
 -- the manager is handed what a process made and it had not, up to the first output that it refuses for want of memory
 pub record HasHandedIn (old : WorldState) (p : ℕ) (end : Result (Unit {0}) OutputError) (new : WorldState) : Type 0 where
   pub core : CoreState

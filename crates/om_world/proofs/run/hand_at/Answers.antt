@@ -1,8 +1,8 @@
 use Rattle.om_world.proofs.Standing.{core_read, core_within}
 use Rattle.om_world.proofs.run.hand_at.Goals as goal
 
-pub at-pid-requires : goal.at-pid-requires
-at-pid-requires c = c.requires.few
+pub at-requires : goal.at-requires
+at-requires c = c.requires.few
 
 pub index-requires : goal.index-requires
 index-requires c = core_within _ c.args.p _ c.requires.core c.args.cores.now.ok.0

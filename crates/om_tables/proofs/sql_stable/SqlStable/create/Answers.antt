@@ -2,7 +2,7 @@ use Rattle.std.proofs.Common.{◌≡◌, ◌∙◌, sym}
 use Rattle.sqlite.specs.Held.{state}
 use Rattle.om_tables.specs.Tables.{no_schema}
 use Rattle.om_tables.proofs.HoldsLemmas.{content_is, formed}
-use Rattle.om_tables.proofs.SureLemmas.{clean_of, was_sure, nothing_there}
+use Rattle.om_tables.proofs.SureLemmas.{clean_of, open_of, was_sure, nothing_there}
 use Rattle.om_tables.proofs.sql_stable.SqlStable.create.Goals as goal
 
 pub returns-in-Ok-clause-sound : goal.returns-in-Ok-clause-sound
@@ -21,3 +21,8 @@ returns-in-Ok-clause-empty g c h =
 
 pub returns-in-Ok-clause-clean : goal.returns-in-Ok-clause-clean
 returns-in-Ok-clause-clean g c h = was_sure (state g.S.Store c.args.conn) (state g.S.Store c.create_tables.new.conn) c.in-Ok.ensures.follows h
+
+pub returns-in-Err-clause-undone : goal.returns-in-Err-clause-undone
+returns-in-Err-clause-undone g c _ h =
+    let new = state g.S.Store c.create_tables.new.conn in
+    c.in-Err.ensures.refused (clean_of new h) (open_of new h)

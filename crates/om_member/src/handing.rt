@@ -1,0 +1,64 @@
+//! Outputs that the manager is handed.
+
+ghost use Rattle.std.specs.Prelude.{◌<◌, length};
+ghost use Rattle.om_manager.specs.State.{held_by, size_of};
+ghost use Rattle.om_member.specs.Keeps.{Keeps};
+ghost use Rattle.om_member.specs.Handed.{AreHandedUpTo, IsHanded, outputs_from};
+
+use crate::office::Office;
+use om_interval::Pid;
+use om_manager::{OutputError, OutputNote};
+use om_process::{Made, ProcCore};
+use std::alloc::Global;
+
+// Hands an output in.
+fn hand_one<O: Office>(
+    office: &mut O,
+    alloc: Global,
+    pid: Pid,
+    round: u32,
+    output: &Made,
+) -> Result<OutputNote, OutputError>
+    ensures { IsHanded (O.state office.old) round pid output.now result (O.state office.new) }
+{
+    office.note_output(
+        alloc,
+        pid,
+        round,
+        output.interval,
+        output.seq,
+        output.bytes.as_slice(),
+    )
+}
+
+// Hands outputs in, in order, up to the first that is refused.
+fn hand_all<O: Office>(
+    office: &mut O,
+    alloc: Global,
+    pid: Pid,
+    round: u32,
+    outputs: &[Made],
+) -> Result<(), OutputError>
+    ensures { AreHandedUpTo (O.state office.old) round pid outputs.now result (O.state office.new) }
+{
+    for i in 0..outputs.len() {
+        hand_one(office, alloc, pid, round, &outputs[i])?;
+    }
+    Ok(())
+}
+
+/// Hands in the outputs of a process that the manager has not, in order, up to the first that is refused.
+pub fn hand_in<O: Office>(
+    core: &ProcCore,
+    office: &mut O,
+    alloc: Global,
+    pid: Pid,
+) -> Result<(), OutputError>
+    requires { pid < size_of (O.state office.old) }
+    ensures keeps { Keeps (O.state office.old) (O.state office.new) }
+    ensures handed { AreHandedUpTo (O.state office.old) core.now.round pid
+        (outputs_from core.now (length (held_by (O.state office.old) pid))) result (O.state office.new) }
+{
+    let next = office.manager().next_output(pid);
+    hand_all(office, alloc, pid, core.round(), core.outputs_from(next))
+}

@@ -1,0 +1,163 @@
+//! The manager as a process reaches it.
+
+ghost use Rattle.std.specs.Prelude.{◌≡◌};
+ghost use Rattle.om_interval.specs.Vectors.{IsBelow};
+ghost use Rattle.om_recover.specs.Records.{log_of, checkpoint_of};
+ghost use Rattle.om_recover.specs.Cutting.{IsPruned};
+ghost use Rattle.om_manager.specs.State.{ManagerState};
+ghost use Rattle.om_manager.specs.Sound.{IsManager, KeepsReleased};
+ghost use Rattle.om_manager.specs.Notes.{Notes, NotesOutput};
+ghost use Rattle.om_manager.specs.Rounds.{Failing, Joining};
+
+use om_interval::{DepVec, Pid};
+use om_manager::{FailError, Gathered, JoinError, Manager, OutputError, OutputNote, RecordError};
+use om_recover::Note;
+use std::alloc::Global;
+
+/// The manager as a process reaches it: itself, or on a board under its lock. A call that is refused leaves it as it was.
+pub trait Office {
+    /// The manager.
+    ghost state: { Self → ManagerState };
+
+    /// The manager, for its reads.
+    fn manager(&self) -> &Manager
+        ensures manager { result.now ≡ state self.now }
+        ensures sound { IsManager (state self.now) };
+
+    /// [`Manager::note_logged`](om_manager::Manager::note_logged).
+    fn note_logged(
+        &mut self,
+        alloc: Global,
+        pid: Pid,
+        round: u32,
+        x: u32,
+        vec: &DepVec,
+        got: &DepVec,
+    ) -> Result<Note, RecordError>
+        ensures answer { Notes (state self.old) round (log_of pid x vec.now got.now) result (state self.new) }
+        ensures sound { IsManager (state self.new) }
+        ensures not_lowered { IsBelow (state self.old).recovery (state self.new).recovery }
+        ensures released { KeepsReleased (state self.old) (state self.new) };
+
+    /// [`Manager::note_checkpoint`](om_manager::Manager::note_checkpoint).
+    fn note_checkpoint(
+        &mut self,
+        alloc: Global,
+        pid: Pid,
+        round: u32,
+        x: u32,
+        vec: &DepVec,
+        got: &DepVec,
+    ) -> Result<Note, RecordError>
+        ensures answer { Notes (state self.old) round (checkpoint_of pid x vec.now got.now) result (state self.new) }
+        ensures sound { IsManager (state self.new) }
+        ensures not_lowered { IsBelow (state self.old).recovery (state self.new).recovery }
+        ensures released { KeepsReleased (state self.old) (state self.new) };
+
+    /// [`Manager::note_output`](om_manager::Manager::note_output).
+    fn note_output(
+        &mut self,
+        alloc: Global,
+        pid: Pid,
+        round: u32,
+        x: u32,
+        seq: u64,
+        bytes: &[u8],
+    ) -> Result<OutputNote, OutputError>
+        ensures answer { NotesOutput (state self.old)
+            (record { pid = pid; round = round; seq = seq; output = record { interval = x; bytes = bytes.now } })
+            result (state self.new) }
+        ensures sound { IsManager (state self.new) }
+        ensures not_lowered { IsBelow (state self.old).recovery (state self.new).recovery }
+        ensures released { KeepsReleased (state self.old) (state self.new) };
+
+    /// [`Manager::fail`](om_manager::Manager::fail).
+    fn fail(&mut self, alloc: Global, pid: Pid, round: u32) -> Result<Gathered, FailError>
+        ensures answer { Failing (state self.old) pid round result (state self.new) }
+        ensures sound { IsManager (state self.new) }
+        ensures not_lowered { IsBelow (state self.old).recovery (state self.new).recovery }
+        ensures released { KeepsReleased (state self.old) (state self.new) };
+
+    /// [`Manager::join`](om_manager::Manager::join).
+    fn join(
+        &mut self,
+        alloc: Global,
+        pid: Pid,
+        round: u32,
+        current: u32,
+    ) -> Result<Gathered, JoinError>
+        ensures answer { Joining (state self.old) pid round current result (state self.new) }
+        ensures sound { IsManager (state self.new) }
+        ensures not_lowered { IsBelow (state self.old).recovery (state self.new).recovery }
+        ensures released { KeepsReleased (state self.old) (state self.new) };
+
+    /// [`Manager::prune`](om_manager::Manager::prune).
+    fn prune(&mut self)
+        ensures rows { IsPruned (state self.old).rows (state self.old).recovery (state self.new).rows }
+        ensures manager { state self.new ≡ record (state self.old) { rows = (state self.new).rows } }
+        ensures sound { IsManager (state self.new) };
+}
+
+impl Office for Manager {
+    ghost state = { λ m. m };
+
+    fn manager(&self) -> &Manager {
+        // The read tells what holds of every manager.
+        let _ = self.recovery();
+        self
+    }
+
+    fn note_logged(
+        &mut self,
+        alloc: Global,
+        pid: Pid,
+        round: u32,
+        x: u32,
+        vec: &DepVec,
+        got: &DepVec,
+    ) -> Result<Note, RecordError> {
+        self.note_logged(alloc, pid, round, x, vec, got)
+    }
+
+    fn note_checkpoint(
+        &mut self,
+        alloc: Global,
+        pid: Pid,
+        round: u32,
+        x: u32,
+        vec: &DepVec,
+        got: &DepVec,
+    ) -> Result<Note, RecordError> {
+        self.note_checkpoint(alloc, pid, round, x, vec, got)
+    }
+
+    fn note_output(
+        &mut self,
+        alloc: Global,
+        pid: Pid,
+        round: u32,
+        x: u32,
+        seq: u64,
+        bytes: &[u8],
+    ) -> Result<OutputNote, OutputError> {
+        self.note_output(alloc, pid, round, x, seq, bytes)
+    }
+
+    fn fail(&mut self, alloc: Global, pid: Pid, round: u32) -> Result<Gathered, FailError> {
+        self.fail(alloc, pid, round)
+    }
+
+    fn join(
+        &mut self,
+        alloc: Global,
+        pid: Pid,
+        round: u32,
+        current: u32,
+    ) -> Result<Gathered, JoinError> {
+        self.join(alloc, pid, round, current)
+    }
+
+    fn prune(&mut self) {
+        self.prune();
+    }
+}

@@ -1,0 +1,67 @@
+//! Rows that the manager is told.
+
+ghost use Rattle.std.specs.Prelude.{◌≡◌, drop};
+ghost use Rattle.om_process.specs.Core.{with_pending};
+ghost use Rattle.om_member.specs.Keeps.{Keeps};
+ghost use Rattle.om_member.specs.Told.{IsTold, IsToldUpTo};
+
+use crate::office::Office;
+use om_interval::Pid;
+use om_manager::RecordError;
+use om_process::{ProcCore, Row};
+use om_recover::Note;
+use std::alloc::Global;
+
+// Offers a row to the manager.
+fn tell<O: Office>(
+    office: &mut O,
+    alloc: Global,
+    pid: Pid,
+    round: u32,
+    row: &Row,
+) -> Result<Note, RecordError>
+    ensures { IsTold (O.state office.old) round pid row.now result (O.state office.new) }
+{
+    if row.ckpt {
+        office.note_checkpoint(alloc, pid, round, row.x, &row.vec, &row.got)
+    } else {
+        office.note_logged(alloc, pid, round, row.x, &row.vec, &row.got)
+    }
+}
+
+// Offers rows in order, up to the first that is refused, and says how many were not.
+fn tell_all<O: Office>(
+    office: &mut O,
+    alloc: Global,
+    pid: Pid,
+    round: u32,
+    rows: &[Row],
+) -> (usize, Result<(), RecordError>)
+    ensures { IsToldUpTo (O.state office.old) round pid rows.now result.0 result.1 (O.state office.new) }
+{
+    for count in 0..rows.len() {
+        if let Err(fault) = tell(office, alloc, pid, round, &rows[count]) {
+            return (count, Err(fault));
+        }
+    }
+    (rows.len(), Ok(()))
+}
+
+/// Offers the pending rows of a process to the manager, in order, up to the first that is refused. Says how many were not
+/// refused; those are pending no longer.
+pub fn note<O: Office>(
+    core: &mut ProcCore,
+    office: &mut O,
+    alloc: Global,
+    pid: Pid,
+) -> (usize, Result<(), RecordError>)
+    ensures told { IsToldUpTo (O.state office.old) core.old.round pid core.old.pending result.0 result.1 (O.state office.new) }
+    ensures keeps { Keeps (O.state office.old) (O.state office.new) }
+    ensures core { core.new ≡ with_pending core.old (drop result.0 core.old.pending) }
+{
+    // The look tells what holds of every manager.
+    let _ = office.manager();
+    let (count, end) = tell_all(office, alloc, pid, core.round(), core.pending());
+    core.noted(count);
+    (count, end)
+}
