@@ -5,3 +5,4 @@ pub mod Keeping
 pub mod Fitting
 pub mod Lasting
 pub mod ProductLemmas
+pub mod Knowing

@@ -1,2 +1,3 @@
 -- What private contracts alone speak of.
 pub mod Told
+pub mod Known

@@ -1,12 +1,15 @@
 //! The results of environment calls. Each counts as one finished instruction, and the next one follows it.
 
-ghost use Rattle.std.specs.Prelude.{◌≡◌, ◌+◌};
+ghost use Rattle.std.specs.Prelude.{◌≡◌, ◌+◌, ◌≤◌, length};
 ghost use Rattle.om_machine.specs.Step.{next_of};
+ghost use Rattle.om_machine.specs.State.{written};
 ghost use Rattle.om_machine.specs.Finishing.{TakesWord, TakesBody, finished_word, finished_who, finished_receive};
 
 use crate::event::{EnvCall, Event};
+use crate::known::forget;
 use crate::limits::{A0, A1};
 use crate::machine::Machine;
+use crate::memory::overwrite;
 
 impl Machine {
     /// Finishes the send or the output at which the machine stands: its result goes into x10.
@@ -43,9 +46,21 @@ impl Machine {
     {
         let addr = self.regs[A0];
         let room = self.regs[A1] as usize;
-        self.write(addr, &body[..body.len().min(room)]);
+        self.write_all(addr, &body[..body.len().min(room)]);
         self.put(A0, (body.len() % 0x1_0000_0000) as u32);
         self.put(A1, from);
         self.advance();
+    }
+
+    // Writes bytes to memory, after which nothing is known of the words that they lie in.
+    #[tactic(auto, unfolding(crate::specs::State::written))]
+    fn write_all(&mut self, address: u32, bytes: &[u8])
+        requires { address + length bytes.now ≤ length self.old.memory }
+        ensures state { self.new ≡ written self.old address bytes.now }
+        ensures count { self.new.count ≡ self.old.count }
+    {
+        let start = address as usize;
+        forget(&mut self.known, start / 4, (start + bytes.len() + 3) / 4);
+        overwrite(&mut self.memory, start, bytes);
     }
 }

@@ -1,6 +1,6 @@
 //! What instructions do: one expansion of the list of rows, at the registers, pc and memory as they are.
 
-ghost use Rattle.std.specs.Prelude.{◌≡◌, ◌+◌, ◌<◌, ◌≤◌, IfNone, length};
+ghost use Rattle.std.specs.Prelude.{◌≡◌, ◌+◌, ◌%◌, ◌<◌, ◌≤◌, IfNone, length};
 ghost use Rattle.om_machine.specs.State.{reg, byte_at, half_at, word_at};
 ghost use Rattle.om_machine.specs.Effects.{branch_effect, address_of, jump_effect, access_fault, signed_byte_at, signed_half_at, load_effect, store_effect, call_effect, effect_of, applied};
 ghost use Rattle.om_machine.specs.steps.Told.{told, CanHave, event_of};
@@ -66,7 +66,7 @@ macro_rules! effect {
 
 macro_rules! effect_rows {
     ([$m:ident $inst:ident] $($name:ident $ext:ident $text:tt $form:ident $codes:tt $effect:tt,)*) => {
-        match $inst {
+        match *$inst {
             $(shape!($name $form a b c) => effect!($m $effect $form a b c),)*
         }
     };
@@ -75,8 +75,8 @@ macro_rules! effect_rows {
 impl Machine {
     // What an instruction does now.
     #[inline(always)]
-    pub(crate) fn effect(&self, inst: Inst) -> Effect
-        ensures effect { told self.now result ≡ effect_of self.now inst }
+    pub(crate) fn effect(&self, inst: &Inst) -> Effect
+        ensures effect { told self.now result ≡ effect_of self.now inst.now }
         ensures can { CanHave self.now result }
     {
         rows!(effect_rows!(self inst))
@@ -132,6 +132,7 @@ impl Machine {
         requires { 0 < width }
         ensures cause { result ≡ access_fault self.now width address }
         ensures inside { IfNone result (address + width ≤ length self.now.memory) }
+        ensures aligned { IfNone result (address % width ≡ 0) }
     {
         if address % width != 0 {
             Some(Cause::DataMisaligned)

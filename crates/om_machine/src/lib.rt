@@ -14,6 +14,7 @@ mod event;
 mod fault;
 mod finish;
 mod instruction;
+mod known;
 pub mod laws;
 mod limits;
 mod machine;

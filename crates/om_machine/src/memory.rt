@@ -10,9 +10,9 @@ pub fn read_half(memory: &Vec<u8>, address: usize) -> u16
     u16::from_le_bytes([memory[address], memory[address + 1]])
 }
 
-pub fn read_word(memory: &Vec<u8>, address: usize) -> u32
-    requires { address + 4 ≤ length memory.now.items }
-    ensures { result ≡ word_at memory.now.items address }
+pub fn read_word(memory: &[u8], address: usize) -> u32
+    requires { address + 4 ≤ length memory.now }
+    ensures { result ≡ word_at memory.now address }
 {
     // By a copy, which is one load of 4 bytes.
     let mut bytes = [0; 4];

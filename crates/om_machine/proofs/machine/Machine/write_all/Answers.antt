@@ -1,0 +1,17 @@
+use Rattle.std.proofs.Common.{◌+◌, ◌/◌, ◌≤◌, length, subst, sym, arith}
+use Rattle.om_machine.specs.State.{State, written}
+use Rattle.om_machine.proofs.Keeping.{each_fits, keeps_written}
+use Rattle.om_machine.proofs.Knowing.{knows_written}
+use Rattle.om_machine.proofs.machine.Machine.write_all.Goals as goal
+
+pub invariant_of-self : goal.invariant_of-self
+unfolding written
+invariant_of-self c =
+    let address = c.args.address in
+    let bytes = c.args.bytes.now in
+    let inside : address + length bytes ≤ length c.self.inside.memory.items = subst (λ (s : State). address + length bytes ≤ length s.memory) (sym c.self.view_is) c.requires in
+    let fit = each_fits 256 bytes (λ i. (c.type_inv.bytes i).fits) in
+    rw c.overwrite.ensures (record {
+      machine = keeps_written _ address bytes c.self.invariant.machine inside fit;
+      knows = knows_written _ _ address bytes c.self.inside.known.items _ (address / 4) ((address + length bytes + 3) / 4) c.self.invariant.knows c.forget.ensures inside (omega arith) (omega arith);
+    })
