@@ -19,10 +19,10 @@ const SELF: [u32; 12] = [
 
 // A store that puts receipts only once those of the other process are put, and else answers Fault.
 #[derive(Drop)]
-struct Meets<'a> {
-    inner: FuseStable<MemStable>,
-    own: &'a AtomicBool,
-    other: &'a AtomicBool,
+pub struct Meets<'a> {
+    pub inner: FuseStable<MemStable>,
+    pub own: &'a AtomicBool,
+    pub other: &'a AtomicBool,
 }
 
 impl<'a> Stable for Meets<'a> {

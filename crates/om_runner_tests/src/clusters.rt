@@ -1,3 +1,4 @@
+use crate::at_work::Meets;
 use crate::rows::{is_set, process};
 use om_interval::Pid;
 use om_isa::Ext;
@@ -22,40 +23,43 @@ const RING: [u32; 34] = [
     0x00040513, 0x00000073,
 ];
 
-// A store in memory, which counts its calls.
-type Counted = FuseStable<MemStable>;
-
-// Makes such stores, of which that of one process stops a call.
+// Makes stores in memory, which count their calls. That of one process stops a call. None waits for another: the flag is set.
 #[derive(Drop)]
-struct Fused {
+struct Fused<'a> {
     pid: Pid,
     calls: u64,
+    set: &'a AtomicBool,
 }
 
 // None of their calls is stopped.
-fn unstopped() -> Fused {
+fn unstopped(set: &AtomicBool) -> Fused<'_> {
     Fused {
         pid: Pid::at(0),
         calls: u64::MAX,
+        set,
     }
 }
 
-impl<R> Opener<R> for Fused {
-    type Store = Counted;
+impl<'a, R> Opener<R> for Fused<'a> {
+    type Store = Meets<'a>;
 
-    fn make(&self, _rt: &R, alloc: Global, pid: Pid) -> Result<Counted, OpenFault> {
+    fn make(&self, _rt: &R, alloc: Global, pid: Pid) -> Result<Meets<'a>, OpenFault> {
         let calls = if pid == self.pid {
             self.calls
         } else {
             u64::MAX
         };
-        Ok(FuseStable::new(MemStable::new(alloc), calls))
+        Ok(Meets {
+            inner: FuseStable::new(MemStable::new(alloc), calls),
+            own: self.set,
+            other: self.set,
+        })
     }
 }
 
 // How many calls a store has had that stops none.
-fn calls_of(store: &Counted) -> u64 {
-    match store.stop {
+fn calls_of(store: &Meets<'_>) -> u64 {
+    match store.inner.stop {
         Stop::After(left) => u64::MAX - left,
         Stop::Past => u64::MAX,
     }
@@ -151,13 +155,13 @@ fn assert_ring(rt: &impl Abort, n: u32, report: &Report) {
 }
 
 // A run over stores in memory.
-fn run<R: Threads + Wait + Abort + Sync, G: Gate + Sync>(
+fn run<'a, R: Threads + Wait + Abort + Sync, G: Gate + Sync>(
     rt: &R,
     alloc: Global,
     config: &Config,
     gate: &G,
-    opener: &Fused,
-) -> Result<(Report, Vec<Counted>), RunFault> {
+    opener: &Fused<'a>,
+) -> Result<(Report, Vec<Meets<'a>>), RunFault> {
     assert!(rt; 1 <= config.images.len() && config.images.len() <= 16);
     run_and_keep_stores(rt, alloc, config, gate, opener)
 }
@@ -171,7 +175,8 @@ fn assert_ring_runs<R: Threads + Wait + Abort + Sync, G: Gate + Sync>(
     (kills, rounds): (&[(u32, u32)], u32),
 ) {
     let config = ring(rt, alloc, n as usize, kills);
-    let (report, stores) = run(rt, alloc, &config, gate, &unstopped()).expect(rt, "a report");
+    let set = AtomicBool::new(true);
+    let (report, stores) = run(rt, alloc, &config, gate, &unstopped(&set)).expect(rt, "a report");
     drop(config);
     drop(stores);
     assert_ring(rt, n, &report);
@@ -204,9 +209,9 @@ fn kept_by<R: Threads + Wait + Abort + Sync>(
     config: &Config,
     p: usize,
 ) -> (u64, Option<u32>) {
-    let (report, mut stores) = run(rt, alloc, config, &Always(true), &unstopped()).expect(
-        rt, "a report",
-    );
+    let set = AtomicBool::new(true);
+    let told = run(rt, alloc, config, &Always(true), &unstopped(&set));
+    let (report, mut stores) = told.expect(rt, "a report");
     drop(report);
     let store = stores.get_mut(p).expect(rt, "a store");
     let calls = calls_of(store);
@@ -269,13 +274,19 @@ fn assert_fault<R: Threads + Wait + Abort + Sync>(
     rt: &R,
     alloc: Global,
     (is_open, turns, gate_turns): (bool, u64, u64),
-    opener: &Fused,
+    (pid, calls): (Pid, u64),
     wanted: RunFault,
 ) {
     let mut config = ring(rt, alloc, 8, &[]);
     config.turns = turns;
     config.gate_turns = gate_turns;
-    let told = run(rt, alloc, &config, &Always(is_open), opener).err();
+    let set = AtomicBool::new(true);
+    let opener = Fused {
+        pid,
+        calls,
+        set: &set,
+    };
+    let told = run(rt, alloc, &config, &Always(is_open), &opener).err();
     drop(config);
     assert!(rt; told == Some(wanted), "{told:?}");
 }
@@ -284,12 +295,9 @@ fn assert_fault<R: Threads + Wait + Abort + Sync>(
 #[test]
 fn a_store_fails(rt: HostRuntime) {
     for calls in 0..2 {
-        let opener = Fused {
-            pid: Pid::at(2),
-            calls,
-        };
-        let wanted = RunFault::Fault(Pid::at(2));
-        assert_fault(&rt, rt.alloc(), (true, 50_000_000, 1), &opener, wanted);
+        let pid = Pid::at(2);
+        let row = (true, 50_000_000, 1);
+        assert_fault(&rt, rt.alloc(), row, (pid, calls), RunFault::Fault(pid));
     }
 }
 
@@ -297,14 +305,14 @@ fn a_store_fails(rt: HostRuntime) {
 fn shut_gate(rt: HostRuntime) {
     let row = (false, 50_000_000, 10);
     let wanted = RunFault::GateShut(Pid::at(0));
-    assert_fault(&rt, rt.alloc(), row, &unstopped(), wanted);
+    assert_fault(&rt, rt.alloc(), row, (Pid::at(0), u64::MAX), wanted);
 }
 
 #[test]
 fn one_turn(rt: HostRuntime) {
     let row = (true, 1, 1);
     let wanted = RunFault::Turns(Pid::at(0));
-    assert_fault(&rt, rt.alloc(), row, &unstopped(), wanted);
+    assert_fault(&rt, rt.alloc(), row, (Pid::at(0), u64::MAX), wanted);
 }
 
 // Lets each of two processes start only once it was asked for the other.
