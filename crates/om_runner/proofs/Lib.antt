@@ -3,3 +3,4 @@ mod LinkLemmas
 mod ReportLemmas
 mod WireLemmas
 mod SettleLemmas
+mod ActLemmas

@@ -1,14 +1,13 @@
 -- What a report is made of.
-use Rattle.std.proofs.Common.{◌≡◌, ◌⊎◌, inl, inr, ℕ, zero, suc, ◌+◌, ◌<◌, ◌≤◌, List, [], ◌∷◌, ◌++◌, Some, cond, refl, sym, ap, ◌∙◌, subst, arith, append_assoc, get_or, length, map, IsTrue, Bool}
-use Rattle.std.specs.Prelude.{Vec, slice_get, slice_index, Ok, Result, IfOk}
+use Rattle.std.proofs.Common.{◌≡◌, inl, inr, ℕ, suc, ◌+◌, ◌<◌, List, [], ◌∷◌, ◌++◌, Some, sym, ap, ◌∙◌, subst, arith, append_assoc, get_or, length, map, IsTrue, Bool}
+use Rattle.std.specs.Prelude.{Vec, slice_get, Ok, Result, IfOk}
 use Rattle.std.specs.declared.alloc.Global.{Global}
-use Rattle.std.proofs.lemmas.Bool.{cases_order, le-leb, lt-leb}
-use Rattle.std.proofs.lemmas.List.{get_or-map, length-map}
+use Rattle.std.proofs.lemmas.List.{length-map}
 use Rattle.std.proofs.lemmas.Option.{get_or_from_slice_get, same_Some, slice_get-get_or, slice_get_cases, slice_get_within}
 use Rattle.om_process.specs.Images.{program_of}
 use Rattle.om_process.specs.declared.image.Image.{Image}
 use Rattle.om_process.specs.declared.status.Status.{Status}
-use Rattle.om_board.proofs.ListLemmas.{map_get, map_had, more_had, none_in}
+use Rattle.om_board.proofs.ListLemmas.{map_get, map_had, more_had}
 use Rattle.om_runner.specs.Reports.{AreAlong, AreStatusesAlong, IsEnd, IsStatusAlong}
 use Rattle.om_board.specs.Inboxes.{Traffic, Takings}
 use Rattle.om_runner.specs.declared.cluster.Finished.{Finished}

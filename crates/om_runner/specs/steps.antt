@@ -5,3 +5,5 @@ pub mod Network
 pub mod Wiring
 pub mod Ends
 pub mod Settling
+pub mod Acts
+pub mod Turning

@@ -1,13 +1,18 @@
 //! What a worker has to do with the manager.
 
-ghost use Rattle.std.specs.Prelude.{◌≡◌, ◌<◌, IfOk, IfSome, length};
-ghost use Rattle.om_manager.specs.State as managers;
+ghost use Rattle.std.specs.Prelude.{◌≡◌, ◌<◌, ◌↔◌, [], Any, IfNone, IfOk, IfSome, IsTrue, OnOk, false, is_some, length};
+ghost use Rattle.om_board.specs.Boards.{IsBoard};
+ghost use Rattle.om_member.specs.Handed.{outputs_from};
+ghost use Rattle.om_runner.specs.steps.Acts.{AreLimits, HasDeclared, HasHandedOver, HasJoined, HasMet, HasPruned, IsStanding, IsVerdictOf, UnderLock};
 
+use crate::desk::Desk;
+use crate::node::Node;
 use crate::trouble::Trouble;
-use om_board::{Board, Front, Frontier, Naming, Pass, Shared};
+use om_board::{Front, Naming, Pass, Shared};
 use om_interval::{Bounds, Pid, Starts, Verdict};
-use om_manager::{OutputError, RecordError};
-use om_process::{Made, ProcCore, Row};
+use om_member::Office;
+use om_process::{ProcCore, Row};
+use om_stable::Stable;
 use std::alloc::Global;
 use std::sync::Wait;
 
@@ -51,65 +56,11 @@ pub(crate) struct Contact<'a, K: Naming> {
     ghost place: { pid < K.cell.n },
 }
 
-// Tells the manager of a row.
-fn tell<K: Naming, R: Wait>(
-    rt: &R,
-    alloc: Global,
-    board: &mut Board<K>,
-    frontier: &Frontier<K>,
-    pid: Pid,
-    round: u32,
-    row: &Row,
-) -> Result<(), RecordError> {
-    if row.ckpt {
-        board.note_checkpoint(rt, alloc, pid, round, row.x, &row.vec, &row.got, frontier)?;
-    } else {
-        board.note_logged(rt, alloc, pid, round, row.x, &row.vec, &row.got, frontier)?;
-    }
-    Ok(())
-}
-
-// Tells the manager of rows, and says whether one is a checkpoint's.
-fn tell_all<K: Naming, R: Wait>(
-    rt: &R,
-    alloc: Global,
-    board: &mut Board<K>,
-    frontier: &Frontier<K>,
-    pid: Pid,
-    round: u32,
-    rows: &[Row],
-) -> Result<bool, RecordError> {
-    let mut has_checkpoint = false;
-    for row in rows {
-        tell(rt, alloc, board, frontier, pid, round, row)?;
-        has_checkpoint = has_checkpoint || row.ckpt;
-    }
-    Ok(has_checkpoint)
-}
-
-// Hands outputs in.
-fn hand_all<K: Naming, R: Wait>(
-    rt: &R,
-    alloc: Global,
-    board: &mut Board<K>,
-    frontier: &Frontier<K>,
-    pid: Pid,
-    round: u32,
-    outputs: &[Made],
-) -> Result<(), OutputError> {
-    for output in outputs {
-        board.note_output(
-            rt,
-            alloc,
-            pid,
-            round,
-            output.interval,
-            output.seq,
-            output.bytes.as_slice(),
-            frontier,
-        )?;
-    }
-    Ok(())
+// Whether one of the rows is a checkpoint's.
+fn have_checkpoint(rows: &[Row]) -> bool
+    ensures { IsTrue result ↔ Any (λ row. IsTrue row.ckpt) rows.now }
+{
+    rows.iter().any(|row| row.ckpt)
 }
 
 impl<'a, K: Naming> Contact<'a, K> {
@@ -138,89 +89,133 @@ impl<'a, K: Naming> Contact<'a, K> {
     }
 
     // Whether there is something to hand in or to learn.
-    pub(crate) fn is_due(&self, core: &ProcCore, front: &Front, ended: bool) -> bool {
+    pub(crate) fn is_due(&self, core: &ProcCore, front: &Front, ended: bool) -> bool
+        ensures running { result ≡ false → ended ≡ false }
+        ensures told { result ≡ false → core.now.pending ≡ [] }
+        ensures handed { result ≡ false → outputs_from core.now self.now.handed ≡ [] }
+    {
         ended
             || front.version != self.seen
             || !core.pending().is_empty()
             || !core.outputs_from(self.handed).is_empty()
     }
 
-    // Tells the manager of the pending rows and hands the outputs in. Where a checkpoint was among the rows, the manager is
-    // pruned, and says what need not be kept any longer.
-    fn hand_in<R: Wait>(
+    // Hands over all that the process has: its pending rows, and the outputs that the manager has not.
+    fn hand_over<S: Stable, R: Wait>(
         &mut self,
-        rt: &R,
         alloc: Global,
-        board: &mut Board<K>,
-        core: &ProcCore,
-    ) -> Result<Option<Limits>, Trouble>
+        desk: &mut Desk<'_, K, R>,
+        node: &mut Node<'_, S>,
+    ) -> Result<(), Trouble>
+        requires { node.old.member.own ≡ self.old.pid }
         ensures pid { self.new.pid ≡ self.old.pid }
-        ensures limits { IfOk result (λ limits. IfSome limits (λ l. length l.bounds.got ≡ K.cell.n)) }
+        ensures round { self.new.round ≡ self.old.round }
+        ensures member { node.new.member ≡ node.old.member }
+        ensures sound { IsBoard K.cell.n desk.old.board.now }
+        ensures over { OnOk result (HasHandedOver desk.old.board.now.manager self.old.pid node.old.core
+            desk.new.board.now.manager node.new.core) }
     {
-        let frontier = &self.shared.frontier;
-        let (pid, round) = (self.pid, self.round);
-        let has_checkpoint = tell_all(rt, alloc, board, frontier, pid, round, core.pending())?;
-        let next = board.manager().next_output(pid);
-        let outputs = core.outputs_from(next);
-        hand_all(rt, alloc, board, frontier, pid, round, outputs)?;
-        self.handed = board.manager().next_output(self.pid);
-        if !has_checkpoint {
-            return Ok(None);
-        }
-        board.prune(rt, frontier);
-        let manager = board.manager();
-        Ok(Some(Limits {
-            bounds: manager.bounds(self.pid),
-            checkpoint: manager.effective(self.pid),
-        }))
+        // The look tells what holds of every board.
+        let _ = desk.board.manager();
+        let (_, end) = node.note(desk, alloc);
+        end?;
+        node.hand_in(desk, alloc)?;
+        self.handed = desk.board.manager().next_output(self.pid);
+        Ok(())
     }
 
-    // Hands in all that the process has, and says how the manager stands. One that has ended reports itself quiet.
-    pub(crate) fn meet<R: Wait>(
-        &mut self,
-        rt: &R,
-        alloc: Global,
-        core: &ProcCore,
-        ended: bool,
-        pass: Pass<K>,
-    ) -> Result<(Standing, Option<Limits>, Pass<K>), Trouble>
-        ensures pid { self.new.pid ≡ self.old.pid }
-        ensures limits { IfOk result (λ met. IfSome met.1 (λ l. length l.bounds.got ≡ K.cell.n)) }
+    // Prunes the manager where it was told of a checkpoint. Then it says what need not be kept any longer.
+    fn prune<R: Wait>(&self, desk: &mut Desk<'_, K, R>, has_checkpoint: bool) -> Option<Limits>
+        ensures asked { is_some result ≡ has_checkpoint }
+        ensures pruned { IfSome result (λ l. HasPruned desk.old.board.now.manager desk.new.board.now.manager) }
+        ensures limits { IfSome result (λ l. AreLimits desk.new.board.now.manager self.now.pid l) }
+        ensures places { IfSome result (λ l. length l.bounds.got ≡ K.cell.n) }
+        ensures unpruned { IfNone result (desk.new.board.now ≡ desk.old.board.now) }
     {
-        let mut guard = self.shared.board.lock(rt);
-        let board = &mut *guard;
-        let limits = self.hand_in(rt, alloc, board, core)?;
-        let standing = if board.manager().gathering() {
+        if !has_checkpoint {
+            return None;
+        }
+        desk.prune();
+        let manager = desk.board.manager();
+        Some(Limits {
+            bounds: manager.bounds(self.pid),
+            checkpoint: manager.effective(self.pid),
+        })
+    }
+
+    // How the manager stands. A process that has ended reports itself quiet.
+    fn ask<R: Wait>(&self, desk: &mut Desk<'_, K, R>, ended: bool) -> Standing
+        ensures { IsStanding desk.old.board.now self.now.pid self.now.round ended result desk.new.board.now }
+    {
+        if desk.board.manager().gathering() {
             Standing::Gathers
-        } else if ended && board.quiet(self.pid, self.round) {
+        } else if ended && desk.board.quiet(self.pid, self.round) {
             Standing::Quiet
         } else {
             Standing::Closed
+        }
+    }
+
+    // Hands over all that the process has, and says how the manager stands. One that has ended reports itself quiet. Where a
+    // checkpoint was among the rows, the manager is pruned, and says what need not be kept any longer.
+    pub(crate) fn meet<S: Stable, R: Wait>(
+        &mut self,
+        rt: &R,
+        alloc: Global,
+        node: &mut Node<'_, S>,
+        ended: bool,
+        pass: Pass<K>,
+    ) -> Result<(Standing, Option<Limits>, Pass<K>), Trouble>
+        requires { node.old.member.own ≡ self.old.pid }
+        ensures pid { self.new.pid ≡ self.old.pid }
+        ensures round { self.new.round ≡ self.old.round }
+        ensures member { node.new.member ≡ node.old.member }
+        ensures limits { IfOk result (λ met. IfSome met.1 (λ l. length l.bounds.got ≡ K.cell.n)) }
+        ensures met { IfOk result (λ met. UnderLock K.cell.n (λ before after.
+            HasMet before self.old.pid self.old.round ended node.old.core met.0 met.1 after node.new.core)) }
+    {
+        let has_checkpoint = have_checkpoint(node.core().pending());
+        let mut guard = self.shared.board.lock(rt);
+        let mut desk = Desk {
+            rt,
+            board: &mut *guard,
+            frontier: &self.shared.frontier,
         };
-        let (front, pass) = self.shared.frontier.meet(rt, board, pass);
+        self.hand_over(alloc, &mut desk, node)?;
+        let limits = self.prune(&mut desk, has_checkpoint);
+        let standing = self.ask(&mut desk, ended);
+        let (front, pass) = desk.frontier.meet(rt, desk.board, pass);
         self.seen = front.version;
         Ok((standing, limits, pass))
     }
 
-    // Hands in all that the process has, and joins the open gathering.
-    pub(crate) fn join<R: Wait>(
+    // Hands over all that the process has, and joins the open gathering.
+    pub(crate) fn join<S: Stable, R: Wait>(
         &mut self,
         rt: &R,
         alloc: Global,
-        core: &ProcCore,
+        node: &mut Node<'_, S>,
         pass: Pass<K>,
-    ) -> Result<(Option<Limits>, Pass<K>), Trouble>
+    ) -> Result<Pass<K>, Trouble>
+        requires { node.old.member.own ≡ self.old.pid }
         ensures pid { self.new.pid ≡ self.old.pid }
-        ensures limits { IfOk result (λ met. IfSome met.0 (λ l. length l.bounds.got ≡ K.cell.n)) }
+        ensures round { self.new.round ≡ self.old.round }
+        ensures member { node.new.member ≡ node.old.member }
+        ensures joined { OnOk result (UnderLock K.cell.n (λ before after.
+            HasJoined before.manager self.old.pid node.old.core after.manager node.new.core)) }
     {
         let mut guard = self.shared.board.lock(rt);
-        let board = &mut *guard;
-        let limits = self.hand_in(rt, alloc, board, core)?;
-        let frontier = &self.shared.frontier;
-        board.join(rt, alloc, self.pid, self.round, core.interval(), frontier)?;
-        let (front, pass) = frontier.meet(rt, board, pass);
+        let mut desk = Desk {
+            rt,
+            board: &mut *guard,
+            frontier: &self.shared.frontier,
+        };
+        self.hand_over(alloc, &mut desk, node)?;
+        let core = node.core();
+        desk.join(alloc, self.pid, core.round(), core.interval())?;
+        let (front, pass) = desk.frontier.meet(rt, desk.board, pass);
         self.seen = front.version;
-        Ok((limits, pass))
+        Ok(pass)
     }
 
     // Tells the manager that the process failed.
@@ -230,10 +225,15 @@ impl<'a, K: Naming> Contact<'a, K> {
         alloc: Global,
         pass: Pass<K>,
     ) -> Result<Pass<K>, Trouble>
-        ensures { self.new.pid ≡ self.old.pid }
+        ensures pid { self.new.pid ≡ self.old.pid }
+        ensures round { self.new.round ≡ self.old.round }
+        ensures declared { OnOk result (UnderLock K.cell.n (λ before after.
+            HasDeclared before.manager self.old.pid self.old.round after.manager)) }
     {
         let mut guard = self.shared.board.lock(rt);
         let board = &mut *guard;
+        // The look tells what holds of every board.
+        let _ = board.manager();
         let frontier = &self.shared.frontier;
         board.fail(rt, alloc, self.pid, self.round, frontier)?;
         let (front, pass) = frontier.meet(rt, board, pass);
@@ -250,6 +250,9 @@ impl<'a, K: Naming> Contact<'a, K> {
     ) -> Result<(Heard, Pass<K>), Trouble>
         ensures pid { self.new.pid ≡ self.old.pid }
         ensures starts { IfOk result (λ r. length r.0.starts ≡ K.cell.n) }
+        ensures round { IfOk result (λ r. self.new.round ≡ r.0.verdict.round) }
+        ensures heard { IfOk result (λ r. UnderLock K.cell.n (λ before after.
+            (r.0.starts ≡ before.manager.starts) × IsVerdictOf before.manager self.old.pid r.0.verdict × (after ≡ before))) }
     {
         let mut guard = self.shared.board.lock(rt);
         let board = &mut *guard;

@@ -4,6 +4,7 @@
 mod cluster;
 mod config;
 mod contact;
+mod desk;
 mod fault;
 mod links;
 mod network;

@@ -1,13 +1,20 @@
 //! A process over its store.
 
-ghost use Rattle.std.specs.Prelude.{◌≡◌, ◌↔◌, IfErr, IfOk, IfSome, IsTrue, length};
-ghost use Rattle.om_process.specs.Core.{move_of, size_of, status_of};
+ghost use Rattle.std.specs.Prelude.{◌≡◌, ◌↔◌, ◌<◌, IfErr, IfOk, IfSome, IsTrue, OnOk, drop, length};
+ghost use Rattle.om_manager.specs.State as managers;
+ghost use Rattle.om_member.specs.Handed.{AreHandedUpTo, outputs_from};
+ghost use Rattle.om_member.specs.Keeps.{Keeps};
+ghost use Rattle.om_member.specs.Told.{IsToldUpTo};
+ghost use Rattle.om_process.specs.Core.{move_of, size_of, status_of, with_pending};
 ghost use Rattle.om_process.specs.Images.{program_of};
+ghost use Rattle.om_process.specs.Stores.{flushed};
 ghost use Rattle.om_runner.specs.Reports.{IsEnd, IsStatusAlong, nothing};
 
 use crate::trouble::Trouble;
 use om_format::Message;
 use om_interval::{Bounds, Pid, Starts, Verdict};
+use om_manager::{OutputError, RecordError};
+use om_member::Office;
 use om_process::{Accept, Down, Image, ProcCore, Ran, StartFault, Status};
 use om_stable::Stable;
 use std::alloc::Global;
@@ -129,7 +136,8 @@ impl<'a, S: Stable> Node<'a, S> {
     // Stores the volatile log.
     #[inline(never)]
     pub(crate) fn flush(&mut self, alloc: Global) -> Result<(), Trouble>
-        ensures { self.new.member ≡ self.old.member }
+        ensures member { self.new.member ≡ self.old.member }
+        ensures stored { OnOk result (self.new.core ≡ flushed self.old.core) }
     {
         Ok(self.core.flush(alloc, &mut self.store)?)
     }
@@ -142,12 +150,34 @@ impl<'a, S: Stable> Node<'a, S> {
         Ok(self.core.checkpoint(alloc, &mut self.store)?)
     }
 
-    // The manager was told of all pending rows.
-    pub(crate) fn noted(&mut self)
-        ensures { self.new.member ≡ self.old.member }
+    // Offers the pending rows to the manager, up to the first that is refused, and says how many were not: those are pending no
+    // longer.
+    pub(crate) fn note<O: Office>(
+        &mut self,
+        office: &mut O,
+        alloc: Global,
+    ) -> (usize, Result<(), RecordError>)
+        ensures told { IsToldUpTo (O.state office.old) self.old.core.round self.old.member.own self.old.core.pending
+            result.0 result.1 (O.state office.new) }
+        ensures keeps { Keeps (O.state office.old) (O.state office.new) }
+        ensures core { self.new.core ≡ with_pending self.old.core (drop result.0 self.old.core.pending) }
+        ensures member { self.new.member ≡ self.old.member }
     {
-        let told = self.core.pending().len();
-        self.core.noted(told);
+        om_member::note(&mut self.core, office, alloc, self.pid)
+    }
+
+    // Hands in the outputs that the manager has not, up to the first that is refused.
+    pub(crate) fn hand_in<O: Office>(
+        &self,
+        office: &mut O,
+        alloc: Global,
+    ) -> Result<(), OutputError>
+        requires { self.now.member.own < managers.size_of (O.state office.old) }
+        ensures keeps { Keeps (O.state office.old) (O.state office.new) }
+        ensures handed { let p = self.now.member.own in AreHandedUpTo (O.state office.old) self.now.core.round p
+            (outputs_from self.now.core (length (managers.held_by (O.state office.old) p))) result (O.state office.new) }
+    {
+        om_member::hand_in(&self.core, office, alloc, self.pid)
     }
 
     // Drops what the process need not keep.

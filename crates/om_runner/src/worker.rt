@@ -1,7 +1,10 @@
 //! What the thread of a process does.
 
-ghost use Rattle.std.specs.Prelude.{◌≡◌, ◌<◌, IfOk, IfSome, length};
+ghost use Rattle.std.specs.Prelude.{◌≡◌, ◌<◌, ◌⊎◌, ◌↔◌, Contains, IfOk, IfSome, IsTrue, Ok, OnOk, length};
+ghost use Rattle.om_process.specs.Stores.{flushed};
+ghost use Rattle.om_runner.specs.steps.Acts.{HasDeclared, HasJoined, UnderLock};
 ghost use Rattle.om_runner.specs.steps.Places.{member_of};
+ghost use Rattle.om_runner.specs.steps.Turning.{HasNothingToSay, HasReported, IsTurnOf, place_after};
 ghost use Rattle.om_runner.specs.steps.Wiring.{HasEnds};
 
 use crate::config::Config;
@@ -55,7 +58,7 @@ impl Step {
     // Where the process stands then.
     #[inline(never)]
     fn place_of<'a, S: Stable>(self, node: Node<'a, S>) -> Place<'a, S>
-        ensures { member_of result ≡ node.entry.member }
+        ensures { result ≡ place_after self node.entry }
     {
         match self {
             Step::Up => Place::Up(node),
@@ -86,7 +89,7 @@ fn is_multiple(x: u32, k: u32) -> bool {
     k != 0 && x % k == 0
 }
 
-// Drops what need not be kept any longer, once the manager was told of all rows.
+// Drops what need not be kept any longer.
 fn shed<'a, S: Stable>(
     node: &mut Node<'a, S>,
     alloc: Global,
@@ -95,7 +98,6 @@ fn shed<'a, S: Stable>(
     requires { IfSome limits (λ l. length l.bounds.got ≡ node.old.member.n) }
     ensures { node.new.member ≡ node.old.member }
 {
-    node.noted();
     match limits {
         Some(limits) => node.shed(alloc, &limits.bounds, limits.checkpoint),
         None => Ok(()),
@@ -173,6 +175,7 @@ impl<'a, K: Naming> Worker<'a, K> {
         requires size { (member_of place).n ≡ K.cell.n }
         ensures same { self.new.links ≡ self.old.links }
         ensures place { IfOk result (λ r. member_of r.0 ≡ member_of place.entry) }
+        ensures turned { IfOk result (λ r. IsTurnOf K.cell.n self.old.contact.round place.entry r.0) }
     {
         let mut pass = pass;
         let front = self.contact.read(rt, &mut pass);
@@ -269,15 +272,18 @@ impl<'a, K: Naming> Worker<'a, K> {
         status: Status,
         pass: Pass<K>,
     ) -> Result<(Standing, Pass<K>), Trouble>
+        requires own { node.old.member.own ≡ self.old.links.own }
         requires size { node.old.member.n ≡ K.cell.n }
         ensures same { self.new.links ≡ self.old.links }
         ensures member { node.new.member ≡ node.old.member }
+        ensures reported { IfOk result (λ r. HasNothingToSay self.old.contact.handed status node.old.core r.0 node.new.core
+            ⊎ HasReported K.cell.n self.old.contact.pid self.old.contact.round status node.old.core r.0) }
     {
         let ended = has_ended(status);
         if !self.contact.is_due(node.core(), front, ended) {
             return Ok((Standing::Closed, pass));
         }
-        let (standing, limits, pass) = self.contact.meet(rt, alloc, node.core(), ended, pass)?;
+        let (standing, limits, pass) = self.contact.meet(rt, alloc, node, ended, pass)?;
         shed(node, alloc, limits)?;
         Ok((standing, pass))
     }
@@ -330,6 +336,7 @@ impl<'a, K: Naming> Worker<'a, K> {
     ) -> Result<Step, Trouble>
         ensures same { self.new.links ≡ self.old.links }
         ensures member { node.new.member ≡ node.old.member }
+        ensures killed { Contains self.old.kills.items x → result ≡ Ok Step.Failed }
     {
         if self.is_to_fail(x) {
             return Ok(Step::Failed);
@@ -346,6 +353,7 @@ impl<'a, K: Naming> Worker<'a, K> {
     // Whether the process is to fail in this interval, which is then done with.
     fn is_to_fail(&mut self, x: u32) -> bool
         ensures same { self.new.links ≡ self.old.links }
+        ensures named { IsTrue result ↔ Contains self.old.kills.items x }
     {
         match self.kills.iter().position(|kill| *kill == x) {
             Some(i) => {
@@ -366,9 +374,9 @@ impl<'a, K: Naming> Worker<'a, K> {
         pass: Pass<K>,
     ) -> Result<(Place<'a, S>, Pass<K>), Trouble>
         requires own { node.member.own ≡ self.old.links.own }
-        requires size { node.member.n ≡ K.cell.n }
         ensures same { self.new.links ≡ self.old.links }
         ensures place { IfOk result (λ r. member_of r.0 ≡ node.entry.member) }
+        ensures turned { IfOk result (λ r. IsTurnOf K.cell.n self.old.contact.round (Place.Called node.entry) r.0) }
     {
         let mut node = node;
         match self.enter(rt, alloc, &mut node, pass) {
@@ -388,14 +396,14 @@ impl<'a, K: Naming> Worker<'a, K> {
         node: &mut Node<'a, S>,
         pass: Pass<K>,
     ) -> Result<Pass<K>, Trouble>
-        requires size { node.old.member.n ≡ K.cell.n }
+        requires { node.old.member.own ≡ self.old.links.own }
         ensures same { self.new.links ≡ self.old.links }
         ensures member { node.new.member ≡ node.old.member }
+        ensures joined { OnOk result (UnderLock K.cell.n (λ before after.
+            HasJoined before.manager node.old.member.own (flushed node.old.core) after.manager node.new.core)) }
     {
         node.flush(alloc)?;
-        let (limits, pass) = self.contact.join(rt, alloc, node.core(), pass)?;
-        shed(node, alloc, limits)?;
-        Ok(pass)
+        self.contact.join(rt, alloc, node, pass)
     }
 
     // Tells the manager that the process failed.
@@ -407,8 +415,10 @@ impl<'a, K: Naming> Worker<'a, K> {
         fallen: Fallen<'a, S>,
         pass: Pass<K>,
     ) -> Result<(Place<'a, S>, Pass<K>), Trouble>
+        requires { fallen.own ≡ self.old.links.own }
         ensures same { self.new.links ≡ self.old.links }
         ensures place { IfOk result (λ r. member_of r.0 ≡ fallen.entry) }
+        ensures turned { IfOk result (λ r. IsTurnOf K.cell.n self.old.contact.round (Place.Failed fallen.entry) r.0) }
     {
         let pass = self.contact.declare(rt, alloc, pass)?;
         Ok((Place::Down(fallen), pass))

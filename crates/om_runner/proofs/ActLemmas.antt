@@ -1,0 +1,45 @@
+-- What a worker does with the board.
+use Rattle.std.proofs.Common.{◌≡◌, ◌↔◌, ℕ, List, Option, None, Some, Bool, IsTrue, ap, ◌∙◌, subst, sym, length, take, drop, Ok}
+use Rattle.std.specs.Prelude.{Any, IfNone}
+use Rattle.std.proofs.Math.Seq.{drop-length, take-length}
+use Rattle.om_process.specs.Core.{CoreState, with_pending}
+use Rattle.om_process.specs.declared.row.Row.{Row}
+use Rattle.om_board.specs.Boards.{BoardState}
+use Rattle.om_manager.specs.Rounds.{Joining}
+use Rattle.om_manager.specs.declared.answers.Gathered.{Gathered}
+use Rattle.om_manager.specs.State.{ManagerState, held_by}
+use Rattle.om_member.specs.Handed.{AreHanded, AreHandedUpTo, outputs_from}
+use Rattle.om_member.specs.Keeps.{Keeps}
+use Rattle.om_member.specs.Told.{AreTold, IsToldUpTo}
+use Rattle.om_member.proofs.KeepLemmas.{keeps_then}
+use Rattle.om_runner.specs.steps.Acts.{HasHandedOver}
+
+-- all that was offered was taken
+pub handed_over : (before mid after : ManagerState) (p q count : ℕ) (old new : CoreState) → q ≡ p → IsToldUpTo before old.round p old.pending count (Ok tt) mid → Keeps before mid
+    → new ≡ with_pending old (drop count old.pending) → AreHandedUpTo mid new.round q (outputs_from new (length (held_by mid q))) (Ok tt) after → Keeps mid after → HasHandedOver before p old after new
+handed_over before mid after p q count old new is_p told k same handing l =
+    let handed = subst (λ (x : ℕ). AreHandedUpTo mid new.round x (outputs_from new (length (held_by mid x))) (Ok tt) after) is_p handing in
+    let made = outputs_from new (length (held_by mid p)) in
+    record {
+      told_all = mid;
+      told = subst (λ rows. AreTold before old.round p rows mid) (ap (λ n. take n old.pending) told.all ∙ take-length old.pending) told.told;
+      handed = subst (λ ms. AreHanded mid new.round p ms after) (ap (λ n. take n made) handed.all ∙ take-length made) handed.handed;
+      none_left = same ∙ ap (λ rows. with_pending old rows) (ap (λ n. drop n old.pending) told.all ∙ drop-length old.pending);
+      keeps = keeps_then before mid after k l;
+    }
+
+-- a process joins in its round, with its interval
+pub joined_in : (m after : ManagerState) (p r x : ℕ) (g : Gathered) (c d : CoreState) → d ≡ c → r ≡ d.round → x ≡ d.now.interval → Joining m p r x (Ok g) after → Joining m p c.round c.now.interval (Ok g) after
+joined_in m after p r x g c d same in_round in_interval joins =
+    subst (λ (e : CoreState). Joining m p e.round e.now.interval (Ok g) after) same
+    (subst (λ (i : ℕ). Joining m p d.round i (Ok g) after) in_interval (subst (λ (k : ℕ). Joining m p k x (Ok g) after) in_round joins))
+
+-- a manager is pruned where a checkpoint was among the rows, and else is the same
+pub pruned_where : (asked has : Bool) (rows : List Row) (c d : CoreState) → d ≡ c → rows ≡ d.pending → asked ≡ has → (IsTrue has ↔ Any (λ row. IsTrue row.ckpt) rows) → (IsTrue asked ↔ Any (λ row. IsTrue row.ckpt) c.pending)
+pruned_where asked has rows c d same are is_asked found =
+    subst (λ (e : CoreState). IsTrue asked ↔ Any (λ row. IsTrue row.ckpt) e.pending) same
+    (subst (λ (l : List Row). IsTrue asked ↔ Any (λ row. IsTrue row.ckpt) l) are (subst (λ (b : Bool). IsTrue b ↔ Any (λ row. IsTrue row.ckpt) rows) (sym is_asked) found))
+
+pub same_where_none : {A : Type 0} (asked : Option A) (a b : BoardState) → IfNone asked (a ≡ b) → IfNone asked (a.manager ≡ b.manager)
+same_where_none None a b same = ap (λ (x : BoardState). x.manager) same
+same_where_none (Some x) a b same = tt
