@@ -6,8 +6,9 @@ ghost use Rattle.om_interval.specs.declared.pid.TheConstants.{MAX_PROCESSES};
 use om_commands::replay::replay;
 use om_interval::Pid;
 use om_isa::Ext;
-use om_process::Image;
-use om_runner::{Config, Gate, OpenFault, Opener, RunFault, run_and_keep_stores};
+use om_manager::Output;
+use om_process::{Image, Status};
+use om_runner::{Config, Gate, OpenFault, Opener, Report, RunFault, run_and_keep_stores};
 use om_stable::Stable;
 use om_tables::{SqlStable, TablesError};
 use sqlite::{Alter, Connection, MemStore};
@@ -144,29 +145,55 @@ fn check_replay<S: Stable>(rt: &impl Abort, alloc: Global, store: &mut S, counte
     assert_eq!(rt; (told, is_there), (Ok(()), true), "{counter}");
 }
 
-// Runs a cluster over stores that are made so, and gives them as they stand when it has ended.
-fn kept_over<R: Threads + Wait + Sync, O: Opener<R> + Sync>(
+// Runs a cluster over stores that are made so, and gives the report with the stores as they stand when it has ended.
+fn run_over<R: Threads + Wait + Sync, O: Opener<R> + Sync>(
     rt: &R,
     alloc: Global,
     config: &Config,
     opener: &O,
-) -> Result<Vec<O::Store>, RunFault>
+) -> Result<(Report, Vec<O::Store>), RunFault>
     requires some { 1 ≤ length config.now.images.items }
     requires few { length config.now.images.items ≤ MAX_PROCESSES }
 {
-    let (_, stores) = run_and_keep_stores(rt, alloc, config, &OpenGate, opener)?;
-    Ok(stores)
+    run_and_keep_stores(rt, alloc, config, &OpenGate, opener)
 }
 
 // The same of the ring over such databases.
-fn kept<R: Threads + Wait + Sync, C: Connects + Sync + Drop>(
+fn run_ring<R: Threads + Wait + Sync, C: Connects + Sync + Drop>(
     rt: &R,
     alloc: Global,
     connects: C,
-) -> Result<Vec<SqlStable<C::Disk>>, RunFault> {
+) -> Result<(Report, Vec<SqlStable<C::Disk>>), RunFault> {
     let config = ring(alloc).map_err(|_| RunFault::Memory)?;
     let opener = InTables { connects };
-    kept_over(rt, alloc, &config, &opener)
+    run_over(rt, alloc, &config, &opener)
+}
+
+// Whether these are the outputs of a process of the ring, of which the last is this number.
+fn are_outputs(outputs: &[Output], last: u32) -> bool {
+    if outputs.len() != 6 {
+        return false;
+    }
+    for (output, number) in outputs
+        .iter()
+        .zip((0..6).map(|l| last.wrapping_sub(40 - 8 * l)))
+    {
+        if output.bytes.as_slice() != number.to_le_bytes().as_slice() {
+            return false;
+        }
+    }
+    true
+}
+
+// The outputs and the codes of the ring: each process puts out one more than what comes, and ends with the last of them.
+fn check_report(rt: &impl Abort, report: &Report) {
+    assert_eq!(rt; (report.released.len(), report.statuses.len()), (8, 8));
+    for (outputs, counter) in report.released.iter().zip(&COUNTERS) {
+        assert!(rt; are_outputs(outputs, *counter + 1), "{counter}");
+    }
+    for (status, counter) in report.statuses.iter().zip(&COUNTERS) {
+        assert!(rt; *status == Status::Ended(*counter + 1), "{counter}");
+    }
 }
 
 // Replays each of the stores.
@@ -177,15 +204,17 @@ fn check_replays<S: Stable>(rt: &impl Abort, alloc: Global, stores: &mut [S]) {
     }
 }
 
-// Runs the ring, and replays each of its stores, or has this fault.
+// Runs the ring, looks at its report and replays each of its stores, or has this fault.
 fn check_ring<R: Threads + Wait + Abort + Sync, C: Connects + Sync + Drop>(
     rt: &R,
     alloc: Global,
     connects: C,
     fault: Option<RunFault>,
 ) {
-    let told = match kept(rt, alloc, connects) {
-        Ok(mut stores) => {
+    let told = match run_ring(rt, alloc, connects) {
+        Ok((report, mut stores)) => {
+            check_report(rt, &report);
+            drop(report);
             check_replays(rt, alloc, &mut stores);
             None
         }

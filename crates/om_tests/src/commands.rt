@@ -1,16 +1,20 @@
 use crate::rows::How::{Refused, Writes};
 use crate::rows::{Command, Row, check};
-use om_commands::CommandError;
 use om_commands::decode::decode;
 use om_commands::frontier::frontier;
+use om_commands::run::run;
+use om_commands::sim::sim;
+use om_commands::{CommandError, InMemory};
 use om_isa::Ext;
 use om_text::MAX_BYTES;
 use std::alloc::Global;
 use std::io;
 use std::io::{Read, Write};
 use std::process::Abort;
+use std::sync::Wait;
+use std::thread::Threads;
 
-static FRONTIERS: [Row; 23] = [
+static FRONTIERS: [Row; 24] = [
     ("procs 1", Writes, "recovery 0\n"),
     (
         "procs 16",
@@ -31,6 +35,11 @@ static FRONTIERS: [Row; 23] = [
         "procs 1\nlog 0 1 1\nlog 0 4 4\nckpt 0 3 3\n",
         Writes,
         "raised: 1\nnoted: 1\nraised: 4\nrecovery 4\n",
+    ),
+    (
+        "procs 3\nlog 0 1 1 2 0\nlog 1 1 0 1 1\nlog 1 2 0 2 1\nlog 2 1 1 0 1\n",
+        Writes,
+        "noted: 0 0 0\nnoted: 0 0 0\nnoted: 0 0 0\nraised: 1 2 1\nrecovery 1 2 1\n",
     ),
     (
         "procs 2\nlog 0 1 1 1\nlog 0 2 2 0\nlog 0 1 1 1\nlog 0 1 1 0\nlog 0 3 2 0\nlog 2 1 0 0\n",
@@ -114,10 +123,10 @@ fn scripts_and_words_and_their_texts(rt: HostRuntime) {
     check(&rt, rt.alloc(), Command::Decode(Ext::Im), "", &OF_PRODUCTS);
 }
 
-// A stream that refuses after a number of calls.
+/// A stream that refuses after a number of calls.
 #[derive(Drop)]
-struct Failing {
-    calls: u32,
+pub struct Failing {
+    pub calls: u32,
 }
 
 impl Read for Failing {
@@ -145,14 +154,36 @@ impl Write for Failing {
     }
 }
 
-// Nothing is written of what cannot be read.
-#[test]
-fn streams_that_fail(rt: HostRuntime) {
-    let alloc = rt.alloc();
+// The turns of a worker.
+const TURNS: u64 = 1_000;
+
+// What each command answers to a stream that fails in its midst, and how much it wrote.
+fn unread<R: Threads + Wait + Sync>(
+    rt: &R,
+    alloc: Global,
+) -> ([Result<(), CommandError>; 4], usize) {
     let mut written = Vec::new(alloc);
-    let answers = (
+    let answers = [
         frontier(alloc, &mut Failing { calls: 3 }, &mut written),
         decode(alloc, Ext::I, &mut Failing { calls: 3 }, &mut written),
+        sim(alloc, &mut Failing { calls: 3 }, &mut written),
+        run(
+            rt,
+            alloc,
+            TURNS,
+            &InMemory,
+            &mut Failing { calls: 3 },
+            &mut written,
+        ),
+    ];
+    (answers, written.len())
+}
+
+// What each answers where its text cannot be written to the end.
+fn unwritten<R: Threads + Wait + Sync>(rt: &R, alloc: Global) -> [Result<(), CommandError>; 4] {
+    let mut one = b"program a 16 00000893 00000073\nproc p a\n".as_slice();
+    let mut same = one;
+    [
         frontier(alloc, &mut b"procs 1".as_slice(), &mut Failing { calls: 3 }),
         decode(
             alloc,
@@ -160,12 +191,30 @@ fn streams_that_fail(rt: HostRuntime) {
             &mut b"00000073".as_slice(),
             &mut Failing { calls: 3 },
         ),
+        sim(alloc, &mut one, &mut Failing { calls: 3 }),
+        run(
+            rt,
+            alloc,
+            TURNS,
+            &InMemory,
+            &mut same,
+            &mut Failing { calls: 3 },
+        ),
+    ]
+}
+
+// Nothing is written of what cannot be read.
+#[test]
+fn streams_that_fail(rt: HostRuntime) {
+    let (answers, written) = unread(&rt, rt.alloc());
+    assert!(&rt;
+        answers == [Err(CommandError::CannotRead); 4] && written == 0,
+        "{answers:?}"
     );
-    let unread = Err(CommandError::CannotRead);
-    let unwritten = Err(CommandError::CannotWrite);
-    assert_eq!(rt;
-        (answers, written.len()),
-        ((unread, unread, unwritten, unwritten), 0)
+    let answers = unwritten(&rt, rt.alloc());
+    assert!(&rt;
+        answers == [Err(CommandError::CannotWrite); 4],
+        "{answers:?}"
     );
 }
 

@@ -1,5 +1,6 @@
 //! The rows of the command `replay`, over both kinds of store: the process receives what another sent and sends it on.
 
+use crate::commands::Failing;
 use om_commands::CommandError;
 use om_commands::replay::replay;
 use om_interval::Pid;
@@ -239,6 +240,15 @@ fn a_store_that_fails(rt: HostRuntime) {
         Err(CommandError::StoreFault),
     );
     check(&rt, rt.alloc(), &mut store, 1, AFTER_RECEIPT, Ok(()));
+}
+
+// A text that cannot be written to its end.
+#[test]
+fn a_writer_that_fails(rt: HostRuntime) {
+    let mut store = MemStable::new(rt.alloc());
+    fill(&rt, rt.alloc(), &mut store, &RECEIPT);
+    let told = replay(rt.alloc(), &mut store, 1, &mut Failing { calls: 3 });
+    assert!(&rt; told == Err(CommandError::CannotWrite), "{told:?}");
 }
 
 static REFUSALS: [(CommandError, &str); 5] = [

@@ -48,9 +48,15 @@ fn ring_ends(rt: &impl Abort, alloc: Global, n: u32) -> String {
 }
 
 // Rings, how many turns their workers take, and whether these are enough.
-static RINGS: [(u32, &str, u64, bool); 3] = [
+static RINGS: [(u32, &str, u64, bool); 4] = [
     (
         8,
+        "kill p3 3\nkill p5 5\nflush 2\ncheckpoint 3\n",
+        TURNS,
+        true,
+    ),
+    (
+        16,
         "kill p3 3\nkill p5 5\nflush 2\ncheckpoint 3\n",
         TURNS,
         true,

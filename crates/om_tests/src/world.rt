@@ -355,6 +355,8 @@ fn check_the_end<S: Stable>(rt: &impl Abort, world: &World<S>) {
     let recovery = world.manager().recovery();
     assert_eq!(rt; recovery.as_slice(), RECOVERED.as_slice());
     check_released(rt, world.manager().released(Pid::at(0)));
+    assert!(rt; world.manager().released(Pid::at(1)).is_empty());
+    assert!(rt; world.manager().released(Pid::at(2)).is_empty());
     let ends = (
         end_of(rt, world, Pid::at(0)),
         end_of(rt, world, Pid::at(1)),
