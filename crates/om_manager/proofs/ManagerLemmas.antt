@@ -10,6 +10,7 @@ use Rattle.om_interval.specs.Starts.{AreStarts, starts_of, newest_of, is_named, 
 use Rattle.om_interval.specs.declared.pid.TheConstants.{MAX_PROCESSES}
 use Rattle.om_recover.specs.Records.{Kept, IsSound}
 use Rattle.om_recover.specs.Cutting.{IsGotAt}
+use Rattle.om_recover.proofs.LawLemmas.{unique_greatest}
 use Rattle.om_recover.proofs.StableLemmas.{record_of_stable}
 use Rattle.om_interval.proofs.VectorLemmas.{sum_falls, below_through, below_itself}
 use Rattle.om_manager.specs.Outputs.{HeldOutput, AreRising, within}
@@ -137,7 +138,10 @@ whole kept logs starts round gathering last backs version parts = record {
   some = parts.some;
   few = parts.few;
   lawful = parts.records.lawful;
-  greatest = parts.records.greatest;
+  exact = record {
+    greatest = parts.records.greatest;
+    released = λ state other p below. ap (λ s. within (held_by (made_of kept logs starts round gathering last backs version) p) (slice_index s p)) (unique_greatest _ _ _ _ parts.records.greatest other);
+  };
   places = length-map logs (λ (log : LogState). log.held) ∙ sym (length-map logs (λ (log : LogState). log.limit)) ∙ ap length parts.limits;
   rising = λ p below. parts.rising p;
   released = λ p below. within_begins _ _ (parts.rising p);

@@ -6,7 +6,7 @@ use Rattle.om_interval.specs.declared.pid.TheConstants.{MAX_PROCESSES}
 use Rattle.om_interval.specs.declared.verdict.Verdict.{Verdict}
 use Rattle.om_recover.specs.Rows.{IsLawful}
 use Rattle.om_recover.specs.Recoverable.{IsGreatest}
-use Rattle.om_manager.specs.Outputs.{AreRising}
+use Rattle.om_manager.specs.Outputs.{AreRising, within}
 use Rattle.om_manager.specs.State.{ManagerState, size_of, held_by, released_by, weight_of}
 use Rattle.om_manager.specs.declared.presence.Presence.{Presence}
 
@@ -32,13 +32,20 @@ pub record IsLast (recovery : List ℕ) (round : ℕ) (last : List ℕ) (backs :
   pub no_state : round ≡ 0 → last ≡ replicate (length recovery) 0
   pub no_backs : round ≡ 0 → backs ≡ replicate MAX_PROCESSES false
 
--- what holds of every manager. The recovery state is the greatest recoverable state of the rows; the outputs of each
--- process are in the order of their intervals, and so what is released of them stands at the same numbers
+-- the recovery state is the greatest recoverable state of the rows, and of each process's outputs exactly those made
+-- within the greatest recoverable state are released
+pub record IsExact (m : ManagerState) : Type 0 where
+  pub greatest : IsGreatest (size_of m) m.rows m.recovery
+  pub released : (state : List ℕ) → IsGreatest (size_of m) m.rows state → (p : ℕ) → p < size_of m
+      → released_by m p ≡ within (held_by m p) (slice_index state p)
+
+-- what holds of every manager. The outputs of each process are in the order of their intervals, and so what is released of
+-- them stands at the same numbers
 pub record IsManager (m : ManagerState) : Type 0 where
   pub some : 0 < size_of m
   pub few : size_of m ≤ MAX_PROCESSES
   pub lawful : IsLawful (size_of m) m.rows
-  pub greatest : IsGreatest (size_of m) m.rows m.recovery
+  pub exact : IsExact m
   pub places : length m.outputs ≡ size_of m
   pub rising : (p : ℕ) → p < size_of m → AreRising (held_by m p)
   pub released : (p : ℕ) → p < size_of m → IsPrefix (released_by m p) (held_by m p)

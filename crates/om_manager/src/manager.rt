@@ -1,13 +1,14 @@
 ghost use Rattle.std.specs.Prelude.{◌≡◌, ℕ, [], ◌∷◌, ◌<◌, ◌≤◌, ◌↔◌, length, replicate, map, slice_index, IfOk, false, None, is_some};
 ghost use Rattle.om_interval.specs.declared.pid.TheConstants.{MAX_PROCESSES};
 ghost use Rattle.om_interval.specs.Starts.{newest_of, is_named};
+ghost use Rattle.om_interval.specs.Vectors.{IsBelow};
 ghost use Rattle.om_recover.specs.Rows.{HasRow};
 ghost use Rattle.om_recover.specs.Records.{first_row};
 ghost use Rattle.om_recover.specs.Cutting.{IsEffective, IsPruned};
 ghost use Rattle.om_manager.specs.Bounds.{AreGotFrom};
 ghost use Rattle.om_manager.specs.Outputs.{held_of, AreNumbered};
 ghost use Rattle.om_manager.specs.State.{size_of, held_by, released_by};
-ghost use Rattle.om_manager.specs.Sound.{IsManager, IsNoVerdict};
+ghost use Rattle.om_manager.specs.Sound.{IsManager, IsExact, GoesOn, KeepsReleased, IsNoVerdict};
 
 use crate::output_log::{Output, OutputLog};
 use crate::presence::Presence;
@@ -92,6 +93,7 @@ impl Manager {
     /// and Zwaenepoel 1990).
     pub fn recovery(&self) -> DepVec
         ensures recovery { result ≡ self.now.recovery }
+        ensures exact { IsExact self.now }
         ensures sound { IsManager self.now }
     {
         self.records.recovery()
@@ -146,6 +148,7 @@ impl Manager {
     pub fn released(&self, pid: Pid) -> &[Output]
         requires { pid < size_of self.now }
         ensures outputs { map held_of result.now ≡ released_by self.now pid }
+        ensures exact { IsExact self.now }
         ensures numbered { AreNumbered result.now }
     {
         let log = &self.logs[pid.index()];
@@ -187,6 +190,9 @@ impl Manager {
         ensures rows { IsPruned self.old.rows self.old.recovery self.new.rows }
         ensures others { self.new ≡ record self.old { rows = self.new.rows } }
         ensures sound { IsManager self.new }
+        ensures front { GoesOn self.old self.new }
+        ensures not_lowered { IsBelow self.old.recovery self.new.recovery }
+        ensures released { KeepsReleased self.old self.new }
     {
         self.records.prune();
     }

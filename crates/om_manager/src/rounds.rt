@@ -1,4 +1,4 @@
-ghost use Rattle.std.specs.Prelude.{◌≡◌, ◌+◌, ◌<◌, ◌^◌, map, IfOk, OnOk, OnErr, Ok, Err};
+ghost use Rattle.std.specs.Prelude.{◌≡◌, ◌+◌, ◌-◌, ◌<◌, ◌^◌, ◌↔◌, map, IfOk, OnOk, OnErr, Ok, Err, IsTrue};
 ghost use Rattle.om_interval.specs.Vectors.{IsBelow};
 ghost use Rattle.om_manager.specs.declared.answers.FailError.TheVariants.{Spent};
 ghost use Rattle.om_manager.specs.Gatherings.{AreAllIn, presences_of};
@@ -14,6 +14,13 @@ use crate::output_log::OutputLog;
 use crate::presence::{Presence, are_all_in, who_begins};
 use om_interval::{MAX_PROCESSES, Pid};
 use std::alloc::{AllocError, Global};
+
+/// Whether no round can follow the one of this number: it is 2^32 - 1.
+pub fn is_last_round(round: u32) -> bool
+    ensures { IsTrue result ↔ (round ≡ 2 ^ 32 - 1) }
+{
+    round == u32::MAX
+}
 
 impl Manager {
     /// Declares that a process failed: it is in the gathering, which is opened where none is open, and where it joined before,
@@ -53,7 +60,7 @@ impl Manager {
         ensures spent { OnErr result ((result ≡ Err Spent) × IsSpent self.now) }
     {
         match self.gathering {
-            None if self.round == u32::MAX => Err(FailError::Spent),
+            None if is_last_round(self.round) => Err(FailError::Spent),
             None => Ok([Presence::Away; MAX_PROCESSES]),
             Some(presences) => Ok(presences),
         }

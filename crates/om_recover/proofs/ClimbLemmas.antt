@@ -7,8 +7,8 @@ use Rattle.std.proofs.lemmas.List.Sums.{sum_by-cons}
 use Rattle.om_interval.specs.Vectors.{IsBelow}
 use Rattle.om_recover.specs.Rows.{Rows, HasRow, Has, IsLawful}
 use Rattle.om_recover.specs.Recoverable.{IsStable, IsRecoverable, maximum_of}
-use Rattle.om_recover.specs.Climb.{IsLeastStable, IsNeeded, starts, follows, AreLooks}
-use Rattle.om_recover.specs.steps.Climbing.{IsForced, IsBlocked, IsClimbed, IsOutOfReach}
+use Rattle.om_recover.specs.Climb.{IsLeastStable, IsNeeded, starts, follows, AreLooks, IsClimbed, IsOutOfReach}
+use Rattle.om_recover.specs.steps.Climbing.{IsForced, IsBlocked}
 use Rattle.om_recover.specs.steps.Climbing.{IsNeededWithin, begins, leads, IsClimbing}
 use Rattle.om_recover.specs.declared.row.RowKind.{RowKind}
 use Rattle.om_recover.specs.declared.row.Row.{Row}

@@ -11,7 +11,7 @@ use Rattle.om_recover.specs.declared.row.RowKind.TheVariants.{Checkpoint, Log}
 use Rattle.om_recover.specs.declared.row.Row.{Row}
 use Rattle.om_recover.specs.declared.memory.Memory.{Memory}
 use Rattle.om_recover.specs.Recoverable.{IsStable, IsRecoverable, maximum_of}
-use Rattle.om_recover.specs.steps.Climbing.{IsOutOfReach}
+use Rattle.om_recover.specs.Climb.{IsOutOfReach}
 use Rattle.om_recover.specs.steps.Climbing.{IsNeededWithin, begins, leads, IsClimbing}
 use Rattle.om_recover.specs.steps.Memory.{IsRemembered, AreRemembered, IsKept, IsWithout}
 use Rattle.om_recover.proofs.RowsLemmas.{kept}

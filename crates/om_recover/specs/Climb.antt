@@ -1,6 +1,7 @@
 use Rattle.std.specs.Prelude.{◌≡◌, ℕ, ◌<◌, ◌≤◌, List, All, AllPairs, slice_index}
+use Rattle.om_interval.specs.Vectors.{IsBelow}
 use Rattle.om_recover.specs.Rows.{Rows, HasRow}
-use Rattle.om_recover.specs.Recoverable.{IsStable}
+use Rattle.om_recover.specs.Recoverable.{IsStable, IsRecoverable}
 use Rattle.om_recover.specs.declared.row.Row.{Row}
 
 -- of the process's stable intervals at or above an interval, the least
@@ -21,3 +22,14 @@ pub data IsNeeded (rows : Rows) (state : List ℕ) (p x : ℕ) : ℕ → ℕ →
 pub record AreLooks (rows : Rows) (state : List ℕ) (p x : ℕ) (looks : List (ℕ × ℕ)) : Type 0 where
   pub needed : All (λ look. IsNeeded rows state p x look.0 look.1) looks
   pub once : AllPairs (λ one other. one ≡ other → ⊥) looks
+
+-- the least recoverable state at or above the state that has process p at x or above
+pub record IsClimbed (n : ℕ) (rows : Rows) (state : List ℕ) (p x : ℕ) (climbed : List ℕ) : Type 0 where
+  pub recoverable : IsRecoverable n rows climbed
+  pub above : IsBelow state climbed
+  pub started : x ≤ slice_index climbed p
+  pub least : (other : List ℕ) → IsRecoverable n rows other → IsBelow state other → x ≤ slice_index other p → IsBelow climbed other
+
+-- no recoverable state has process p at x or above
+abbrev pub IsOutOfReach : ℕ → Rows → ℕ → ℕ → Type 0
+IsOutOfReach n rows p x = (other : List ℕ) → IsRecoverable n rows other → slice_index other p < x

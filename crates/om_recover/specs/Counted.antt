@@ -1,10 +1,10 @@
-use Rattle.std.specs.Prelude.{◌≡◌, ℕ, ◌+◌, ◌-◌, ◌*◌, ◌<◌, ◌≤◌, List, ◌∷◌, ◌++◌, All, length, sum, slice_index}
+use Rattle.std.specs.Prelude.{◌≡◌, ℕ, ◌+◌, ◌-◌, ◌*◌, ◌<◌, ◌≤◌, List, [], ◌∷◌, ◌++◌, All, length, sum, slice_index}
 use Rattle.om_interval.specs.Vectors.{IsBelow}
 use Rattle.om_recover.specs.Rows.{Rows}
 use Rattle.om_recover.specs.Recoverable.{IsStable, IsRecoverable}
 use Rattle.om_recover.specs.Records.{Kept}
 use Rattle.om_recover.specs.Attempts.{Attempt}
-use Rattle.om_recover.specs.Climb.{IsLeastStable, AreLooks}
+use Rattle.om_recover.specs.Climb.{IsLeastStable, AreLooks, IsClimbed, IsOutOfReach}
 
 -- of the process's intervals above the floor that were not stable before, the least
 pub record IsLeastNew (before after : Rows) (p floor x : ℕ) : Type 0 where
@@ -22,13 +22,29 @@ pub record IsLater (n : ℕ) (rows : Rows) (low high : List ℕ) (attempt : Atte
   pub start : IsLeastStable rows attempt.pid (slice_index attempt.state attempt.pid + 1) attempt.interval
   pub looks : AreLooks rows attempt.state attempt.pid attempt.interval attempt.looks
 
--- the attempts of a search that raised one state to another: the first climbs from the state, from the interval given,
--- and there are at most n more for each interval by which the state was raised
+-- what an attempt comes to: the least recoverable state at or above its start, or, where none has the process there, the
+-- state that it began from
+pub data ComesTo (n : ℕ) (rows : Rows) (state : List ℕ) (p x : ℕ) (reached : List ℕ) : Type 0 where
+  climbs : IsClimbed n rows state p x reached → ComesTo n rows state p x reached
+  fails : IsOutOfReach n rows p x → reached ≡ state → ComesTo n rows state p x reached
+
+-- attempts, the latest first, of which each begins from what the one before it came to: from one state to another
+pub data AreInTurn (n : ℕ) (rows : Rows) (low : List ℕ) : List Attempt → List ℕ → Type 0 where
+  nothing : AreInTurn n rows low [] low
+  one_more : (attempt : Attempt) (earlier : List Attempt) (reached : List ℕ) → AreInTurn n rows low earlier attempt.state
+      → ComesTo n rows attempt.state attempt.pid attempt.interval reached → AreInTurn n rows low (attempt ∷ earlier) reached
+
+-- the attempts of a search that raised one state to another: the first climbs from the state, from the interval given;
+-- each later one begins from what was reached by then; and there are at most n of them for each interval by which the
+-- state was raised
 pub record IsSearched (n : ℕ) (rows : Rows) (state : List ℕ) (p x : ℕ) (raised : List ℕ) (old new : List Attempt) : Type 0 where
   pub made : List Attempt
   pub looks : List (ℕ × ℕ)
+  pub reached : List ℕ
   pub added : new ≡ made ++ record { pid = p; interval = x; state = state; looks = looks } ∷ old
   pub first : AreLooks rows state p x looks
+  pub comes : ComesTo n rows state p x reached
+  pub turns : AreInTurn n rows reached made raised
   pub few : length made ≤ n * (sum raised - sum state)
   pub later : All (IsLater n rows state raised) made
 

@@ -3,8 +3,8 @@ ghost use Rattle.om_interval.specs.Vectors.{IsBelow};
 ghost use Rattle.om_recover.specs.Rows.{Rows, HasRow, Has, IsLawful};
 ghost use Rattle.om_recover.specs.Recoverable.{IsStable, IsRecoverable, maximum_of};
 ghost use Rattle.om_recover.specs.Attempts.{with_look};
-ghost use Rattle.om_recover.specs.Climb.{IsLeastStable};
-ghost use Rattle.om_recover.specs.steps.Climbing.{TellsLeast, TellsClimb, TellsBegin, TellsBehind, IsAttempted, IsForced, IsBlocked, IsClimbed, IsOutOfReach};
+ghost use Rattle.om_recover.specs.Climb.{IsLeastStable, IsClimbed, IsOutOfReach};
+ghost use Rattle.om_recover.specs.steps.Climbing.{TellsLeast, TellsClimb, TellsBegin, TellsBehind, IsAttempted, IsForced, IsBlocked};
 ghost use Rattle.om_recover.specs.steps.Climbing.{IsClimbing};
 ghost use Rattle.om_recover.specs.steps.Memory.{IsRemembered, AreRemembered};
 

@@ -1,5 +1,17 @@
 //! The records that processes note, and the greatest recoverable state of the system that they allow (direct dependency
 //! vectors after Johnson and Zwaenepoel 1990; stable intervals may have gaps).
+//!
+//! A note costs a descent of a tree for itself and for each interval that it makes stable, and a search where the state may
+//! rise; one in order needs no descent. Nothing is trusted here.
+//!
+//! In an order of reading:
+//!
+//! - what is noted: `row`, `note` (the answers), `records` (the calls), `laws` (theorems over the definitions)
+//! - the search: `raise` (whether one is wanted), `search` (attempts in passes), `climb` (one attempt, over rows that it is
+//!   lent as a `Shelf`), `memory` (climbs that failed), `work` and `step` (what is counted)
+//! - the rows: `index` (all of them, a `Shelf`), `trees` (by process), `logs` and `bases` (the logs, the checkpoints),
+//!   `answer` (whether a row is new), `lookup`, `nearest` and `stable` (what is read), `adding`, `laying` and `storing` (what
+//!   is added), `cutting` (what is dropped), `first` (no rows)
 #![tactic(auto)]
 
 mod adding;

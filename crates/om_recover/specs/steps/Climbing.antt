@@ -4,8 +4,8 @@ use Rattle.om_interval.specs.Vectors.{IsBelow}
 use Rattle.om_recover.specs.Rows.{Rows, HasRow}
 use Rattle.om_recover.specs.Recoverable.{IsStable, IsRecoverable}
 use Rattle.om_recover.specs.Attempts.{Attempt}
-use Rattle.om_recover.specs.Climb.{IsLeastStable, AreLooks}
-use Rattle.om_recover.specs.Counted.{IsLater}
+use Rattle.om_recover.specs.Climb.{IsLeastStable, AreLooks, IsClimbed, IsOutOfReach}
+use Rattle.om_recover.specs.Counted.{IsLater, AreInTurn}
 use Rattle.om_recover.specs.declared.row.Row.{Row}
 
 -- an attempt was added, of that start and state
@@ -27,23 +27,13 @@ pub record IsBlocked (rows : Rows) (state vec : List ℕ) (at : ℕ) : Type 0 wh
   pub beyond : slice_index state at < slice_index vec at
   pub none : (z : ℕ) → IsStable rows at z → slice_index vec at ≤ z → ⊥
 
--- the least recoverable state at or above the state that has process p at x or above
-pub record IsClimbed (n : ℕ) (rows : Rows) (state : List ℕ) (p x : ℕ) (climbed : List ℕ) : Type 0 where
-  pub recoverable : IsRecoverable n rows climbed
-  pub above : IsBelow state climbed
-  pub started : x ≤ slice_index climbed p
-  pub least : (other : List ℕ) → IsRecoverable n rows other → IsBelow state other → x ≤ slice_index other p → IsBelow climbed other
-
--- no recoverable state has process p at x or above
-abbrev pub IsOutOfReach : ℕ → Rows → ℕ → ℕ → Type 0
-IsOutOfReach n rows p x = (other : List ℕ) → IsRecoverable n rows other → slice_index other p < x
-
 -- at most one attempt for each process was added
 pub record ArePassed (n : ℕ) (rows : Rows) (low high : List ℕ) (p : ℕ) (old new : List Attempt) : Type 0 where
   pub made : List Attempt
   pub added : new ≡ made ++ old
   pub few : length made ≤ p
   pub later : All (IsLater n rows low high) made
+  pub turns : AreInTurn n rows low made high
 
 -- `IsNeeded`, where each interval after the first is at most the bound's place
 pub data IsNeededWithin (rows : Rows) (state bound : List ℕ) (p x : ℕ) : ℕ → ℕ → Type 0 where

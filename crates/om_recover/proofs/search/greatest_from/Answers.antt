@@ -1,7 +1,7 @@
 use Rattle.std.proofs.Common.{◌≡◌, ℕ, ◌+◌, List, sym, ◌∙◌, refl, subst, arith, length, slice_index}
 use Rattle.std.proofs.lemmas.Slice.Eq.{bytes_eq-Decides}
 use Rattle.om_recover.specs.Recoverable.{IsRecoverable}
-use Rattle.om_recover.specs.steps.Climbing.{IsOutOfReach}
+use Rattle.om_recover.specs.Climb.{IsOutOfReach}
 use Rattle.om_recover.specs.steps.Memory.{AreRemembered}
 use Rattle.om_recover.proofs.MemoryLemmas.{all_raised}
 use Rattle.om_recover.specs.steps.Climbing.{ArePassed}
@@ -10,7 +10,7 @@ use Rattle.om_recover.proofs.SearchLemmas.{searching_start, searching_step, sear
 use Rattle.om_recover.proofs.search.greatest_from.Goals as goal
 
 pub returns-in_default-clause-counted : goal.returns-in_default-clause-counted
-returns-in_default-clause-counted g c = searched_at_once _ _ _ _ _ _ _ c.climb.ensures.counted
+returns-in_default-clause-counted g c = searched_at_once _ _ _ _ _ _ _ c.climb.ensures.counted c.in_default.ensures.climbed
 
 pub loop-higher-init : goal.loop-higher-init
 loop-higher-init g c = record {

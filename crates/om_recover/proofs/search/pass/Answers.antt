@@ -2,12 +2,21 @@ use Rattle.std.proofs.Common.{◌≡◌, ℕ, ◌+◌, List, sym, ◌∙◌, sub
 use Rattle.std.proofs.lemmas.Bool.{cases_order}
 use Rattle.om_interval.specs.Vectors.{IsBelow}
 use Rattle.om_recover.specs.Recoverable.{IsRecoverable}
-use Rattle.om_recover.specs.steps.Climbing.{IsOutOfReach}
+use Rattle.om_recover.specs.Climb.{IsOutOfReach}
 use Rattle.om_recover.specs.steps.Memory.{AreRemembered}
 use Rattle.om_recover.specs.steps.Climbing.{ArePassed}
-use Rattle.om_interval.proofs.VectorLemmas.{below_through, below_each_other}
-use Rattle.om_recover.proofs.SearchLemmas.{passed_then}
+use Rattle.om_interval.proofs.VectorLemmas.{below_itself, below_through, below_each_other}
+use Rattle.om_recover.proofs.SearchLemmas.{passed_nothing, passed_then}
 use Rattle.om_recover.proofs.search.pass.Goals as goal
+
+pub loop-p-init : goal.loop-p-init
+loop-p-init g c = record {
+  recoverable = c.requires.state;
+  above = below_itself c.args.state.now;
+  at_rest = λ same q before. absurd (omega (arith, before));
+  remembered = c.requires.remembered;
+  counted = passed_nothing _ _ _ _ _;
+}
 
 pub loop-p-preserved : goal.loop-p-preserved
 loop-p-preserved g c =

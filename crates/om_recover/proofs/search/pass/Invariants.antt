@@ -1,7 +1,7 @@
 use Rattle.std.proofs.Common.{◌≡◌, ℕ, ◌+◌, ◌<◌, length, slice_index}
 use Rattle.om_interval.specs.Vectors.{IsBelow}
 use Rattle.om_recover.specs.Recoverable.{IsRecoverable}
-use Rattle.om_recover.specs.steps.Climbing.{IsOutOfReach}
+use Rattle.om_recover.specs.Climb.{IsOutOfReach}
 use Rattle.om_recover.specs.steps.Memory.{AreRemembered}
 use Rattle.om_recover.specs.steps.Climbing.{ArePassed}
 use Rattle.om_recover.proofs.search.pass.Given as goal

@@ -5,3 +5,6 @@ use Rattle.om_manager.proofs.manager.Manager.recovery.Goals as goal
 
 pub returns-clause-sound : goal.returns-clause-sound
 returns-clause-sound c = subst IsManager c.self.view_is (whole _ _ _ _ _ _ _ _ c.self.invariant)
+
+pub returns-clause-exact : goal.returns-clause-exact
+returns-clause-exact c = (returns-clause-sound c).exact
