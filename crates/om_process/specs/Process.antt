@@ -1,5 +1,5 @@
 -- A process as its callers see it, and what one move makes of it.
-use Rattle.std.specs.Prelude.{ℕ, zero, suc, ◌+◌, List, [], ◌∷◌, ◌++◌, map, replicate, max, slice_index, slice_set, Option, Some, None}
+use Rattle.std.specs.Prelude.{◌≡◌, ℕ, zero, suc, ◌+◌, List, [], ◌∷◌, ◌++◌, map, replicate, max, slice_index, slice_set, Option, Some, None}
 use Rattle.om_isa.specs.declared.ext.Ext.{Ext}
 use Rattle.om_machine.specs.State.{State, loaded}
 use Rattle.om_machine.specs.Finishing.{finished_receive}
@@ -35,6 +35,10 @@ pub data Move : Type 0 where
   Traps : (cause : Cause) → Move
   Goes : (next : State) → Move
   Emits : (place : ℕ) (body : List ℕ) (next : State) → Move
+
+-- the move adds a message or an output
+abbrev pub IsEmission : Move → Type 0
+IsEmission move = (place : ℕ) × (body : List ℕ) × (next : State) × (move ≡ Emits place body next)
 
 -- how many messages were sent to each process, and behind them how many outputs were made
 abbrev pub made : List QueueRecord → List ℕ

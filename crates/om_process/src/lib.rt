@@ -1,4 +1,18 @@
 //! One logged process: it runs and receives, and where its receipts lead is a matter of its program alone.
+//!
+//! A turn costs what its machine costs; a message and an output cost their bytes. A replay carries out the instructions between
+//! the checkpoint and the receipt once. The stores are trusted as far as they say that they are clean.
+//!
+//! In an order of reading:
+//!
+//! - a process: `proc_core` (its parts, and the reads), `image`, `status`, `row`, `limits`, `laws` (theorems over the definitions)
+//! - what it does: `start`, `plan` (at an event of the machine) and `turns`, `accept` (a message), `queues` and `outbox` (what it
+//!   made), `trim`
+//! - what it stores: `log` (receipts that are not stored yet), `storing`
+//! - how it comes back: `replay`, `restoring` (from a checkpoint), `repeating` (one receipt after another), `down` (after a round)
+//!
+//! The methods of `ProcCore` stand in the files of what they do: `start`, `turns`, `accept`, `outbox`, `trim`, `storing`, `replay`,
+//! `restoring`, `repeating` and `down`.
 #![tactic(auto)]
 
 pub use accept::Accept;
@@ -12,6 +26,7 @@ pub use row::Row;
 pub use start::StartFault;
 pub use status::Status;
 pub use turns::Ran;
+pub use witness::Witness;
 
 mod accept;
 mod down;
@@ -32,3 +47,4 @@ mod status;
 mod storing;
 mod trim;
 mod turns;
+mod witness;

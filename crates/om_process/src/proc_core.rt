@@ -1,6 +1,8 @@
 ghost use Rattle.std.specs.Prelude.{◌≡◌, slice_index, sum};
 ghost use Rattle.om_process.specs.Core.{AreLast, move_of, size_of, status_of};
 ghost use Rattle.om_process.specs.Starting.{IsPlace};
+ghost use Rattle.om_process.specs.Frames.{outputs_of};
+ghost use Rattle.om_format.specs.Queues.{queue_end};
 
 use crate::log::Logged;
 use crate::plan::plan_at;
@@ -99,6 +101,13 @@ impl ProcCore {
         ensures received { sum result.now ≡ self.now.now.interval }
     {
         &self.got
+    }
+
+    /// How many outputs were made.
+    pub fn made(&self) -> u64
+        ensures { result ≡ queue_end (outputs_of self.now) }
+    {
+        self.made
     }
 
     /// The incarnation.

@@ -5,7 +5,7 @@ ghost use Rattle.om_machine.specs.Step.{next_of};
 ghost use Rattle.om_machine.specs.Finishing.{TakesWord, finished_who, finished_word};
 ghost use Rattle.om_process.specs.Core.{CoreTurns, core_turn, move_of, size_of, status_of, with_now};
 ghost use Rattle.om_process.specs.steps.Planned.{IsBuffer, with_bytes_emitted};
-ghost use Rattle.om_process.specs.Process.{Process, emitted, made, with_machine};
+ghost use Rattle.om_process.specs.Process.{Process, IsEmission, emitted, made, with_machine};
 ghost use Rattle.om_format.specs.declared.limits.TheConstants.{MAX_BODY};
 ghost use Rattle.om_process.specs.declared.limits.TheConstants.{LAST_NUMBER};
 
@@ -133,6 +133,7 @@ impl ProcCore {
         ensures size { size_of self.new.now ≡ size_of self.old.now }
         ensures err { OnErr result (self.new ≡ self.old) }
         ensures due { OnErr result ((p : Process) × (core_turn self.old ≡ Some p)) }
+        ensures adds { OnErr result (IsEmission (move_of self.old)) }
     {
         match plan_at(&self.machine, &self.sent, event) {
             Plan::Go => unreachable!(),
@@ -154,6 +155,7 @@ impl ProcCore {
         ensures stops { IfOk result (λ ran. ran.steps < fuel → ran.status ≢ Status.Ready) }
         ensures no_more { IfOk result (λ ran. ran.steps < fuel → core_turn self.new ≡ None) }
         ensures due { OnErr result ((p : Process) × (core_turn self.new ≡ Some p)) }
+        ensures adds { OnErr result (IsEmission (move_of self.new)) }
         ensures at_most { (k : ℕ) × (k ≤ fuel) × CoreTurns k self.old self.new }
         ensures rest { self.new ≡ with_now self.old self.new.now }
         ensures size { size_of self.new.now ≡ size_of self.old.now }

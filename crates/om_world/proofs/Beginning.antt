@@ -30,9 +30,8 @@ use Rattle.om_world.specs.declared.entry.Entry.{Entry}
 use Rattle.om_world.specs.declared.place.Place.{Place}
 use Rattle.om_world.specs.Live.{program_at}
 use Rattle.om_world.specs.World.{WorldState, Past, history, IsEmpty, IsKnown, all_clean}
-use Rattle.om_world.specs.Holds.{HasRecord}
 use Rattle.om_world.specs.Started.{HaveFirst, IsLoadable, IsNew, IsStarted}
-use Rattle.om_world.specs.steps.Sound.{HasShape, IsCoreOf, IsRunning, IsStored, IsUpIn, IsWorld, Sound}
+use Rattle.om_world.specs.steps.Sound.{HasBytes, HasShape, IsCoreOf, IsRunning, IsStored, IsUpIn, IsWorld, Sound}
 use Rattle.om_world.specs.steps.Starting.{AreStarted}
 use Rattle.om_world.proofs.Gaining.{checkpoint_stored}
 use Rattle.om_world.proofs.Holding.{before_map}
@@ -246,8 +245,8 @@ first_claim programs m row new has =
     none : 0 ≤ 0
     none = omega arith
 
-first_backed : (n : ℕ) (row : Row) (own : ℕ) (held : Content) (program : Program) → row ≡ first_row n row.pid → HasGainedCheckpoint (started_core program own n) nothing held → HasRecord held row.kind row.interval
-first_backed n row own held program is g = subst (λ (r : Row). HasRecord held r.kind r.interval) (sym is) (g.2, ap (λ (d : Content). get d.checkpoints 0) g.4 ∙ get-insert_here nothing.checkpoints 0 g.2)
+first_backed : (n : ℕ) (row : Row) (own : ℕ) (held : Content) (program : Program) → row ≡ first_row n row.pid → HasGainedCheckpoint (started_core program own n) nothing held → HasBytes held row.kind row.interval
+first_backed n row own held program is g = subst (λ (r : Row). HasBytes held r.kind r.interval) (sym is) (g.2, ap (λ (d : Content). get d.checkpoints 0) g.4 ∙ get-insert_here nothing.checkpoints 0 g.2)
 
 gained_running : (programs : List Program) (m : ManagerState) (p : ℕ) (held : Content) (program : Program) → slice_get programs p ≡ Some program → HasGainedCheckpoint (started_core program p (length programs)) nothing held
     → IsRunning (at_start programs m) p held (started_core program p (length programs))

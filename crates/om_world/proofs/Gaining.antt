@@ -21,10 +21,9 @@ use Rattle.om_recover.specs.declared.row.RowKind.TheVariants.{Checkpoint, Log}
 use Rattle.om_world.specs.declared.place.Place.{Place}
 use Rattle.om_world.specs.Changes.{HasGained, stored}
 use Rattle.om_world.specs.Failures.{HasNews}
-use Rattle.om_world.specs.Holds.{HasRecord}
 use Rattle.om_world.specs.Live.{program_at}
 use Rattle.om_world.specs.World.{WorldState, Past, past_of, history}
-use Rattle.om_world.specs.steps.Sound.{Sound, HasShape, IsStored, IsPending, KeptWithin, LogAlong, receipts_in, IsCoreOf, IsRunning, IsUpIn, Runs, kind_of}
+use Rattle.om_world.specs.steps.Sound.{HasBytes, HasShape, IsCoreOf, IsPending, IsRunning, IsStored, IsUpIn, KeptWithin, LogAlong, Runs, Sound, kind_of, receipts_in}
 use Rattle.om_world.proofs.Kept.{remade, interval_is, row_of}
 use Rattle.om_world.proofs.Lists.{at_change, either, once}
 
@@ -117,13 +116,13 @@ logged_at v p held c r i l e =
     place : (n x : ℕ) → x ≡ n + 1 → n + i + 1 ≡ x + i
     place n x f = omega arith
 
-gained_record : (kind : RowKind) (c : CoreState) (a b : Content) (of : RowKind) (x : ℕ) → HasGained kind c a b → HasRecord a of x → HasRecord b of x
+gained_record : (kind : RowKind) (c : CoreState) (a b : Content) (of : RowKind) (x : ℕ) → HasGained kind c a b → HasBytes a of x → HasBytes b of x
 gained_record Log c a b Checkpoint x g h = (h.0, ap (λ (d : Content). get d.checkpoints x) g.2 ∙ h.1)
 gained_record Log c a b Log x g h = let r = with_all_keeps a.receipts (first_logged c) g.0 x h in (r.0, ap (λ (d : Content). get d.receipts x) g.2 ∙ r.1)
-gained_record Checkpoint c a b Log x g h = (h.0, ap (λ (d : Content). get d.receipts x) g.4 ∙ h.1)
+gained_record Checkpoint c a b Log x g h = (h.0, ap (λ (d : Content). get d.receipts x) g.1.4 ∙ h.1)
 gained_record Checkpoint c a b Checkpoint x g h = elim (either x c.now.interval) [
-  | inl same ↦ (g.2, ap (λ (d : Content). get d.checkpoints x) g.4 ∙ ap (get (insert a.checkpoints c.now.interval g.2)) same ∙ get-insert_here a.checkpoints c.now.interval g.2)
-  | inr other ↦ (h.0, ap (λ (d : Content). get d.checkpoints x) g.4 ∙ get-insert_apart a.checkpoints c.now.interval g.2 x other ∙ h.1)
+  | inl same ↦ (g.1.2, ap (λ (d : Content). get d.checkpoints x) g.1.4 ∙ ap (get (insert a.checkpoints c.now.interval g.1.2)) same ∙ get-insert_here a.checkpoints c.now.interval g.1.2)
+  | inr other ↦ (h.0, ap (λ (d : Content). get d.checkpoints x) g.1.4 ∙ get-insert_apart a.checkpoints c.now.interval g.1.2 x other ∙ h.1)
 ]
 
 gained_stored : (v : Past) (p : ℕ) (a b : Content) (c : CoreState) → HasGainedLog c a b → IsRunning v p a c → IsStored v p a → IsStored v p b
@@ -223,7 +222,7 @@ row_last [] new row (suc i) e = absurd (none i e)
 row_last (x ∷ rows) new row zero e = inl e
 row_last (x ∷ rows) new row (suc i) e = row_last rows new row i e
 
-pub checkpoint_running : (v : Past) (p : ℕ) (a b : Content) (c : CoreState) → HasGainedCheckpoint c a b → IsRunning v p a c → IsRunning v p b (checkpointed c)
+pub checkpoint_running : (v : Past) (p : ℕ) (a b : Content) (c : CoreState) → HasGained Checkpoint c a b → IsRunning v p a c → IsRunning v p b (checkpointed c)
 checkpoint_running v p a b c g r = record {
   state = r.state;
   kept = r.kept;
@@ -233,12 +232,12 @@ checkpoint_running v p a b c g r = record {
     | inr new ↦ subst (λ (x : Row). IsPending v p b x) (sym new) (record {
       row_of = at_all (history v p) c.now.interval (RowOf p (length v.programs) c.now.vec c.now.got) (interval_is v p a c r) (row_of (program_at v.programs p) p (length v.programs) c.now (history v p) r.state);
       begun = λ e. absurd (apart_bools e);
-      backed = inl (g.2, ap (λ (d : Content). get d.checkpoints c.now.interval) g.4 ∙ get-insert_here a.checkpoints c.now.interval g.2);
+      backed = inl (g.1.2, ap (λ (d : Content). get d.checkpoints c.now.interval) g.1.4 ∙ get-insert_here a.checkpoints c.now.interval g.1.2);
     })
   ];
   above = record {
-    receipts = λ y lt. ap (λ (d : Content). get d.receipts y) g.4 ∙ r.above.receipts y lt;
-    checkpoints = λ y lt. ap (λ (d : Content). get d.checkpoints y) g.4 ∙ get-insert_apart a.checkpoints c.now.interval g.2 y (apart y lt) ∙ r.above.checkpoints y lt;
+    receipts = λ y lt. ap (λ (d : Content). get d.receipts y) g.1.4 ∙ r.above.receipts y lt;
+    checkpoints = λ y lt. ap (λ (d : Content). get d.checkpoints y) g.1.4 ∙ get-insert_apart a.checkpoints c.now.interval g.1.2 y (apart y lt) ∙ r.above.checkpoints y lt;
   };
 }
   where
@@ -248,7 +247,7 @@ checkpoint_running v p a b c g r = record {
 -- ---- either of them
 store_stored : (kind : RowKind) (v : Past) (p : ℕ) (a b : Content) (c : CoreState) → IsCoreOf (length v.programs) p c → HasGained kind c a b → IsRunning v p a c → IsStored v p a → IsStored v p b
 store_stored Log v p a b c own g r s = gained_stored v p a b c g r s
-store_stored Checkpoint v p a b c own g r s = checkpoint_stored v p a b c own g r s
+store_stored Checkpoint v p a b c own g r s = checkpoint_stored v p a b c own g.1 r s
 
 store_running : (kind : RowKind) (v : Past) (p : ℕ) (a b : Content) (c : CoreState) → HasGained kind c a b → IsRunning v p a c → IsRunning v p b (stored kind c)
 store_running Log v p a b c g r = gained_running v p a b c g r
@@ -281,7 +280,7 @@ sound_store kind w p a b c clean h s at holds runs g =
         | inr other ↦ s.stored q held other.1
       ];
       backed = λ row held e f. elim (at_change w.contents p row.pid held b f) [
-        | inl same ↦ elim (s.backed row a e (subst (λ o. slice_get w.contents o ≡ Some a) (sym same.0) holds)) [ inl has ↦ inl (subst (λ (d : Content). HasRecord d row.kind row.interval) (sym same.1) (gained_record kind c a b row.kind row.interval g has)) | inr is ↦ inr is ]
+        | inl same ↦ elim (s.backed row a e (subst (λ o. slice_get w.contents o ≡ Some a) (sym same.0) holds)) [ inl has ↦ inl (subst (λ (d : Content). HasBytes d row.kind row.interval) (sym same.1) (gained_record kind c a b row.kind row.interval g has)) | inr is ↦ inr is ]
         | inr other ↦ s.backed row held e other.1
       ];
       running = λ q d held e f stands. elim (at_change w.cores p q (Some d) (Some (stored kind c)) e) [

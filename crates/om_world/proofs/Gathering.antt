@@ -230,7 +230,7 @@ state_closed w p q h s other = elim (less p n) [
         let row = recovery_row w p h lt in
         let claim = subst (λ o. AtInterval (history (past_of w) o) row.0.interval (RowOf o n row.0.vec row.0.got)) row.2 (s.rows row.0 row.1) in
         let vec : row.0.vec ≡ Depends n p (take (recovered w.manager p) (history (past_of w) p)) = claim.1.0 ∙ ap (λ x. Depends n p (take x (history (past_of w) p))) row.3 in
-        let below = h.manager.greatest.recoverable.closed row.0 row.1 (row.3 ∙ ap (recovered w.manager) (sym row.2)) in
+        let below = h.manager.exact.greatest.recoverable.closed row.0 row.1 (row.3 ∙ ap (recovered w.manager) (sym row.2)) in
         let long : q < length row.0.vec = subst (λ k. q < k) (sym (ap length vec ∙ length-depends n p (take (recovered w.manager p) (history (past_of w) p)))) few in
         let at : slice_index row.0.vec q ≡ greatest_from q (take (recovered w.manager p) (history (past_of w) p)) =
         ap (λ v. get_or v q 0) vec ∙ depends_at n p q (take (recovered w.manager p) (history (past_of w) p)) few ∙ apart (nat_eq q p) refl in

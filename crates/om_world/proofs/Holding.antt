@@ -17,7 +17,7 @@ use Rattle.om_manager.specs.State.{held_by, released_by}
 use Rattle.om_world.specs.Live.{program_at}
 use Rattle.om_world.specs.World.{WorldState, past_of, history, recovered, output_entry, IsKnown}
 use Rattle.om_world.specs.Holds.{HasRecord, Holds, IsWanted, ReleasedFirst, StandsAt}
-use Rattle.om_world.specs.steps.Sound.{HasShape, IsBefore, IsOld, IsRunning, IsWorld, Runs, Sound}
+use Rattle.om_world.specs.steps.Sound.{HasBytes, HasShape, IsBefore, IsOld, IsRunning, IsStored, IsWorld, Runs, Sound}
 use Rattle.om_world.proofs.Kept.{row_of}
 use Rattle.om_world.proofs.Lists.{inside, map_at, none_in, once, there}
 use Rattle.om_world.proofs.Released.{released_first}
@@ -109,9 +109,14 @@ not_old Log x c d wanted before le = below x c d wanted before le
     below x c d a b e = omega arith
 
 wanted_has : (w : WorldState) (row : noted.Row) (held : Content) (c : ℕ) → IsEffective w.manager.rows row.pid (recovered w.manager row.pid) c → IsWanted c row.kind row.interval
-    → HasRecord held row.kind row.interval ⊎ IsOld w.manager row.pid row.kind row.interval → HasRecord held row.kind row.interval
+    → HasBytes held row.kind row.interval ⊎ IsOld w.manager row.pid row.kind row.interval → HasBytes held row.kind row.interval
 wanted_has w row held c e wanted (inl has) = has
 wanted_has w row held c e wanted (inr old) = absurd (not_old row.kind row.interval c old.checkpoint wanted old.before (e.greatest old.checkpoint old.there old.within))
+
+true_record : (w : WorldState) (p c : ℕ) (held : Content) (kind : RowKind) (x : ℕ) → IsStored (past_of w) p held → x ≤ length (history (past_of w) p) → IsWanted c kind x → HasBytes held kind x
+    → HasRecord (past_of w) p held kind x
+true_record w p c held Checkpoint x stored within wanted has = let t = stored.checkpoints x has.0 within has.1 in (has.0, has.1, t.0, t.1, t.2, t.3, t.4)
+true_record w p c held Log x stored within wanted has = let t = stored.receipts x has.0 (omega (arith, wanted)) within has.1 in (has.0, has.1, t.0, t.1, t.2)
 
 -- ---- all of it
 pub holds : (w : WorldState) → HasShape w → Sound w → Holds w
@@ -120,7 +125,8 @@ holds w h s = record {
   up = λ p c at place. (stands w p c h s at (inl place), (s.up p c at place).round);
   gathered = λ p c at place same. stands w p c h s at (inr (place, λ lt. absurd (apart (slice_index w.rounds p) w.manager.round same lt)));
   released = λ p lt. released w p h s lt;
-  backed = λ row held c has at e wanted. wanted_has w row held c e wanted (s.backed row held has at);
+  backed = λ row held c has at e wanted.
+      true_record w row.pid c held row.kind row.interval (s.stored row.pid held at) (s.rows row has).0 wanted (wanted_has w row held c e wanted (s.backed row held has at));
 }
   where
     apart : (a b : ℕ) → a ≡ b → a < b → ⊥

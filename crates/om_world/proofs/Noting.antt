@@ -18,10 +18,9 @@ use Rattle.om_manager.specs.State.{ManagerState}
 use Rattle.om_manager.specs.declared.answers.RecordError.{RecordError}
 use Rattle.om_manager.specs.declared.answers.RecordError.TheVariants.{Refused}
 use Rattle.om_world.specs.Changes.{IsUp, row_for, stored}
-use Rattle.om_world.specs.Holds.{HasRecord}
 use Rattle.om_world.specs.World.{WorldState, Past, past_of, history, IsKnown, all_clean}
 use Rattle.om_world.specs.steps.Moves.{AreTold, Gained, IsCalled, IsTold, IsToldUpTo, HasCalled, HasTold, after_store}
-use Rattle.om_world.specs.steps.Sound.{HasShape, IsOld, IsPending, IsWorld, Sound, kind_of}
+use Rattle.om_world.specs.steps.Sound.{HasBytes, HasShape, IsOld, IsPending, IsWorld, Sound, kind_of}
 use Rattle.om_world.proofs.Gaining.{sound_store, sound_clean}
 use Rattle.om_world.proofs.Giving.{given_at}
 use Rattle.om_world.proofs.Kept.{remade, shape_core, shape_same, sound_core}
@@ -34,14 +33,14 @@ use Rattle.om_world.proofs.Telling.{told_goes_on, told_outputs, told_rows}
 -- what is true of a pending row, as the manager is told it
 abbrev IsTrueRow : WorldState → noted.Row → Type 0
 IsTrueRow w row = (AtInterval (history (past_of w) row.pid) row.interval (RowOf row.pid (length w.programs) row.vec row.got))
-    × ((held : Content) → slice_get w.contents row.pid ≡ Some held → HasRecord held row.kind row.interval ⊎ IsOld w.manager row.pid row.kind row.interval)
+    × ((held : Content) → slice_get w.contents row.pid ≡ Some held → HasBytes held row.kind row.interval ⊎ IsOld w.manager row.pid row.kind row.interval)
 
 true_row : (w : WorldState) (p : ℕ) (a : Content) (row : Row) → slice_get w.contents p ≡ Some a → IsPending (past_of w) p a row → IsTrueRow w (row_for p row)
 true_row w p a row at k = go row.ckpt refl
   where
     go : (b : Bool) → row.ckpt ≡ b → IsTrueRow w (row_for p row)
-    go true e = rw e (k.row_of, λ held f. subst (λ (h : Content). HasRecord h Checkpoint row.x ⊎ IsOld w.manager p Checkpoint row.x) (once a held (sym at ∙ f)) (rw e at k.backed))
-    go false e = rw e (k.row_of, λ held f. subst (λ (h : Content). HasRecord h Log row.x ⊎ IsOld w.manager p Log row.x) (once a held (sym at ∙ f)) (rw e at k.backed))
+    go true e = rw e (k.row_of, λ held f. subst (λ (h : Content). HasBytes h Checkpoint row.x ⊎ IsOld w.manager p Checkpoint row.x) (once a held (sym at ∙ f)) (rw e at k.backed))
+    go false e = rw e (k.row_of, λ held f. subst (λ (h : Content). HasBytes h Log row.x ⊎ IsOld w.manager p Log row.x) (once a held (sym at ∙ f)) (rw e at k.backed))
 
 row_pid : (p : ℕ) (row : Row) → (row_for p row).pid ≡ p
 row_pid p row = go row.ckpt refl

@@ -20,11 +20,10 @@ use Rattle.om_manager.specs.State.{ManagerState, held_by, released_by}
 use Rattle.om_world.specs.declared.event.Event.{Event}
 use Rattle.om_world.specs.declared.event.Answer.TheVariants as answers
 use Rattle.om_world.specs.Happened.{Happened, ManagerPruned, PruneHappened, PruneStopped, StorePruned}
-use Rattle.om_world.specs.Holds.{HasRecord}
 use Rattle.om_world.specs.World.{WorldState, Past, IsEmpty, IsKnown, past_of, recovered, all_clean}
 use Rattle.om_world.specs.steps.Moves.{IsCalled, Keeps, refusal_of_store}
 use Rattle.om_world.specs.steps.Pruning.{AllPruned, ArePruned, HasPruned, WasPruned}
-use Rattle.om_world.specs.steps.Sound.{IsBefore, IsOld, IsRunning, IsStored, IsWorld, Runs, Sound, kind_of}
+use Rattle.om_world.specs.steps.Sound.{HasBytes, IsBefore, IsOld, IsRunning, IsStored, IsWorld, Runs, Sound, kind_of}
 use Rattle.om_world.proofs.Gaining.{sound_clean}
 use Rattle.om_world.proofs.Keeping.{keeps_same}
 use Rattle.om_world.proofs.Kept.{remade, shape_same}
@@ -113,15 +112,15 @@ stored_pruned v p c a s = record {
 }
 
 -- a record is left, or it is before the checkpoint
-record_left : (m : ManagerState) (p c : ℕ) (a : Content) (kind : RowKind) (x : ℕ) → IsEffective m.rows p (recovered m p) c → HasRecord a kind x → HasRecord (kept_by_prune a c) kind x ⊎ IsOld m p kind x
+record_left : (m : ManagerState) (p c : ℕ) (a : Content) (kind : RowKind) (x : ℕ) → IsEffective m.rows p (recovered m p) c → HasBytes a kind x → HasBytes (kept_by_prune a c) kind x ⊎ IsOld m p kind x
 record_left m p c a Checkpoint x e has = go (nat_le c x) refl
   where
-    go : (b : Bool) → nat_le c x ≡ b → HasRecord (kept_by_prune a c) Checkpoint x ⊎ IsOld m p Checkpoint x
+    go : (b : Bool) → nat_le c x ≡ b → HasBytes (kept_by_prune a c) Checkpoint x ⊎ IsOld m p Checkpoint x
     go true is = inl (has.0, get-retained a.checkpoints (λ y. nat_le c y) x ∙ ap (λ b. cond b (get a.checkpoints x) None) is ∙ has.1)
     go false is = inr (record { checkpoint = c; there = e.there; within = e.below; before = grind (arith, nat_tests) })
 record_left m p c a Log x e has = go (nat_lt c x) refl
   where
-    go : (b : Bool) → nat_lt c x ≡ b → HasRecord (kept_by_prune a c) Log x ⊎ IsOld m p Log x
+    go : (b : Bool) → nat_lt c x ≡ b → HasBytes (kept_by_prune a c) Log x ⊎ IsOld m p Log x
     go true is = inl (has.0, get-retained a.receipts (λ y. nat_lt c y) x ∙ ap (λ b. cond b (get a.receipts x) None) is ∙ has.1)
     go false is = inr (record { checkpoint = c; there = e.there; within = e.below; before = grind (arith, nat_tests) })
 
@@ -153,7 +152,7 @@ sound_pruned w p c a b clean s at e is =
         | inl same ↦
             let left = record_left w.manager p c a row.kind row.interval e in
             elim (s.backed row a has (subst (λ o. slice_get w.contents o ≡ Some a) (sym same.0) at)) [
-              | inl old ↦ subst (λ (d : Content). HasRecord d row.kind row.interval ⊎ IsOld w.manager row.pid row.kind row.interval) (sym (same.1 ∙ is)) (subst (λ o. HasRecord (kept_by_prune a c) row.kind row.interval ⊎ IsOld w.manager o row.kind row.interval) (sym same.0) (left old))
+              | inl old ↦ subst (λ (d : Content). HasBytes d row.kind row.interval ⊎ IsOld w.manager row.pid row.kind row.interval) (sym (same.1 ∙ is)) (subst (λ o. HasBytes (kept_by_prune a c) row.kind row.interval ⊎ IsOld w.manager o row.kind row.interval) (sym same.0) (left old))
               | inr gone ↦ inr gone
             ]
         | inr other ↦ s.backed row held has other.1

@@ -19,8 +19,7 @@ use Rattle.om_manager.specs.State.{ManagerState, held_by, released_by}
 use Rattle.om_world.specs.Live.{program_at}
 use Rattle.om_world.specs.World.{WorldState, Past, past_of, history, recovered, output_entry}
 use Rattle.om_world.specs.Failures.{HasNews}
-use Rattle.om_world.specs.Holds.{HasRecord}
-use Rattle.om_world.specs.steps.Sound.{Sound, HasShape, KeptWithin, IsStored, IsRunning, IsOld, Runs}
+use Rattle.om_world.specs.steps.Sound.{HasBytes, HasShape, IsOld, IsRunning, IsStored, KeptWithin, Runs, Sound}
 use Rattle.om_world.proofs.Kept.{remade}
 
 pub beyond : (xs : List ℕ) (i : ℕ) → length xs ≤ i → get_or xs i 0 ≡ 0
@@ -40,7 +39,7 @@ stable_row rows p x s = elim (less s.from x) [
 
 -- the manager has a row at each place of the recovery state
 pub recovery_row : (w : WorldState) (p : ℕ) → HasShape w → p < length w.programs → (row : noted.Row) × HasRow w.manager.rows row × (row.pid ≡ p) × (row.interval ≡ recovered w.manager p)
-recovery_row w p h lt = let size = h.size in stable_row w.manager.rows p (recovered w.manager p) (h.manager.greatest.recoverable.stable p (omega arith))
+recovery_row w p h lt = let size = h.size in stable_row w.manager.rows p (recovered w.manager p) (h.manager.exact.greatest.recoverable.stable p (omega arith))
 
 -- no place of the recovery state is beyond what its process received
 pub recovery_within : (w : WorldState) → HasShape w → Sound w → (q : ℕ) → recovered w.manager q ≤ length (history (past_of w) q)
@@ -104,7 +103,7 @@ running_raised v m p held c g r = record {
 pub sound_manager : (w : WorldState) (m : ManagerState) → Sound w → GoesOn w.manager m
     → ((p i : ℕ) (o : HeldOutput) → slice_get (held_by m p) i ≡ Some o → AtInterval (history (past_of w) p) o.interval (Makes (program_at w.programs p) p (length w.programs) (length w.programs) i (output_entry o)))
     → ((row : noted.Row) → HasRow m.rows row → HasRow w.manager.rows row
-    ⊎ (AtInterval (history (past_of w) row.pid) row.interval (RowOf row.pid (length w.programs) row.vec row.got) × ((held : Content) → slice_get w.contents row.pid ≡ Some held → HasRecord held row.kind row.interval ⊎ IsOld w.manager row.pid row.kind row.interval)))
+    ⊎ (AtInterval (history (past_of w) row.pid) row.interval (RowOf row.pid (length w.programs) row.vec row.got) × ((held : Content) → slice_get w.contents row.pid ≡ Some held → HasBytes held row.kind row.interval ⊎ IsOld w.manager row.pid row.kind row.interval)))
     → Sound (remade w w.live w.frames w.cores m w.contents w.clean)
 sound_manager w m s g outputs rows = record {
   legal = s.legal;
@@ -112,7 +111,7 @@ sound_manager w m s g outputs rows = record {
   outputs = outputs;
   rows = λ row at. elim (rows row at) [ inl old ↦ s.rows row old | inr new ↦ new.0 ];
   stored = λ p held at. stored_raised (past_of w) m p held g (s.stored p held at);
-  backed = λ row held at holds. elim (elim (rows row at) as (λ _. HasRecord held row.kind row.interval ⊎ IsOld w.manager row.pid row.kind row.interval) [ inl old ↦ s.backed row held old holds | inr new ↦ new.1 held holds ]) [ inl has ↦ inl has | inr is ↦ inr (g.old row.pid row.kind row.interval is) ];
+  backed = λ row held at holds. elim (elim (rows row at) as (λ _. HasBytes held row.kind row.interval ⊎ IsOld w.manager row.pid row.kind row.interval) [ inl old ↦ s.backed row held old holds | inr new ↦ new.1 held holds ]) [ inl has ↦ inl has | inr is ↦ inr (g.old row.pid row.kind row.interval is) ];
   running = λ p c held at holds runs. running_raised (past_of w) m p held c g (s.running p c held at holds (ran p runs));
   up = λ p c at place. let u = s.up p c at place in record { round = u.round ∙ sym g.round; starts = u.starts ∙ sym g.starts; inc = u.inc ∙ ap (λ starts. newest_of starts p) (sym g.starts); away = ap (λ o. presence_of (presences_of o) p) g.gathering ∙ u.away };
   joined = λ p x at. s.joined p x (ap (λ o. presence_of (presences_of o) p) (sym g.gathering) ∙ at);

@@ -31,11 +31,10 @@ use Rattle.om_manager.specs.declared.presence.Presence.{Presence}
 use Rattle.om_manager.specs.declared.presence.Presence.TheVariants.{Away, Failed, Joined}
 use Rattle.om_world.specs.declared.place.Place.{Place}
 use Rattle.om_world.specs.Failures.{HasNews, IsToGoOn, put_up}
-use Rattle.om_world.specs.Holds.{HasRecord}
 use Rattle.om_world.specs.Live.{program_at}
 use Rattle.om_world.specs.World.{WorldState, Past, past_of, history, recovered}
 use Rattle.om_world.specs.steps.Returning.{IsBackIn, IsBeyond}
-use Rattle.om_world.specs.steps.Sound.{HasShape, IsCoreOf, IsOld, IsRunning, IsStored, IsUpIn, KeptWithin, LogOf, Runs, Sound}
+use Rattle.om_world.specs.steps.Sound.{HasBytes, HasShape, IsCoreOf, IsOld, IsRunning, IsStored, IsUpIn, KeptWithin, LogOf, Runs, Sound}
 use Rattle.om_world.proofs.Kept.{kept_grown}
 use Rattle.om_world.proofs.Legal.{take_take}
 use Rattle.om_world.proofs.Lists.{at_change, either, none_in, none_some, once, set_apart, there}
@@ -180,11 +179,11 @@ record Serves (held : Content) (c x : ℕ) : Type 0 where
   checkpoint : IsSome (get held.checkpoints c)
   receipts : (y : ℕ) → c < y → y ≤ x → IsSome (get held.receipts y)
 
-backed_has : (w : WorldState) (p x : ℕ) (kind : RowKind) (held : Content) → Sound w → slice_get w.contents p ≡ Some held → Has w.manager.rows kind p x → HasRecord held kind x ⊎ IsOld w.manager p kind x
+backed_has : (w : WorldState) (p x : ℕ) (kind : RowKind) (held : Content) → Sound w → slice_get w.contents p ≡ Some held → Has w.manager.rows kind p x → HasBytes held kind x ⊎ IsOld w.manager p kind x
 backed_has w p x kind held s at has =
-    subst (λ i. HasRecord held kind i ⊎ IsOld w.manager p kind i) has.interval_is
-    (subst (λ k. HasRecord held k has.row.interval ⊎ IsOld w.manager p k has.row.interval) has.kind_is
-    (subst (λ o. HasRecord held has.row.kind has.row.interval ⊎ IsOld w.manager o has.row.kind has.row.interval) has.pid_is
+    subst (λ i. HasBytes held kind i ⊎ IsOld w.manager p kind i) has.interval_is
+    (subst (λ k. HasBytes held k has.row.interval ⊎ IsOld w.manager p k has.row.interval) has.kind_is
+    (subst (λ o. HasBytes held has.row.kind has.row.interval ⊎ IsOld w.manager o has.row.kind has.row.interval) has.pid_is
     (s.backed has.row held has.there (subst (λ o. slice_get w.contents o ≡ Some held) (sym has.pid_is) at))))
 
 -- a later checkpoint is noted
@@ -249,7 +248,7 @@ can_replay w p held h s lt news at =
     let size = h.size in
     let behind = s.behind p lt news in
     let is = at_recovered w p h s lt news in
-    let stable : IsStable w.manager.rows p (recovered w.manager p) = h.manager.greatest.recoverable.stable p (omega arith) in
+    let stable : IsStable w.manager.rows p (recovered w.manager p) = h.manager.exact.greatest.recoverable.stable p (omega arith) in
     let store = serves w p held (recovered w.manager p) stable.from s at (omega arith) stable.below stable.checkpoint stable.logged in
     let least = store.1.within in
     let e = last_record held.checkpoints x store.0 (omega arith) store.1.checkpoint in
@@ -368,7 +367,7 @@ cut_stored v p x a s = record {
   receipts = λ y bytes some le at. s.receipts y bytes some le (was_kept a.receipts x y bytes at);
 }
 
-record_kept : (a : Content) (x y : ℕ) (kind : RowKind) → y ≤ x → HasRecord a kind y → HasRecord (kept_by_cut a x) kind y
+record_kept : (a : Content) (x y : ℕ) (kind : RowKind) → y ≤ x → HasBytes a kind y → HasBytes (kept_by_cut a x) kind y
 record_kept a x y Checkpoint le has = (has.0, kept_below a.checkpoints x y le ∙ has.1)
 record_kept a x y Log le has = (has.0, kept_below a.receipts x y le ∙ has.1)
 
@@ -429,7 +428,7 @@ shape_back w p core contents clean h lt own size long = record {
 
 -- a world whose process p is up with this core, where its claims hold
 up_again : (w : WorldState) (p : ℕ) (core : CoreState) (a b : Content) (clean : List Bool) → HasShape w → Sound w → p < length w.programs → HasNews w p → slice_get w.contents p ≡ Some a → IsUpIn w.manager p core → IsRunning (past_of w) p b core → IsStored (past_of w) p b
-    → ((row : noted.Row) → HasRow w.manager.rows row → row.pid ≡ p → HasRecord a row.kind row.interval → HasRecord b row.kind row.interval) → Sound (come_back w p core (set w.contents p b) clean)
+    → ((row : noted.Row) → HasRow w.manager.rows row → row.pid ≡ p → HasBytes a row.kind row.interval → HasBytes b row.kind row.interval) → Sound (come_back w p core (set w.contents p b) clean)
 up_again w p core a b clean h s lt news at up run stored keeps =
     let v = past_of w in
     let round = w.manager.round in
@@ -444,7 +443,7 @@ up_again w p core a b clean h s lt news at up run stored keeps =
       ];
       backed = λ row held has f. elim (at_change w.contents p row.pid held b f) [
         | inl same ↦ elim (s.backed row a has (subst (λ o. slice_get w.contents o ≡ Some a) (sym same.0) at)) [
-          | inl old ↦ inl (subst (λ (d : Content). HasRecord d row.kind row.interval) (sym same.1) (keeps row has same.0 old))
+          | inl old ↦ inl (subst (λ (d : Content). HasBytes d row.kind row.interval) (sym same.1) (keeps row has same.0 old))
           | inr gone ↦ inr gone
         ]
         | inr other ↦ s.backed row held has other.1

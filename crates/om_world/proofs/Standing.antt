@@ -10,7 +10,7 @@ use Rattle.om_process.specs.Core.{CoreState}
 use Rattle.om_process.specs.declared.image.Image.{Image}
 use Rattle.om_world.specs.World.{WorldState, program_of}
 use Rattle.om_world.specs.steps.Moves.{HasCore}
-use Rattle.om_world.specs.steps.Sound.{IsWorld}
+use Rattle.om_world.specs.steps.Sound.{HasShape, IsCoreOf, IsWorld}
 use Rattle.om_world.proofs.Lists.{inside, length-map, lent_at, none_some, once}
 
 -- a core that is there is no None that was read
@@ -23,6 +23,11 @@ pub core_seen : (w v : WorldState) (cs : List (Option CoreState)) (p i : ℕ) (r
 core_seen w v cs p i read core e is at lt there same =
     subst (λ (x : WorldState). slice_get x.cores p ≡ Some (Some core)) e
     (subst (λ q. slice_get w.cores q ≡ Some (Some core)) at (subst (λ l. slice_get l i ≡ Some (Some core)) is (lent_at cs i read lt there ∙ ap (λ (x : Option CoreState). Some x) same)))
+
+-- and is the core of its process
+pub core_of : {S : Type 0} (IsSound : S → Type 0) (stores : List S) (w v : WorldState) (p : ℕ) (core : CoreState) → IsWorld IsSound stores w → w ≡ v
+    → slice_get v.cores p ≡ Some (Some core) → IsCoreOf (length v.programs) p core
+core_of IsSound stores w v p core is e at = (subst (λ (x : WorldState). HasShape x) e is.shape).own p core at
 
 -- its place is within them
 pub core_within : (cs : List (Option CoreState)) (p n : ℕ) → HasCore cs p → n ≡ length cs → p < n

@@ -158,4 +158,5 @@ refused_at content failed is_clean IsSound programs n k cores xs ys zs program w
   after = s.after;
   why = s.why;
   earlier = a.loadable;
+  free = λ always q other before lt f was sound. let d = a.done q other before lt f was in d.2.free (always d.0, sound);
 }

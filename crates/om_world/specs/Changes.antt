@@ -1,5 +1,6 @@
 -- What is said of several events: who changes, what is sent, handed in and stored.
-use Rattle.std.specs.Prelude.{◌≡◌, ◌⊎◌, ℕ, zero, suc, ◌<◌, ◌≤◌, List, [], ◌∷◌, ◌++◌, length, take, drop, slice_get, slice_set, Some, Ok}
+use Rattle.std.specs.Prelude.{◌≡◌, ◌⊎◌, ℕ, zero, suc, ◌<◌, ◌≤◌, List, [], ◌∷◌, ◌++◌, length, take, drop, slice_get, slice_set, None, Some, Ok}
+use Rattle.std.specs.FinMap.{get}
 use Rattle.om_format.specs.declared.queue.Entry as kept
 use Rattle.om_format.specs.declared.message.Message.{Message}
 use Rattle.om_format.specs.Queues.{queue_end}
@@ -77,10 +78,10 @@ NotesAll old p [] new = new ≡ old
 NotesAll old p (row ∷ rows) new =
     (mid : ManagerState) × (note : Note) × Notes old old.round (row_for p row) (Ok note) mid × NotesAll mid p rows new
 
--- the store has gained what the core keeps of its kind: the receipts of its log, or a checkpoint of now
+-- the store has gained what the core keeps of its kind: the receipts of its log, or a checkpoint of now, where none was
 abbrev pub HasGained : RowKind → CoreState → Content → Content → Type 0
 HasGained Log c before after = HasGainedLog c before after
-HasGained Checkpoint c before after = HasGainedCheckpoint c before after
+HasGained Checkpoint c before after = (get before.checkpoints c.now.interval ≡ None) × HasGainedCheckpoint c before after
 
 -- the core once that is stored
 abbrev pub stored : RowKind → CoreState → CoreState

@@ -109,13 +109,16 @@ pub data IsToComeBack (w : WorldState) (p : ℕ) : Type 0 where
   down : (declared : Bool) → slice_get w.places p ≡ Some (Place.Down declared) → HasNews w p → IsToComeBack w p
   rolled_back : slice_get w.places p ≡ Some Place.In → HasNews w p → is_named w.manager.backs p ≡ true → IsToComeBack w p
 
--- it is back where the round cut it to, replayed from its store, which is cut to there; it is rolled back without a failure only
+-- it is back where the round cut it to, replayed from its store, which is cut to there, and keeps nothing volatile; it is rolled back without a failure only
 -- where it was beyond its place of the recovery state
 pub record BackHappened (old : WorldState) (p interval inc : ℕ) (new : WorldState) : Type 0 where
   pub due : IsToComeBack old p
   pub beyond : (c : CoreState) → slice_get old.places p ≡ Some Place.In → slice_get old.cores p ≡ Some (Some c)
       → recovered old.manager p < c.now.interval
   pub core : CoreState
+  pub own : core.own ≡ p
+  pub log : core.log ≡ []
+  pub pending : core.pending ≡ []
   pub at : core.now.interval ≡ interval
   pub place : interval ≡ slice_index old.manager.last p
   pub incarnation : core.inc ≡ inc

@@ -2,13 +2,16 @@
 use Rattle.std.specs.Prelude.{◌≡◌, ℕ, ◌<◌, ◌≤◌, List, length, slice_get, slice_index, Some}
 use Rattle.std.specs.FinMap.{get}
 use Rattle.om_format.specs.declared.queue.Entry as kept
+use Rattle.om_format.specs.Receipts.{ReceiptRecord, SpellsReceipt}
+use Rattle.om_format.specs.Checkpoints.{CheckpointRecord, IsSpelled}
 use Rattle.om_stable.specs.Content.{Content}
 use Rattle.om_process.specs.Process.{Process}
 use Rattle.om_process.specs.Core.{CoreState}
 use Rattle.om_process.specs.Turns.{Reaches}
 use Rattle.om_process.specs.Parts.{Keeps}
+use Rattle.om_process.specs.Replays.{process_of}
 use Rattle.om_process.specs.Dependencies.{count_from}
-use Rattle.om_process.specs.Claims.{HasEntry, RowOf}
+use Rattle.om_process.specs.Claims.{AtInterval, CheckpointOf, HasEntry, RecordOf, RowOf}
 use Rattle.om_recover.specs.Rows.{HasRow}
 use Rattle.om_recover.specs.Cutting.{IsEffective}
 use Rattle.om_recover.specs.declared.row.Row.{Row}
@@ -18,7 +21,7 @@ use Rattle.om_manager.specs.Outputs.{HeldOutput}
 use Rattle.om_manager.specs.State.{released_by}
 use Rattle.om_world.specs.declared.place.Place.{Place}
 use Rattle.om_world.specs.Live.{program_at, Legal}
-use Rattle.om_world.specs.World.{WorldState, past_of, history, recovered, output_entry}
+use Rattle.om_world.specs.World.{WorldState, Past, past_of, history, recovered, output_entry}
 
 -- a core is where its process's receipts lead, with their dependencies and counts; and of what the process made for others,
 -- it keeps whatever they have not received
@@ -37,10 +40,17 @@ ReleasedFirst w p =
     × ((i : ℕ) (o : HeldOutput) → slice_get (released_by w.manager p) i ≡ Some o
     → HasEntry s.queues (length w.programs) i (output_entry o))
 
--- a store has the record of a row
-abbrev pub HasRecord : Content → RowKind → ℕ → Type 0
-HasRecord held Checkpoint x = (bytes : List ℕ) × (get held.checkpoints x ≡ Some bytes)
-HasRecord held Log x = (bytes : List ℕ) × (get held.receipts x ≡ Some bytes)
+-- the record of a row stands in the store of process p: the spelling of a checkpoint of that process in this interval, or of
+-- the receipt that began it, as the run without failures leads it there
+abbrev pub HasRecord : Past → ℕ → Content → RowKind → ℕ → Type 0
+HasRecord w p held Checkpoint x =
+    (bytes : List ℕ) × (get held.checkpoints x ≡ Some bytes)
+    × (c : CheckpointRecord) × IsSpelled c bytes × (c.head.pid ≡ p) × (c.n ≡ length w.programs)
+    × AtInterval (history w p) x (CheckpointOf (program_at w.programs p) p (length w.programs) (process_of c))
+HasRecord w p held Log x =
+    (bytes : List ℕ) × (get held.receipts x ≡ Some bytes)
+    × (r : ReceiptRecord) × SpellsReceipt r bytes
+    × AtInterval (history w p) x (RecordOf (program_at w.programs p) p (length w.programs) r)
 
 -- a record that a replay from this checkpoint may want: the checkpoint itself or a later one, or a receipt after it
 abbrev pub IsWanted : ℕ → RowKind → ℕ → Type 0
@@ -61,4 +71,4 @@ pub record Holds (w : WorldState) : Type 0 where
   -- each row that a replay may want has its record
   pub backed : (row : Row) (held : Content) (c : ℕ) → HasRow w.manager.rows row → slice_get w.contents row.pid ≡ Some held
       → IsEffective w.manager.rows row.pid (recovered w.manager row.pid) c → IsWanted c row.kind row.interval
-      → HasRecord held row.kind row.interval
+      → HasRecord (past_of w) row.pid held row.kind row.interval

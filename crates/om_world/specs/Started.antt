@@ -1,5 +1,5 @@
 -- A world at its start, and why there is none.
-use Rattle.std.specs.Prelude.{◌≡◌, ℕ, ◌<◌, ◌≤◌, ◌↔◌, List, [], ◌∷◌, length, replicate, slice_get, Bool, IsSome, false, None, Some}
+use Rattle.std.specs.Prelude.{◌≡◌, ℕ, ◌<◌, ◌≤◌, ◌↔◌, List, [], ◌∷◌, length, replicate, slice_get, Bool, IsSome, IsTrue, false, None, Some}
 use Rattle.std.specs.FinMap.{get}
 use Rattle.om_interval.specs.declared.pid.TheConstants.{MAX_PROCESSES}
 use Rattle.om_machine.specs.State.{IsSize}
@@ -75,3 +75,7 @@ pub record IsRefusedAt {S : Type 0} (content : S → Content) (failed : S → �
   pub after : S
   pub why : IsWhy content failed is_clean IsSound program fault store after
   pub earlier : (q : ℕ) (other : Program) → q < place → slice_get programs q ≡ Some other → IsLoadable other
+  -- where every store is clean, none of theirs had a checkpoint of interval 0
+  pub free : ((other : S) → IsTrue (is_clean other)) → (q : ℕ) (other : Program) (before : S) → q < place
+      → slice_get programs q ≡ Some other → slice_get stores q ≡ Some before → IsSound before
+      → get (content before).checkpoints 0 ≡ None

@@ -1,5 +1,16 @@
 //! All processes of a cluster, their stores and their manager, in one thread: a world, and what it is at each point, whatever was
 //! refused: a point of a run without failures.
+//!
+//! An event costs what its process, store and manager cost; a finished round goes back over what it cuts alone. The stores are
+//! trusted as far as they say that they are clean.
+//!
+//! In an order of reading:
+//!
+//! - what there is: `event` (events and answers), `world` (the parts, and the reads), `place`, `entry` and `live` (what was
+//!   received), `laws` (theorems over the definitions)
+//! - `start`, and `play`: one event after another
+//! - the events: `run`, `give`, `frames` (what is sent), `storing` (flushes and checkpoints), `failing`, `joining`, `resume`, `trim`,
+//!   `prune`
 #![tactic(auto)]
 
 pub use entry::Entry;

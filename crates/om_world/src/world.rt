@@ -1,7 +1,7 @@
 //! The world.
 
 ghost use Rattle.std.specs.Prelude.{◌≡◌, ◌<◌, ◌≤◌, length, map, slice_get, IfOk, IfErr, IfNone, IfSome, IsTrue, Some, true};
-ghost use Rattle.om_process.specs.Core.{CoreState};
+ghost use Rattle.om_process.specs.Core.{CoreState, size_of};
 ghost use Rattle.om_world.specs.Changes.{IsUp};
 ghost use Rattle.om_world.specs.Happened.{NotRunning};
 ghost use Rattle.om_world.specs.Holds.{Holds};
@@ -92,6 +92,8 @@ impl<S: Stable> World<S> {
     /// The core of a process: none where the process is down, and where there is no such process.
     pub fn core(&self, pid: Pid) -> Option<&ProcCore>
         ensures some { IfSome result (λ core. slice_get self.now.cores pid ≡ Some (Some core.now)) }
+        ensures own { IfSome result (λ core. core.now.own ≡ pid) }
+        ensures size { IfSome result (λ core. size_of core.now.now ≡ length self.now.programs) }
         ensures none { IfNone result ((core : CoreState) → slice_get self.now.cores pid ≡ Some (Some core) → ⊥) }
     {
         match self.cores.get(pid.index()) {

@@ -31,7 +31,11 @@ use Rattle.om_world.specs.declared.place.Place.{Place}
 use Rattle.om_world.specs.Live.{program_at, Legal}
 use Rattle.om_world.specs.World.{WorldState, Past, past_of, history, recovered, output_entry, IsKnown}
 use Rattle.om_world.specs.Failures.{HasNews}
-use Rattle.om_world.specs.Holds.{HasRecord}
+
+-- something stands in the store at the interval of a row
+abbrev pub HasBytes : Content → RowKind → ℕ → Type 0
+HasBytes held Checkpoint x = (bytes : List ℕ) × (get held.checkpoints x ≡ Some bytes)
+HasBytes held Log x = (bytes : List ℕ) × (get held.receipts x ≡ Some bytes)
 
 -- the sender made the message in that interval, along what it had then received
 abbrev pub Said : Past → Message → Type 0
@@ -100,7 +104,7 @@ kind_of row = if row.ckpt then Checkpoint else Log
 pub record IsPending (w : Past) (p : ℕ) (held : Content) (row : pending.Row) : Type 0 where
   pub row_of : AtInterval (history w p) row.x (RowOf p (length w.programs) row.vec row.got)
   pub begun : row.ckpt ≡ false → 0 < row.x
-  pub backed : HasRecord held (kind_of row) row.x ⊎ IsOld w.manager p (kind_of row) row.x
+  pub backed : HasBytes held (kind_of row) row.x ⊎ IsOld w.manager p (kind_of row) row.x
 
 -- a core is one of this cluster's
 pub record IsCoreOf (n p : ℕ) (c : CoreState) : Type 0 where
@@ -151,7 +155,7 @@ pub record Sound (w : WorldState) : Type 0 where
       → AtInterval (history (past_of w) row.pid) row.interval (RowOf row.pid (length w.programs) row.vec row.got)
   pub stored : (p : ℕ) (held : Content) → slice_get w.contents p ≡ Some held → IsStored (past_of w) p held
   pub backed : (row : noted.Row) (held : Content) → HasRow w.manager.rows row → slice_get w.contents row.pid ≡ Some held
-      → HasRecord held row.kind row.interval ⊎ IsOld w.manager row.pid row.kind row.interval
+      → HasBytes held row.kind row.interval ⊎ IsOld w.manager row.pid row.kind row.interval
   pub running : (p : ℕ) (c : CoreState) (held : Content) → slice_get w.cores p ≡ Some (Some c)
       → slice_get w.contents p ≡ Some held → Runs w p → IsRunning (past_of w) p held c
   pub up : (p : ℕ) (c : CoreState) → slice_get w.cores p ≡ Some (Some c) → slice_get w.places p ≡ Some Place.Up

@@ -58,3 +58,23 @@ returns-in_err-put_out-in-Output-clause-due c = on_any_err c.from_residual-in_er
       (ap (λ s. made s.now.queues) (sym c.self.view_is) ∙ made_by _ _ c.self.inside.sent c.self.inside.made c.self.invariant.ends c.self.invariant.outputs_end)
       (c.self.invariant.sent ∙ ap (λ s. size_of s.now) c.self.view_is) (sym c.requires.at) c.in-Output.ensures.planned),
 )
+
+pub returns-in_err-send-in-Send-clause-adds : goal.returns-in_err-send-in-Send-clause-adds
+returns-in_err-send-in-Send-clause-adds c = on_any_err c.from_residual.result (
+  _,
+  _,
+  _,
+  move_planned c.args.self.now c.self.inside.machine c.self.inside.sent c.self.inside.made c.args.event (Send c.in-Send.to c.in-Send.addr c.in-Send.len) (ap (λ s. s.now.machine) c.self.view_is)
+      (ap (λ s. made s.now.queues) (sym c.self.view_is) ∙ made_by _ _ c.self.inside.sent c.self.inside.made c.self.invariant.ends c.self.invariant.outputs_end)
+      (c.self.invariant.sent ∙ ap (λ s. size_of s.now) c.self.view_is) (sym c.requires.at) c.in-Send.ensures.planned,
+)
+
+pub returns-in_err-put_out-in-Output-clause-adds : goal.returns-in_err-put_out-in-Output-clause-adds
+returns-in_err-put_out-in-Output-clause-adds c = on_any_err c.from_residual-in_err-put_out-in-Output.result (
+  _,
+  _,
+  _,
+  move_planned c.args.self.now c.self.inside.machine c.self.inside.sent c.self.inside.made c.args.event (Output c.in-Output.addr c.in-Output.len) (ap (λ s. s.now.machine) c.self.view_is)
+      (ap (λ s. made s.now.queues) (sym c.self.view_is) ∙ made_by _ _ c.self.inside.sent c.self.inside.made c.self.invariant.ends c.self.invariant.outputs_end)
+      (c.self.invariant.sent ∙ ap (λ s. size_of s.now) c.self.view_is) (sym c.requires.at) c.in-Output.ensures.planned,
+)

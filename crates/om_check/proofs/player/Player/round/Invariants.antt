@@ -1,0 +1,5 @@
+use Rattle.om_check.specs.Whole.{GoesOn}
+use Rattle.om_check.proofs.player.Player.round.Given as goal
+
+abbrev pub invariant-loop-p : goal.invariant-loop-p
+invariant-loop-p l = GoesOn l.fn.self.world l.self.world

@@ -1,0 +1,2 @@
+pub mod FailureFree
+pub mod Whole

@@ -1,0 +1,47 @@
+-- A world in which a run without failures has come to its end.
+use Rattle.std.specs.Prelude.{◌≡◌, ℕ, ◌<◌, List, Some, length, replicate, slice_get}
+use Rattle.om_process.specs.Core as cores
+use Rattle.om_process.specs.Core.{CoreState, move_of, status_of}
+use Rattle.om_process.specs.Process.{Program}
+use Rattle.om_process.specs.declared.status.Status.{Status}
+use Rattle.om_manager.specs.Outputs.{HeldOutput}
+use Rattle.om_manager.specs.State.{released_by, size_of}
+use Rattle.om_world.specs.Changes.{made_by}
+use Rattle.om_world.specs.declared.place.Place.{Place}
+use Rattle.om_world.specs.Holds.{Holds}
+use Rattle.om_world.specs.World.{WorldState, IsKnown}
+use Rattle.om_check.specs.FailureFree.{IsEnd}
+
+-- a world of these programs, at a point of a run without failures, with all processes up
+pub record IsUnderWay (programs : List Program) (w : WorldState) : Type 0 where
+  pub these : w.programs ≡ programs
+  pub places : w.places ≡ replicate (length programs) Place.Up
+  pub known : IsKnown w
+  pub holds : Holds w
+  pub managed : size_of w.manager ≡ length programs
+
+-- so is the one world where the other was
+abbrev pub GoesOn : WorldState → WorldState → Type 0
+GoesOn old new = (programs : List Program) → IsUnderWay programs old → IsUnderWay programs new
+
+-- the process has come to an end, and all that it put out is released
+abbrev pub IsDone : WorldState → ℕ → Type 0
+IsDone w p = (c : CoreState) × (slice_get w.cores p ≡ Some (Some c)) × (c.own ≡ p) × (cores.size_of c.now ≡ length w.programs)
+    × IsEnd (status_of (move_of c)) × (made_by c ≡ length (released_by w.manager p))
+
+-- all have
+pub record IsWhole (programs : List Program) (w : WorldState) : Type 0 where
+  pub way : IsUnderWay programs w
+  pub done : (p : ℕ) → p < length programs → IsDone w p
+
+-- the outputs of each process are those that are released
+abbrev pub AreOutputsOf : WorldState → List (List HeldOutput) → Type 0
+AreOutputsOf w outputs = (p : ℕ) (out : List HeldOutput) → slice_get outputs p ≡ Some out → out ≡ released_by w.manager p
+
+-- the process has a core, whose status this is
+abbrev pub HasStatus : WorldState → ℕ → Status → Type 0
+HasStatus w p status = (c : CoreState) × (slice_get w.cores p ≡ Some (Some c)) × (status ≡ status_of (move_of c))
+
+-- so is that of each process
+abbrev pub AreStatusesOf : WorldState → List Status → Type 0
+AreStatusesOf w statuses = (p : ℕ) (status : Status) → slice_get statuses p ≡ Some status → HasStatus w p status

@@ -1,0 +1,65 @@
+//! The frames that were made and not given.
+
+use std::alloc::{AllocError, Global};
+use std::collections::VecDeque;
+
+// The messages of a process to another.
+#[derive(Drop)]
+pub(crate) struct Line {
+    // The frames of those that are still to be given, in order.
+    frames: VecDeque<usize>,
+    // How many of them the sender kept when it was looked at last.
+    kept: usize,
+}
+
+// All of them: by sender, and there by receiver.
+#[derive(Drop)]
+pub(crate) struct Lines {
+    rows: Vec<Vec<Line>>,
+    // How many frames were made.
+    made: usize,
+}
+
+impl Lines {
+    // Of so many processes, before they run.
+    pub(crate) fn new(alloc: Global, n: usize) -> Result<Lines, AllocError> {
+        let mut rows = Vec::with_capacity(alloc, n)?;
+        for _ in 0..n {
+            rows.push(row(alloc, n)?)?;
+        }
+        Ok(Lines { rows, made: 0 })
+    }
+
+    // The next message of the one to the other, if it was sent.
+    pub(crate) fn take(&mut self, from: usize, to: usize) -> Option<usize> {
+        self.rows.get_mut(from)?.get_mut(to)?.frames.pop_front()
+    }
+
+    // Numbers what the one sent to the other since it was looked at last: it keeps so many messages now.
+    pub(crate) fn number(&mut self, from: usize, to: usize, kept: usize) -> Result<(), AllocError> {
+        let Some(row) = self.rows.get_mut(from) else {
+            return Ok(());
+        };
+        let Some(line) = row.get_mut(to) else {
+            return Ok(());
+        };
+        for _ in line.kept..kept {
+            line.frames.push_back(self.made)?;
+            self.made = self.made.saturating_add(1);
+        }
+        line.kept = kept;
+        Ok(())
+    }
+}
+
+// No messages of a process to each of so many.
+fn row(alloc: Global, n: usize) -> Result<Vec<Line>, AllocError> {
+    let mut row = Vec::with_capacity(alloc, n)?;
+    for _ in 0..n {
+        row.push(Line {
+            frames: VecDeque::new(alloc),
+            kept: 0,
+        })?;
+    }
+    Ok(row)
+}
