@@ -56,9 +56,9 @@ unmoved posted new old m ends same (Follows.above last e rises is) =
     absurd (omega (arith, rises.version, version, ap (λ (s : ManagerState). s.version) same))
 
 pub refused_row : (result : Result Note RecordError) (old new : BoardState) (round : ℕ) (row : Row) → Notes old.manager round row result new.manager
-    → EndsWith old.posted (front_of old.manager) → Follows old.posted (front_of new.manager) new.posted → new.quiet ≡ old.quiet → OnErr result (new ≡ old)
-refused_row (Ok told) old new round row is ends follows quiet = tt
-refused_row (Err error) old new round row is ends follows quiet =
+    → EndsWith old.posted (front_of old.manager) → Follows old.posted (front_of new.manager) new.posted → new.quiet ≡ old.quiet → new.waiting ≡ old.waiting → OnErr result (new ≡ old)
+refused_row (Ok told) old new round row is ends follows quiet waiting = tt
+refused_row (Err error) old new round row is ends follows quiet waiting =
     let same = refused_note old.manager new.manager round row error is in
     let posted = unmoved old.posted new.posted old.manager new.manager ends same follows in
-    λ i. record { manager = same i; posted = posted i; quiet = quiet i }
+    λ i. record { manager = same i; posted = posted i; quiet = quiet i; waiting = waiting i }

@@ -1,6 +1,7 @@
 pub mod Inboxes
 pub mod Fronts
 pub mod CellNames
+pub mod Waits
 pub mod Boards
 pub mod Released
 pub mod steps

@@ -1,4 +1,4 @@
-ghost use Rattle.std.specs.Prelude.{◌≡◌, ◌≤◌, ◌<◌, ◌↔◌, [], ◌∷◌, length, slice_set, true, None, IsTrue, OnOk, OnErr};
+ghost use Rattle.std.specs.Prelude.{◌≡◌, ◌≢◌, ◌≤◌, ◌<◌, ◌↔◌, ℕ, [], ◌∷◌, length, slice_set, true, None, IsTrue, OnOk, OnErr};
 ghost use mathlib.Core.List.{IsPrefix};
 ghost use Rattle.om_interval.specs.Vectors.{IsBelow};
 ghost use Rattle.om_interval.specs.declared.pid.TheConstants.{MAX_PROCESSES};
@@ -9,10 +9,12 @@ ghost use Rattle.om_manager.specs.Sound.{KeepsReleased};
 ghost use Rattle.om_manager.specs.Notes.{Notes, NotesOutput};
 ghost use Rattle.om_manager.specs.Rounds.{Failing, Joining};
 ghost use Rattle.om_board.specs.Fronts.{front_of, first_front, EndsWith, Follows};
-ghost use Rattle.om_board.specs.Boards.{IsBoard, MayRest, AreAllQuiet, nobody};
+ghost use Rattle.om_board.specs.Boards.{IsBoard, MayRest, MayWait, AreAllQuiet, DoAllWait, nobody, all_owe, told_by};
+ghost use Rattle.om_board.specs.declared.waiting.Waiting.TheVariants.{Owes, Offers, Waits};
 
 use crate::front::Front;
 use crate::frontier::{Frontier, Naming, Pass, Writer};
+use crate::waiting::{Waiting, all_wait, are_matched};
 use om_interval::{DepVec, MAX_PROCESSES, Pid};
 use om_manager::{FailError, Gathered, JoinError, Manager, OutputError, OutputNote, RecordError};
 use om_recover::Note;
@@ -27,6 +29,8 @@ pub struct Board<K: Naming> {
     writer: Writer<K>,
     // By process.
     quiet: [bool; MAX_PROCESSES],
+    // By process.
+    waiting: [Waiting; MAX_PROCESSES],
 }
 
 impl<K: Naming> Model for Board<K> {
@@ -37,9 +41,9 @@ impl<K: Naming> Model for Board<K> {
 
     ghost coded = { coded_board };
 
-    ghost view = { λ b. record { manager = b.manager; posted = b.writer; quiet = b.quiet } };
+    ghost view = { λ b. record { manager = b.manager; posted = b.writer; quiet = b.quiet; waiting = b.waiting } };
 
-    ghost invariant = { λ b. IsBoard K.cell.n (record { manager = b.manager; posted = b.writer; quiet = b.quiet }) };
+    ghost invariant = { λ b. IsBoard K.cell.n (record { manager = b.manager; posted = b.writer; quiet = b.quiet; waiting = b.waiting }) };
 }
 
 impl<K: Naming> Board<K> {
@@ -51,6 +55,7 @@ impl<K: Naming> Board<K> {
         ensures manager { result.manager ≡ manager }
         ensures posted { result.posted ≡ first_front K.cell.n ∷ [] }
         ensures quiet { result.quiet ≡ nobody }
+        ensures waiting { result.waiting ≡ all_owe }
     {
         // The read tells the proof that the manager is sound.
         let _front = Front::of(&manager);
@@ -58,6 +63,7 @@ impl<K: Naming> Board<K> {
             manager,
             writer,
             quiet: [false; MAX_PROCESSES],
+            waiting: [Waiting::Owes; MAX_PROCESSES],
         }
     }
 
@@ -87,6 +93,7 @@ impl<K: Naming> Board<K> {
         ensures not_lowered { IsBelow self.old.manager.recovery self.new.manager.recovery }
         ensures released { KeepsReleased self.old.manager self.new.manager }
         ensures quiet { self.new.quiet ≡ self.old.quiet }
+        ensures waiting { self.new.waiting ≡ self.old.waiting }
         ensures refused { OnErr result (self.new ≡ self.old) }
     {
         let told = self.manager.note_logged(alloc, pid, round, x, vec, got);
@@ -112,6 +119,7 @@ impl<K: Naming> Board<K> {
         ensures not_lowered { IsBelow self.old.manager.recovery self.new.manager.recovery }
         ensures released { KeepsReleased self.old.manager self.new.manager }
         ensures quiet { self.new.quiet ≡ self.old.quiet }
+        ensures waiting { self.new.waiting ≡ self.old.waiting }
         ensures refused { OnErr result (self.new ≡ self.old) }
     {
         let told = self.manager.note_checkpoint(alloc, pid, round, x, vec, got);
@@ -139,12 +147,14 @@ impl<K: Naming> Board<K> {
         ensures not_lowered { IsBelow self.old.manager.recovery self.new.manager.recovery }
         ensures released { KeepsReleased self.old.manager self.new.manager }
         ensures quiet { self.new.quiet ≡ self.old.quiet }
+        ensures waiting { self.new.waiting ≡ self.old.waiting }
         ensures refused { OnErr result (self.new ≡ self.old) }
     {
         self.manager.note_output(alloc, pid, round, x, seq, bytes)
     }
 
-    /// [`Manager::fail`](om_manager::Manager::fail), with the front that comes of it posted. Nobody is quiet after it.
+    /// [`Manager::fail`](om_manager::Manager::fail), with the front that comes of it posted. Nobody is quiet after it, and nobody
+    /// waits: each process owes its messages anew.
     pub fn fail<R: Wait>(
         &mut self,
         rt: &R,
@@ -159,11 +169,13 @@ impl<K: Naming> Board<K> {
         ensures not_lowered { IsBelow self.old.manager.recovery self.new.manager.recovery }
         ensures released { KeepsReleased self.old.manager self.new.manager }
         ensures quiet { OnOk result (self.new.quiet ≡ nobody) }
+        ensures waiting { OnOk result (self.new.waiting ≡ all_owe) }
         ensures refused { OnErr result (self.new ≡ self.old) }
     {
         let gathered = self.manager.fail(alloc, pid, round)?;
         self.writer.post(rt, &Front::of(&self.manager), frontier);
         self.quiet = [false; MAX_PROCESSES];
+        self.waiting = [Waiting::Owes; MAX_PROCESSES];
         Ok(gathered)
     }
 
@@ -183,6 +195,7 @@ impl<K: Naming> Board<K> {
         ensures not_lowered { IsBelow self.old.manager.recovery self.new.manager.recovery }
         ensures released { KeepsReleased self.old.manager self.new.manager }
         ensures quiet { self.new.quiet ≡ self.old.quiet }
+        ensures waiting { self.new.waiting ≡ self.old.waiting }
         ensures refused { OnErr result (self.new ≡ self.old) }
     {
         let gathered = self.manager.join(alloc, pid, round, current)?;
@@ -219,6 +232,76 @@ impl<K: Naming> Board<K> {
         ensures { self.new ≡ record self.old { quiet = slice_set self.old.quiet pid true } }
     {
         self.quiet[pid.index()] = true;
+    }
+
+    /// Tells that the process puts all messages that it keeps anew from now on, where `round` is the manager's and no gathering
+    /// is open. If it waited, it does so no longer.
+    pub fn offer(&mut self, pid: Pid, round: u32)
+        requires { pid < size_of self.old.manager }
+        ensures told { MayRest self.old round → self.new ≡ record self.old { waiting = slice_set self.old.waiting pid Offers } }
+        ensures passed_over { (MayRest self.old round → ⊥) → self.new ≡ self.old }
+    {
+        if round == self.manager.round() && !self.manager.gathering() {
+            self.tell(pid, Waiting::Offers);
+        }
+    }
+
+    /// Reports that the process waits: it has put all that it keeps since it offered it, `put` messages in all since the run
+    /// began, and found none to take beside the `taken` that it took. It is passed over where the process owes its messages
+    /// anew, where `round` is not the manager's, and while a gathering is open. Says whether all wait.
+    ///
+    /// A process that waits neither runs nor puts nor takes before it withdraws. So where as many messages were taken as put,
+    /// every inbox is empty. Each message that is kept anywhere was put since its process offered: after the last that was
+    /// refused for another reason than that it was received before, and after its process had last run or received. So it
+    /// was received, then or before, or its receiver has ended. A resend brings nothing else, no process can go on without a
+    /// message, none that has ended goes on at all, and only a receipt makes one fail: until the run ends, nothing happens.
+    pub fn wait(&mut self, pid: Pid, round: u32, put: u64, taken: u64) -> bool
+        requires { pid < size_of self.old.manager }
+        ensures told { MayWait self.old pid round → self.new ≡ record self.old { waiting = slice_set self.old.waiting pid (Waits put taken) } }
+        ensures passed_over { (MayWait self.old pid round → ⊥) → self.new ≡ self.old }
+        ensures all { IsTrue result ↔ DoAllWait (size_of self.new.manager) self.new }
+    {
+        let owes = self.waiting[pid.index()].owes();
+        if round == self.manager.round() && !self.manager.gathering() && !owes {
+            self.tell(pid, Waiting::Waits(put, taken));
+        }
+        self.do_all_wait()
+    }
+
+    /// Takes back that the process waits, before it runs, puts or takes. It has not to put what it keeps anew for that.
+    pub fn withdraw(&mut self, pid: Pid)
+        requires { pid < size_of self.old.manager }
+        ensures told { (put taken : ℕ) → told_by self.old pid ≡ Waits put taken
+            → self.new ≡ record self.old { waiting = slice_set self.old.waiting pid Offers } }
+        ensures passed_over { ((put taken : ℕ) → told_by self.old pid ≢ Waits put taken) → self.new ≡ self.old }
+    {
+        if self.waiting[pid.index()].waits() && !self.manager.gathering() {
+            self.tell(pid, Waiting::Offers);
+        }
+    }
+
+    /// Tells that a message was refused for another reason than that it was received before. A resend may bring it rightly: each
+    /// process owes its messages anew before it waits again.
+    pub fn refuse(&mut self)
+        ensures { self.new ≡ record self.old { waiting = all_owe } }
+    {
+        self.waiting = [Waiting::Owes; MAX_PROCESSES];
+    }
+
+    fn tell(&mut self, pid: Pid, waiting: Waiting)
+        requires { self.old.manager.gathering ≡ None }
+        ensures { self.new ≡ record self.old { waiting = slice_set self.old.waiting pid waiting } }
+    {
+        self.waiting[pid.index()] = waiting;
+    }
+
+    fn do_all_wait(&self) -> bool
+        ensures { IsTrue result ↔ DoAllWait (size_of self.now.manager) self.now }
+    {
+        let n = self.manager.recovery().n();
+        all_wait(&self.waiting, n)
+            && !are_all_quiet(&self.quiet, n)
+            && are_matched(&self.waiting, n)
     }
 }
 

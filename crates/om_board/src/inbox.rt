@@ -30,7 +30,8 @@ pub enum PutAnswer {
     Put,
     /// The inbox was full, and the message comes back.
     Full(Message),
-    /// Nobody takes from the inbox any longer, and the message comes back.
+    /// Nobody could take from the inbox any longer, and the message comes back. While the inbox is there this does not come: it
+    /// keeps both its ends.
     Gone(Message),
 }
 

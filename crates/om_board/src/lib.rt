@@ -12,6 +12,7 @@ pub mod laws;
 mod order;
 mod report;
 mod shared;
+mod waiting;
 
 pub use board::Board;
 pub use front::Front;
@@ -19,3 +20,4 @@ pub use frontier::{Blank, Frontier, Naming, Pass};
 pub use inbox::{CAPACITY, Inbox, PutAnswer, PutPass, TakePass};
 pub use report::Report;
 pub use shared::Shared;
+pub use waiting::Waiting;

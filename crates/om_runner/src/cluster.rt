@@ -11,6 +11,7 @@ ghost use Rattle.om_runner.specs.steps.Places.{member_of};
 ghost use Rattle.om_runner.specs.steps.Settling.{AreLeaves};
 ghost use Rattle.om_runner.specs.steps.Wiring.{IsWired};
 
+use crate::bell::{Bell, ring_all};
 use crate::config::Config;
 use crate::fault::RunFault;
 use crate::links::Links;
@@ -19,10 +20,11 @@ use crate::node::Node;
 use crate::opener::{Gate, OpenFault, Opener};
 use crate::settle::settle_all;
 use crate::trouble::load_fault;
+use crate::witness::Past;
 use crate::worker::{Place, Worker};
 use om_board::{Blank, Inbox, Naming, Pass, PutPass, Report, Shared, TakePass};
 use om_interval::{MAX_PROCESSES, Pid};
-use om_process::{Image, Status};
+use om_process::{Image, Status, Witness};
 use om_stable::Stable;
 use std::alloc::{AllocError, Global};
 use std::marker::{Brand, PhantomData};
@@ -43,8 +45,12 @@ struct Cluster<'s, K: Naming, R, G, O> {
     shared: &'s Shared<K>,
     // Set where one of them ends with a fault.
     stop: &'s AtomicBool,
+    // Whether what each process did is to be kept.
+    keeps: bool,
     // By sender, and there by receiver.
     inboxes: &'s [Vec<Inbox>],
+    // By process, what wakes its worker.
+    bells: &'s [Bell],
 }
 
 // What a worker begins with.
@@ -61,6 +67,7 @@ struct Finished<S: Stable> {
     status: Status,
     store: S,
     ends: Ends,
+    witness: Witness,
 }
 
 // What all workers brought back, by process.
@@ -72,6 +79,7 @@ struct Parts<S: Stable> {
     puts: Vec<Vec<PutPass>>,
     // By receiver, and there by sender.
     takes: Vec<Vec<TakePass>>,
+    witnesses: Vec<Witness>,
 }
 
 // Asks the gate until it lets the process start.
@@ -146,10 +154,13 @@ fn take_turn<'a, K: Naming, S: Stable, R: Wait>(
         Err(trouble) => return Err(trouble.of(worker.pid())),
     };
     match place {
-        Place::Over(node) => match node.end() {
-            Ok((status, store)) => Ok(Turned::Over(status, store)),
-            Err(node) => Ok(Turned::On(Place::Up(node), pass)),
-        },
+        Place::Over(node) => {
+            worker.end(node.core().machine().count());
+            match node.end() {
+                Ok((status, store)) => Ok(Turned::Over(status, store)),
+                Err(node) => Ok(Turned::On(Place::Up(node), pass)),
+            }
+        }
         place => Ok(Turned::On(place, pass)),
     }
 }
@@ -173,12 +184,15 @@ fn turns_until_over<'a, K: Naming, S: Stable, R: Wait>(
 {
     let mut pass = pass;
     let mut place = Place::Up(node);
-    for _ in 0..turns {
+    let mut left = turns;
+    while left > 0 {
+        left -= 1;
         if stop.load(SeqCst) {
             break;
         }
         match take_turn(rt, alloc, worker, place, pass)? {
             Turned::On(next, met) => {
+                left = left.saturating_sub(worker.extra());
                 place = next;
                 pass = met;
             }
@@ -207,11 +221,12 @@ fn take_turns<'a, K: Naming, S: Stable, R: Wait>(
 {
     let mut worker = worker;
     let (status, store) = turns_until_over(rt, alloc, turns, stop, &mut worker, node, pass)?;
-    let ends = worker.into_ends();
+    let (ends, witness) = worker.into_ends();
     Ok(Finished {
         status,
         store,
         ends,
+        witness,
     })
 }
 
@@ -255,10 +270,17 @@ fn work<'a, K: Naming, R: Wait, G: Gate, O: Opener<R>>(
         plan,
         shared,
         stop,
+        keeps,
         ..
     } = *cluster;
-    let worker = Worker::new(plan, shared, links, kills);
+    let worker = Worker::new(plan, shared, links, kills, Past::new(alloc, keeps));
     take_turns(rt, alloc, plan.turns, stop, worker, node, pass)
+}
+
+// Stops all workers.
+fn stop_all<K: Naming, R, G, O>(cluster: &Cluster<'_, K, R, G, O>) {
+    cluster.stop.store(true, SeqCst);
+    ring_all(cluster.bells);
 }
 
 // The same, and where it ends with a fault, the others are stopped.
@@ -272,7 +294,7 @@ fn work_or_stop<'a, K: Naming, R: Wait, G: Gate, O: Opener<R>>(
 {
     let result = work(cluster, image, job);
     if result.is_err() {
-        cluster.stop.store(true, SeqCst);
+        stop_all(cluster);
     }
     result
 }
@@ -356,11 +378,11 @@ fn start_all<
             unreachable!()
         };
         let own = handles.len();
-        let links = Links::new(Pid::at(own), cluster.inboxes, puts, takes);
+        let links = Links::new(Pid::at(own), cluster.inboxes, puts, takes, cluster.bells);
         let job = Job { links, pass };
         let image = &cluster.plan.images[own];
         let Some(handle) = start(scope, cluster, image, job) else {
-            cluster.stop.store(true, SeqCst);
+            stop_all(cluster);
             return None;
         };
         handles.push_reserved(handle);
@@ -453,22 +475,26 @@ fn parted<S: Stable>(alloc: Global, all: Vec<Finished<S>>) -> Result<Parts<S>, A
     let mut stores = Vec::with_capacity(alloc, all.len())?;
     let mut puts = Vec::with_capacity(alloc, all.len())?;
     let mut takes = Vec::with_capacity(alloc, all.len())?;
+    let mut witnesses = Vec::with_capacity(alloc, all.len())?;
     for one in all {
         let Finished {
             status,
             store,
             ends,
+            witness,
         } = one;
         statuses.push_reserved(status);
         stores.push_reserved(store);
         puts.push_reserved(ends.puts);
         takes.push_reserved(ends.takes);
+        witnesses.push_reserved(witness);
     }
     Ok(Parts {
         statuses,
         stores,
         puts,
         takes,
+        witnesses,
     })
 }
 
@@ -503,11 +529,11 @@ fn run_workers<
     }
 }
 
-// Settles the inboxes, and reads the report from the board. The stores stand beside it.
+// Settles the inboxes, and reads the report from the board. The stores stand beside it, and what each process did.
 fn close<K: Naming, R: Wait, G: Gate, O: Opener<R>>(
     cluster: &Cluster<'_, K, R, G, O>,
     parts: Parts<O::Store>,
-) -> Result<(Report, Vec<O::Store>), RunFault>
+) -> Result<(Report, Vec<O::Store>, Vec<Witness>), RunFault>
     requires images { length cluster.now.plan.now.images.items ≡ K.cell.n }
     requires leaves { AreLeaves (length cluster.now.inboxes.now) cluster.now.inboxes.now parts.puts.items parts.takes.items }
     requires statuses { length parts.statuses.items ≡ length cluster.now.plan.now.images.items }
@@ -526,13 +552,23 @@ fn close<K: Naming, R: Wait, G: Gate, O: Opener<R>>(
         stores,
         puts,
         mut takes,
+        witnesses,
     } = parts;
     settle_all(cluster.rt, cluster.inboxes, puts, &mut takes);
     let board = cluster.shared.board.lock(cluster.rt);
     let Ok(report) = Report::of(cluster.alloc, board.manager(), statuses) else {
         return Err(RunFault::Memory);
     };
-    Ok((report, stores))
+    Ok((report, stores, witnesses))
+}
+
+// A bell for each of so many processes.
+fn bells_of(alloc: Global, n: usize) -> Result<Vec<Bell>, AllocError> {
+    let mut bells = Vec::with_capacity(alloc, n)?;
+    for _ in 0..n {
+        bells.push(Bell::new())?;
+    }
+    Ok(bells)
 }
 
 fn run_named<
@@ -546,8 +582,9 @@ fn run_named<
     plan: &Config,
     gate: &G,
     opener: &O,
+    keeps: bool,
     blank: Blank,
-) -> Result<(Report, Vec<O::Store>), RunFault>
+) -> Result<(Report, Vec<O::Store>, Vec<Witness>), RunFault>
     requires named { blank ≡ K.cell }
     requires size { blank.n ≡ length plan.now.images.items }
     requires few { length plan.now.images.items ≤ MAX_PROCESSES }
@@ -566,6 +603,9 @@ fn run_named<
     };
     let Network { inboxes, ends } = network;
     let stop = AtomicBool::new(false);
+    let Ok(bells) = bells_of(alloc, plan.images.len()) else {
+        return Err(RunFault::Memory);
+    };
     let cluster = Cluster {
         rt,
         alloc,
@@ -574,7 +614,9 @@ fn run_named<
         opener,
         shared: &shared,
         stop: &stop,
+        keeps,
         inboxes: &inboxes,
+        bells: &bells,
     };
     let parts = run_workers(&cluster, ends, passes)?;
     close(&cluster, parts)
@@ -601,7 +643,36 @@ pub fn run_and_keep_stores<R: Threads + Wait + Sync, G: Gate + Sync, O: Opener<R
     let Ok(blank) = Blank::new(alloc, config.images.len()) else {
         return Err(RunFault::Memory);
     };
-    run_named::<Brand, R, G, O>(rt, alloc, config, gate, opener, blank)
+    let (report, stores, _) = run_named::<Brand, R, G, O>(
+        rt, alloc, config, gate, opener, false, blank,
+    )?;
+    Ok((report, stores))
+}
+
+/// Runs a cluster as [`run_cluster`] does, and hands back what each process did, but for what was rolled back, beside the report.
+pub fn run_and_keep_witnesses<R: Threads + Wait + Sync, G: Gate + Sync, O: Opener<R> + Sync>(
+    rt: &R,
+    alloc: Global,
+    config: &Config,
+    gate: &G,
+    opener: &O,
+) -> Result<(Report, Vec<Witness>), RunFault>
+    requires some { 1 ≤ length config.now.images.items }
+    requires few { length config.now.images.items ≤ MAX_PROCESSES }
+    ensures released { IfOk result (λ r. AreAllReleased r.0.front.vec r.0.released.items) }
+    ensures processes { IfOk result (λ r. length r.0.released.items ≡ length config.now.images.items) }
+    ensures statuses { IfOk result (λ r. length r.0.statuses.items ≡ length config.now.images.items) }
+    ensures ended { IfOk result (λ r. All IsEnd r.0.statuses.items) }
+    ensures along { ((store : O.Store) → IsTrue (O.Store.is_clean store))
+        → IfOk result (λ r. AreStatusesAlong config.now.images.items r.0.statuses.items) }
+{
+    let Ok(blank) = Blank::new(alloc, config.images.len()) else {
+        return Err(RunFault::Memory);
+    };
+    let (report, _, witnesses) = run_named::<Brand, R, G, O>(
+        rt, alloc, config, gate, opener, true, blank,
+    )?;
+    Ok((report, witnesses))
 }
 
 /// Runs a cluster, a thread for each process, until all have ended or trapped and all that they did is recoverable: that

@@ -3,7 +3,7 @@
 ghost use Rattle.std.specs.Prelude.{◌≡◌, ◌<◌, ◌↔◌, [], Any, IfNone, IfOk, IfSome, IsTrue, OnOk, false, is_some, length};
 ghost use Rattle.om_board.specs.Boards.{IsBoard};
 ghost use Rattle.om_member.specs.Handed.{outputs_from};
-ghost use Rattle.om_runner.specs.steps.Acts.{AreLimits, HasDeclared, HasHandedOver, HasJoined, HasMet, HasPruned, IsStanding, IsVerdictOf, UnderLock};
+ghost use Rattle.om_runner.specs.steps.Acts.{AreLimits, HasDeclared, HasHandedOver, HasJoined, HasMet, HasOffered, HasPruned, HasRefused, HasWaited, HasWithdrawn, IsStanding, IsVerdictOf, UnderLock};
 
 use crate::desk::Desk;
 use crate::node::Node;
@@ -189,14 +189,14 @@ impl<'a, K: Naming> Contact<'a, K> {
         Ok((standing, limits, pass))
     }
 
-    // Hands over all that the process has, and joins the open gathering.
+    // Hands over all that the process has, and joins the open gathering. Says whether that finished the round.
     pub(crate) fn join<S: Stable, R: Wait>(
         &mut self,
         rt: &R,
         alloc: Global,
         node: &mut Node<'_, S>,
         pass: Pass<K>,
-    ) -> Result<Pass<K>, Trouble>
+    ) -> Result<(bool, Pass<K>), Trouble>
         requires { node.old.member.own ≡ self.old.pid }
         ensures pid { self.new.pid ≡ self.old.pid }
         ensures round { self.new.round ≡ self.old.round }
@@ -215,7 +215,51 @@ impl<'a, K: Naming> Contact<'a, K> {
         desk.join(alloc, self.pid, core.round(), core.interval())?;
         let (front, pass) = desk.frontier.meet(rt, desk.board, pass);
         self.seen = front.version;
-        Ok(pass)
+        Ok((front.round > self.round, pass))
+    }
+
+    // Tells the board that the process puts all that it keeps anew from now on.
+    pub(crate) fn offer<R: Wait>(&self, rt: &R)
+        ensures { UnderLock K.cell.n (λ before after. HasOffered before self.now.pid self.now.round after) }
+    {
+        let mut guard = self.shared.board.lock(rt);
+        let board = &mut *guard;
+        // The look tells what holds of every board.
+        let _ = board.manager();
+        board.offer(self.pid, self.round);
+    }
+
+    // Tells the board that the process waits, with how many messages it has put and taken, and says whether all wait.
+    pub(crate) fn wait<R: Wait>(&self, rt: &R, put: u64, taken: u64) -> bool
+        ensures { UnderLock K.cell.n (λ before after. HasWaited before self.now.pid self.now.round put taken result after) }
+    {
+        let mut guard = self.shared.board.lock(rt);
+        let board = &mut *guard;
+        // The look tells what holds of every board.
+        let _ = board.manager();
+        board.wait(self.pid, self.round, put, taken)
+    }
+
+    // Takes back that the process waits.
+    pub(crate) fn withdraw<R: Wait>(&self, rt: &R)
+        ensures { UnderLock K.cell.n (λ before after. HasWithdrawn before self.now.pid after) }
+    {
+        let mut guard = self.shared.board.lock(rt);
+        let board = &mut *guard;
+        // The look tells what holds of every board.
+        let _ = board.manager();
+        board.withdraw(self.pid);
+    }
+
+    // Tells the board of a message that was refused, and that a resend may bring rightly.
+    pub(crate) fn refuse<R: Wait>(&self, rt: &R)
+        ensures { UnderLock K.cell.n (λ before after. HasRefused before after) }
+    {
+        let mut guard = self.shared.board.lock(rt);
+        let board = &mut *guard;
+        // The look tells what holds of every board.
+        let _ = board.manager();
+        board.refuse();
     }
 
     // Tells the manager that the process failed.

@@ -6,14 +6,20 @@ ghost use Rattle.om_process.specs.Core.{size_of};
 ghost use Rattle.om_runner.specs.steps.Network.{ArePuts, AreTakes, IsNetwork};
 ghost use Rattle.om_runner.specs.steps.Wiring.{HasEnds};
 
+use crate::bell::{Bell, ring_all};
 use crate::network::Ends;
-use om_board::{Inbox, PutAnswer, PutPass, TakePass};
+use om_board::{CAPACITY, Inbox, PutAnswer, PutPass, TakePass};
 use om_format::Message;
 use om_interval::{MAX_PROCESSES, Pid};
 use om_process::ProcCore;
 use std::alloc::{AllocError, Global};
 use std::marker::Model;
 use std::sync::Wait;
+use std::time::Duration;
+
+// After how many messages from one sender its worker is woken, which may wait for room. An inbox that was full passes this
+// before it is empty.
+const ROOM: u32 = 32;
 
 // Where the messages of one process go, and where those to it come from.
 #[derive(Drop)]
@@ -31,6 +37,15 @@ pub(crate) struct Links<'a> {
     turn: usize,
     // The number of processes.
     n: usize,
+    // By process, what wakes its worker.
+    bells: &'a [Bell],
+    // How many messages the process has put, and taken.
+    put: u64,
+    taken: u64,
+    // By receiver, whether there was no room for a message that is kept, when they were put last.
+    left: [bool; MAX_PROCESSES],
+    // By sender, how many messages were taken since its worker was woken for room.
+    since: [u32; MAX_PROCESSES],
 }
 
 impl<'a> Model for Links<'a> {
@@ -43,12 +58,22 @@ impl<'a> Model for Links<'a> {
     ghost invariant = { λ l. AreLinks (record { own = l.own; n = l.n; lines = l.inboxes.now }) l.puts.items l.takes.items l.turn };
 }
 
+// Where nothing is left to put, all is to be put from the first on.
+fn from_the_first(next: &mut [u32; MAX_PROCESSES], left: &[bool; MAX_PROCESSES]) {
+    for to in 0..MAX_PROCESSES {
+        if !left[to] {
+            next[to] = 0;
+        }
+    }
+}
+
 impl<'a> Links<'a> {
     pub(crate) fn new(
         own: Pid,
         inboxes: &'a [Vec<Inbox>],
         puts: Vec<PutPass>,
         takes: Vec<TakePass>,
+        bells: &'a [Bell],
     ) -> Links<'a>
         requires own { own < length inboxes.now }
         requires few { length inboxes.now ≤ MAX_PROCESSES }
@@ -70,6 +95,11 @@ impl<'a> Links<'a> {
             next: [0; MAX_PROCESSES],
             turn: 0,
             n,
+            bells,
+            put: 0,
+            taken: 0,
+            left: [false; MAX_PROCESSES],
+            since: [0; MAX_PROCESSES],
         }
     }
 
@@ -95,6 +125,41 @@ impl<'a> Links<'a> {
         self.inboxes
     }
 
+    // How many messages the process has put.
+    pub(crate) fn put(&self) -> u64 {
+        self.put
+    }
+
+    // How many messages it has taken.
+    pub(crate) fn taken(&self) -> u64 {
+        self.taken
+    }
+
+    // Whether all messages that are kept were put, when they were put last.
+    pub(crate) fn has_put_all(&self) -> bool {
+        !self.left.iter().any(|left| *left)
+    }
+
+    // Sleeps until its worker is woken, for so many milliseconds at most, and says whether it was woken.
+    pub(crate) fn sleep<R: Wait>(&self, rt: &R, millis: u64) -> bool {
+        match self.bells.get(self.own.index()) {
+            Some(bell) => bell.sleep(rt, Duration::from_millis(millis)),
+            None => true,
+        }
+    }
+
+    // Wakes the worker of a process.
+    fn wake(&self, place: usize) {
+        if let Some(bell) = self.bells.get(place) {
+            bell.ring();
+        }
+    }
+
+    // Wakes all workers.
+    pub(crate) fn wake_all(&self) {
+        ring_all(self.bells);
+    }
+
     // Gives the leaves of the process up.
     pub(crate) fn into_ends(self) -> Ends
         ensures { HasEnds self.entry.n self.entry.lines self.entry.own result }
@@ -108,6 +173,13 @@ impl<'a> Links<'a> {
         ensures { self.new ≡ self.old }
     {
         self.next = [0; MAX_PROCESSES];
+    }
+
+    // Has the messages that are kept put once more, to each process to which all of them were put.
+    pub(crate) fn resend_put(&mut self)
+        ensures { self.new ≡ self.old }
+    {
+        from_the_first(&mut self.next, &self.left);
     }
 
     // Puts the messages that are kept and not put yet, as far as there is room for them.
@@ -139,6 +211,7 @@ impl<'a> Links<'a> {
         requires to { to < self.old.n }
         ensures { self.new ≡ self.old }
     {
+        self.left[to.index()] = false;
         let outbox = core.outbox(to);
         let Some(oldest) = outbox.first() else {
             return Ok(());
@@ -146,6 +219,7 @@ impl<'a> Links<'a> {
         let from = self.next[to.index()].saturating_sub(oldest.ssn) as usize;
         for k in from..outbox.len() {
             if !self.put_one(rt, alloc, core, to, k)? {
+                self.left[to.index()] = true;
                 return Ok(());
             }
         }
@@ -175,6 +249,8 @@ impl<'a> Links<'a> {
         match inbox.put(rt, &mut self.puts[place], message) {
             PutAnswer::Put => {
                 self.next[place] = ssn.saturating_add(1);
+                self.put = self.put.saturating_add(1);
+                self.wake(place);
                 Ok(true)
             }
             _ => Ok(false),
@@ -201,6 +277,37 @@ impl<'a> Links<'a> {
         let from = self.turn;
         self.turn = if from + 1 < self.n { from + 1 } else { 0 };
         let inbox = &self.inboxes[from][self.own.index()];
-        inbox.take(rt, &mut self.takes[from])
+        let taken = inbox.take(rt, &mut self.takes[from]);
+        if taken.is_some() {
+            self.count_taken(from);
+        }
+        taken
+    }
+
+    // Counts a message that was taken, and wakes its sender where that may wait for room.
+    fn count_taken(&mut self, from: usize)
+        requires { from < self.old.n }
+        ensures { self.new ≡ self.old }
+    {
+        self.taken = self.taken.saturating_add(1);
+        let since = self.since[from].saturating_add(1);
+        if since >= ROOM {
+            self.since[from] = 0;
+            self.wake(from);
+        } else {
+            self.since[from] = since;
+        }
+    }
+
+    // Drops what has come, and says whether anything had.
+    pub(crate) fn drain<R: Wait>(&mut self, rt: &R) -> bool
+        ensures { self.new ≡ self.old }
+    {
+        for k in 0..CAPACITY {
+            if self.take(rt).is_none() {
+                return k > 0;
+            }
+        }
+        true
     }
 }

@@ -1,28 +1,30 @@
 //! What the thread of a process does.
 
-ghost use Rattle.std.specs.Prelude.{◌≡◌, ◌<◌, ◌⊎◌, ◌↔◌, Contains, IfOk, IfSome, IsTrue, Ok, OnOk, length};
+ghost use Rattle.std.specs.Prelude.{◌≡◌, ◌<◌, ◌+◌, ◌⊎◌, ◌↔◌, Contains, IfOk, IfSome, IsTrue, Ok, OnOk, length};
 ghost use Rattle.om_process.specs.Stores.{flushed};
 ghost use Rattle.om_runner.specs.steps.Acts.{HasDeclared, HasJoined, UnderLock};
 ghost use Rattle.om_runner.specs.steps.Places.{member_of};
-ghost use Rattle.om_runner.specs.steps.Turning.{HasNothingToSay, HasReported, IsTurnOf, place_after};
+ghost use Rattle.om_runner.specs.steps.Turning.{HasNothingToSay, HasReported, HasRested, IsTurnOf, pause_turns, place_after};
 ghost use Rattle.om_runner.specs.steps.Wiring.{HasEnds};
 
 use crate::config::Config;
 use crate::contact::{Contact, Heard, Limits, Standing};
+use crate::idle::{Idle, Pause};
 use crate::links::Links;
 use crate::network::Ends;
 use crate::node::{Fallen, Node, has_ended};
 use crate::trouble::Trouble;
+use crate::witness::Past;
 use om_board::{Front, Naming, Pass, Shared};
+use om_format::Message;
 use om_interval::Pid;
-use om_process::{Accept, Status};
+use om_process::{Accept, Status, Witness};
 use om_stable::Stable;
 use std::alloc::Global;
 use std::sync::Wait;
-use std::thread;
 
-/// After how many turns in which nothing happened a worker resends the messages that are kept.
-pub const IDLE_TURNS: u32 = 1_024;
+// What is left of a worker's turns where all wait, whatever it is.
+const ALL_TURNS: u64 = u64::MAX;
 
 // Where the process of a worker stands.
 #[derive(Drop)]
@@ -78,8 +80,12 @@ pub(crate) struct Worker<'a, K: Naming> {
     links: Links<'a>,
     // The intervals at which the process is still to fail.
     kills: Vec<u32>,
-    // How many turns there were in which nothing happened, since something did or all was resent.
-    idle: u32,
+    past: Past,
+    idle: Idle,
+    // Whether all that the process keeps was resent, after some idle turns, since it ran, received or refused a message.
+    resent: bool,
+    // How many turns the last one counts as beside itself.
+    extra: u64,
     ghost linked: { links.own ≡ contact.pid },
     ghost many: { links.n ≡ K.cell.n },
 }
@@ -133,6 +139,7 @@ impl<'a, K: Naming> Worker<'a, K> {
         shared: &'a Shared<K>,
         links: Links<'a>,
         kills: Vec<u32>,
+        past: Past,
     ) -> Worker<'a, K>
         requires { links.n ≡ K.cell.n }
         ensures { result.links ≡ links.entry }
@@ -142,7 +149,10 @@ impl<'a, K: Naming> Worker<'a, K> {
             contact: Contact::new(links.own(), shared),
             links,
             kills,
-            idle: 0,
+            past,
+            idle: Idle::new(),
+            resent: false,
+            extra: 0,
         }
     }
 
@@ -153,12 +163,26 @@ impl<'a, K: Naming> Worker<'a, K> {
         self.contact.pid
     }
 
-    // Gives the leaves of the process up, when it has ended.
-    pub(crate) fn into_ends(self) -> Ends
-        ensures { let l = self.entry.links in HasEnds K.cell.n l.lines l.own result }
+    // How many turns the last one counts as beside itself.
+    pub(crate) fn extra(&self) -> u64
+        ensures { result ≡ self.now.extra }
     {
-        let Worker { links, .. } = self;
-        links.into_ends()
+        self.extra
+    }
+
+    // Gives the leaves of the process up, when it has ended, and what it did.
+    pub(crate) fn into_ends(self) -> (Ends, Witness)
+        ensures { let l = self.entry.links in HasEnds K.cell.n l.lines l.own result.0 }
+    {
+        let Worker { links, past, .. } = self;
+        (links.into_ends(), past.into_witness())
+    }
+
+    // The process has ended, with so many instructions.
+    pub(crate) fn end(&mut self, count: u64)
+        ensures { self.new.links ≡ self.old.links }
+    {
+        self.past.end(count);
     }
 
     // One turn. Nothing that moves the process is inlined, here and below: a process over a large store is moved a field at a
@@ -178,6 +202,7 @@ impl<'a, K: Naming> Worker<'a, K> {
         ensures turned { IfOk result (λ r. IsTurnOf K.cell.n self.old.contact.round place.entry r.0) }
     {
         let mut pass = pass;
+        self.extra = 0;
         let front = self.contact.read(rt, &mut pass);
         match place {
             Place::Up(node) => self.go_on(rt, alloc, &front, node, pass),
@@ -234,7 +259,10 @@ impl<'a, K: Naming> Worker<'a, K> {
         let step = match standing {
             Standing::Closed => self.receive(rt, alloc, node, status)?,
             Standing::Gathers => Step::Called,
-            Standing::Quiet => Step::Over,
+            Standing::Quiet => {
+                self.links.wake_all();
+                Step::Over
+            }
         };
         Ok((step, pass))
     }
@@ -253,7 +281,7 @@ impl<'a, K: Naming> Worker<'a, K> {
     {
         let ran = node.run(alloc, self.plan.fuel)?;
         if ran.steps > 0 {
-            self.idle = 0;
+            self.change();
         }
         self.links.put_all(rt, alloc, node.core())?;
         if has_ended(ran.status) {
@@ -288,7 +316,8 @@ impl<'a, K: Naming> Worker<'a, K> {
         Ok((standing, pass))
     }
 
-    // Takes a message, where the process waits for one.
+    // Takes a message, where the process waits for one. What comes to one that has ended is dropped: a round that rolls it back
+    // has all sent once more.
     fn receive<S: Stable, R: Wait>(
         &mut self,
         rt: &R,
@@ -301,30 +330,124 @@ impl<'a, K: Naming> Worker<'a, K> {
     {
         if status == Status::Waiting {
             if let Some(message) = self.links.take(rt) {
-                self.idle = 0;
-                return match node.accept(alloc, &message) {
-                    Accept::Taken(x) => self.after_receipt(alloc, node, x),
-                    Accept::Memory => Err(Trouble::Memory),
-                    _ => Ok(Step::Up),
-                };
+                return self.accept(rt, alloc, node, &message);
             }
-        }
-        if status != Status::Ready {
-            self.rest();
+            self.rest(rt);
+        } else if status != Status::Ready {
+            if self.links.drain(rt) {
+                self.idle.interrupt();
+            } else {
+                self.rest(rt);
+            }
         }
         Ok(Step::Up)
     }
 
-    // Counts a turn in which nothing happened.
-    fn rest(&mut self)
+    // Something happens to the process: it is idle no longer, and what it keeps is not all resent.
+    fn change(&mut self)
         ensures same { self.new.links ≡ self.old.links }
     {
-        self.idle = self.idle.saturating_add(1);
-        if self.idle >= IDLE_TURNS {
-            self.idle = 0;
-            self.links.resend();
+        self.idle.end();
+        self.resent = false;
+    }
+
+    // Offers a message to the process.
+    fn accept<S: Stable, R: Wait>(
+        &mut self,
+        rt: &R,
+        alloc: Global,
+        node: &mut Node<'a, S>,
+        message: &Message,
+    ) -> Result<Step, Trouble>
+        ensures same { self.new.links ≡ self.old.links }
+        ensures member { node.new.member ≡ node.old.member }
+    {
+        match node.accept(alloc, message) {
+            Accept::Taken(x) => {
+                self.past.receive(message.from)?;
+                self.change();
+                self.after_receipt(alloc, node, x)
+            }
+            Accept::Memory => Err(Trouble::Memory),
+            Accept::Repeat => {
+                self.idle.interrupt();
+                Ok(Step::Up)
+            }
+            _ => {
+                self.change();
+                self.contact.refuse(rt);
+                Ok(Step::Up)
+            }
         }
-        thread::yield_now();
+    }
+
+    // A turn in which nothing happens to a process that is up. Where all that it keeps was resent, and put, the board knows
+    // while it sleeps that it waits.
+    fn rest<R: Wait>(&mut self, rt: &R)
+        ensures same { self.new.links ≡ self.old.links }
+    {
+        if self.resent && self.links.has_put_all() {
+            self.wait(rt);
+        } else {
+            let pause = self.sleep(rt);
+            self.count(rt, pause);
+        }
+    }
+
+    // Sleeps, while the board knows that the process waits. Where all wait, all turns that are left are idle, and they are spent
+    // at once.
+    fn wait<R: Wait>(&mut self, rt: &R)
+        ensures same { self.new.links ≡ self.old.links }
+        ensures waited { HasRested K.cell.n self.old.contact.pid self.old.contact.round self.new.extra }
+    {
+        if self.contact.wait(rt, self.links.put(), self.links.taken()) {
+            self.extra = ALL_TURNS;
+            return;
+        }
+        let pause = self.sleep(rt);
+        self.contact.withdraw(rt);
+        self.count(rt, pause);
+    }
+
+    fn sleep<R: Wait>(&self, rt: &R) -> Pause {
+        if self.links.sleep(rt, self.idle.sleep()) {
+            Pause::Woken
+        } else {
+            Pause::Slept
+        }
+    }
+
+    // Counts a pause of a process that is up.
+    fn count<R: Wait>(&mut self, rt: &R, pause: Pause)
+        ensures same { self.new.links ≡ self.old.links }
+    {
+        if self.pass(pause) {
+            self.contact.offer(rt);
+            self.resent = true;
+        }
+    }
+
+    // Counts a pause, and says whether all that is kept is put once more after it. Where there was no room for some of it, that is
+    // put first: a resend would begin it anew each time.
+    fn pass(&mut self, pause: Pause) -> bool
+        ensures same { self.new.links ≡ self.old.links }
+        ensures counted { self.new.extra + 1 ≡ pause_turns self.old.idle.turns pause }
+    {
+        let passed = self.idle.count(pause);
+        self.extra = u64::from(passed.turns).saturating_sub(1);
+        let has_put_all = self.links.has_put_all();
+        if passed.resends {
+            self.links.resend_put();
+        }
+        passed.resends && has_put_all
+    }
+
+    // A turn in which nothing happens to a process that is in, or down.
+    fn doze<R: Wait>(&mut self, rt: &R)
+        ensures same { self.new.links ≡ self.old.links }
+    {
+        let pause = self.sleep(rt);
+        self.pass(pause);
     }
 
     // What comes after the receipt that began interval x: a failure, or what is stored by its number.
@@ -403,7 +526,12 @@ impl<'a, K: Naming> Worker<'a, K> {
             HasJoined before.manager node.old.member.own (flushed node.old.core) after.manager node.new.core)) }
     {
         node.flush(alloc)?;
-        self.contact.join(rt, alloc, node, pass)
+        let (is_finished, pass) = self.contact.join(rt, alloc, node, pass)?;
+        if is_finished {
+            self.links.wake_all();
+        }
+        self.change();
+        Ok(pass)
     }
 
     // Tells the manager that the process failed.
@@ -421,6 +549,8 @@ impl<'a, K: Naming> Worker<'a, K> {
         ensures turned { IfOk result (λ r. IsTurnOf K.cell.n self.old.contact.round (Place.Failed fallen.entry) r.0) }
     {
         let pass = self.contact.declare(rt, alloc, pass)?;
+        self.links.wake_all();
+        self.change();
         Ok((Place::Down(fallen), pass))
     }
 
@@ -447,7 +577,12 @@ impl<'a, K: Naming> Worker<'a, K> {
         };
         let place = match heard {
             None => Place::In(node),
-            Some(heard) => Place::Up(after_round(alloc, node, &heard)?),
+            Some(heard) => {
+                if heard.verdict.back {
+                    self.past.cut(heard.verdict.r);
+                }
+                Place::Up(after_round(alloc, node, &heard)?)
+            }
         };
         Ok((place, pass))
     }
@@ -469,7 +604,10 @@ impl<'a, K: Naming> Worker<'a, K> {
         let (heard, pass) = self.listen(rt, alloc, front, pass)?;
         let place = match heard {
             None => Place::Down(fallen),
-            Some(heard) => { Place::Up(fallen.come_back(alloc, &heard.starts, &heard.verdict)?) }
+            Some(heard) => {
+                self.past.cut(heard.verdict.r);
+                Place::Up(fallen.come_back(alloc, &heard.starts, &heard.verdict)?)
+            }
         };
         Ok((place, pass))
     }
@@ -487,10 +625,10 @@ impl<'a, K: Naming> Worker<'a, K> {
         ensures starts { IfOk result (λ r. IfSome r.0 (λ heard. length heard.starts ≡ K.cell.n)) }
     {
         if !self.contact.is_behind(front) {
-            thread::yield_now();
+            self.doze(rt);
             return Ok((None, pass));
         }
-        self.idle = 0;
+        self.idle.end();
         self.links.resend();
         let (heard, pass) = self.contact.hear(rt, alloc, pass)?;
         Ok((Some(heard), pass))

@@ -8,7 +8,8 @@ use Rattle.om_manager.specs.Bounds.{AreGotFrom}
 use Rattle.om_manager.specs.Rounds.{Failing, Joining}
 use Rattle.om_manager.specs.State.{ManagerState, held_by, released_by, size_of}
 use Rattle.om_manager.specs.declared.answers.Gathered.{Gathered}
-use Rattle.om_board.specs.Boards.{AreAllQuiet, BoardState, IsBoard, MayRest}
+use Rattle.om_board.specs.Boards.{AreAllQuiet, BoardState, DoAllWait, IsBoard, MayRest, MayWait, all_owe, told_by}
+use Rattle.om_board.specs.declared.waiting.Waiting.TheVariants.{Offers, Waits}
 use Rattle.om_member.specs.Handed.{AreHanded, outputs_from}
 use Rattle.om_member.specs.Keeps.{Keeps}
 use Rattle.om_member.specs.Told.{AreTold}
@@ -75,6 +76,26 @@ pub record IsVerdictOf (m : ManagerState) (p : ℕ) (verdict : Verdict) : Type 0
   pub inc : verdict.inc ≡ newest_of m.starts p
   pub r : verdict.r ≡ slice_index m.last p
   pub back : verdict.back ≡ is_named m.backs p
+
+-- a process told that it puts anew all that it keeps, where it might
+pub record HasOffered (before : BoardState) (p round : ℕ) (after : BoardState) : Type 0 where
+  pub told : MayRest before round → after ≡ record before { waiting = slice_set before.waiting p Offers }
+  pub passed_over : (MayRest before round → ⊥) → after ≡ before
+
+-- a process told that it waits, where it might, and was told whether all do
+pub record HasWaited (before : BoardState) (p round put taken : ℕ) (told_all : Bool) (after : BoardState) : Type 0 where
+  pub told : MayWait before p round → after ≡ record before { waiting = slice_set before.waiting p (Waits put taken) }
+  pub passed_over : (MayWait before p round → ⊥) → after ≡ before
+  pub all : IsTrue told_all ↔ DoAllWait (size_of after.manager) after
+
+-- a process took back that it waits
+pub record HasWithdrawn (before : BoardState) (p : ℕ) (after : BoardState) : Type 0 where
+  pub told : (put taken : ℕ) → told_by before p ≡ Waits put taken → after ≡ record before { waiting = slice_set before.waiting p Offers }
+  pub passed_over : ((put taken : ℕ) → told_by before p ≢ Waits put taken) → after ≡ before
+
+-- each process owes what it keeps anew
+abbrev pub HasRefused : BoardState → BoardState → Type 0
+HasRefused before after = after ≡ record before { waiting = all_owe }
 
 -- between a board of n processes as its lock was had and as the lock went, this was done
 abbrev pub UnderLock : ℕ → (BoardState → BoardState → Type 0) → Type 0

@@ -1,5 +1,5 @@
 -- What a turn of a worker does.
-use Rattle.std.specs.Prelude.{◌≡◌, ℕ, [], Bool, IsTrue, ◌↔◌, Option}
+use Rattle.std.specs.Prelude.{◌≡◌, ◌⊎◌, ◌-◌, ℕ, [], Bool, IsTrue, ◌↔◌, Option, true}
 use Rattle.om_process.specs.Core.{CoreState}
 use Rattle.om_process.specs.Stores.{flushed}
 use Rattle.om_process.specs.declared.status.Status.{Status}
@@ -12,7 +12,11 @@ use Rattle.om_runner.specs.declared.worker.Place.{Place}
 use Rattle.om_runner.specs.declared.worker.Place.TheVariants.{Up, Called, In, Failed, Down, Over}
 use Rattle.om_runner.specs.declared.worker.Step.{Step}
 use Rattle.om_runner.specs.declared.worker.Step.TheVariants as steps
-use Rattle.om_runner.specs.steps.Acts.{HasDeclared, HasJoined, HasMet, UnderLock}
+use Rattle.om_runner.specs.declared.idle.Pause.{Pause}
+use Rattle.om_runner.specs.declared.idle.Pause.TheVariants.{Woken, Slept}
+use Rattle.om_runner.specs.declared.idle.TheConstants.{IDLE_TURNS}
+use Rattle.om_runner.specs.declared.worker.TheConstants.{ALL_TURNS}
+use Rattle.om_runner.specs.steps.Acts.{HasDeclared, HasJoined, HasMet, HasWaited, HasWithdrawn, UnderLock}
 use Rattle.om_runner.specs.steps.Nodes.{NodeState}
 
 -- there was nothing to hand over, nor had the process ended; the manager had these many outputs of it
@@ -45,3 +49,14 @@ IsTurnOf n round (Called old) next =
 IsTurnOf n round (Failed fallen) next =
     (next ≡ Down fallen) × UnderLock n (λ before after. HasDeclared before.manager fallen.own round after.manager)
 IsTurnOf n round other next = Unit
+
+-- how many turns a pause counts as, after so many idle ones
+abbrev pub pause_turns : ℕ → Pause → ℕ
+pause_turns idle Woken = 1
+pause_turns idle Slept = IDLE_TURNS - idle
+
+-- the worker spent all turns, as all wait; or it slept while the board knew that its process waits, and has taken that back
+abbrev pub HasRested : ℕ → ℕ → ℕ → ℕ → Type 0
+HasRested n p round extra =
+    ((extra ≡ ALL_TURNS) × (put : ℕ) × (taken : ℕ) × UnderLock n (λ before after. HasWaited before p round put taken true after))
+    ⊎ UnderLock n (λ before after. HasWithdrawn before p after)

@@ -18,4 +18,6 @@ loop-one-preserved g c =
       moved (λ f. f.store) _ _ _ _ _ _ next c.push_reserved-in-loop-one.ensures.items was.9,
       moved (λ f. f.ends.puts) _ _ _ _ _ _ next c.push_reserved-in-loop-one-2.ensures.items was.10,
       moved (λ f. f.ends.takes) _ _ _ _ _ _ next c.push_reserved-in-loop-one-3.ensures.items was.11,
+      search rules,
+      search rules,
     )

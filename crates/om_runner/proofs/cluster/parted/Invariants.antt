@@ -16,3 +16,5 @@ invariant-loop-one g l =
     × (l.stores.items ++ map (λ f. f.store) (into_iter_items l.one-iterator) ≡ map (λ f. f.store) l.fn.all.items)
     × (l.puts.items ++ map (λ f. f.ends.puts) (into_iter_items l.one-iterator) ≡ map (λ f. f.ends.puts) l.fn.all.items)
     × (l.takes.items ++ map (λ f. f.ends.takes) (into_iter_items l.one-iterator) ≡ map (λ f. f.ends.takes) l.fn.all.items)
+    × (vec_len l.witnesses + into_iter_len l.one-iterator ≡ vec_len l.fn.all)
+    × (vec_len l.fn.all ≤ vec_capacity l.witnesses)

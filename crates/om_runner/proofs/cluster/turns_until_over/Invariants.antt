@@ -2,5 +2,8 @@ use Rattle.std.proofs.Common.{◌≡◌}
 use Rattle.om_runner.specs.steps.Places.{member_of}
 use Rattle.om_runner.proofs.cluster.turns_until_over.Given as goal
 
-abbrev pub invariant-loop : goal.invariant-loop
-invariant-loop g l = (l.worker.links ≡ l.fn.worker.links) × (member_of l.place ≡ l.fn.node.member)
+abbrev pub invariant-loop-left : goal.invariant-loop-left
+invariant-loop-left g l = (l.worker.links ≡ l.fn.worker.links) × (member_of l.place ≡ l.fn.node.member)
+
+abbrev pub decreases-loop-left : goal.decreases-loop-left
+decreases-loop-left g l = l.left

@@ -18,7 +18,7 @@ returns-clause-released g c = subst (λ (b : BoardState). KeepsReleased b.manage
 pub invariant_of-self : goal.invariant_of-self
 invariant_of-self g c =
     let same = refused_join _ _ _ _ _ _ c.in_err-gathered.ensures.answer in
-    subst (λ (m : ManagerState). IsBoard g.K.Naming.cell.n (record { manager = m; posted = c.self.inside.writer; quiet = c.self.inside.quiet })) (sym same) c.self.invariant
+    subst (λ (m : ManagerState). IsBoard g.K.Naming.cell.n (record { manager = m; posted = c.self.inside.writer; quiet = c.self.inside.quiet; waiting = c.self.inside.waiting })) (sym same) c.self.invariant
 
 pub returns-in_err-gathered-clause-posted : goal.returns-in_err-gathered-clause-posted
 returns-in_err-gathered-clause-posted g c =
@@ -29,7 +29,7 @@ returns-in_err-gathered-clause-posted g c =
 pub returns-in_err-gathered-clause-sound : goal.returns-in_err-gathered-clause-sound
 returns-in_err-gathered-clause-sound g c =
     let same = refused_join _ _ _ _ _ _ c.in_err-gathered.ensures.answer in
-    subst (λ (m : ManagerState). IsBoard g.K.Naming.cell.n (record { manager = m; posted = c.self.inside.writer; quiet = c.self.inside.quiet })) (sym same) c.self.invariant
+    subst (λ (m : ManagerState). IsBoard g.K.Naming.cell.n (record { manager = m; posted = c.self.inside.writer; quiet = c.self.inside.quiet; waiting = c.self.inside.waiting })) (sym same) c.self.invariant
 
 pub returns-in_err-gathered-clause-not_lowered : goal.returns-in_err-gathered-clause-not_lowered
 returns-in_err-gathered-clause-not_lowered g c = subst (λ (b : BoardState). IsBelow b.manager.recovery c.join.new.self.recovery) c.self.view_is c.join.ensures.not_lowered
@@ -40,4 +40,4 @@ returns-in_err-gathered-clause-released g c = subst (λ (b : BoardState). KeepsR
 pub returns-in_err-gathered-clause-refused : goal.returns-in_err-gathered-clause-refused
 returns-in_err-gathered-clause-refused g c =
     let same = refused_join _ _ _ _ _ _ c.in_err-gathered.ensures.answer in
-    after_error _ _ (ap (λ (m : ManagerState). record { manager = m; posted = c.self.inside.writer; quiet = c.self.inside.quiet }) same ∙ c.self.view_is)
+    after_error _ _ (ap (λ (m : ManagerState). record { manager = m; posted = c.self.inside.writer; quiet = c.self.inside.quiet; waiting = c.self.inside.waiting }) same ∙ c.self.view_is)

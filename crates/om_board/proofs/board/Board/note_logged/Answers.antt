@@ -15,7 +15,7 @@ returns-clause-released g c = subst (λ (b : BoardState). KeepsReleased b.manage
 
 pub returns-clause-refused : goal.returns-clause-refused
 returns-clause-refused g c =
-    let old : BoardState = record { manager = c.self.inside.manager; posted = c.self.inside.writer; quiet = c.self.inside.quiet } in
-    let new : BoardState = record { manager = c.note_logged-told.new.self; posted = c.post.new.self; quiet = c.self.inside.quiet } in
+    let old : BoardState = record { manager = c.self.inside.manager; posted = c.self.inside.writer; quiet = c.self.inside.quiet; waiting = c.self.inside.waiting } in
+    let new : BoardState = record { manager = c.note_logged-told.new.self; posted = c.post.new.self; quiet = c.self.inside.quiet; waiting = c.self.inside.waiting } in
     let follows = subst (λ f. Follows c.self.inside.writer f c.post.new.self) c.of.ensures.front c.post.ensures.follows in
-    subst (λ (b : BoardState). OnErr c.note_logged-told.result (new ≡ b)) c.self.view_is (refused_row c.note_logged-told.result old new _ _ c.note_logged-told.ensures.answer c.self.invariant.last follows refl)
+    subst (λ (b : BoardState). OnErr c.note_logged-told.result (new ≡ b)) c.self.view_is (refused_row c.note_logged-told.result old new _ _ c.note_logged-told.ensures.answer c.self.invariant.last follows refl refl)

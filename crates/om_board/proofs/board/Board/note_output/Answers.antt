@@ -12,7 +12,7 @@ returns-clause-released g c = subst (λ (b : BoardState). KeepsReleased b.manage
 
 pub returns-clause-refused : goal.returns-clause-refused
 returns-clause-refused g c =
-    let board : ManagerState → BoardState = λ m. record { manager = m; posted = c.self.inside.writer; quiet = c.self.inside.quiet } in
+    let board : ManagerState → BoardState = λ m. record { manager = m; posted = c.self.inside.writer; quiet = c.self.inside.quiet; waiting = c.self.inside.waiting } in
     let told = c.note_output.result in
     subst (λ (b : BoardState). OnErr told (board c.note_output.new.self ≡ b)) c.self.view_is
     (on_err_weaker told (λ same. ap board same) (refused_output told _ _ _ c.note_output.ensures.answer))
