@@ -1,3 +1,4 @@
+pub mod CheckLemmas
 pub mod DecodeLemmas
 pub mod ReportLemmas
 pub mod RunLemmas

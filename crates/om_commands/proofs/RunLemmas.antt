@@ -73,7 +73,7 @@ is_answer over_clean script cluster images report released statuses text same_cl
     )
 
 -- the error of a script is that of the bytes that it is read from
-of_script : (bytes : List ℕ) (script : Script) (error : CommandError) → IsScript meaning_of no_lines bytes script
+pub of_script : (bytes : List ℕ) (script : Script) (error : CommandError) → IsScript meaning_of no_lines bytes script
     → IsErrorOfScript script error → IsErrorOfRun bytes error
 of_script bytes script errors.EmptyScript read lacks = record { script = script; is_script = read; is_empty = lacks }
 of_script bytes script errors.NoMemory read told = tt
@@ -89,6 +89,7 @@ of_script bytes script errors.NoCheckpoint read never = absurd never
 of_script bytes script (errors.Damaged y) read never = absurd never
 of_script bytes script (errors.MissingReceipt y) read never = absurd never
 of_script bytes script (errors.Mismatch y) read never = absurd never
+of_script bytes script errors.Unlike read never = absurd never
 
 pub error_of_answer : {A : Type 0} (remaining : Option (List ℕ)) (start script : Script) (r : Result A CommandError) → start ≡ no_lines
     → IfSome remaining (λ bytes. IsScript meaning_of start bytes script) → IfErr r (IsErrorOfScript script)

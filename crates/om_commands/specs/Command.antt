@@ -42,6 +42,7 @@ IsErrorOf meaning start IsEmpty bytes errors.StoreFault = ⊥
 IsErrorOf meaning start IsEmpty bytes errors.OutOfTurns = ⊥
 IsErrorOf meaning start IsEmpty bytes errors.GateShut = ⊥
 IsErrorOf meaning start IsEmpty bytes errors.NoThread = ⊥
+IsErrorOf meaning start IsEmpty bytes errors.Unlike = ⊥
 
 -- no error but a writer's leaves anything written
 abbrev pub IsSilent : CommandError → Type 0 → Type 0
@@ -59,3 +60,4 @@ IsSilent errors.StoreFault kept = kept
 IsSilent errors.OutOfTurns kept = kept
 IsSilent errors.GateShut kept = kept
 IsSilent errors.NoThread kept = kept
+IsSilent errors.Unlike kept = kept

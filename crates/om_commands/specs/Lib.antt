@@ -1,3 +1,4 @@
+pub mod Check
 pub mod ClusterScript
 pub mod Command
 pub mod Decode

@@ -30,6 +30,7 @@ IsReplayError held x (errors.Script error) = ⊥
 IsReplayError held x errors.OutOfTurns = ⊥
 IsReplayError held x errors.GateShut = ⊥
 IsReplayError held x errors.NoThread = ⊥
+IsReplayError held x errors.Unlike = ⊥
 
 -- the errors that the content does not tell
 abbrev pub IsNoMatterOfContent : CommandError → Type 0
@@ -47,3 +48,4 @@ IsNoMatterOfContent (errors.Script error) = ⊥
 IsNoMatterOfContent errors.OutOfTurns = ⊥
 IsNoMatterOfContent errors.GateShut = ⊥
 IsNoMatterOfContent errors.NoThread = ⊥
+IsNoMatterOfContent errors.Unlike = ⊥

@@ -54,6 +54,7 @@ IsErrorOfScript script errors.OutOfTurns = 1 ≤ length script.cluster.processes
 IsErrorOfScript script errors.GateShut = 1 ≤ length script.cluster.processes
 IsErrorOfScript script errors.StoreFault = 1 ≤ length script.cluster.processes
 IsErrorOfScript script errors.NoThread = 1 ≤ length script.cluster.processes
+IsErrorOfScript script errors.Unlike = ⊥
 IsErrorOfScript script errors.TooLong = ⊥
 IsErrorOfScript script errors.CannotRead = ⊥
 IsErrorOfScript script errors.CannotWrite = ⊥

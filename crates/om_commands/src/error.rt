@@ -1,8 +1,9 @@
 ghost use Rattle.std.specs.Prelude.{◌≡◌};
 ghost use Rattle.om_text.specs.declared.text.ReadError.TheVariants as reading;
 ghost use Rattle.om_text.specs.declared.error.BuildError.TheVariants as errors;
-ghost use Rattle.om_commands.specs.Errors.{error_of_reading, error_of_building, error_of_replay, error_of_run};
+ghost use Rattle.om_commands.specs.Errors.{error_of_reading, error_of_building, error_of_play, error_of_replay, error_of_run};
 
+use om_check::PlayFault;
 use om_process::ReplayFault;
 use om_runner::RunFault;
 use om_text::{BuildError, ReadError, ScriptError};
@@ -10,7 +11,7 @@ use std::alloc::AllocError;
 use thiserror::Error;
 
 /// Why a command was refused. What is read, or what a store holds, determines all but `CannotRead`, `CannotWrite`,
-/// `NoMemory`, `StoreFault`, and those of threads: `OutOfTurns`, `GateShut` and `NoThread`.
+/// `NoMemory`, `StoreFault`, and those of threads: `OutOfTurns`, `GateShut`, `NoThread` and `Unlike`.
 #[derive(Clone, Copy, Debug, PartialEq, Eq, Error)]
 pub enum CommandError {
     #[error("too long")]
@@ -41,6 +42,8 @@ pub enum CommandError {
     GateShut,
     #[error("no thread")]
     NoThread,
+    #[error("unlike its check")]
+    Unlike,
 }
 
 impl From<ReadError> for CommandError {
@@ -91,6 +94,20 @@ impl From<RunFault> for CommandError {
             RunFault::Memory => CommandError::NoMemory,
             RunFault::Fault(_) | RunFault::Load(_) => CommandError::StoreFault,
             RunFault::NoThread => CommandError::NoThread,
+        }
+    }
+}
+
+impl From<PlayFault> for CommandError {
+    ghost from_gives = { λ fault e. e ≡ error_of_play fault };
+
+    fn from(fault: PlayFault) -> CommandError {
+        match fault {
+            PlayFault::Memory => CommandError::NoMemory,
+            PlayFault::NotSent(_)
+            | PlayFault::NotWaiting(_)
+            | PlayFault::Spent(_)
+            | PlayFault::NotEnded(_) => CommandError::Unlike,
         }
     }
 }

@@ -1,6 +1,8 @@
 //! The commands on message logs, checkpoints and recovery states of message-passing programs: text in, text out.
 #![tactic(auto)]
 
+pub mod check;
+mod checked;
 mod cluster_script;
 mod command;
 pub mod decode;
@@ -8,6 +10,8 @@ mod error;
 mod events;
 pub mod frontier;
 mod in_memory;
+mod kept_script;
+pub mod laws;
 mod record_script;
 pub mod replay;
 mod report;
@@ -17,7 +21,9 @@ pub mod sim;
 mod sim_script;
 mod sim_text;
 mod state_text;
+mod witness_text;
 mod word_script;
 
+pub use checked::{checked_events, checked_text};
 pub use error::CommandError;
 pub use in_memory::InMemory;

@@ -23,7 +23,7 @@ const GATE_TURNS: u64 = 1;
 
 // Lets each process start at once.
 #[derive(Drop)]
-struct OpenGate;
+pub(crate) struct OpenGate;
 
 impl Gate for OpenGate {
     fn may_start(&self, _pid: Pid) -> bool {
@@ -90,7 +90,11 @@ fn answer<R: Threads + Wait + Sync, O: Opener<R> + Sync>(
 }
 
 // The cluster of a script, and how it is run.
-fn config_of(alloc: Global, turns: u64, script: &ClusterScript) -> Result<Config, AllocError>
+pub(crate) fn config_of(
+    alloc: Global,
+    turns: u64,
+    script: &ClusterScript,
+) -> Result<Config, AllocError>
     ensures programs { IfOk result (λ config. map program_of config.images.items ≡ programs_of script.now.cluster) }
     ensures kills { IfOk result (λ config. config.kills.items ≡ script.now.kills) }
     ensures flush { IfOk result (λ config. config.flush ≡ script.now.flush) }

@@ -3,13 +3,20 @@ use Rattle.std.specs.Prelude.{ℕ, List, Bool, Option, None, Some, codes, if◌t
 use Rattle.std.specs.Str.{bytes_eq}
 use Rattle.om_isa.specs.declared.ext.Ext.{Ext}
 use Rattle.om_isa.specs.declared.ext.Ext.TheVariants.{I, Im}
-use Rattle.omlog.specs.declared.arguments.Request.{Request}
-use Rattle.omlog.specs.declared.arguments.Request.TheVariants.{Decode, Frontier, Sim}
+use Rattle.omlog.specs.declared.arguments.Subcommand.{Subcommand}
+use Rattle.omlog.specs.declared.arguments.Subcommand.TheVariants.{Decode, Frontier, Sim, Run, Replay, Image}
 
--- the request of a subcommand, by its name and whether its flag `--m` was given
-abbrev pub request_named : List ℕ → Bool → Option Request
-request_named name with_m =
-    if bytes_eq name (codes "decode") then Some (Decode (if with_m then Im else I))
+-- the instructions that a program may use, by whether the flag `--m` was given
+abbrev pub ext_of : Bool → Ext
+ext_of with_m = if with_m then Im else I
+
+-- the subcommand of a name
+abbrev pub subcommand_named : List ℕ → Option Subcommand
+subcommand_named name =
+    if bytes_eq name (codes "decode") then Some Decode
     else (if bytes_eq name (codes "frontier") then Some Frontier
     else (if bytes_eq name (codes "sim") then Some Sim
-    else None))
+    else (if bytes_eq name (codes "run") then Some Run
+    else (if bytes_eq name (codes "replay") then Some Replay
+    else (if bytes_eq name (codes "image") then Some Image
+    else None)))))

@@ -1,19 +1,20 @@
 //! The command line: which subcommand is meant, and with which status it ends.
 
 ghost use Rattle.std.specs.Prelude.{◌≡◌};
-ghost use Rattle.omlog.specs.Requests.{request_named};
+ghost use Rattle.omlog.specs.Requests.{ext_of, subcommand_named};
 
-use crate::store_file::replay_file;
-use crate::store_files::{Files, run_over_tables};
+use crate::checking::{Checking, run_as};
+use crate::store_files::run_over_tables;
 use clap::error::ErrorKind;
 use clap::{Arg, ArgAction, ArgMatches, Command, Error};
 use om_commands::decode::decode;
 use om_commands::frontier::frontier;
-use om_commands::run::run as run_cluster;
 use om_commands::sim::sim;
 use om_commands::{CommandError, InMemory};
+use om_files::{Files, replay_file};
+use om_image::{ImageError, image};
 use om_isa::Ext;
-use om_text::{long_number_of, number_of};
+use om_text::{ScriptError, long_number_of, number_of};
 use std::alloc::{AllocError, Global};
 use std::io::Write;
 use std::process::ExitCode;
@@ -186,6 +187,12 @@ Behind these, in any order; in brackets what holds without the line:
 With --store PREFIX the stores are the files PREFIX, the process's number and
 .db, which must not be there yet; without it they are in memory.
 
+With --check the run without failures in which each process receives the same
+messages in the same order is played, in one thread, when the cluster has
+ended. What is written is its text, where that is the cluster's to the byte.
+With --witness FILE the same is done, and that run is written to FILE: sim
+plays it event by event, to the same outputs.
+
 Answers:
   out NAME NUMBER HEX  an output that is released
   end NAME STATUS      ended CODE or trapped CAUSE
@@ -194,6 +201,8 @@ Refused, on standard error, status 1:
   out of turns         a process did not end within its turns
   store fault          a store cannot be made, is there already, or failed
   no thread            a thread cannot be made
+  unlike its check     what the cluster wrote is not what that run writes
+  cannot write         also: FILE cannot be made
 A faulty file is refused whole: 'line N: ..' on standard error, status 1.
 
 Example: the programs and processes of the example of sim. That a message was
@@ -212,6 +221,34 @@ const TURNS: &str = "turns";
 const DEFAULT_TURNS: u64 = 50_000_000;
 
 const STORE: &str = "store";
+
+const IMAGE: &str = "image";
+
+const IMAGE_HELP: &str = "\
+Reads a raw image from standard input, as objcopy -O binary writes one, and
+writes its line for a script or a cluster file:
+
+  program NAME SIZE WORD ..    the bytes of memory, and the words at its start
+
+A word is four bytes, the lowest first; the last is padded with zeros. With
+--m the line is a program-m, which may multiply and divide.
+
+A line that a script would refuse is refused in its words, status 1:
+  line 1: bad number      SIZE is no number of 32 bits
+  line 1: bad name        NAME is not 1 to 32 letters, digits and _
+  line 1: bad size        SIZE is not 4 to 65536, or no multiple of 4
+  line 1: image too long  the image has more than SIZE bytes
+
+Example, of an image of eight bytes:
+  omlog image pc 64 < pc.bin     program pc 64 00100893 00000073";
+
+const NAME: &str = "NAME";
+
+const SIZE: &str = "SIZE";
+
+const CHECK: &str = "check";
+
+const WITNESS: &str = "witness";
 
 const REPLAY: &str = "replay";
 
@@ -249,14 +286,37 @@ const FILE: &str = "FILE";
 
 const INTERVAL: &str = "INTERVAL";
 
+// What a subcommand is for.
+#[derive(Clone, Copy)]
+pub(crate) enum Subcommand {
+    Decode,
+    Frontier,
+    Sim,
+    Run,
+    Replay,
+    Image,
+}
+
 // What the words of the command line ask for.
 #[derive(Clone, Copy)]
 pub(crate) enum Request<'a> {
     Decode(Ext),
     Frontier,
     Sim,
-    Run { turns: u64, prefix: Option<&'a str> },
-    Replay { file: &'a str, interval: u32 },
+    Run {
+        turns: u64,
+        prefix: Option<&'a str>,
+        checking: Checking<'a>,
+    },
+    Replay {
+        file: &'a str,
+        interval: u32,
+    },
+    Image {
+        ext: Ext,
+        name: &'a str,
+        size: &'a str,
+    },
 }
 
 // Runs the program on its arguments and standard streams: the status is 0 where it is done, 1 where a command was
@@ -284,8 +344,31 @@ fn carry_out<R: Threads + Wait + Sync>(
         Request::Decode(ext) => decode(rt.alloc(), ext, &mut rt.reader(), writer),
         Request::Frontier => frontier(rt.alloc(), &mut rt.reader(), writer),
         Request::Sim => sim(rt.alloc(), &mut rt.reader(), writer),
-        Request::Run { turns, prefix } => run_over(rt, threads, turns, prefix, writer),
+        Request::Run {
+            turns,
+            prefix,
+            checking,
+        } => run_over(rt, threads, turns, prefix, checking, writer),
         Request::Replay { file, interval } => replay_file(rt, file, interval, writer),
+        Request::Image { ext, name, size } => write_line(rt, ext, name, size, writer),
+    }
+}
+
+// Writes the line of the image of standard input. Its faults are those of the first line of a script.
+fn write_line<W: Write>(
+    rt: &HostRuntime,
+    ext: Ext,
+    name: &str,
+    size: &str,
+    writer: &mut W,
+) -> Result<(), CommandError> {
+    let (name, size) = (name.as_bytes(), size.as_bytes());
+    match image(rt.alloc(), ext, name, size, &mut rt.reader(), writer) {
+        Ok(()) => Ok(()),
+        Err(ImageError::CannotRead) => Err(CommandError::CannotRead),
+        Err(ImageError::CannotWrite) => Err(CommandError::CannotWrite),
+        Err(ImageError::NoMemory) => Err(CommandError::NoMemory),
+        Err(ImageError::Line(error)) => Err(CommandError::Script(ScriptError { line: 1, error })),
     }
 }
 
@@ -295,19 +378,21 @@ fn run_over<R: Threads + Wait + Sync, W: Write>(
     threads: &R,
     turns: u64,
     prefix: Option<&str>,
+    checking: Checking<'_>,
     writer: &mut W,
 ) -> Result<(), CommandError> {
     let reader = &mut rt.reader();
     match prefix {
         Some(prefix) => run_over_tables(
+            rt,
             threads,
-            rt.alloc(),
             turns,
+            checking,
             Files { rt, prefix },
             reader,
             writer,
         ),
-        None => run_cluster(threads, rt.alloc(), turns, &InMemory, reader, writer),
+        None => run_as(rt, threads, turns, checking, &InMemory, reader, writer),
     }
 }
 
@@ -341,21 +426,33 @@ fn mistake(command: &mut Command<'_>, kind: ErrorKind, what: &str) -> Error {
 
 // The request of a subcommand, where what it is given for a number is one.
 fn request_of<'a>(name: &str, found: &ArgMatches<'a>) -> Option<Request<'a>> {
-    match name {
-        REPLAY => replay_request(found.get_str(FILE), found.get_str(INTERVAL)),
-        RUN => run_request(found.get_str(TURNS), found.get_str(STORE)),
-        _ => request_named(name, found.get_flag(M)),
+    match subcommand_of(name)? {
+        Subcommand::Decode => Some(Request::Decode(ext_of(found.get_flag(M)))),
+        Subcommand::Frontier => Some(Request::Frontier),
+        Subcommand::Sim => Some(Request::Sim),
+        Subcommand::Run => run_request(
+            found.get_str(TURNS),
+            found.get_str(STORE),
+            checking_of(found.get_flag(CHECK), found.get_str(WITNESS)),
+        ),
+        Subcommand::Replay => replay_request(found.get_str(FILE), found.get_str(INTERVAL)),
+        Subcommand::Image => {
+            image_request(found.get_flag(M), found.get_str(NAME), found.get_str(SIZE))
+        }
     }
 }
 
-// The request of a subcommand, and of its flag `--m`.
-fn request_named<'a>(name: &str, with_m: bool) -> Option<Request<'a>>
-    ensures { result ≡ request_named name.now with_m }
+// The subcommand of a name.
+fn subcommand_of(name: &str) -> Option<Subcommand>
+    ensures { result ≡ subcommand_named name.now }
 {
     match name {
-        DECODE => Some(Request::Decode(if with_m { Ext::Im } else { Ext::I })),
-        FRONTIER => Some(Request::Frontier),
-        SIM => Some(Request::Sim),
+        DECODE => Some(Subcommand::Decode),
+        FRONTIER => Some(Subcommand::Frontier),
+        SIM => Some(Subcommand::Sim),
+        RUN => Some(Subcommand::Run),
+        REPLAY => Some(Subcommand::Replay),
+        IMAGE => Some(Subcommand::Image),
         _ => None,
     }
 }
@@ -368,13 +465,50 @@ fn replay_request<'a>(file: Option<&'a str>, interval: Option<&'a str>) -> Optio
     })
 }
 
+// The request for the line of an image.
+fn image_request<'a>(
+    with_m: bool,
+    name: Option<&'a str>,
+    size: Option<&'a str>,
+) -> Option<Request<'a>> {
+    Some(Request::Image {
+        ext: ext_of(with_m),
+        name: name?,
+        size: size?,
+    })
+}
+
+// The instructions that a program may use, by the flag `--m`.
+fn ext_of(with_m: bool) -> Ext
+    ensures { result ≡ ext_of with_m }
+{
+    if with_m { Ext::Im } else { Ext::I }
+}
+
+// How a run is to be checked: with a file for its witness it always is.
+fn checking_of<'a>(check: bool, witness: Option<&'a str>) -> Checking<'a> {
+    match witness {
+        Some(path) => Checking::Witness(path),
+        None if check => Checking::Check,
+        None => Checking::Off,
+    }
+}
+
 // The request to run a cluster with so many turns, where they are a number, over the files of a prefix or in memory.
-fn run_request<'a>(turns: Option<&'a str>, prefix: Option<&'a str>) -> Option<Request<'a>> {
+fn run_request<'a>(
+    turns: Option<&'a str>,
+    prefix: Option<&'a str>,
+    checking: Checking<'a>,
+) -> Option<Request<'a>> {
     let turns = match turns {
         Some(turns) => long_number_of(turns.as_bytes())?,
         None => DEFAULT_TURNS,
     };
-    Some(Request::Run { turns, prefix })
+    Some(Request::Run {
+        turns,
+        prefix,
+        checking,
+    })
 }
 
 fn command<'a>(alloc: Global) -> Result<Command<'a>, AllocError> {
@@ -392,6 +526,7 @@ fn command<'a>(alloc: Global) -> Result<Command<'a>, AllocError> {
 fn with_scripts<'a>(alloc: Global, command: Command<'a>) -> Result<Command<'a>, AllocError> {
     command
         .subcommand(decode_command(alloc)?)?
+        .subcommand(image_command(alloc)?)?
         .subcommand(frontier_command(alloc))?
         .subcommand(sim_command(alloc))
 }
@@ -414,6 +549,25 @@ fn decode_command<'a>(alloc: Global) -> Result<Command<'a>, AllocError> {
         .arg(with_m)
 }
 
+fn image_command<'a>(alloc: Global) -> Result<Command<'a>, AllocError> {
+    let with_m = Arg::new(alloc, M)
+        .long(M)
+        .help("The program may use RV32M")
+        .action(ArgAction::SetTrue);
+    let name = Arg::new(alloc, NAME)
+        .help("The name of the program")
+        .required(true);
+    let size = Arg::new(alloc, SIZE)
+        .help("The bytes of its memory, 4 to 65536")
+        .required(true);
+    Command::new(alloc, IMAGE)
+        .about("The program line of a raw image")
+        .after_help(IMAGE_HELP)
+        .arg(with_m)?
+        .arg(name)?
+        .arg(size)
+}
+
 fn frontier_command<'a>(alloc: Global) -> Command<'a> {
     Command::new(alloc, FRONTIER)
         .about("The greatest recoverable state after each note of a record script")
@@ -434,11 +588,21 @@ fn run_command<'a>(alloc: Global) -> Result<Command<'a>, AllocError> {
         .long(STORE)
         .value_name("PREFIX")
         .help("Keep the stores in files");
+    let check = Arg::new(alloc, CHECK)
+        .long(CHECK)
+        .help("Write only what a run without failures writes")
+        .action(ArgAction::SetTrue);
+    let witness = Arg::new(alloc, WITNESS)
+        .long(WITNESS)
+        .value_name("FILE")
+        .help("Check, and write that run to FILE as a script of sim");
     Command::new(alloc, RUN)
         .about("Logged processes that run in threads, fail and recover")
         .after_help(RUN_HELP)
         .arg(turns)?
-        .arg(store)
+        .arg(store)?
+        .arg(check)?
+        .arg(witness)
 }
 
 fn replay_command<'a>(alloc: Global) -> Result<Command<'a>, AllocError> {

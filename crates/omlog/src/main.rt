@@ -2,7 +2,7 @@
 #![tactic(auto)]
 
 mod arguments;
-mod store_file;
+mod checking;
 mod store_files;
 
 use std::process::ExitCode;

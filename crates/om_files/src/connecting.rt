@@ -1,0 +1,57 @@
+//! Stores in the tables of databases.
+
+ghost use Rattle.std.specs.Prelude.{◌≡◌, ◌↔◌, false, IfOk, IsTrue};
+ghost use Rattle.om_runner.specs.Reports.{nothing};
+
+use om_interval::Pid;
+use om_runner::{OpenFault, Opener};
+use om_tables::{SqlStable, TablesError};
+use sqlite::{Alter, Connection, Error, ErrorCode};
+use std::alloc::Global;
+
+/// Opens the database of each process.
+pub trait Connects {
+    type Disk: Alter + Send + Drop;
+
+    /// A connection to the process's database. Refused, it says whether memory ran out.
+    fn connect(&self, alloc: Global, pid: Pid) -> Result<Connection<Self::Disk>, OpenFault>
+        ensures { IfOk result (λ conn. conn.in_transaction ≡ false) };
+}
+
+/// Makes stores in the tables of databases that have nothing.
+#[derive(Debug, Drop)]
+pub struct InTables<C> {
+    pub connects: C,
+}
+
+impl<R, C: Connects> Opener<R> for InTables<C> {
+    type Store = SqlStable<C::Disk>;
+
+    fn make(&self, _rt: &R, alloc: Global, pid: Pid) -> Result<SqlStable<C::Disk>, OpenFault> {
+        let conn = self.connects.connect(alloc, pid)?;
+        match SqlStable::create(alloc, conn) {
+            Ok(store) => Ok(store),
+            Err((error, _conn)) => Err(refusal_of(error)),
+        }
+    }
+}
+
+// Why no store is made where its tables are refused.
+fn refusal_of(error: TablesError) -> OpenFault
+    ensures { (result ≡ OpenFault.Memory) ↔ (error ≡ TablesError.Memory) }
+{
+    match error {
+        TablesError::Memory => OpenFault::Memory,
+        TablesError::Present | TablesError::NoTables | TablesError::Fault => OpenFault::Refused,
+    }
+}
+
+/// Why no store is made where a database is not opened.
+pub fn refusal_of_opening(error: &Error) -> OpenFault
+    ensures { (result ≡ OpenFault.Memory) ↔ (error.now ≡ Error.SqliteFailure ErrorCode.OutOfMemory) }
+{
+    match error {
+        Error::SqliteFailure(ErrorCode::OutOfMemory) => OpenFault::Memory,
+        _ => OpenFault::Refused,
+    }
+}

@@ -1,0 +1,17 @@
+//! Stores in files: a database for each process of a cluster, and the state of a process that is replayed from one.
+//!
+//! What the files hold is trusted to the system and to SQLite's log; what a connection to them answers is not: every clause
+//! stands over any disk.
+//!
+//! - `connecting`: who opens the databases of a cluster, and the stores that are made in their tables
+//! - `files`: the files that are named by a prefix
+//! - `replaying`: the command `replay` over a connection, and over a file
+#![tactic(auto)]
+
+mod connecting;
+mod files;
+mod replaying;
+
+pub use connecting::{Connects, InTables};
+pub use files::Files;
+pub use replaying::{replay_file, replay_over};

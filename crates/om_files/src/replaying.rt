@@ -1,0 +1,77 @@
+//! The state of a process in an interval, from a database that holds its store.
+
+ghost use Rattle.std.specs.Prelude.{◌≡◌, ℕ, List, false, IsTrue, IfErr, OnOk, Err, None};
+ghost use Rattle.std.specs.Io.KnownBytes.{Appends, Keeps};
+ghost use Rattle.sqlite.specs.Held.{state};
+ghost use Rattle.om_tables.specs.Store.{HasBothTables, IsFormed, content_in, is_sure};
+ghost use Rattle.om_commands.specs.Command.{IsSilent};
+ghost use Rattle.om_commands.specs.Replay.{IsReplayError, IsReplayText};
+
+use crate::connecting::refusal_of_opening;
+use om_commands::CommandError;
+use om_commands::replay::replay;
+use om_runner::OpenFault;
+use om_tables::SqlStable;
+use sqlite::{Alter, Connection};
+use std::alloc::Global;
+use std::fs;
+use std::io::Write;
+
+/// Replays the process whose store a database holds to an interval, and writes its state as
+/// [`replay`](om_commands::replay::replay) does. The connection is handed back. Without the tables of a store nothing is
+/// read or written: `StoreFault`.
+pub fn replay_over<S: Alter + Drop, W: Write>(
+    alloc: Global,
+    conn: Connection<S>,
+    interval: u32,
+    writer: &mut W,
+) -> (Result<(), CommandError>, Connection<S>)
+    requires { conn.in_transaction ≡ false }
+    ensures text { IsTrue (is_sure (state S.Store result.1)) → IsFormed (state S.Store conn)
+        → OnOk result.0 ((text : List ℕ) × IsReplayText (content_in (state S.Store conn).now) interval text
+        × Appends (W.contents writer.old) (W.contents writer.new) text) }
+    ensures error { IsTrue (is_sure (state S.Store result.1)) → IsFormed (state S.Store conn)
+        → IfErr result.0 (IsReplayError (content_in (state S.Store conn).now) interval) }
+    ensures no_tables { (HasBothTables (state S.Store conn).now.schema → ⊥) → result ≡ (Err CommandError.StoreFault, conn) }
+    ensures silent { IfErr result.0 (λ error. IsSilent error (Keeps (W.contents writer.old) (W.contents writer.new))) }
+    ensures same { IsTrue (is_sure (state S.Store result.1)) → IsFormed (state S.Store conn)
+        → content_in (state S.Store result.1).now ≡ content_in (state S.Store conn).now }
+{
+    match SqlStable::adopt(alloc, conn) {
+        Ok(mut store) => {
+            let told = replay(alloc, &mut store, interval, writer);
+            (told, store.into_connection())
+        }
+        Err((_, conn)) => (Err(CommandError::StoreFault), conn),
+    }
+}
+
+/// The same from a file, which is neither made nor changed. One that is not there, or has nothing, is a `StoreFault`.
+pub fn replay_file<W: Write>(
+    rt: &HostRuntime,
+    file: &str,
+    interval: u32,
+    writer: &mut W,
+) -> Result<(), CommandError>
+    ensures silent { IfErr result (λ error. IsSilent error (Keeps (W.contents writer.old) (W.contents writer.new))) }
+{
+    if !is_written(rt, file) {
+        return Err(CommandError::StoreFault);
+    }
+    match Connection::open(rt, file) {
+        Ok(conn) => {
+            let (told, _conn) = replay_over(rt.alloc(), conn, interval, writer);
+            told
+        }
+        Err(error) => Err(match refusal_of_opening(&error) {
+            OpenFault::Memory => CommandError::NoMemory,
+            OpenFault::Refused => CommandError::StoreFault,
+        }),
+    }
+}
+
+// Whether it is a file that has something in it: the database would make one that is not there, and take an empty one as
+// new.
+fn is_written(rt: &HostRuntime, file: &str) -> bool {
+    fs::metadata(rt, file).is_ok_and(|metadata| metadata.is_file() && metadata.len() > 0)
+}

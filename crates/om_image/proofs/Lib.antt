@@ -1,0 +1,4 @@
+mod Digits
+mod Lines
+mod Programs
+mod Whole

@@ -1,0 +1,85 @@
+-- The `program` line of a raw image.
+use Rattle.std.specs.Prelude.{◌≡◌, ℕ, ◌+◌, ◌<◌, List, [], ◌∷◌, ◌++◌, codes, flat_map, map, replicate, take, Some, Ok, Err}
+use Rattle.std.specs.Int.{to_be_bytes, to_le_bytes, w32}
+use Rattle.hex.specs.Hex.{encode_lower}
+use Rattle.om_format.specs.declared.limits.TheConstants.{MAX_MEMORY}
+use Rattle.om_isa.specs.declared.ext.Ext.{Ext}
+use Rattle.om_isa.specs.declared.ext.Ext.TheVariants.{I, Im}
+use Rattle.om_process.specs.Process.{Program}
+use Rattle.om_text.specs.Lines.{lines_of}
+use Rattle.om_text.specs.Numbers.{number_of}
+use Rattle.om_text.specs.Words.{words_of}
+use Rattle.om_text.specs.declared.error.BuildError.{BuildError}
+use Rattle.om_text.specs.declared.error.BuildError.TheVariants as building
+use Rattle.om_text.specs.declared.error.LineError.{LineError}
+use Rattle.om_text.specs.declared.text.ReadError.{ReadError}
+use Rattle.om_text.specs.declared.text.ReadError.TheVariants as reading
+use Rattle.om_programs.specs.Programs.{no_programs, program_line}
+use Rattle.om_image.specs.declared.error.ImageError.{ImageError}
+use Rattle.om_image.specs.declared.error.ImageError.TheVariants as errors
+
+-- a word of the machine in eight hexadecimal digits, the highest first
+abbrev pub word_text : ℕ → List ℕ
+word_text word = encode_lower (to_be_bytes w32 word)
+
+-- the words have these bytes, the lowest of each first; behind them the last word is padded with zeros
+abbrev pub AreWordsOf : List ℕ → List ℕ → Type 0
+AreWordsOf bytes words = (zeros : ℕ) × (zeros < 4) × (flat_map (to_le_bytes w32) words ≡ bytes ++ replicate zeros 0)
+
+-- the first word of the line of a program that may use these instructions
+abbrev pub keyword : Ext → List ℕ
+keyword I = codes "program"
+keyword Im = codes "program-m"
+
+-- the program that these words write, whose memory begins with these bytes, padded with zeros to a whole number of words
+pub record IsProgramOf (ext : Ext) (size bytes : List ℕ) (program : Program) : Type 0 where
+  pub is_size : number_of size ≡ Some program.size
+  pub is_ext : program.ext ≡ ext
+  pub zeros : ℕ
+  pub few : zeros < 4
+  pub is_image : program.image ≡ bytes ++ replicate zeros 0
+
+-- the text is one line, whose words are those of the keyword, the name and the size, and words of the machine; read as the line
+-- of a program, behind nothing else, it gives this one program
+pub record IsImageLine (ext : Ext) (name size bytes text : List ℕ) : Type 0 where
+  pub line : List ℕ
+  pub one_line : lines_of text ≡ line ∷ []
+  pub words : List (List ℕ)
+  pub is_line : words_of line ≡ keyword ext ∷ name ∷ size ∷ words
+  pub program : Program
+  pub read : program_line ext no_programs (name ∷ size ∷ words) ≡ Ok (record no_programs { programs = (name, program) ∷ [] })
+  pub is_program : IsProgramOf ext size bytes program
+
+-- the line of the words that have these bytes is refused for this
+pub record IsRefused (ext : Ext) (name size bytes : List ℕ) (error : LineError) : Type 0 where
+  pub words : List ℕ
+  pub are_words : AreWordsOf bytes words
+  pub read : program_line ext no_programs (name ∷ size ∷ map word_text words) ≡ Err error
+
+-- at most so many bytes are read: one more than a memory may have
+abbrev pub most_read : ℕ
+most_read = MAX_MEMORY + 1
+
+-- the error is that of the name, the size and the bytes that are read; those of the reader, the writer and memory may come whatever these are
+abbrev pub IsErrorOf : Ext → List ℕ → List ℕ → List ℕ → ImageError → Type 0
+IsErrorOf ext name size bytes (errors.Line error) = IsRefused ext name size (take most_read bytes) error
+IsErrorOf ext name size bytes errors.CannotRead = Unit {0}
+IsErrorOf ext name size bytes errors.CannotWrite = Unit {0}
+IsErrorOf ext name size bytes errors.NoMemory = Unit {0}
+
+-- no error but a writer's leaves anything written
+abbrev pub IsSilent : ImageError → Type 0 → Type 0
+IsSilent errors.CannotWrite kept = Unit {0}
+IsSilent errors.CannotRead kept = kept
+IsSilent errors.NoMemory kept = kept
+IsSilent (errors.Line error) kept = kept
+
+-- the errors of what is read and of what is made of it
+abbrev pub error_of_building : BuildError LineError → ImageError
+error_of_building (building.Invalid error) = errors.Line error
+error_of_building building.Memory = errors.NoMemory
+
+abbrev pub error_of_reading : ReadError → ImageError
+error_of_reading reading.TooLong = errors.CannotRead
+error_of_reading reading.CannotRead = errors.CannotRead
+error_of_reading reading.Memory = errors.NoMemory

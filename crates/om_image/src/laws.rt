@@ -1,0 +1,16 @@
+//! What holds of the texts of words: each function stands for a theorem over the definitions alone.
+
+ghost use Rattle.std.specs.Prelude.{◌≡◌, ℕ, ◌<◌, ◌^◌, List, All, map, Some, Ok};
+ghost use Rattle.om_text.specs.Numbers.{hex_word};
+ghost use Rattle.om_programs.specs.Programs.{words_in};
+ghost use Rattle.om_image.specs.Image.{word_text};
+
+/// A word's eight digits read back as the word.
+pub fn word_is_read_back()
+    ensures { (word : ℕ) → word < 2 ^ 32 → hex_word (word_text word) ≡ Some word }
+{}
+
+/// The words of a line read back as the words.
+pub fn words_are_read_back()
+    ensures { (words : List ℕ) → All (λ word. word < 2 ^ 32) words → words_in (map word_text words) ≡ Ok words }
+{}
