@@ -2,7 +2,9 @@ ghost use Rattle.std.specs.Prelude.{◌<◌, IfSome};
 ghost use Rattle.om_manager.specs.State.{size_of};
 
 use om_interval::{DepVec, MAX_PROCESSES, Pid, Tag};
-use om_manager::{FailError, Gathered, JoinError, Manager, OutputError, OutputNote, RecordError};
+use om_manager::{
+    FailError, Gathered, JoinError, Manager, OutputError, OutputNote, RecordError, is_last_round,
+};
 use om_recover::{Note, NoteError, RowKind};
 use std::alloc::{AllocError, Global};
 use std::fmt::Display;
@@ -415,4 +417,12 @@ fn refusals_are_told(rt: HostRuntime) -> Result<(), Fail> {
     ];
     assert_eq!(rt; are_told, [true; 5]);
     Ok(())
+}
+
+// The numbers are of 32 bits (2^32 - 1 is the last).
+#[test]
+fn the_last_round_is_known(rt: HostRuntime) {
+    assert!(rt; !is_last_round(0));
+    assert!(rt; !is_last_round(4_294_967_294));
+    assert!(rt; is_last_round(4_294_967_295));
 }

@@ -136,6 +136,14 @@ fn rows_in_order<K: Naming, R: Wait + Abort>(
     assert_quiet(rt, board, 1, 1, true);
 }
 
+// After a round each process offers anew. Where all have ended, nobody waits.
+fn rows_of_ended<K: Naming, R: Abort>(rt: &R, board: &mut Board<K>) {
+    assert_waits(rt, board, (0, 1), (1, 1), false);
+    both_offer(rt, board, 1);
+    assert_waits(rt, board, (0, 1), (1, 1), false);
+    assert_waits(rt, board, (1, 1), (1, 1), false);
+}
+
 // The pass meets, and reads the same.
 fn assert_met<K: Naming, R: Wait + Abort>(
     rt: &R,
@@ -149,6 +157,65 @@ fn assert_met<K: Naming, R: Wait + Abort>(
     drop(pass);
 }
 
+// Reports that a process of two waits, with these counts, and compares the answer.
+fn assert_waits<K: Naming, R: Abort>(
+    rt: &R,
+    board: &mut Board<K>,
+    (number, round): (u32, u32),
+    (put, taken): (u64, u64),
+    all: bool,
+) {
+    let pid = process(rt, number);
+    let is_right = pid.index() < board.manager().recovery().n()
+        && board.wait(pid, round, put, taken) == all;
+    assert!(rt; is_right, "{number} in round {round}: {put} {taken}");
+}
+
+// Both processes of two put anew what they keep.
+fn both_offer<K: Naming, R: Abort>(rt: &R, board: &mut Board<K>, round: u32) {
+    for number in 0..2 {
+        let pid = process(rt, number);
+        let is_of_board = pid.index() < board.manager().recovery().n();
+        assert!(rt; is_of_board);
+        board.offer(pid, round);
+    }
+}
+
+// Process 1 of two withdraws.
+fn one_withdraws<K: Naming, R: Abort>(rt: &R, board: &mut Board<K>) {
+    let pid = process(rt, 1);
+    let is_of_board = pid.index() < board.manager().recovery().n();
+    assert!(rt; is_of_board);
+    board.withdraw(pid);
+}
+
+// Two processes wait once both have offered what they keep, and as many messages were taken as put.
+fn rows_of_waiting<K: Naming, R: Abort>(rt: &R, board: &mut Board<K>) {
+    assert_waits(rt, board, (0, 0), (1, 0), false);
+    assert_waits(rt, board, (1, 0), (0, 1), false);
+    both_offer(rt, board, 0);
+    assert_waits(rt, board, (0, 0), (1, 0), false);
+    assert_waits(rt, board, (1, 0), (0, 0), false);
+    assert_waits(rt, board, (1, 0), (0, 1), true);
+    assert_waits(rt, board, (0, 1), (2, 0), true);
+    assert_waits(rt, board, (0, 0), (2, 0), false);
+    assert_waits(rt, board, (0, 0), (1, 0), true);
+}
+
+// What takes a report back.
+fn rows_of_running<K: Naming, R: Abort>(rt: &R, board: &mut Board<K>) {
+    one_withdraws(rt, board);
+    assert_waits(rt, board, (0, 0), (1, 0), false);
+    assert_waits(rt, board, (1, 0), (0, 1), true);
+    board.refuse();
+    assert_waits(rt, board, (0, 0), (1, 0), false);
+    both_offer(rt, board, 1);
+    assert_waits(rt, board, (0, 0), (1, 0), false);
+    assert_waits(rt, board, (1, 0), (0, 1), false);
+    one_withdraws(rt, board);
+    assert_waits(rt, board, (1, 0), (0, 1), false);
+}
+
 fn rows_under_lock<K: Naming, R: Wait + Abort>(
     rt: &R,
     alloc: Global,
@@ -156,7 +223,11 @@ fn rows_under_lock<K: Naming, R: Wait + Abort>(
     mut pass: Pass<K>,
 ) {
     let mut board = shared.board.lock(rt);
+    rows_of_waiting(rt, &mut board);
+    rows_of_running(rt, &mut board);
+    both_offer(rt, &mut board, 0);
     rows_in_order(rt, alloc, &mut board, &shared.frontier, &mut pass);
+    rows_of_ended(rt, &mut board);
     assert_met(rt, &mut board, &shared.frontier, pass);
     drop(board);
 }

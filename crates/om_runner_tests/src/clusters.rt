@@ -15,7 +15,7 @@ use std::thread::Threads;
 
 // Each process takes 6 receipts; at each it adds 1 to a counter, outputs the counter and sends it on. Process 0 starts with
 // 0, and at the end the code is the counter.
-const RING: [u32; 34] = [
+pub const RING: [u32; 34] = [
     0x00400893, 0x00000073, 0x00050293, 0x00150313, 0x00B36463, 0x00000313, 0x00600393, 0x00029C63,
     0x00100893, 0x00030513, 0x10000593, 0x00400613, 0x00000073, 0x00200893, 0x10000513, 0x00400593,
     0x00000073, 0x10002403, 0x00140413, 0x10802023, 0x00300893, 0x10000513, 0x00400593, 0x00000073,
@@ -25,14 +25,14 @@ const RING: [u32; 34] = [
 
 // Makes stores in memory, which count their calls. That of one process stops a call. None waits for another: the flag is set.
 #[derive(Drop)]
-struct Fused<'a> {
+pub struct Fused<'a> {
     pid: Pid,
     calls: u64,
     set: &'a AtomicBool,
 }
 
 // None of their calls is stopped.
-fn unstopped(set: &AtomicBool) -> Fused<'_> {
+pub fn unstopped(set: &AtomicBool) -> Fused<'_> {
     Fused {
         pid: Pid::at(0),
         calls: u64::MAX,
@@ -155,7 +155,7 @@ fn assert_ring(rt: &impl Abort, n: u32, report: &Report) {
 }
 
 // A run over stores in memory.
-fn run<'a, R: Threads + Wait + Abort + Sync, G: Gate + Sync>(
+pub fn run<'a, R: Threads + Wait + Abort + Sync, G: Gate + Sync>(
     rt: &R,
     alloc: Global,
     config: &Config,

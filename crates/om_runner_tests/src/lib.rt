@@ -13,3 +13,5 @@ mod inboxes;
 mod rows;
 #[cfg(test)]
 mod threads;
+#[cfg(test)]
+mod waiting;

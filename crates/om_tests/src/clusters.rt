@@ -4,14 +4,15 @@ ghost use Rattle.std.specs.Prelude.{◌≡◌, ◌≤◌, false, IfOk, length};
 ghost use Rattle.om_interval.specs.declared.pid.TheConstants.{MAX_PROCESSES};
 
 use om_commands::replay::replay;
+use om_files::{Connects, InTables};
 use om_interval::Pid;
 use om_isa::Ext;
 use om_manager::Output;
 use om_process::{Image, Status};
 use om_runner::{Config, Gate, OpenFault, Opener, Report, RunFault, run_and_keep_stores};
 use om_stable::Stable;
-use om_tables::{SqlStable, TablesError};
-use sqlite::{Alter, Connection, MemStore};
+use om_tables::SqlStable;
+use sqlite::{Connection, MemStore};
 use std::alloc::{AllocError, Global};
 use std::process::Abort;
 use std::sync::Wait;
@@ -26,33 +27,6 @@ static RING: [u32; 34] = [
     0x00100893, 0x00030513, 0x10000593, 0x00400613, 0x00000073, 0xFFF38393, 0xFA039EE3, 0x00000893,
     0x00040513, 0x00000073,
 ];
-
-// Opens the database of each process.
-trait Connects {
-    type Disk: Alter + Send + Drop;
-
-    fn connect(&self, alloc: Global, pid: Pid) -> Result<Connection<Self::Disk>, OpenFault>
-        ensures { IfOk result (λ conn. conn.in_transaction ≡ false) };
-}
-
-// Makes stores in the tables of databases.
-#[derive(Drop)]
-struct InTables<C> {
-    connects: C,
-}
-
-impl<R, C: Connects> Opener<R> for InTables<C> {
-    type Store = SqlStable<C::Disk>;
-
-    fn make(&self, _rt: &R, alloc: Global, pid: Pid) -> Result<SqlStable<C::Disk>, OpenFault> {
-        let conn = self.connects.connect(alloc, pid)?;
-        match SqlStable::create(alloc, conn) {
-            Ok(store) => Ok(store),
-            Err((TablesError::Present, _)) => Err(OpenFault::Refused),
-            Err(_) => Err(OpenFault::Memory),
-        }
-    }
-}
 
 // Databases in memory, of which that of one process has the tables of a store already.
 #[derive(Drop)]

@@ -1,13 +1,10 @@
-//! Tests of programs, the world and the commands; and of the stores: in memory, behind a fuse, and in tables, also over files
-//! that stop and under clusters.
+//! Tests of programs, the world and the commands, also over stores in tables.
 #![tactic(auto)]
 
 #[cfg(test)]
 mod clusters;
 #[cfg(test)]
 mod commands;
-#[cfg(test)]
-mod databases;
 #[cfg(test)]
 mod programs;
 #[cfg(test)]
@@ -18,7 +15,5 @@ mod rows;
 mod run;
 #[cfg(test)]
 mod sim;
-#[cfg(test)]
-mod stores;
 #[cfg(test)]
 mod world;

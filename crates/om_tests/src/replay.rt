@@ -1,14 +1,17 @@
 //! The rows of the command `replay`, over both kinds of store: the process receives what another sent and sends it on.
 
+ghost use Rattle.std.specs.Prelude.{◌≡◌, false};
+
 use crate::commands::Failing;
 use om_commands::CommandError;
 use om_commands::replay::replay;
+use om_files::replay_over;
 use om_interval::Pid;
 use om_isa::Ext;
 use om_process::ProcCore;
 use om_stable::{FuseStable, MemStable, Stable};
 use om_tables::SqlStable;
-use sqlite::Connection;
+use sqlite::{Alter, Connection, MemStore};
 use std::alloc::Global;
 use std::process::Abort;
 
@@ -184,14 +187,48 @@ fn rows_in_memory(rt: HostRuntime) {
     check_store(&rt, rt.alloc(), &mut store);
 }
 
+// The rows over a connection, which is handed back after each.
+fn check_connection<S: Alter + Drop>(rt: &impl Abort, alloc: Global, conn: Connection<S>) {
+    let mut conn = conn;
+    for (interval, written, answer) in &ROWS {
+        assert!(rt; conn.is_autocommit());
+        let mut text = Vec::new(alloc);
+        let (told, left) = replay_over(alloc, conn, *interval, &mut text);
+        conn = left;
+        assert_eq!(rt;
+            (told, text.as_slice()),
+            (*answer, written.as_bytes()),
+            "{interval}"
+        );
+    }
+}
+
+fn in_memory(rt: &impl Abort, alloc: Global) -> Connection<MemStore>
+    ensures { result.in_transaction ≡ false }
+{
+    let conn = Connection::open_in_memory(alloc).expect(rt, "memory");
+    assert!(rt; conn.is_autocommit());
+    conn
+}
+
 #[test]
 fn rows_in_tables(rt: HostRuntime) {
-    let conn = Connection::open_in_memory(rt.alloc()).expect(&rt, "memory");
-    assert!(rt; conn.is_autocommit());
-    match SqlStable::create(rt.alloc(), conn) {
-        Ok(mut store) => check_store(&rt, rt.alloc(), &mut store),
+    match SqlStable::create(rt.alloc(), in_memory(&rt, rt.alloc())) {
+        Ok(mut store) => {
+            check_store(&rt, rt.alloc(), &mut store);
+            check_connection(&rt, rt.alloc(), store.into_connection());
+        }
         Err((error, _conn)) => panic!(rt; "{error:?}"),
     }
+}
+
+#[test]
+fn a_database_without_a_store(rt: HostRuntime) {
+    let mut text = Vec::new(rt.alloc());
+    let conn = in_memory(&rt, rt.alloc());
+    let (told, conn) = replay_over(rt.alloc(), conn, 0, &mut text);
+    assert_eq!(rt; (told, text.len()), (Err(CommandError::StoreFault), 0));
+    assert!(rt; conn.schema().tables.is_empty());
 }
 
 // The command over a store with the first so many bytes of the receipt, of which one is another, has this answer.

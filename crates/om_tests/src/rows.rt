@@ -1,5 +1,6 @@
 //! Rows of the commands that read a text: what a command is given, and what it must write or be refused with.
 
+use om_commands::check::run_checked;
 use om_commands::decode::decode;
 use om_commands::frontier::frontier;
 use om_commands::run::run;
@@ -19,6 +20,8 @@ pub enum Command {
     Sim,
     /// Over stores in memory. A worker takes so many turns.
     Run(u64),
+    /// The same, checked.
+    Check(u64),
 }
 
 /// How the text of a row is meant.
@@ -76,6 +79,7 @@ fn carry_out<R: Threads + Wait + Sync>(
         Command::Decode(ext) => decode(alloc, ext, &mut input, written),
         Command::Sim => sim(alloc, &mut input, written),
         Command::Run(turns) => run(rt, alloc, turns, &InMemory, &mut input, written),
+        Command::Check(turns) => run_checked(rt, alloc, turns, &InMemory, &mut input, written),
     }
 }
 

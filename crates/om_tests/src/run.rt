@@ -21,7 +21,7 @@ program ring 512 00400893 00000073 00050293 00150313 00B36463 00000313 00600393 
 ";
 
 // The ring of n processes as a cluster file, with these lines behind it.
-fn ring(rt: &impl Abort, alloc: Global, n: u32, more: &str) -> String {
+pub fn ring(rt: &impl Abort, alloc: Global, n: u32, more: &str) -> String {
     let mut text = String::from_str(alloc, RING).expect(rt, "memory");
     for p in 0..n {
         writeln!(text, "proc p{p} ring").expect(rt, "memory");
@@ -74,7 +74,9 @@ fn rings_with_failures(rt: HostRuntime) {
             true => (Writes, ends.as_str()),
             false => (Refused, "out of turns"),
         };
-        check_input(&rt, rt.alloc(), Command::Run(*turns), &input, how, wanted);
+        for command in [Command::Run(*turns), Command::Check(*turns)] {
+            check_input(&rt, rt.alloc(), command, &input, how, wanted);
+        }
     }
 }
 
@@ -141,6 +143,8 @@ static FAILURES: [(usize, How, &str); 2] = [
 #[test]
 fn cluster_files_and_their_texts(rt: HostRuntime) {
     check(&rt, rt.alloc(), Command::Run(TURNS), ONE, &LINES);
+    check(&rt, rt.alloc(), Command::Check(TURNS), ONE, &LINES);
+    check(&rt, rt.alloc(), Command::Check(TURNS), "", &FAULTY);
     check(&rt, rt.alloc(), Command::Run(TURNS), "", &FAULTY);
     for (count, how, wanted) in &FAILURES {
         let kills = "kill p 9\n"

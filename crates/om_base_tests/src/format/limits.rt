@@ -1,7 +1,8 @@
 //! Both sides of each limit of a record.
 
 use crate::format::records::{
-    Record, assert_spelled, bytes_of, checkpoint_fault, receipt_fault, repeat,
+    Record, assert_bytes, assert_spelled, bytes_of, checkpoint_fault, receipt_fault, repeat,
+    respelled,
 };
 use crate::same::{assert_same, assert_same_at};
 use om_format::{DecodeError, MAX_BODY, MAX_PROCESSES_OF_VERSION_1, MemoryBytes, PAGE};
@@ -98,7 +99,10 @@ fn assert_limit(rt: &impl Abort, alloc: Global, (version, n, size, want): &Limit
     let bytes = checkpoint(rt, alloc, *version, *n, *size);
     let fault = checkpoint_fault(alloc, &bytes);
     assert_same_at(rt, &(version, n, size), &fault, want);
-    assert_spelled(rt, alloc, &bytes);
+    if want.is_none() {
+        let newer = checkpoint(rt, alloc, 2, *n, *size);
+        assert_bytes(rt, &respelled(rt, alloc, &bytes), &newer);
+    }
 }
 
 #[test]

@@ -212,8 +212,35 @@ pub fn assert_whole(rt: &impl Abort, alloc: Global, bytes: &[u8]) {
     assert_same(rt, &faults, &(None, Some(DecodeError::Trailing)));
 }
 
-// The bytes of the checkpoint that these bytes are.
-fn respelled(rt: &impl Abort, alloc: Global, bytes: &[u8]) -> Vec<u8> {
+// What bytes of version 1 with a memory of one page say, in version 2.
+fn in_version_2(rt: &impl Abort, alloc: Global, bytes: &[u8]) -> Vec<u8> {
+    assert!(rt; bytes.len() > 3);
+    let size_at = 152 + 12 * usize::from(bytes[2]);
+    let memory_at = size_at + 4;
+    assert!(rt; memory_at <= bytes.len());
+    let end = memory_at + usize::from(bytes[size_at]);
+    assert!(rt; end <= bytes.len());
+    let mut newer = Vec::new(alloc);
+    repeat(rt, &mut newer, &bytes[..1], 1);
+    repeat(rt, &mut newer, &[2], 1);
+    repeat(rt, &mut newer, &bytes[2..memory_at], 1);
+    put_page(rt, &mut newer, &bytes[memory_at..end]);
+    repeat(rt, &mut newer, &bytes[end..], 1);
+    newer
+}
+
+// Adds a memory of one page as version 2 keeps it: how many pages are kept, and the page behind its index.
+fn put_page(rt: &impl Abort, out: &mut Vec<u8>, memory: &[u8]) {
+    if memory.iter().all(|byte| *byte == 0) {
+        repeat(rt, out, &[0, 0], 1);
+    } else {
+        repeat(rt, out, &[1, 0, 0, 0], 1);
+        repeat(rt, out, memory, 1);
+    }
+}
+
+// The bytes of the checkpoint that these bytes are, in version 2.
+pub fn respelled(rt: &impl Abort, alloc: Global, bytes: &[u8]) -> Vec<u8> {
     spelled(rt, alloc, &checkpoint_of(rt, alloc, bytes))
 }
 
@@ -221,10 +248,10 @@ pub fn assert_bytes(rt: &impl Abort, bytes: &[u8], wanted: &[u8]) {
     assert_same(rt, &bytes, &wanted);
 }
 
-// Bytes of a checkpoint of version 2 spell it; what those of version 1 spell is spelled in version 2 and read again.
+// Bytes of a checkpoint of version 2 spell it; what those of version 1 spell is spelled in version 2.
 fn assert_newer(rt: &impl Abort, alloc: Global, bytes: &[u8], newer: &[u8]) {
     if bytes.get(1) == Some(&1) {
-        assert_bytes(rt, &respelled(rt, alloc, newer), newer);
+        assert_bytes(rt, newer, &in_version_2(rt, alloc, bytes));
     } else {
         assert_bytes(rt, newer, bytes);
     }

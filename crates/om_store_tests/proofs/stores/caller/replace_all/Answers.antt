@@ -9,8 +9,8 @@ use Rattle.std.proofs.lemmas.Option.{same_Some}
 use Rattle.std.proofs.Math.Logic.{⊎_elim}
 use Rattle.om_stable.specs.Content.{Records, IsEffective, IsFree, with_checkpoint, kept_by_cut, kept_by_prune}
 use Rattle.om_stable.proofs.RecordLemmas.{same_records, get-insert_here, get-insert_apart, get-retained}
-use Rattle.om_tests.proofs.stores.caller.replace_all.Given.{Over}
-use Rattle.om_tests.proofs.stores.caller.replace_all.Goals as goal
+use Rattle.om_store_tests.proofs.stores.caller.replace_all.Given.{Over}
+use Rattle.om_store_tests.proofs.stores.caller.replace_all.Goals as goal
 
 twice_retained : (m : Records) (p r : ℕ → Bool) (q : ℕ) → get (retain_keys (retain_keys m p) r) q ≡ cond (r q) (cond (p q) (get m q) None) None
 twice_retained m p r q = get-retained (retain_keys m p) r q ∙ ap (λ o. cond (r q) o None) (get-retained m p q)

@@ -132,6 +132,8 @@ fn open(alloc: Global, bytes: (&[u8], &[u8]), calls: (u64, u64)) -> Option<Conne
 // What is done with a store.
 #[derive(Clone, Copy)]
 enum Task {
+    /// It is made, and nothing is put into it.
+    Make,
     /// It is made and filled.
     Fill,
     /// It is changed.
@@ -152,6 +154,7 @@ struct Outcome {
 fn carry_out<S: Stable>(alloc: Global, store: &mut S, task: Task) -> Outcome {
     let mut held = None;
     let answer = match task {
+        Task::Make => Ok(()),
         Task::Fill => fill(alloc, store),
         Task::Apply(change) => apply(alloc, store, change),
         Task::Look => {
@@ -167,18 +170,23 @@ fn carry_out<S: Stable>(alloc: Global, store: &mut S, task: Task) -> Outcome {
     }
 }
 
-// Makes or takes the store over the connection, and does the task. What the tables lie in is handed back.
+// Makes or takes the store over the connection, and does the task where it could be made or taken. What the tables lie in is
+// handed back.
 #[inline(never)]
 fn done_over<S: Alter + Drop>(
     rt: &impl Abort,
     alloc: Global,
     conn: Connection<S>,
     task: Task,
-) -> Option<(Outcome, S)> {
-    let is_new = matches!(task, Task::Fill);
-    let mut store = store_over(rt, alloc, conn, is_new).ok()?;
-    let outcome = carry_out(alloc, &mut store, task);
-    Some((outcome, handed_back(store)))
+) -> (Option<Outcome>, S) {
+    let is_new = matches!(task, Task::Make | Task::Fill);
+    match store_over(rt, alloc, conn, is_new) {
+        Ok(mut store) => {
+            let outcome = carry_out(alloc, &mut store, task);
+            (Some(outcome), handed_back(store))
+        }
+        Err((_, conn)) => (None, conn.into_store()),
+    }
 }
 
 #[inline(never)]
@@ -199,9 +207,9 @@ fn done(
     bytes: (&[u8], &[u8]),
     calls: (u64, u64),
     task: Task,
-) -> Option<(Outcome, Files<Fuse<Memory>>)> {
+) -> Option<(Option<Outcome>, Files<Fuse<Memory>>)> {
     let conn = open(alloc, bytes, calls)?;
-    let (outcome, store) = done_over(rt, alloc, conn, task)?;
+    let (outcome, store) = done_over(rt, alloc, conn, task);
     Some((outcome, closed(store)))
 }
 
@@ -213,14 +221,14 @@ fn bytes_of(files: &Files<Fuse<Memory>>) -> (&[u8], &[u8]) {
 // The files of a store that was filled without a stop.
 fn filled(rt: &impl Abort, alloc: Global) -> Option<Files<Fuse<Memory>>> {
     let (filled, files) = done(rt, alloc, (&[], &[]), ENDLESS, Task::Fill)?;
-    filled.answer.ok()?;
+    filled?.answer.ok()?;
     Some(files)
 }
 
 // What the files hold, opened and adopted without a stop.
 fn found(rt: &impl Abort, alloc: Global, files: &Files<Fuse<Memory>>) -> Option<Held> {
     let (looked, _files) = done(rt, alloc, bytes_of(files), ENDLESS, Task::Look)?;
-    looked.held
+    looked?.held
 }
 
 // Makes the change with a stop, and looks at what is there afterwards.
@@ -235,6 +243,9 @@ fn run(
     let Some((changed, files)) = done(rt, alloc, bytes_of(start), calls, task) else {
         return Ok(Ended::Early);
     };
+    let Some(changed) = changed else {
+        return Ok(Ended::Early);
+    };
     let left = found(rt, alloc, &files);
     let before = left == Some(expected(alloc, None)?);
     let after = left == Some(expected(alloc, Some(change))?);
@@ -243,6 +254,51 @@ fn run(
         Err(StoreError::Fault) if changed.counted && (before || after) => Ended::Stopped,
         _ => Ended::Torn,
     })
+}
+
+// Makes a store in files that have nothing, with a stop, and looks at what is there afterwards: a store of nothing, or files
+// in which one can be made.
+fn make(rt: &impl Abort, alloc: Global, calls: (u64, u64)) -> Ended {
+    let Some((made, files)) = done(rt, alloc, (&[], &[]), calls, Task::Make) else {
+        return Ended::Early;
+    };
+    let is_there = holds_nothing(rt, alloc, &files);
+    let again = done(rt, alloc, bytes_of(&files), ENDLESS, Task::Make);
+    let can_be_made = matches!(again, Some((Some(_), _)));
+    match made {
+        Some(_) if is_there && !can_be_made => Ended::Done,
+        None if is_there != can_be_made => Ended::Stopped,
+        _ => Ended::Torn,
+    }
+}
+
+fn holds_nothing(rt: &impl Abort, alloc: Global, files: &Files<Fuse<Memory>>) -> bool {
+    match found(rt, alloc, files) {
+        Some(held) => held.receipts.is_empty() && held.checkpoints.is_empty(),
+        None => false,
+    }
+}
+
+// The calls of both files before a stop, of which one has so many.
+fn calls_of(which: Which, calls: u64) -> (u64, u64) {
+    match which {
+        Which::Log => (calls, u64::MAX),
+        Which::Database => (u64::MAX, calls),
+    }
+}
+
+// Stops at each call of one file in turn as a store is made, until one is made: how many stops fell into it.
+fn stops_of_making(rt: &impl Abort, alloc: Global, which: Which) -> u64 {
+    let mut stopped = 0;
+    for calls in 0..200u64 {
+        match make(rt, alloc, calls_of(which, calls)) {
+            Ended::Early => {}
+            Ended::Stopped => stopped = u64::saturating_add(stopped, 1),
+            Ended::Done => return stopped,
+            Ended::Torn => panic!(rt; "torn at {calls}"),
+        }
+    }
+    panic!(rt; "each making was stopped");
 }
 
 // The log takes each change first, so it is there that some stops fall into it.
@@ -258,11 +314,7 @@ fn stops(rt: &impl Abort, alloc: Global, change: Change, which: Which) -> u64 {
     let start = filled(rt, alloc).expect(rt, "files without a stop");
     let mut stopped = 0;
     for calls in 0..200u64 {
-        let calls = match which {
-            Which::Log => (calls, u64::MAX),
-            Which::Database => (u64::MAX, calls),
-        };
-        match run(rt, alloc, &start, change, calls) {
+        match run(rt, alloc, &start, change, calls_of(which, calls)) {
             Ok(Ended::Early) => {}
             Ok(Ended::Stopped) => stopped = u64::saturating_add(stopped, 1),
             Ok(Ended::Done) => return stopped,
@@ -270,6 +322,15 @@ fn stops(rt: &impl Abort, alloc: Global, change: Change, which: Which) -> u64 {
         }
     }
     panic!(rt; "each run was stopped");
+}
+
+// The tables of a store are both made, or neither is.
+#[test]
+fn making_stops(rt: HostRuntime) {
+    let in_log = stops_of_making(&rt, rt.alloc(), Which::Log);
+    let in_database = stops_of_making(&rt, rt.alloc(), Which::Database);
+    assert!(rt; 0 < in_log);
+    assert!(rt; in_database <= in_log);
 }
 
 #[test]
