@@ -144,7 +144,10 @@ fn number_of(fault: Option<DecodeError>) -> u32 {
         Some(DecodeError::Kind) => 2,
         Some(DecodeError::Version) => 3,
         Some(DecodeError::Trailing) => 4,
-        Some(DecodeError::Field(offset)) => (offset as u32).wrapping_add(5),
+        Some(DecodeError::Field(offset)) => match u32::try_from(offset) {
+            Ok(offset) => offset.wrapping_add(5),
+            Err(_) => u32::MAX,
+        },
         Some(DecodeError::Memory) => u32::MAX,
     }
 }
