@@ -1,8 +1,8 @@
 //! The space-time picture of a run: what each event showed, where that stands, and its text.
 #![tactic(auto)]
 
-pub use picture::Picture;
 pub use ending::Drawn;
+pub use picture::Picture;
 pub use sheet::Sheet;
 pub use step::{Label, Standing, Step};
 pub use text::picture_text;

@@ -13,14 +13,23 @@ use std::alloc::AllocError;
 
 // The widths of columns.
 const RUN: u32 = 20;
+
 const RECEIPT: u32 = 24;
+
 const REFUSED: u32 = 16;
+
 const FLUSH: u32 = 14;
+
 const CHECKPOINT: u32 = 18;
+
 const FAILURE: u32 = 22;
+
 const JOIN: u32 = 14;
+
 const BACK: u32 = 28;
+
 const GOES_ON: u32 = 14;
+
 const RESEND: u32 = 18;
 
 // The longest way of a refused message.
@@ -115,7 +124,12 @@ impl Picture {
         }
     }
 
-    pub(crate) fn draw_resend(&mut self, p: usize, step: &Step, sent: usize) -> Result<(), AllocError> {
+    pub(crate) fn draw_resend(
+        &mut self,
+        p: usize,
+        step: &Step,
+        sent: usize,
+    ) -> Result<(), AllocError> {
         let x = self.column(RESEND, step.line, p, NOTHING)?;
         let frames = self.make(x, self.lane_at(p).number, step, true)?;
         let outputs = numbers(0, 0);
@@ -209,7 +223,10 @@ impl Picture {
     // The way of a refused message; of one that was sent long ago, the end alone.
     fn trail(&mut self, frame: Frame, to: Spot) -> Result<(), AllocError> {
         let x = or_left(frame.x, self.left);
-        let from = Spot { x, lane: frame.from };
+        let from = Spot {
+            x,
+            lane: frame.from,
+        };
         let way = if to.x.saturating_sub(x) <= TRAIL {
             Way::Trail { from, to }
         } else {

@@ -142,12 +142,7 @@ impl Picture {
             .saturating_mul(CHARACTER);
         let what = What::Number(u64::from(interval));
         self.say(Style::Plain, x, y.saturating_sub(5), what)?;
-        self.say(
-            Style::Small,
-            x,
-            y.saturating_add(20),
-            What::Inc(lane.inc),
-        )?;
+        self.say(Style::Small, x, y.saturating_add(20), What::Inc(lane.inc))?;
         if let Some(lane) = self.lanes.get_mut(p) {
             lane.beside = x.saturating_add(number).saturating_add(4);
             lane.below = x.saturating_add(inc).saturating_add(4);
@@ -165,11 +160,21 @@ impl Picture {
 
     // The recovery state, if it changed.
     pub(crate) fn changed(&self, is_changed: bool) -> Option<DepVec> {
-        if is_changed { Some(self.recovery) } else { None }
+        if is_changed {
+            Some(self.recovery)
+        } else {
+            None
+        }
     }
 
     // Adds a word.
-    pub(crate) fn say(&mut self, style: Style, x: u32, y: u32, what: What) -> Result<(), AllocError> {
+    pub(crate) fn say(
+        &mut self,
+        style: Style,
+        x: u32,
+        y: u32,
+        what: What,
+    ) -> Result<(), AllocError> {
         self.sheet.text.push(Word { style, x, y, what })?;
         Ok(())
     }

@@ -56,7 +56,13 @@ impl Picture {
             Some(mark) => {
                 let at = or_left(mark.x, self.left);
                 self.stretch_up(&lane, at)?;
-                add_stretch(&mut self.sheet.road, Stretch::Cut, lane.number, at, lane.stop)?;
+                add_stretch(
+                    &mut self.sheet.road,
+                    Stretch::Cut,
+                    lane.number,
+                    at,
+                    lane.stop,
+                )?;
                 before(&mark, self.left)
             }
             None => {

@@ -37,7 +37,13 @@ impl Picture {
         }
     }
 
-    fn settled(&mut self, form: Form, lane: u32, mark: &Mark, fate: Fate) -> Result<(), AllocError> {
+    fn settled(
+        &mut self,
+        form: Form,
+        lane: u32,
+        mark: &Mark,
+        fate: Fate,
+    ) -> Result<(), AllocError> {
         self.add_shape(&Shape {
             form,
             cut: fate.cut,

@@ -197,10 +197,7 @@ fn push_short(text: &mut String, below: bool, to: Spot) -> Result<(), AllocError
     let y = height(to.lane);
     let start = u64::from(x).saturating_sub(12);
     let side = if below { y + 16 } else { y - 16 };
-    write!(
-        text,
-        "<path class=\"o\" d=\"M{start} {side}L{x} {y}\"/>\n"
-    )
+    write!(text, "<path class=\"o\" d=\"M{start} {side}L{x} {y}\"/>\n")
 }
 
 fn push_held(text: &mut String, from: u32, to: Spot) -> Result<(), AllocError>

@@ -59,13 +59,25 @@ pub enum Way {
         to: Spot,
     },
     /// A message that was refused, from its sending.
-    Trail { from: Spot, to: Spot },
+    Trail {
+        from: Spot,
+        to: Spot,
+    },
     /// The end of one that was sent long ago.
-    Short { below: bool, to: Spot },
+    Short {
+        below: bool,
+        to: Spot,
+    },
     /// From an output that was held to its release.
-    Held { from: u32, to: Spot },
+    Held {
+        from: u32,
+        to: Spot,
+    },
     /// A message that was never given.
-    Stub { below: bool, from: Spot },
+    Stub {
+        below: bool,
+        from: Spot,
+    },
 }
 
 /// A place on a lane.
@@ -134,7 +146,10 @@ pub struct Title {
 #[derive(Clone, Copy)]
 pub enum More {
     Nothing,
-    Made { outputs: Numbers, frames: Numbers },
+    Made {
+        outputs: Numbers,
+        frames: Numbers,
+    },
     Interval(u32),
     /// The recovery state, where it changed.
     Released(Option<DepVec>),

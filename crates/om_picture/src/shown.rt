@@ -19,19 +19,31 @@ pub enum Shown {
         ends: Option<Status>,
     },
     /// The messages that it keeps were sent again.
-    Resend { sent: usize },
+    Resend {
+        sent: usize,
+    },
     /// The frame was taken, and the interval began.
-    Receipt { frame: usize, interval: u32 },
+    Receipt {
+        frame: usize,
+        interval: u32,
+    },
     /// The frame was not taken.
-    Refused { frame: usize },
+    Refused {
+        frame: usize,
+    },
     /// What was received is stored.
     Flush,
     Checkpoint,
     /// The process failed; declared, a gathering is open.
-    Failure { declared: bool },
+    Failure {
+        declared: bool,
+    },
     Join,
     /// The process is back in this interval and incarnation.
-    Back { interval: u32, inc: u32 },
+    Back {
+        interval: u32,
+        inc: u32,
+    },
     GoesOn,
 }
 
@@ -56,7 +68,10 @@ fn run_shown(answer: Answer, ended: bool) -> Shown
     ensures { result ≡ run_shown ended answer }
 {
     let Answer::Ran {
-        status, sent, made, ..
+        status,
+        sent,
+        made,
+        ..
     } = answer
     else {
         return Shown::Nothing;

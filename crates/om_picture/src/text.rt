@@ -94,11 +94,7 @@ fn key() -> &'static str
 
 /// The text of a picture.
 #[tactic(auto, unfolding(crate::specs::PictureText::picture_text))]
-pub fn picture_text(
-    alloc: Global,
-    programs: &Programs,
-    drawn: &Drawn,
-) -> Result<String, AllocError>
+pub fn picture_text(alloc: Global, programs: &Programs, drawn: &Drawn) -> Result<String, AllocError>
     ensures { IfOk result (λ text. string_bytes text ≡ picture_text programs.now drawn.now) }
 {
     let mut text = String::new(alloc);

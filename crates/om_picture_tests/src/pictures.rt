@@ -311,29 +311,54 @@ give 0 5
 #[test]
 fn table(rt: HostRuntime) {
     let digest = digest_of(&rt, rt.alloc(), TABLE, WHOLE);
-    assert_eq!(rt; digest, [30, 26, 209, 126, 79, 158, 146, 193, 65, 139, 114, 91, 99, 26, 106, 60]);
+    assert_eq!(rt;
+        digest,
+        [
+            30, 26, 209, 126, 79, 158, 146, 193, 65, 139, 114, 91, 99, 26, 106, 60
+        ]
+    );
 }
 
 #[test]
 fn three_failures(rt: HostRuntime) {
     let digest = digest_of(&rt, rt.alloc(), THREE_FAILURES, WHOLE);
-    assert_eq!(rt; digest, [220, 167, 63, 90, 81, 103, 190, 219, 247, 195, 235, 45, 123, 205, 54, 196]);
+    assert_eq!(rt;
+        digest,
+        [
+            220, 167, 63, 90, 81, 103, 190, 219, 247, 195, 235, 45, 123, 205, 54, 196
+        ]
+    );
 }
 
 #[test]
 fn every_answer(rt: HostRuntime) {
     let digest = digest_of(&rt, rt.alloc(), EVERY_ANSWER, WHOLE);
-    assert_eq!(rt; digest, [33, 95, 157, 189, 165, 112, 55, 230, 78, 19, 203, 66, 71, 57, 251, 65]);
+    assert_eq!(rt;
+        digest,
+        [
+            33, 95, 157, 189, 165, 112, 55, 230, 78, 19, 203, 66, 71, 57, 251, 65
+        ]
+    );
 }
 
 #[test]
 fn lost_again(rt: HostRuntime) {
     let digest = digest_of(&rt, rt.alloc(), LOST_AGAIN, WHOLE);
-    assert_eq!(rt; digest, [159, 159, 8, 146, 185, 119, 216, 250, 91, 70, 226, 231, 104, 35, 10, 239]);
+    assert_eq!(rt;
+        digest,
+        [
+            159, 159, 8, 146, 185, 119, 216, 250, 91, 70, 226, 231, 104, 35, 10, 239
+        ]
+    );
 }
 
 #[test]
 fn sent_again(rt: HostRuntime) {
     let digest = digest_of(&rt, rt.alloc(), SENT_AGAIN, WHOLE);
-    assert_eq!(rt; digest, [69, 51, 210, 123, 148, 197, 61, 145, 67, 118, 16, 245, 13, 113, 62, 164]);
+    assert_eq!(rt;
+        digest,
+        [
+            69, 51, 210, 123, 148, 197, 61, 145, 67, 118, 16, 245, 13, 113, 62, 164
+        ]
+    );
 }
