@@ -66,14 +66,13 @@ ground_text drawn =
 unfoldable pub open_text : Drawn → List ℕ
 open_text drawn = size_text drawn ++ view_text drawn ++ summary_text drawn ++ codes "</title>\n" ++ style_text ++ ground_text drawn
 
--- the layers, each before the next
+-- the layers below the marks, each before the next
 unfoldable pub layers_text : ℕ → Sheet → List ℕ
 layers_text bottom sheet =
     flat_map (band_text bottom) sheet.back.items
     ++ flat_map road_text sheet.road.items
     ++ flat_map way_text sheet.send.items
     ++ flat_map crossing_text sheet.line.items
-    ++ flat_map shape_text sheet.mark.items
 
 -- the two lines of the head
 unfoldable pub head_text : Drawn → List ℕ
@@ -90,5 +89,5 @@ legend_text drawn = moved_text drawn.legend ++ key_text ++ codes "</g>\n</svg>\n
 -- the picture of processes of these names: its pieces by layer, each in the order in which it was drawn
 unfoldable pub picture_text : Cluster → Drawn → List ℕ
 picture_text cluster drawn =
-    open_text drawn ++ layers_text drawn.bottom drawn.sheet ++ head_text drawn
+    open_text drawn ++ layers_text drawn.bottom drawn.sheet ++ flat_map shape_text drawn.marks.items ++ head_text drawn
     ++ flat_map (word_text cluster) drawn.sheet.text.items ++ legend_text drawn

@@ -1,16 +1,16 @@
 //! Columns: each event that shows something has one.
 
-use crate::lane::{Wanted, lane_y};
+use crate::lane::Wanted;
 use crate::measure::digits;
-use crate::picture::{AGAIN, Picture};
+use crate::page::{AGAIN, Page};
 use crate::sheet::{Road, Style, What};
 use std::alloc::AllocError;
 
-// The height of the numbers of lines.
+/// The height of the numbers of lines.
 pub(crate) const AXIS: u32 = 54;
 
-impl Picture {
-    // The middle of the next column, with room for the words of an event of a process; 0 before the window.
+impl Page {
+    /// The middle of the next column, with room for the words of an event of a process; 0 before the window.
     pub(crate) fn column(
         &mut self,
         width: u32,
@@ -61,10 +61,7 @@ impl Picture {
 
     fn names_at(&mut self, x: u32) -> Result<(), AllocError> {
         for p in 0..self.lanes.len() {
-            let Some(lane) = self.lanes.get(p).copied() else {
-                return Ok(());
-            };
-            let y = lane_y(lane.number).saturating_add(32);
+            let y = self.y(p).saturating_add(32);
             self.say(Style::Grey, x, y, What::Name(p))?;
         }
         Ok(())

@@ -3,14 +3,16 @@
 use crate::column::AXIS;
 use crate::counts::Counts;
 use crate::frame::Frame;
-use crate::lane::{Stand, add_stretch, lane_y};
+use crate::lane::{Stand, lane_y};
 use crate::measure::{CHARACTER, digits, standing_length};
+use crate::page::{Page, count_of};
 use crate::picture::Picture;
-use crate::rounds::{before, count_of};
-use crate::settle::Fate;
-use crate::sheet::{Crossed, Crossing, Sheet, Spot, Style, Way, What};
+use crate::rounds::before;
+use crate::settle::{Fate, place_of};
+use crate::sheet::{Crossed, Crossing, Shape, Sheet, Spot, Style, Way, What};
 use crate::shown::Shown;
 use crate::step::Standing;
+use om_interval::DepVec;
 use std::alloc::{AllocError, Global};
 
 // The least width: that of the legend.
@@ -20,6 +22,7 @@ const LEAST: u32 = 880;
 #[derive(Drop)]
 pub struct Drawn {
     pub sheet: Sheet,
+    pub marks: Vec<Shape>,
     pub counts: Counts,
     pub width: u32,
     pub height: u32,
@@ -47,51 +50,22 @@ fn group_of(frame: &Frame) -> Group {
     }
 }
 
-impl Picture {
-    /// The whole picture, where the processes stand so in the end, and their names have so many characters.
-    pub fn end(
-        self,
-        alloc: Global,
-        standings: &[Option<Standing>],
-        lengths: &[u32],
-    ) -> Result<Drawn, AllocError> {
-        let mut picture = self;
-        let right = picture.right();
-        if let Some(opened) = picture.opened
-            && picture.on
-        {
-            picture.band(opened, right, What::Gathering)?;
-        }
-        let mut places = Vec::new(alloc);
-        for p in 0..picture.lanes.len() {
-            let x = picture.end_lane(p, right)?;
-            let lane = picture.number(p);
-            places.push(Spot { x, lane })?;
-            picture.tell_end(p, right, standings)?;
-        }
-        let kind = Crossed::End(picture.recovery);
-        picture.sheet.line.push(Crossing { places, kind })?;
-        picture.stubs()?;
-        picture.name_lanes()?;
-        let longest = picture.longest(standings, lengths);
-        Ok(picture.drawn(right, longest))
+// The characters of the longest word behind the lanes.
+fn longest(recovery: DepVec, standings: &[Option<Standing>], lengths: &[u32]) -> u32 {
+    let mut longest = 0;
+    for length in lengths {
+        longest = longest.max(*length);
     }
-
-    fn drawn(self, right: u32, longest: u32) -> Drawn {
-        let words = longest.saturating_mul(CHARACTER);
-        let width = right.saturating_add(24).saturating_add(words).max(LEAST);
-        let bottom = self.bottom();
-        Drawn {
-            lanes: count_of(self.lanes.len()),
-            bottom,
-            legend: bottom.saturating_add(46),
-            height: bottom.saturating_add(168),
-            counts: self.counts,
-            width,
-            sheet: self.sheet,
-        }
+    for standing in standings {
+        longest = longest.max(standing_length(*standing));
     }
+    for place in recovery.as_slice() {
+        longest = longest.max(digits(u64::from(*place)).saturating_add(9));
+    }
+    longest
+}
 
+impl Page {
     // The right side of the lanes.
     fn right(&self) -> u32 {
         let mut right = self.cur;
@@ -101,62 +75,39 @@ impl Picture {
         right.saturating_add(16)
     }
 
-    // Draws what is left of a lane: the place of the last line.
-    fn end_lane(&mut self, p: usize, right: u32) -> Result<u32, AllocError> {
-        let (Some(lane), Some(history)) = (self.lanes.get(p).copied(), self.histories.get(p)) else {
-            return Ok(right);
-        };
-        let place = match history.first() {
-            Some(mark) => before(&mark, self.left),
-            None => right,
-        };
-        let is_up = lane.stand == Stand::Up;
-        self.stretch_up(&lane, if is_up { right } else { lane.stop })?;
-        if !is_up {
-            let road = &mut self.sheet.road;
-            add_stretch(road, lane.away(), lane.number, lane.wait, right)?;
+    // Draws the band of a gathering that is open.
+    fn end_band(&mut self, right: u32) -> Result<(), AllocError> {
+        match self.opened {
+            Some(opened) if self.on => self.band(opened, right, What::Gathering),
+            _ => Ok(()),
         }
-        self.end_marks(p, lane.number)?;
-        Ok(place)
     }
 
-    // Draws the marks that are left of a lane as they stand.
-    fn end_marks(&mut self, p: usize, lane: u32) -> Result<(), AllocError> {
-        let Some(history) = self.histories.get(p) else {
-            return Ok(());
-        };
-        let stored = history.stored;
-        let from = history.settled;
-        let to = history.marks.len();
-        for k in from..to {
-            self.end_mark(p, k, lane, stored)?;
+    // Draws what is left of a lane whose first mark that is not covered stands here: the place of the last line.
+    fn end_road(&mut self, p: usize, first: Option<u32>, right: u32) -> Result<u32, AllocError> {
+        let lane = self.lane_at(p);
+        if lane.stand == Stand::Up {
+            self.stretch_up(&lane, right)?;
+        } else {
+            self.stretch_up(&lane, lane.stop)?;
+            self.stretch(lane.away(), &lane, lane.wait, right)?;
         }
-        Ok(())
-    }
-
-    fn end_mark(&mut self, p: usize, k: usize, lane: u32, stored: u32) -> Result<(), AllocError> {
-        let Some(mark) = self.mark_at(p, k) else {
-            return Ok(());
-        };
-        let is_receipt = matches!(mark.shown, Shown::Receipt { .. });
-        let fate = Fate {
-            cut: false,
-            safe: is_receipt && mark.interval <= stored,
-        };
-        self.settle(lane, &mark, fate)
+        match first {
+            Some(x) => Ok(before(x, self.left)),
+            None => Ok(right),
+        }
     }
 
     // The words behind a lane: its name, its state and its place in the recovery state.
-    fn tell_end(
+    fn tell_lane(
         &mut self,
         p: usize,
         right: u32,
-        standings: &[Option<Standing>],
+        standing: Option<Standing>,
+        place: u32,
     ) -> Result<(), AllocError> {
         let x = right.saturating_add(12);
-        let y = lane_y(self.number(p));
-        let standing = standings.get(p).copied().unwrap_or(None);
-        let place = self.recovery.as_slice().get(p).copied().unwrap_or(0);
+        let y = self.y(p);
         self.say(Style::Plain, x, y.saturating_sub(9), What::Name(p))?;
         let beside = y.saturating_add(3);
         self.say(Style::Small, x, beside, What::Standing(standing))?;
@@ -166,26 +117,11 @@ impl Picture {
     // The words before the lanes.
     fn name_lanes(&mut self) -> Result<(), AllocError> {
         for p in 0..self.lanes.len() {
-            let y = lane_y(self.number(p));
+            let y = self.y(p);
             self.say(Style::Plain, 16, y, What::Name(p))?;
             self.say(Style::Grey, 16, y.saturating_add(12), What::Program(p))?;
         }
         self.say(Style::Grey, 16, AXIS, What::Line)
-    }
-
-    // The characters of the longest word behind the lanes.
-    fn longest(&self, standings: &[Option<Standing>], lengths: &[u32]) -> u32 {
-        let mut longest = 0;
-        for length in lengths {
-            longest = longest.max(*length);
-        }
-        for standing in standings {
-            longest = longest.max(standing_length(*standing));
-        }
-        for place in self.recovery.as_slice() {
-            longest = longest.max(digits(u64::from(*place)).saturating_add(9));
-        }
-        longest
     }
 
     // A stub for the frames of an event to one receiver that were never given.
@@ -239,5 +175,98 @@ impl Picture {
         };
         let x = group.x.saturating_add(12);
         self.say(Style::Grey, x, y, What::Number(group.few))
+    }
+}
+
+impl Picture {
+    /// The whole picture, where the processes stand so in the end, and their names have so many characters.
+    pub fn end(
+        self,
+        alloc: Global,
+        standings: &[Option<Standing>],
+        lengths: &[u32],
+    ) -> Result<Drawn, AllocError> {
+        let mut picture = self;
+        let right = picture.page.right();
+        picture.page.end_band(right)?;
+        picture.end_lanes(alloc, right, standings)?;
+        picture.page.stubs()?;
+        picture.page.name_lanes()?;
+        let longest = longest(picture.recovery, standings, lengths);
+        Ok(picture.drawn(right, longest))
+    }
+
+    // Draws what is left of each lane, and the last line.
+    fn end_lanes(
+        &mut self,
+        alloc: Global,
+        right: u32,
+        standings: &[Option<Standing>],
+    ) -> Result<(), AllocError> {
+        let recovery = self.recovery;
+        let mut places = Vec::new(alloc);
+        for p in 0..self.histories.len() {
+            let x = self.end_lane(p, right)?;
+            places.push(self.page.spot(p, x))?;
+            let standing = standings.get(p).copied().unwrap_or(None);
+            let place = place_of(recovery, p);
+            self.page.tell_lane(p, right, standing, place)?;
+        }
+        let kind = Crossed::End(recovery);
+        self.page.sheet.line.push(Crossing { places, kind })?;
+        Ok(())
+    }
+
+    fn drawn(self, right: u32, longest: u32) -> Drawn {
+        let words = longest.saturating_mul(CHARACTER);
+        let width = right.saturating_add(24).saturating_add(words).max(LEAST);
+        let bottom = self.page.bottom();
+        Drawn {
+            lanes: count_of(self.page.lanes.len()),
+            bottom,
+            legend: bottom.saturating_add(46),
+            height: bottom.saturating_add(168),
+            counts: self.page.counts,
+            width,
+            sheet: self.page.sheet,
+            marks: self.marks,
+        }
+    }
+
+    // Draws what is left of a lane: the place of the last line.
+    fn end_lane(&mut self, p: usize, right: u32) -> Result<u32, AllocError> {
+        let Some(history) = self.histories.get(p) else {
+            return Ok(right);
+        };
+        let place = self.page.end_road(p, history.first(), right)?;
+        self.end_marks(p)?;
+        Ok(place)
+    }
+
+    // Draws the marks that are left of a lane as they stand.
+    fn end_marks(&mut self, p: usize) -> Result<(), AllocError> {
+        let Some(history) = self.histories.get(p) else {
+            return Ok(());
+        };
+        let stored = history.stored;
+        let from = history.settled;
+        let to = history.marks.len();
+        for k in from..to {
+            self.end_mark(p, k, stored)?;
+        }
+        self.pass(p, to);
+        Ok(())
+    }
+
+    fn end_mark(&mut self, p: usize, k: usize, stored: u32) -> Result<(), AllocError> {
+        let Some(mark) = self.mark_at(p, k) else {
+            return Ok(());
+        };
+        let is_receipt = matches!(mark.shown, Shown::Receipt { .. });
+        let fate = Fate {
+            cut: false,
+            safe: is_receipt && mark.interval <= stored,
+        };
+        self.settle(p, &mark, fate)
     }
 }

@@ -34,7 +34,7 @@ pub struct History {
 }
 
 impl History {
-    pub fn new(alloc: Global) -> History {
+    pub(crate) fn new(alloc: Global) -> History {
         History {
             interval: 0,
             stored: 0,
@@ -45,24 +45,19 @@ impl History {
     }
 
     /// Adds a mark.
-    pub fn add(&mut self, mark: &Mark) -> Result<(), AllocError> {
+    pub(crate) fn add(&mut self, mark: &Mark) -> Result<(), AllocError> {
         self.marks.extend_from_slice(slice::from_ref(mark))
     }
 
-    /// All receipts are stored.
-    pub fn store(&mut self) {
-        self.stored = self.interval;
-    }
-
     /// The process is back in an interval.
-    pub fn go_back(&mut self, interval: u32) {
+    pub(crate) fn go_back(&mut self, interval: u32) {
         self.ended = false;
         self.interval = interval;
         self.stored = interval;
     }
 
     /// How many marks are settled once the recovery state has this interval: all up to the first mark beyond it.
-    pub fn covered(&self, place: u32) -> usize {
+    pub(crate) fn covered(&self, place: u32) -> usize {
         let mut count = self.settled;
         for k in self.settled..self.marks.len() {
             if self.marks[k].interval > place {
@@ -73,8 +68,8 @@ impl History {
         count
     }
 
-    /// The first mark that is not settled.
-    pub fn first(&self) -> Option<Mark> {
-        self.marks.get(self.settled).copied()
+    /// The place of the first mark that is not settled.
+    pub(crate) fn first(&self) -> Option<u32> {
+        Some(self.marks.get(self.settled)?.x)
     }
 }

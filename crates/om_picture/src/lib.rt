@@ -16,6 +16,7 @@ mod history;
 mod lane;
 mod measure;
 mod own;
+mod page;
 mod picture;
 pub mod reading;
 mod rounds;

@@ -1,43 +1,25 @@
 //! A picture that is drawn event by event.
 
-use crate::counts::Counts;
-use crate::frame::Frame;
 use crate::history::{History, Mark};
-use crate::lane::{Lane, Stand};
-use crate::measure::{CHARACTER, digits};
-use crate::sheet::{Form, More, Shape, Sheet, Spot, Style, Title, What, Word};
+use crate::page::Page;
+use crate::sheet::{Form, More, Shape, Title};
 use crate::shown::{Shown, is_finished, shown_of};
 use crate::step::{Step, process_of};
 use om_interval::DepVec;
 use std::alloc::{AllocError, Global};
 use std::slice;
 
-/// How far apart the names of the lanes are told again.
-pub const AGAIN: u32 = 1200;
-
-/// What has been drawn, and where the next mark may stand.
+/// What has been drawn, and what is known of the marks that are drawn later.
 #[derive(Drop)]
 pub struct Picture {
-    // The first line of the window, and whether it is reached.
+    // The first line of the window.
     pub(crate) first: usize,
-    pub(crate) on: bool,
-    // The left side, the right side of the last column, and its middle.
-    pub(crate) left: u32,
-    pub(crate) cur: u32,
-    pub(crate) x: u32,
-    // Where the next number of a line may begin, the next text of a state, and the next names.
-    pub(crate) axis: u32,
-    pub(crate) foot: u32,
-    pub(crate) again: u32,
-    // The rounds that are finished, and where the open gathering began.
-    pub(crate) round: u32,
-    pub(crate) opened: Option<u32>,
     pub(crate) recovery: DepVec,
-    pub(crate) lanes: Vec<Lane>,
+    pub(crate) page: Page,
+    // The marks whose fate is known.
+    pub(crate) marks: Vec<Shape>,
+    // Those of each lane, in order.
     pub(crate) histories: Vec<History>,
-    pub(crate) frames: Vec<Frame>,
-    pub(crate) counts: Counts,
-    pub(crate) sheet: Sheet,
 }
 
 impl Picture {
@@ -48,51 +30,43 @@ impl Picture {
         longest: u32,
         first: usize,
     ) -> Result<Picture, AllocError> {
-        let left = longest.saturating_mul(7).saturating_add(24).max(56);
-        let mut lanes = Vec::new(alloc);
         let mut histories = Vec::new(alloc);
-        let mut number: u32 = 0;
         for _ in 0..recovery.n() {
-            lanes.push(Lane::new(number, left))?;
             histories.push(History::new(alloc))?;
-            number = number.saturating_add(1);
         }
         Ok(Picture {
             first,
-            on: false,
-            left,
-            cur: left,
-            x: left,
-            axis: 0,
-            foot: 0,
-            again: left.saturating_add(AGAIN),
-            round: 0,
-            opened: None,
             recovery,
-            lanes,
+            page: Page::new(alloc, recovery.n(), longest)?,
+            marks: Vec::new(alloc),
             histories,
-            frames: Vec::new(alloc),
-            counts: Counts::new(),
-            sheet: empty_sheet(alloc),
         })
     }
 
     /// Draws what an event showed.
     pub fn draw(&mut self, alloc: Global, step: &Step) -> Result<(), AllocError> {
-        if step.line >= self.first && !self.on {
-            self.begin()?;
-        }
-        if self.on {
-            self.counts.events = self.counts.events.saturating_add(1);
-        }
+        self.begin(step.line)?;
         if let Some(p) = process_of(step.event) {
             self.draw_own(p, step)?;
         }
-        let changed = step.recovery != self.recovery;
-        self.recovery = step.recovery;
+        let changed = self.change(step.recovery);
         self.keep(step, changed)?;
         if is_finished(step.answer) {
             self.finish(alloc, step, changed)?;
+        }
+        Ok(())
+    }
+
+    // The event of a line is counted; with the first line of the window, the picture begins.
+    fn begin(&mut self, line: usize) -> Result<(), AllocError> {
+        if line >= self.first && !self.page.on {
+            self.page.on = true;
+            for p in 0..self.histories.len() {
+                self.page.begin_lane(p, self.interval(p))?;
+            }
+        }
+        if self.page.on {
+            self.page.counts.add_event();
         }
         Ok(())
     }
@@ -117,37 +91,11 @@ impl Picture {
         }
     }
 
-    // The window begins: how each lane stands, where that is not the start.
-    fn begin(&mut self) -> Result<(), AllocError> {
-        self.on = true;
-        for p in 0..self.lanes.len() {
-            self.begin_lane(p)?;
-        }
-        Ok(())
-    }
-
-    fn begin_lane(&mut self, p: usize) -> Result<(), AllocError> {
-        let Some(lane) = self.lanes.get(p).copied() else {
-            return Ok(());
-        };
-        let interval = self.interval(p);
-        if lane.stand == Stand::Down || (lane.inc == 0 && interval == 0) {
-            return Ok(());
-        }
-        let x = self.left.saturating_add(2);
-        let y = lane.y();
-        let number = digits(u64::from(interval)).saturating_mul(CHARACTER);
-        let inc = digits(u64::from(lane.inc))
-            .saturating_add(4)
-            .saturating_mul(CHARACTER);
-        let what = What::Number(u64::from(interval));
-        self.say(Style::Plain, x, y.saturating_sub(5), what)?;
-        self.say(Style::Small, x, y.saturating_add(20), What::Inc(lane.inc))?;
-        if let Some(lane) = self.lanes.get_mut(p) {
-            lane.beside = x.saturating_add(number).saturating_add(4);
-            lane.below = x.saturating_add(inc).saturating_add(4);
-        }
-        Ok(())
+    // The recovery state is this one from now on: it, if it was another.
+    fn change(&mut self, recovery: DepVec) -> Option<DepVec> {
+        let is_changed = recovery != self.recovery;
+        self.recovery = recovery;
+        if is_changed { Some(recovery) } else { None }
     }
 
     // The interval of a process.
@@ -158,57 +106,90 @@ impl Picture {
         }
     }
 
-    // The recovery state, if it changed.
-    pub(crate) fn changed(&self, is_changed: bool) -> Option<DepVec> {
-        if is_changed {
-            Some(self.recovery)
-        } else {
-            None
-        }
-    }
-
-    // Adds a word.
-    pub(crate) fn say(
-        &mut self,
-        style: Style,
-        x: u32,
-        y: u32,
-        what: What,
-    ) -> Result<(), AllocError> {
-        self.sheet.text.push(Word { style, x, y, what })?;
-        Ok(())
-    }
-
     // Adds the mark of an event that is not settled later, within the window.
     pub(crate) fn shape(
         &mut self,
         form: Form,
+        p: usize,
         x: u32,
-        lane: u32,
-        title: Title,
+        step: &Step,
     ) -> Result<(), AllocError> {
-        if !self.on {
+        if !self.page.on {
             return Ok(());
         }
         self.add_shape(&Shape {
             form,
             cut: false,
-            at: Spot { x, lane },
-            title,
+            at: self.page.spot(p, x),
+            title: title_of(step, More::Nothing),
         })
     }
 
     // Adds a mark whose fate is known.
     pub(crate) fn add_shape(&mut self, shape: &Shape) -> Result<(), AllocError> {
-        self.sheet.mark.extend_from_slice(slice::from_ref(shape))
+        self.marks.extend_from_slice(slice::from_ref(shape))
     }
 
     // Adds a mark that is settled later.
-    pub(crate) fn mark(&mut self, p: usize, mark: &Mark) -> Result<(), AllocError> {
+    pub(crate) fn wait(
+        &mut self,
+        p: usize,
+        step: &Step,
+        x: u32,
+        shown: Shown,
+        more: More,
+    ) -> Result<(), AllocError> {
+        let mark = Mark {
+            x,
+            interval: self.interval(p),
+            shown,
+            fresh: step.fresh,
+            label: step.label,
+            title: title_of(step, more),
+        };
         match self.histories.get_mut(p) {
-            Some(history) => history.add(mark),
+            Some(history) => history.add(&mark),
             None => Ok(()),
         }
+    }
+
+    // The program of a process came to its end.
+    pub(crate) fn program_ended(&mut self, p: usize) {
+        if let Some(history) = self.histories.get_mut(p) {
+            history.ended = true;
+        }
+    }
+
+    // An interval of a process began.
+    pub(crate) fn receive(&mut self, p: usize, interval: u32) {
+        if let Some(history) = self.histories.get_mut(p) {
+            history.interval = interval;
+        }
+    }
+
+    // All receipts of a process are stored.
+    pub(crate) fn store(&mut self, p: usize) {
+        if let Some(history) = self.histories.get_mut(p) {
+            history.stored = history.interval;
+        }
+    }
+
+    // A process is back in an interval.
+    pub(crate) fn go_back(&mut self, p: usize, interval: u32) {
+        if let Some(history) = self.histories.get_mut(p) {
+            history.go_back(interval);
+        }
+    }
+
+    // So many marks of a lane are settled.
+    pub(crate) fn pass(&mut self, p: usize, settled: usize) {
+        if let Some(history) = self.histories.get_mut(p) {
+            history.settled = settled;
+        }
+    }
+
+    pub(crate) fn mark_at(&self, p: usize, k: usize) -> Option<Mark> {
+        self.histories.get(p)?.marks.get(k).copied()
     }
 }
 
@@ -219,16 +200,5 @@ pub(crate) fn title_of(step: &Step, more: More) -> Title {
         event: step.event,
         answer: step.answer,
         more,
-    }
-}
-
-fn empty_sheet(alloc: Global) -> Sheet {
-    Sheet {
-        back: Vec::new(alloc),
-        road: Vec::new(alloc),
-        send: Vec::new(alloc),
-        line: Vec::new(alloc),
-        mark: Vec::new(alloc),
-        text: Vec::new(alloc),
     }
 }

@@ -2,10 +2,12 @@
 
 use crate::history::Mark;
 use crate::lane::{lane_y, or_left};
+use crate::page::Page;
 use crate::picture::{Picture, title_of};
 use crate::sheet::{Form, More, Shape, Spot, Style, Way, What};
 use crate::shown::Shown;
 use crate::step::Step;
+use om_interval::DepVec;
 use om_process::Status;
 use std::alloc::AllocError;
 
@@ -21,38 +23,52 @@ fn style(fate: Fate, style: Style) -> Style {
     if fate.cut { Style::Grey } else { style }
 }
 
-impl Picture {
-    // Draws a mark of the window whose fate is known.
-    pub(crate) fn settle(&mut self, lane: u32, mark: &Mark, fate: Fate) -> Result<(), AllocError> {
-        if mark.x == 0 {
-            return Ok(());
-        }
+// A mark of a form, at the place of this one.
+fn shape_of(form: Form, lane: u32, mark: &Mark, fate: Fate) -> Shape {
+    Shape {
+        form,
+        cut: fate.cut,
+        at: Spot { x: mark.x, lane },
+        title: mark.title,
+    }
+}
+
+// The form of a mark.
+fn form_of(shown: Shown, fate: Fate) -> Form {
+    match shown {
+        Shown::Receipt { .. } => Form::Receipt { stored: fate.safe },
+        Shown::Checkpoint => Form::Checkpoint,
+        Shown::Run { ends: Some(_), .. } => Form::End,
+        _ => Form::Dot,
+    }
+}
+
+// Whether a mark has outputs.
+fn has_outputs(shown: Shown) -> bool {
+    match shown {
+        Shown::Run { made, .. } => made > 0,
+        _ => false,
+    }
+}
+
+impl Page {
+    // The words of a mark whose fate is known, and the message of a receipt.
+    fn tell(&mut self, lane: u32, mark: &Mark, fate: Fate) -> Result<(), AllocError> {
         match mark.shown {
             Shown::Receipt { frame, interval } => {
-                self.settle_receipt(lane, mark, fate, frame, interval)
+                self.tell_receipt(lane, mark, fate, frame, interval)
             }
-            Shown::Checkpoint => self.settled(Form::Checkpoint, lane, mark, fate),
-            Shown::Run { made, ends, .. } => self.settle_run(lane, mark, fate, made, ends),
-            _ => self.settled(Form::Dot, lane, mark, fate),
+            Shown::Run { made, ends, .. } => {
+                if made > 0 && mark.fresh > 0 {
+                    self.tell_outputs(lane, mark, fate)?;
+                }
+                self.tell_status(lane, mark, fate, ends)
+            }
+            _ => Ok(()),
         }
     }
 
-    fn settled(
-        &mut self,
-        form: Form,
-        lane: u32,
-        mark: &Mark,
-        fate: Fate,
-    ) -> Result<(), AllocError> {
-        self.add_shape(&Shape {
-            form,
-            cut: fate.cut,
-            at: Spot { x: mark.x, lane },
-            title: mark.title,
-        })
-    }
-
-    fn settle_receipt(
+    fn tell_receipt(
         &mut self,
         lane: u32,
         mark: &Mark,
@@ -60,7 +76,6 @@ impl Picture {
         frame: usize,
         interval: u32,
     ) -> Result<(), AllocError> {
-        let to = Spot { x: mark.x, lane };
         if let Some(frame) = self.frames.get(frame) {
             self.sheet.send.push(Way::Message {
                 again: frame.again,
@@ -69,56 +84,70 @@ impl Picture {
                     x: or_left(frame.x, self.left),
                     lane: frame.from,
                 },
-                to,
+                to: Spot { x: mark.x, lane },
             })?;
         }
-        self.settled(Form::Receipt { stored: fate.safe }, lane, mark, fate)?;
         let y = lane_y(lane).saturating_sub(5);
         let what = What::Number(u64::from(interval));
         self.say(style(fate, Style::Plain), mark.x.saturating_add(5), y, what)
     }
 
-    fn settle_run(
+    fn tell_status(
         &mut self,
         lane: u32,
         mark: &Mark,
         fate: Fate,
-        made: usize,
         ends: Option<Status>,
     ) -> Result<(), AllocError> {
-        if made > 0 {
-            self.settle_outputs(lane, mark, fate)?;
-        }
         let Some(status) = ends else {
-            return self.settled(Form::Dot, lane, mark, fate);
+            return Ok(());
         };
-        self.settled(Form::End, lane, mark, fate)?;
         let y = lane_y(lane).saturating_add(20);
         let x = mark.x.saturating_add(3);
         self.say(style(fate, Style::Small), x, y, What::End(status))
     }
 
-    fn settle_outputs(&mut self, lane: u32, mark: &Mark, fate: Fate) -> Result<(), AllocError> {
-        let again = mark.fresh == 0;
-        self.settled(Form::Stem { again }, lane, mark, fate)?;
-        if again {
-            return Ok(());
-        }
-        let released = fate.safe && !fate.cut;
-        self.settled(Form::Head { released }, lane, mark, fate)?;
+    fn tell_outputs(&mut self, lane: u32, mark: &Mark, fate: Fate) -> Result<(), AllocError> {
         let y = lane_y(lane).saturating_sub(24);
         let x = mark.x.saturating_sub(4);
         let what = What::Output {
             label: mark.label,
-            more: mark.fresh - 1,
+            more: mark.fresh.saturating_sub(1),
         };
         self.say(style(fate, Style::Small), x, y, what)
     }
+}
+
+impl Picture {
+    // Draws a mark whose fate is known; one from before the window is passed over.
+    pub(crate) fn settle(&mut self, p: usize, mark: &Mark, fate: Fate) -> Result<(), AllocError> {
+        if mark.x == 0 {
+            return Ok(());
+        }
+        let lane = self.page.lane_at(p).number;
+        self.page.tell(lane, mark, fate)?;
+        if has_outputs(mark.shown) {
+            self.add_outputs(lane, mark, fate)?;
+        }
+        let form = form_of(mark.shown, fate);
+        self.add_shape(&shape_of(form, lane, mark, fate))
+    }
+
+    // The stem of the outputs of a mark, and its head, if they were not all made before.
+    fn add_outputs(&mut self, lane: u32, mark: &Mark, fate: Fate) -> Result<(), AllocError> {
+        let again = mark.fresh == 0;
+        self.add_shape(&shape_of(Form::Stem { again }, lane, mark, fate))?;
+        if again {
+            return Ok(());
+        }
+        let released = fate.safe && !fate.cut;
+        self.add_shape(&shape_of(Form::Head { released }, lane, mark, fate))
+    }
 
     // Settles what the recovery state now covers, and shows where outputs that were held are released.
-    pub(crate) fn keep(&mut self, step: &Step, changed: bool) -> Result<(), AllocError> {
+    pub(crate) fn keep(&mut self, step: &Step, changed: Option<DepVec>) -> Result<(), AllocError> {
         for p in 0..self.histories.len() {
-            if let Some(from) = self.keep_lane(p)? {
+            if let Some(from) = self.keep_lane(p, step.recovery)? {
                 self.release(p, from, step, changed)?;
             }
         }
@@ -126,11 +155,9 @@ impl Picture {
     }
 
     // The same for a lane: the place of the first output that was held and is released.
-    fn keep_lane(&mut self, p: usize) -> Result<Option<u32>, AllocError> {
-        let (Some(history), Some(place)) = (
-            self.histories.get(p),
-            self.recovery.as_slice().get(p).copied(),
-        ) else {
+    fn keep_lane(&mut self, p: usize, recovery: DepVec) -> Result<Option<u32>, AllocError> {
+        let place = place_of(recovery, p);
+        let Some(history) = self.histories.get(p) else {
             return Ok(None);
         };
         let from = history.settled;
@@ -142,9 +169,7 @@ impl Picture {
                 held = found;
             }
         }
-        if let Some(history) = self.histories.get_mut(p) {
-            history.settled = to;
-        }
+        self.pass(p, to);
         Ok(held)
     }
 
@@ -153,31 +178,18 @@ impl Picture {
         let Some(mark) = self.mark_at(p, k) else {
             return Ok(None);
         };
-        let lane = self.number(p);
         let fate = Fate {
             cut: false,
             safe: true,
         };
-        self.settle(lane, &mark, fate)?;
-        if mark.x != 0 && self.on {
-            self.counts.released = self.counts.released.saturating_add(mark.fresh);
+        self.settle(p, &mark, fate)?;
+        if mark.x != 0 && self.page.on {
+            self.page.counts.add_fate(mark.fresh, false);
         }
-        if mark.fresh > 0 && mark.x != self.x {
-            return Ok(Some(or_left(mark.x, self.left)));
+        if mark.fresh > 0 && mark.x != self.page.x {
+            return Ok(Some(or_left(mark.x, self.page.left)));
         }
         Ok(None)
-    }
-
-    pub(crate) fn mark_at(&self, p: usize, k: usize) -> Option<Mark> {
-        self.histories.get(p)?.marks.get(k).copied()
-    }
-
-    // The number of a lane.
-    pub(crate) fn number(&self, p: usize) -> u32 {
-        match self.lanes.get(p) {
-            Some(lane) => lane.number,
-            None => 0,
-        }
     }
 
     // Shows that outputs which were made at a place are released.
@@ -186,15 +198,23 @@ impl Picture {
         p: usize,
         from: u32,
         step: &Step,
-        changed: bool,
+        changed: Option<DepVec>,
     ) -> Result<(), AllocError> {
-        if !self.on {
+        if !self.page.on {
             return Ok(());
         }
-        let lane = self.number(p);
-        let to = Spot { x: self.x, lane };
-        self.sheet.send.push(Way::Held { from, to })?;
-        let title = title_of(step, More::Released(self.changed(changed)));
-        self.shape(Form::Released, self.x, lane, title)
+        let to = self.page.spot(p, self.page.x);
+        self.page.sheet.send.push(Way::Held { from, to })?;
+        self.add_shape(&Shape {
+            form: Form::Released,
+            cut: false,
+            at: to,
+            title: title_of(step, More::Released(changed)),
+        })
     }
+}
+
+// The place of a process in a recovery state.
+pub(crate) fn place_of(recovery: DepVec, p: usize) -> u32 {
+    recovery.as_slice().get(p).copied().unwrap_or(0)
 }

@@ -4,6 +4,7 @@ use crate::step::{Label, Standing};
 use om_interval::DepVec;
 use om_process::Status;
 use om_world::{Answer, Event};
+use std::alloc::Global;
 
 /// The pieces, by layer, each layer before the next.
 #[derive(Drop)]
@@ -12,8 +13,19 @@ pub struct Sheet {
     pub road: Vec<Road>,
     pub send: Vec<Way>,
     pub line: Vec<Crossing>,
-    pub mark: Vec<Shape>,
     pub text: Vec<Word>,
+}
+
+impl Sheet {
+    pub(crate) fn new(alloc: Global) -> Sheet {
+        Sheet {
+            back: Vec::new(alloc),
+            road: Vec::new(alloc),
+            send: Vec::new(alloc),
+            line: Vec::new(alloc),
+            text: Vec::new(alloc),
+        }
+    }
 }
 
 /// A round, from its left to its right side.

@@ -100,6 +100,7 @@ pub fn picture_text(alloc: Global, programs: &Programs, drawn: &Drawn) -> Result
     let mut text = String::new(alloc);
     push_open(&mut text, drawn)?;
     push_layers(&mut text, &drawn.sheet, drawn.bottom)?;
+    push_shapes(&mut text, &drawn.marks)?;
     push_head(&mut text, drawn)?;
     push_words(alloc, &mut text, programs, &drawn.sheet.text)?;
     push_legend(&mut text, drawn)?;
@@ -265,7 +266,7 @@ fn push_moved(text: &mut String, y: u32) -> Result<(), AllocError>
     write!(text, "<g transform=\"translate(16 {y})\">\n")
 }
 
-// Writes the layers, each before the next.
+// Writes the layers below the marks, each before the next.
 #[tactic(auto, unfolding(crate::specs::PictureText::layers_text))]
 fn push_layers(text: &mut String, sheet: &Sheet, bottom: u32) -> Result<(), AllocError>
     ensures { OnOk result (string_bytes text.new ≡ string_bytes text.old ++ layers_text bottom sheet.now) }
@@ -273,8 +274,7 @@ fn push_layers(text: &mut String, sheet: &Sheet, bottom: u32) -> Result<(), Allo
     push_bands(text, &sheet.back, bottom)?;
     push_roads(text, &sheet.road)?;
     push_ways(text, &sheet.send)?;
-    push_crossings(text, &sheet.line)?;
-    push_shapes(text, &sheet.mark)
+    push_crossings(text, &sheet.line)
 }
 
 fn push_bands(text: &mut String, bands: &[Band], bottom: u32) -> Result<(), AllocError>
