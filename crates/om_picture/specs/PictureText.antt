@@ -43,24 +43,40 @@ taken_text counts = resent_count counts ++ taken_count counts
 abbrev pub sent_text : Counts → List ℕ
 sent_text counts = shown_text counts ++ taken_text counts
 
-unfoldable pub failed_text : Counts → List ℕ
-failed_text counts = codes ", refused " ++ decimal counts.refused ++ codes "; failures " ++ decimal counts.failures
+unfoldable pub refused_count : Counts → List ℕ
+refused_count counts = codes ", refused " ++ decimal counts.refused
+
+unfoldable pub failure_count : Counts → List ℕ
+failure_count counts = codes "; failures " ++ decimal counts.failures
+
+abbrev pub failed_text : Counts → List ℕ
+failed_text counts = refused_count counts ++ failure_count counts
 
 unfoldable pub outputs_text : Counts → List ℕ
 outputs_text counts =
     codes "; outputs " ++ decimal counts.made ++ codes ", released " ++ decimal counts.released ++ codes ", cut " ++ decimal counts.cut
 
 -- the size of the picture
-unfoldable pub size_text : Drawn → List ℕ
-size_text drawn =
-    codes "<svg xmlns=\"http://www.w3.org/2000/svg\" width=\"" ++ decimal drawn.width ++ codes "\" height=\"" ++ decimal drawn.height
+unfoldable pub svg_width : ℕ → List ℕ
+svg_width width = codes "<svg xmlns=\"http://www.w3.org/2000/svg\" width=\"" ++ decimal width
+
+unfoldable pub svg_height : ℕ → List ℕ
+svg_height height = codes "\" height=\"" ++ decimal height
+
+abbrev pub size_text : Drawn → List ℕ
+size_text drawn = svg_width drawn.width ++ svg_height drawn.height
 
 unfoldable pub view_text : Drawn → List ℕ
 view_text drawn = codes "\" viewBox=\"0 0 " ++ decimal drawn.width ++ 32 ∷ decimal drawn.height ++ codes "\">\n<title>"
 
-unfoldable pub ground_text : Drawn → List ℕ
-ground_text drawn =
-    codes "<rect width=\"" ++ decimal drawn.width ++ codes "\" height=\"" ++ decimal drawn.height ++ codes "\" fill=\"#fff\"/>\n"
+unfoldable pub ground_width : ℕ → List ℕ
+ground_width width = codes "<rect width=\"" ++ decimal width
+
+unfoldable pub ground_height : ℕ → List ℕ
+ground_height height = codes "\" height=\"" ++ decimal height ++ codes "\" fill=\"#fff\"/>\n"
+
+abbrev pub ground_text : Drawn → List ℕ
+ground_text drawn = ground_width drawn.width ++ ground_height drawn.height
 
 -- the size, the title, the style and the ground
 unfoldable pub open_text : Drawn → List ℕ

@@ -92,10 +92,14 @@ abbrev pub stub_path : Bool → List ℕ
 stub_path true = codes "l8 11m-3 2l6-4"
 stub_path false = codes "l8-11m-3-2l6 4"
 
+-- where the line of a message begins, by whether it was sent again, and whether it was cut
+unfoldable pub message_start : Bool → Bool → List ℕ
+message_start again cut = codes "<path class=\"" ++ message_class again ++ cut_letter cut ++ codes "\" d=\""
+
 -- a line across the lanes
 abbrev pub way_text : Way → List ℕ
 way_text (ways.Message again cut from to) =
-    codes "<path class=\"" ++ message_class again ++ cut_letter cut ++ codes "\" d=\"" ++ arrow_text from to
+    message_start again cut ++ arrow_text from to
 way_text (ways.Trail from to) = codes "<path class=\"o\" d=\"" ++ arrow_text from to
 way_text (ways.Short below to) =
     codes "<path class=\"o\" d=\"M" ++ decimal (to.x - 12) ++ 32

@@ -10,7 +10,7 @@ use std::alloc::AllocError;
 pub(crate) const AXIS: u32 = 54;
 
 impl Page {
-    /// The middle of the next column, with room for the words of an event of a process; 0 before the window.
+    /// The middle of the next column, with room for the words of an event of a process.
     pub(crate) fn column(
         &mut self,
         width: u32,
@@ -18,9 +18,6 @@ impl Page {
         p: usize,
         wanted: Wanted,
     ) -> Result<u32, AllocError> {
-        if !self.on {
-            return Ok(0);
-        }
         let middle = self.cur.saturating_add(width / 2);
         let x = match self.lanes.get_mut(p) {
             Some(lane) => lane.take_room(middle, wanted),

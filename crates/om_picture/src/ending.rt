@@ -78,8 +78,8 @@ impl Page {
     // Draws the band of a gathering that is open.
     fn end_band(&mut self, right: u32) -> Result<(), AllocError> {
         match self.opened {
-            Some(opened) if self.on => self.band(opened, right, What::Gathering),
-            _ => Ok(()),
+            Some(opened) => self.band(opened, right, What::Gathering),
+            None => Ok(()),
         }
     }
 
@@ -188,7 +188,9 @@ impl Picture {
     ) -> Result<Drawn, AllocError> {
         let mut picture = self;
         let right = picture.page.right();
-        picture.page.end_band(right)?;
+        if picture.on {
+            picture.page.end_band(right)?;
+        }
         picture.end_lanes(alloc, right, standings)?;
         picture.page.stubs()?;
         picture.page.name_lanes()?;
@@ -220,16 +222,18 @@ impl Picture {
     fn drawn(self, right: u32, longest: u32) -> Drawn {
         let words = longest.saturating_mul(CHARACTER);
         let width = right.saturating_add(24).saturating_add(words).max(LEAST);
-        let bottom = self.page.bottom();
+        let page = self.page;
+        let bottom = page.bottom();
+        let lanes = count_of(page.lanes.len());
         Drawn {
-            lanes: count_of(self.page.lanes.len()),
+            sheet: page.sheet,
+            marks: self.marks,
+            counts: page.counts,
+            width,
+            height: bottom.saturating_add(168),
+            lanes,
             bottom,
             legend: bottom.saturating_add(46),
-            height: bottom.saturating_add(168),
-            counts: self.page.counts,
-            width,
-            sheet: self.page.sheet,
-            marks: self.marks,
         }
     }
 

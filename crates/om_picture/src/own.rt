@@ -131,14 +131,15 @@ impl Page {
         Ok(())
     }
 
-    // The interval and the incarnation of a process that is back.
-    fn tell_back(&mut self, p: usize, x: u32, interval: u32, inc: u32) -> Result<(), AllocError> {
+    // A new incarnation of a process.
+    fn begin_inc(&mut self, p: usize, inc: u32) {
         if let Some(lane) = self.lanes.get_mut(p) {
             lane.inc = inc;
         }
-        if !self.on {
-            return Ok(());
-        }
+    }
+
+    // The interval and the incarnation of a process that is back.
+    fn tell_back(&mut self, p: usize, x: u32, interval: u32, inc: u32) -> Result<(), AllocError> {
         let y = self.y(p);
         let what = What::Number(u64::from(interval));
         self.say(Style::Plain, x.saturating_add(7), y.saturating_sub(5), what)?;
@@ -148,6 +149,20 @@ impl Page {
 }
 
 impl Picture {
+    // The middle of the next column; 0 before the window.
+    fn column(
+        &mut self,
+        width: u32,
+        line: usize,
+        p: usize,
+        wanted: Wanted,
+    ) -> Result<u32, AllocError> {
+        if !self.on {
+            return Ok(0);
+        }
+        self.page.column(width, line, p, wanted)
+    }
+
     pub(crate) fn draw_run(
         &mut self,
         p: usize,
@@ -156,10 +171,10 @@ impl Picture {
         made: usize,
         ends: Option<Status>,
     ) -> Result<(), AllocError> {
-        let x = self.page.column(RUN, step.line, p, run_words(step, ends))?;
+        let x = self.column(RUN, step.line, p, run_words(step, ends))?;
         let outputs = numbers(step.first, step.fresh);
         let frames = self.page.make(x, p, step, false)?;
-        if self.page.on {
+        if self.on {
             self.page.counts.add_run(step.fresh, sent);
         }
         let shown = Shown::Run { sent, made, ends };
@@ -176,10 +191,10 @@ impl Picture {
         step: &Step,
         sent: usize,
     ) -> Result<(), AllocError> {
-        let x = self.page.column(RESEND, step.line, p, NOTHING)?;
+        let x = self.column(RESEND, step.line, p, NOTHING)?;
         let frames = self.page.make(x, p, step, true)?;
         let outputs = numbers(0, 0);
-        if self.page.on {
+        if self.on {
             self.page.counts.add_resend(sent);
         }
         let shown = Shown::Resend { sent };
@@ -194,10 +209,10 @@ impl Picture {
         interval: u32,
     ) -> Result<(), AllocError> {
         let wanted = number_beside(9, interval);
-        let x = self.page.column(RECEIPT, step.line, p, wanted)?;
+        let x = self.column(RECEIPT, step.line, p, wanted)?;
         let _ = self.page.give(frame);
         self.page.hold(p, x);
-        if self.page.on {
+        if self.on {
             self.page.counts.add_receipt();
         }
         self.receive(p, interval);
@@ -212,7 +227,7 @@ impl Picture {
         frame: usize,
     ) -> Result<(), AllocError> {
         let frame = self.page.give(frame);
-        if !self.page.on {
+        if !self.on {
             return Ok(());
         }
         let x = self.page.why_column(p, step.line, step.answer)?;
@@ -235,12 +250,12 @@ impl Picture {
     }
 
     pub(crate) fn draw_flush(&mut self, p: usize, step: &Step) -> Result<(), AllocError> {
-        let x = self.page.column(FLUSH, step.line, p, NOTHING)?;
+        let x = self.column(FLUSH, step.line, p, NOTHING)?;
         self.log(p, x, step)
     }
 
     pub(crate) fn draw_checkpoint(&mut self, p: usize, step: &Step) -> Result<(), AllocError> {
-        let x = self.page.column(CHECKPOINT, step.line, p, NOTHING)?;
+        let x = self.column(CHECKPOINT, step.line, p, NOTHING)?;
         let interval = self.interval(p);
         self.wait(p, step, x, Shown::Checkpoint, More::Interval(interval))
     }
@@ -254,24 +269,24 @@ impl Picture {
         if declared && self.page.opened.is_none() {
             self.page.opened = Some(self.page.cur);
         }
-        let x = self.page.column(FAILURE, step.line, p, NOTHING)?;
+        let x = self.column(FAILURE, step.line, p, NOTHING)?;
         self.page.leave(p, x, Stand::Down)?;
         let _ = self.page.lose(p);
-        if self.page.on {
+        if self.on {
             self.page.counts.add_failure();
         }
         self.shape(Form::Failure, p, x, step)
     }
 
     pub(crate) fn draw_join(&mut self, p: usize, step: &Step) -> Result<(), AllocError> {
-        let x = self.page.column(JOIN, step.line, p, NOTHING)?;
+        let x = self.column(JOIN, step.line, p, NOTHING)?;
         self.log(p, x, step)?;
         self.page.leave(p, x, Stand::In)?;
         self.shape(Form::Join, p, x, step)
     }
 
     pub(crate) fn draw_goes_on(&mut self, p: usize, step: &Step) -> Result<(), AllocError> {
-        let x = self.page.column(GOES_ON, step.line, p, NOTHING)?;
+        let x = self.column(GOES_ON, step.line, p, NOTHING)?;
         self.page.stand_up(p, x)?;
         self.shape(Form::GoesOn, p, x, step)
     }
@@ -284,9 +299,12 @@ impl Picture {
         inc: u32,
     ) -> Result<(), AllocError> {
         let wanted = back_words(interval, inc);
-        let x = self.page.column(BACK, step.line, p, wanted)?;
+        let x = self.column(BACK, step.line, p, wanted)?;
         self.page.stand_up(p, x)?;
-        self.page.tell_back(p, x, interval, inc)?;
+        self.page.begin_inc(p, inc);
+        if self.on {
+            self.page.tell_back(p, x, interval, inc)?;
+        }
         self.go_back(p, interval);
         self.shape(Form::Back, p, x, step)
     }

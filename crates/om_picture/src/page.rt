@@ -17,8 +17,6 @@ const ROUNDS: u32 = 68;
 /// What has been drawn beside the marks, and where the next column may stand.
 #[derive(Drop)]
 pub(crate) struct Page {
-    // Whether the window is reached.
-    pub on: bool,
     // The left side, the right side of the last column, and its middle.
     pub left: u32,
     pub cur: u32,
@@ -56,7 +54,6 @@ impl Page {
             number = number.saturating_add(1);
         }
         Ok(Page {
-            on: false,
             left,
             cur: left,
             x: left,

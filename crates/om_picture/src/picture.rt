@@ -12,8 +12,9 @@ use std::slice;
 /// What has been drawn, and what is known of the marks that are drawn later.
 #[derive(Drop)]
 pub struct Picture {
-    // The first line of the window.
+    // The first line of the window, and whether it is reached.
     pub(crate) first: usize,
+    pub(crate) on: bool,
     pub(crate) recovery: DepVec,
     pub(crate) page: Page,
     // The marks whose fate is known.
@@ -36,6 +37,7 @@ impl Picture {
         }
         Ok(Picture {
             first,
+            on: false,
             recovery,
             page: Page::new(alloc, recovery.n(), longest)?,
             marks: Vec::new(alloc),
@@ -49,7 +51,8 @@ impl Picture {
         if let Some(p) = process_of(step.event) {
             self.draw_own(p, step)?;
         }
-        let changed = self.change(step.recovery);
+        let recovery = step.recovery;
+        let changed = self.change(recovery);
         self.keep(step, changed)?;
         if is_finished(step.answer) {
             self.finish(alloc, step, changed)?;
@@ -59,13 +62,14 @@ impl Picture {
 
     // The event of a line is counted; with the first line of the window, the picture begins.
     fn begin(&mut self, line: usize) -> Result<(), AllocError> {
-        if line >= self.first && !self.page.on {
-            self.page.on = true;
+        if line >= self.first && !self.on {
+            self.on = true;
             for p in 0..self.histories.len() {
-                self.page.begin_lane(p, self.interval(p))?;
+                let interval = self.interval(p);
+                self.page.begin_lane(p, interval)?;
             }
         }
-        if self.page.on {
+        if self.on {
             self.page.counts.add_event();
         }
         Ok(())
@@ -114,14 +118,16 @@ impl Picture {
         x: u32,
         step: &Step,
     ) -> Result<(), AllocError> {
-        if !self.page.on {
+        if !self.on {
             return Ok(());
         }
+        let at = self.page.spot(p, x);
+        let title = title_of(step, More::Nothing);
         self.add_shape(&Shape {
             form,
             cut: false,
-            at: self.page.spot(p, x),
-            title: title_of(step, More::Nothing),
+            at,
+            title,
         })
     }
 
@@ -147,43 +153,49 @@ impl Picture {
             label: step.label,
             title: title_of(step, more),
         };
-        match self.histories.get_mut(p) {
-            Some(history) => history.add(&mark),
-            None => Ok(()),
+        if p >= self.histories.len() {
+            return Ok(());
         }
+        let history = &mut self.histories[p];
+        history.add(&mark)
     }
 
     // The program of a process came to its end.
     pub(crate) fn program_ended(&mut self, p: usize) {
-        if let Some(history) = self.histories.get_mut(p) {
+        if p < self.histories.len() {
+            let history = &mut self.histories[p];
             history.ended = true;
         }
     }
 
     // An interval of a process began.
     pub(crate) fn receive(&mut self, p: usize, interval: u32) {
-        if let Some(history) = self.histories.get_mut(p) {
+        if p < self.histories.len() {
+            let history = &mut self.histories[p];
             history.interval = interval;
         }
     }
 
     // All receipts of a process are stored.
     pub(crate) fn store(&mut self, p: usize) {
-        if let Some(history) = self.histories.get_mut(p) {
+        if p < self.histories.len() {
+            let history = &mut self.histories[p];
             history.stored = history.interval;
         }
     }
 
     // A process is back in an interval.
     pub(crate) fn go_back(&mut self, p: usize, interval: u32) {
-        if let Some(history) = self.histories.get_mut(p) {
+        if p < self.histories.len() {
+            let history = &mut self.histories[p];
             history.go_back(interval);
         }
     }
 
     // So many marks of a lane are settled.
     pub(crate) fn pass(&mut self, p: usize, settled: usize) {
-        if let Some(history) = self.histories.get_mut(p) {
+        if p < self.histories.len() {
+            let history = &mut self.histories[p];
             history.settled = settled;
         }
     }

@@ -88,7 +88,7 @@ impl Picture {
             let x = self.cut_lane(p)?;
             places.push(self.page.spot(p, x))?;
         }
-        if self.page.on {
+        if self.on {
             self.page.tell_round(step, changed, places)?;
         }
         self.page.opened = None;
@@ -124,7 +124,7 @@ impl Picture {
         let Some(mark) = self.mark_at(p, k) else {
             return Ok(());
         };
-        if mark.x != 0 && self.page.on {
+        if mark.x != 0 && self.on {
             self.page.counts.add_fate(mark.fresh, true);
         }
         let fate = Fate {

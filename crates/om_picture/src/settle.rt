@@ -146,10 +146,10 @@ impl Picture {
 
     // Settles what the recovery state now covers, and shows where outputs that were held are released.
     pub(crate) fn keep(&mut self, step: &Step, changed: Option<DepVec>) -> Result<(), AllocError> {
+        let recovery = step.recovery;
         for p in 0..self.histories.len() {
-            if let Some(from) = self.keep_lane(p, step.recovery)? {
-                self.release(p, from, step, changed)?;
-            }
+            let held = self.keep_lane(p, recovery)?;
+            self.release(p, held, step, changed)?;
         }
         Ok(())
     }
@@ -183,7 +183,7 @@ impl Picture {
             safe: true,
         };
         self.settle(p, &mark, fate)?;
-        if mark.x != 0 && self.page.on {
+        if mark.x != 0 && self.on {
             self.page.counts.add_fate(mark.fresh, false);
         }
         if mark.fresh > 0 && mark.x != self.page.x {
@@ -192,24 +192,28 @@ impl Picture {
         Ok(None)
     }
 
-    // Shows that outputs which were made at a place are released.
+    // Shows that outputs which were made at a place are released, if there are some.
     fn release(
         &mut self,
         p: usize,
-        from: u32,
+        held: Option<u32>,
         step: &Step,
         changed: Option<DepVec>,
     ) -> Result<(), AllocError> {
-        if !self.page.on {
+        let Some(from) = held else {
+            return Ok(());
+        };
+        if !self.on {
             return Ok(());
         }
         let to = self.page.spot(p, self.page.x);
         self.page.sheet.send.push(Way::Held { from, to })?;
+        let title = title_of(step, More::Released(changed));
         self.add_shape(&Shape {
             form: Form::Released,
             cut: false,
             at: to,
-            title: title_of(step, More::Released(changed)),
+            title,
         })
     }
 }

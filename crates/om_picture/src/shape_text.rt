@@ -2,7 +2,7 @@
 
 ghost use Rattle.std.specs.Prelude.{◌≡◌, ◌++◌, codes, OnOk, string_bytes};
 ghost use Rattle.std.specs.List.{flat_map};
-ghost use Rattle.om_picture.specs.ShapeText.{above_of, arrow_text, band_at, band_end, band_left, band_start, band_text, band_width, changed_text, circle_at, circle_end, circle_middle, circle_start, circle_text, circle_x, circle_y, class_of, crossed_class, crossed_text, crossed_title, crossing_text, cut_letter, flush_at, flush_end, flush_start, flush_text, height, left_of, line_text, message_class, more_text, numbers_text, path_at, path_end, path_middle, path_of, path_start, path_tail, path_text, place_text, road_text, shape_text, square_at, square_class, square_end, square_start, square_text, square_x, start_of, straight_text, stretch_class, stub_path, title_text, told_text, turning_at, turning_end, turning_start, turning_text, way_text};
+ghost use Rattle.om_picture.specs.ShapeText.{above_of, arrow_text, band_at, band_end, band_left, band_start, band_text, band_width, changed_text, circle_at, circle_end, circle_middle, circle_start, circle_text, circle_x, circle_y, class_of, crossed_class, crossed_text, crossed_title, crossing_text, cut_letter, flush_at, flush_end, flush_start, flush_text, height, left_of, line_text, message_class, message_start, more_text, numbers_text, path_at, path_end, path_middle, path_of, path_start, path_tail, path_text, place_text, road_text, shape_text, square_at, square_class, square_end, square_start, square_text, square_x, start_of, straight_text, stretch_class, stub_path, title_text, told_text, turning_at, turning_end, turning_start, turning_text, way_text};
 ghost use Rattle.om_picture.specs.declared.sheet.Way.{Way};
 
 use crate::answer_text::{push_answer, push_event, push_recovery};
@@ -164,6 +164,16 @@ fn message_class(again: bool) -> &'static str
     if again { "n" } else { "m" }
 }
 
+// Writes where the line of a message begins.
+#[tactic(auto, unfolding(crate::specs::ShapeText::message_start))]
+fn push_message_start(text: &mut String, again: bool, cut: bool) -> Result<(), AllocError>
+    ensures { OnOk result (string_bytes text.new ≡ string_bytes text.old ++ message_start again cut) }
+{
+    let class = message_class(again);
+    let cut = cut_letter(cut);
+    write!(text, "<path class=\"{class}{cut}\" d=\"")
+}
+
 /// Writes a line across the lanes.
 pub fn push_way(text: &mut String, way: Way) -> Result<(), AllocError>
     ensures { OnOk result (string_bytes text.new ≡ string_bytes text.old ++ way_text way) }
@@ -175,9 +185,7 @@ pub fn push_way(text: &mut String, way: Way) -> Result<(), AllocError>
             from,
             to,
         } => {
-            let class = message_class(again);
-            let cut = cut_letter(cut);
-            write!(text, "<path class=\"{class}{cut}\" d=\"")?;
+            push_message_start(text, again, cut)?;
             push_arrow(text, from, to)
         }
         Way::Trail { from, to } => {

@@ -2,7 +2,7 @@
 
 ghost use Rattle.std.specs.Prelude.{◌≡◌, ◌++◌, IfOk, OnOk, string_bytes};
 ghost use Rattle.std.specs.List.{flat_map};
-ghost use Rattle.om_picture.specs.PictureText.{failed_text, ground_text, head_text, key_text, layers_text, legend_text, moved_text, open_text, outputs_text, picture_text, resent_count, sent_count, sent_text, shown_count, shown_text, size_text, style_text, summary_text, taken_count, taken_text, view_text};
+ghost use Rattle.om_picture.specs.PictureText.{failed_text, failure_count, ground_height, ground_text, ground_width, head_text, key_text, layers_text, legend_text, moved_text, open_text, outputs_text, picture_text, refused_count, resent_count, sent_count, sent_text, shown_count, shown_text, size_text, style_text, summary_text, svg_height, svg_width, taken_count, taken_text, view_text};
 ghost use Rattle.om_picture.specs.ShapeText.{band_text, crossing_text, road_text, shape_text, way_text};
 ghost use Rattle.om_picture.specs.WordText.{word_text};
 
@@ -119,16 +119,28 @@ fn push_open(text: &mut String, drawn: &Drawn) -> Result<(), AllocError>
     push_ground(text, drawn)
 }
 
-#[tactic(auto, unfolding(crate::specs::PictureText::size_text))]
 fn push_size(text: &mut String, drawn: &Drawn) -> Result<(), AllocError>
     ensures { OnOk result (string_bytes text.new ≡ string_bytes text.old ++ size_text drawn.now) }
 {
-    let wide = drawn.width;
-    let high = drawn.height;
+    push_svg_width(text, drawn.width)?;
+    push_svg_height(text, drawn.height)
+}
+
+#[tactic(auto, unfolding(crate::specs::PictureText::svg_width))]
+fn push_svg_width(text: &mut String, wide: u32) -> Result<(), AllocError>
+    ensures { OnOk result (string_bytes text.new ≡ string_bytes text.old ++ svg_width wide) }
+{
     write!(
         text,
-        "<svg xmlns=\"http://www.w3.org/2000/svg\" width=\"{wide}\" height=\"{high}"
+        "<svg xmlns=\"http://www.w3.org/2000/svg\" width=\"{wide}"
     )
+}
+
+#[tactic(auto, unfolding(crate::specs::PictureText::svg_height))]
+fn push_svg_height(text: &mut String, high: u32) -> Result<(), AllocError>
+    ensures { OnOk result (string_bytes text.new ≡ string_bytes text.old ++ svg_height high) }
+{
+    write!(text, "\" height=\"{high}")
 }
 
 #[tactic(auto, unfolding(crate::specs::PictureText::view_text))]
@@ -153,16 +165,25 @@ fn push_summary(text: &mut String, drawn: &Drawn) -> Result<(), AllocError>
     )
 }
 
-#[tactic(auto, unfolding(crate::specs::PictureText::ground_text))]
 fn push_ground(text: &mut String, drawn: &Drawn) -> Result<(), AllocError>
     ensures { OnOk result (string_bytes text.new ≡ string_bytes text.old ++ ground_text drawn.now) }
 {
-    let wide = drawn.width;
-    let high = drawn.height;
-    write!(
-        text,
-        "<rect width=\"{wide}\" height=\"{high}\" fill=\"#fff\"/>\n"
-    )
+    push_ground_width(text, drawn.width)?;
+    push_ground_height(text, drawn.height)
+}
+
+#[tactic(auto, unfolding(crate::specs::PictureText::ground_width))]
+fn push_ground_width(text: &mut String, wide: u32) -> Result<(), AllocError>
+    ensures { OnOk result (string_bytes text.new ≡ string_bytes text.old ++ ground_width wide) }
+{
+    write!(text, "<rect width=\"{wide}")
+}
+
+#[tactic(auto, unfolding(crate::specs::PictureText::ground_height))]
+fn push_ground_height(text: &mut String, high: u32) -> Result<(), AllocError>
+    ensures { OnOk result (string_bytes text.new ≡ string_bytes text.old ++ ground_height high) }
+{
+    write!(text, "\" height=\"{high}\" fill=\"#fff\"/>\n")
 }
 
 #[tactic(auto, unfolding(crate::specs::PictureText::head_text))]
@@ -231,13 +252,27 @@ fn push_taken_count(text: &mut String, counts: &Counts) -> Result<(), AllocError
     write!(text, ", taken {taken}")
 }
 
-#[tactic(auto, unfolding(crate::specs::PictureText::failed_text))]
 fn push_failed(text: &mut String, counts: &Counts) -> Result<(), AllocError>
     ensures { OnOk result (string_bytes text.new ≡ string_bytes text.old ++ failed_text counts.now) }
 {
+    push_refused_count(text, counts)?;
+    push_failure_count(text, counts)
+}
+
+#[tactic(auto, unfolding(crate::specs::PictureText::refused_count))]
+fn push_refused_count(text: &mut String, counts: &Counts) -> Result<(), AllocError>
+    ensures { OnOk result (string_bytes text.new ≡ string_bytes text.old ++ refused_count counts.now) }
+{
     let refused = counts.refused;
+    write!(text, ", refused {refused}")
+}
+
+#[tactic(auto, unfolding(crate::specs::PictureText::failure_count))]
+fn push_failure_count(text: &mut String, counts: &Counts) -> Result<(), AllocError>
+    ensures { OnOk result (string_bytes text.new ≡ string_bytes text.old ++ failure_count counts.now) }
+{
     let failures = counts.failures;
-    write!(text, ", refused {refused}; failures {failures}")
+    write!(text, "; failures {failures}")
 }
 
 #[tactic(auto, unfolding(crate::specs::PictureText::outputs_text))]
