@@ -95,11 +95,11 @@ impl Picture {
         }
     }
 
-    // The recovery state is this one from now on: it, if it was another.
-    fn change(&mut self, recovery: DepVec) -> Option<DepVec> {
+    // The recovery state is this one from now on: whether it was another.
+    fn change(&mut self, recovery: DepVec) -> bool {
         let is_changed = recovery != self.recovery;
         self.recovery = recovery;
-        if is_changed { Some(recovery) } else { None }
+        is_changed
     }
 
     // The interval of a process.
@@ -203,6 +203,11 @@ impl Picture {
     pub(crate) fn mark_at(&self, p: usize, k: usize) -> Option<Mark> {
         self.histories.get(p)?.marks.get(k).copied()
     }
+}
+
+// The recovery state behind an event, if it changed.
+pub(crate) fn state_if(changed: bool, step: &Step) -> Option<DepVec> {
+    if changed { Some(step.recovery) } else { None }
 }
 
 // The title of an event.

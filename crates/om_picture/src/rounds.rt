@@ -3,7 +3,7 @@
 use crate::lane::or_left;
 use crate::measure::{CHARACTER, recovery_length};
 use crate::page::Page;
-use crate::picture::{Picture, title_of};
+use crate::picture::{Picture, state_if, title_of};
 use crate::settle::Fate;
 use crate::sheet::{Crossed, Crossing, More, Spot, Stretch, Style, What};
 use crate::step::Step;
@@ -44,7 +44,7 @@ impl Page {
     fn tell_round(
         &mut self,
         step: &Step,
-        changed: Option<DepVec>,
+        changed: bool,
         places: Vec<Spot>,
     ) -> Result<(), AllocError> {
         self.counts.add_round();
@@ -52,7 +52,7 @@ impl Page {
         self.band(opened, self.cur, What::Round(self.round))?;
         let state = step.recovery;
         let more = More::Round {
-            changed,
+            changed: state_if(changed, step),
             round: self.round,
             state,
         };
@@ -80,7 +80,7 @@ impl Picture {
         &mut self,
         alloc: Global,
         step: &Step,
-        changed: Option<DepVec>,
+        changed: bool,
     ) -> Result<(), AllocError> {
         self.page.round = self.page.round.saturating_add(1);
         let mut places = Vec::new(alloc);

@@ -3,7 +3,7 @@
 use crate::history::Mark;
 use crate::lane::{lane_y, or_left};
 use crate::page::Page;
-use crate::picture::{Picture, title_of};
+use crate::picture::{Picture, state_if, title_of};
 use crate::sheet::{Form, More, Shape, Spot, Style, Way, What};
 use crate::shown::Shown;
 use crate::step::Step;
@@ -145,7 +145,7 @@ impl Picture {
     }
 
     // Settles what the recovery state now covers, and shows where outputs that were held are released.
-    pub(crate) fn keep(&mut self, step: &Step, changed: Option<DepVec>) -> Result<(), AllocError> {
+    pub(crate) fn keep(&mut self, step: &Step, changed: bool) -> Result<(), AllocError> {
         let recovery = step.recovery;
         for p in 0..self.histories.len() {
             let held = self.keep_lane(p, recovery)?;
@@ -198,7 +198,7 @@ impl Picture {
         p: usize,
         held: Option<u32>,
         step: &Step,
-        changed: Option<DepVec>,
+        changed: bool,
     ) -> Result<(), AllocError> {
         let Some(from) = held else {
             return Ok(());
@@ -208,7 +208,8 @@ impl Picture {
         }
         let to = self.page.spot(p, self.page.x);
         self.page.sheet.send.push(Way::Held { from, to })?;
-        let title = title_of(step, More::Released(changed));
+        let more = More::Released(state_if(changed, step));
+        let title = title_of(step, more);
         self.add_shape(&Shape {
             form: Form::Released,
             cut: false,
