@@ -1,8 +1,6 @@
 -- What an event shows, by its answer.
 use Rattle.std.specs.Prelude.{ℕ, ◌==◌, Bool, true, false, ◌&&◌, if◌then◌else◌, is_none, Option, None, Some}
-use Rattle.om_manager.specs.declared.answers.Gathered.{Gathered}
-use Rattle.om_manager.specs.declared.answers.Gathered.TheVariants.{Waiting, Finished}
-use Rattle.om_process.specs.declared.accept.Accept.{Accept}
+use Rattle.om_manager.specs.declared.answers.Gathered.TheVariants.{Finished}
 use Rattle.om_process.specs.declared.accept.Accept.TheVariants as accepts
 use Rattle.om_process.specs.declared.status.Status.{Status}
 use Rattle.om_process.specs.declared.status.Status.TheVariants as statuses

@@ -1,5 +1,5 @@
 -- The words of a picture.
-use Rattle.std.specs.Prelude.{ℕ, ◌==◌, ◌-◌, nat_le, Bool, if◌then◌else◌, List, [], ◌∷◌, ◌++◌, Option, None, Some, slice_get, take, codes, decimal}
+use Rattle.std.specs.Prelude.{ℕ, ◌==◌, ◌-◌, nat_le, if◌then◌else◌, List, [], ◌∷◌, ◌++◌, Option, None, Some, slice_get, take, codes, decimal}
 use Rattle.std.specs.Option.{option_map}
 use Rattle.hex.specs.Hex.{encode_lower}
 use Rattle.om_programs.specs.Programs.{Cluster, program_name}

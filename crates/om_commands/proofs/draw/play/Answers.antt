@@ -1,4 +1,4 @@
-use Rattle.std.proofs.Common.{◌≡◌, ◌+◌, take}
+use Rattle.std.proofs.Common.{◌+◌, take}
 use Rattle.std.proofs.lemmas.List.{take_more}
 use Rattle.om_commands.proofs.DrawLemmas.{are_played_then}
 use Rattle.om_commands.proofs.draw.play.Goals as goal

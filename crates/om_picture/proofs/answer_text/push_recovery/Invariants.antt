@@ -1,4 +1,4 @@
-use Rattle.std.proofs.Common.{◌≡◌, ◌∷◌, ◌++◌, take, string_bytes, decimal, codes}
+use Rattle.std.proofs.Common.{◌≡◌, ◌∷◌, ◌++◌, take, string_bytes, decimal}
 use Rattle.std.specs.List.{flat_map}
 use Rattle.om_picture.proofs.answer_text.push_recovery.Given as goal
 
