@@ -12,7 +12,7 @@ use crate::command::{read_input, write_answer};
 use crate::error::CommandError;
 use crate::kept_script::KeptScript;
 use crate::run::{OpenGate, config_of};
-use crate::witness_text::events_text;
+use crate::event_text::events_text;
 use om_process::Witness;
 use om_runner::{Opener, Report, run_and_keep_witnesses};
 use om_world::Event;
