@@ -12,7 +12,6 @@ use crate::kept_script::KeptScript;
 use crate::record_text::record_text;
 use crate::run::{OpenGate, config_of};
 use crate::run_text::run_text;
-use om_programs::Programs;
 use om_runner::{Opener, Recorder, run_and_record};
 use std::alloc::{AllocError, Global};
 use std::io::{Read, Write};
@@ -55,24 +54,31 @@ fn answer_to<R: Threads + Wait + Sync, O: Opener<R> + Sync, I: Read, F: Write>(
     ensures error { IfSome (I.remaining reader.old) (λ bytes. IfErr result (IsErrorOfRun bytes)) }
 {
     let kept = read_input(alloc, reader, KeptScript::new(alloc))?;
-    let recorder = Recorder::new(alloc);
-    let answer = answer(rt, alloc, turns, opener, &kept.script, &recorder);
-    let written = write_record(alloc, &kept, recorder, record);
+    let (answer, events) = recorded(rt, alloc, turns, opener, kept)?;
+    let written = write_answer(record, &events);
     let text = answer?;
     written?;
     Ok(text)
 }
 
-// Writes the script of what threads did.
-fn write_record<F: Write>(
+// The text that answers what was read, or why there is none; and the script of what the threads did.
+fn recorded<R: Threads + Wait + Sync, O: Opener<R> + Sync>(
+    rt: &R,
     alloc: Global,
-    kept: &KeptScript,
-    recorder: Recorder,
-    writer: &mut F,
-) -> Result<(), CommandError> {
-    let events = record_text(alloc, kept.script.programs(), &recorder.into_record())?;
-    write_answer(writer, &kept.lines)?;
-    write_answer(writer, events.as_bytes())
+    turns: u64,
+    opener: &O,
+    kept: KeptScript,
+) -> Result<(Result<String, CommandError>, Vec<u8>), AllocError>
+    ensures text { IfOk result (λ r. IfOk r.0 (λ text.
+        IsAnswer ((store : O.Store) → IsTrue (O.Store.is_clean store)) kept.script (string_bytes text))) }
+    ensures error { IfOk result (λ r. IfErr r.0 (IsErrorOfScript kept.script)) }
+{
+    let KeptScript { script, mut lines } = kept;
+    let recorder = Recorder::new(alloc);
+    let answer = answer(rt, alloc, turns, opener, &script, &recorder);
+    let events = record_text(alloc, script.programs(), &recorder.into_record())?;
+    lines.extend_from_slice(events.as_bytes())?;
+    Ok((answer, lines))
 }
 
 // The text that answers a script, while the recorder takes in what the threads do.

@@ -13,7 +13,6 @@ ghost use Rattle.om_runner.specs.steps.Wiring.{IsWired};
 
 use crate::bell::{Bell, ring_all};
 use crate::config::Config;
-use crate::diary::Diary;
 use crate::fault::RunFault;
 use crate::links::Links;
 use crate::network::{Ends, Network, connected};
@@ -279,8 +278,7 @@ fn work<'a, K: Naming, R: Wait, G: Gate, O: Opener<R>>(
         ..
     } = *cluster;
     let past = Past::new(alloc, keeps);
-    let diary = Diary::new(alloc, links.own(), recorder);
-    let worker = Worker::new(plan, shared, links, kills, past, diary);
+    let worker = Worker::new(plan, shared, links, kills, past, alloc, recorder);
     take_turns(rt, alloc, plan.turns, stop, worker, node, pass)
 }
 

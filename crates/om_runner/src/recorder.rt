@@ -19,31 +19,60 @@ pub struct Letter {
 #[derive(Clone, Copy, Debug, PartialEq, Eq)]
 pub enum Act {
     /// The process finished so many instructions. What it sent stands right behind it.
-    Run { process: Pid, steps: u64 },
+    Run {
+        process: Pid,
+        steps: u64,
+    },
     /// Each message that the process keeps is sent once more. They stand right behind it.
-    Resend { process: Pid },
+    Resend {
+        process: Pid,
+    },
     /// A message is on its way: by receiver and then by number behind a run or a resend.
-    Send { letter: Letter },
+    Send {
+        letter: Letter,
+    },
     /// A message was offered to the process, which began this interval with it, or refused it.
-    Give { letter: Letter, interval: Option<u32> },
+    Give {
+        letter: Letter,
+        interval: Option<u32>,
+    },
     /// The process stored its volatile log, and its pending rows are noted.
-    Flush { process: Pid },
+    Flush {
+        process: Pid,
+    },
     /// The process stored a checkpoint, and its pending rows are noted.
-    Checkpoint { process: Pid },
+    Checkpoint {
+        process: Pid,
+    },
     /// The process drops what it need not keep.
-    Trim { process: Pid },
+    Trim {
+        process: Pid,
+    },
     /// The manager drops what it need not keep.
     Prune,
     /// The process failed as this interval began, which is declared.
-    Fail { process: Pid, interval: u32 },
+    Fail {
+        process: Pid,
+        interval: u32,
+    },
     /// The process stored its volatile log, handed over all that it had, and joined the gathering.
-    Join { process: Pid },
+    Join {
+        process: Pid,
+    },
     /// The round is finished.
-    Finish { round: u32 },
+    Finish {
+        round: u32,
+    },
     /// The process is up again, as it was.
-    GoOn { process: Pid },
+    GoOn {
+        process: Pid,
+    },
     /// The process is up again, rolled back to this interval, in this incarnation.
-    Back { process: Pid, interval: u32, inc: u32 },
+    Back {
+        process: Pid,
+        interval: u32,
+        inc: u32,
+    },
 }
 
 /// What threads did, in an order in which it could have happened one after the other.

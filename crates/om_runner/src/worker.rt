@@ -14,6 +14,7 @@ use crate::idle::{Idle, Pause};
 use crate::links::Links;
 use crate::network::Ends;
 use crate::node::{Fallen, Node, has_ended};
+use crate::recorder::Recorder;
 use crate::trouble::Trouble;
 use crate::witness::Past;
 use om_board::{Front, Naming, Pass, Shared};
@@ -142,18 +143,20 @@ impl<'a, K: Naming> Worker<'a, K> {
         links: Links<'a>,
         kills: Vec<u32>,
         past: Past,
-        diary: Diary<'a>,
+        alloc: Global,
+        recorder: Option<&'a Recorder>,
     ) -> Worker<'a, K>
         requires { links.n ≡ K.cell.n }
         ensures { result.links ≡ links.entry }
     {
+        let own = links.own();
         Worker {
             plan,
-            contact: Contact::new(links.own(), shared),
+            contact: Contact::new(own, shared),
             links,
             kills,
             past,
-            diary,
+            diary: Diary::new(alloc, own, recorder),
             idle: Idle::new(),
             resent: false,
             extra: 0,
