@@ -59,15 +59,29 @@ impl Frames {
 // The same, of an act of a process alone.
 fn event_at(act: Act) -> Option<Event> {
     match act {
-        Act::Resend { process } => Some(Event::Resend { process: process.index() }),
-        Act::Flush { process } => Some(Event::Flush { process: process.index() }),
-        Act::Checkpoint { process } => Some(Event::Checkpoint { process: process.index() }),
-        Act::Trim { process } => Some(Event::Trim { process: process.index() }),
+        Act::Resend { process } => Some(Event::Resend {
+            process: process.index(),
+        }),
+        Act::Flush { process } => Some(Event::Flush {
+            process: process.index(),
+        }),
+        Act::Checkpoint { process } => Some(Event::Checkpoint {
+            process: process.index(),
+        }),
+        Act::Trim { process } => Some(Event::Trim {
+            process: process.index(),
+        }),
         Act::Prune => Some(Event::Prune),
-        Act::Fail { process, .. } => Some(Event::Fail { process: process.index() }),
-        Act::Join { process } => Some(Event::Join { process: process.index() }),
+        Act::Fail { process, .. } => Some(Event::Fail {
+            process: process.index(),
+        }),
+        Act::Join { process } => Some(Event::Join {
+            process: process.index(),
+        }),
         Act::GoOn { process } | Act::Back { process, .. } => {
-            Some(Event::Resume { process: process.index() })
+            Some(Event::Resume {
+                process: process.index(),
+            })
         }
         _ => None,
     }
@@ -91,7 +105,10 @@ fn push_comment(
             inc,
         } => {
             let name = name_of(programs, process);
-            write!(text, "# {name} goes back to {interval}, incarnation {inc}\n")
+            write!(
+                text,
+                "# {name} goes back to {interval}, incarnation {inc}\n"
+            )
         }
         Act::Finish { round } => push_finish(text, record, round),
         _ => Ok(()),

@@ -503,11 +503,13 @@ fn checking_of<'a>(
     witness: Option<&'a str>,
     record: Option<&'a str>,
 ) -> Checking<'a> {
-    match (witness, record) {
-        (Some(path), _) => Checking::Witness(path),
-        (None, Some(path)) => Checking::Record(path),
-        (None, None) if check => Checking::Check,
-        (None, None) => Checking::Off,
+    if let Some(path) = witness {
+        return Checking::Witness(path);
+    }
+    match record {
+        Some(path) => Checking::Record(path),
+        None if check => Checking::Check,
+        None => Checking::Off,
     }
 }
 
