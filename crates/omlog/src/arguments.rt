@@ -498,11 +498,7 @@ fn ext_of(with_m: bool) -> Ext
 
 // How a run is to be checked or recorded: with a file for its witness it always is checked. The command line takes no file for
 // a record beside that.
-fn checking_of<'a>(
-    check: bool,
-    witness: Option<&'a str>,
-    record: Option<&'a str>,
-) -> Checking<'a> {
+fn checking_of<'a>(check: bool, witness: Option<&'a str>, record: Option<&'a str>) -> Checking<'a> {
     if let Some(path) = witness {
         return Checking::Witness(path);
     }
