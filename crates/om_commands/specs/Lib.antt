@@ -3,6 +3,7 @@ pub mod ClusterScript
 pub mod Command
 pub mod Decode
 pub mod Errors
+pub mod EventText
 pub mod Events
 pub mod Frontier
 pub mod Hex
