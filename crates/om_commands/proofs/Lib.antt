@@ -1,5 +1,6 @@
 pub mod CheckLemmas
 pub mod DecodeLemmas
+pub mod DrawLemmas
 pub mod ReportLemmas
 pub mod RunLemmas
 pub mod ScriptLemmas

@@ -2,6 +2,7 @@ pub mod Check
 pub mod ClusterScript
 pub mod Command
 pub mod Decode
+pub mod Draw
 pub mod Errors
 pub mod EventText
 pub mod Events

@@ -6,6 +6,7 @@ mod checked;
 mod cluster_script;
 mod command;
 pub mod decode;
+pub mod draw;
 mod error;
 mod event_text;
 mod events;

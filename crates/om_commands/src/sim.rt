@@ -66,7 +66,7 @@ fn answer(alloc: Global, script: &SimScript) -> Result<String, CommandError>
 }
 
 // The world of these programs at its start, over stores that hold nothing.
-fn start(alloc: Global, programs: &Programs) -> Result<World<MemStable>, AllocError>
+pub(crate) fn start(alloc: Global, programs: &Programs) -> Result<World<MemStable>, AllocError>
     requires some { 1 ≤ length programs.now.processes }
     requires few { length programs.now.processes ≤ MAX_PROCESSES }
     ensures begun { IfOk result (IsBegun (programs_of programs.now)) }

@@ -38,6 +38,10 @@ pub record IsCluster (c : Cluster) : Type 0 where
 abbrev pub program_at : Cluster → ℕ → Program
 program_at cluster place = (slice_index_or cluster.programs place ([], record { image = []; size = 0; ext = I })).1
 
+-- the name of the program at a place
+abbrev pub program_name : Cluster → ℕ → List ℕ
+program_name cluster place = (slice_index_or cluster.programs place ([], record { image = []; size = 0; ext = I })).0
+
 -- the program of each process
 abbrev pub programs_of : Cluster → List Program
 programs_of cluster = map (λ e. program_at cluster e.1) cluster.processes

@@ -6,7 +6,7 @@ ghost use Rattle.om_text.specs.Reading.{Gives};
 ghost use Rattle.om_programs.specs.Named.{place_of};
 ghost use Rattle.om_interval.specs.declared.pid.TheConstants.{MAX_PROCESSES};
 ghost use Rattle.om_process.specs.Images.{program_of};
-ghost use Rattle.om_programs.specs.Programs.{IsProgram, no_programs, program_at, program_line, programs_of, process_line};
+ghost use Rattle.om_programs.specs.Programs.{IsProgram, no_programs, program_at, program_line, program_name, programs_of, process_line};
 
 use crate::image::{image_of, words_in};
 use crate::named::Named;
@@ -73,6 +73,15 @@ impl Programs {
         ensures { option_map (λ name. name.now) result ≡ option_map (λ e. e.0) (slice_get self.now.processes place) }
     {
         let (name, _) = self.processes.get(place)?;
+        Some(name)
+    }
+
+    /// The name of the program of a process.
+    pub fn program_of(&self, process: usize) -> Option<&str>
+        ensures { option_map (λ name. name.now) result ≡ option_map (λ e. program_name self.now e.1) (slice_get self.now.processes process) }
+    {
+        let (_, place) = self.processes.get(process)?;
+        let (name, _) = self.programs.get(*place)?;
         Some(name)
     }
 

@@ -28,9 +28,9 @@ const ENDS: [u32; 18] = [
     0x00000513, 0x00000073,
 ];
 
-// Process 0 counts down from 262,144, sends to process 1, and ends. The other receives once, and ends.
+// Process 0 counts down from 67,108,864, sends to process 1, and ends. The other receives once, and ends.
 const COUNTS: [u32; 21] = [
-    0x00400893, 0x00000073, 0x02051863, 0x000402B7, 0xFFF28293, 0xFE029EE3, 0x00100893, 0x00100513,
+    0x00400893, 0x00000073, 0x02051863, 0x040002B7, 0xFFF28293, 0xFE029EE3, 0x00100893, 0x00100513,
     0x10000593, 0x00400613, 0x00000073, 0x00000893, 0x00000513, 0x00000073, 0x00200893, 0x10000513,
     0x00400593, 0x00000073, 0x00000893, 0x00000513, 0x00000073,
 ];
@@ -125,10 +125,12 @@ fn assert_ends<R: Threads + Wait + Abort + Sync>(rt: &R, alloc: Global, n: usize
     assert!(rt; all);
 }
 
-// Process 0 takes some 16,900 turns, 31 instructions each. Process 1 has not many more, and waits.
+// Process 0 takes 1,343 turns of 100,000 instructions each, some half a second. Process 1 has turns for a minute of sleeps, but
+// were each of its looks for a message one, they would be over in a tenth of that time.
 #[test]
 fn one_waits_for_another(rt: HostRuntime) {
-    let config = cluster(&rt, rt.alloc(), (2, &COUNTS), &[], 20_000);
+    let mut config = cluster(&rt, rt.alloc(), (2, &COUNTS), &[], 65_536);
+    config.fuel = 100_000;
     assert_ends(&rt, rt.alloc(), 2, config);
 }
 

@@ -2,9 +2,13 @@
 #![tactic(auto)]
 
 #[cfg(test)]
+mod checks;
+#[cfg(test)]
 mod clusters;
 #[cfg(test)]
 mod commands;
+#[cfg(test)]
+mod image;
 #[cfg(test)]
 mod programs;
 #[cfg(test)]

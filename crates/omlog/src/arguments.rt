@@ -4,10 +4,12 @@ ghost use Rattle.std.specs.Prelude.{◌≡◌};
 ghost use Rattle.omlog.specs.Requests.{ext_of, subcommand_named};
 
 use crate::checking::{Checking, run_as};
+use crate::draw_request::{DRAW, draw_command, window_of};
 use crate::store_files::run_over_tables;
 use clap::error::ErrorKind;
 use clap::{Arg, ArgAction, ArgMatches, Command, Error};
 use om_commands::decode::decode;
+use om_commands::draw::{Window, draw};
 use om_commands::frontier::frontier;
 use om_commands::sim::sim;
 use om_commands::{CommandError, InMemory};
@@ -299,6 +301,7 @@ pub(crate) enum Subcommand {
     Decode,
     Frontier,
     Sim,
+    Draw,
     Run,
     Replay,
     Image,
@@ -310,6 +313,7 @@ pub(crate) enum Request<'a> {
     Decode(Ext),
     Frontier,
     Sim,
+    Draw(Window),
     Run {
         turns: u64,
         prefix: Option<&'a str>,
@@ -351,6 +355,7 @@ fn carry_out<R: Threads + Wait + Sync>(
         Request::Decode(ext) => decode(rt.alloc(), ext, &mut rt.reader(), writer),
         Request::Frontier => frontier(rt.alloc(), &mut rt.reader(), writer),
         Request::Sim => sim(rt.alloc(), &mut rt.reader(), writer),
+        Request::Draw(window) => draw(rt.alloc(), &mut rt.reader(), writer, window),
         Request::Run {
             turns,
             prefix,
@@ -417,7 +422,7 @@ fn chosen<'a>(alloc: Global, words: &'a [String]) -> Result<Request<'a>, Error> 
     match request_of(name, found) {
         Some(request) => Ok(request),
         None => {
-            let what = "INTERVAL is a number of 32 bits, and K one of 64 bits";
+            let what = "INTERVAL and LINE are numbers of 32 bits, and K one of 64 bits";
             Err(mistake(&mut command, ErrorKind::ValueValidation, what))
         }
     }
@@ -437,6 +442,7 @@ fn request_of<'a>(name: &str, found: &ArgMatches<'a>) -> Option<Request<'a>> {
         Subcommand::Decode => Some(Request::Decode(ext_of(found.get_flag(M)))),
         Subcommand::Frontier => Some(Request::Frontier),
         Subcommand::Sim => Some(Request::Sim),
+        Subcommand::Draw => Some(Request::Draw(window_of(found)?)),
         Subcommand::Run => run_request(
             found.get_str(TURNS),
             found.get_str(STORE),
@@ -461,6 +467,7 @@ fn subcommand_of(name: &str) -> Option<Subcommand>
         DECODE => Some(Subcommand::Decode),
         FRONTIER => Some(Subcommand::Frontier),
         SIM => Some(Subcommand::Sim),
+        DRAW => Some(Subcommand::Draw),
         RUN => Some(Subcommand::Run),
         REPLAY => Some(Subcommand::Replay),
         IMAGE => Some(Subcommand::Image),
@@ -543,7 +550,8 @@ fn with_scripts<'a>(alloc: Global, command: Command<'a>) -> Result<Command<'a>, 
         .subcommand(decode_command(alloc)?)?
         .subcommand(image_command(alloc)?)?
         .subcommand(frontier_command(alloc))?
-        .subcommand(sim_command(alloc))
+        .subcommand(sim_command(alloc))?
+        .subcommand(draw_command(alloc)?)
 }
 
 // With those that run clusters, and look into what they stored.

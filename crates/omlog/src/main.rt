@@ -3,6 +3,7 @@
 
 mod arguments;
 mod checking;
+mod draw_request;
 mod store_files;
 
 use std::process::ExitCode;

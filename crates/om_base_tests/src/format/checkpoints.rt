@@ -2,7 +2,7 @@
 
 use crate::format::records::{
     Damage, Record, assert_bytes, assert_damages, assert_spelled, assert_whole, bytes_of, changed,
-    checkpoint_of, spelled, with_byte,
+    checkpoint_fault, checkpoint_of, spelled, with_byte,
 };
 use crate::same::assert_same;
 use om_format::{Checkpoint, DecodeError, Queue, laws};
@@ -136,29 +136,69 @@ fn damaged_checkpoints_have_their_faults(rt: HostRuntime) {
     }
 }
 
-// Each byte of the record made the first byte, and so many that follow it, is refused, or spells another checkpoint.
-fn assert_each_byte(rt: &impl Abort, alloc: Global, record: &[u8], (first, more): (u8, u8)) {
-    for offset in 0..record.len() {
-        for step in 0..=more {
-            let changed = with_byte(rt, alloc, record, offset, first.wrapping_add(step));
-            assert_spelled(rt, alloc, &changed);
-        }
+// A number for each way in which a checkpoint is refused, and 0 where it is not.
+fn number_of(fault: Option<DecodeError>) -> u32 {
+    match fault {
+        None => 0,
+        Some(DecodeError::Short) => 1,
+        Some(DecodeError::Kind) => 2,
+        Some(DecodeError::Version) => 3,
+        Some(DecodeError::Trailing) => 4,
+        Some(DecodeError::Field(offset)) => match u32::try_from(offset) {
+            Ok(offset) => offset.wrapping_add(5),
+            Err(_) => u32::MAX,
+        },
+        Some(DecodeError::Memory) => u32::MAX,
     }
 }
 
-// A record, the first of the bytes that its bytes are made, and how many follow it: all, and from 0xFF to 0x02.
-const CHANGED: [(Record, (u8, u8)); 3] = [
-    (Record::FirstInVersion1, (0x00, 255)),
-    (Record::FirstInVersion2, (0x00, 255)),
-    (Record::Of16Processes, (0xFF, 3)),
+// The record is refused, or spells another checkpoint; why, as one more digit of a sum.
+fn add_fault(rt: &impl Abort, alloc: Global, record: &[u8], sum: u32) -> u32 {
+    assert_spelled(rt, alloc, record);
+    let fault = checkpoint_fault(alloc, record);
+    sum.wrapping_mul(31).wrapping_add(number_of(fault))
+}
+
+// Adds what becomes of the record with the byte at an offset made the first byte, and so many that follow it.
+fn add_faults(
+    rt: &impl Abort,
+    alloc: Global,
+    (record, offset): (&[u8], usize),
+    (first, more): (u8, u8),
+    mut sum: u32,
+) -> u32 {
+    for step in 0..=more {
+        let changed = with_byte(rt, alloc, record, offset, first.wrapping_add(step));
+        sum = add_fault(rt, alloc, &changed, sum);
+    }
+    sum
+}
+
+// The sum of what becomes of the record with each of its bytes made others.
+fn sum_of_faults(rt: &impl Abort, alloc: Global, record: &[u8], bytes: (u8, u8)) -> u32 {
+    let mut sum = 0;
+    for offset in 0..record.len() {
+        sum = add_faults(rt, alloc, (record, offset), bytes, sum);
+    }
+    sum
+}
+
+// A record; the first of the bytes that its bytes are made, and how many follow it: all, and from 0xFF to 0x02; and the sum
+// that a plain reader of the format in another language comes to.
+const CHANGED: [(Record, (u8, u8), u32); 4] = [
+    (Record::FirstInVersion1, (0x00, 255), 0x2E0E_61DE),
+    (Record::FirstInVersion2, (0x00, 255), 0x9F83_3CC8),
+    (Record::WithEntries, (0xFF, 3), 0xFBB5_2F34),
+    (Record::Of16Processes, (0xFF, 3), 0xC4ED_58DF),
 ];
 
 #[test]
 fn a_changed_byte_is_refused_or_spells_another_checkpoint(rt: HostRuntime) {
     let alloc = rt.alloc();
-    for (record, bytes) in &CHANGED {
+    for (record, bytes, sum) in &CHANGED {
         let record = bytes_of(&rt, alloc, *record);
-        assert_each_byte(&rt, alloc, &record, *bytes);
+        let told = sum_of_faults(&rt, alloc, &record, *bytes);
+        assert!(&rt; told == *sum);
     }
 }
 

@@ -1,0 +1,208 @@
+//! The command `draw`: the picture of a world that is played.
+
+ghost use Rattle.std.specs.Prelude.{◌≡◌, ◌⊎◌, ◌∷◌, [], ℕ, List, length, take, IfSome, IfOk, IfErr, OnOk, OnErr, string_bytes};
+ghost use Rattle.std.specs.Io.KnownBytes.{Appends, Keeps};
+ghost use Rattle.om_world.specs.Played.{Played};
+ghost use Rattle.om_world.specs.World.{IsKnown};
+ghost use Rattle.om_commands.specs.Command.{IsErrorOf, IsScript, IsSilent};
+ghost use Rattle.om_commands.specs.Draw.{ArePlayed, IsDrawn, IsPictureOf, IsPlayedPicture, count_within, event_lines};
+ghost use Rattle.om_commands.specs.Sim.{LacksProcesses};
+ghost use Rattle.om_commands.specs.SimScript.{meaning_of, no_lines};
+
+use crate::command::write_answer;
+use crate::error::CommandError;
+use crate::sim::start;
+use crate::sim_script::SimScript;
+use om_picture::reading::{play_step, standings_of};
+use om_picture::{Picture, Step, picture_text};
+use om_programs::Programs;
+use om_stable::MemStable;
+use om_text::{numbered_lines, read_script, read_text};
+use om_world::{Event, World};
+use std::alloc::{AllocError, Global};
+use std::io::{Read, Write};
+
+/// The lines of a script whose events a picture shows.
+#[derive(Clone, Copy)]
+pub struct Window {
+    /// The first one. What happened before it is played, and stands at the left side as it was.
+    pub from: usize,
+    /// The last one. What is behind it is not played.
+    pub to: usize,
+}
+
+/// Reads a script of programs, processes and events whole, plays the events up to the window's last line over stores in
+/// memory, and then writes a picture of those of the window.
+pub fn draw<R: Read, W: Write>(
+    alloc: Global,
+    reader: &mut R,
+    writer: &mut W,
+    window: Window,
+) -> Result<(), CommandError>
+    ensures text { IfSome (R.remaining reader.old) (λ bytes. OnOk result ((text : List ℕ) × IsDrawn window.to bytes text
+        × Appends (W.contents writer.old) (W.contents writer.new) text)) }
+    ensures error { IfSome (R.remaining reader.old) (λ bytes.
+        IfErr result (IsErrorOf meaning_of no_lines LacksProcesses bytes)) }
+    ensures silent { IfErr result (λ error. IsSilent error (Keeps (W.contents writer.old) (W.contents writer.new))) }
+{
+    let text = picture_of(alloc, reader, window)?;
+    write_answer(writer, text.as_bytes())
+}
+
+// The picture of the script of an input.
+fn picture_of<R: Read>(
+    alloc: Global,
+    reader: &mut R,
+    window: Window,
+) -> Result<String, CommandError>
+    ensures text { IfSome (R.remaining reader.old) (λ bytes. IfOk result (λ text. IsDrawn window.to bytes (string_bytes text))) }
+    ensures error { IfSome (R.remaining reader.old) (λ bytes.
+        IfErr result (IsErrorOf meaning_of no_lines LacksProcesses bytes)) }
+{
+    let input = read_events(alloc, reader)?;
+    let lines = event_lines(alloc, &input)?;
+    let count = count_within(&lines, window.to);
+    draw_script(alloc, &input.script, &lines, count, window.from)
+}
+
+// An input, and the script that it is.
+#[derive(Drop)]
+struct Input {
+    bytes: Vec<u8>,
+    script: SimScript,
+}
+
+// Reads an input and its script.
+fn read_events<R: Read>(alloc: Global, reader: &mut R) -> Result<Input, CommandError>
+    ensures script { IfSome (R.remaining reader.old) (λ bytes.
+        IfOk result (λ input. (input.bytes.items ≡ bytes) × IsScript meaning_of no_lines bytes input.script)) }
+    ensures error { IfSome (R.remaining reader.old) (λ bytes.
+        IfErr result (IsErrorOf meaning_of no_lines (λ _. ⊥) bytes)) }
+{
+    let bytes = read_text(alloc, reader)?;
+    let script = read_script(alloc, &bytes, SimScript::new(alloc))?;
+    Ok(Input { bytes, script })
+}
+
+// The numbers of the lines of the events, which stand behind all others.
+fn event_lines(alloc: Global, input: &Input) -> Result<Vec<usize>, AllocError>
+    ensures { IfOk result (λ lines. lines.items ≡ event_lines input.now.bytes.items (length input.now.script.events)) }
+{
+    let lines = numbered_lines(alloc, &input.bytes)?;
+    let head = lines.len().saturating_sub(input.script.events().len());
+    Vec::from_slice(alloc, &lines[head..])
+}
+
+// How many of these lines stand at this line or before it.
+fn count_within(lines: &[usize], last: usize) -> usize
+    ensures { result ≡ count_within lines.now last }
+{
+    lines.iter().filter(|line| **line <= last).count()
+}
+
+// The picture of the first events of a script, so many, whose window begins at a line.
+fn draw_script(
+    alloc: Global,
+    script: &SimScript,
+    lines: &[usize],
+    count: usize,
+    from: usize,
+) -> Result<String, CommandError>
+    ensures text { IfOk result (λ text. IsPictureOf script.now count (string_bytes text)) }
+    ensures error { IfErr result (λ error. (error ≡ CommandError.NoMemory)
+        ⊎ ((error ≡ CommandError.EmptyScript) × LacksProcesses script.now)) }
+{
+    let programs = script.programs();
+    if programs.n() == 0 {
+        return Err(CommandError::EmptyScript);
+    }
+    let mut world = start(alloc, programs)?;
+    Ok(played_picture(alloc, script, lines, count, from, &mut world)?)
+}
+
+// The same, from this world on.
+fn played_picture(
+    alloc: Global,
+    script: &SimScript,
+    lines: &[usize],
+    count: usize,
+    from: usize,
+    world: &mut World<MemStable>,
+) -> Result<String, AllocError>
+    requires known { IsKnown world.old }
+    ensures { IfOk result (λ text. IsPlayedPicture script.now count world.old (string_bytes text)) }
+{
+    let programs = script.programs();
+    let recovery = world.manager().recovery();
+    let mut picture = Picture::new(alloc, recovery, longest(programs), from)?;
+    let events = first_of(script.events(), count);
+    play(alloc, world, events, lines, &mut picture)?;
+    let lengths = name_lengths(alloc, programs)?;
+    let standings = standings_of(alloc, world, programs.n())?;
+    let drawn = picture.end(alloc, &standings, &lengths)?;
+    picture_text(alloc, programs, &drawn)
+}
+
+// The first events, so many.
+fn first_of(events: &[Event], count: usize) -> &[Event]
+    ensures { result.now ≡ take count events.now }
+{
+    &events[..count.min(events.len())]
+}
+
+// Plays events, and draws what each shows.
+fn play(
+    alloc: Global,
+    world: &mut World<MemStable>,
+    events: &[Event],
+    lines: &[usize],
+    picture: &mut Picture,
+) -> Result<(), AllocError>
+    requires known { IsKnown world.old }
+    ensures played { OnOk result (ArePlayed world.old events.now world.new) }
+    ensures known { IsKnown world.new }
+{
+    for k in 0..events.len() {
+        let line = lines.get(k).copied().unwrap_or(0);
+        let step = play_line(alloc, world, line, events[k])?;
+        picture.draw(alloc, &step)?;
+    }
+    Ok(())
+}
+
+// Plays the event of a line over stores that never fail.
+fn play_line(
+    alloc: Global,
+    world: &mut World<MemStable>,
+    line: usize,
+    event: Event,
+) -> Result<Step, AllocError>
+    requires known { IsKnown world.old }
+    ensures played { IfOk result (λ step. Played world.old (event ∷ []) (step.answer ∷ []) world.new) }
+    ensures known { IsKnown world.new }
+{
+    play_step(alloc, world, line, event)
+}
+
+// How many characters the names of the processes have.
+fn name_lengths(alloc: Global, programs: &Programs) -> Result<Vec<u32>, AllocError> {
+    let mut lengths = Vec::new(alloc);
+    for p in 0..programs.n() {
+        lengths.push(length_of(programs.name(p)))?;
+    }
+    Ok(lengths)
+}
+
+fn length_of(name: Option<&str>) -> u32 {
+    u32::try_from(name.unwrap_or("").len()).unwrap_or(0)
+}
+
+// How many characters the longest name of a process or of its program has.
+fn longest(programs: &Programs) -> u32 {
+    let mut longest = 0;
+    for p in 0..programs.n() {
+        longest = length_of(programs.name(p)).max(longest);
+        longest = length_of(programs.program_of(p)).max(longest);
+    }
+    longest
+}

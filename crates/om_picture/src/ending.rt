@@ -1,0 +1,276 @@
+//! The right side of a picture: how all stands in the end.
+
+use crate::column::AXIS;
+use crate::counts::Counts;
+use crate::frame::Frame;
+use crate::lane::{Stand, lane_y};
+use crate::measure::{CHARACTER, digits, standing_length};
+use crate::page::{Page, count_of};
+use crate::picture::Picture;
+use crate::rounds::before;
+use crate::settle::{Fate, place_of};
+use crate::sheet::{Crossed, Crossing, Shape, Sheet, Spot, Style, Way, What};
+use crate::shown::Shown;
+use crate::step::Standing;
+use om_interval::DepVec;
+use std::alloc::{AllocError, Global};
+
+// The least width: that of the legend.
+const LEAST: u32 = 880;
+
+/// A picture that is whole.
+#[derive(Drop)]
+pub struct Drawn {
+    pub sheet: Sheet,
+    pub marks: Vec<Shape>,
+    pub counts: Counts,
+    pub width: u32,
+    pub height: u32,
+    /// How many lanes it has, where their bands end, and where the legend begins.
+    pub lanes: u32,
+    pub bottom: u32,
+    pub legend: u32,
+}
+
+// Frames of one place and one receiver that follow each other, and how many of them were never given.
+#[derive(Clone, Copy)]
+struct Group {
+    x: u32,
+    from: u32,
+    to: u32,
+    few: u64,
+}
+
+fn group_of(frame: &Frame) -> Group {
+    Group {
+        x: frame.x,
+        from: frame.from,
+        to: frame.to,
+        few: u64::from(!frame.given),
+    }
+}
+
+// The characters of the longest word behind the lanes.
+fn longest(recovery: DepVec, standings: &[Option<Standing>], lengths: &[u32]) -> u32 {
+    let mut longest = 0;
+    for length in lengths {
+        longest = longest.max(*length);
+    }
+    for standing in standings {
+        longest = longest.max(standing_length(*standing));
+    }
+    for place in recovery.as_slice() {
+        longest = longest.max(digits(u64::from(*place)).saturating_add(9));
+    }
+    longest
+}
+
+impl Page {
+    // The right side of the lanes.
+    fn right(&self) -> u32 {
+        let mut right = self.cur;
+        for lane in &self.lanes {
+            right = right.max(lane.end());
+        }
+        right.saturating_add(16)
+    }
+
+    // Draws the band of a gathering that is open.
+    fn end_band(&mut self, right: u32) -> Result<(), AllocError> {
+        match self.opened {
+            Some(opened) => self.band(opened, right, What::Gathering),
+            None => Ok(()),
+        }
+    }
+
+    // Draws what is left of a lane whose first mark that is not covered stands here: the place of the last line.
+    fn end_road(&mut self, p: usize, first: Option<u32>, right: u32) -> Result<u32, AllocError> {
+        let lane = self.lane_at(p);
+        if lane.stand == Stand::Up {
+            self.stretch_up(&lane, right)?;
+        } else {
+            self.stretch_up(&lane, lane.stop)?;
+            self.stretch(lane.away(), &lane, lane.wait, right)?;
+        }
+        match first {
+            Some(x) => Ok(before(x, self.left)),
+            None => Ok(right),
+        }
+    }
+
+    // The words behind a lane: its name, its state and its place in the recovery state.
+    fn tell_lane(
+        &mut self,
+        p: usize,
+        right: u32,
+        standing: Option<Standing>,
+        place: u32,
+    ) -> Result<(), AllocError> {
+        let x = right.saturating_add(12);
+        let y = self.y(p);
+        self.say(Style::Plain, x, y.saturating_sub(9), What::Name(p))?;
+        let beside = y.saturating_add(3);
+        self.say(Style::Small, x, beside, What::Standing(standing))?;
+        self.say(Style::Small, x, y.saturating_add(15), What::Place(place))
+    }
+
+    // The words before the lanes.
+    fn name_lanes(&mut self) -> Result<(), AllocError> {
+        for p in 0..self.lanes.len() {
+            let y = self.y(p);
+            self.say(Style::Plain, 16, y, What::Name(p))?;
+            self.say(Style::Grey, 16, y.saturating_add(12), What::Program(p))?;
+        }
+        self.say(Style::Grey, 16, AXIS, What::Line)
+    }
+
+    // A stub for the frames of an event to one receiver that were never given.
+    fn stubs(&mut self) -> Result<(), AllocError> {
+        let mut open: Option<Group> = None;
+        for k in 0..self.frames.len() {
+            let Some(frame) = self.frames.get(k).copied() else {
+                return Ok(());
+            };
+            open = Some(self.grouped(open, &frame)?);
+        }
+        match open {
+            Some(group) => self.stub(group),
+            None => Ok(()),
+        }
+    }
+
+    // The group with one frame more; a stub for the group where the frame is none of it.
+    fn grouped(&mut self, open: Option<Group>, frame: &Frame) -> Result<Group, AllocError> {
+        let Some(group) = open else {
+            return Ok(group_of(frame));
+        };
+        if group.x == frame.x && group.to == frame.to {
+            return Ok(Group {
+                few: group.few.saturating_add(u64::from(!frame.given)),
+                ..group
+            });
+        }
+        self.stub(group)?;
+        Ok(group_of(frame))
+    }
+
+    fn stub(&mut self, group: Group) -> Result<(), AllocError> {
+        if group.few == 0 || group.x == 0 {
+            return Ok(());
+        }
+        let from = Spot {
+            x: group.x,
+            lane: group.from,
+        };
+        let below = group.to > group.from;
+        self.sheet.send.push(Way::Stub { below, from })?;
+        if group.few == 1 {
+            return Ok(());
+        }
+        let y = lane_y(group.from);
+        let y = if below {
+            y.saturating_add(20)
+        } else {
+            y.saturating_sub(11)
+        };
+        let x = group.x.saturating_add(12);
+        self.say(Style::Grey, x, y, What::Number(group.few))
+    }
+}
+
+impl Picture {
+    /// The whole picture, where the processes stand so in the end, and their names have so many characters.
+    pub fn end(
+        self,
+        alloc: Global,
+        standings: &[Option<Standing>],
+        lengths: &[u32],
+    ) -> Result<Drawn, AllocError> {
+        let mut picture = self;
+        let right = picture.page.right();
+        if picture.on {
+            picture.page.end_band(right)?;
+        }
+        picture.end_lanes(alloc, right, standings)?;
+        picture.page.stubs()?;
+        picture.page.name_lanes()?;
+        let longest = longest(picture.recovery, standings, lengths);
+        Ok(picture.drawn(right, longest))
+    }
+
+    // Draws what is left of each lane, and the last line.
+    fn end_lanes(
+        &mut self,
+        alloc: Global,
+        right: u32,
+        standings: &[Option<Standing>],
+    ) -> Result<(), AllocError> {
+        let recovery = self.recovery;
+        let mut places = Vec::new(alloc);
+        for p in 0..self.histories.len() {
+            let x = self.end_lane(p, right)?;
+            places.push(self.page.spot(p, x))?;
+            let standing = standings.get(p).copied().unwrap_or(None);
+            let place = place_of(recovery, p);
+            self.page.tell_lane(p, right, standing, place)?;
+        }
+        let kind = Crossed::End(recovery);
+        self.page.sheet.line.push(Crossing { places, kind })?;
+        Ok(())
+    }
+
+    fn drawn(self, right: u32, longest: u32) -> Drawn {
+        let words = longest.saturating_mul(CHARACTER);
+        let width = right.saturating_add(24).saturating_add(words).max(LEAST);
+        let page = self.page;
+        let bottom = page.bottom();
+        let lanes = count_of(page.lanes.len());
+        Drawn {
+            sheet: page.sheet,
+            marks: self.marks,
+            counts: page.counts,
+            width,
+            height: bottom.saturating_add(168),
+            lanes,
+            bottom,
+            legend: bottom.saturating_add(46),
+        }
+    }
+
+    // Draws what is left of a lane: the place of the last line.
+    fn end_lane(&mut self, p: usize, right: u32) -> Result<u32, AllocError> {
+        let Some(history) = self.histories.get(p) else {
+            return Ok(right);
+        };
+        let place = self.page.end_road(p, history.first(), right)?;
+        self.end_marks(p)?;
+        Ok(place)
+    }
+
+    // Draws the marks that are left of a lane as they stand.
+    fn end_marks(&mut self, p: usize) -> Result<(), AllocError> {
+        let Some(history) = self.histories.get(p) else {
+            return Ok(());
+        };
+        let stored = history.stored;
+        let from = history.settled;
+        let to = history.marks.len();
+        for k in from..to {
+            self.end_mark(p, k, stored)?;
+        }
+        self.pass(p, to);
+        Ok(())
+    }
+
+    fn end_mark(&mut self, p: usize, k: usize, stored: u32) -> Result<(), AllocError> {
+        let Some(mark) = self.mark_at(p, k) else {
+            return Ok(());
+        };
+        let is_receipt = matches!(mark.shown, Shown::Receipt { .. });
+        let fate = Fate {
+            cut: false,
+            safe: is_receipt && mark.interval <= stored,
+        };
+        self.settle(p, &mark, fate)
+    }
+}

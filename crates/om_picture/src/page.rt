@@ -1,0 +1,217 @@
+//! The page: where the next column may stand, and all pieces but the marks.
+
+use crate::counts::Counts;
+use crate::frame::{Frame, add_frames};
+use crate::lane::{Lane, Stand, add_stretch, lane_y, or_left};
+use crate::measure::{CHARACTER, digits};
+use crate::sheet::{Band, Numbers, Sheet, Spot, Stretch, Style, What, Word};
+use crate::step::Step;
+use std::alloc::{AllocError, Global};
+
+/// How far apart the names of the lanes are told again.
+pub(crate) const AGAIN: u32 = 1200;
+
+// The height of the names of rounds.
+const ROUNDS: u32 = 68;
+
+/// What has been drawn beside the marks, and where the next column may stand.
+#[derive(Drop)]
+pub(crate) struct Page {
+    // The left side, the right side of the last column, and its middle.
+    pub left: u32,
+    pub cur: u32,
+    pub x: u32,
+    // Where the next number of a line may begin, the next text of a state, and the next names.
+    pub axis: u32,
+    pub foot: u32,
+    pub again: u32,
+    // The rounds that are finished, and where the open gathering began.
+    pub round: u32,
+    pub opened: Option<u32>,
+    pub lanes: Vec<Lane>,
+    pub frames: Vec<Frame>,
+    pub counts: Counts,
+    pub sheet: Sheet,
+}
+
+/// So many numbers from the first on.
+pub(crate) fn numbers(first: u64, count: u64) -> Numbers {
+    Numbers {
+        first,
+        last: first.saturating_add(count.saturating_sub(1)),
+        count,
+    }
+}
+
+impl Page {
+    /// The page of so many lanes. `longest`: the characters of the longest name.
+    pub(crate) fn new(alloc: Global, count: usize, longest: u32) -> Result<Page, AllocError> {
+        let left = longest.saturating_mul(7).saturating_add(24).max(56);
+        let mut lanes = Vec::new(alloc);
+        let mut number: u32 = 0;
+        for _ in 0..count {
+            lanes.push(Lane::new(number, left))?;
+            number = number.saturating_add(1);
+        }
+        Ok(Page {
+            left,
+            cur: left,
+            x: left,
+            axis: 0,
+            foot: 0,
+            again: left.saturating_add(AGAIN),
+            round: 0,
+            opened: None,
+            lanes,
+            frames: Vec::new(alloc),
+            counts: Counts::new(),
+            sheet: Sheet::new(alloc),
+        })
+    }
+
+    /// Adds a word.
+    pub(crate) fn say(
+        &mut self,
+        style: Style,
+        x: u32,
+        y: u32,
+        what: What,
+    ) -> Result<(), AllocError> {
+        self.sheet.text.push(Word { style, x, y, what })?;
+        Ok(())
+    }
+
+    /// Tells how a lane stands as the window begins, where that is not the start.
+    pub(crate) fn begin_lane(&mut self, p: usize, interval: u32) -> Result<(), AllocError> {
+        let lane = self.lane_at(p);
+        if lane.stand == Stand::Down || (lane.inc == 0 && interval == 0) {
+            return Ok(());
+        }
+        let x = self.left.saturating_add(2);
+        let y = lane.y();
+        let number = digits(u64::from(interval)).saturating_mul(CHARACTER);
+        let inc = digits(u64::from(lane.inc))
+            .saturating_add(4)
+            .saturating_mul(CHARACTER);
+        let what = What::Number(u64::from(interval));
+        self.say(Style::Plain, x, y.saturating_sub(5), what)?;
+        let below = y.saturating_add(20);
+        self.say(Style::Small, x, below, What::Inc(lane.inc))?;
+        if let Some(lane) = self.lanes.get_mut(p) {
+            lane.beside = x.saturating_add(number).saturating_add(4);
+            lane.below = x.saturating_add(inc).saturating_add(4);
+        }
+        Ok(())
+    }
+
+    pub(crate) fn lane_at(&self, p: usize) -> Lane {
+        match self.lanes.get(p) {
+            Some(lane) => *lane,
+            None => Lane::new(0, self.left),
+        }
+    }
+
+    /// A place on the lane of a process.
+    pub(crate) fn spot(&self, p: usize, x: u32) -> Spot {
+        Spot {
+            x,
+            lane: self.lane_at(p).number,
+        }
+    }
+
+    /// New frames, and their numbers.
+    pub(crate) fn make(
+        &mut self,
+        x: u32,
+        p: usize,
+        step: &Step,
+        again: bool,
+    ) -> Result<Numbers, AllocError> {
+        let from = self.lane_at(p).number;
+        let first = self.frames.len() as u64;
+        let count = add_frames(&mut self.frames, x, from, &step.frames, again)?;
+        Ok(numbers(first, count))
+    }
+
+    /// The frame of a number, which is given now.
+    pub(crate) fn give(&mut self, frame: usize) -> Option<Frame> {
+        let frame = self.frames.get_mut(frame)?;
+        frame.given = true;
+        Some(*frame)
+    }
+
+    /// No receipt of a process is in memory only: the place of the first that was.
+    pub(crate) fn lose(&mut self, p: usize) -> Option<u32> {
+        let lane = self.lanes.get_mut(p)?;
+        let loose = lane.loose;
+        lane.loose = None;
+        loose
+    }
+
+    /// A receipt of a process is in memory only.
+    pub(crate) fn hold(&mut self, p: usize, x: u32) {
+        if let Some(lane) = self.lanes.get_mut(p)
+            && lane.loose.is_none()
+        {
+            lane.loose = Some(x);
+        }
+    }
+
+    /// The process is in or down from here on.
+    pub(crate) fn leave(&mut self, p: usize, x: u32, stand: Stand) -> Result<(), AllocError> {
+        match self.lanes.get_mut(p) {
+            Some(lane) => lane.leave(&mut self.sheet.road, x, self.left, stand),
+            None => Ok(()),
+        }
+    }
+
+    /// The process is up from here on.
+    pub(crate) fn stand_up(&mut self, p: usize, x: u32) -> Result<(), AllocError> {
+        let lane = self.lane_at(p);
+        let road = &mut self.sheet.road;
+        add_stretch(road, lane.away(), lane.number, lane.wait, x)?;
+        if let Some(lane) = self.lanes.get_mut(p) {
+            lane.stand = Stand::Up;
+            lane.live = Some(or_left(x, self.left));
+        }
+        Ok(())
+    }
+
+    /// Draws the stretch in which a process was up, if that is not drawn.
+    pub(crate) fn stretch_up(&mut self, lane: &Lane, to: u32) -> Result<(), AllocError> {
+        self.stretch(lane.up(), lane, lane.live.unwrap_or(to), to)
+    }
+
+    pub(crate) fn stretch(
+        &mut self,
+        kind: Stretch,
+        lane: &Lane,
+        from: u32,
+        to: u32,
+    ) -> Result<(), AllocError> {
+        add_stretch(&mut self.sheet.road, kind, lane.number, from, to)
+    }
+
+    /// Draws a round, from its left to its right side.
+    pub(crate) fn band(&mut self, left: u32, right: u32, what: What) -> Result<(), AllocError> {
+        self.sheet.back.push(Band { left, right })?;
+        self.say(Style::Small, left, ROUNDS, what)
+    }
+
+    /// The height at which bands end.
+    pub(crate) fn bottom(&self) -> u32 {
+        count_of(self.lanes.len())
+            .saturating_mul(64)
+            .saturating_add(80)
+    }
+
+    /// The height of a lane.
+    pub(crate) fn y(&self, p: usize) -> u32 {
+        lane_y(self.lane_at(p).number)
+    }
+}
+
+/// So many lanes, as a number of 32 bits.
+pub(crate) fn count_of(lanes: usize) -> u32 {
+    u32::try_from(lanes).unwrap_or(0)
+}

@@ -1,0 +1,136 @@
+//! Rounds: what they cut, and the lines to which all went back.
+
+use crate::lane::or_left;
+use crate::measure::{CHARACTER, recovery_length};
+use crate::page::Page;
+use crate::picture::{Picture, state_if, title_of};
+use crate::settle::Fate;
+use crate::sheet::{Crossed, Crossing, More, Spot, Stretch, Style, What};
+use crate::step::Step;
+use om_interval::DepVec;
+use std::alloc::{AllocError, Global};
+
+// From a mark to the recovery line beside it.
+const GAP: u32 = 9;
+
+/// Where a recovery line passes before a mark at this place, which it does not cover.
+pub(crate) fn before(x: u32, left: u32) -> u32 {
+    if x == 0 { left } else { x.saturating_sub(GAP) }
+}
+
+impl Page {
+    // Draws the stretches of a lane that a round cut at its first mark that is cut: the place of the recovery line.
+    fn cut_road(&mut self, p: usize, first: Option<u32>) -> Result<u32, AllocError> {
+        let lane = self.lane_at(p);
+        let place = match first {
+            Some(x) => {
+                let at = or_left(x, self.left);
+                self.stretch_up(&lane, at)?;
+                self.stretch(Stretch::Cut, &lane, at, lane.stop)?;
+                before(x, self.left)
+            }
+            None => {
+                self.stretch_up(&lane, lane.stop)?;
+                lane.stop.saturating_add(GAP)
+            }
+        };
+        if let Some(lane) = self.lanes.get_mut(p) {
+            lane.live = None;
+        }
+        Ok(place)
+    }
+
+    // The band, the name, the recovery line and the recovery state of a round.
+    fn tell_round(
+        &mut self,
+        step: &Step,
+        changed: bool,
+        places: Vec<Spot>,
+    ) -> Result<(), AllocError> {
+        self.counts.add_round();
+        let opened = self.opened.unwrap_or(self.left);
+        self.band(opened, self.cur, What::Round(self.round))?;
+        let state = step.recovery;
+        let more = More::Round {
+            changed: state_if(changed, step),
+            round: self.round,
+            state,
+        };
+        let kind = Crossed::Round(title_of(step, more));
+        self.sheet.line.push(Crossing { places, kind })?;
+        self.tell_foot(opened, state)
+    }
+
+    // The recovery state of a round below its band, where there is room.
+    fn tell_foot(&mut self, opened: u32, state: DepVec) -> Result<(), AllocError> {
+        if opened < self.foot {
+            return Ok(());
+        }
+        let y = self.bottom().saturating_add(12);
+        self.say(Style::Small, opened, y, What::Recovery(state))?;
+        let length = recovery_length(state.as_slice()).saturating_mul(CHARACTER);
+        self.foot = opened.saturating_add(length).saturating_add(8);
+        Ok(())
+    }
+}
+
+impl Picture {
+    // All is cut to the recovery state.
+    pub(crate) fn finish(
+        &mut self,
+        alloc: Global,
+        step: &Step,
+        changed: bool,
+    ) -> Result<(), AllocError> {
+        self.page.round = self.page.round.saturating_add(1);
+        let mut places = Vec::new(alloc);
+        for p in 0..self.histories.len() {
+            let x = self.cut_lane(p)?;
+            places.push(self.page.spot(p, x))?;
+        }
+        if self.on {
+            self.page.tell_round(step, changed, places)?;
+        }
+        self.page.opened = None;
+        Ok(())
+    }
+
+    // Cuts a lane: the place of the recovery line.
+    fn cut_lane(&mut self, p: usize) -> Result<u32, AllocError> {
+        let Some(history) = self.histories.get(p) else {
+            return Ok(self.page.left);
+        };
+        let place = self.page.cut_road(p, history.first())?;
+        self.cut_marks(p)?;
+        Ok(place)
+    }
+
+    // Draws the marks that are left of a lane as cut.
+    fn cut_marks(&mut self, p: usize) -> Result<(), AllocError> {
+        let Some(history) = self.histories.get(p) else {
+            return Ok(());
+        };
+        let stored = history.stored;
+        let from = history.settled;
+        let to = history.marks.len();
+        for k in from..to {
+            self.cut_mark(p, k, stored)?;
+        }
+        self.pass(p, to);
+        Ok(())
+    }
+
+    fn cut_mark(&mut self, p: usize, k: usize, stored: u32) -> Result<(), AllocError> {
+        let Some(mark) = self.mark_at(p, k) else {
+            return Ok(());
+        };
+        if mark.x != 0 && self.on {
+            self.page.counts.add_fate(mark.fresh, true);
+        }
+        let fate = Fate {
+            cut: true,
+            safe: mark.interval <= stored,
+        };
+        self.settle(p, &mark, fate)
+    }
+}

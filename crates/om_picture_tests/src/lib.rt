@@ -1,0 +1,5 @@
+//! Pictures of scripts, compared byte for byte, by their digests.
+#![tactic(auto)]
+
+#[cfg(test)]
+mod pictures;

@@ -1,0 +1,7 @@
+//! Checked runs: what a witness may name, what a check refuses, and the texts of clusters over both kinds of store.
+
+mod examples;
+mod plays;
+mod rings;
+mod runs;
+mod witnesses;
