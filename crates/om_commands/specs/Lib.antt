@@ -4,6 +4,7 @@ pub mod Command
 pub mod Decode
 pub mod Draw
 pub mod Errors
+pub mod EventText
 pub mod Events
 pub mod Frontier
 pub mod Hex

@@ -18,6 +18,7 @@ use crate::links::Links;
 use crate::network::{Ends, Network, connected};
 use crate::node::Node;
 use crate::opener::{Gate, OpenFault, Opener};
+use crate::recorder::Recorder;
 use crate::settle::settle_all;
 use crate::trouble::load_fault;
 use crate::witness::Past;
@@ -47,6 +48,8 @@ struct Cluster<'s, K: Naming, R, G, O> {
     stop: &'s AtomicBool,
     // Whether what each process did is to be kept.
     keeps: bool,
+    // Takes in what the threads do, where that is asked for.
+    recorder: Option<&'s Recorder>,
     // By sender, and there by receiver.
     inboxes: &'s [Vec<Inbox>],
     // By process, what wakes its worker.
@@ -271,9 +274,11 @@ fn work<'a, K: Naming, R: Wait, G: Gate, O: Opener<R>>(
         shared,
         stop,
         keeps,
+        recorder,
         ..
     } = *cluster;
-    let worker = Worker::new(plan, shared, links, kills, Past::new(alloc, keeps));
+    let past = Past::new(alloc, keeps);
+    let worker = Worker::new(plan, shared, links, kills, past, alloc, recorder);
     take_turns(rt, alloc, plan.turns, stop, worker, node, pass)
 }
 
@@ -583,6 +588,7 @@ fn run_named<
     gate: &G,
     opener: &O,
     keeps: bool,
+    recorder: Option<&Recorder>,
     blank: Blank,
 ) -> Result<(Report, Vec<O::Store>, Vec<Witness>), RunFault>
     requires named { blank ≡ K.cell }
@@ -615,6 +621,7 @@ fn run_named<
         shared: &shared,
         stop: &stop,
         keeps,
+        recorder,
         inboxes: &inboxes,
         bells: &bells,
     };
@@ -644,7 +651,7 @@ pub fn run_and_keep_stores<R: Threads + Wait + Sync, G: Gate + Sync, O: Opener<R
         return Err(RunFault::Memory);
     };
     let (report, stores, _) = run_named::<Brand, R, G, O>(
-        rt, alloc, config, gate, opener, false, blank,
+        rt, alloc, config, gate, opener, false, None, blank,
     )?;
     Ok((report, stores))
 }
@@ -670,9 +677,44 @@ pub fn run_and_keep_witnesses<R: Threads + Wait + Sync, G: Gate + Sync, O: Opene
         return Err(RunFault::Memory);
     };
     let (report, _, witnesses) = run_named::<Brand, R, G, O>(
-        rt, alloc, config, gate, opener, true, blank,
+        rt, alloc, config, gate, opener, true, None, blank,
     )?;
     Ok((report, witnesses))
+}
+
+/// Runs a cluster as [`run_cluster`] does, while `recorder` takes in what its threads do. A process then notes what it stored before
+/// it runs on. What was taken in of a run that is refused stands in the recorder.
+pub fn run_and_record<R: Threads + Wait + Sync, G: Gate + Sync, O: Opener<R> + Sync>(
+    rt: &R,
+    alloc: Global,
+    config: &Config,
+    gate: &G,
+    opener: &O,
+    recorder: &Recorder,
+) -> Result<Report, RunFault>
+    requires some { 1 ≤ length config.now.images.items }
+    requires few { length config.now.images.items ≤ MAX_PROCESSES }
+    ensures released { IfOk result (λ report. AreAllReleased report.front.vec report.released.items) }
+    ensures processes { IfOk result (λ report. length report.released.items ≡ length config.now.images.items) }
+    ensures statuses { IfOk result (λ report. length report.statuses.items ≡ length config.now.images.items) }
+    ensures ended { IfOk result (λ report. All IsEnd report.statuses.items) }
+    ensures along { ((store : O.Store) → IsTrue (O.Store.is_clean store))
+        → IfOk result (λ report. AreStatusesAlong config.now.images.items report.statuses.items) }
+{
+    let Ok(blank) = Blank::new(alloc, config.images.len()) else {
+        return Err(RunFault::Memory);
+    };
+    let (report, _, _) = run_named::<Brand, R, G, O>(
+        rt,
+        alloc,
+        config,
+        gate,
+        opener,
+        false,
+        Some(recorder),
+        blank,
+    )?;
+    Ok(report)
 }
 
 /// Runs a cluster, a thread for each process, until all have ended or trapped and all that they did is recoverable: that

@@ -6,6 +6,7 @@ ghost use Rattle.om_member.specs.Handed.{outputs_from};
 ghost use Rattle.om_runner.specs.steps.Acts.{AreLimits, HasDeclared, HasHandedOver, HasJoined, HasMet, HasOffered, HasPruned, HasRefused, HasWaited, HasWithdrawn, IsStanding, IsVerdictOf, UnderLock};
 
 use crate::desk::Desk;
+use crate::diary::Diary;
 use crate::node::Node;
 use crate::trouble::Trouble;
 use om_board::{Front, Naming, Pass, Shared};
@@ -61,6 +62,11 @@ fn have_checkpoint(rows: &[Row]) -> bool
     ensures { IsTrue result ↔ Any (λ row. IsTrue row.ckpt) rows.now }
 {
     rows.iter().any(|row| row.ckpt)
+}
+
+// Whether one of them is a receipt's.
+fn have_receipt(rows: &[Row]) -> bool {
+    rows.iter().any(|row| !row.ckpt)
 }
 
 impl<'a, K: Naming> Contact<'a, K> {
@@ -164,6 +170,7 @@ impl<'a, K: Naming> Contact<'a, K> {
         alloc: Global,
         node: &mut Node<'_, S>,
         ended: bool,
+        diary: &mut Diary<'_>,
         pass: Pass<K>,
     ) -> Result<(Standing, Option<Limits>, Pass<K>), Trouble>
         requires { node.old.member.own ≡ self.old.pid }
@@ -175,6 +182,7 @@ impl<'a, K: Naming> Contact<'a, K> {
             HasMet before self.old.pid self.old.round ended node.old.core met.0 met.1 after node.new.core)) }
     {
         let has_checkpoint = have_checkpoint(node.core().pending());
+        let has_receipt = have_receipt(node.core().pending());
         let mut guard = self.shared.board.lock(rt);
         let mut desk = Desk {
             rt,
@@ -182,6 +190,7 @@ impl<'a, K: Naming> Contact<'a, K> {
             frontier: &self.shared.frontier,
         };
         self.hand_over(alloc, &mut desk, node)?;
+        diary.noted(rt, has_receipt, has_checkpoint)?;
         let limits = self.prune(&mut desk, has_checkpoint);
         let standing = self.ask(&mut desk, ended);
         let (front, pass) = desk.frontier.meet(rt, desk.board, pass);
@@ -195,6 +204,7 @@ impl<'a, K: Naming> Contact<'a, K> {
         rt: &R,
         alloc: Global,
         node: &mut Node<'_, S>,
+        diary: &mut Diary<'_>,
         pass: Pass<K>,
     ) -> Result<(bool, Pass<K>), Trouble>
         requires { node.old.member.own ≡ self.old.pid }
@@ -215,7 +225,9 @@ impl<'a, K: Naming> Contact<'a, K> {
         desk.join(alloc, self.pid, core.round(), core.interval())?;
         let (front, pass) = desk.frontier.meet(rt, desk.board, pass);
         self.seen = front.version;
-        Ok((front.round > self.round, pass))
+        let is_finished = front.round > self.round;
+        diary.joined(rt, &front, is_finished)?;
+        Ok((is_finished, pass))
     }
 
     // Tells the board that the process puts all that it keeps anew from now on.
@@ -267,6 +279,7 @@ impl<'a, K: Naming> Contact<'a, K> {
         &mut self,
         rt: &R,
         alloc: Global,
+        diary: &mut Diary<'_>,
         pass: Pass<K>,
     ) -> Result<Pass<K>, Trouble>
         ensures pid { self.new.pid ≡ self.old.pid }
@@ -282,6 +295,7 @@ impl<'a, K: Naming> Contact<'a, K> {
         board.fail(rt, alloc, self.pid, self.round, frontier)?;
         let (front, pass) = frontier.meet(rt, board, pass);
         self.seen = front.version;
+        diary.failed(rt, &front, front.round > self.round)?;
         Ok(pass)
     }
 

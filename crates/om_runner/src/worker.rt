@@ -9,15 +9,17 @@ ghost use Rattle.om_runner.specs.steps.Wiring.{HasEnds};
 
 use crate::config::Config;
 use crate::contact::{Contact, Heard, Limits, Standing};
+use crate::diary::Diary;
 use crate::idle::{Idle, Pause};
 use crate::links::Links;
 use crate::network::Ends;
 use crate::node::{Fallen, Node, has_ended};
+use crate::recorder::Recorder;
 use crate::trouble::Trouble;
 use crate::witness::Past;
 use om_board::{Front, Naming, Pass, Shared};
 use om_format::Message;
-use om_interval::Pid;
+use om_interval::{Pid, Verdict};
 use om_process::{Accept, Status, Witness};
 use om_stable::Stable;
 use std::alloc::Global;
@@ -81,6 +83,7 @@ pub(crate) struct Worker<'a, K: Naming> {
     // The intervals at which the process is still to fail.
     kills: Vec<u32>,
     past: Past,
+    diary: Diary<'a>,
     idle: Idle,
     // Whether all that the process keeps was resent, after some idle turns, since it ran, received or refused a message.
     resent: bool,
@@ -140,16 +143,20 @@ impl<'a, K: Naming> Worker<'a, K> {
         links: Links<'a>,
         kills: Vec<u32>,
         past: Past,
+        alloc: Global,
+        recorder: Option<&'a Recorder>,
     ) -> Worker<'a, K>
         requires { links.n ≡ K.cell.n }
         ensures { result.links ≡ links.entry }
     {
+        let own = links.own();
         Worker {
             plan,
-            contact: Contact::new(links.own(), shared),
+            contact: Contact::new(own, shared),
             links,
             kills,
             past,
+            diary: Diary::new(alloc, own, recorder),
             idle: Idle::new(),
             resent: false,
             extra: 0,
@@ -279,7 +286,12 @@ impl<'a, K: Naming> Worker<'a, K> {
         ensures same { self.new.links ≡ self.old.links }
         ensures member { node.new.member ≡ node.old.member }
     {
+        if self.diary.is_kept() && !node.core().pending().is_empty() {
+            // Of a run that is recorded what a process stores is noted before it runs on, so that both are one event.
+            return Ok(Status::Ready);
+        }
         let ran = node.run(alloc, self.plan.fuel)?;
+        self.diary.ran(rt, node.core(), ran)?;
         if ran.steps > 0 {
             self.change();
         }
@@ -311,7 +323,9 @@ impl<'a, K: Naming> Worker<'a, K> {
         if !self.contact.is_due(node.core(), front, ended) {
             return Ok((Standing::Closed, pass));
         }
-        let (standing, limits, pass) = self.contact.meet(rt, alloc, node, ended, pass)?;
+        let (standing, limits, pass) = self
+            .contact
+            .meet(rt, alloc, node, ended, &mut self.diary, pass)?;
         shed(node, alloc, limits)?;
         Ok((standing, pass))
     }
@@ -362,7 +376,9 @@ impl<'a, K: Naming> Worker<'a, K> {
         ensures same { self.new.links ≡ self.old.links }
         ensures member { node.new.member ≡ node.old.member }
     {
-        match node.accept(alloc, message) {
+        let answer = node.accept(alloc, message);
+        self.diary.gave(rt, message, answer)?;
+        match answer {
             Accept::Taken(x) => {
                 self.past.receive(message.from)?;
                 self.change();
@@ -526,7 +542,7 @@ impl<'a, K: Naming> Worker<'a, K> {
             HasJoined before.manager node.old.member.own (flushed node.old.core) after.manager node.new.core)) }
     {
         node.flush(alloc)?;
-        let (is_finished, pass) = self.contact.join(rt, alloc, node, pass)?;
+        let (is_finished, pass) = self.contact.join(rt, alloc, node, &mut self.diary, pass)?;
         if is_finished {
             self.links.wake_all();
         }
@@ -548,7 +564,7 @@ impl<'a, K: Naming> Worker<'a, K> {
         ensures place { IfOk result (λ r. member_of r.0 ≡ fallen.entry) }
         ensures turned { IfOk result (λ r. IsTurnOf K.cell.n self.old.contact.round (Place.Failed fallen.entry) r.0) }
     {
-        let pass = self.contact.declare(rt, alloc, pass)?;
+        let pass = self.contact.declare(rt, alloc, &mut self.diary, pass)?;
         self.links.wake_all();
         self.change();
         Ok((Place::Down(fallen), pass))
@@ -578,13 +594,36 @@ impl<'a, K: Naming> Worker<'a, K> {
         let place = match heard {
             None => Place::In(node),
             Some(heard) => {
-                if heard.verdict.back {
+                let is_back = heard.verdict.back;
+                if is_back {
                     self.past.cut(heard.verdict.r);
                 }
-                Place::Up(after_round(alloc, node, &heard)?)
+                let node = after_round(alloc, node, &heard)?;
+                self.up_again(rt, node, &heard.verdict, is_back)?
             }
         };
         Ok((place, pass))
+    }
+
+    // Tells that the process is up again.
+    #[inline(never)]
+    fn up_again<S: Stable, R: Wait>(
+        &mut self,
+        rt: &R,
+        node: Node<'a, S>,
+        verdict: &Verdict,
+        is_back: bool,
+    ) -> Result<Place<'a, S>, Trouble>
+        ensures same { self.new.links ≡ self.old.links }
+        ensures place { IfOk result (λ place. member_of place ≡ node.entry.member) }
+    {
+        match self.diary.returned(rt, node.core(), verdict, is_back) {
+            Ok(()) => Ok(Place::Up(node)),
+            Err(error) => {
+                drop(node);
+                Err(error.into())
+            }
+        }
     }
 
     // Waits for the round to be finished, and then comes back.
@@ -606,7 +645,8 @@ impl<'a, K: Naming> Worker<'a, K> {
             None => Place::Down(fallen),
             Some(heard) => {
                 self.past.cut(heard.verdict.r);
-                Place::Up(fallen.come_back(alloc, &heard.starts, &heard.verdict)?)
+                let node = fallen.come_back(alloc, &heard.starts, &heard.verdict)?;
+                self.up_again(rt, node, &heard.verdict, true)?
             }
         };
         Ok((place, pass))

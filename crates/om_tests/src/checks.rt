@@ -2,6 +2,7 @@
 
 mod examples;
 mod plays;
+mod records;
 mod rings;
 mod runs;
 mod witnesses;

@@ -195,6 +195,11 @@ ended. What is written is its text, where that is the cluster's to the byte.
 With --witness FILE the same is done, and that run is written to FILE: sim
 plays it event by event, to the same outputs.
 
+With --record FILE what the threads did is written to FILE, in one order and
+with comments on failures and rounds: sim plays it event by event, to the same
+outputs. It is written too where the run is refused. A recorded process notes
+what it stored at once, and is a little slower; the text is the same.
+
 Answers:
   out NAME NUMBER HEX  an output that is released
   end NAME STATUS      ended CODE or trapped CAUSE
@@ -251,6 +256,8 @@ const SIZE: &str = "SIZE";
 const CHECK: &str = "check";
 
 const WITNESS: &str = "witness";
+
+const RECORD: &str = "record";
 
 const REPLAY: &str = "replay";
 
@@ -439,7 +446,11 @@ fn request_of<'a>(name: &str, found: &ArgMatches<'a>) -> Option<Request<'a>> {
         Subcommand::Run => run_request(
             found.get_str(TURNS),
             found.get_str(STORE),
-            checking_of(found.get_flag(CHECK), found.get_str(WITNESS)),
+            checking_of(
+                found.get_flag(CHECK),
+                found.get_str(WITNESS),
+                found.get_str(RECORD),
+            ),
         ),
         Subcommand::Replay => replay_request(found.get_str(FILE), found.get_str(INTERVAL)),
         Subcommand::Image => {
@@ -492,10 +503,14 @@ fn ext_of(with_m: bool) -> Ext
     if with_m { Ext::Im } else { Ext::I }
 }
 
-// How a run is to be checked: with a file for its witness it always is.
-fn checking_of<'a>(check: bool, witness: Option<&'a str>) -> Checking<'a> {
-    match witness {
-        Some(path) => Checking::Witness(path),
+// How a run is to be checked or recorded: with a file for its witness it always is checked. The command line takes no file for
+// a record beside that.
+fn checking_of<'a>(check: bool, witness: Option<&'a str>, record: Option<&'a str>) -> Checking<'a> {
+    if let Some(path) = witness {
+        return Checking::Witness(path);
+    }
+    match record {
+        Some(path) => Checking::Record(path),
         None if check => Checking::Check,
         None => Checking::Off,
     }
@@ -604,13 +619,20 @@ fn run_command<'a>(alloc: Global) -> Result<Command<'a>, AllocError> {
         .long(WITNESS)
         .value_name("FILE")
         .help("Check, and write that run to FILE as a script of sim");
+    let record = Arg::new(alloc, RECORD)
+        .long(RECORD)
+        .value_name("FILE")
+        .help("Write what the threads did to FILE as a script of sim")
+        .conflicts_with(CHECK)?
+        .conflicts_with(WITNESS)?;
     Command::new(alloc, RUN)
         .about("Logged processes that run in threads, fail and recover")
         .after_help(RUN_HELP)
         .arg(turns)?
         .arg(store)?
         .arg(check)?
-        .arg(witness)
+        .arg(witness)?
+        .arg(record)
 }
 
 fn replay_command<'a>(alloc: Global) -> Result<Command<'a>, AllocError> {

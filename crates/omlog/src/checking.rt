@@ -1,7 +1,8 @@
-//! How a run is checked.
+//! How a run is checked or recorded.
 
 use om_commands::CommandError;
 use om_commands::check::{run_checked, run_with_witness};
+use om_commands::recorded::run_recorded;
 use om_commands::run::run;
 use om_runner::Opener;
 use std::fs;
@@ -10,12 +11,14 @@ use std::rt::Files;
 use std::sync::Wait;
 use std::thread::Threads;
 
-// Whether a run is compared with the run without failures that it comes to, and the file that this is written to.
+// Whether a run is compared with the run without failures that it comes to, and the file that this is written to; or the file
+// that what its threads did is written to.
 #[derive(Clone, Copy)]
 pub(crate) enum Checking<'a> {
     Off,
     Check,
     Witness(&'a str),
+    Record(&'a str),
 }
 
 // Runs the cluster of an input over stores that are made so. The file is made before the cluster is started.
@@ -37,6 +40,12 @@ pub(crate) fn run_as<R: Threads + Wait + Sync, O: Opener<R> + Sync, I: Read, W: 
                 return Err(CommandError::CannotWrite);
             };
             run_with_witness(threads, alloc, turns, opener, reader, writer, &mut file)
+        }
+        Checking::Record(path) => {
+            let Ok(mut file) = fs::create(rt, path) else {
+                return Err(CommandError::CannotWrite);
+            };
+            run_recorded(threads, alloc, turns, opener, reader, writer, &mut file)
         }
     }
 }

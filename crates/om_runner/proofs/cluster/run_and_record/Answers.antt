@@ -1,0 +1,7 @@
+use Rattle.om_runner.proofs.ReportLemmas.{along_always}
+use Rattle.om_runner.proofs.cluster.run_and_record.Goals as goal
+
+pub returns-clause-along : goal.returns-clause-along
+returns-clause-along g c = λ always.
+    let e = c.in_ok-report.ensures in
+    along_always g.O.Store.Stable.is_clean c.args.config.now.images.items c.in_ok-report.report.statuses.items c.in_ok-report.field-0-1.items e.stores e.along always

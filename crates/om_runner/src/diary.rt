@@ -1,0 +1,274 @@
+//! What a worker tells the recorder of a run.
+
+ghost use Rattle.std.specs.Prelude.{◌<◌};
+ghost use Rattle.om_process.specs.Core.{size_of};
+
+use crate::recorder::{Act, Letter, Recorder};
+use om_board::Front;
+use om_format::Message;
+use om_interval::{MAX_PROCESSES, Pid, Verdict};
+use om_process::{Accept, ProcCore, Ran, Status};
+use std::alloc::{AllocError, Global};
+use std::sync::Wait;
+
+// What the worker of a process has to tell. Without a recorder it does nothing.
+#[derive(Drop)]
+pub(crate) struct Diary<'a> {
+    alloc: Global,
+    own: Pid,
+    recorder: Option<&'a Recorder>,
+    // The instructions that the process finished, and that are not told yet: they have sent nothing.
+    steps: u64,
+    // By receiver, the number from which on messages are not told yet.
+    next: [u32; MAX_PROCESSES],
+    // The interval of the process.
+    interval: u32,
+}
+
+// Whether the process keeps a message that is not told yet.
+fn has_sent(core: &ProcCore, next: &[u32; MAX_PROCESSES]) -> bool {
+    for to in 0..core.vec().n() {
+        if let Some(last) = core.outbox(Pid::at(to)).last() {
+            if last.ssn >= next[to] {
+                return true;
+            }
+        }
+    }
+    false
+}
+
+// Adds the messages that are kept and not told yet.
+fn add_messages(
+    acts: &mut Vec<Act>,
+    own: Pid,
+    core: &ProcCore,
+    next: &mut [u32; MAX_PROCESSES],
+) -> Result<(), AllocError> {
+    for to in 0..core.vec().n() {
+        next[to] = add_messages_to(acts, own, core, Pid::at(to), next[to])?;
+    }
+    Ok(())
+}
+
+// Adds those to one process from a number on, and says from which on there are none.
+fn add_messages_to(
+    acts: &mut Vec<Act>,
+    own: Pid,
+    core: &ProcCore,
+    to: Pid,
+    next: u32,
+) -> Result<u32, AllocError>
+    requires { to < size_of core.now.now }
+{
+    let outbox = core.outbox(to);
+    let Some(oldest) = outbox.first() else {
+        return Ok(next);
+    };
+    let mut after = next;
+    let first = next.saturating_sub(oldest.ssn) as usize;
+    for k in first..outbox.len() {
+        let ssn = outbox[k].ssn;
+        let letter = Letter {
+            from: own,
+            to,
+            inc: core.inc(),
+            ssn,
+        };
+        acts.push(Act::Send { letter })?;
+        after = ssn.saturating_add(1);
+    }
+    Ok(after)
+}
+
+impl<'a> Diary<'a> {
+    // Of a process at its start.
+    pub(crate) fn new(alloc: Global, own: Pid, recorder: Option<&'a Recorder>) -> Diary<'a> {
+        Diary {
+            alloc,
+            own,
+            recorder,
+            steps: 0,
+            next: [0; MAX_PROCESSES],
+            interval: 0,
+        }
+    }
+
+    // Whether the run is recorded.
+    pub(crate) fn is_kept(&self) -> bool {
+        self.recorder.is_some()
+    }
+
+    // Tells what the process did, behind the instructions that are not told yet.
+    fn tell<R: Wait>(&mut self, rt: &R, acts: &[Act]) -> Result<(), AllocError> {
+        let Some(recorder) = self.recorder else {
+            return Ok(());
+        };
+        self.tell_run(rt)?;
+        recorder.enter(rt, acts)
+    }
+
+    // Tells the instructions that are not told yet.
+    fn tell_run<R: Wait>(&mut self, rt: &R) -> Result<(), AllocError> {
+        let Some(recorder) = self.recorder else {
+            return Ok(());
+        };
+        if self.steps > 0 {
+            let run = Act::Run {
+                process: self.own,
+                steps: self.steps,
+            };
+            recorder.enter(rt, &[run])?;
+            self.steps = 0;
+        }
+        Ok(())
+    }
+
+    // The process ran. This is told before others can see what it sent; where it sent nothing and goes on, it is told later.
+    pub(crate) fn ran<R: Wait>(
+        &mut self,
+        rt: &R,
+        core: &ProcCore,
+        ran: Ran,
+    ) -> Result<(), AllocError> {
+        let Some(recorder) = self.recorder else {
+            return Ok(());
+        };
+        self.steps = self.steps.saturating_add(ran.steps);
+        if !has_sent(core, &self.next) {
+            if ran.status == Status::Ready {
+                return Ok(());
+            }
+            return self.tell_run(rt);
+        }
+        let mut acts = Vec::new(self.alloc);
+        acts.push(Act::Run {
+            process: self.own,
+            steps: self.steps,
+        })?;
+        self.steps = 0;
+        add_messages(&mut acts, self.own, core, &mut self.next)?;
+        recorder.enter(rt, &acts)
+    }
+
+    // The process answered so to a message. That one is there already is not told.
+    pub(crate) fn gave<R: Wait>(
+        &mut self,
+        rt: &R,
+        message: &Message,
+        answer: Accept,
+    ) -> Result<(), AllocError> {
+        let interval = match answer {
+            Accept::Repeat | Accept::Memory => return Ok(()),
+            Accept::Taken(x) => {
+                self.interval = x;
+                Some(x)
+            }
+            _ => None,
+        };
+        let letter = Letter {
+            from: message.from,
+            to: message.to,
+            inc: message.tag.inc,
+            ssn: message.ssn,
+        };
+        self.tell(rt, &[Act::Give { letter, interval }])
+    }
+
+    // Pending rows are noted, under the board's lock: of receipts, and then of a checkpoint.
+    // After a checkpoint the manager is pruned, and the process drops what it need not keep.
+    pub(crate) fn noted<R: Wait>(
+        &mut self,
+        rt: &R,
+        has_receipt: bool,
+        has_checkpoint: bool,
+    ) -> Result<(), AllocError> {
+        let process = self.own;
+        if has_receipt {
+            self.tell(rt, &[Act::Flush { process }])?;
+        }
+        if has_checkpoint {
+            self.tell(
+                rt,
+                &[
+                    Act::Checkpoint { process },
+                    Act::Prune,
+                    Act::Trim { process },
+                ],
+            )?;
+        }
+        Ok(())
+    }
+
+    // The failure of the process is declared, under the board's lock; it may have finished the round.
+    pub(crate) fn failed<R: Wait>(
+        &mut self,
+        rt: &R,
+        front: &Front,
+        is_finished: bool,
+    ) -> Result<(), AllocError> {
+        let (process, interval) = (self.own, self.interval);
+        self.tell(rt, &[Act::Fail { process, interval }])?;
+        self.finished(rt, front, is_finished)
+    }
+
+    // The process has joined, under the board's lock; it may have finished the round.
+    pub(crate) fn joined<R: Wait>(
+        &mut self,
+        rt: &R,
+        front: &Front,
+        is_finished: bool,
+    ) -> Result<(), AllocError> {
+        let process = self.own;
+        self.tell(rt, &[Act::Join { process }])?;
+        self.finished(rt, front, is_finished)
+    }
+
+    // The round is finished, if it is.
+    fn finished<R: Wait>(
+        &self,
+        rt: &R,
+        front: &Front,
+        is_finished: bool,
+    ) -> Result<(), AllocError> {
+        match self.recorder {
+            Some(recorder) if is_finished => recorder.finish(rt, front.round, front.vec),
+            _ => Ok(()),
+        }
+    }
+
+    // What the process did after a round: it went on, or was rolled back.
+    fn return_of(&mut self, verdict: &Verdict, is_back: bool) -> Act {
+        let process = self.own;
+        if !is_back {
+            return Act::GoOn { process };
+        }
+        self.interval = verdict.r;
+        Act::Back {
+            process,
+            interval: verdict.r,
+            inc: verdict.inc,
+        }
+    }
+
+    // The process is up again after a round, and sends all that it keeps once more.
+    pub(crate) fn returned<R: Wait>(
+        &mut self,
+        rt: &R,
+        core: &ProcCore,
+        verdict: &Verdict,
+        is_back: bool,
+    ) -> Result<(), AllocError> {
+        let Some(recorder) = self.recorder else {
+            return Ok(());
+        };
+        let process = self.own;
+        let mut acts = Vec::new(self.alloc);
+        acts.push(self.return_of(verdict, is_back))?;
+        self.next = [0; MAX_PROCESSES];
+        if has_sent(core, &self.next) {
+            acts.push(Act::Resend { process })?;
+            add_messages(&mut acts, process, core, &mut self.next)?;
+        }
+        recorder.enter(rt, &acts)
+    }
+}
