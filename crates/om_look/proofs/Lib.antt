@@ -1,1 +1,4 @@
 pub mod Stopping
+pub mod Below
+pub mod FoundLemmas
+pub mod ReadingLemmas

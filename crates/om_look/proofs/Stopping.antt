@@ -232,5 +232,5 @@ stops_missing held x c y stop e why below =
 
 -- what a refusal tells
 pub told_stops : (held : Content) (x c : ℕ) (fault : ReplayFault) (outcome : Result ℕ LookFault) → IsEffective held.checkpoints x c → NoneMissing held c x ⊎ ((y : ℕ) → fault ≡ MissingReceipt y → ⊥) → Refuses Anyone held x fault → outcome ≡ stop_told fault → IfOk outcome (StopsAt held c x)
-told_stops held x c fault (Ok stop) e all why at = stops_refused held x c fault stop e all why (sym at)
-told_stops held x c fault (Err error) e all why at = tt
+told_stops held x c reason (Ok stop) e all why at = stops_refused held x c reason stop e all why (sym at)
+told_stops held x c reason (Err error) e all why at = tt

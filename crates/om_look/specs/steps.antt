@@ -1,2 +1,4 @@
+pub mod Adding
+pub mod Found
 pub mod Reading
 pub mod Told

@@ -5,6 +5,11 @@
 #![tactic(auto)]
 
 mod fault;
+mod gathering;
+mod lines;
+mod reading;
+mod spans;
 mod stops;
 
 pub use fault::LookFault;
+pub use spans::Span;
