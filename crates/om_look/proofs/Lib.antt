@@ -2,3 +2,5 @@ pub mod Stopping
 pub mod Below
 pub mod FoundLemmas
 pub mod ReadingLemmas
+pub mod SpanLemmas
+pub mod ShowLemmas

@@ -4,6 +4,7 @@
 //! its line and its stop), `spans` (intervals as ranges), `content` (the text of all), `fault`, `laws`.
 #![tactic(auto)]
 
+mod content;
 mod fault;
 mod gathering;
 mod lines;
@@ -11,5 +12,6 @@ mod reading;
 mod spans;
 mod stops;
 
+pub use content::content_text;
 pub use fault::LookFault;
 pub use spans::Span;

@@ -1,13 +1,16 @@
 -- The checkpoints of a store as they are found, from the last one down.
-use Rattle.std.specs.Prelude.{◌≡◌, ◌⊎◌, ℕ, ◌+◌, ◌-◌, ◌<◌, ◌≤◌, List, [], ◌∷◌, ◌++◌, Option, Some, None, string_bytes, if◌then◌else◌, nat_eq}
+use Rattle.std.specs.Prelude.{◌≡◌, ◌⊎◌, ◌↔◌, ℕ, ◌+◌, ◌-◌, ◌<◌, ◌≤◌, List, [], ◌∷◌, ◌++◌, Option, Some, None, string_bytes, if◌then◌else◌, nat_eq}
 use Rattle.std.specs.FinMap.{get}
+use Rattle.std.specs.List.{flat_map}
 use Rattle.om_stable.specs.Content.{Content, IsEffective, IsFree}
 use Rattle.om_process.specs.Stored.{Anyone, CanReplay}
 use Rattle.om_process.specs.declared.limits.TheConstants.{LAST_INTERVAL}
-use Rattle.om_look.specs.Lines.{IsCheckpointLine}
+use Rattle.om_look.specs.Lines.{AreLines, IsCheckpointLine, IsReceiptLine}
 use Rattle.om_look.specs.Show.{up_to}
+use Rattle.om_look.specs.Spans.{AreApart, IsCovered, spans_text}
 use Rattle.om_look.specs.Stops.{StopsAt}
 use Rattle.om_look.specs.declared.gathering.Found.{Found}
+use Rattle.om_look.specs.declared.spans.Span.{Span}
 
 -- the interval before this one, if there is one
 abbrev pub before : ℕ → Option ℕ
@@ -64,3 +67,16 @@ pub record AreFound (held : Content) (next : Option ℕ) (fs : List Found) : Typ
   pub ordered : AreOrdered (behind next) fs
   pub replayed : (y : ℕ) → LiesBehindOne fs y → CanReplay Anyone held y
   pub covered : (y : ℕ) → behind next ≤ y → y ≤ LAST_INTERVAL → CanReplay Anyone held y → LiesBehindOne fs y
+
+-- their lines, one after another
+abbrev pub lines_text : List Found → List ℕ
+lines_text fs = flat_map (λ f. string_bytes f.line) fs
+
+-- the text of what is found and of the receipts
+pub record IsTextOf (fs : List Found) (rows : List (ℕ × List ℕ)) (text : List ℕ) : Type 0 where
+  pub receipts : List ℕ
+  pub lines : AreLines IsReceiptLine rows receipts
+  pub spans : List Span
+  pub apart : AreOrdered 0 fs → AreApart 0 spans
+  pub covered : AreOrdered 0 fs → (y : ℕ) → IsCovered spans y ↔ LiesBehindOne fs y
+  pub is_text : text ≡ lines_text fs ++ receipts ++ spans_text spans

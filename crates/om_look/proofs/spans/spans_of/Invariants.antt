@@ -1,0 +1,10 @@
+use Rattle.std.proofs.Common.{◌≡◌, ◌⊎◌, ◌≤◌, ◌+◌, ℕ, drop}
+use Rattle.std.specs.Prelude.{◌↔◌}
+use Rattle.om_look.specs.Spans.{AreApart, IsCovered}
+use Rattle.om_look.specs.steps.Found.{AreOrdered, LiesBehindOne}
+use Rattle.om_look.proofs.SpanLemmas.{SoFar}
+use Rattle.om_look.proofs.spans.spans_of.Given as goal
+
+-- the ranges so far, and what is left
+abbrev pub invariant-loop-f : goal.invariant-loop-f
+invariant-loop-f l = AreOrdered 0 l.found → SoFar l.found l.spans.items (drop l.f-index l.found)
