@@ -4,3 +4,4 @@ pub mod FoundLemmas
 pub mod ReadingLemmas
 pub mod SpanLemmas
 pub mod ShowLemmas
+pub mod TraceLemmas

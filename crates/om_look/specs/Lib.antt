@@ -2,4 +2,6 @@ pub mod Lines
 pub mod Spans
 pub mod Show
 pub mod Stops
+pub mod Trace
+pub mod Writes
 pub mod steps
