@@ -1,12 +1,12 @@
 -- The records at or below an interval, and the last of them.
-use Rattle.std.proofs.Common.{◌≡◌, ◌≢◌, ◌⊎◌, inl, inr, ℕ, zero, suc, ◌+◌, ◌-◌, ◌<◌, ◌≤◌, Bool, true, false, cond, T, List, [], ◌∷◌, ◌++◌, refl, sym, ap, ◌∙◌, arith, subst}
+use Rattle.std.proofs.Common.{◌≡◌, ◌⊎◌, inl, inr, ℕ, ◌+◌, ◌-◌, ◌<◌, ◌≤◌, Bool, true, false, cond, T, List, [], ◌∷◌, ◌++◌, refl, sym, ap, ◌∙◌, arith, subst}
 use Rattle.std.specs.Prelude.{Option, None, Some, IsSome, filter, nat_lt, nat_le, nat_eq, ◌&&◌}
 use Rattle.std.specs.Ordering.{nat_cmp, eq_by_cmp, is_lt}
 use Rattle.std.specs.FinMap.{get, entries, entries_sorted, get-entries, find, is_sorted}
 use Rattle.std.specs.FinMap.Entries.{below_all}
 use Rattle.std.proofs.lemmas.Bool.{le-leb, lt-ltb}
 use Rattle.std.proofs.lemmas.Bool.Decides.{nat_tests}
-use Rattle.om_stable.specs.Content.{Content, Records, IsEffective, IsFree}
+use Rattle.om_stable.specs.Content.{Content, IsEffective, IsFree}
 use Rattle.om_look.specs.Show.{up_to}
 use Rattle.om_look.specs.steps.Found.{before, behind, left}
 

@@ -1,5 +1,5 @@
 -- Checkpoints as they are found, one more at a time.
-use Rattle.std.proofs.Common.{◌≡◌, ◌⊎◌, inl, inr, ℕ, ◌+◌, ◌<◌, ◌≤◌, List, [], ◌∷◌, ◌++◌, refl, sym, ap, ◌∙◌, arith, subst, reverse, append_assoc}
+use Rattle.std.proofs.Common.{◌≡◌, ◌⊎◌, inl, inr, ℕ, ◌+◌, ◌<◌, ◌≤◌, List, [], ◌∷◌, ◌++◌, sym, ap, ◌∙◌, arith, subst, reverse, append_assoc}
 use Rattle.std.specs.Prelude.{Option, None, Some, IsSome}
 use Rattle.std.specs.FinMap.{get}
 use Rattle.std.proofs.lemmas.List.{append-nil, reverse-append}
@@ -8,7 +8,7 @@ use Rattle.om_process.specs.Stored.{Anyone, CanReplay}
 use Rattle.om_process.specs.declared.limits.TheConstants.{LAST_INTERVAL}
 use Rattle.om_look.specs.Show.{up_to}
 use Rattle.om_look.specs.declared.gathering.Found.{Found}
-use Rattle.om_look.specs.steps.Found.{AreFound, AreOf, AreOrdered, Finds, IsFound, LiesBehind, LiesBehindOne, before, behind, left}
+use Rattle.om_look.specs.steps.Found.{AreFound, AreOrdered, Finds, IsFound, LiesBehind, LiesBehindOne, before, behind, left}
 use Rattle.om_look.proofs.Below.{behind_before, left_row, none_left}
 
 abbrev Row : Type 0

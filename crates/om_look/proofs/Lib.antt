@@ -5,3 +5,4 @@ pub mod ReadingLemmas
 pub mod SpanLemmas
 pub mod ShowLemmas
 pub mod TraceLemmas
+pub mod TurnLemmas

@@ -1,6 +1,6 @@
 -- Calls that only read, one after another.
-use Rattle.std.proofs.Common.{◌≡◌, ℕ, ◌≤◌, refl, ◌∙◌, arith}
-use Rattle.std.specs.Prelude.{Bool, IsTrue}
+use Rattle.std.proofs.Common.{ℕ, ◌≤◌, refl, ◌∙◌, arith}
+use Rattle.std.specs.Prelude.{Bool}
 use Rattle.om_stable.specs.Content.{Content}
 use Rattle.om_look.specs.steps.Reading.{IsReading}
 

@@ -1,10 +1,10 @@
 -- The text of a content, from what is found and read.
-use Rattle.std.proofs.Common.{◌≡◌, ℕ, ◌≤◌, List, [], ◌∷◌, ◌++◌, refl, sym, ap, ◌∙◌, subst, append_assoc, append-nil, arith}
+use Rattle.std.proofs.Common.{◌≡◌, ℕ, List, [], ◌∷◌, ◌++◌, refl, sym, ap, ◌∙◌, subst, append_assoc, append-nil, arith}
 use Rattle.std.specs.Prelude.{None, string_bytes}
 use Rattle.om_stable.specs.Content.{Content, between}
 use Rattle.om_process.specs.declared.limits.TheConstants.{LAST_INTERVAL}
 use Rattle.om_look.specs.Lines.{AreLines, IsCheckpointLine, IsReceiptLine}
-use Rattle.om_look.specs.Show.{IsShown, up_to}
+use Rattle.om_look.specs.Show.{IsShown}
 use Rattle.om_look.specs.declared.gathering.Found.{Found}
 use Rattle.om_look.specs.steps.Found.{AreFound, AreOf, IsTextOf, lines_text}
 

@@ -1,5 +1,5 @@
 -- Ranges to which the intervals behind one checkpoint more are added.
-use Rattle.std.proofs.Common.{◌≡◌, ◌≢◌, ◌⊎◌, inl, inr, ℕ, ◌+◌, ◌<◌, ◌≤◌, List, [], ◌∷◌, ◌++◌, refl, sym, ap, ◌∙◌, arith, subst}
+use Rattle.std.proofs.Common.{◌≡◌, ◌≢◌, ◌⊎◌, inl, inr, ℕ, ◌+◌, ◌<◌, ◌≤◌, List, [], ◌∷◌, ◌++◌, sym, arith, subst}
 use Rattle.om_look.specs.Spans.{AreApart, IsCovered, LiesIn}
 use Rattle.om_look.specs.declared.gathering.Found.{Found}
 use Rattle.om_look.specs.declared.spans.Span.{Span}
@@ -114,13 +114,13 @@ more bound first stop ss new low high below apart (inr (inr (inl joined))) =
       apart = apart_more 0 front (span last.first stop) parts.apart parts.below parts.above (omega arith);
       below = below_more (stop + 1) front (span last.first stop) (below_weaker last.first (stop + 1) front (omega arith) parts.below) (omega arith);
       covered = λ y h. elim (covered_either front (span last.first stop) y h) [
-          | inl there ↦ inl (covered_more front last y (inl there))
-          | inr lies ↦ split y front last at lies (under y first)
-        ];
+        | inl there ↦ inl (covered_more front last y (inl there))
+        | inr lies ↦ split y front last at lies (under y first)
+      ];
       complete = λ y h. covered_more front (span last.first stop) y (elim h [
-          | inl there ↦ old_one y front last at within (covered_either front last y there)
-          | inr lies ↦ inr (new_one y front last at within lies)
-        ]);
+        | inl there ↦ old_one y front last at within (covered_either front last y there)
+        | inr lies ↦ inr (new_one y front last at within lies)
+      ]);
     }))
   where
     under : (a b : ℕ) → (a < b) ⊎ (b ≤ a)

@@ -1,5 +1,5 @@
 -- Where replays stop: what an outcome at one interval says of those below.
-use Rattle.std.proofs.Common.{◌≡◌, ◌⊎◌, inl, inr, ℕ, zero, suc, ◌+◌, ◌-◌, ◌<◌, ◌≤◌, List, [], ◌∷◌, length, refl, sym, ap, ◌∙◌, subst, arith}
+use Rattle.std.proofs.Common.{◌≡◌, ◌⊎◌, inl, inr, ℕ, zero, suc, ◌+◌, ◌-◌, ◌<◌, ◌≤◌, List, [], ◌∷◌, length, refl, sym, subst, arith}
 use Rattle.std.specs.Prelude.{Option, Some, None, Result, Ok, Err, IsSome, IfOk}
 use Rattle.std.specs.FinMap.{get}
 use Rattle.om_format.specs.Receipts.{ReceiptRecord}
@@ -9,7 +9,7 @@ use Rattle.om_process.specs.declared.replay.ReplayFault.{ReplayFault}
 use Rattle.om_process.specs.declared.replay.ReplayFault.TheVariants.{NoCheckpoint, Damaged, MissingReceipt, Mismatch, Fault, Memory}
 use Rattle.om_process.specs.Process.{Process, delivered}
 use Rattle.om_process.specs.Replays.{Replayed, process_of, received_of}
-use Rattle.om_process.specs.Stored.{Anyone, AreReceiptsAfter, BeginsWith, CanReplay, ComesTo, HasAll, IsNoMatterOfContent, Refuses, StandsAfter}
+use Rattle.om_process.specs.Stored.{Anyone, AreReceiptsAfter, CanReplay, ComesTo, HasAll, IsNoMatterOfContent, Refuses, StandsAfter}
 use Rattle.om_process.proofs.Exactly.{only_refused}
 use Rattle.om_look.specs.declared.fault.LookFault.{LookFault}
 use Rattle.om_look.specs.Stops.{StopsAt}
@@ -171,7 +171,7 @@ stops_refused held x c (Damaged y) stop e all (inl why) at =
 stops_refused held x c (Damaged y) stop e all (inr why) at =
     let here : y ≡ stop = cc in
     subst (StopsAt held c x) here (stops_there held x y why.0 why.1 why.2 c e why.3
-        (λ z low high can. no_damage y (only_refused Anyone held z (Damaged y) (inr (why.0, why.1, why.2, comes_below held x y z why.0 why.1 why.2 why.3 low high, why.4)) can)))
+    (λ z low high can. no_damage y (only_refused Anyone held z (Damaged y) (inr (why.0, why.1, why.2, comes_below held x y z why.0 why.1 why.2 why.3 low high, why.4)) can)))
 stops_refused held x c (MissingReceipt y) stop e (inl all) why at =
     let same = one_effective held.checkpoints x c why.checkpoint.head.interval e why.begins.effective in
     let above : why.checkpoint.head.interval < y = why.above in
@@ -180,7 +180,7 @@ stops_refused held x c (MissingReceipt y) stop e (inr never) why at = absurd (ne
 stops_refused held x c (Mismatch y) stop e all why at =
     let here : y ≡ stop = cc in
     subst (StopsAt held c x) here (stops_there held x y why.0 why.1 why.2 c e why.3
-        (λ z low high can. no_mismatch y (only_refused Anyone held z (Mismatch y) (why.0, why.1, why.2, comes_below held x y z why.0 why.1 why.2 why.3 low high, why.4, why.5, why.6) can)))
+    (λ z low high can. no_mismatch y (only_refused Anyone held z (Mismatch y) (why.0, why.1, why.2, comes_below held x y z why.0 why.1 why.2 why.3 low high, why.4, why.5, why.6) can)))
 stops_refused held x c Fault stop e all why at = cc
 stops_refused held x c Memory stop e all why at = cc
 

@@ -1,6 +1,6 @@
 -- What a turn makes, as lines.
 use Rattle.std.proofs.Common.{◌≡◌, ℕ, ◌+◌, ◌-◌, ◌<◌, ◌≤◌, List, [], ◌∷◌, ◌++◌, length, drop, get_or, refl, sym, ap, ◌∙◌, subst, append_assoc, append-nil, arith}
-use Rattle.std.specs.Prelude.{Option, Some, None, codes, decimal, max, slice_get}
+use Rattle.std.specs.Prelude.{Some, decimal, max, slice_get}
 use Rattle.std.proofs.lemmas.Bool.{lt-ltb}
 use Rattle.om_format.specs.declared.queue.Entry.{Entry}
 use Rattle.om_format.specs.Queues.{QueueRecord}
@@ -11,7 +11,7 @@ use Rattle.om_process.specs.Kept.{made_as, numbered, queue_at, sent_as}
 use Rattle.om_process.specs.declared.queues.Made.{Made}
 use Rattle.om_process.specs.declared.queues.Sent.{Sent}
 use Rattle.om_process.proofs.Numbering.{length-numbered, nothing_at, numbered_at}
-use Rattle.om_look.specs.Trace.{body_text, entry_text, gained_text, kept_in, place_of}
+use Rattle.om_look.specs.Trace.{body_text, gained_text, kept_in, place_of}
 
 -- all outputs are those from number 0 on
 pub all_made : (q : QueueRecord) → numbered made_as (max q.first 0) (drop (0 - q.first) q.entries) ≡ numbered made_as q.first q.entries
@@ -43,9 +43,9 @@ gained : (words : List ℕ) (kept number : ℕ) (body : List ℕ) (q : QueueReco
     → mid ≡ old ++ words → new ≡ mid ++ 32 ∷ decimal number ++ 32 ∷ body_text body ++ 10 ∷ [] → new ≡ old ++ gained_text words kept q
 gained words kept number body q e old mid new at is same first second =
     rw at (second ∙ ap (λ t. t ++ 32 ∷ decimal number ++ 32 ∷ body_text body ++ 10 ∷ []) first
-        ∙ regroup old words (32 ∷ decimal number) (32 ∷ body_text body) (10 ∷ [])
-        ∙ ap (λ k. old ++ (words ++ 32 ∷ decimal k ++ 32 ∷ body_text body ++ 10 ∷ [])) is
-        ∙ ap (λ b. old ++ (words ++ 32 ∷ decimal (q.first + kept) ++ 32 ∷ body_text b ++ 10 ∷ [])) same)
+    ∙ regroup old words (32 ∷ decimal number) (32 ∷ body_text body) (10 ∷ [])
+    ∙ ap (λ k. old ++ (words ++ 32 ∷ decimal k ++ 32 ∷ body_text body ++ 10 ∷ [])) is
+    ∙ ap (λ b. old ++ (words ++ 32 ∷ decimal (q.first + kept) ++ 32 ∷ body_text b ++ 10 ∷ [])) same)
   where
     regroup : (a b c d e : List ℕ) → a ++ b ++ c ++ d ++ e ≡ a ++ (b ++ c ++ d ++ e)
     regroup a b c d e = simp append_assoc

@@ -30,12 +30,7 @@ pub(crate) fn push_checkpoint(
 }
 
 // Writes what a record says as a checkpoint.
-fn say_checkpoint(
-    alloc: Global,
-    text: &mut String,
-    x: u32,
-    bytes: &[u8],
-) -> Result<(), LookFault>
+fn say_checkpoint(alloc: Global, text: &mut String, x: u32, bytes: &[u8]) -> Result<(), LookFault>
     ensures said { OnOk result ((said : List ℕ) × SaysCheckpoint (x, bytes.now) said
         × (string_bytes text.new ≡ string_bytes text.old ++ said)) }
     ensures refused { result ≢ Err LookFault.Fault }
@@ -66,7 +61,10 @@ fn push_head(
     let count = head.count;
     let version = bytes.get(1).copied().unwrap_or(0);
     let len = bytes.len();
-    write!(text, " process {pid} of {n} count {count} version {version} bytes {len}")
+    write!(
+        text,
+        " process {pid} of {n} count {count} version {version} bytes {len}"
+    )
 }
 
 // Writes the line of a receipt.
@@ -112,7 +110,10 @@ fn push_message(text: &mut String, x: u32, receipt: &Receipt) -> Result<(), Allo
     let ssn = receipt.ssn;
     let count = receipt.count;
     let len = receipt.body.as_slice().len();
-    write!(text, " from {from} interval {sender_interval} number {ssn} count {count} bytes {len}")
+    write!(
+        text,
+        " from {from} interval {sender_interval} number {ssn} count {count} bytes {len}"
+    )
 }
 
 // Writes why bytes are no record.

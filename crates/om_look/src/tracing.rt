@@ -7,7 +7,7 @@ ghost use Rattle.om_machine.specs.State.{word_at};
 ghost use Rattle.om_machine.specs.Step.{next_of};
 ghost use Rattle.om_machine.specs.declared.event.Cause.{Cause};
 ghost use Rattle.om_machine.specs.declared.event.Event.{Event};
-ghost use Rattle.om_process.specs.Core.{core_turn, move_of, size_of, status_of, with_now};
+ghost use Rattle.om_process.specs.Core.{CoreTurns, core_turn, move_of, size_of, status_of, with_now};
 
 use crate::trace_text::{kept_of, push_line, push_made};
 use crate::writes::what_it_writes;
@@ -29,7 +29,7 @@ pub struct Before {
 }
 
 /// Runs the process, at most `fuel` instructions, and writes a line for each to the text, one for each message that is sent,
-/// and one for each output that is made.
+/// and one for each output that is made. Where memory runs out some turns may be taken, and some lines written.
 pub fn trace(
     alloc: Global,
     core: &mut ProcCore,
@@ -39,14 +39,22 @@ pub fn trace(
     ensures lines { IfOk result (λ ran. (lines : List ℕ)
         × IsTrace core.old.own (size_of core.old.now) ran.steps core.old.now core.new.now lines
         × (text.new.items ≡ text.old.items ++ lines)) }
+    ensures turns { IfOk result (λ ran. CoreTurns ran.steps core.old core.new) }
     ensures within { IfOk result (λ ran. ran.steps ≤ fuel) }
     ensures status { IfOk result (λ ran. ran.status ≡ status_of (move_of core.new)) }
     ensures no_more { IfOk result (λ ran. ran.steps < fuel → core_turn core.new ≡ None) }
+    ensures at_most { (k : ℕ) × (k ≤ fuel) × CoreTurns k core.old core.new }
     ensures rest { core.new ≡ with_now core.old core.new.now }
     ensures size { size_of core.new.now ≡ size_of core.old.now }
 {
     let mut steps = 0;
-    while steps < fuel && turn(alloc, core, text)? {
+    while steps < fuel {
+        if !turn(alloc, core, text)? {
+            return Ok(Ran {
+                steps,
+                status: core.status(),
+            });
+        }
         steps += 1;
     }
     Ok(Ran {
@@ -62,6 +70,7 @@ fn turn(alloc: Global, core: &mut ProcCore, text: &mut Vec<u8>) -> Result<bool, 
         × (text.new.items ≡ text.old.items ++ lines)) }
     ensures stands { IfOk result (λ went. went ≡ false
         → (core_turn core.new ≡ None) × (core.new.now ≡ core.old.now) × (text.new.items ≡ text.old.items)) }
+    ensures at_most { (k : ℕ) × (k ≤ 1) × CoreTurns k core.old core.new }
     ensures rest { core.new ≡ with_now core.old core.new.now }
     ensures size { size_of core.new.now ≡ size_of core.old.now }
 {

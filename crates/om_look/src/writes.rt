@@ -20,11 +20,7 @@ pub enum Written {
     Nothing,
     Register(Reg),
     /// Bytes of memory, at the sum of a register and an immediate.
-    Bytes {
-        base: Reg,
-        imm: Imm12,
-        width: Width,
-    },
+    Bytes { base: Reg, imm: Imm12, width: Width },
 }
 
 // What a row writes, by its form, and where it is a store by its effect.

@@ -1,4 +1,4 @@
-use Rattle.std.proofs.Common.{◌≡◌, ◌++◌, ℕ, List, drop, take, string_bytes}
+use Rattle.std.proofs.Common.{◌≡◌, ◌++◌, ℕ, List, take, string_bytes}
 use Rattle.om_stable.specs.Content.{rows_of}
 use Rattle.om_look.specs.Lines.{AreLines, IsReceiptLine}
 use Rattle.om_look.proofs.content.push_receipts.Given as goal

@@ -1,11 +1,11 @@
-use Rattle.std.proofs.Common.{◌≡◌, ◌++◌, ◌∷◌, [], ℕ, List, inl, inr, refl, sym, ◌∙◌, ap, subst, rules, string_bytes}
+use Rattle.std.proofs.Common.{◌≡◌, ◌++◌, ◌∷◌, [], inr, sym, subst, string_bytes}
 use Rattle.std.specs.Prelude.{Some}
 use Rattle.std.specs.FinMap.{get}
 use Rattle.om_stable.specs.Calls.{IsKnown}
 use Rattle.om_stable.specs.Content.{Content, IsEffective}
 use Rattle.om_look.specs.Lines.{IsCheckpointLine}
 use Rattle.om_look.specs.Stops.{StopsAt}
-use Rattle.om_look.specs.steps.Found.{Finds, IsFound, before}
+use Rattle.om_look.specs.steps.Found.{before}
 use Rattle.om_look.proofs.gathering.find.Goals as goal
 
 pub returns-clause-finds : goal.returns-clause-finds

@@ -1,7 +1,6 @@
-use Rattle.std.proofs.Common.{◌≡◌, ℕ, [], refl, sym, ◌∙◌, ap, subst, rules, reverse, arith}
-use Rattle.std.specs.Prelude.{Option, Some, None}
+use Rattle.std.proofs.Common.{◌≡◌, [], sym, subst, reverse}
+use Rattle.std.specs.Prelude.{Some, None}
 use Rattle.om_stable.specs.Calls.{IsKnown}
-use Rattle.om_stable.specs.Content.{Content}
 use Rattle.om_process.specs.declared.limits.TheConstants.{LAST_INTERVAL}
 use Rattle.om_look.specs.steps.Found.{AreFound, Finds}
 use Rattle.om_look.proofs.FoundLemmas.{found_next, nothing_found}

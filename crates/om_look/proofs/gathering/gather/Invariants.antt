@@ -1,5 +1,4 @@
-use Rattle.std.proofs.Common.{◌≡◌, ◌≤◌, ◌+◌, ℕ, reverse}
-use Rattle.std.specs.Prelude.{Option, Some, None, IsTrue}
+use Rattle.std.proofs.Common.{reverse}
 use Rattle.om_stable.specs.Calls.{IsKnown}
 use Rattle.om_look.specs.steps.Found.{AreFound, behind}
 use Rattle.om_look.specs.steps.Reading.{IsReading}

@@ -1,4 +1,4 @@
-use Rattle.std.proofs.Common.{◌≡◌, suc, ◌+◌, ◌<◌, ◌∷◌, List, refl, sym, ◌∙◌, ap, subst, arith, drop, get_or, length, add-one, drop-cons}
+use Rattle.std.proofs.Common.{◌≡◌, suc, ◌+◌, ◌∷◌, sym, ap, subst, drop, add-one, drop-cons}
 use Rattle.om_look.specs.declared.gathering.Found.{Found}
 use Rattle.om_look.specs.steps.Adding.{Adds}
 use Rattle.om_look.proofs.SpanLemmas.{SoFar, one_so_far}

@@ -1,7 +1,5 @@
-use Rattle.std.proofs.Common.{◌≡◌, ◌⊎◌, ◌≤◌, ◌+◌, ℕ, drop}
-use Rattle.std.specs.Prelude.{◌↔◌}
-use Rattle.om_look.specs.Spans.{AreApart, IsCovered}
-use Rattle.om_look.specs.steps.Found.{AreOrdered, LiesBehindOne}
+use Rattle.std.proofs.Common.{drop}
+use Rattle.om_look.specs.steps.Found.{AreOrdered}
 use Rattle.om_look.proofs.SpanLemmas.{SoFar}
 use Rattle.om_look.proofs.spans.spans_of.Given as goal
 

@@ -1,5 +1,4 @@
-use Rattle.std.proofs.Common.{◌≡◌, ℕ, ◌+◌, ◌-◌, subst, arith, inl, sym, ap, ◌∙◌}
-use Rattle.std.specs.Prelude.{Ok}
+use Rattle.std.proofs.Common.{◌≡◌, ◌+◌, ◌-◌, subst, arith, inl}
 use Rattle.om_process.specs.Core.{size_of}
 use Rattle.om_process.specs.Stored.{Anyone, CanReplay, Refuses}
 use Rattle.om_look.specs.Stops.{StopsAt}

@@ -1,4 +1,4 @@
-use Rattle.std.proofs.Common.{◌≡◌, ◌⊎◌, ℕ, ◌+◌, ◌-◌, subst, arith, rules, inr, sym, ◌∙◌}
+use Rattle.std.proofs.Common.{◌≡◌, ◌+◌, ◌-◌, subst, arith, rules, inr, sym}
 use Rattle.std.proofs.lemmas.Result.{IfOk-weaker}
 use Rattle.om_process.specs.Core.{size_of}
 use Rattle.om_process.specs.Stored.{Anyone, CanReplay, Refuses}

@@ -1,10 +1,7 @@
-use Rattle.std.proofs.Common.{◌≡◌, ◌<◌, ◌∙◌, ap, arith, length, rules, List, subst}
-use Rattle.om_machine.specs.declared.event.EnvCall.TheVariants.{Send, Output}
-use Rattle.om_process.specs.declared.queues.Sent.{Sent}
+use Rattle.std.proofs.Common.{◌≡◌, ◌<◌, ◌∙◌, ap, arith, length, subst}
 use Rattle.om_machine.specs.declared.event.Event.TheVariants.{Call}
 use Rattle.om_process.specs.Core.{size_of}
 use Rattle.om_process.specs.Kept.{numbered, queue_at, sent_as}
-use Rattle.om_process.specs.Process.{Process}
 use Rattle.om_look.proofs.TraceLemmas.{kept_made, kept_sent}
 use Rattle.om_look.proofs.trace_text.kept_at.Goals as goal
 

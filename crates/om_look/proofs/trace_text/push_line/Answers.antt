@@ -1,4 +1,4 @@
-use Rattle.std.proofs.Common.{◌≡◌, ◌++◌, ◌∷◌, [], ℕ, List, ◌∙◌, ap, sym, refl, append_assoc}
+use Rattle.std.proofs.Common.{◌++◌, ◌∙◌, ap}
 use Rattle.std.specs.Prelude.{decimal}
 use Rattle.om_isa.specs.Text.{text_of}
 use Rattle.om_look.specs.Trace.{answer_text, line_text, word_text, written_text}

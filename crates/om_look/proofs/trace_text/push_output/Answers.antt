@@ -1,8 +1,8 @@
-use Rattle.std.proofs.Common.{◌≡◌, ◌++◌, ◌<◌, ◌≤◌, List, refl, ◌∙◌, ap, sym, arith, length}
-use Rattle.std.specs.Prelude.{codes, decimal}
+use Rattle.std.proofs.Common.{◌≡◌, refl, arith, length}
+use Rattle.std.specs.Prelude.{codes}
 use Rattle.std.proofs.lemmas.Result.{on_ok_weaker}
 use Rattle.om_process.specs.Core.{size_of}
-use Rattle.om_process.specs.Kept.{numbered, queue_at, made_as}
+use Rattle.om_process.specs.Kept.{queue_at}
 use Rattle.om_look.proofs.TraceLemmas.{gained_made, nothing_gained, made_length}
 use Rattle.om_look.proofs.trace_text.push_output.Goals as goal
 
@@ -17,5 +17,5 @@ returns c =
     let q = queue_at c.args.core.now.now.queues (size_of c.args.core.now.now) in
     on_ok_weaker c.push_entry.result
     (λ pushed. gained_made (codes "out") c.args.kept c.index-outputs-kept.result.seq c.as_slice.result.now q c.outputs_from-outputs.result.now c.index-outputs-kept.result
-        c.args.text.now.items c.extend_from_slice.new.self.items c.push_entry.new.text.items c.outputs_from-outputs.ensures.kept c.if-kept-outputs.false c.index-outputs-kept.is
-        refl c.as_slice.ensures.bytes c.in_ok-extend_from_slice.ensures.items pushed) c.push_entry.ensures
+    c.args.text.now.items c.extend_from_slice.new.self.items c.push_entry.new.text.items c.outputs_from-outputs.ensures.kept c.if-kept-outputs.false c.index-outputs-kept.is
+    refl c.as_slice.ensures.bytes c.in_ok-extend_from_slice.ensures.items pushed) c.push_entry.ensures
