@@ -3,6 +3,7 @@
 
 mod arguments;
 mod checking;
+mod look_requests;
 mod store_files;
 
 use std::process::ExitCode;
