@@ -5,7 +5,7 @@ ghost use Rattle.omlog.specs.Requests.{ext_of, subcommand_named};
 
 use crate::checking::{Checking, run_as};
 use crate::look_requests::{
-    Look, REPLAY, SHOW, look, replay_command, replay_request, show_command, show_request,
+    Look, REPLAY, SHOW, look_into, replay_command, replay_request, show_command, show_request,
 };
 use crate::store_files::run_over_tables;
 use clap::error::ErrorKind;
@@ -314,7 +314,7 @@ fn carry_out<R: Threads + Wait + Sync>(
             prefix,
             checking,
         } => run_over(rt, threads, turns, prefix, checking, writer),
-        Request::Look(request) => look(rt, request, writer),
+        Request::Look(request) => look_into(rt, request, writer),
         Request::Image { ext, name, size } => write_line(rt, ext, name, size, writer),
     }
 }

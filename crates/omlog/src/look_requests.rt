@@ -105,7 +105,7 @@ pub(crate) enum Look<'a> {
     },
 }
 
-pub(crate) fn look<W: Write>(
+pub(crate) fn look_into<W: Write>(
     rt: &HostRuntime,
     look: Look<'_>,
     writer: &mut W,
