@@ -13,8 +13,10 @@ pub mod Replay
 pub mod Report
 pub mod Run
 pub mod RunText
+pub mod Show
 pub mod Sim
 pub mod SimScript
 pub mod SimText
 pub mod StateText
+pub mod Steps
 pub mod WordScript

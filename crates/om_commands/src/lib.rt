@@ -21,10 +21,12 @@ pub mod replay;
 mod report;
 pub mod run;
 mod run_text;
+pub mod show;
 pub mod sim;
 mod sim_script;
 mod sim_text;
 mod state_text;
+pub mod steps;
 mod word_script;
 
 pub use checked::{checked_events, checked_text};

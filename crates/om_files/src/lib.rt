@@ -5,13 +5,17 @@
 //!
 //! - `connecting`: who opens the databases of a cluster, and the stores that are made in their tables
 //! - `files`: the files that are named by a prefix
-//! - `replaying`: the command `replay` over a connection, and over a file
+//! - `copying`: the database of a file that is only read
+//! - `replaying`, `looking`: the commands `replay` and `show` over a connection, and over a file
 #![tactic(auto)]
 
 mod connecting;
+mod copying;
 mod files;
+mod looking;
 mod replaying;
 
 pub use connecting::{Connects, InTables};
 pub use files::Files;
+pub use looking::{show_file, show_over, steps_file, steps_over};
 pub use replaying::{replay_file, replay_over};

@@ -7,14 +7,12 @@ ghost use Rattle.om_tables.specs.Store.{HasBothTables, IsFormed, content_in, is_
 ghost use Rattle.om_commands.specs.Command.{IsSilent};
 ghost use Rattle.om_commands.specs.Replay.{IsReplayError, IsReplayText};
 
-use crate::connecting::refusal_of_opening;
+use crate::copying::copy_of;
 use om_commands::CommandError;
 use om_commands::replay::replay;
-use om_runner::OpenFault;
 use om_tables::SqlStable;
 use sqlite::{Alter, Connection};
 use std::alloc::Global;
-use std::fs;
 use std::io::Write;
 
 /// Replays the process whose store a database holds to an interval, and writes its state as
@@ -46,7 +44,7 @@ pub fn replay_over<S: Alter + Drop, W: Write>(
     }
 }
 
-/// The same from a file, which is neither made nor changed. One that is not there, or has nothing, is a `StoreFault`.
+/// The same from a file, which is only read. One that is not there, or has nothing, is a `StoreFault`.
 pub fn replay_file<W: Write>(
     rt: &HostRuntime,
     file: &str,
@@ -55,23 +53,7 @@ pub fn replay_file<W: Write>(
 ) -> Result<(), CommandError>
     ensures silent { IfErr result (λ error. IsSilent error (Keeps (W.contents writer.old) (W.contents writer.new))) }
 {
-    if !is_written(rt, file) {
-        return Err(CommandError::StoreFault);
-    }
-    match Connection::open(rt, file) {
-        Ok(conn) => {
-            let (told, _conn) = replay_over(rt.alloc(), conn, interval, writer);
-            told
-        }
-        Err(error) => Err(match refusal_of_opening(&error) {
-            OpenFault::Memory => CommandError::NoMemory,
-            OpenFault::Refused => CommandError::StoreFault,
-        }),
-    }
-}
-
-// Whether it is a file that has something in it: the database would make one that is not there, and take an empty one as
-// new.
-fn is_written(rt: &HostRuntime, file: &str) -> bool {
-    fs::metadata(rt, file).is_ok_and(|metadata| metadata.is_file() && metadata.len() > 0)
+    let conn = copy_of(rt, file)?;
+    let (told, _conn) = replay_over(rt.alloc(), conn, interval, writer);
+    told
 }

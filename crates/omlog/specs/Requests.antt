@@ -4,7 +4,7 @@ use Rattle.std.specs.Str.{bytes_eq}
 use Rattle.om_isa.specs.declared.ext.Ext.{Ext}
 use Rattle.om_isa.specs.declared.ext.Ext.TheVariants.{I, Im}
 use Rattle.omlog.specs.declared.arguments.Subcommand.{Subcommand}
-use Rattle.omlog.specs.declared.arguments.Subcommand.TheVariants.{Decode, Frontier, Sim, Draw, Run, Replay, Image}
+use Rattle.omlog.specs.declared.arguments.Subcommand.TheVariants.{Decode, Frontier, Sim, Draw, Run, Replay, Show, Image}
 
 -- the instructions that a program may use, by whether the flag `--m` was given
 abbrev pub ext_of : Bool → Ext
@@ -19,5 +19,6 @@ subcommand_named name =
     else (if bytes_eq name (codes "draw") then Some Draw
     else (if bytes_eq name (codes "run") then Some Run
     else (if bytes_eq name (codes "replay") then Some Replay
+    else (if bytes_eq name (codes "show") then Some Show
     else (if bytes_eq name (codes "image") then Some Image
-    else None))))))
+    else None)))))))

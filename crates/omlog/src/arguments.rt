@@ -5,6 +5,9 @@ ghost use Rattle.omlog.specs.Requests.{ext_of, subcommand_named};
 
 use crate::checking::{Checking, run_as};
 use crate::draw_request::{DRAW, draw_command, window_of};
+use crate::look_requests::{
+    Look, REPLAY, SHOW, look_into, replay_command, replay_request, show_command, show_request,
+};
 use crate::store_files::run_over_tables;
 use clap::error::ErrorKind;
 use clap::{Arg, ArgAction, ArgMatches, Command, Error};
@@ -13,10 +16,10 @@ use om_commands::draw::{Window, draw};
 use om_commands::frontier::frontier;
 use om_commands::sim::sim;
 use om_commands::{CommandError, InMemory};
-use om_files::{Files, replay_file};
+use om_files::Files;
 use om_image::{ImageError, image};
 use om_isa::Ext;
-use om_text::{ScriptError, long_number_of, number_of};
+use om_text::{ScriptError, long_number_of};
 use std::alloc::{AllocError, Global};
 use std::io::Write;
 use std::process::ExitCode;
@@ -34,9 +37,9 @@ failure: none of them depends on an interval of another that is lost.
 
 Begin with run: it takes a cluster file from standard input, and processes that
 fail come back by themselves. With sim the same is played by hand, event by
-event. frontier computes recovery states from records alone, replay looks into
-the store of a process, and decode tells what words of programs mean. Each says
-with --help what it reads and writes, and has an example.
+event. frontier computes recovery states from records alone, show and replay
+look into the store of a process, and decode tells what words of programs mean.
+Each says with --help what it reads and writes, and has an example.
 
 Status:
   0   done, or a help text was asked for
@@ -259,42 +262,6 @@ const WITNESS: &str = "witness";
 
 const RECORD: &str = "record";
 
-const REPLAY: &str = "replay";
-
-const REPLAY_HELP: &str = "\
-Writes the state that a process had right after its receipt INTERVAL, from the
-checkpoints and receipts that its store FILE holds:
-
-  interval X
-  count C             the instructions that it had finished
-  pc HHHHHHHH
-  x0 HHHHHHHH         a line for each register, to x31
-  HHHHHHHH BB..       an address, and up to 16 bytes of memory from there on
-  status STATUS       ready, waiting, ended CODE or trapped CAUSE
-
-Refused, on standard error, status 1:
-  no checkpoint       none is stored at INTERVAL or below
-  damaged Y           the record of interval Y cannot be read
-  missing receipt Y   the receipt of interval Y is not stored, the least such
-  mismatch Y          the receipt of interval Y does not fit the process
-  store fault         FILE is not there, or is no store
-
-FILE is neither made nor changed.
-
-Example: omlog replay s1.db 1, behind omlog run --store s with the example of
-run. The message that began the interval stands at address 40.
-  interval 1
-  count 4
-  pc 00000010
-  ..
-  00000040 93081000000000000000000000000000
-  ..
-  status ready";
-
-const FILE: &str = "FILE";
-
-const INTERVAL: &str = "INTERVAL";
-
 // What a subcommand is for.
 #[derive(Clone, Copy)]
 pub(crate) enum Subcommand {
@@ -304,6 +271,7 @@ pub(crate) enum Subcommand {
     Draw,
     Run,
     Replay,
+    Show,
     Image,
 }
 
@@ -319,10 +287,7 @@ pub(crate) enum Request<'a> {
         prefix: Option<&'a str>,
         checking: Checking<'a>,
     },
-    Replay {
-        file: &'a str,
-        interval: u32,
-    },
+    Look(Look<'a>),
     Image {
         ext: Ext,
         name: &'a str,
@@ -361,7 +326,7 @@ fn carry_out<R: Threads + Wait + Sync>(
             prefix,
             checking,
         } => run_over(rt, threads, turns, prefix, checking, writer),
-        Request::Replay { file, interval } => replay_file(rt, file, interval, writer),
+        Request::Look(request) => look_into(rt, request, writer),
         Request::Image { ext, name, size } => write_line(rt, ext, name, size, writer),
     }
 }
@@ -452,7 +417,8 @@ fn request_of<'a>(name: &str, found: &ArgMatches<'a>) -> Option<Request<'a>> {
                 found.get_str(RECORD),
             ),
         ),
-        Subcommand::Replay => replay_request(found.get_str(FILE), found.get_str(INTERVAL)),
+        Subcommand::Replay => Some(Request::Look(replay_request(found)?)),
+        Subcommand::Show => Some(Request::Look(show_request(found)?)),
         Subcommand::Image => {
             image_request(found.get_flag(M), found.get_str(NAME), found.get_str(SIZE))
         }
@@ -470,17 +436,10 @@ fn subcommand_of(name: &str) -> Option<Subcommand>
         DRAW => Some(Subcommand::Draw),
         RUN => Some(Subcommand::Run),
         REPLAY => Some(Subcommand::Replay),
+        SHOW => Some(Subcommand::Show),
         IMAGE => Some(Subcommand::Image),
         _ => None,
     }
-}
-
-// The request to replay from a file to an interval, where that is a number.
-fn replay_request<'a>(file: Option<&'a str>, interval: Option<&'a str>) -> Option<Request<'a>> {
-    Some(Request::Replay {
-        file: file?,
-        interval: number_of(interval?.as_bytes())?,
-    })
 }
 
 // The request for the line of an image.
@@ -558,7 +517,8 @@ fn with_scripts<'a>(alloc: Global, command: Command<'a>) -> Result<Command<'a>, 
 fn with_clusters<'a>(alloc: Global, command: Command<'a>) -> Result<Command<'a>, AllocError> {
     command
         .subcommand(run_command(alloc)?)?
-        .subcommand(replay_command(alloc)?)
+        .subcommand(replay_command(alloc)?)?
+        .subcommand(show_command(alloc)?)
 }
 
 fn decode_command<'a>(alloc: Global) -> Result<Command<'a>, AllocError> {
@@ -633,20 +593,6 @@ fn run_command<'a>(alloc: Global) -> Result<Command<'a>, AllocError> {
         .arg(check)?
         .arg(witness)?
         .arg(record)
-}
-
-fn replay_command<'a>(alloc: Global) -> Result<Command<'a>, AllocError> {
-    let file = Arg::new(alloc, FILE)
-        .help("The store of the process")
-        .required(true);
-    let interval = Arg::new(alloc, INTERVAL)
-        .help("The interval, 0 to 4294967295")
-        .required(true);
-    Command::new(alloc, REPLAY)
-        .about("The state of a process in an interval, from its store")
-        .after_help(REPLAY_HELP)
-        .arg(file)?
-        .arg(interval)
 }
 
 // Ends a command. An error goes to standard error as one line; where that cannot be written, the status tells it alone.

@@ -4,6 +4,7 @@
 mod arguments;
 mod checking;
 mod draw_request;
+mod look_requests;
 mod store_files;
 
 use std::process::ExitCode;

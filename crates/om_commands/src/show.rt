@@ -1,0 +1,51 @@
+//! The command `show`: what a store holds, and to where it can be replayed.
+
+ghost use Rattle.std.specs.Prelude.{◌≡◌, ◌≤◌, ℕ, List, IsTrue, IfErr, OnOk, IsErrOf};
+ghost use Rattle.std.specs.Io.KnownBytes.{Appends, Keeps};
+ghost use Rattle.om_look.specs.Show.{IsShown};
+ghost use Rattle.om_stable.specs.Calls.{IsKnown};
+ghost use Rattle.om_stable.specs.Count.{Rose};
+ghost use Rattle.om_commands.specs.Command.{IsSilent};
+ghost use Rattle.om_commands.specs.Replay.{IsNoMatterOfContent};
+ghost use Rattle.om_commands.specs.Show.{error_of_look};
+
+use crate::command::write_answer;
+use crate::error::CommandError;
+use om_look::{LookFault, content_text};
+use om_stable::Stable;
+use std::alloc::Global;
+use std::io::Write;
+
+/// Writes what a store holds: a line for each checkpoint, for each receipt, and for each range of intervals to which the process
+/// can be replayed. The store keeps its content, and no record of it is a reason to refuse. Refused, nothing is written,
+/// unless it was the writer that refused.
+pub fn show<S: Stable, W: Write>(
+    alloc: Global,
+    store: &mut S,
+    writer: &mut W,
+) -> Result<(), CommandError>
+    ensures text { IsKnown S.is_clean S.IsSound store.old store.new
+        → OnOk result ((text : List ℕ) × IsShown (S.content store.old) text
+        × Appends (W.contents writer.old) (W.contents writer.new) text) }
+    ensures error { IfErr result IsNoMatterOfContent }
+    ensures silent { IfErr result (λ error. IsSilent error (Keeps (W.contents writer.old) (W.contents writer.new))) }
+    ensures same { IsKnown S.is_clean S.IsSound store.old store.new → S.content store.new ≡ S.content store.old }
+    ensures fault { IsErrOf result CommandError.StoreFault → Rose (S.failed store.old) (S.failed store.new) }
+    ensures count { S.failed store.old ≤ S.failed store.new }
+    ensures clean { IsTrue (S.is_clean store.new) → IsTrue (S.is_clean store.old) }
+    ensures sound { IsTrue (S.is_clean store.new) → S.IsSound store.old → S.IsSound store.new }
+{
+    let text = content_text(alloc, store)?;
+    write_answer(writer, text.as_bytes())
+}
+
+impl From<LookFault> for CommandError {
+    ghost from_gives = { λ fault e. e ≡ error_of_look fault };
+
+    fn from(fault: LookFault) -> CommandError {
+        match fault {
+            LookFault::Fault => CommandError::StoreFault,
+            LookFault::Memory => CommandError::NoMemory,
+        }
+    }
+}

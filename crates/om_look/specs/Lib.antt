@@ -1,0 +1,7 @@
+pub mod Lines
+pub mod Spans
+pub mod Show
+pub mod Stops
+pub mod Trace
+pub mod Writes
+pub mod steps

@@ -1,0 +1,102 @@
+-- Traces: a line for each turn of a process, and one for each message and output.
+use Rattle.std.specs.Prelude.{◌≡◌, ℕ, zero, suc, ◌+◌, List, [], ◌∷◌, ◌++◌, length, take, drop, codes, decimal, slice_get, Option, Some, None, if◌then◌else◌, nat_eq, nat_lt}
+use Rattle.std.specs.Int.{to_be_bytes, w32}
+use Rattle.hex.specs.Hex.{encode_lower}
+use Rattle.om_isa.specs.Rows.{Decodes}
+use Rattle.om_isa.specs.Text.{text_of}
+use Rattle.om_isa.specs.declared.inst.Inst.{Inst}
+use Rattle.om_machine.specs.State.{State, reg, word_at}
+use Rattle.om_machine.specs.Step.{next_of}
+use Rattle.om_machine.specs.declared.event.Event.{Event}
+use Rattle.om_machine.specs.declared.event.Event.TheVariants.{Call}
+use Rattle.om_machine.specs.declared.event.EnvCall.TheVariants.{Send, Output, Who}
+use Rattle.om_format.specs.declared.queue.Entry.{Entry}
+use Rattle.om_format.specs.Queues.{QueueRecord}
+use Rattle.om_process.specs.Kept.{queue_at}
+use Rattle.om_process.specs.Process.{Process}
+use Rattle.om_process.specs.Turns.{next_turn}
+use Rattle.om_look.specs.Writes.{address_in, width_in, writes_of}
+use Rattle.om_look.specs.declared.writes.Written.{Written}
+use Rattle.om_look.specs.declared.writes.Written.TheVariants as writing
+
+-- a number of 32 bits in eight hexadecimal digits, the highest first
+abbrev pub word_text : ℕ → List ℕ
+word_text word = encode_lower (to_be_bytes w32 word)
+
+-- what stands in a register afterwards
+abbrev pub register_text : ℕ → State → List ℕ
+register_text r after = codes "; x" ++ decimal r ++ codes " = " ++ word_text (reg after r)
+
+-- what an instruction wrote: the register, but for x0, or the address and the bytes
+abbrev pub written_text : Written → ℕ → State → List ℕ
+written_text writing.Nothing address after = []
+written_text (writing.Register rd) address after = if nat_eq rd 0 then [] else register_text rd after
+written_text (writing.Bytes base imm width) address after =
+    codes "; " ++ word_text address ++ 32 ∷ encode_lower (take (width_in width) (drop address after.memory))
+
+-- and what the answer to an environment call wrote
+abbrev pub answer_text : Event → State → List ℕ
+answer_text (Call (Send to addr len)) after = register_text 10 after
+answer_text (Call (Output addr len)) after = register_text 10 after
+answer_text (Call Who) after = register_text 10 after ++ register_text 11 after
+answer_text event after = []
+
+-- the line of an instruction: the count and pc before it, its word, its text, and what it wrote
+unfoldable pub line_text : ℕ → ℕ → ℕ → Inst → ℕ → Event → State → List ℕ
+line_text count pc word i address event after =
+    decimal count ++ 32 ∷ word_text pc ++ 32 ∷ word_text word ++ 32 ∷ text_of i
+    ++ written_text (writes_of i) address after ++ answer_text event after ++ 10 ∷ []
+
+abbrev pub instruction_text : State → Inst → State → List ℕ
+instruction_text m i after = line_text m.count m.pc (word_at m.memory m.pc) i (address_in m (writes_of i)) (next_of m).0 after
+
+-- the bytes of a message or an output in hexadecimal, or `-` where there are none
+abbrev pub body_text : List ℕ → List ℕ
+body_text [] = codes "-"
+body_text (byte ∷ bytes) = encode_lower (byte ∷ bytes)
+
+-- the line of an entry that a queue has gained, with its number, if it has
+abbrev pub entry_text : List ℕ → ℕ → Option Entry → List ℕ
+entry_text words number None = []
+entry_text words number (Some e) = words ++ 32 ∷ decimal number ++ 32 ∷ body_text e.body ++ 10 ∷ []
+
+abbrev pub gained_text : List ℕ → ℕ → QueueRecord → List ℕ
+gained_text words kept after = entry_text words (after.first + kept) (slice_get after.entries kept)
+
+-- the queue that a call may add to: that of the messages to a process, or behind these that of the outputs
+abbrev pub place_of : ℕ → Event → Option ℕ
+place_of n (Call (Send to addr len)) = if nat_lt to n then Some to else None
+place_of n (Call (Output addr len)) = Some n
+place_of n event = None
+
+-- what its line begins with
+abbrev pub words_of : Event → List ℕ
+words_of (Call (Send to addr len)) = codes "send " ++ decimal to
+words_of event = codes "out"
+
+abbrev pub kept_in : List QueueRecord → Option ℕ → ℕ
+kept_in queues None = 0
+kept_in queues (Some place) = length (queue_at queues place).entries
+
+-- the line of the message or the output that was made, if one was
+abbrev pub made_text : Event → Option ℕ → ℕ → List QueueRecord → List ℕ
+made_text event None kept after = []
+made_text event (Some place) kept after = gained_text (words_of event) kept (queue_at after place)
+
+abbrev pub emission_text : ℕ → Process → Process → List ℕ
+emission_text n p q =
+    let event = (next_of p.machine).0 in
+    made_text event (place_of n event) (kept_in p.queues (place_of n event)) q.queues
+
+-- the lines of one turn of a process of n: the instruction is the one that the word at pc decodes to
+abbrev pub IsTurnText : ℕ → Process → Process → List ℕ → Type 0
+IsTurnText n p q text =
+    (i : Inst) × Decodes p.machine.ext (word_at p.machine.memory p.machine.pc) i
+    × (text ≡ instruction_text p.machine i q.machine ++ emission_text n p q)
+
+-- so many turns lead from one state to another, and these are their lines
+abbrev pub IsTrace : ℕ → ℕ → ℕ → Process → Process → List ℕ → Type 0
+IsTrace own n zero s t text = (t ≡ s) × (text ≡ [])
+IsTrace own n (suc k) s t text =
+    (m : Process) × (next_turn own n s ≡ Some m) × (lines : List ℕ) × IsTurnText n s m lines
+    × (rest : List ℕ) × IsTrace own n k m t rest × (text ≡ lines ++ rest)

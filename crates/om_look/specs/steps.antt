@@ -1,0 +1,5 @@
+pub mod Adding
+pub mod Before
+pub mod Found
+pub mod Reading
+pub mod Told
