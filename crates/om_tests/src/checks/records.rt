@@ -1,11 +1,11 @@
 //! Records of runs, played event by event.
 
+use super::rings::{ring, ring_ends};
 use crate::rows::How::Writes;
 use crate::rows::check_answer;
-use super::rings::{ring, ring_ends};
+use om_commands::InMemory;
 use om_commands::recorded::run_recorded;
 use om_commands::sim::sim;
-use om_commands::InMemory;
 use std::alloc::Global;
 use std::process::Abort;
 use std::sync::Wait;
@@ -107,8 +107,7 @@ fn check_process(rt: &impl Abort, alloc: Global, told: &str, end: &str) {
     };
     let head = format!(in alloc; "proc {name} inc ").expect(rt, "memory");
     let tail = format!(in alloc; " interval 6 {status}").expect(rt, "memory");
-    let found = told
-        .lines()
-        .any(|line| line.starts_with(head.as_str()) && line.ends_with(tail.as_str()));
+    let found = told.lines().any(|line| line.starts_with(head.as_str())
+        && line.ends_with(tail.as_str()));
     assert!(rt; found, "{end}");
 }
