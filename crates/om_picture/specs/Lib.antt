@@ -1,5 +1,6 @@
 pub mod AnswerText
 pub mod PictureText
+pub mod Plain
 pub mod ShapeText
 pub mod Shows
 pub mod WordText

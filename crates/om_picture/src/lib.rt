@@ -14,6 +14,7 @@ mod ending;
 mod frame;
 mod history;
 mod lane;
+pub mod laws;
 mod measure;
 mod own;
 mod page;

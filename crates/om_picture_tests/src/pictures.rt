@@ -319,6 +319,18 @@ fn table(rt: HostRuntime) {
     );
 }
 
+// From the failure on, to the last output but not to what stores it.
+#[test]
+fn window_of_table(rt: HostRuntime) {
+    let digest = digest_of(&rt, rt.alloc(), TABLE, Window { from: 19, to: 34 });
+    assert_eq!(rt;
+        digest,
+        [
+            201, 35, 185, 245, 118, 74, 79, 7, 28, 10, 3, 224, 124, 9, 81, 186
+        ]
+    );
+}
+
 #[test]
 fn three_failures(rt: HostRuntime) {
     let digest = digest_of(&rt, rt.alloc(), THREE_FAILURES, WHOLE);
