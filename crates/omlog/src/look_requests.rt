@@ -32,7 +32,7 @@ Refused, on standard error, status 1:
 FILE is only read.
 
 Example: omlog show s1.db, behind omlog run --store s with the example of run.
-  checkpoint 0 process 1 of 2 count 0 version 2 bytes 451
+  checkpoint 0 process 1 of 2 count 0 version 2 bytes 328
   receipt 1 from 0 interval 0 number 0 count 3 bytes 4
   replay 0 to 1";
 

@@ -1,0 +1,7 @@
+//! Tests of looks into stores: what they hold, and how processes go on.
+#![tactic(auto)]
+
+#[cfg(test)]
+mod contents;
+#[cfg(test)]
+mod traces;
