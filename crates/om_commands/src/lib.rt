@@ -1,4 +1,20 @@
 //! The commands on message logs, checkpoints and recovery states of message-passing programs: text in, text out.
+//!
+//! A command reads the whole of its input, then computes, then writes. Only what the reader, the writer and the stores answer
+//! is trusted.
+//!
+//! In an order of reading:
+//!
+//! - what all share: `command` (reads the input, writes the answer), `error`, `laws`
+//! - `frontier`: with `record_script` (its lines), `report` (the texts of answers)
+//! - `decode`: with `word_script`
+//! - `sim`: with `sim_script` and `events` (its lines), `sim_text` (the texts of answers)
+//! - `draw`: the same scripts, as a picture
+//! - `replay` with `state_text`, and `steps`; `show`
+//! - `run`: with `cluster_script` (its lines), `in_memory` (stores), `run_text`
+//! - `check`: `run --check`, with `checked` (the comparison), `kept_script` and `event_text` (the run without failures as a
+//!   script)
+//! - `recorded`: `run --record`, with `record_text`
 #![tactic(auto)]
 
 pub mod check;

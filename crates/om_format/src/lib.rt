@@ -1,5 +1,15 @@
 //! Messages, and the records of receipts and checkpoints as bytes: each record has one spelling, and each damage that the
 //! format can show is named at its first byte.
+//!
+//! A record is written and read once from front to back; a memory is written by its pages that are not zero. Nothing is trusted
+//! here.
+//!
+//! In an order of reading:
+//!
+//! - what is recorded: `body`, `message`, `queue`, `memory`, `receipt`, `head` and `checkpoint`
+//! - the formats: `limits` (kinds, versions, limits), `version`, `error` (why bytes are no record), `laws`
+//! - to bytes: `encoding`, `checkpoint_writing`, `pages`
+//! - from bytes: `decoding`, `reading` (fields from the left), `checkpoint_reading`, `queue_reading`, `memory_reading`
 #![tactic(auto)]
 
 pub use body::Body;

@@ -1,4 +1,9 @@
 //! The 48 instructions of RV32IM: words, values and texts, from one list of rows.
+//!
+//! Nothing is allocated but a text. Nothing is trusted here; that the list is that of the RISC-V manual is in the definitions.
+//!
+//! In an order of reading: `rows` (the one list), `inst` (the values), `fields` and `registers` (what they hold), `ext` (RV32I,
+//! or with RV32M), `words` (the fields of a word), `decoding`, `encoding`, `text`.
 #![tactic(auto)]
 
 pub use decoding::decode;

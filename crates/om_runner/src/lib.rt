@@ -1,4 +1,18 @@
 //! A cluster run by threads: a worker for each process, over the board, the frontier and the inboxes that they share.
+//!
+//! A turn of a worker reads the frontier, and takes the lock only where there is something to tell or to learn; a worker that
+//! has nothing to do sleeps. The kit's threads, locks and channels are trusted, and the stores as far as they say that they are
+//! clean.
+//!
+//! In an order of reading:
+//!
+//! - what a run is given and what it answers: `config`, `opener` (who makes the stores), `fault`, `witness` (what each process
+//!   did)
+//! - `cluster`: the threads, from the first store to the report; `network` (the inboxes of all), `settle` (what is left in
+//!   them)
+//! - `worker`: what a thread does, turn by turn; `idle` and `bell` (how it sleeps and is woken), `trouble` (why it stops)
+//! - what a worker has: `node` (a process over its store), `links` (its ends of inboxes), `contact` and `desk` (the manager)
+//! - `recorder` and `diary`: what the threads did, in one order
 #![tactic(auto)]
 
 mod bell;
