@@ -14,6 +14,7 @@
 //! - `run`: with `cluster_script` (its lines), `in_memory` (stores), `run_text`
 //! - `check`: `run --check`, with `checked` (the comparison), `kept_script` and `event_text` (the run without failures as a
 //!   script)
+//! - `followed`: `run --follow`
 //! - `recorded`: `run --record`, with `record_text`
 #![tactic(auto)]
 
@@ -26,6 +27,7 @@ pub mod draw;
 mod error;
 mod event_text;
 mod events;
+pub mod followed;
 pub mod frontier;
 mod in_memory;
 mod kept_script;

@@ -184,11 +184,11 @@ fn push_bytes(alloc: Global, text: &mut String, bytes: &[u8]) -> Result<(), Allo
 }
 
 // Writes the line of an output.
-fn push_output(
+pub(crate) fn push_output(
     alloc: Global,
     text: &mut String,
     name: &str,
-    number: usize,
+    number: u64,
     bytes: &[u8],
 ) -> Result<(), AllocError>
     ensures { OnOk result (string_bytes text.new ≡ string_bytes text.old ++ output_line name.now number bytes.now) }
@@ -208,7 +208,7 @@ pub(crate) fn push_outputs(
     ensures { OnOk result (string_bytes text.new ≡ string_bytes text.old ++ outputs_text name.now (map held_of outputs.now)) }
 {
     for number in 0..outputs.len() {
-        push_output(alloc, text, name, number, &outputs[number].bytes)?;
+        push_output(alloc, text, name, number as u64, &outputs[number].bytes)?;
     }
     Ok(())
 }

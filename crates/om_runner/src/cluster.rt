@@ -7,15 +7,17 @@ ghost use Rattle.om_process.specs.Images.{program_of};
 ghost use Rattle.om_process.specs.declared.image.Image.{Image};
 ghost use Rattle.om_runner.specs.Reports.{AreAlong, AreStatusesAlong, IsEnd, IsStatusAlong};
 ghost use Rattle.om_runner.specs.steps.Ends.{AreEndsOf, IsEndOf, IsPromised, IsTurned};
+ghost use Rattle.om_runner.specs.steps.Network.{IsNetwork};
 ghost use Rattle.om_runner.specs.steps.Places.{member_of};
 ghost use Rattle.om_runner.specs.steps.Settling.{AreLeaves};
 ghost use Rattle.om_runner.specs.steps.Wiring.{IsWired};
 
-use crate::bell::{Bell, ring_all};
 use crate::config::Config;
+use crate::diary::Listeners;
 use crate::fault::RunFault;
+use crate::ground::{Alone, Beside, Cluster, ground_of, stop_all};
 use crate::links::Links;
-use crate::network::{Ends, Network, connected};
+use crate::network::Ends;
 use crate::node::Node;
 use crate::opener::{Gate, OpenFault, Opener};
 use crate::recorder::Recorder;
@@ -35,27 +37,6 @@ use std::sync::atomic::Ordering::SeqCst;
 use std::thread;
 use std::thread::{Promise, PromisedHandle, Scope, Threads, join_promised};
 
-// What the threads of a cluster have in common.
-#[derive(Drop)]
-struct Cluster<'s, K: Naming, R, G, O> {
-    rt: &'s R,
-    alloc: Global,
-    plan: &'s Config,
-    gate: &'s G,
-    opener: &'s O,
-    shared: &'s Shared<K>,
-    // Set where one of them ends with a fault.
-    stop: &'s AtomicBool,
-    // Whether what each process did is to be kept.
-    keeps: bool,
-    // Takes in what the threads do, where that is asked for.
-    recorder: Option<&'s Recorder>,
-    // By sender, and there by receiver.
-    inboxes: &'s [Vec<Inbox>],
-    // By process, what wakes its worker.
-    bells: &'s [Bell],
-}
-
 // What a worker begins with.
 #[derive(Drop)]
 struct Job<'a, K: Naming> {
@@ -66,7 +47,7 @@ struct Job<'a, K: Naming> {
 
 // What a worker brings back.
 #[derive(Drop)]
-struct Finished<S: Stable> {
+pub(crate) struct Finished<S: Stable> {
     status: Status,
     store: S,
     ends: Ends,
@@ -75,14 +56,14 @@ struct Finished<S: Stable> {
 
 // What all workers brought back, by process.
 #[derive(Drop)]
-struct Parts<S: Stable> {
-    statuses: Vec<Status>,
-    stores: Vec<S>,
+pub(crate) struct Parts<S: Stable> {
+    pub(crate) statuses: Vec<Status>,
+    pub(crate) stores: Vec<S>,
     // By sender, and there by receiver.
-    puts: Vec<Vec<PutPass>>,
+    pub(crate) puts: Vec<Vec<PutPass>>,
     // By receiver, and there by sender.
-    takes: Vec<Vec<TakePass>>,
-    witnesses: Vec<Witness>,
+    pub(crate) takes: Vec<Vec<TakePass>>,
+    pub(crate) witnesses: Vec<Witness>,
 }
 
 // Asks the gate until it lets the process start.
@@ -274,21 +255,15 @@ fn work<'a, K: Naming, R: Wait, G: Gate, O: Opener<R>>(
         shared,
         stop,
         keeps,
-        recorder,
+        listeners,
         ..
     } = *cluster;
     let past = Past::new(alloc, keeps);
-    let worker = Worker::new(plan, shared, links, kills, past, alloc, recorder);
+    let worker = Worker::new(plan, shared, links, kills, past, alloc, listeners);
     take_turns(rt, alloc, plan.turns, stop, worker, node, pass)
 }
 
-// Stops all workers.
-fn stop_all<K: Naming, R, G, O>(cluster: &Cluster<'_, K, R, G, O>) {
-    cluster.stop.store(true, SeqCst);
-    ring_all(cluster.bells);
-}
-
-// The same, and where it ends with a fault, the others are stopped.
+// The same, and where it ends with a fault, the others are stopped. Whoever follows is told of its end.
 fn work_or_stop<'a, K: Naming, R: Wait, G: Gate, O: Opener<R>>(
     cluster: &Cluster<'a, K, R, G, O>,
     image: &'a Image,
@@ -301,6 +276,7 @@ fn work_or_stop<'a, K: Naming, R: Wait, G: Gate, O: Opener<R>>(
     if result.is_err() {
         stop_all(cluster);
     }
+    cluster.listeners.end();
     result
 }
 
@@ -395,44 +371,54 @@ fn start_all<
     Some(handles)
 }
 
-// All processes, each on a thread of its own, and all joined.
+// All processes, each on a thread of its own, and all joined; and what was beside them.
 fn run_scoped<
     K: Naming + Send + Sync,
     R: Threads + Wait + Sync,
     G: Gate + Sync,
     O: Opener<R> + Sync,
+    B: Beside<K, R>,
 >(
     cluster: &Cluster<'_, K, R, G, O>,
     ends: Vec<Ends>,
     passes: Vec<Pass<K>>,
-) -> Result<Vec<Result<Finished<O::Store>, RunFault>>, RunFault>
+    beside: B,
+) -> (
+    Result<Vec<Result<Finished<O::Store>, RunFault>>, RunFault>,
+    B,
+)
     requires few { K.cell.n ≤ MAX_PROCESSES }
     requires images { length cluster.now.plan.now.images.items ≡ K.cell.n }
     requires wired { IsWired K.cell.n cluster.now.inboxes.now ends.items }
     requires passes { vec_len passes ≡ K.cell.n }
-    ensures long { IfOk result (λ v. vec_len v ≡ K.cell.n) }
-    ensures each { IfOk result (λ v. AreEndsOf O.Store.is_clean cluster.now.plan.now.images.items
+    ensures long { IfOk result.0 (λ v. vec_len v ≡ K.cell.n) }
+    ensures each { IfOk result.0 (λ v. AreEndsOf O.Store.is_clean cluster.now.plan.now.images.items
         cluster.now.inboxes.now K.cell.n v.items) }
 {
     thread::scope(
         thread::scope_env(),
         cluster.rt,
-        |scope| -> Result<Vec<Result<Finished<O::Store>, RunFault>>, RunFault>
+        |scope| -> (
+            Result<Vec<Result<Finished<O::Store>, RunFault>>, RunFault>,
+            B,
+        )
             requires few { K.cell.n ≤ MAX_PROCESSES }
             requires images { length cluster.now.plan.now.images.items ≡ K.cell.n }
             requires wired { IsWired K.cell.n cluster.now.inboxes.now ends.items }
             requires passes { vec_len passes ≡ K.cell.n }
-            ensures long { IfOk result (λ v. vec_len v ≡ K.cell.n) }
-            ensures each { IfOk result (λ v. AreEndsOf O.Store.is_clean cluster.entry.now.plan.now.images.items
+            ensures long { IfOk result.0 (λ v. vec_len v ≡ K.cell.n) }
+            ensures each { IfOk result.0 (λ v. AreEndsOf O.Store.is_clean cluster.entry.now.plan.now.images.items
                 cluster.entry.now.inboxes.now K.cell.n v.items) }
         {
             let Ok(handles) = Vec::with_capacity(cluster.alloc, passes.len()) else {
-                return Err(RunFault::Memory);
+                return (Err(RunFault::Memory), beside);
             };
             let Some(handles) = start_all(scope, cluster, ends, passes, handles) else {
-                return Err(RunFault::NoThread);
+                return (Err(RunFault::NoThread), beside);
             };
-            join_promised(cluster.rt, handles).map_err(|_| RunFault::Memory)
+            let beside = beside.attend(cluster);
+            let results = join_promised(cluster.rt, handles);
+            (results.map_err(|_| RunFault::Memory), beside)
         },
     )
 }
@@ -503,21 +489,15 @@ fn parted<S: Stable>(alloc: Global, all: Vec<Finished<S>>) -> Result<Parts<S>, A
     })
 }
 
-// What all workers of a cluster brought back, where each ended well.
-fn run_workers<
-    K: Naming + Send + Sync,
-    R: Threads + Wait + Sync,
-    G: Gate + Sync,
-    O: Opener<R> + Sync,
->(
+// What workers brought back, where each ended well.
+fn gathered<K: Naming, R: Wait, G, O: Opener<R>>(
     cluster: &Cluster<'_, K, R, G, O>,
-    ends: Vec<Ends>,
-    passes: Vec<Pass<K>>,
+    results: Vec<Result<Finished<O::Store>, RunFault>>,
 ) -> Result<Parts<O::Store>, RunFault>
-    requires few { K.cell.n ≤ MAX_PROCESSES }
     requires images { length cluster.now.plan.now.images.items ≡ K.cell.n }
-    requires wired { IsWired K.cell.n cluster.now.inboxes.now ends.items }
-    requires passes { vec_len passes ≡ K.cell.n }
+    requires network { IsNetwork K.cell.n cluster.now.inboxes.now }
+    requires long { vec_len results ≡ K.cell.n }
+    requires each { AreEndsOf O.Store.is_clean cluster.now.plan.now.images.items cluster.now.inboxes.now K.cell.n results.items }
     ensures leaves { IfOk result (λ parts. AreLeaves (length cluster.now.inboxes.now) cluster.now.inboxes.now
         parts.puts.items parts.takes.items) }
     ensures statuses { IfOk result (λ parts. length parts.statuses.items ≡ length cluster.now.plan.now.images.items) }
@@ -526,7 +506,6 @@ fn run_workers<
     ensures along { IfOk result (λ parts. AreAlong O.Store.is_clean cluster.now.plan.now.images.items
         parts.statuses.items parts.stores.items) }
 {
-    let results = run_scoped(cluster, ends, passes)?;
     let all = all_of(cluster.alloc, results)?;
     match parted(cluster.alloc, all) {
         Ok(parts) => Ok(parts),
@@ -534,8 +513,40 @@ fn run_workers<
     }
 }
 
+// What all workers of a cluster brought back, where each ended well; and what was beside them.
+pub(crate) fn run_workers<
+    K: Naming + Send + Sync,
+    R: Threads + Wait + Sync,
+    G: Gate + Sync,
+    O: Opener<R> + Sync,
+    B: Beside<K, R>,
+>(
+    cluster: &Cluster<'_, K, R, G, O>,
+    ends: Vec<Ends>,
+    passes: Vec<Pass<K>>,
+    beside: B,
+) -> (Result<Parts<O::Store>, RunFault>, B)
+    requires few { K.cell.n ≤ MAX_PROCESSES }
+    requires images { length cluster.now.plan.now.images.items ≡ K.cell.n }
+    requires wired { IsWired K.cell.n cluster.now.inboxes.now ends.items }
+    requires passes { vec_len passes ≡ K.cell.n }
+    ensures leaves { IfOk result.0 (λ parts. AreLeaves (length cluster.now.inboxes.now) cluster.now.inboxes.now
+        parts.puts.items parts.takes.items) }
+    ensures statuses { IfOk result.0 (λ parts. length parts.statuses.items ≡ length cluster.now.plan.now.images.items) }
+    ensures stores { IfOk result.0 (λ parts. length parts.stores.items ≡ length cluster.now.plan.now.images.items) }
+    ensures ended { IfOk result.0 (λ parts. All IsEnd parts.statuses.items) }
+    ensures along { IfOk result.0 (λ parts. AreAlong O.Store.is_clean cluster.now.plan.now.images.items
+        parts.statuses.items parts.stores.items) }
+{
+    let (results, beside) = run_scoped(cluster, ends, passes, beside);
+    match results {
+        Ok(results) => (gathered(cluster, results), beside),
+        Err(fault) => (Err(fault), beside),
+    }
+}
+
 // Settles the inboxes, and reads the report from the board. The stores stand beside it, and what each process did.
-fn close<K: Naming, R: Wait, G: Gate, O: Opener<R>>(
+pub(crate) fn close<K: Naming, R: Wait, G: Gate, O: Opener<R>>(
     cluster: &Cluster<'_, K, R, G, O>,
     parts: Parts<O::Store>,
 ) -> Result<(Report, Vec<O::Store>, Vec<Witness>), RunFault>
@@ -567,15 +578,6 @@ fn close<K: Naming, R: Wait, G: Gate, O: Opener<R>>(
     Ok((report, stores, witnesses))
 }
 
-// A bell for each of so many processes.
-fn bells_of(alloc: Global, n: usize) -> Result<Vec<Bell>, AllocError> {
-    let mut bells = Vec::with_capacity(alloc, n)?;
-    for _ in 0..n {
-        bells.push(Bell::new())?;
-    }
-    Ok(bells)
-}
-
 fn run_named<
     K: Naming + Send + Sync,
     R: Threads + Wait + Sync,
@@ -588,7 +590,7 @@ fn run_named<
     gate: &G,
     opener: &O,
     keeps: bool,
-    recorder: Option<&Recorder>,
+    listeners: Listeners<'_>,
     blank: Blank,
 ) -> Result<(Report, Vec<O::Store>, Vec<Witness>), RunFault>
     requires named { blank ≡ K.cell }
@@ -601,15 +603,7 @@ fn run_named<
     ensures ended { IfOk result (λ r. All IsEnd r.0.statuses.items) }
     ensures along { IfOk result (λ r. AreAlong O.Store.is_clean plan.now.images.items r.0.statuses.items r.1.items) }
 {
-    let Ok((shared, passes)) = Shared::<K>::new(alloc, blank) else {
-        return Err(RunFault::Memory);
-    };
-    let Ok(network) = connected(alloc, plan.images.len()) else {
-        return Err(RunFault::Memory);
-    };
-    let Network { inboxes, ends } = network;
-    let stop = AtomicBool::new(false);
-    let Ok(bells) = bells_of(alloc, plan.images.len()) else {
+    let Ok((ground, ends, passes)) = ground_of::<K>(alloc, plan.images.len(), blank) else {
         return Err(RunFault::Memory);
     };
     let cluster = Cluster {
@@ -618,15 +612,15 @@ fn run_named<
         plan,
         gate,
         opener,
-        shared: &shared,
-        stop: &stop,
+        shared: &ground.shared,
+        stop: &ground.stop,
         keeps,
-        recorder,
-        inboxes: &inboxes,
-        bells: &bells,
+        listeners,
+        inboxes: &ground.inboxes,
+        bells: &ground.bells,
     };
-    let parts = run_workers(&cluster, ends, passes)?;
-    close(&cluster, parts)
+    let (parts, _) = run_workers(&cluster, ends, passes, Alone);
+    close(&cluster, parts?)
 }
 
 /// Runs a cluster as [`run_cluster`] does, and hands back the store of each process beside the report. Where a process's store
@@ -651,7 +645,14 @@ pub fn run_and_keep_stores<R: Threads + Wait + Sync, G: Gate + Sync, O: Opener<R
         return Err(RunFault::Memory);
     };
     let (report, stores, _) = run_named::<Brand, R, G, O>(
-        rt, alloc, config, gate, opener, false, None, blank,
+        rt,
+        alloc,
+        config,
+        gate,
+        opener,
+        false,
+        Listeners::none(),
+        blank,
     )?;
     Ok((report, stores))
 }
@@ -677,7 +678,14 @@ pub fn run_and_keep_witnesses<R: Threads + Wait + Sync, G: Gate + Sync, O: Opene
         return Err(RunFault::Memory);
     };
     let (report, _, witnesses) = run_named::<Brand, R, G, O>(
-        rt, alloc, config, gate, opener, true, None, blank,
+        rt,
+        alloc,
+        config,
+        gate,
+        opener,
+        true,
+        Listeners::none(),
+        blank,
     )?;
     Ok((report, witnesses))
 }
@@ -711,7 +719,7 @@ pub fn run_and_record<R: Threads + Wait + Sync, G: Gate + Sync, O: Opener<R> + S
         gate,
         opener,
         false,
-        Some(recorder),
+        Listeners::of(recorder),
         blank,
     )?;
     Ok(report)

@@ -191,6 +191,7 @@ impl<'a, K: Naming> Contact<'a, K> {
         };
         self.hand_over(alloc, &mut desk, node)?;
         diary.noted(rt, has_receipt, has_checkpoint)?;
+        diary.announce(rt, desk.board.manager())?;
         let limits = self.prune(&mut desk, has_checkpoint);
         let standing = self.ask(&mut desk, ended);
         let (front, pass) = desk.frontier.meet(rt, desk.board, pass);
@@ -227,6 +228,7 @@ impl<'a, K: Naming> Contact<'a, K> {
         self.seen = front.version;
         let is_finished = front.round > self.round;
         diary.joined(rt, &front, is_finished)?;
+        diary.announce(rt, desk.board.manager())?;
         Ok((is_finished, pass))
     }
 
@@ -296,6 +298,7 @@ impl<'a, K: Naming> Contact<'a, K> {
         let (front, pass) = frontier.meet(rt, board, pass);
         self.seen = front.version;
         diary.failed(rt, &front, front.round > self.round)?;
+        diary.announce(rt, board.manager())?;
         Ok(pass)
     }
 

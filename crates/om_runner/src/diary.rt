@@ -1,15 +1,56 @@
-//! What a worker tells the recorder of a run.
+//! What a worker tells the recorder of a run, and the herald of its outputs.
 
 ghost use Rattle.std.specs.Prelude.{◌<◌};
 ghost use Rattle.om_process.specs.Core.{size_of};
 
+use crate::herald::Herald;
 use crate::recorder::{Act, Letter, Recorder};
 use om_board::Front;
 use om_format::Message;
 use om_interval::{MAX_PROCESSES, Pid, Verdict};
+use om_manager::Manager;
 use om_process::{Accept, ProcCore, Ran, Status};
 use std::alloc::{AllocError, Global};
 use std::sync::Wait;
+
+// Who is told what the threads do.
+#[derive(Clone, Copy)]
+pub(crate) struct Listeners<'a> {
+    recorder: Option<&'a Recorder>,
+    herald: Option<&'a Herald>,
+}
+
+impl<'a> Listeners<'a> {
+    pub(crate) fn none() -> Listeners<'a> {
+        Listeners {
+            recorder: None,
+            herald: None,
+        }
+    }
+
+    // A recorder, which takes in all that they do.
+    pub(crate) fn of(recorder: &'a Recorder) -> Listeners<'a> {
+        Listeners {
+            recorder: Some(recorder),
+            herald: None,
+        }
+    }
+
+    // A herald, which learns of outputs that are released.
+    pub(crate) fn followed(herald: &'a Herald) -> Listeners<'a> {
+        Listeners {
+            recorder: None,
+            herald: Some(herald),
+        }
+    }
+
+    // A worker has ended.
+    pub(crate) fn end(&self) {
+        if let Some(herald) = self.herald {
+            herald.end();
+        }
+    }
+}
 
 // What the worker of a process has to tell. Without a recorder it does nothing.
 #[derive(Drop)]
@@ -17,6 +58,7 @@ pub(crate) struct Diary<'a> {
     alloc: Global,
     own: Pid,
     recorder: Option<&'a Recorder>,
+    herald: Option<&'a Herald>,
     // The instructions that the process finished, and that are not told yet: they have sent nothing.
     steps: u64,
     // By receiver, the number from which on messages are not told yet.
@@ -82,11 +124,13 @@ fn add_messages_to(
 
 impl<'a> Diary<'a> {
     // Of a process at its start.
-    pub(crate) fn new(alloc: Global, own: Pid, recorder: Option<&'a Recorder>) -> Diary<'a> {
+    pub(crate) fn new(alloc: Global, own: Pid, listeners: Listeners<'a>) -> Diary<'a> {
+        let Listeners { recorder, herald } = listeners;
         Diary {
             alloc,
             own,
             recorder,
+            herald,
             steps: 0,
             next: [0; MAX_PROCESSES],
             interval: 0,
@@ -172,6 +216,14 @@ impl<'a> Diary<'a> {
             ssn: message.ssn,
         };
         self.tell(rt, &[Act::Give { letter, interval }])
+    }
+
+    // The manager was told something, under the board's lock: it may have released outputs.
+    pub(crate) fn announce<R: Wait>(&self, rt: &R, manager: &Manager) -> Result<(), AllocError> {
+        match self.herald {
+            Some(herald) => herald.announce(rt, manager),
+            None => Ok(()),
+        }
     }
 
     // Pending rows are noted, under the board's lock: of receipts, and then of a checkpoint.

@@ -12,7 +12,9 @@
 //!   them)
 //! - `worker`: what a thread does, turn by turn; `idle` and `bell` (how it sleeps and is woken), `trouble` (why it stops)
 //! - what a worker has: `node` (a process over its store), `links` (its ends of inboxes), `contact` and `desk` (the manager)
+//! - `ground`: what all threads have in common
 //! - `recorder` and `diary`: what the threads did, in one order
+//! - `followed`, with `follower`, `following` and `herald`: outputs that are told as they are released
 #![tactic(auto)]
 
 mod bell;
@@ -22,6 +24,11 @@ mod contact;
 mod desk;
 mod diary;
 mod fault;
+mod followed;
+mod follower;
+mod following;
+mod ground;
+mod herald;
 mod idle;
 mod links;
 mod network;
@@ -36,6 +43,8 @@ mod worker;
 pub use cluster::{run_and_keep_stores, run_and_keep_witnesses, run_and_record, run_cluster};
 pub use config::Config;
 pub use fault::RunFault;
+pub use followed::run_and_follow;
+pub use follower::{FollowFault, Follower};
 pub use idle::IDLE_TURNS;
 pub use om_board::{
     Blank, Board, CAPACITY, Front, Frontier, Inbox, Naming, Pass, PutAnswer, PutPass, Report,

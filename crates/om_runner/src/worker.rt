@@ -9,12 +9,11 @@ ghost use Rattle.om_runner.specs.steps.Wiring.{HasEnds};
 
 use crate::config::Config;
 use crate::contact::{Contact, Heard, Limits, Standing};
-use crate::diary::Diary;
+use crate::diary::{Diary, Listeners};
 use crate::idle::{Idle, Pause};
 use crate::links::Links;
 use crate::network::Ends;
 use crate::node::{Fallen, Node, has_ended};
-use crate::recorder::Recorder;
 use crate::trouble::Trouble;
 use crate::witness::Past;
 use om_board::{Front, Naming, Pass, Shared};
@@ -144,7 +143,7 @@ impl<'a, K: Naming> Worker<'a, K> {
         kills: Vec<u32>,
         past: Past,
         alloc: Global,
-        recorder: Option<&'a Recorder>,
+        listeners: Listeners<'a>,
     ) -> Worker<'a, K>
         requires { links.n ≡ K.cell.n }
         ensures { result.links ≡ links.entry }
@@ -156,7 +155,7 @@ impl<'a, K: Naming> Worker<'a, K> {
             links,
             kills,
             past,
-            diary: Diary::new(alloc, own, recorder),
+            diary: Diary::new(alloc, own, listeners),
             idle: Idle::new(),
             resent: false,
             extra: 0,

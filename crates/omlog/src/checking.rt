@@ -2,6 +2,7 @@
 
 use om_commands::CommandError;
 use om_commands::check::{run_checked, run_with_witness};
+use om_commands::followed::run_followed;
 use om_commands::recorded::run_recorded;
 use om_commands::run::run;
 use om_runner::Opener;
@@ -12,13 +13,14 @@ use std::sync::Wait;
 use std::thread::Threads;
 
 // Whether a run is compared with the run without failures that it comes to, and the file that this is written to; or the file
-// that what its threads did is written to.
+// that what its threads did is written to; or whether outputs are written as they are released.
 #[derive(Clone, Copy)]
 pub(crate) enum Checking<'a> {
     Off,
     Check,
     Witness(&'a str),
     Record(&'a str),
+    Follow,
 }
 
 // Runs the cluster of an input over stores that are made so. The file is made before the cluster is started.

@@ -1,0 +1,148 @@
+//! The command `run --follow`: a cluster whose outputs are written as they are released.
+
+ghost use Rattle.std.specs.Prelude.{◌≡◌, ◌⊎◌, ◌≤◌, IfErr, IfSome, length};
+ghost use Rattle.om_commands.specs.Errors.{error_of_run};
+ghost use Rattle.om_commands.specs.Run.{IsErrorOfFollowed, IsErrorOfRun};
+
+use crate::cluster_script::ClusterScript;
+use crate::command::{read_input, write_answer};
+use crate::error::CommandError;
+use crate::run::{OpenGate, config_of};
+use crate::run_text::push_ends;
+use crate::sim_text::push_output;
+use om_interval::Pid;
+use om_manager::Output;
+use om_process::Status;
+use om_programs::Programs;
+use om_runner::{FollowFault, Follower, Opener, run_and_follow};
+use std::alloc::{AllocError, Global};
+use std::io::{Read, Write};
+use std::sync::Wait;
+use std::thread::Threads;
+
+// Writes the line of each output that it is told of.
+#[derive(Drop)]
+struct Lines<'a, W: Write + Drop> {
+    alloc: Global,
+    programs: &'a Programs,
+    writer: W,
+    // Whether it wants no more because memory ran out.
+    lacks_memory: bool,
+}
+
+// The name of a process, and none where there is no such process.
+fn name_in(programs: &Programs, pid: Pid) -> &str
+{
+    programs.name(pid.index()).unwrap_or("")
+}
+
+// The line of an output of a process.
+fn line_of(
+    alloc: Global,
+    programs: &Programs,
+    pid: Pid,
+    output: &Output,
+) -> Result<String, AllocError>
+{
+    let mut text = String::new(alloc);
+    push_output(alloc, &mut text, name_in(programs, pid), output.seq, &output.bytes)?;
+    Ok(text)
+}
+
+impl<'a, W: Write + Drop> Follower for Lines<'a, W> {
+    fn tell(&mut self, pid: Pid, output: &Output) -> bool {
+        let Ok(line) = line_of(self.alloc, self.programs, pid, output) else {
+            self.lacks_memory = true;
+            return false;
+        };
+        write_answer(&mut self.writer, line.as_bytes()).is_ok()
+    }
+
+    fn pause(&mut self) -> bool {
+        true
+    }
+}
+
+/// As `run` of [`crate::run`], but each output is written as soon as it is released: the lines of a process in order and each
+/// once, those of different processes in the order in which they were released. At the end comes how each process ended. Where
+/// the run is refused, what was released by then is written.
+pub fn run_followed<R: Threads + Wait + Sync, O: Opener<R> + Sync, I: Read, W: Write + Drop>(
+    rt: &R,
+    alloc: Global,
+    turns: u64,
+    opener: &O,
+    reader: &mut I,
+    writer: W,
+) -> (Result<(), CommandError>, W)
+    ensures error { IfSome (I.remaining reader.old) (λ bytes. IfErr result.0 (IsErrorOfRun bytes)) }
+{
+    match read_input(alloc, reader, ClusterScript::new(alloc)) {
+        Ok(script) => answer(rt, alloc, turns, opener, &script, writer),
+        Err(error) => (Err(error), writer),
+    }
+}
+
+// Writes what answers a script.
+fn answer<R: Threads + Wait + Sync, O: Opener<R> + Sync, W: Write + Drop>(
+    rt: &R,
+    alloc: Global,
+    turns: u64,
+    opener: &O,
+    script: &ClusterScript,
+    writer: W,
+) -> (Result<(), CommandError>, W)
+    ensures error { IfErr result.0 (IsErrorOfFollowed script.now) }
+{
+    let programs = script.programs();
+    if programs.n() == 0 {
+        return (Err(CommandError::EmptyScript), writer);
+    }
+    let Ok(config) = config_of(alloc, turns, script) else {
+        return (Err(CommandError::NoMemory), writer);
+    };
+    let lines = Lines {
+        alloc,
+        programs,
+        writer,
+        lacks_memory: false,
+    };
+    let (ended, lines) = run_and_follow(rt, alloc, &config, &OpenGate, opener, lines);
+    let Lines {
+        mut writer,
+        lacks_memory,
+        ..
+    } = lines;
+    let report = match ended {
+        Ok(report) => report,
+        Err(fault) => return (Err(error_of(fault, lacks_memory)), writer),
+    };
+    let written = write_ends(alloc, programs, &report.statuses, &mut writer);
+    (written, writer)
+}
+
+// As the caller is told why a run that was followed came to no end.
+fn error_of(fault: FollowFault, lacks_memory: bool) -> CommandError
+    ensures run { (f : _) → fault ≡ FollowFault.Run f → result ≡ error_of_run f }
+    ensures unwanted { fault ≡ FollowFault.Unwanted → (result ≡ CommandError.NoMemory) ⊎ (result ≡ CommandError.CannotWrite) }
+{
+    match fault {
+        FollowFault::Run(fault) => fault.into(),
+        FollowFault::Unwanted if lacks_memory => CommandError::NoMemory,
+        FollowFault::Unwanted => CommandError::CannotWrite,
+    }
+}
+
+// Writes how each process ended.
+fn write_ends<W: Write>(
+    alloc: Global,
+    programs: &Programs,
+    statuses: &[Status],
+    writer: &mut W,
+) -> Result<(), CommandError>
+    requires { length statuses.now ≤ length programs.now.processes }
+    ensures error { IfErr result (λ e. (e ≡ CommandError.NoMemory) ⊎ (e ≡ CommandError.CannotWrite)) }
+{
+    let mut text = String::new(alloc);
+    push_ends(&mut text, programs, statuses)?;
+    write_answer(writer, text.as_bytes())
+}

@@ -1,0 +1,100 @@
+//! What the threads of a cluster have in common, and what is done beside them.
+
+ghost use Rattle.std.specs.Prelude.{◌≡◌, ◌≤◌, IfOk, vec_len};
+ghost use Rattle.om_interval.specs.declared.pid.TheConstants.{MAX_PROCESSES};
+ghost use Rattle.om_runner.specs.steps.Wiring.{IsWired};
+
+use crate::bell::{Bell, ring_all};
+use crate::config::Config;
+use crate::diary::Listeners;
+use crate::network::{Ends, Network, connected};
+use om_board::{Blank, Inbox, Naming, Pass, Shared};
+use om_interval::MAX_PROCESSES;
+use std::alloc::{AllocError, Global};
+use std::sync::atomic::AtomicBool;
+use std::sync::atomic::Ordering::SeqCst;
+
+// What the threads of a cluster have in common.
+#[derive(Drop)]
+pub(crate) struct Cluster<'s, K: Naming, R, G, O> {
+    pub(crate) rt: &'s R,
+    pub(crate) alloc: Global,
+    pub(crate) plan: &'s Config,
+    pub(crate) gate: &'s G,
+    pub(crate) opener: &'s O,
+    pub(crate) shared: &'s Shared<K>,
+    // Set where one of them ends with a fault.
+    pub(crate) stop: &'s AtomicBool,
+    // Whether what each process did is to be kept.
+    pub(crate) keeps: bool,
+    // Who is told what the threads do.
+    pub(crate) listeners: Listeners<'s>,
+    // By sender, and there by receiver.
+    pub(crate) inboxes: &'s [Vec<Inbox>],
+    // By process, what wakes its worker.
+    pub(crate) bells: &'s [Bell],
+}
+
+// What the threads of a cluster share, before there are any.
+#[derive(Drop)]
+pub(crate) struct Ground<K: Naming> {
+    pub(crate) shared: Shared<K>,
+    // By sender, and there by receiver.
+    pub(crate) inboxes: Vec<Vec<Inbox>>,
+    pub(crate) bells: Vec<Bell>,
+    pub(crate) stop: AtomicBool,
+}
+
+// Of as many processes as the cell is for; with the leaves and the pass of each.
+pub(crate) fn ground_of<K: Naming>(
+    alloc: Global,
+    n: usize,
+    blank: Blank,
+) -> Result<(Ground<K>, Vec<Ends>, Vec<Pass<K>>), AllocError>
+    requires named { blank ≡ K.cell }
+    requires size { blank.n ≡ n }
+    requires few { n ≤ MAX_PROCESSES }
+    ensures wired { IfOk result (λ made. IsWired n made.0.inboxes.items made.1.items) }
+    ensures passes { IfOk result (λ made. vec_len made.2 ≡ n) }
+{
+    let (shared, passes) = Shared::<K>::new(alloc, blank)?;
+    let Network { inboxes, ends } = connected(alloc, n)?;
+    let ground = Ground {
+        shared,
+        inboxes,
+        bells: bells_of(alloc, n)?,
+        stop: AtomicBool::new(false),
+    };
+    Ok((ground, ends, passes))
+}
+
+// A bell for each of so many processes.
+fn bells_of(alloc: Global, n: usize) -> Result<Vec<Bell>, AllocError> {
+    let mut bells = Vec::with_capacity(alloc, n)?;
+    for _ in 0..n {
+        bells.push(Bell::new())?;
+    }
+    Ok(bells)
+}
+
+// Stops all workers.
+pub(crate) fn stop_all<K: Naming, R, G, O>(cluster: &Cluster<'_, K, R, G, O>) {
+    cluster.stop.store(true, SeqCst);
+    ring_all(cluster.bells);
+}
+
+// What the thread that starts the others does beside them.
+pub(crate) trait Beside<K: Naming, R>: Drop {
+    // Until the others have ended.
+    fn attend<G, O>(self, cluster: &Cluster<'_, K, R, G, O>) -> Self;
+}
+
+// It waits for them.
+#[derive(Drop)]
+pub(crate) struct Alone;
+
+impl<K: Naming, R> Beside<K, R> for Alone {
+    fn attend<G, O>(self, _cluster: &Cluster<'_, K, R, G, O>) -> Alone {
+        self
+    }
+}

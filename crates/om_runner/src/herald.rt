@@ -1,0 +1,103 @@
+//! Who learns of outputs that are released, and in which order they are.
+
+use crate::bell::Bell;
+use om_interval::{MAX_PROCESSES, Pid};
+use om_manager::Manager;
+use std::alloc::{AllocError, Global};
+use std::mem;
+use std::sync::atomic::AtomicUsize;
+use std::sync::atomic::Ordering::SeqCst;
+use std::sync::{Mutex, Wait};
+use std::time::Duration;
+
+// How long whoever follows sleeps at most, in milliseconds.
+const LONGEST_SLEEP: u64 = 1_000;
+
+// Of a process some outputs are released: those whose numbers are lower.
+#[derive(Clone, Copy)]
+pub(crate) struct Release {
+    pub(crate) process: Pid,
+    pub(crate) below: usize,
+}
+
+// What is known of releases.
+#[derive(Drop)]
+struct News {
+    // By process, how many of its outputs are released.
+    known: [usize; MAX_PROCESSES],
+    // What was released since it was last asked for, in order.
+    releases: Vec<Release>,
+}
+
+// Workers tell it of releases while the board's lock is had, so their order is that in which outputs were released.
+#[derive(Drop)]
+pub(crate) struct Herald {
+    alloc: Global,
+    bell: Bell,
+    // How many workers have ended.
+    ended: AtomicUsize,
+    news: Mutex<News>,
+}
+
+impl News {
+    // Takes in what the manager has released, and says whether there is any news.
+    fn take_in(&mut self, manager: &Manager) -> Result<bool, AllocError> {
+        let mut has_news = false;
+        for p in 0..manager.recovery().n() {
+            let below = manager.released(Pid::at(p)).len();
+            if below > self.known[p] {
+                let process = Pid::at(p);
+                self.releases.push(Release { process, below })?;
+                self.known[p] = below;
+                has_news = true;
+            }
+        }
+        Ok(has_news)
+    }
+}
+
+impl Herald {
+    pub(crate) fn new(alloc: Global) -> Herald {
+        Herald {
+            alloc,
+            bell: Bell::new(),
+            ended: AtomicUsize::new(0),
+            news: Mutex::new(News {
+                known: [0; MAX_PROCESSES],
+                releases: Vec::new(alloc),
+            }),
+        }
+    }
+
+    // Tells of what the manager has released, under the board's lock.
+    pub(crate) fn announce<R: Wait>(&self, rt: &R, manager: &Manager) -> Result<(), AllocError> {
+        let has_news = self.news.lock(rt).take_in(manager)?;
+        if has_news {
+            self.bell.ring();
+        }
+        Ok(())
+    }
+
+    // A worker has ended.
+    pub(crate) fn end(&self) {
+        self.ended.fetch_add(1, SeqCst);
+        self.bell.ring();
+    }
+
+    // Whether so many workers have ended.
+    pub(crate) fn have_ended(&self, n: usize) -> bool {
+        self.ended.load(SeqCst) >= n
+    }
+
+    // What was released since it was last asked for, in order.
+    pub(crate) fn releases<R: Wait>(&self, rt: &R) -> Vec<Release> {
+        let mut guard = self.news.lock(rt);
+        let news = &mut *guard;
+        mem::replace(&mut news.releases, Vec::new(self.alloc))
+    }
+
+    // Sleeps until there is news.
+    pub(crate) fn sleep<R: Wait>(&self, rt: &R) {
+        self.bell.sleep(rt, Duration::from_millis(LONGEST_SLEEP));
+    }
+}
