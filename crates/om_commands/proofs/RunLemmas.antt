@@ -1,5 +1,5 @@
 -- What is read of the report of a run, and why a run of a script is refused.
-use Rattle.std.proofs.Common.{◌≡◌, ℕ, ◌<◌, Option, None, Some, Result, Ok, Err, List, [], length, get_or, map, refl, sym, ap, subst, ◌∙◌}
+use Rattle.std.proofs.Common.{◌≡◌, ℕ, ◌<◌, ◌≤◌, Option, None, Some, Result, Ok, Err, List, [], length, get_or, map, refl, sym, ap, subst, ◌∙◌}
 use Rattle.std.specs.Prelude.{All, Vec, IfErr, IfSome, slice_get}
 use Rattle.std.specs.Option.{option_map}
 use Rattle.std.specs.declared.alloc.Global.{Global}
@@ -15,9 +15,12 @@ use Rattle.om_programs.specs.Programs.{Cluster, programs_of}
 use Rattle.om_board.specs.Released.{AreAllReleased}
 use Rattle.om_runner.specs.Reports.{AreStatusesAlong, IsEnd, IsStatusAlong}
 use Rattle.om_board.specs.declared.report.Report.{Report}
+use Rattle.om_runner.specs.declared.fault.RunFault.{RunFault}
+use Rattle.om_runner.specs.declared.fault.RunFault.TheVariants as running
+use Rattle.om_commands.specs.Errors.{error_of_run}
 use Rattle.om_commands.specs.ClusterScript.{Script, meaning_of, no_lines}
 use Rattle.om_commands.specs.Command.{IsScript}
-use Rattle.om_commands.specs.Run.{AreAlong, IsAnswer, IsErrorOfRun, IsErrorOfScript}
+use Rattle.om_commands.specs.Run.{AreAlong, IsAnswer, IsErrorOfFollowed, IsErrorOfRun, IsErrorOfScript}
 use Rattle.om_commands.specs.RunText.{run_text}
 use Rattle.om_commands.specs.declared.error.CommandError.{CommandError}
 use Rattle.om_commands.specs.declared.error.CommandError.TheVariants as errors
@@ -98,3 +101,40 @@ error_of_answer None start script r is read error = tt
 error_of_answer (Some bytes) start script (Ok x) is read error = tt
 error_of_answer (Some bytes) start script (Err e) is read error =
     of_script bytes script e (subst (λ s. IsScript meaning_of s bytes script) is read) error
+
+-- the fault of a run is an error of its script, also where outputs are written while it runs
+pub error_of_fault : (script : Script) (fault : RunFault) → 1 ≤ length script.cluster.processes
+    → IsErrorOfFollowed script (error_of_run fault)
+error_of_fault script (running.Turns p) some = some
+error_of_fault script (running.GateShut p) some = some
+error_of_fault script running.Memory some = tt
+error_of_fault script (running.Fault p) some = some
+error_of_fault script (running.Load p) some = some
+error_of_fault script running.NoThread some = some
+
+-- the error of a script whose outputs are written while it runs is that of its bytes
+of_followed : (bytes : List ℕ) (script : Script) (error : CommandError) → IsScript meaning_of no_lines bytes script
+    → IsErrorOfFollowed script error → IsErrorOfRun bytes error
+of_followed bytes script errors.CannotWrite read told = tt
+of_followed bytes script errors.EmptyScript read told = of_script bytes script errors.EmptyScript read told
+of_followed bytes script errors.NoMemory read told = of_script bytes script errors.NoMemory read told
+of_followed bytes script errors.OutOfTurns read told = of_script bytes script errors.OutOfTurns read told
+of_followed bytes script errors.GateShut read told = of_script bytes script errors.GateShut read told
+of_followed bytes script errors.StoreFault read told = of_script bytes script errors.StoreFault read told
+of_followed bytes script errors.NoThread read told = of_script bytes script errors.NoThread read told
+of_followed bytes script errors.TooLong read never = absurd never
+of_followed bytes script errors.CannotRead read never = absurd never
+of_followed bytes script (errors.Script error) read never = absurd never
+of_followed bytes script errors.NoCheckpoint read never = absurd never
+of_followed bytes script (errors.Damaged y) read never = absurd never
+of_followed bytes script (errors.MissingReceipt y) read never = absurd never
+of_followed bytes script (errors.Mismatch y) read never = absurd never
+of_followed bytes script errors.Unlike read never = absurd never
+
+pub error_of_followed : {A : Type 0} (remaining : Option (List ℕ)) (start script : Script) (r : Result A CommandError) → start ≡ no_lines
+    → IfSome remaining (λ bytes. IsScript meaning_of start bytes script) → IfErr r (IsErrorOfFollowed script)
+    → IfSome remaining (λ bytes. IfErr r (IsErrorOfRun bytes))
+error_of_followed None start script r is read error = tt
+error_of_followed (Some bytes) start script (Ok x) is read error = tt
+error_of_followed (Some bytes) start script (Err e) is read error =
+    of_followed bytes script e (subst (λ s. IsScript meaning_of s bytes script) is read) error

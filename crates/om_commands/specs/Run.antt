@@ -1,5 +1,5 @@
 -- What the command `run` answers to the bytes of its input.
-use Rattle.std.specs.Prelude.{◌≡◌, ◌⊎◌, ℕ, ◌≤◌, List, All, Some, length, map, slice_get}
+use Rattle.std.specs.Prelude.{◌≡◌, ℕ, ◌≤◌, List, All, Some, length, map, slice_get}
 use Rattle.om_manager.specs.Outputs.{HeldOutput, held_of}
 use Rattle.om_process.specs.Process.{Program}
 use Rattle.om_process.specs.declared.status.Status.{Status}
@@ -66,7 +66,8 @@ IsErrorOfScript script (errors.Mismatch y) = ⊥
 
 -- the error of a script whose outputs are written while it runs, or the writer's
 abbrev pub IsErrorOfFollowed : Script → CommandError → Type 0
-IsErrorOfFollowed script error = (error ≡ errors.CannotWrite) ⊎ IsErrorOfScript script error
+IsErrorOfFollowed script errors.CannotWrite = Unit {0}
+IsErrorOfFollowed script error = IsErrorOfScript script error
 
 -- the bytes are a cluster file of a process or more
 pub record IsClusterFile (bytes : List ℕ) : Type 0 where

@@ -1,7 +1,7 @@
 //! The command `run --follow`: a cluster whose outputs are written as they are released.
 
-ghost use Rattle.std.specs.Prelude.{◌≡◌, ◌⊎◌, ◌≤◌, IfErr, IfSome, length};
-ghost use Rattle.om_commands.specs.Errors.{error_of_run};
+ghost use Rattle.std.specs.Prelude.{◌≤◌, IfErr, IfSome, length};
+ghost use Rattle.om_commands.specs.ClusterScript.{Script};
 ghost use Rattle.om_commands.specs.Run.{IsErrorOfFollowed, IsErrorOfRun};
 
 use crate::cluster_script::ClusterScript;
@@ -31,8 +31,7 @@ struct Lines<'a, W: Write + Drop> {
 }
 
 // The name of a process, and none where there is no such process.
-fn name_in(programs: &Programs, pid: Pid) -> &str
-{
+fn name_in(programs: &Programs, pid: Pid) -> &str {
     programs.name(pid.index()).unwrap_or("")
 }
 
@@ -42,10 +41,15 @@ fn line_of(
     programs: &Programs,
     pid: Pid,
     output: &Output,
-) -> Result<String, AllocError>
-{
+) -> Result<String, AllocError> {
     let mut text = String::new(alloc);
-    push_output(alloc, &mut text, name_in(programs, pid), output.seq, &output.bytes)?;
+    push_output(
+        alloc,
+        &mut text,
+        name_in(programs, pid),
+        output.seq,
+        &output.bytes,
+    )?;
     Ok(text)
 }
 
@@ -122,8 +126,7 @@ fn answer<R: Threads + Wait + Sync, O: Opener<R> + Sync, W: Write + Drop>(
 
 // As the caller is told why a run that was followed came to no end.
 fn error_of(fault: FollowFault, lacks_memory: bool) -> CommandError
-    ensures run { (f : _) → fault ≡ FollowFault.Run f → result ≡ error_of_run f }
-    ensures unwanted { fault ≡ FollowFault.Unwanted → (result ≡ CommandError.NoMemory) ⊎ (result ≡ CommandError.CannotWrite) }
+    ensures { (script : Script) → 1 ≤ length script.cluster.processes → IsErrorOfFollowed script result }
 {
     match fault {
         FollowFault::Run(fault) => fault.into(),
@@ -140,7 +143,7 @@ fn write_ends<W: Write>(
     writer: &mut W,
 ) -> Result<(), CommandError>
     requires { length statuses.now ≤ length programs.now.processes }
-    ensures error { IfErr result (λ e. (e ≡ CommandError.NoMemory) ⊎ (e ≡ CommandError.CannotWrite)) }
+    ensures error { IfErr result (λ e. (script : Script) → IsErrorOfFollowed script e) }
 {
     let mut text = String::new(alloc);
     push_ends(&mut text, programs, statuses)?;

@@ -39,7 +39,11 @@ fn push_end(text: &mut String, name: &str, status: Status) -> Result<(), AllocEr
 }
 
 // Writes a line for each process.
-pub(crate) fn push_ends(text: &mut String, programs: &Programs, statuses: &[Status]) -> Result<(), AllocError>
+pub(crate) fn push_ends(
+    text: &mut String,
+    programs: &Programs,
+    statuses: &[Status],
+) -> Result<(), AllocError>
     requires { length statuses.now ≤ length programs.now.processes }
     ensures { OnOk result (string_bytes text.new ≡ string_bytes text.old ++ ends_text programs.now statuses.now) }
 {
