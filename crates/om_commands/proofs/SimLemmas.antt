@@ -19,7 +19,7 @@ use Rattle.om_programs.specs.Programs.{Cluster, IsProgram, programs_of}
 use Rattle.om_stable.specs.Content.{Content}
 use Rattle.om_world.proofs.Beginning.{all_at}
 use Rattle.om_world.specs.Started.{IsRefusedAt, IsWhy}
-use Rattle.om_world.specs.Played.{Played}
+use Rattle.om_world.specs.Played.{IsFaultless, Played}
 use Rattle.om_world.specs.World.{WorldState, IsEmpty, IsKnown}
 use Rattle.om_world.specs.declared.event.Answer.{Answer}
 use Rattle.om_world.specs.declared.event.Event.{Event}
@@ -85,19 +85,20 @@ all_same stores all = All-map IsEmpty (λ s. s) stores all
 
 -- a script is told by what its events give
 pub is_played : {A E : Type 0} (spelled : A → List ℕ) (script : Script) (cluster : Cluster) (begun end : WorldState) (events : List Event) (answers told : List Answer) (r : Result A E)
-    → cluster ≡ script.cluster → events ≡ script.events → told ≡ answers → Played begun events answers end → IsKnown end
+    → cluster ≡ script.cluster → events ≡ script.events → told ≡ answers → Played begun events answers end → IsKnown end → All IsFaultless answers
     → IfOk r (λ text. spelled text ≡ answers_text told ++ end_text cluster (length cluster.processes) end)
     → IfOk r (λ text. IsPlayed script begun (spelled text))
-is_played spelled script cluster begun end events answers told (Ok text) same_cluster same_events same_answers played known written = (
+is_played spelled script cluster begun end events answers told (Ok text) same_cluster same_events same_answers played known faultless written = (
   end,
   answers,
   subst (λ es. Played begun es answers end) same_events played,
   known,
+  faultless,
   written
       ∙ ap (λ xs. answers_text xs ++ end_text cluster (length cluster.processes) end) same_answers
       ∙ ap (λ c. answers_text answers ++ end_text c (length c.processes) end) same_cluster,
 )
-is_played spelled script cluster begun end events answers told (Err e) same_cluster same_events same_answers played known written = tt
+is_played spelled script cluster begun end events answers told (Err e) same_cluster same_events same_answers played known faultless written = tt
 
 -- a script is answered by what is played from the start of its world
 pub is_answer : (script : Script) (cluster : Cluster) (begun : WorldState) (text : List ℕ) → cluster ≡ script.cluster

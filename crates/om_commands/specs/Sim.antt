@@ -1,8 +1,8 @@
 -- What the command `sim` answers to the bytes of its input.
-use Rattle.std.specs.Prelude.{◌≡◌, ℕ, List, ◌++◌, length}
+use Rattle.std.specs.Prelude.{◌≡◌, ℕ, List, ◌++◌, All, length}
 use Rattle.om_process.specs.Process.{Program}
 use Rattle.om_programs.specs.Programs.{programs_of}
-use Rattle.om_world.specs.Played.{Played}
+use Rattle.om_world.specs.Played.{IsFaultless, Played}
 use Rattle.om_world.specs.Holds.{Holds}
 use Rattle.om_world.specs.Started.{IsStarted}
 use Rattle.om_world.specs.World.{WorldState, IsKnown}
@@ -21,11 +21,11 @@ pub record IsBegun (programs : List Program) (w : WorldState) : Type 0 where
   pub known : IsKnown w
   pub holds : Holds w
 
--- the answers to the events of a script, played from this world on, and how it stands in the end
+-- the answers to the events of a script, played from this world on, and how it stands in the end; no store failed
 abbrev pub IsPlayed : Script → WorldState → List ℕ → Type 0
 IsPlayed script begun text =
     (end : WorldState) × (answers : List Answer) × Played begun script.events answers end × IsKnown end
-    × (text ≡ answers_text answers ++ end_text script.cluster (length script.cluster.processes) end)
+    × All IsFaultless answers × (text ≡ answers_text answers ++ end_text script.cluster (length script.cluster.processes) end)
 
 -- the same, from the start of its world
 abbrev pub IsAnswer : Script → List ℕ → Type 0

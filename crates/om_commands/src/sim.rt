@@ -7,7 +7,7 @@ ghost use Rattle.om_manager.specs.State.{size_of};
 ghost use Rattle.om_process.specs.Images.{program_of};
 ghost use Rattle.om_process.specs.declared.start.StartFault.{StartFault};
 ghost use Rattle.om_programs.specs.Programs.{IsProgram, programs_of};
-ghost use Rattle.om_world.specs.Played.{Played};
+ghost use Rattle.om_world.specs.Played.{IsFaultless, Played};
 ghost use Rattle.om_world.specs.World.{IsEmpty, IsKnown};
 ghost use Rattle.om_commands.specs.Command.{IsErrorOf, IsSilent};
 ghost use Rattle.om_commands.specs.Sim.{IsAnswer, IsBegun, IsPlayed, IsSim, LacksProcesses};
@@ -135,6 +135,7 @@ fn play(
 ) -> Result<Vec<Answer>, AllocError>
     requires { IsKnown world.old }
     ensures played { IfOk result (λ answers. Played world.old events.now answers.items world.new) }
+    ensures faultless { IfOk result (λ answers. All IsFaultless answers.items) }
     ensures known { IsKnown world.new }
     ensures size { size_of world.new.manager ≡ size_of world.old.manager }
 {

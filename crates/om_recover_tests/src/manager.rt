@@ -3,7 +3,8 @@ ghost use Rattle.om_manager.specs.State.{size_of};
 
 use om_interval::{DepVec, MAX_PROCESSES, Pid, Tag};
 use om_manager::{
-    FailError, Gathered, JoinError, Manager, OutputError, OutputNote, RecordError, is_last_round,
+    FailError, Gathered, JoinError, Manager, Output, OutputError, OutputNote, RecordError,
+    is_last_round,
 };
 use om_recover::{Note, NoteError, RowKind};
 use std::alloc::{AllocError, Global};
@@ -67,7 +68,7 @@ fn vector(numbers: &[u32]) -> Option<DepVec> {
     DepVec::from_slice(numbers)
 }
 
-// Whether the call for its kind notes a row with this answer.
+// Whether the call for its kind notes a row with this answer, the second time where memory ran out at first.
 fn notes(
     alloc: Global,
     manager: &mut Manager,
@@ -78,11 +79,66 @@ fn notes(
 ) -> Option<bool> {
     let pid = Pid::new(pid)?;
     let (vec, got) = (vector(vec)?, vector(got)?);
-    let told = match kind {
-        RowKind::Log => manager.note_logged(alloc, pid, round, x, &vec, &got),
-        RowKind::Checkpoint => manager.note_checkpoint(alloc, pid, round, x, &vec, &got),
+    let row = (pid, round, x);
+    let told = match noted(alloc, manager, kind, row, (&vec, &got)) {
+        Err(RecordError::Refused(NoteError::Memory)) => {
+            noted(alloc, manager, kind, row, (&vec, &got))
+        }
+        told => told,
     };
     Some(told == answer)
+}
+
+fn noted(
+    alloc: Global,
+    manager: &mut Manager,
+    kind: RowKind,
+    (pid, round, x): (Pid, u32, u32),
+    (vec, got): (&DepVec, &DepVec),
+) -> Result<Note, RecordError> {
+    match kind {
+        RowKind::Log => manager.note_logged(alloc, pid, round, x, vec, got),
+        RowKind::Checkpoint => manager.note_checkpoint(alloc, pid, round, x, vec, got),
+    }
+}
+
+// The answer to an output, once more where memory ran out.
+fn output(
+    alloc: Global,
+    manager: &mut Manager,
+    (pid, round, x): (Pid, u32, u32),
+    seq: u64,
+    bytes: &[u8],
+) -> Result<OutputNote, OutputError> {
+    match manager.note_output(alloc, pid, round, x, seq, bytes) {
+        Err(OutputError::Memory) => manager.note_output(alloc, pid, round, x, seq, bytes),
+        told => told,
+    }
+}
+
+// The answer to a failure, once more where memory ran out.
+fn failed(
+    alloc: Global,
+    manager: &mut Manager,
+    pid: Pid,
+    round: u32,
+) -> Result<Gathered, FailError> {
+    match manager.fail(alloc, pid, round) {
+        Err(FailError::Memory) => manager.fail(alloc, pid, round),
+        told => told,
+    }
+}
+
+// The answer to a join, once more where memory ran out.
+fn joined(
+    alloc: Global,
+    manager: &mut Manager,
+    (pid, round, current): (Pid, u32, u32),
+) -> Result<Gathered, JoinError> {
+    match manager.join(alloc, pid, round, current) {
+        Err(JoinError::Memory) => manager.join(alloc, pid, round, current),
+        told => told,
+    }
 }
 
 fn has_verdict(
@@ -161,14 +217,14 @@ fn holds(alloc: Global, manager: &mut Manager, row: &Row) -> Option<bool> {
             notes(alloc, manager, kind, place, (vec, got), answer)
         }
         Row::Output((pid, round, x), seq, bytes, answer) => {
-            let told = manager.note_output(alloc, Pid::new(pid)?, round, x, seq, bytes);
+            let told = output(alloc, manager, (Pid::new(pid)?, round, x), seq, bytes);
             Some(told == answer)
         }
         Row::Fail((pid, round), answer) => {
-            Some(manager.fail(alloc, Pid::new(pid)?, round) == answer)
+            Some(failed(alloc, manager, Pid::new(pid)?, round) == answer)
         }
         Row::Join((pid, round, current), answer) => {
-            Some(manager.join(alloc, Pid::new(pid)?, round, current) == answer)
+            Some(joined(alloc, manager, (Pid::new(pid)?, round, current)) == answer)
         }
         Row::Prune => {
             manager.prune();
@@ -186,7 +242,10 @@ fn holds(alloc: Global, manager: &mut Manager, row: &Row) -> Option<bool> {
 // Plays the rows with the manager of a new cluster of so many processes.
 fn play(rt: &impl Abort, alloc: Global, name: &str, n: usize, rows: &[Row]) -> Result<(), Fail> {
     assert!(rt; 1 <= n && n <= MAX_PROCESSES);
-    let mut manager = Manager::new(alloc, n)?;
+    let mut manager = match Manager::new(alloc, n) {
+        Ok(manager) => manager,
+        Err(_) => Manager::new(alloc, n)?,
+    };
     for (i, row) in rows.iter().enumerate() {
         let told = holds(alloc, &mut manager, row);
         assert_eq!(rt; told, Some(true), "row {i}: {name}");
@@ -425,4 +484,47 @@ fn the_last_round_is_known(rt: HostRuntime) {
     assert!(rt; !is_last_round(0));
     assert!(rt; !is_last_round(4_294_967_294));
     assert!(rt; is_last_round(4_294_967_295));
+}
+
+// Three outputs of each interval, of which each is held until its interval is noted.
+const OUTPUTS: u64 = 300;
+
+fn interval_of(seq: u64) -> u32 {
+    u32::try_from(seq / 3).unwrap_or(0).wrapping_add(1)
+}
+
+// Whether so many outputs are released, in order, with their numbers, intervals and bytes.
+fn are_released(released: &[Output], count: u64) -> bool {
+    if released.len() as u64 != count {
+        return false;
+    }
+    for (output, seq) in released.iter().zip(0..count) {
+        let is_it = output.seq == seq && output.interval == interval_of(seq);
+        if !is_it || output.bytes.as_slice() != seq.to_le_bytes().as_slice() {
+            return false;
+        }
+    }
+    true
+}
+
+// Notes the log of an interval of the one process, and tells whether that released the outputs up to there.
+fn releases(alloc: Global, manager: &mut Manager, x: u32) -> Option<bool> {
+    let noted = notes(alloc, manager, LOG, (0, 0, x), (&[x], &[x]), RAISED)?;
+    let pid = member(manager, 0)?;
+    Some(noted && are_released(manager.released(pid), u64::from(x) * 3))
+}
+
+#[test]
+fn hundreds_of_outputs_are_released_in_order(rt: HostRuntime) -> Result<(), Fail> {
+    let mut manager = Manager::new(rt.alloc(), 1)?;
+    for seq in 0..OUTPUTS {
+        let place = (Pid::at(0), 0, interval_of(seq));
+        let told = output(rt.alloc(), &mut manager, place, seq, &seq.to_le_bytes());
+        assert_eq!(&rt; told, HELD, "{seq}");
+    }
+    for x in 1..=100 {
+        let told = releases(rt.alloc(), &mut manager, x);
+        assert_eq!(&rt; told, Some(true), "{x}");
+    }
+    Ok(())
 }

@@ -43,8 +43,27 @@ fn vector(numbers: &[u32]) -> Option<DepVec> {
     DepVec::from_slice(numbers)
 }
 
-// Notes a row by the call for its kind, or by the one for both. None where it names no process or vector.
+// Notes a row by the call for its kind, or by the one for both, and once more where memory ran out and the recovery state is as it
+// was. None where the row names no process or vector, and where the state is another.
 fn noted(
+    alloc: Global,
+    records: &mut Records,
+    row: (RowKind, u32, u32),
+    lists: (&[u32], &[u32]),
+    offers: bool,
+) -> Option<Result<Note, NoteError>> {
+    let before = records.recovery();
+    let told = noted_once(alloc, records, row, lists, offers)?;
+    if told != Err(NoteError::Memory) {
+        return Some(told);
+    }
+    if records.recovery() != before {
+        return None;
+    }
+    noted_once(alloc, records, row, lists, offers)
+}
+
+fn noted_once(
     alloc: Global,
     records: &mut Records,
     (kind, pid, interval): (RowKind, u32, u32),
@@ -105,7 +124,10 @@ fn holds(alloc: Global, records: &mut Records, step: &Step) -> Option<bool> {
 // Plays the steps with the records of so many processes.
 fn play(rt: &impl Abort, alloc: Global, n: usize, steps: &[Step]) -> Result<(), Fail> {
     assert!(rt; 1 <= n && n <= MAX_PROCESSES);
-    let mut records = Records::new(alloc, n)?;
+    let mut records = match Records::new(alloc, n) {
+        Ok(records) => records,
+        Err(_) => Records::new(alloc, n)?,
+    };
     assert_eq!(rt; records.n(), n);
     for (i, step) in steps.iter().enumerate() {
         let told = holds(alloc, &mut records, step);

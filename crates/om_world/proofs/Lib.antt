@@ -35,3 +35,4 @@ pub mod Gathering
 pub mod Declaring
 pub mod Declared
 pub mod Entering
+pub mod Faultless

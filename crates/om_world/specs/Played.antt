@@ -1,8 +1,10 @@
 -- Events that are played in order.
-use Rattle.std.specs.Prelude.{◌≡◌, List, [], ◌∷◌}
+use Rattle.std.specs.Prelude.{◌≡◌, ◌≢◌, List, [], ◌∷◌}
 use Rattle.om_manager.specs.Sound.{KeepsReleased}
 use Rattle.om_world.specs.declared.event.Event.{Event}
 use Rattle.om_world.specs.declared.event.Answer.{Answer}
+use Rattle.om_world.specs.declared.event.Answer.TheVariants.{Refused}
+use Rattle.om_world.specs.declared.event.Refusal.TheVariants.{Fault}
 use Rattle.om_world.specs.World.{WorldState}
 use Rattle.om_world.specs.Holds.{Holds}
 use Rattle.om_world.specs.Happened.{Happened}
@@ -19,3 +21,7 @@ Played old [] [] new = new ≡ old
 Played old (e ∷ es) (a ∷ answers) new = (mid : WorldState) × Step old e a mid × Played mid es answers new
 Played old [] (a ∷ answers) new = ⊥
 Played old (e ∷ es) [] new = ⊥
+
+-- an event was answered with anything but a fault of a store
+abbrev pub IsFaultless : Answer → Type 0
+IsFaultless answer = answer ≢ Refused Fault

@@ -1,11 +1,11 @@
 //! Events that are played.
 
-ghost use Rattle.std.specs.Prelude.{◌≡◌, IfOk, IsTrue, OnErr, length, true};
+ghost use Rattle.std.specs.Prelude.{◌≡◌, All, IfOk, IsTrue, OnErr, length, true};
 ghost use Rattle.om_manager.specs.Sound.{KeepsReleased};
 ghost use Rattle.om_manager.specs.State.{size_of};
 ghost use Rattle.om_world.specs.Happened.{Happened};
 ghost use Rattle.om_world.specs.Holds.{Holds};
-ghost use Rattle.om_world.specs.Played.{Played, Step};
+ghost use Rattle.om_world.specs.Played.{IsFaultless, Played, Step};
 ghost use Rattle.om_world.specs.World.{IsKnown, all_clean};
 ghost use Rattle.om_world.specs.steps.Moves.{Keeps, answered};
 
@@ -30,6 +30,7 @@ impl<S: Stable> World<S> {
     fn outcome(&mut self, alloc: Global, event: Event) -> Result<Answer, Refusal>
         ensures happened { IsKnown self.new → Happened self.old event (answered result) self.new }
         ensures keeps { Keeps self.old self.new }
+        ensures faultless { ((store : S) → S.failed store ≡ 0) → IsKnown self.new → IsFaultless (answered result) }
     {
         match event {
             Event::Run { process, fuel } => self.run(alloc, process, fuel),
@@ -49,6 +50,7 @@ impl<S: Stable> World<S> {
     fn happen(&mut self, alloc: Global, event: Event) -> Answer
         ensures step { IsKnown self.new → Step self.old event result self.new }
         ensures keeps { Keeps self.old self.new }
+        ensures faultless { ((store : S) → S.failed store ≡ 0) → IsKnown self.new → IsFaultless result }
     {
         let answer = answer_of(self.outcome(alloc, event));
         self.told();
@@ -60,10 +62,13 @@ impl<S: Stable> World<S> {
     ///
     /// Where the stores held nothing before the start and are clean as the call ends, each event did what its answer says,
     /// and after each the world is a point of a run without failures (`Holds`; after Johnson and Zwaenepoel 1990). Stores of
-    /// a type that is always clean are (`always`).
+    /// a type that is always clean are (`always`), and over stores of a type that never counts a failure no event is answered
+    /// with a fault (`faultless`): both are so of stores in memory.
     pub fn play(&mut self, alloc: Global, events: &[Event]) -> Result<Vec<Answer>, AllocError>
         ensures played { IsKnown self.new → IfOk result (λ answers. Played self.old events.now answers.items self.new) }
         ensures count { IfOk result (λ answers. length answers.items ≡ length events.now) }
+        ensures faultless { ((store : S) → S.failed store ≡ 0) → IsKnown self.new
+            → IfOk result (λ answers. All IsFaultless answers.items) }
         ensures holds { IsKnown self.new → Holds self.new }
         ensures released { KeepsReleased self.old.manager self.new.manager }
         ensures size { size_of self.new.manager ≡ size_of self.old.manager }

@@ -6,6 +6,7 @@ ghost use Rattle.om_manager.specs.State as managers;
 ghost use Rattle.om_stable.specs.declared.error.StoreError.{StoreError};
 ghost use Rattle.om_world.specs.Happened.{Happened, ManagerPruned};
 ghost use Rattle.om_recover.specs.Cutting.{IsEffective};
+ghost use Rattle.om_world.specs.Played.{IsFaultless};
 ghost use Rattle.om_world.specs.World.{IsKnown, recovered};
 ghost use Rattle.om_world.specs.declared.event.Event.{Event};
 ghost use Rattle.om_world.specs.steps.Moves.{IsCalled, Keeps, answered};
@@ -31,6 +32,7 @@ fn prune_at<S: Stable>(
     ensures called { (c : ℕ) × IsEffective manager.now.rows p (recovered manager.now p) c
         × IsCalled S.content S.is_clean S.IsSound stores.old.items stores.new.items p (WasPruned c result) }
     ensures never_present { result ≢ Err StoreError.Present }
+    ensures faultless { ((store : S) → S.failed store ≡ 0) → result ≢ Err StoreError.Fault }
 {
     let store = &mut stores[p];
     store.prune(alloc, manager.effective(Pid::at(p)))
@@ -56,14 +58,16 @@ impl<S: Stable> World<S> {
     // Prunes the store of a process to its effective checkpoint.
     fn prune_store(&mut self, alloc: Global, p: usize) -> Result<(), StoreError>
         requires { p < length self.old.programs }
-        ensures { HasPruned self.old p result self.new }
+        ensures pruned { HasPruned self.old p result self.new }
+        ensures faultless { ((store : S) → S.failed store ≡ 0) → result ≢ Err StoreError.Fault }
     {
         prune_at(&mut self.stores, &self.manager, p, alloc)
     }
 
     // Prunes the stores in order, up to the first that refuses.
     fn prune_stores(&mut self, alloc: Global) -> Result<(), StoreError>
-        ensures { AllPruned self.old result self.new }
+        ensures pruned { AllPruned self.old result self.new }
+        ensures faultless { ((store : S) → S.failed store ≡ 0) → result ≢ Err StoreError.Fault }
     {
         for p in 0..self.size() {
             self.prune_store(alloc, p)?;
@@ -75,6 +79,7 @@ impl<S: Stable> World<S> {
     pub(crate) fn prune(&mut self, alloc: Global) -> Result<Answer, Refusal>
         ensures happened { IsKnown self.new → Happened self.old Event.Prune (answered result) self.new }
         ensures keeps { Keeps self.old self.new }
+        ensures faultless { ((store : S) → S.failed store ≡ 0) → IsFaultless (answered result) }
     {
         self.prune_manager();
         self.prune_stores(alloc)?;

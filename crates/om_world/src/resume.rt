@@ -1,12 +1,15 @@
 //! Processes that are taken down, and that are up again after a finished round.
 
-ghost use Rattle.std.specs.Prelude.{◌≡◌, ◌≢◌, ◌<◌, ◌↔◌, length, slice_get, false, true, IfErr, IfOk, IsTrue, OnErr, OnOk, Some};
+ghost use Rattle.std.specs.Prelude.{◌≡◌, ◌≢◌, ◌<◌, ◌↔◌, length, slice_get, false, true, Err, IfErr, IfOk, IsTrue, OnErr, OnOk, Some};
 ghost use Rattle.om_interval.specs.declared.pid.TheConstants.{MAX_PROCESSES};
 ghost use Rattle.om_manager.specs.State as managers;
+ghost use Rattle.om_process.specs.declared.replay.ReplayFault.{ReplayFault};
 ghost use Rattle.om_world.specs.Failures.{HasNews, IsToGoOn, taken_down};
 ghost use Rattle.om_world.specs.Happened.{Happened, Refused};
+ghost use Rattle.om_world.specs.Played.{IsFaultless};
 ghost use Rattle.om_world.specs.World.{IsKnown};
 ghost use Rattle.om_world.specs.declared.event.Event.{Event};
+ghost use Rattle.om_world.specs.declared.event.Refusal.{Refusal};
 ghost use Rattle.om_world.specs.declared.place.Place.TheVariants as places;
 ghost use Rattle.om_world.specs.steps.Moves.{IsCalled, Keeps, answered};
 ghost use Rattle.om_world.specs.steps.Returning.{FitsStarts, HasGoneOn, HasLeft, IsBackIn, IsBeyond, IsDue, IsRolledBack, KnowsRound, Returns};
@@ -53,6 +56,7 @@ fn roll_back_at<S: Stable>(
     ensures back { IfOk result (λ core. IsBackIn manager.now p core) }
     ensures called { IsCalled S.content S.is_clean S.IsSound stores.old.items stores.new.items p
         (IsRolledBack manager.now p result) }
+    ensures faultless { ((store : S) → S.failed store ≡ 0) → result ≢ Err ReplayFault.Fault }
 {
     let down = Down {
         pid: Pid::at(p),
@@ -113,7 +117,8 @@ impl<S: Stable> World<S> {
     fn bring_back(&mut self, alloc: Global, p: usize) -> Result<(u32, u32), ReplayFault>
         requires there { p < length self.old.programs }
         requires news { HasNews self.old p }
-        ensures { Returns self.old p result self.new }
+        ensures back { Returns self.old p result self.new }
+        ensures faultless { ((store : S) → S.failed store ≡ 0) → result ≢ Err ReplayFault.Fault }
     {
         let core = roll_back_at(&mut self.stores, &self.manager, p, alloc)?;
         let place = (core.interval(), core.inc());
@@ -129,6 +134,7 @@ impl<S: Stable> World<S> {
         ensures due { IfOk result (λ back. IsDue self.now p back) }
         ensures beyond { OnOk result (IsKnown self.now → IsBeyond self.now p) }
         ensures refused { IsKnown self.now → IfErr result (λ why. Refused self.now (Event.Resume p) why self.now) }
+        ensures faultless { result ≢ Err Refusal.Fault }
     {
         if p >= self.images.len() {
             return Err(Refusal::NoProcess);
@@ -149,6 +155,7 @@ impl<S: Stable> World<S> {
     pub(crate) fn resume(&mut self, alloc: Global, p: usize) -> Result<Answer, Refusal>
         ensures happened { IsKnown self.new → Happened self.old (Event.Resume p) (answered result) self.new }
         ensures keeps { Keeps self.old self.new }
+        ensures faultless { ((store : S) → S.failed store ≡ 0) → IsFaultless (answered result) }
     {
         let back = self.comes_back(p)?;
         if !back {

@@ -1,9 +1,11 @@
 //! Records that are stored, and rows that are noted.
 
-ghost use Rattle.std.specs.Prelude.{◌≡◌, ◌<◌, drop, length, slice_get, slice_set, true, Some};
+ghost use Rattle.std.specs.Prelude.{◌≡◌, ◌≢◌, ◌<◌, drop, length, slice_get, slice_set, true, Err, Some};
 ghost use Rattle.om_interval.specs.declared.pid.TheConstants.{MAX_PROCESSES};
 ghost use Rattle.om_world.specs.Changes.{IsUp};
+ghost use Rattle.om_stable.specs.declared.error.StoreError.{StoreError};
 ghost use Rattle.om_world.specs.Happened.{Happened};
+ghost use Rattle.om_world.specs.Played.{IsFaultless};
 ghost use Rattle.om_world.specs.World.{IsKnown};
 ghost use Rattle.om_process.specs.Core.{CoreState, with_pending};
 ghost use Rattle.om_world.specs.steps.Moves.{Gained, HasCalled, HasCore, HasTold, IsCalled, IsTold, IsToldUpTo, Keeps, after_store, answered, event_of};
@@ -27,9 +29,10 @@ fn store_at<S: Stable>(
 ) -> Result<(), StoreError>
     requires core { HasCore cores.old.items p }
     requires store { p < length stores.old.items }
-    ensures { (c : CoreState) × (slice_get cores.old.items p ≡ Some (Some c))
+    ensures called { (c : CoreState) × (slice_get cores.old.items p ≡ Some (Some c))
         × (cores.new.items ≡ slice_set cores.old.items p (Some (after_store kind c result)))
         × IsCalled S.content S.is_clean S.IsSound stores.old.items stores.new.items p (Gained kind c result) }
+    ensures faultless { ((store : S) → S.failed store ≡ 0) → result ≢ Err StoreError.Fault }
 {
     let store = &mut stores[p];
     match &mut cores[p] {
@@ -64,7 +67,8 @@ impl<S: Stable> World<S> {
     // Stores what a process that is up keeps of a kind.
     pub(crate) fn store(&mut self, alloc: Global, p: usize, kind: RowKind) -> Result<(), StoreError>
         requires { IsUp self.old p }
-        ensures { HasCalled kind self.old p result self.new }
+        ensures called { HasCalled kind self.old p result self.new }
+        ensures faultless { ((store : S) → S.failed store ≡ 0) → result ≢ Err StoreError.Fault }
     {
         store_at(&mut self.cores, &mut self.stores, p, alloc, kind)
     }
@@ -88,6 +92,7 @@ impl<S: Stable> World<S> {
     ) -> Result<Answer, Refusal>
         ensures happened { IsKnown self.new → Happened self.old (event_of kind p) (answered result) self.new }
         ensures keeps { Keeps self.old self.new }
+        ensures faultless { ((store : S) → S.failed store ≡ 0) → IsFaultless (answered result) }
     {
         self.is_up(p)?;
         self.store(alloc, p, kind)?;

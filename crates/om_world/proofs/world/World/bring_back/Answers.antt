@@ -13,8 +13,8 @@ invariant_of-self g c =
     let w : WorldState = record { programs = map program_of s.images.items; live = s.live.entries; frames = s.frames.items; cores = s.cores.items; places = s.places.items; rounds = s.rounds.items; manager = s.manager; contents = map g.S.Stable.content s.stores.items; clean = map g.S.Stable.is_clean s.stores.items; origins = map g.S.Stable.content s.origins.value.items } in
     after_fault g.S.Stable.content g.S.Stable.is_clean g.S.Stable.IsSound w c.args.p c.in_err-core.field-0.0 s.stores.items c.roll_back_at.new.stores.items c.self.invariant c.in_err-core.ensures.called
 
-pub returns-in_err-core : goal.returns-in_err-core
-returns-in_err-core g c =
+pub returns-in_err-core-clause-back : goal.returns-in_err-core-clause-back
+returns-in_err-core-clause-back g c =
     let s = c.self.inside in
     let w : WorldState = record { programs = map program_of s.images.items; live = s.live.entries; frames = s.frames.items; cores = s.cores.items; places = s.places.items; rounds = s.rounds.items; manager = s.manager; contents = map g.S.Stable.content s.stores.items; clean = map g.S.Stable.is_clean s.stores.items; origins = map g.S.Stable.content s.origins.value.items } in
     let fault = c.in_err-core.field-0.0 in
@@ -34,8 +34,8 @@ invariant_of-self-2 g c =
     let news = subst (λ (v : WorldState). HasNews v c.args.p) (sym c.self.view_is) c.requires.news in
     after_back g.S.Stable.content g.S.Stable.is_clean g.S.Stable.IsSound w c.args.p c.round.result c.in_ok-core.core s.stores.items c.roll_back_at.new.stores.items c.self.invariant lt news c.in_ok-core.ensures.back c.in_ok-core.ensures.called c.round.ensures
 
-pub returns : goal.returns
-returns g c =
+pub returns-clause-back : goal.returns-clause-back
+returns-clause-back g c =
     let s = c.self.inside in
     let w : WorldState = record { programs = map program_of s.images.items; live = s.live.entries; frames = s.frames.items; cores = s.cores.items; places = s.places.items; rounds = s.rounds.items; manager = s.manager; contents = map g.S.Stable.content s.stores.items; clean = map g.S.Stable.is_clean s.stores.items; origins = map g.S.Stable.content s.origins.value.items } in
     let lt = subst (λ (v : WorldState). c.args.p < length v.programs) (sym c.self.view_is) c.requires.there in

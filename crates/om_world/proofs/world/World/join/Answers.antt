@@ -12,25 +12,25 @@ use Rattle.om_world.proofs.world.World.join.Goals as goal
 pub returns-in_err-store-clause-happened : goal.returns-in_err-store-clause-happened
 returns-in_err-store-clause-happened g c = λ known.
     let w = c.args.self.now in let mid = c.store.new.self in
-    let h = subst (λ a. HasCalled Log w c.args.p a mid) c.in_err-store.was c.store.ensures in
+    let h = subst (λ a. HasCalled Log w c.args.p a mid) c.in_err-store.was c.store.ensures.called in
     let is : c.from_residual-in_err-store.result ≡ Err (refusal_of_store c.in_err-store.field-0.0) = search rules in
     join_not_stored w mid c.args.p c.in_err-store.field-0.0 c.from_residual-in_err-store.result c.in_ok-is_up.ensures.up c.in_ok-is_gathering.ensures.open h is known
 
 pub returns-in_err-end-clause-happened : goal.returns-in_err-end-clause-happened
 returns-in_err-end-clause-happened g c = λ known.
     let w = c.args.self.now in let mid = c.store.new.self in let v = c.note-end.new.self in
-    let h = subst (λ a. HasCalled Log w c.args.p a mid) c.in_ok-store.was c.store.ensures in
+    let h = subst (λ a. HasCalled Log w c.args.p a mid) c.in_ok-store.was c.store.ensures.called in
     let t = subst (λ a. HasTold mid c.args.p c.note-end.result.0 a v) c.in_err-end.was c.note-end.ensures in
     let is : c.from_residual-in_err-end.result ≡ Err (refusal_of_record c.in_err-end.field-0.0) = search rules in
     join_not_noted w mid v c.args.p c.note-end.result.0 c.in_err-end.field-0.0 c.from_residual-in_err-end.result c.in_ok-is_up.ensures.up c.in_ok-is_gathering.ensures.open h t is known
 
 pub returns-in_err-end-clause-keeps : goal.returns-in_err-end-clause-keeps
-returns-in_err-end-clause-keeps g c = keeps_recorded Log c.args.self.now c.store.new.self c.note-end.new.self c.args.p c.note-end.result.0 c.store.result c.note-end.result.1 c.store.ensures c.note-end.ensures
+returns-in_err-end-clause-keeps g c = keeps_recorded Log c.args.self.now c.store.new.self c.note-end.new.self c.args.p c.note-end.result.0 c.store.result c.note-end.result.1 c.store.ensures.called c.note-end.ensures
 
 pub returns-in_err-hand_in-clause-happened : goal.returns-in_err-hand_in-clause-happened
 returns-in_err-hand_in-clause-happened g c = λ known.
     let w = c.args.self.now in let mid = c.store.new.self in let v = c.note-end.new.self in let z = c.hand_in.new.self in
-    let h = subst (λ a. HasCalled Log w c.args.p a mid) c.in_ok-store.was c.store.ensures in
+    let h = subst (λ a. HasCalled Log w c.args.p a mid) c.in_ok-store.was c.store.ensures.called in
     let t = subst (λ a. HasTold mid c.args.p c.note-end.result.0 a v) c.in_ok-end.was c.note-end.ensures in
     let k = subst (λ a. HasHandedIn v c.args.p a z) c.in_err-hand_in.was c.hand_in.ensures in
     let is : c.from_residual-in_err-hand_in.result ≡ Err (refusal_of_output c.in_err-hand_in.field-0.0) = search rules in
@@ -38,12 +38,12 @@ returns-in_err-hand_in-clause-happened g c = λ known.
 
 pub returns-in_err-hand_in-clause-keeps : goal.returns-in_err-hand_in-clause-keeps
 returns-in_err-hand_in-clause-keeps g c =
-    join_handed_keeps c.args.self.now c.store.new.self c.note-end.new.self c.hand_in.new.self c.args.p c.note-end.result.0 c.store.result c.note-end.result.1 c.hand_in.result c.store.ensures c.note-end.ensures c.hand_in.ensures
+    join_handed_keeps c.args.self.now c.store.new.self c.note-end.new.self c.hand_in.new.self c.args.p c.note-end.result.0 c.store.result c.note-end.result.1 c.hand_in.result c.store.ensures.called c.note-end.ensures c.hand_in.ensures
 
 pub returns-in_err-told-clause-happened : goal.returns-in_err-told-clause-happened
 returns-in_err-told-clause-happened g c = λ known.
     let w = c.args.self.now in let mid = c.store.new.self in let v = c.note-end.new.self in let z = c.hand_in.new.self in let u = c.enter.new.self in
-    let h = subst (λ a. HasCalled Log w c.args.p a mid) c.in_ok-store.was c.store.ensures in
+    let h = subst (λ a. HasCalled Log w c.args.p a mid) c.in_ok-store.was c.store.ensures.called in
     let t = subst (λ a. HasTold mid c.args.p c.note-end.result.0 a v) c.in_ok-end.was c.note-end.ensures in
     let k = subst (λ a. HasHandedIn v c.args.p a z) c.in_ok-hand_in.was c.hand_in.ensures in
     let e = subst (λ a. HasEntered z c.args.p a u) c.in_err-told.was c.enter.ensures in
@@ -52,12 +52,12 @@ returns-in_err-told-clause-happened g c = λ known.
 
 pub returns-in_err-told-clause-keeps : goal.returns-in_err-told-clause-keeps
 returns-in_err-told-clause-keeps g c =
-    join_keeps c.args.self.now c.store.new.self c.note-end.new.self c.hand_in.new.self c.enter.new.self c.args.p c.note-end.result.0 c.store.result c.note-end.result.1 c.hand_in.result c.enter.result c.store.ensures c.note-end.ensures c.hand_in.ensures c.enter.ensures
+    join_keeps c.args.self.now c.store.new.self c.note-end.new.self c.hand_in.new.self c.enter.new.self c.args.p c.note-end.result.0 c.store.result c.note-end.result.1 c.hand_in.result c.enter.result c.store.ensures.called c.note-end.ensures c.hand_in.ensures c.enter.ensures
 
 pub returns-clause-happened : goal.returns-clause-happened
 returns-clause-happened g c = λ known.
     let w = c.args.self.now in let mid = c.store.new.self in let v = c.note-end.new.self in let z = c.hand_in.new.self in let u = c.enter.new.self in
-    let h = subst (λ a. HasCalled Log w c.args.p a mid) c.in_ok-store.was c.store.ensures in
+    let h = subst (λ a. HasCalled Log w c.args.p a mid) c.in_ok-store.was c.store.ensures.called in
     let t = subst (λ a. HasTold mid c.args.p c.note-end.result.0 a v) c.in_ok-end.was c.note-end.ensures in
     let k = subst (λ a. HasHandedIn v c.args.p a z) c.in_ok-hand_in.was c.hand_in.ensures in
     let e = subst (λ a. HasEntered z c.args.p a u) c.in_ok-told.was c.enter.ensures in
@@ -65,7 +65,7 @@ returns-clause-happened g c = λ known.
 
 pub returns-clause-keeps : goal.returns-clause-keeps
 returns-clause-keeps g c =
-    join_keeps c.args.self.now c.store.new.self c.note-end.new.self c.hand_in.new.self c.enter.new.self c.args.p c.note-end.result.0 c.store.result c.note-end.result.1 c.hand_in.result c.enter.result c.store.ensures c.note-end.ensures c.hand_in.ensures c.enter.ensures
+    join_keeps c.args.self.now c.store.new.self c.note-end.new.self c.hand_in.new.self c.enter.new.self c.args.p c.note-end.result.0 c.store.result c.note-end.result.1 c.hand_in.result c.enter.result c.store.ensures.called c.note-end.ensures c.hand_in.ensures c.enter.ensures
 
 pub returns-in_err-is_up-clause-happened : goal.returns-in_err-is_up-clause-happened
 returns-in_err-is_up-clause-happened g c = λ known.

@@ -13,8 +13,11 @@ invariant_of-self g c =
     let n = c.prune_at.ensures.called in
     after_store g.S.Stable.content g.S.Stable.is_clean g.S.Stable.IsSound w c.args.p n.0 c.prune_at.result s.stores.items c.prune_at.new.stores.items c.self.invariant (n.1, n.2)
 
-pub returns : goal.returns
-returns g c =
+pub returns-clause-faultless : goal.returns-clause-faultless
+returns-clause-faultless g c = c.prune_at.ensures.faultless
+
+pub returns-clause-pruned : goal.returns-clause-pruned
+returns-clause-pruned g c =
     let s = c.self.inside in
     let w : WorldState = record { programs = map program_of s.images.items; live = s.live.entries; frames = s.frames.items; cores = s.cores.items; places = s.places.items; rounds = s.rounds.items; manager = s.manager; contents = map g.S.Stable.content s.stores.items; clean = map g.S.Stable.is_clean s.stores.items; origins = map g.S.Stable.content s.origins.value.items } in
     let n = c.prune_at.ensures.called in

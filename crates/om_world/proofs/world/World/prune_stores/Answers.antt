@@ -7,12 +7,12 @@ pub loop-p-init : goal.loop-p-init
 loop-p-init g c = none_pruned c.args.self.now
 
 pub loop-p-preserved : goal.loop-p-preserved
-loop-p-preserved g c = one_pruned c.args.self.now c.loop-p.self c.prune_store.new.self c.loop-p.p c.loop-p.invariant (subst (λ a. HasPruned c.loop-p.self c.loop-p.p a c.prune_store.new.self) c.in_ok-prune_store.was c.prune_store.ensures)
+loop-p-preserved g c = one_pruned c.args.self.now c.loop-p.self c.prune_store.new.self c.loop-p.p c.loop-p.invariant (subst (λ a. HasPruned c.loop-p.self c.loop-p.p a c.prune_store.new.self) c.in_ok-prune_store.was c.prune_store.ensures.pruned)
 
-pub returns-in_err-prune_store : goal.returns-in_err-prune_store
-returns-in_err-prune_store g c =
+pub returns-in_err-prune_store-clause-pruned : goal.returns-in_err-prune_store-clause-pruned
+returns-in_err-prune_store-clause-pruned g c =
     let fault = c.in_err-prune_store.field-0.0 in
-    let h = subst (λ a. HasPruned c.loop-p.self c.loop-p.p a c.prune_store.new.self) c.in_err-prune_store.was c.prune_store.ensures in
+    let h = subst (λ a. HasPruned c.loop-p.self c.loop-p.p a c.prune_store.new.self) c.in_err-prune_store.was c.prune_store.ensures.pruned in
     let is : c.from_residual.result ≡ Err fault = search rules in
     subst (λ r. AllPruned c.args.self.now r c.prune_store.new.self) (sym is) (record {
       count = c.loop-p.p;

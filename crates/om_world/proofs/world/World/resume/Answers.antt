@@ -13,13 +13,13 @@ returns-in_err-interval-clause-happened g c = λ known.
     let w = c.args.self.now in let v = c.bring_back.new.self in let fault = c.in_err-interval.field-0.0 in
     let due : IsToComeBack w c.args.p = subst (IsDue w c.args.p) c.if-not-back.false c.in_ok-back.ensures.due in
     let is : c.from_residual-in_err-interval.result ≡ Err (refusal_of_replay fault) = search rules in
-    subst (λ r. Happened w (Event.Resume c.args.p) (answered r) v) (sym is) (back_stopped w c.leave.new.self v c.args.p fault due c.leave.ensures c.in_err-interval.ensures known)
+    subst (λ r. Happened w (Event.Resume c.args.p) (answered r) v) (sym is) (back_stopped w c.leave.new.self v c.args.p fault due c.leave.ensures c.in_err-interval.ensures.back known)
 
 pub returns-clause-happened : goal.returns-clause-happened
 returns-clause-happened g c = λ known.
     let w = c.args.self.now in
     let due : IsToComeBack w c.args.p = subst (IsDue w c.args.p) c.if-not-back.false c.in_ok-back.ensures.due in
-    back_happened w c.leave.new.self c.bring_back.new.self c.args.p c.in_ok-interval.interval c.in_ok-interval.inc due c.in_ok-back.ensures.beyond c.leave.ensures c.in_ok-interval.ensures known
+    back_happened w c.leave.new.self c.bring_back.new.self c.args.p c.in_ok-interval.interval c.in_ok-interval.inc due c.in_ok-back.ensures.beyond c.leave.ensures c.in_ok-interval.ensures.back known
 
 pub returns-in_err-back-clause-happened : goal.returns-in_err-back-clause-happened
 returns-in_err-back-clause-happened g c = λ known.

@@ -16,11 +16,14 @@ pub invariant_of-self : goal.invariant_of-self
 invariant_of-self g c =
     let s = c.self.inside in
     let w : WorldState = record { programs = map program_of s.images.items; live = s.live.entries; frames = s.frames.items; cores = s.cores.items; places = s.places.items; rounds = s.rounds.items; manager = s.manager; contents = map g.S.Stable.content s.stores.items; clean = map g.S.Stable.is_clean s.stores.items; origins = map g.S.Stable.content s.origins.value.items } in
-    after_called g.S.Stable.content g.S.Stable.is_clean g.S.Stable.IsSound c.args.kind w c.args.p c.store_at.result s.stores.items c.store_at.new.stores.items c.store_at.new.cores.items c.self.invariant (subst (λ (v : WorldState). IsUp v c.args.p) (sym c.self.view_is) c.requires) c.store_at.ensures
+    after_called g.S.Stable.content g.S.Stable.is_clean g.S.Stable.IsSound c.args.kind w c.args.p c.store_at.result s.stores.items c.store_at.new.stores.items c.store_at.new.cores.items c.self.invariant (subst (λ (v : WorldState). IsUp v c.args.p) (sym c.self.view_is) c.requires) c.store_at.ensures.called
 
-pub returns : goal.returns
-returns g c =
+pub returns-clause-faultless : goal.returns-clause-faultless
+returns-clause-faultless g c = c.store_at.ensures.faultless
+
+pub returns-clause-called : goal.returns-clause-called
+returns-clause-called g c =
     let s = c.self.inside in
     let w : WorldState = record { programs = map program_of s.images.items; live = s.live.entries; frames = s.frames.items; cores = s.cores.items; places = s.places.items; rounds = s.rounds.items; manager = s.manager; contents = map g.S.Stable.content s.stores.items; clean = map g.S.Stable.is_clean s.stores.items; origins = map g.S.Stable.content s.origins.value.items } in
     subst (λ (v : WorldState). HasCalled c.args.kind v c.args.p c.store_at.result (over g.S.Stable.content g.S.Stable.is_clean w c.store_at.new.stores.items c.store_at.new.cores.items)) c.self.view_is
-    (has_called g.S.Stable.content g.S.Stable.is_clean g.S.Stable.IsSound c.args.kind w c.args.p c.store_at.result s.stores.items c.store_at.new.stores.items c.store_at.new.cores.items c.self.invariant (subst (λ (v : WorldState). IsUp v c.args.p) (sym c.self.view_is) c.requires) c.store_at.ensures)
+    (has_called g.S.Stable.content g.S.Stable.is_clean g.S.Stable.IsSound c.args.kind w c.args.p c.store_at.result s.stores.items c.store_at.new.stores.items c.store_at.new.cores.items c.self.invariant (subst (λ (v : WorldState). IsUp v c.args.p) (sym c.self.view_is) c.requires) c.store_at.ensures.called)
