@@ -1,0 +1,590 @@
+//! The subcommands: their helps, and what the words of a command line ask of them.
+
+ghost use Rattle.std.specs.Prelude.{◌≡◌, IfOk, Some};
+ghost use Rattle.om_arguments.specs.Requests.{asked_by, ext_of, subcommand_named};
+
+use crate::draw_request::{DRAW, Lines, draw_command, lines_of};
+use crate::look_requests::{
+    Look, REPLAY, SHOW, replay_command, replay_request, show_command, show_request,
+};
+use crate::mistake::{Mistake, long_number_for, needed};
+use clap::error::ErrorKind;
+use clap::{Arg, ArgAction, ArgMatches, Command, Error};
+use om_isa::Ext;
+use std::alloc::{AllocError, Global};
+use std::convert::AsStr;
+
+const HELP: &str = "\
+A process takes the messages that are sent to it one at a time. With each a new
+interval begins: 0 at its start, 1 with the first message, and so on. Now and
+then it logs the messages that it received, and stores its state. A recovery
+state is an interval of each process to which all can go back together after a
+failure: none of them depends on an interval of another that is lost.
+
+Begin with run: it takes a cluster file, and processes that fail come back by
+themselves. With sim the same is played by hand, event by
+event. frontier computes recovery states from records alone, show and replay
+look into the store of a process, and decode tells what words of programs mean.
+Each says with --help what it reads and writes, and has an example.
+
+run, sim, draw, frontier and decode read FILE, where one is named, and standard
+input else.
+
+Status:
+  0   done, or a help text or the version was asked for
+  1   refused: a line on standard error says why
+  2   the arguments are not understood
+
+Beside what its own help says, a command may be refused with:
+  too long       the input has more than 16 MiB
+  cannot read    the input cannot be read, or FILE not be opened
+  cannot write   standard output cannot be written
+  no memory      memory ran out";
+
+const DECODE: &str = "decode";
+
+const DECODE_HELP: &str = "\
+Reads words of RV32I, one on each line, and writes a line for each: the text of
+its instruction, or none.
+
+  00500093     a word: eight hexadecimal digits, in either case
+
+With --m the instructions of multiplication and division (RV32M) are read too;
+without it their words are none.
+
+Empty lines, and lines that begin with '#', are passed over.
+
+A faulty line refuses the whole: 'line N: ..' on standard error, status 1.
+
+Example:
+  00500093     addi x1, x0, 5
+  FE000EE3     beq x0, x0, -4
+  022081B3     none, and with --m: mul x3, x1, x2";
+
+const M: &str = "m";
+
+const FRONTIER: &str = "frontier";
+
+const FRONTIER_HELP: &str = "\
+Reads a record script and writes a line for each note: what was answered, and
+the recovery state after it. The last line is the recovery state in the end.
+
+  procs N           N processes, 1 to 16, numbered from 0: the first line
+  log P X V0 ..     the receipt that began interval X of process P is logged
+  ckpt P X V0 ..    the state of process P in interval X is stored
+
+V0 .. is the dependency vector of the interval, one number for each process:
+the greatest interval of that process that it depends on directly. P's own
+place in it is X. Checkpoint 0 of each process is there from the start.
+Empty lines, and lines that begin with '#', are passed over.
+
+Answers:
+  noted        the record is new, and the recovery state stays
+  raised       the record is new, and the recovery state rose
+  known        that very record is there
+  bad-vector   P's own place is not X, or a receipt is logged at interval 0
+  differs      interval X of P has a record with another vector
+  disorder Y   the vector falls between X and the record of P at interval Y
+  stranger     there is no process P
+A faulty script is refused whole: 'line N: ..' on standard error, status 1.
+
+Example: process 0 depends on interval 1 of process 1, which comes last. That
+interval 3 of process 1 is stored gains nothing: it depends on interval 4 of
+process 2, of which there is no record.
+  procs 3
+  log 0 1 1 1 0        noted: 0 0 0
+  ckpt 1 3 0 3 4       noted: 0 0 0
+  log 1 1 0 1 0        raised: 1 1 0
+                       recovery 1 1 0";
+
+const SIM: &str = "sim";
+
+const SIM_HELP: &str = "\
+Reads programs, processes and events, plays the events in order over stores in
+memory, and writes a line for each: what was answered. Then it writes how all
+stands in the end.
+
+  program NAME SIZE WORD ..    a program of RV32I: the bytes of its memory, and
+                               the words at its start in hexadecimal
+  program-m NAME SIZE WORD ..  the same, with RV32M
+  proc NAME PROGRAM            a process of it; they are numbered from 0
+
+  run P K          process P runs, at most K instructions
+  give P F         frame F is offered to P; messages become frames as they are
+                   sent, numbered from 0, and a frame may be given many times
+  flush P          P stores what it received, and notes it to the manager
+  checkpoint P     P stores its state, and notes it
+  fail P           P is down, and what it had not stored is lost
+  join P           P, which is up, flushes, and joins the round of recovery that
+                   a failure opened; the round is finished when all are in
+  resume P         P, which is down or in, is up again after a finished round:
+                   rolled back to the recovery state, or as it was
+  resend P         each message that P keeps becomes a new frame
+  trim P           P drops what it need not keep
+  prune            the manager and the stores drop what they need not keep
+
+Answers:
+  ran STEPS STATUS sent M made K   STATUS is ready, waiting, ended CODE or
+                                   trapped CAUSE; M messages, K outputs
+  taken X, repeat, ahead, orphan, not-waiting, stranger, full   to a give;
+                                   X is the interval that begins
+  noted K, sent M, trimmed, pruned
+  waiting, finished                to a fail or a join; the round, then
+  down                             to a fail of which nobody need know
+  back X inc I, goes-on            to a resume: rolled back to interval X, in
+                                   incarnation I; or as it was
+  no-process, not-up, no-frame, not-in, no-round, spent, present, fault,
+  damaged, memory
+In the end:
+  recovery X0 ..                   the greatest recoverable state
+  proc NAME inc I interval X STATUS, or proc NAME down
+  out NAME NUMBER HEX              an output that may be released
+A faulty script is refused whole: 'line N: ..' on standard error, status 1.
+
+Example: c sends its first 4 bytes to process 1, which puts them out. They may
+be released once it has stored the message.
+  program pc 64 00100893 00100513 00400613 00000073 00000893 00000073
+  program pa 128 00200893 04000513 00400593 00000073 00300893 00050593 04000513
+          00000073 00000893 00000073        (as one line)
+  proc c pc
+  proc a pa
+  run 0 100                        ran 5 ended 0 sent 1 made 0
+  run 1 100                        ran 3 waiting sent 0 made 0
+  give 1 0                         taken 1
+  run 1 100                        ran 5 ended 0 sent 0 made 1
+  flush 1                          noted 1
+                                   recovery 0 1
+                                   proc c inc 0 interval 0 ended 0
+                                   proc a inc 0 interval 1 ended 0
+                                   out a 0 93081000";
+
+const RUN: &str = "run";
+
+const RUN_HELP: &str = "\
+Reads a cluster file and runs the cluster: each process in a thread, with a log
+of what it receives and with checkpoints. A process that fails comes back from
+what it stored. Written is what may be released, and how each process ended.
+
+  program NAME SIZE WORD ..    a program of RV32I: the bytes of its memory, and
+                               the words at its start in hexadecimal
+  program-m NAME SIZE WORD ..  the same, with RV32M
+  proc NAME PROGRAM            a process of it, 1 to 16; numbered from 0
+Behind these, in any order; in brackets what holds without the line:
+  kill NAME INTERVAL   the process fails, once, as it begins the interval; at
+                       most 64 such lines
+  flush K              a process stores its log after every K receipts (4)
+  checkpoint K         a process stores its state after every K receipts (16)
+  fuel K               a process runs at most K instructions a turn (1000)
+
+With --store PREFIX the stores are the files PREFIX, the process's number and
+.db, which must not be there yet; without it they are in memory.
+
+With --check the run without failures in which each process receives the same
+messages in the same order is played, in one thread, when the cluster has
+ended. What is written is its text, where that is the cluster's to the byte.
+With --witness FILE the same is done, and that run is written to FILE: sim
+plays it event by event, to the same outputs.
+
+With --record FILE what the threads did is written to FILE, in one order and
+with comments on failures and rounds: sim plays it event by event, to the same
+outputs. It is written too where the run is refused. A recorded process notes
+what it stored at once, and is a little slower; the text is the same.
+
+Answers:
+  out NAME NUMBER HEX  an output that is released
+  end NAME STATUS      ended CODE or trapped CAUSE
+Refused, on standard error, status 1:
+  empty script         there is no process
+  out of turns         a process did not end within its turns
+  store fault          a store cannot be made, is there already, or failed
+  no thread            a thread cannot be made
+  unlike its check     what the cluster wrote is not what that run writes
+  cannot write         also: FILE cannot be made
+A faulty file is refused whole: 'line N: ..' on standard error, status 1.
+
+Example: the programs and processes of the example of sim. That a message was
+lost with what a had not stored is not to be seen in what comes out.
+  program pc 64 ..
+  program pa 128 ..
+  proc c pc
+  proc a pa
+  kill a 1             out a 0 93081000
+                       end c ended 0
+                       end a ended 0";
+
+const TURNS: &str = "turns";
+
+// The most turns of a worker, where nothing is said.
+const DEFAULT_TURNS: u64 = 50_000_000;
+
+const STORE: &str = "store";
+
+const IMAGE: &str = "image";
+
+const IMAGE_HELP: &str = "\
+Reads a raw image from standard input, as objcopy -O binary writes one, and
+writes its line for a script or a cluster file:
+
+  program NAME SIZE WORD ..    the bytes of memory, and the words at its start
+
+A word is four bytes, the lowest first; the last is padded with zeros. With
+--m the line is a program-m, which may multiply and divide.
+
+A line that a script would refuse is refused in its words, status 1:
+  line 1: bad number      SIZE is no number of 32 bits
+  line 1: bad name        NAME is not 1 to 32 letters, digits and _
+  line 1: bad size        SIZE is not 4 to 65536, or no multiple of 4
+  line 1: image too long  the image has more than SIZE bytes
+
+Example, of an image of eight bytes:
+  omlog image pc 64 < pc.bin     program pc 64 00100893 00000073";
+
+const NAME: &str = "NAME";
+
+const SIZE: &str = "SIZE";
+
+const CHECK: &str = "check";
+
+const WITNESS: &str = "witness";
+
+const RECORD: &str = "record";
+
+const VERBOSE: &str = "verbose";
+
+const INPUT: &str = "INPUT";
+
+// The version of the commands, their texts and their formats.
+const VERSION: &str = "1.0";
+
+// What a subcommand is for.
+#[derive(Clone, Copy)]
+pub(crate) enum Subcommand {
+    Decode,
+    Frontier,
+    Sim,
+    Draw,
+    Run,
+    Replay,
+    Show,
+    Image,
+}
+
+/// What the words of a command line ask for.
+#[derive(Clone, Copy, Debug, PartialEq, Eq)]
+pub enum Request<'a> {
+    Decode(Ext),
+    Frontier,
+    Sim,
+    Draw(Lines),
+    Run(Running<'a>),
+    Look(Look<'a>),
+    Image {
+        ext: Ext,
+        name: &'a str,
+        size: &'a str,
+    },
+}
+
+/// How a cluster is to be run.
+#[derive(Clone, Copy, Debug, PartialEq, Eq)]
+pub struct Running<'a> {
+    /// The most turns of each worker.
+    pub turns: u64,
+    /// Of the files of its stores; without one they are in memory.
+    pub prefix: Option<&'a str>,
+    pub checking: Checking<'a>,
+    /// Whether more is said on standard error.
+    pub verbose: bool,
+}
+
+/// Whether a run is compared with the run without failures that it comes to, and the file that this is written to; or the
+/// file that what its threads did is written to.
+#[derive(Clone, Copy, Debug, PartialEq, Eq)]
+pub enum Checking<'a> {
+    Off,
+    Check,
+    Witness(&'a str),
+    Record(&'a str),
+}
+
+/// A request, and the file that is read in place of standard input, where one is named.
+#[derive(Clone, Copy, Debug, PartialEq, Eq)]
+pub struct Asked<'a> {
+    pub request: Request<'a>,
+    pub input: Option<&'a str>,
+}
+
+/// What the words of a command line ask for, of which the first is the program. Refused, the error has its text: a mistake, a
+/// help text or the version that was asked for, or want of memory.
+pub fn parse<'a, S: AsStr>(alloc: Global, words: &'a [S]) -> Result<Asked<'a>, Error> {
+    let mut command = command(alloc)?;
+    let matches = command.try_get_matches_from_mut(words)?;
+    let Some((name, found)) = matches.subcommand() else {
+        return Err(no_subcommand(&mut command));
+    };
+    let Some(subcommand) = subcommand_of(name) else {
+        return Err(no_subcommand(&mut command));
+    };
+    match request_of(subcommand, found) {
+        Ok(request) => Ok(Asked {
+            request,
+            input: found.get_str(INPUT),
+        }),
+        Err(mistake) => Err(refusal_of(alloc, subcommand, mistake)),
+    }
+}
+
+fn no_subcommand(command: &mut Command<'_>) -> Error {
+    match command.error(ErrorKind::MissingSubcommand, "a subcommand is missing") {
+        Ok(error) => error,
+        Err(refused) => Error::from(refused),
+    }
+}
+
+// The error of a mistake in the arguments of a subcommand, or of want of memory for it.
+fn refusal_of(alloc: Global, subcommand: Subcommand, mistake: Mistake<'_>) -> Error {
+    match told(alloc, subcommand, mistake) {
+        Ok(error) => error,
+        Err(refused) => Error::from(refused),
+    }
+}
+
+// The text of a mistake, with the usage of its subcommand.
+fn told(alloc: Global, subcommand: Subcommand, mistake: Mistake<'_>) -> Result<Error, AllocError> {
+    let name = name_of(subcommand);
+    let bin_name = format!(in alloc; "omlog {name}")?;
+    let mut command = command_of(alloc, subcommand)?.bin_name(bin_name.as_str())?;
+    let what = mistake.to_string(alloc)?;
+    command.error(ErrorKind::ValueValidation, what.as_str())
+}
+
+// The request of a subcommand, where what it is given for a number is one.
+fn request_of<'a>(
+    subcommand: Subcommand,
+    found: &ArgMatches<'a>,
+) -> Result<Request<'a>, Mistake<'a>>
+    ensures { IfOk result (λ request. asked_by request ≡ subcommand) }
+{
+    match subcommand {
+        Subcommand::Decode => Ok(Request::Decode(ext_of(found.get_flag(M)))),
+        Subcommand::Frontier => Ok(Request::Frontier),
+        Subcommand::Sim => Ok(Request::Sim),
+        Subcommand::Draw => Ok(Request::Draw(lines_of(found)?)),
+        Subcommand::Run => run_request(found),
+        Subcommand::Replay => Ok(Request::Look(replay_request(found)?)),
+        Subcommand::Show => Ok(Request::Look(show_request(found)?)),
+        Subcommand::Image => image_request(found),
+    }
+}
+
+// The subcommand of a name.
+fn subcommand_of(name: &str) -> Option<Subcommand>
+    ensures { result ≡ subcommand_named name.now }
+{
+    match name {
+        DECODE => Some(Subcommand::Decode),
+        FRONTIER => Some(Subcommand::Frontier),
+        SIM => Some(Subcommand::Sim),
+        DRAW => Some(Subcommand::Draw),
+        RUN => Some(Subcommand::Run),
+        REPLAY => Some(Subcommand::Replay),
+        SHOW => Some(Subcommand::Show),
+        IMAGE => Some(Subcommand::Image),
+        _ => None,
+    }
+}
+
+// The name of a subcommand.
+fn name_of(subcommand: Subcommand) -> &'static str
+    ensures { subcommand_named result.now ≡ Some subcommand }
+{
+    match subcommand {
+        Subcommand::Decode => DECODE,
+        Subcommand::Frontier => FRONTIER,
+        Subcommand::Sim => SIM,
+        Subcommand::Draw => DRAW,
+        Subcommand::Run => RUN,
+        Subcommand::Replay => REPLAY,
+        Subcommand::Show => SHOW,
+        Subcommand::Image => IMAGE,
+    }
+}
+
+// The request for the line of an image.
+fn image_request<'a>(found: &ArgMatches<'a>) -> Result<Request<'a>, Mistake<'a>>
+    ensures { IfOk result (λ request. asked_by request ≡ Subcommand.Image) }
+{
+    Ok(Request::Image {
+        ext: ext_of(found.get_flag(M)),
+        name: needed(found, NAME)?,
+        size: needed(found, SIZE)?,
+    })
+}
+
+// The instructions that a program may use, by the flag `--m`.
+fn ext_of(with_m: bool) -> Ext
+    ensures { result ≡ ext_of with_m }
+{
+    if with_m { Ext::Im } else { Ext::I }
+}
+
+// How a run is to be checked or recorded: with a file for its witness it always is checked. The command line takes no file for
+// a record beside that.
+fn checking_of<'a>(check: bool, witness: Option<&'a str>, record: Option<&'a str>) -> Checking<'a> {
+    if let Some(path) = witness {
+        return Checking::Witness(path);
+    }
+    match record {
+        Some(path) => Checking::Record(path),
+        None if check => Checking::Check,
+        None => Checking::Off,
+    }
+}
+
+// The request to run a cluster, where its turns are a number.
+fn run_request<'a>(found: &ArgMatches<'a>) -> Result<Request<'a>, Mistake<'a>>
+    ensures { IfOk result (λ request. asked_by request ≡ Subcommand.Run) }
+{
+    let turns = match found.get_str(TURNS) {
+        Some(turns) => long_number_for("--turns <K>", turns)?,
+        None => DEFAULT_TURNS,
+    };
+    Ok(Request::Run(Running {
+        turns,
+        prefix: found.get_str(STORE),
+        checking: checking_of(
+            found.get_flag(CHECK),
+            found.get_str(WITNESS),
+            found.get_str(RECORD),
+        ),
+        verbose: found.get_flag(VERBOSE),
+    }))
+}
+
+fn command<'a>(alloc: Global) -> Result<Command<'a>, AllocError> {
+    let command = Command::new(alloc, "omlog")
+        .bin_name("omlog")?
+        .about(
+            "Recovery states of message-passing programs, from the records that their processes keep",
+        )
+        .version(VERSION)
+        .after_help(HELP)
+        .subcommand_required(true);
+    with_clusters(alloc, with_scripts(alloc, command)?)
+}
+
+// With the subcommands that read words, records or events.
+fn with_scripts<'a>(alloc: Global, command: Command<'a>) -> Result<Command<'a>, AllocError> {
+    command
+        .subcommand(command_of(alloc, Subcommand::Decode)?)?
+        .subcommand(command_of(alloc, Subcommand::Image)?)?
+        .subcommand(command_of(alloc, Subcommand::Frontier)?)?
+        .subcommand(command_of(alloc, Subcommand::Sim)?)?
+        .subcommand(command_of(alloc, Subcommand::Draw)?)
+}
+
+// With those that run clusters, and look into what they stored.
+fn with_clusters<'a>(alloc: Global, command: Command<'a>) -> Result<Command<'a>, AllocError> {
+    command
+        .subcommand(command_of(alloc, Subcommand::Run)?)?
+        .subcommand(command_of(alloc, Subcommand::Replay)?)?
+        .subcommand(command_of(alloc, Subcommand::Show)?)
+}
+
+fn command_of<'a>(alloc: Global, subcommand: Subcommand) -> Result<Command<'a>, AllocError> {
+    match subcommand {
+        Subcommand::Decode => decode_command(alloc)?.arg(input_file(alloc)),
+        Subcommand::Frontier => frontier_command(alloc).arg(input_file(alloc)),
+        Subcommand::Sim => sim_command(alloc).arg(input_file(alloc)),
+        Subcommand::Draw => draw_command(alloc)?.arg(input_file(alloc)),
+        Subcommand::Run => run_command(alloc)?.arg(input_file(alloc)),
+        Subcommand::Replay => replay_command(alloc),
+        Subcommand::Show => show_command(alloc),
+        Subcommand::Image => image_command(alloc),
+    }
+}
+
+fn input_file<'a>(alloc: Global) -> Arg<'a> {
+    Arg::new(alloc, INPUT)
+        .value_name("FILE")
+        .help("What is read, in place of standard input")
+}
+
+fn decode_command<'a>(alloc: Global) -> Result<Command<'a>, AllocError> {
+    let with_m = Arg::new(alloc, M)
+        .long(M)
+        .help("Read the instructions of RV32M too")
+        .action(ArgAction::SetTrue);
+    Command::new(alloc, DECODE)
+        .about("The texts of the instructions that words of RV32I stand for")
+        .after_help(DECODE_HELP)
+        .arg(with_m)
+}
+
+fn image_command<'a>(alloc: Global) -> Result<Command<'a>, AllocError> {
+    let with_m = Arg::new(alloc, M)
+        .long(M)
+        .help("The program may use RV32M")
+        .action(ArgAction::SetTrue);
+    let name = Arg::new(alloc, NAME)
+        .help("The name of the program")
+        .required(true);
+    let size = Arg::new(alloc, SIZE)
+        .help("The bytes of its memory, 4 to 65536")
+        .required(true);
+    Command::new(alloc, IMAGE)
+        .about("The program line of a raw image")
+        .after_help(IMAGE_HELP)
+        .arg(with_m)?
+        .arg(name)?
+        .arg(size)
+}
+
+fn frontier_command<'a>(alloc: Global) -> Command<'a> {
+    Command::new(alloc, FRONTIER)
+        .about("The greatest recoverable state after each note of a record script")
+        .after_help(FRONTIER_HELP)
+}
+
+fn sim_command<'a>(alloc: Global) -> Command<'a> {
+    Command::new(alloc, SIM)
+        .about("Logged processes that are played event by event")
+        .after_help(SIM_HELP)
+}
+
+fn run_command<'a>(alloc: Global) -> Result<Command<'a>, AllocError> {
+    let turns = Arg::new(alloc, TURNS).long(TURNS).value_name("K").help(
+        "The most turns of each process, a number of 64 bits [default: 50000000]",
+    );
+    let store = Arg::new(alloc, STORE)
+        .long(STORE)
+        .value_name("PREFIX")
+        .help("Keep the stores in files");
+    let check = Arg::new(alloc, CHECK)
+        .long(CHECK)
+        .help("Write only what a run without failures writes")
+        .action(ArgAction::SetTrue);
+    let witness = Arg::new(alloc, WITNESS)
+        .long(WITNESS)
+        .value_name("FILE")
+        .help("Check, and write that run to FILE as a script of sim");
+    let record = Arg::new(alloc, RECORD)
+        .long(RECORD)
+        .value_name("FILE")
+        .help("Write what the threads did to FILE as a script of sim")
+        .conflicts_with(CHECK)?
+        .conflicts_with(WITNESS)?;
+    let verbose = Arg::new(alloc, VERBOSE)
+        .long(VERBOSE)
+        .help("Say on standard error too which file was refused, and why")
+        .action(ArgAction::SetTrue);
+    Command::new(alloc, RUN)
+        .about("Logged processes that run in threads, fail and recover")
+        .after_help(RUN_HELP)
+        .arg(turns)?
+        .arg(store)?
+        .arg(check)?
+        .arg(witness)?
+        .arg(record)?
+        .arg(verbose)
+}

@@ -1,0 +1,72 @@
+//! The subcommand `draw`: its window, and how it is asked for.
+
+use crate::mistake::{Mistake, number_for};
+use clap::{Arg, ArgMatches, Command};
+use std::alloc::{AllocError, Global};
+
+pub(crate) const DRAW: &str = "draw";
+
+const FROM: &str = "from";
+
+const TO: &str = "to";
+
+const DRAW_HELP: &str = "\
+Reads an event script as sim does, plays it, and writes a picture of the run:
+an SVG file that stands alone. It has a lane for each process, from left to
+right as events come. Its legend says what the marks mean; hold the pointer on
+a mark to see its line, its event and its answer.
+
+With --from and --to it shows the events of those lines of the script alone.
+What happened before is played too, and stands at the left side as it was; what
+comes behind is not played.
+
+A faulty script is refused whole, as by sim.
+
+Example:
+  omlog draw script.txt > picture.svg
+  omlog draw --from 100 --to 160 script.txt > picture.svg";
+
+/// The lines of a script whose events are drawn.
+#[derive(Clone, Copy, Debug, PartialEq, Eq)]
+pub struct Lines {
+    /// The first that is shown.
+    pub from: usize,
+    /// The last that is played.
+    pub to: usize,
+}
+
+// The window between two lines, where they are numbers.
+pub(crate) fn lines_of<'a>(found: &ArgMatches<'a>) -> Result<Lines, Mistake<'a>> {
+    Ok(Lines {
+        from: line_of("--from <LINE>", found.get_str(FROM), 0)?,
+        to: line_of("--to <LINE>", found.get_str(TO), usize::MAX)?,
+    })
+}
+
+// The number of a line, and what stands for it where it is not given.
+fn line_of<'a>(
+    argument: &'a str,
+    word: Option<&'a str>,
+    default: usize,
+) -> Result<usize, Mistake<'a>> {
+    match word {
+        Some(word) => Ok(number_for(argument, word)? as usize),
+        None => Ok(default),
+    }
+}
+
+pub(crate) fn draw_command<'a>(alloc: Global) -> Result<Command<'a>, AllocError> {
+    let from = Arg::new(alloc, FROM)
+        .long(FROM)
+        .value_name("LINE")
+        .help("The first line of the script that is shown");
+    let to = Arg::new(alloc, TO)
+        .long(TO)
+        .value_name("LINE")
+        .help("The last line that is played");
+    Command::new(alloc, DRAW)
+        .about("The picture of logged processes that are played event by event")
+        .after_help(DRAW_HELP)
+        .arg(from)?
+        .arg(to)
+}

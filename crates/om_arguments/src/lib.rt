@@ -1,0 +1,17 @@
+//! The command line: what its words ask for, and how a command ends.
+//!
+//! - `arguments`: the subcommands, their helps and their requests, with `draw_request` and `look_requests`; `mistake` (what is
+//!   wrong with a value)
+//! - `ending`: the status, and the line on standard error
+#![tactic(auto)]
+
+mod arguments;
+mod draw_request;
+mod ending;
+mod look_requests;
+mod mistake;
+
+pub use arguments::{Asked, Checking, Request, Running, parse};
+pub use draw_request::Lines;
+pub use ending::{end, end_unasked, end_unread};
+pub use look_requests::Look;

@@ -1,0 +1,171 @@
+//! The subcommands that look into the store of a process, `show` and `replay`: what they ask for, and how.
+
+ghost use Rattle.std.specs.Prelude.{◌≡◌, IfOk};
+ghost use Rattle.om_arguments.specs.Requests.{looked_by};
+ghost use Rattle.om_arguments.specs.declared.arguments.Subcommand.{Subcommand};
+
+use crate::mistake::{Mistake, long_number_for, needed, number_for};
+use clap::{Arg, ArgAction, ArgMatches, Command};
+use std::alloc::{AllocError, Global};
+
+pub(crate) const SHOW: &str = "show";
+
+const SHOW_HELP: &str = "\
+Writes what the store FILE of a process holds:
+
+  checkpoint X process P of N count C version V bytes B
+      the state in interval X of process P of N: the instructions that it had
+      finished, and the version and the bytes of the record
+  receipt X from Q interval Y number M count C bytes B
+      the message that began interval X: its sender and the sender's interval,
+      its number from there, the instructions that the process had finished as
+      it waited, and the bytes of the message
+  replay X to Y
+      omlog replay FILE answers for these intervals, and for no others
+
+A record that is none is a line, too, and the rest goes on: the interval, and
+damaged with its first fault: short, kind, version, field OFFSET or trailing.
+One that names another interval is damaged interval Y.
+
+Refused, on standard error, status 1:
+  store fault         FILE is not there, or is no store
+
+FILE is only read.
+
+Example: omlog show s1.db, behind omlog run --store s with the example of run.
+  checkpoint 0 process 1 of 2 count 0 version 2 bytes 328
+  receipt 1 from 0 interval 0 number 0 count 3 bytes 4
+  replay 0 to 1";
+
+pub(crate) const REPLAY: &str = "replay";
+
+const REPLAY_HELP: &str = "\
+Writes the state that a process had right after its receipt INTERVAL, from the
+checkpoints and receipts that its store FILE holds:
+
+  interval X
+  count C             the instructions that it had finished
+  pc HHHHHHHH
+  x0 HHHHHHHH         a line for each register, to x31
+  HHHHHHHH BB..       an address, and up to 16 bytes of memory from there on
+  status STATUS       ready, waiting, ended CODE or trapped CAUSE
+
+With --steps K it goes on from there: written is the state K instructions
+behind, or fewer where the process comes to wait, ends or traps before.
+With --trace too, these lines stand before it, in order:
+  C PC WORD TEXT; ..  an instruction: the count and pc before it, its word, its
+                      text, and what it wrote: xN = HHHHHHHH, or an address and
+                      the bytes of memory from there on
+  send P NUMBER HEX   it sent a message to process P
+  out NUMBER HEX      it made an output
+
+Refused, on standard error, status 1:
+  no checkpoint       none is stored at INTERVAL or below
+  damaged Y           the record of interval Y cannot be read
+  missing receipt Y   the receipt of interval Y is not stored, the least such
+  mismatch Y          the receipt of interval Y does not fit the process
+  store fault         FILE is not there, or is no store
+
+FILE is only read. omlog show FILE tells for which intervals there is a state.
+
+Example: omlog replay s1.db 1, behind omlog run --store s with the example of
+run. The message that began the interval stands at address 40.
+  interval 1
+  count 4
+  pc 00000010
+  ..
+  00000040 93081000000000000000000000000000
+  ..
+  status ready
+And omlog replay s1.db 1 --steps 5 --trace begins with
+  4 00000010 00300893 addi x17, x0, 3; x17 = 00000003";
+
+const FILE: &str = "FILE";
+
+const INTERVAL: &str = "INTERVAL";
+
+const STEPS: &str = "steps";
+
+const TRACE: &str = "trace";
+
+/// What is looked for in the store of a process.
+#[derive(Clone, Copy, Debug, PartialEq, Eq)]
+pub enum Look<'a> {
+    /// What it holds.
+    Show {
+        file: &'a str,
+    },
+    /// The state in an interval.
+    Replay {
+        file: &'a str,
+        interval: u32,
+    },
+    /// The state so many instructions behind, and whether with a trace.
+    Steps {
+        file: &'a str,
+        interval: u32,
+        steps: u64,
+        traced: bool,
+    },
+}
+
+// The request to show what a file holds.
+pub(crate) fn show_request<'a>(found: &ArgMatches<'a>) -> Result<Look<'a>, Mistake<'a>>
+    ensures { IfOk result (λ look. looked_by look ≡ Subcommand.Show) }
+{
+    Ok(Look::Show {
+        file: needed(found, FILE)?,
+    })
+}
+
+// The request to replay from a file to an interval, and so many steps on, where these are numbers.
+pub(crate) fn replay_request<'a>(found: &ArgMatches<'a>) -> Result<Look<'a>, Mistake<'a>>
+    ensures { IfOk result (λ look. looked_by look ≡ Subcommand.Replay) }
+{
+    let file = needed(found, FILE)?;
+    let interval = number_for("<INTERVAL>", needed(found, INTERVAL)?)?;
+    let Some(steps) = found.get_str(STEPS) else {
+        return Ok(Look::Replay { file, interval });
+    };
+    Ok(Look::Steps {
+        file,
+        interval,
+        steps: long_number_for("--steps <K>", steps)?,
+        traced: found.get_flag(TRACE),
+    })
+}
+
+pub(crate) fn show_command<'a>(alloc: Global) -> Result<Command<'a>, AllocError> {
+    Command::new(alloc, SHOW)
+        .about("What the store of a process holds, and to where it can be replayed")
+        .after_help(SHOW_HELP)
+        .arg(store_file(alloc))
+}
+
+pub(crate) fn replay_command<'a>(alloc: Global) -> Result<Command<'a>, AllocError> {
+    let interval = Arg::new(alloc, INTERVAL)
+        .help("The interval, 0 to 4294967295")
+        .required(true);
+    let steps = Arg::new(alloc, STEPS)
+        .long(STEPS)
+        .value_name("K")
+        .help("Go on for K instructions, a number of 64 bits");
+    let trace = Arg::new(alloc, TRACE)
+        .long(TRACE)
+        .help("Write a line for each of these instructions")
+        .action(ArgAction::SetTrue)
+        .requires_arg(STEPS)?;
+    Command::new(alloc, REPLAY)
+        .about("The state of a process in an interval, from its store")
+        .after_help(REPLAY_HELP)
+        .arg(store_file(alloc))?
+        .arg(interval)?
+        .arg(steps)?
+        .arg(trace)
+}
+
+fn store_file<'a>(alloc: Global) -> Arg<'a> {
+    Arg::new(alloc, FILE)
+        .help("The store of the process")
+        .required(true)
+}

@@ -1,0 +1,68 @@
+//! What is wrong with the arguments of a subcommand, and how their numbers are read.
+
+ghost use Rattle.std.specs.Prelude.{◌≡◌, IfErr, IfOk, Some, None};
+ghost use Rattle.om_text.specs.Numbers.{long_number_of as long_number, number_of as number};
+
+use clap::ArgMatches;
+use om_text::{long_number_of, number_of};
+use std::fmt;
+
+// Why the arguments of a subcommand ask for nothing.
+#[derive(Clone, Copy)]
+pub(crate) enum Mistake<'a> {
+    // An argument has no value. The command line lets none that is needed be absent.
+    Absent(&'a str),
+    // The value of an argument is no number of so many bits.
+    NoNumber {
+        argument: &'a str,
+        word: &'a str,
+        bits: u32,
+    },
+}
+
+impl<'a> fmt::Display for Mistake<'a> {
+    fn fmt<W: fmt::Write>(&self, f: &mut fmt::Formatter<W>) -> fmt::Result {
+        match self {
+            Mistake::Absent(argument) => write!(f, "a value is required for '{argument}'"),
+            Mistake::NoNumber {
+                argument,
+                word,
+                bits,
+            } => write!(
+                f,
+                "invalid value '{word}' for '{argument}': it is no number of {bits} bits"
+            ),
+        }
+    }
+}
+
+// The value of an argument that is needed.
+pub(crate) fn needed<'a>(found: &ArgMatches<'a>, name: &'a str) -> Result<&'a str, Mistake<'a>> {
+    found.get_str(name).ok_or(Mistake::Absent(name))
+}
+
+// The number of 32 bits that the value of an argument is: digits alone.
+pub(crate) fn number_for<'a>(argument: &'a str, word: &'a str) -> Result<u32, Mistake<'a>>
+    ensures number { IfOk result (λ n. number word.now ≡ Some n) }
+    ensures none { IfErr result (λ _. number word.now ≡ None) }
+{
+    let bits = 32;
+    number_of(word.as_bytes()).ok_or(Mistake::NoNumber {
+        argument,
+        word,
+        bits,
+    })
+}
+
+// The number of 64 bits that the value of an argument is: digits alone.
+pub(crate) fn long_number_for<'a>(argument: &'a str, word: &'a str) -> Result<u64, Mistake<'a>>
+    ensures number { IfOk result (λ n. long_number word.now ≡ Some n) }
+    ensures none { IfErr result (λ _. long_number word.now ≡ None) }
+{
+    let bits = 64;
+    long_number_of(word.as_bytes()).ok_or(Mistake::NoNumber {
+        argument,
+        word,
+        bits,
+    })
+}

@@ -1,0 +1,115 @@
+//! What is told where words ask for nothing, and where a command is refused.
+
+use crate::screen::Screen;
+use om_arguments::{end, end_unasked, end_unread, parse};
+use std::alloc::Global;
+use std::io;
+use std::process::{Abort, ExitCode};
+
+// Words that are mistaken, and all that is told of them.
+static MISTAKES: [(&[&str], &str); 9] = [
+    (
+        &["omlog", "replay", "s0.db", "x"],
+        "error: invalid value 'x' for '<INTERVAL>': it is no number of 32 bits\n\nUsage: omlog replay [OPTIONS] <FILE> <INTERVAL>\n\nFor more information, try '--help'.\n",
+    ),
+    (
+        &["omlog", "replay", "s0.db", "4294967296"],
+        "error: invalid value '4294967296' for '<INTERVAL>': it is no number of 32 bits\n\nUsage: omlog replay [OPTIONS] <FILE> <INTERVAL>\n\nFor more information, try '--help'.\n",
+    ),
+    (
+        &[
+            "omlog",
+            "replay",
+            "s0.db",
+            "1",
+            "--steps",
+            "18446744073709551616",
+        ],
+        "error: invalid value '18446744073709551616' for '--steps <K>': it is no number of 64 bits\n\nUsage: omlog replay [OPTIONS] <FILE> <INTERVAL>\n\nFor more information, try '--help'.\n",
+    ),
+    (
+        &["omlog", "run", "--turns", "1.5"],
+        "error: invalid value '1.5' for '--turns <K>': it is no number of 64 bits\n\nUsage: omlog run [OPTIONS] [FILE]\n\nFor more information, try '--help'.\n",
+    ),
+    (
+        &["omlog", "draw", "--from", "+1"],
+        "error: invalid value '+1' for '--from <LINE>': it is no number of 32 bits\n\nUsage: omlog draw [OPTIONS] [FILE]\n\nFor more information, try '--help'.\n",
+    ),
+    (
+        &["omlog", "draw", "--to", ""],
+        "error: invalid value '' for '--to <LINE>': it is no number of 32 bits\n\nUsage: omlog draw [OPTIONS] [FILE]\n\nFor more information, try '--help'.\n",
+    ),
+    (
+        &["omlog", "sim", "a", "b"],
+        "error: unexpected argument 'b' found\n\nUsage: omlog sim [FILE]\n\nFor more information, try '--help'.\n",
+    ),
+    (
+        &["omlog", "show"],
+        "error: the following required arguments were not provided:\n  <FILE>\n\nUsage: omlog show <FILE>\n\nFor more information, try '--help'.\n",
+    ),
+    (
+        &["omlog", "run", "--check", "--record", "r"],
+        "error: the argument '--check' cannot be used with '--record <FILE>'\n\nUsage: omlog run --check [FILE]\n\nFor more information, try '--help'.\n",
+    ),
+];
+
+// How the words end, and what is printed.
+fn check(
+    rt: &impl Abort,
+    alloc: Global,
+    is_shut: bool,
+    words: &'static [&'static str],
+    status: u8,
+    (output, told): (&str, &str),
+) {
+    let screen = Screen::new(alloc, is_shut);
+    match parse(alloc, words) {
+        Ok(_) => panic!(rt; "{words:?}"),
+        Err(error) => {
+            assert_eq!(rt; end_unasked(&screen, &error), ExitCode::from(status));
+            screen.check(rt, output, told);
+        }
+    }
+}
+
+#[test]
+fn mistakes_and_their_texts(rt: HostRuntime) {
+    for (words, told) in &MISTAKES {
+        check(&rt, rt.alloc(), false, words, 2, ("", told));
+        check(&rt, rt.alloc(), true, words, 2, ("", ""));
+    }
+}
+
+static VERSION: [&str; 2] = ["omlog", "--version"];
+
+#[test]
+fn the_version(rt: HostRuntime) {
+    check(&rt, rt.alloc(), false, &VERSION, 0, ("omlog 1.0\n", ""));
+    check(&rt, rt.alloc(), true, &VERSION, 1, ("", ""));
+}
+
+#[test]
+fn words_that_are_no_text(rt: HostRuntime) {
+    let screen = Screen::new(rt.alloc(), false);
+    let error = io::Error::from(io::ErrorKind::InvalidData);
+    assert_eq!(&rt; end_unread(&screen, &error), ExitCode::from(2));
+    screen.check(&rt, "", "error: the arguments are not text\n");
+    let screen = Screen::new(rt.alloc(), false);
+    let error = io::Error::from(io::ErrorKind::OutOfMemory);
+    assert_eq!(&rt; end_unread(&screen, &error), ExitCode::from(1));
+    screen.check(&rt, "", "no memory\n");
+}
+
+#[test]
+fn commands_that_end(rt: HostRuntime) {
+    let screen = Screen::new(rt.alloc(), false);
+    let done: Result<(), &str> = Ok(());
+    assert_eq!(&rt; end(&screen, done), ExitCode::from(0));
+    screen.check(&rt, "", "");
+    let refused: Result<(), &str> = Err("store fault");
+    assert_eq!(&rt; end(&screen, refused), ExitCode::from(1));
+    screen.check(&rt, "", "store fault\n");
+    let screen = Screen::new(rt.alloc(), true);
+    assert_eq!(&rt; end(&screen, refused), ExitCode::from(1));
+    screen.check(&rt, "", "");
+}

@@ -1,0 +1,174 @@
+//! Command lines, and what they ask for.
+
+use om_arguments::{Asked, Checking, Lines, Look, Request, Running, parse};
+use om_isa::Ext;
+use std::alloc::Global;
+use std::process::Abort;
+
+static PLAIN: [(&[&str], Request<'static>, Option<&str>); 10] = [
+    (&["omlog", "decode"], Request::Decode(Ext::I), None),
+    (
+        &["omlog", "decode", "--m", "words"],
+        Request::Decode(Ext::Im),
+        Some("words"),
+    ),
+    (&["omlog", "frontier"], Request::Frontier, None),
+    (&["omlog", "frontier", "f"], Request::Frontier, Some("f")),
+    (&["omlog", "sim"], Request::Sim, None),
+    (&["omlog", "sim", "--", "-x"], Request::Sim, Some("-x")),
+    (
+        &["omlog", "draw"],
+        Request::Draw(Lines {
+            from: 0,
+            to: usize::MAX,
+        }),
+        None,
+    ),
+    (
+        &["omlog", "draw", "--from", "007", "s", "--to", "4294967295"],
+        Request::Draw(Lines {
+            from: 7,
+            to: 4_294_967_295,
+        }),
+        Some("s"),
+    ),
+    (
+        &["omlog", "image", "a", "+4"],
+        Request::Image {
+            ext: Ext::I,
+            name: "a",
+            size: "+4",
+        },
+        None,
+    ),
+    (
+        &["omlog", "image", "--m", "a", "64"],
+        Request::Image {
+            ext: Ext::Im,
+            name: "a",
+            size: "64",
+        },
+        None,
+    ),
+];
+
+static LOOKS: [(&[&str], Look<'static>); 4] = [
+    (&["omlog", "show", "s0.db"], Look::Show { file: "s0.db" }),
+    (
+        &["omlog", "replay", "s0.db", "4294967295"],
+        Look::Replay {
+            file: "s0.db",
+            interval: 4_294_967_295,
+        },
+    ),
+    (
+        &[
+            "omlog",
+            "replay",
+            "f",
+            "0",
+            "--steps",
+            "18446744073709551615",
+        ],
+        Look::Steps {
+            file: "f",
+            interval: 0,
+            steps: u64::MAX,
+            traced: false,
+        },
+    ),
+    (
+        &["omlog", "replay", "--trace", "--steps", "1", "f", "2"],
+        Look::Steps {
+            file: "f",
+            interval: 2,
+            steps: 1,
+            traced: true,
+        },
+    ),
+];
+
+// By the turns, the prefix, how it is checked, and the file that is read.
+type Run = (
+    u64,
+    Option<&'static str>,
+    Checking<'static>,
+    Option<&'static str>,
+);
+
+static RUNS: [(&[&str], Run); 7] = [
+    (&["omlog", "run"], (50_000_000, None, Checking::Off, None)),
+    (
+        &["omlog", "run", "ring.txt"],
+        (50_000_000, None, Checking::Off, Some("ring.txt")),
+    ),
+    (
+        &[
+            "omlog",
+            "run",
+            "--turns",
+            "18446744073709551615",
+            "--store",
+            "d/",
+        ],
+        (u64::MAX, Some("d/"), Checking::Off, None),
+    ),
+    (
+        &["omlog", "run", "--check"],
+        (50_000_000, None, Checking::Check, None),
+    ),
+    (
+        &["omlog", "run", "--witness", "w", "c"],
+        (50_000_000, None, Checking::Witness("w"), Some("c")),
+    ),
+    (
+        &["omlog", "run", "--check", "--witness", "w"],
+        (50_000_000, None, Checking::Witness("w"), None),
+    ),
+    (
+        &["omlog", "run", "--record", "r", "--store", "s", "c"],
+        (50_000_000, Some("s"), Checking::Record("r"), Some("c")),
+    ),
+];
+
+static LOUD: [&str; 3] = ["omlog", "run", "--verbose"];
+
+const VERBOSE: Running<'static> = Running {
+    turns: 50_000_000,
+    prefix: None,
+    checking: Checking::Off,
+    verbose: true,
+};
+
+fn check(
+    rt: &impl Abort,
+    alloc: Global,
+    words: &'static [&'static str],
+    request: Request<'static>,
+    input: Option<&'static str>,
+) {
+    match parse(alloc, words) {
+        Ok(asked) => assert_eq!(rt; asked, Asked { request, input }),
+        Err(error) => panic!(rt; "{error}"),
+    }
+}
+
+#[test]
+fn words_and_what_they_ask_for(rt: HostRuntime) {
+    for (words, request, input) in &PLAIN {
+        check(&rt, rt.alloc(), words, *request, *input);
+    }
+    for (words, look) in &LOOKS {
+        check(&rt, rt.alloc(), words, Request::Look(*look), None);
+    }
+    check(&rt, rt.alloc(), &LOUD, Request::Run(VERBOSE), None);
+    for (words, (turns, prefix, checking, input)) in &RUNS {
+        let running = Running {
+            turns: *turns,
+            prefix: *prefix,
+            checking: *checking,
+            verbose: false,
+        };
+        check(&rt, rt.alloc(), words, Request::Run(running), *input);
+    }
+}
