@@ -190,6 +190,10 @@ with comments on failures and rounds: sim plays it event by event, to the same
 outputs. It is written too where the run is refused. A recorded process notes
 what it stored at once, and is a little slower; the text is the same.
 
+With --follow each output is written as soon as it is released: the lines of a
+process in order, those of different processes as they come. What was released
+by then is written too where the run is refused.
+
 Answers:
   out NAME NUMBER HEX  an output that is released
   end NAME STATUS      ended CODE or trapped CAUSE
@@ -249,6 +253,8 @@ const WITNESS: &str = "witness";
 
 const RECORD: &str = "record";
 
+const FOLLOW: &str = "follow";
+
 const VERBOSE: &str = "verbose";
 
 const INPUT: &str = "INPUT";
@@ -298,13 +304,14 @@ pub struct Running<'a> {
 }
 
 /// Whether a run is compared with the run without failures that it comes to, and the file that this is written to; or the
-/// file that what its threads did is written to.
+/// file that what its threads did is written to; or whether outputs are written as they are released.
 #[derive(Clone, Copy, Debug, PartialEq, Eq)]
 pub enum Checking<'a> {
     Off,
     Check,
     Witness(&'a str),
     Record(&'a str),
+    Follow,
 }
 
 /// A request, and the file that is read in place of standard input, where one is named.
@@ -428,15 +435,16 @@ fn ext_of(with_m: bool) -> Ext
     if with_m { Ext::Im } else { Ext::I }
 }
 
-// How a run is to be checked or recorded: with a file for its witness it always is checked. The command line takes no file for
-// a record beside that.
-fn checking_of<'a>(check: bool, witness: Option<&'a str>, record: Option<&'a str>) -> Checking<'a> {
-    if let Some(path) = witness {
+// How a run is to be checked, recorded or followed: with a file for its witness it always is checked. The command line takes no
+// other two of them together.
+fn checking_of<'a>(found: &ArgMatches<'a>) -> Checking<'a> {
+    if let Some(path) = found.get_str(WITNESS) {
         return Checking::Witness(path);
     }
-    match record {
+    match found.get_str(RECORD) {
         Some(path) => Checking::Record(path),
-        None if check => Checking::Check,
+        None if found.get_flag(CHECK) => Checking::Check,
+        None if found.get_flag(FOLLOW) => Checking::Follow,
         None => Checking::Off,
     }
 }
@@ -452,11 +460,7 @@ fn run_request<'a>(found: &ArgMatches<'a>) -> Result<Request<'a>, Mistake<'a>>
     Ok(Request::Run(Running {
         turns,
         prefix: found.get_str(STORE),
-        checking: checking_of(
-            found.get_flag(CHECK),
-            found.get_str(WITNESS),
-            found.get_str(RECORD),
-        ),
+        checking: checking_of(found),
         verbose: found.get_flag(VERBOSE),
     }))
 }
@@ -574,6 +578,13 @@ fn run_command<'a>(alloc: Global) -> Result<Command<'a>, AllocError> {
         .help("Write what the threads did to FILE as a script of sim")
         .conflicts_with(CHECK)?
         .conflicts_with(WITNESS)?;
+    let follow = Arg::new(alloc, FOLLOW)
+        .long(FOLLOW)
+        .help("Write each output as soon as it is released")
+        .action(ArgAction::SetTrue)
+        .conflicts_with(CHECK)?
+        .conflicts_with(WITNESS)?
+        .conflicts_with(RECORD)?;
     let verbose = Arg::new(alloc, VERBOSE)
         .long(VERBOSE)
         .help("Say on standard error too which file was refused, and why")
@@ -586,5 +597,6 @@ fn run_command<'a>(alloc: Global) -> Result<Command<'a>, AllocError> {
         .arg(check)?
         .arg(witness)?
         .arg(record)?
+        .arg(follow)?
         .arg(verbose)
 }

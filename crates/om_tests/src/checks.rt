@@ -1,6 +1,7 @@
 //! Checked runs: what a witness may name, what a check refuses, and the texts of clusters over both kinds of store.
 
 mod examples;
+mod follows;
 mod plays;
 mod records;
 mod rings;
