@@ -1,4 +1,4 @@
-//! Tests of programs, the world and the commands, also over stores in tables.
+//! Tests of programs and the commands, also over stores in tables.
 #![tactic(auto)]
 
 #[cfg(test)]
@@ -19,5 +19,3 @@ mod rows;
 mod run;
 #[cfg(test)]
 mod sim;
-#[cfg(test)]
-mod world;

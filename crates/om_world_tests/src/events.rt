@@ -77,7 +77,7 @@ fn three_images(alloc: Global) -> Result<Vec<Image>, AllocError>
 }
 
 // Three processes: the last sends to the second, which passes it on to the first, which puts it out.
-fn line(alloc: Global) -> Result<World<MemStable>, StartFault> {
+pub fn line(alloc: Global) -> Result<World<MemStable>, StartFault> {
     let images = three_images(alloc)?;
     let stores = three_stores(alloc)?;
     World::start(alloc, &images, stores)
@@ -131,7 +131,7 @@ static PASSED_ON: [Event; 8] = [
     Event::Flush { process: 0 },
 ];
 
-static PASSED_ON_ANSWERS: [Answer; 8] = [
+pub static PASSED_ON_ANSWERS: [Answer; 8] = [
     Answer::Ran {
         steps: 3,
         status: Status::Waiting,
@@ -229,7 +229,7 @@ fn events_are_refused(rt: HostRuntime) {
 
 // The second process fails once its message has gone on to the first, whose record of it is stored: the message is an
 // orphan, and the first is rolled back.
-static RUN_WITH_A_FAILURE: [Event; 24] = [
+pub static RUN_WITH_A_FAILURE: [Event; 24] = [
     Event::Run {
         process: 0,
         fuel: 100,
@@ -302,7 +302,7 @@ static RUN_WITH_A_FAILURE: [Event; 24] = [
 ];
 
 // The answers from the failure on.
-static FAILURE_ANSWERS: [Answer; 13] = [
+pub static FAILURE_ANSWERS: [Answer; 13] = [
     Answer::Gathered(Gathered::Waiting),
     Answer::Gathered(Gathered::Waiting),
     Answer::Gathered(Gathered::Finished),
@@ -351,7 +351,7 @@ static RECOVERED: [u32; 3] = [1, 1, 0];
 static RELEASED: [u8; 4] = [0x93, 0x08, 0x10, 0x00];
 
 // The end of that run.
-fn check_the_end<S: Stable>(rt: &impl Abort, world: &World<S>) {
+pub fn check_the_end<S: Stable>(rt: &impl Abort, world: &World<S>) {
     let recovery = world.manager().recovery();
     assert_eq!(rt; recovery.as_slice(), RECOVERED.as_slice());
     check_released(rt, world.manager().released(Pid::at(0)));

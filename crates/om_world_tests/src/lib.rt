@@ -1,0 +1,7 @@
+//! Tests of a world: its events and their answers, and stores that stop and memory that is refused at any call.
+#![tactic(auto)]
+
+#[cfg(test)]
+mod events;
+#[cfg(test)]
+mod refused_memory;
