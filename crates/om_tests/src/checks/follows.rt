@@ -69,7 +69,7 @@ proc c pc\nproc a pa\nfuel 10\n";
 fn what_was_released_is_written(rt: HostRuntime) {
     let told = followed(&rt, rt.alloc(), 100_000, ENDLESS.as_bytes());
     assert!(&rt;
-        told.0 == Err(CommandError::OutOfTurns) && told.1 == "out a 0 93081000\n",
+        told.0 == Err(CommandError::OutOfTurns) && told.1.as_str() == "out a 0 93081000\n",
         "{}",
         told.1
     );
