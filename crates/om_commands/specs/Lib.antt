@@ -1,5 +1,6 @@
 pub mod Check
 pub mod ClusterScript
+pub mod ClusterSize
 pub mod Command
 pub mod Decode
 pub mod Draw

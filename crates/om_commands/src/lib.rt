@@ -11,7 +11,7 @@
 //! - `sim`: with `sim_script` and `events` (its lines), `sim_text` (the texts of answers)
 //! - `draw`: the same scripts, as a picture
 //! - `replay` with `state_text`, and `steps`; `show`
-//! - `run`: with `cluster_script` (its lines), `in_memory` (stores), `run_text`
+//! - `run`: with `cluster_script` (its lines), `in_memory` (stores), `run_text`; `cluster_size` (how many processes)
 //! - `check`: `run --check`, with `checked` (the comparison), `kept_script` and `event_text` (the run without failures as a
 //!   script)
 //! - `followed`: `run --follow`
@@ -21,6 +21,7 @@
 pub mod check;
 mod checked;
 mod cluster_script;
+mod cluster_size;
 mod command;
 pub mod decode;
 pub mod draw;
@@ -48,5 +49,6 @@ pub mod steps;
 mod word_script;
 
 pub use checked::{checked_events, checked_text};
+pub use cluster_size::count_processes;
 pub use error::CommandError;
 pub use in_memory::InMemory;

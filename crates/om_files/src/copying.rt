@@ -5,6 +5,7 @@ ghost use Rattle.om_commands.specs.Replay.{IsNoMatterOfContent};
 ghost use Rattle.om_files.specs.Quiet.{IsQuiet};
 
 use crate::connecting::refusal_of_opening;
+use crate::files::log_of;
 use om_commands::CommandError;
 use om_runner::OpenFault;
 use sqlite::{Connection, FileStore, Files, Options};
@@ -28,7 +29,7 @@ pub(crate) fn copy_of(
     if !is_written(rt, file) {
         return Err(CommandError::StoreFault);
     }
-    let log = format!(in alloc; "{file}-wal")?;
+    let log = log_of(alloc, file)?;
     let log = if is_written(rt, log.as_str()) {
         read(rt, log.as_str())?
     } else {
@@ -72,6 +73,6 @@ fn read(rt: &HostRuntime, path: &str) -> Result<Vec<u8>, CommandError>
 }
 
 // Whether it is a file that has something in it.
-fn is_written(rt: &HostRuntime, path: &str) -> bool {
+pub(crate) fn is_written(rt: &HostRuntime, path: &str) -> bool {
     fs::metadata(rt, path).is_ok_and(|metadata| metadata.is_file() && metadata.len() > 0)
 }

@@ -5,17 +5,25 @@
 //!
 //! - `connecting`: who opens the databases of a cluster, and the stores that are made in their tables
 //! - `files`: the files that are named by a prefix
+//! - `places`: what stands at their names before a run, and what of them is removed where it is refused
+//! - `settling`: each store in its one file, behind a run; `blaming`: which file a refused run could not use
 //! - `copying`: the database of a file that is only read
 //! - `replaying`, `looking`: the commands `replay` and `show` over a connection, and over a file
 #![tactic(auto)]
 
+mod blaming;
 mod connecting;
 mod copying;
 mod files;
 mod looking;
+mod places;
 mod replaying;
+mod settling;
 
+pub use blaming::{Blame, first_unusable};
 pub use connecting::{Connects, InTables};
 pub use files::Files;
 pub use looking::{show_file, show_over, steps_file, steps_over};
+pub use places::{PlaceError, Places};
 pub use replaying::{replay_file, replay_over};
+pub use settling::settle;

@@ -1,0 +1,30 @@
+//! The files of a cluster behind its run.
+
+use crate::copying::is_written;
+use crate::files::{file_of, log_of};
+use sqlite::Connection;
+use std::alloc::AllocError;
+use std::fs;
+
+/// Copies the logs of the databases of so many processes into their files, and removes them: each store is in its one file.
+/// What cannot be settled stays as it is, a whole store in two files.
+pub fn settle(rt: &HostRuntime, prefix: &str, n: usize) {
+    for process in 0..n {
+        let _ = settle_one(rt, prefix, process);
+    }
+}
+
+// The log is removed where it was copied to its end.
+fn settle_one(rt: &HostRuntime, prefix: &str, process: usize) -> Result<(), AllocError> {
+    let file = file_of(rt.alloc(), prefix, process)?;
+    let log = log_of(rt.alloc(), &file)?;
+    if !is_written(rt, &log) {
+        return Ok(());
+    }
+    if let Ok(conn) = Connection::open(rt, &file) {
+        if conn.close().is_ok() {
+            let _ = fs::remove_file(rt, log.as_str());
+        }
+    }
+    Ok(())
+}
