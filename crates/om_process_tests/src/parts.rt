@@ -1,10 +1,11 @@
-//! What the tests are made of. Bytes are given as hexadecimal text.
+//! What the tests are made of. Bytes are given as hexadecimal text. What memory was refused for is done once more: so the tests also
+//! hold where one allocation fails, whichever it is (tools/refused-memory).
 
 use om_format::{Body, MAX_BODY, Message};
 use om_interval::{Pid, Tag};
 use om_isa::{Ext, Reg};
-use om_process::{Accept, ProcCore, StartFault};
-use om_stable::Stable;
+use om_process::{Accept, ProcCore, ReplayFault, StartFault};
+use om_stable::{Stable, StoreError};
 use std::alloc::Global;
 use std::process::Abort;
 
@@ -20,7 +21,10 @@ const PASSES_ON: &str = "\
 pub const RECEIPT: &str = "520101020100000000000000000000000300000000000000040093081000";
 
 pub fn bytes_of(rt: &impl Abort, alloc: Global, text: &str) -> Vec<u8> {
-    hex::decode(alloc, text).expect(rt, "hexadecimal")
+    match hex::decode(alloc, text) {
+        Ok(bytes) => bytes,
+        Err(_) => hex::decode(alloc, text).expect(rt, "hexadecimal"),
+    }
 }
 
 fn process(rt: &impl Abort, number: u32) -> Pid {
@@ -56,13 +60,32 @@ pub fn message(
 // Process 1 of 3 at its start.
 pub fn started<S: Stable>(rt: &impl Abort, alloc: Global, store: &mut S) -> ProcCore {
     let image = bytes_of(rt, alloc, SENDS_IT_ON);
-    ProcCore::start(alloc, &image, 128, Ext::I, Pid::at(1), 3, store).expect(rt, "a start")
+    match start(alloc, &image, store) {
+        Ok(core) => core,
+        Err(fault) => {
+            assert!(rt; fault == StartFault::Memory);
+            start(alloc, &image, store).expect(rt, "a start")
+        }
+    }
+}
+
+fn start<S: Stable>(alloc: Global, image: &[u8], store: &mut S) -> Result<ProcCore, StartFault> {
+    ProcCore::start(alloc, image, 128, Ext::I, Pid::at(1), 3, store)
+}
+
+// What a process answers to a message.
+pub fn accepted(alloc: Global, core: &mut ProcCore, next: &Message) -> Accept {
+    match core.accept(alloc, next) {
+        Accept::Memory => core.accept(alloc, next),
+        answer => answer,
+    }
 }
 
 // Goes on to the next wait and offers a message.
 fn offer(rt: &impl Abort, alloc: Global, core: &mut ProcCore, next: Message) -> Accept {
-    assert!(rt; core.run(alloc, 100).is_ok());
-    let answer = core.accept(alloc, &next);
+    let has_run = core.run(alloc, 100).is_ok() || core.run(alloc, 100).is_ok();
+    assert!(rt; has_run);
+    let answer = accepted(alloc, core, &next);
     drop(next);
     answer
 }
@@ -103,7 +126,11 @@ pub fn go_on(rt: &impl Abort, alloc: Global, core: &mut ProcCore, ssn: u32) {
 }
 
 pub fn flush<S: Stable>(rt: &impl Abort, alloc: Global, core: &mut ProcCore, store: &mut S) {
-    assert!(rt; core.flush(alloc, store).is_ok());
+    let is_stored = match core.flush(alloc, store) {
+        Err(StoreError::Memory) => core.flush(alloc, store).is_ok(),
+        told => told.is_ok(),
+    };
+    assert!(rt; is_stored);
 }
 
 pub fn checkpoint<S: Stable>(rt: &impl Abort, alloc: Global, core: &mut ProcCore, store: &mut S) {
@@ -132,7 +159,13 @@ pub fn put<S: Stable>(rt: &impl Abort, alloc: Global, store: &mut S, receipt: Ve
 }
 
 pub fn replayed<S: Stable>(rt: &impl Abort, alloc: Global, store: &mut S, x: u32) -> ProcCore {
-    ProcCore::replay(alloc, store, x).expect(rt, "a replay")
+    match ProcCore::replay(alloc, store, x) {
+        Ok(core) => core,
+        Err(fault) => {
+            assert!(rt; fault == ReplayFault::Memory);
+            ProcCore::replay(alloc, store, x).expect(rt, "a replay")
+        }
+    }
 }
 
 // A register of a process.
