@@ -96,7 +96,7 @@ type Run = (
     Option<&'static str>,
 );
 
-static RUNS: [(&[&str], Run); 7] = [
+static RUNS: [(&[&str], Run); 8] = [
     (&["omlog", "run"], (50_000_000, None, Checking::Off, None)),
     (
         &["omlog", "run", "ring.txt"],
@@ -128,6 +128,10 @@ static RUNS: [(&[&str], Run); 7] = [
     (
         &["omlog", "run", "--record", "r", "--store", "s", "c"],
         (50_000_000, Some("s"), Checking::Record("r"), Some("c")),
+    ),
+    (
+        &["omlog", "run", "--follow"],
+        (50_000_000, None, Checking::Follow, None),
     ),
 ];
 
