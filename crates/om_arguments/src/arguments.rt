@@ -22,10 +22,10 @@ state is an interval of each process to which all can go back together after a
 failure: none of them depends on an interval of another that is lost.
 
 Begin with run: it takes a cluster file, and processes that fail come back by
-themselves. With sim the same is played by hand, event by
-event. frontier computes recovery states from records alone, show and replay
-look into the store of a process, and decode tells what words of programs mean.
-Each says with --help what it reads and writes, and has an example.
+themselves. With sim the same is played by hand, event by event. frontier
+computes recovery states from records alone, show and replay look into the store
+of a process, and decode tells what words of programs mean. Each says with
+--help what it reads and writes, and has an example.
 
 run, sim, draw, frontier and decode read FILE, where one is named, and standard
 input else.
@@ -177,7 +177,8 @@ Behind these, in any order; in brackets what holds without the line:
   fuel K               a process runs at most K instructions a turn (1000)
 
 With --store PREFIX the stores are the files PREFIX, the process's number and
-.db, which must not be there yet; without it they are in memory.
+.db, which must not be there yet; without it they are in memory. When the run
+ended well, each store is whole in its one file.
 
 With --check the run without failures in which each process receives the same
 messages in the same order is played, in one thread, when the cluster has
@@ -193,6 +194,9 @@ what it stored at once, and is a little slower; the text is the same.
 With --follow each output is written as soon as it is released: the lines of a
 process in order, those of different processes as they come. What was released
 by then is written too where the run is refused.
+
+With --verbose a line before the one that refuses the run says which file was
+refused, and why, where it is a file.
 
 Answers:
   out NAME NUMBER HEX  an output that is released

@@ -1,14 +1,14 @@
 //! The program `omlog`: commands on message logs, checkpoints and recovery states of message-passing programs.
 #![tactic(auto)]
 
-mod arguments;
+mod carrying;
 mod checking;
-mod draw_request;
-mod look_requests;
+mod source;
 mod store_files;
+mod voice;
 
 use std::process::ExitCode;
 
 fn main(rt: HostRuntime) -> ExitCode {
-    arguments::run(&rt, &rt)
+    carrying::run(&rt, &rt)
 }

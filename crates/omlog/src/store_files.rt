@@ -1,6 +1,7 @@
 //! Clusters over stores in files.
 
-use crate::checking::{Checking, run_as};
+use crate::checking::run_as;
+use om_arguments::Running;
 use om_commands::CommandError;
 use om_files::{Connects, InTables};
 use std::io::{Read, Write};
@@ -16,19 +17,10 @@ pub(crate) fn run_over_tables<
 >(
     rt: &HostRuntime,
     threads: &R,
-    turns: u64,
-    checking: Checking<'_>,
+    running: Running<'_>,
     connects: C,
     reader: &mut I,
     writer: &mut W,
 ) -> Result<(), CommandError> {
-    run_as(
-        rt,
-        threads,
-        turns,
-        checking,
-        &InTables { connects },
-        reader,
-        writer,
-    )
+    run_as(rt, threads, running, &InTables { connects }, reader, writer)
 }
