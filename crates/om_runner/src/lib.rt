@@ -10,8 +10,7 @@
 //!   did)
 //! - `cluster`: the threads, from the first store to the report; `network` (the inboxes of all), `settle` (what is left in
 //!   them)
-//! - `worker`: what a thread does, turn by turn; `idle`, `patience` and `bell` (how it yields, sleeps and is
-//!   woken; `clock` tells how long a yield took), `trouble` (why it stops)
+//! - `worker`: what a thread does, turn by turn; `idle` and `bell` (how it sleeps and is woken), `trouble` (why it stops)
 //! - what a worker has: `node` (a process over its store), `links` (its ends of inboxes), `contact` and `desk` (the manager)
 //! - `ground`: what all threads have in common
 //! - `recorder` and `diary`: what the threads did, in one order
@@ -19,7 +18,6 @@
 #![tactic(auto)]
 
 mod bell;
-mod clock;
 mod cluster;
 mod config;
 mod contact;
@@ -36,7 +34,6 @@ mod links;
 mod network;
 mod node;
 mod opener;
-mod patience;
 mod recorder;
 mod settle;
 mod trouble;

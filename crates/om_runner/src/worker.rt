@@ -7,7 +7,6 @@ ghost use Rattle.om_runner.specs.steps.Places.{member_of};
 ghost use Rattle.om_runner.specs.steps.Turning.{HasNothingToSay, HasReported, HasRested, IsTurnOf, pause_turns, place_after};
 ghost use Rattle.om_runner.specs.steps.Wiring.{HasEnds};
 
-use crate::bell::Look;
 use crate::config::Config;
 use crate::contact::{Contact, Heard, Limits, Standing};
 use crate::diary::{Diary, Listeners};
@@ -15,7 +14,6 @@ use crate::idle::{Idle, Pause};
 use crate::links::Links;
 use crate::network::Ends;
 use crate::node::{Fallen, Node, has_ended};
-use crate::patience::Patience;
 use crate::trouble::Trouble;
 use crate::witness::Past;
 use om_board::{Front, Naming, Pass, Shared};
@@ -86,7 +84,6 @@ pub(crate) struct Worker<'a, K: Naming> {
     past: Past,
     diary: Diary<'a>,
     idle: Idle,
-    patience: Patience,
     // Whether all that the process keeps was resent, after some idle turns, since it ran, received or refused a message.
     resent: bool,
     // How many turns the last one counts as beside itself.
@@ -98,22 +95,6 @@ pub(crate) struct Worker<'a, K: Naming> {
 // Whether x receipts are a multiple of k; none are of 0.
 fn is_multiple(x: u32, k: u32) -> bool {
     k != 0 && x % k == 0
-}
-
-// Passes a turn in which nothing happened: the worker yields for a while at first, where it has the patience, and sleeps.
-fn pause_of<R: Wait>(rt: &R, links: &Links<'_>, idle: &Idle, patience: &mut Patience) -> Pause {
-    if idle.is_fresh() && patience.begin() {
-        match links.look() {
-            Look::Rung => return Pause::Woken,
-            Look::Slice => patience.end(),
-            Look::Silent => {}
-        }
-    }
-    if links.sleep(rt, idle.sleep()) {
-        Pause::Woken
-    } else {
-        Pause::Slept
-    }
 }
 
 // Drops what need not be kept any longer.
@@ -176,7 +157,6 @@ impl<'a, K: Naming> Worker<'a, K> {
             past,
             diary: Diary::new(alloc, own, listeners),
             idle: Idle::new(),
-            patience: Patience::new(),
             resent: false,
             extra: 0,
         }
@@ -424,7 +404,7 @@ impl<'a, K: Naming> Worker<'a, K> {
         if self.resent && self.links.has_put_all() {
             self.wait(rt);
         } else {
-            let pause = pause_of(rt, &self.links, &self.idle, &mut self.patience);
+            let pause = self.sleep(rt);
             self.count(rt, pause);
         }
     }
@@ -439,9 +419,17 @@ impl<'a, K: Naming> Worker<'a, K> {
             self.extra = ALL_TURNS;
             return;
         }
-        let pause = pause_of(rt, &self.links, &self.idle, &mut self.patience);
+        let pause = self.sleep(rt);
         self.contact.withdraw(rt);
         self.count(rt, pause);
+    }
+
+    fn sleep<R: Wait>(&self, rt: &R) -> Pause {
+        if self.links.sleep(rt, self.idle.sleep()) {
+            Pause::Woken
+        } else {
+            Pause::Slept
+        }
     }
 
     // Counts a pause of a process that is up.
@@ -473,7 +461,7 @@ impl<'a, K: Naming> Worker<'a, K> {
     fn doze<R: Wait>(&mut self, rt: &R)
         ensures same { self.new.links ≡ self.old.links }
     {
-        let pause = pause_of(rt, &self.links, &self.idle, &mut self.patience);
+        let pause = self.sleep(rt);
         self.pass(pause);
     }
 
