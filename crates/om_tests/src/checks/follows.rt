@@ -62,7 +62,7 @@ fn rings_are_followed(rt: HostRuntime) {
 // c sends to a, and then never ends; a puts out what came, and ends.
 const ENDLESS: &str = "program pc 64 00100893 00100513 00400613 00000073 0000006F\n\
 program pa 128 00200893 04000513 00400593 00000073 00300893 00050593 04000513 00000073 00000893 00000073\n\
-proc c pc\nproc a pa\nfuel 10\n";
+proc c pc\nproc a pa\nfuel 3000\n";
 
 // What was released is written where the run is refused.
 #[test]
