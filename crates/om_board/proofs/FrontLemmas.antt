@@ -43,6 +43,13 @@ none_behind seen fronts last begins ends posted k d within =
     (λ (here : k ≡ length ends.0). subst (λ i. IsAtMost (get_or fronts i d) last) (sym here) (subst (λ f. IsAtMost f last) (sym at_end) (at_most_itself last)))
     (early_or_last k (length ends.0) (omega (arith, in_list, long))))
 
+-- the last front of what was seen is at most the last one of what was posted
+pub ends_rise : (seen fronts : List Front) (old new : Front) → EndsWith seen old → IsPrefix seen fronts → EndsWith fronts new → IsPosted fronts → IsAtMost old new
+ends_rise seen fronts old new was begins ends posted =
+    let long : length seen ≡ length was.0 + 1 = ap length (sym was.1) ∙ length_push was.0 old in
+    let at_end : get_or seen (length was.0) old ≡ old = ap (λ l. get_or l (length was.0) old) (sym was.1) ∙ get_or_push was.0 old old (length was.0) refl in
+    subst (λ f. IsAtMost f new) at_end (none_behind seen fronts new begins ends posted (length was.0) old (omega (arith, long)))
+
 pub stands_in : (seen board : List Front) (a : Front) → IsPrefix seen board → Contains seen a → Contains board a
 stands_in seen board a begins here = (
   here.0,

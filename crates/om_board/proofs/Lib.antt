@@ -3,4 +3,4 @@ pub mod PostingLemmas
 pub mod BoardLemmas
 pub mod FrontLemmas
 pub mod ListLemmas
-mod ReleasedLemmas
+pub mod ReleasedLemmas

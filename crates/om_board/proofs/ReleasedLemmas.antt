@@ -8,7 +8,7 @@ use Rattle.std.proofs.lemmas.Option.{get_or_from_slice_get, same_Some, slice_get
 use Rattle.om_manager.specs.Outputs.{AreNumbered, HeldOutput, held_of, within}
 use Rattle.om_manager.specs.State.{ManagerState, held_by, released_by}
 use Rattle.om_manager.specs.declared.output_log.Output.{Output}
-use Rattle.om_board.specs.Released.{AreAllReleased, AreReleasedBy}
+use Rattle.om_board.specs.Released.{AreAllReleased, AreReleased, AreReleasedBy}
 use Rattle.om_board.proofs.ListLemmas.{map_get, more_had, none_in}
 
 cases_le_lt : (x y : ℕ) → (x ≤ y) ⊎ (y < x)
@@ -36,12 +36,15 @@ numbered_too copies outputs same numbered place d lt =
     let inside : place < length outputs = subst (λ n. place < n) long lt in
     sym (get_or-map (λ (o : Output). o.seq) copies place d 0 lt) ∙ ap (λ ns. get_or ns place 0) same ∙ get_or-map (λ (o : Output). o.seq) outputs place d 0 inside ∙ numbered place d inside
 
+-- what a manager has released of a process is numbered, and within its place of the recovery state
+pub released_at : (m : ManagerState) (p : ℕ) (outputs : List Output) → map held_of outputs ≡ released_by m p → AreNumbered outputs → AreReleased (slice_index m.recovery p) outputs
+released_at m p outputs held numbered i o there = (
+  subst (λ (x : Output). x.seq ≡ i) (get_or_from_slice_get outputs i o o there) (numbered i o (slice_get_within outputs i o there)),
+  within_limit (held_by m p) (slice_index m.recovery p) i (held_of o) (subst (λ hs. slice_get hs i ≡ Some (held_of o)) held (map_get held_of outputs i o there)),
+)
+
 pub all_released : (m : ManagerState) (released : List (Vec Output Global)) → AreReleasedBy m released → AreAllReleased m.recovery released
-all_released m released are p outputs at i o there =
-    let both = are p outputs at in (
-      subst (λ (x : Output). x.seq ≡ i) (get_or_from_slice_get outputs.items i o o there) (both.1 i o (slice_get_within outputs.items i o there)),
-      within_limit (held_by m p) (slice_index m.recovery p) i (held_of o) (subst (λ hs. slice_get hs i ≡ Some (held_of o)) both.0 (map_get held_of outputs.items i o there)),
-    )
+all_released m released are p outputs at = let both = are p outputs at in released_at m p outputs.items both.0 both.1
 
 pub released_more : (m : ManagerState) (released : List (Vec Output Global)) (outputs : Vec Output Global) → AreReleasedBy m released
     → map held_of outputs.items ≡ released_by m (length released) → AreNumbered outputs.items

@@ -75,6 +75,14 @@ impl<K: Naming> Board<K> {
         &self.manager
     }
 
+    /// A pass that has seen all that was posted.
+    pub fn pass(&mut self, frontier: &Frontier<K>) -> Pass<K>
+        ensures all { result ≡ self.old.posted }
+        ensures same { self.new ≡ self.old }
+    {
+        self.writer.pass(frontier)
+    }
+
     /// [`Manager::note_logged`](om_manager::Manager::note_logged), with the front that comes of it posted.
     pub fn note_logged<R: Wait>(
         &mut self,

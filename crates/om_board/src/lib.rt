@@ -29,6 +29,6 @@ pub use board::Board;
 pub use front::Front;
 pub use frontier::{Blank, Frontier, Naming, Pass};
 pub use inbox::{CAPACITY, Inbox, PutAnswer, PutPass, TakePass};
-pub use report::Report;
+pub use report::{Report, copy_of};
 pub use shared::Shared;
 pub use waiting::Waiting;

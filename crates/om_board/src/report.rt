@@ -23,7 +23,8 @@ pub struct Report {
     pub front: Front,
 }
 
-fn copy_of(alloc: Global, output: &Output) -> Result<Output, AllocError>
+/// A copy of an output.
+pub fn copy_of(alloc: Global, output: &Output) -> Result<Output, AllocError>
     ensures held { IfOk result (λ copy. held_of copy ≡ held_of output.now) }
     ensures seq { IfOk result (λ copy. copy.seq ≡ output.now.seq) }
 {

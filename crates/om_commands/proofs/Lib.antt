@@ -1,6 +1,7 @@
 pub mod CheckLemmas
 pub mod DecodeLemmas
 pub mod DrawLemmas
+pub mod FollowLemmas
 pub mod ReportLemmas
 pub mod RunLemmas
 pub mod ScriptLemmas

@@ -20,7 +20,7 @@ use Rattle.om_runner.specs.declared.fault.RunFault.TheVariants as running
 use Rattle.om_commands.specs.Errors.{error_of_run}
 use Rattle.om_commands.specs.ClusterScript.{Script, meaning_of, no_lines}
 use Rattle.om_commands.specs.Command.{IsScript}
-use Rattle.om_commands.specs.Run.{AreAlong, IsAnswer, IsErrorOfFollowed, IsErrorOfRun, IsErrorOfScript}
+use Rattle.om_commands.specs.Run.{AreAlong, IsAnswer, IsReport, IsErrorOfFollowed, IsErrorOfRun, IsErrorOfScript}
 use Rattle.om_commands.specs.RunText.{run_text}
 use Rattle.om_commands.specs.declared.error.CommandError.{CommandError}
 use Rattle.om_commands.specs.declared.error.CommandError.TheVariants as errors
@@ -48,6 +48,22 @@ along-programs images statuses along p program status is_program is_status =
     subst (λ n. IsStatusAlong program p n status) (sym (length-map images program_of))
     (subst (λ program. IsStatusAlong program p (length images) status) found.2 (along p found.0 status found.1 is_status))
 
+-- what a run of images ends with is what one of their programs does
+pub is_report : (over_clean : Type 0) (programs : List Program) (images : List Image) (report : Report) → map program_of images ≡ programs
+    → AreAllReleased report.front.vec report.released.items → length report.released.items ≡ length images
+    → length report.statuses.items ≡ length images → All IsEnd report.statuses.items
+    → (over_clean → AreStatusesAlong images report.statuses.items)
+    → IsReport over_clean programs report
+is_report over_clean programs images report same_programs are_released processes number ended along =
+    let long : length images ≡ length programs = sym (length-map images program_of) ∙ ap length same_programs in record {
+      released = are_released;
+      processes = processes ∙ long;
+      statuses = number ∙ long;
+      ended = ended;
+      along = λ clean. subst (λ programs. AreAlong programs report.statuses.items) same_programs
+          (along-programs images report.statuses.items (along clean));
+    }
+
 -- a script is answered by what a run of its cluster ends with
 pub is_answer : (over_clean : Type 0) (script : Script) (cluster : Cluster) (images : List Image) (report : Report)
     (released : List (Vec Output Global)) (statuses : List Status) (text : List ℕ)
@@ -58,17 +74,9 @@ pub is_answer : (over_clean : Type 0) (script : Script) (cluster : Cluster) (ima
     → released ≡ report.released.items → statuses ≡ report.statuses.items
     → text ≡ run_text cluster (map (λ os. map held_of os.items) released) statuses → IsAnswer over_clean script text
 is_answer over_clean script cluster images report released statuses text same_cluster same_programs are_released processes number ended
-    along same_released same_statuses written =
-    let long : length images ≡ length (programs_of script.cluster) = sym (length-map images program_of) ∙ ap length same_programs in (
+    along same_released same_statuses written = (
       report,
-      record {
-        released = are_released;
-        processes = processes ∙ long;
-        statuses = number ∙ long;
-        ended = ended;
-        along = λ clean. subst (λ programs. AreAlong programs report.statuses.items) same_programs
-            (along-programs images report.statuses.items (along clean));
-      },
+      is_report over_clean (programs_of script.cluster) images report same_programs are_released processes number ended along,
       written
           ∙ ap (λ c. run_text c (map (λ os. map held_of os.items) released) statuses) same_cluster
           ∙ ap (λ os. run_text script.cluster (map (λ os. map held_of os.items) os) statuses) same_released

@@ -7,6 +7,7 @@ pub mod Draw
 pub mod Errors
 pub mod EventText
 pub mod Events
+pub mod Follow
 pub mod Frontier
 pub mod Hex
 pub mod RecordScript

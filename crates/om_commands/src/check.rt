@@ -20,6 +20,7 @@ use std::alloc::Global;
 use std::io::{Read, Write};
 use std::sync::Wait;
 use std::thread::Threads;
+use std::time::Clock;
 
 /// As `run` of [`crate::run`], and then plays, in one thread, the run without failures in which each process receives what
 /// it received in its threads: what is written is the text of that run, to the byte.
@@ -27,7 +28,7 @@ use std::thread::Threads;
 /// Refused with the errors of `run`, in their order; then with `Unlike` where the threads' outputs or statuses are not those
 /// of that run, or there is none, and with `NoMemory` where memory ran out for it. Refused, nothing is written, unless it was
 /// the writer that refused.
-pub fn run_checked<R: Threads + Wait + Sync, O: Opener<R> + Sync, I: Read, W: Write>(
+pub fn run_checked<R: Threads + Wait + Clock + Sync, O: Opener<R> + Sync, I: Read, W: Write>(
     rt: &R,
     alloc: Global,
     turns: u64,
@@ -46,7 +47,13 @@ pub fn run_checked<R: Threads + Wait + Sync, O: Opener<R> + Sync, I: Read, W: Wr
 
 /// As [`run_checked`], and writes that run as a script of `sim` to `witness`, before the text: the lines of programs and
 /// processes, and then the events.
-pub fn run_with_witness<R: Threads + Wait + Sync, O: Opener<R> + Sync, I: Read, W: Write, F: Write>(
+pub fn run_with_witness<
+    R: Threads + Wait + Clock + Sync,
+    O: Opener<R> + Sync,
+    I: Read,
+    W: Write,
+    F: Write,
+>(
     rt: &R,
     alloc: Global,
     turns: u64,
@@ -66,7 +73,7 @@ pub fn run_with_witness<R: Threads + Wait + Sync, O: Opener<R> + Sync, I: Read, 
 }
 
 // The text that answers the script of an input.
-fn answer_to<R: Threads + Wait + Sync, O: Opener<R> + Sync, I: Read>(
+fn answer_to<R: Threads + Wait + Clock + Sync, O: Opener<R> + Sync, I: Read>(
     rt: &R,
     alloc: Global,
     turns: u64,
@@ -81,7 +88,7 @@ fn answer_to<R: Threads + Wait + Sync, O: Opener<R> + Sync, I: Read>(
 }
 
 // The text that answers the script of an input, and the script of its run without failures.
-fn witness_to<R: Threads + Wait + Sync, O: Opener<R> + Sync, I: Read>(
+fn witness_to<R: Threads + Wait + Clock + Sync, O: Opener<R> + Sync, I: Read>(
     rt: &R,
     alloc: Global,
     turns: u64,
@@ -96,7 +103,7 @@ fn witness_to<R: Threads + Wait + Sync, O: Opener<R> + Sync, I: Read>(
 }
 
 // The same, of what was read.
-fn witness_of<R: Threads + Wait + Sync, O: Opener<R> + Sync>(
+fn witness_of<R: Threads + Wait + Clock + Sync, O: Opener<R> + Sync>(
     rt: &R,
     alloc: Global,
     turns: u64,
@@ -113,7 +120,7 @@ fn witness_of<R: Threads + Wait + Sync, O: Opener<R> + Sync>(
 }
 
 // What threads report of the cluster of a script, and what each process did.
-fn reported<R: Threads + Wait + Sync, O: Opener<R> + Sync>(
+fn reported<R: Threads + Wait + Clock + Sync, O: Opener<R> + Sync>(
     rt: &R,
     alloc: Global,
     turns: u64,
@@ -131,7 +138,7 @@ fn reported<R: Threads + Wait + Sync, O: Opener<R> + Sync>(
 }
 
 // The text that answers a script.
-fn answer<R: Threads + Wait + Sync, O: Opener<R> + Sync>(
+fn answer<R: Threads + Wait + Clock + Sync, O: Opener<R> + Sync>(
     rt: &R,
     alloc: Global,
     turns: u64,
@@ -146,7 +153,7 @@ fn answer<R: Threads + Wait + Sync, O: Opener<R> + Sync>(
 }
 
 // The same, and the events of its run without failures.
-fn answer_with_events<R: Threads + Wait + Sync, O: Opener<R> + Sync>(
+fn answer_with_events<R: Threads + Wait + Clock + Sync, O: Opener<R> + Sync>(
     rt: &R,
     alloc: Global,
     turns: u64,

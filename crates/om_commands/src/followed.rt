@@ -1,15 +1,21 @@
 //! The command `run --follow`: a cluster whose outputs are written as they are released.
 
-ghost use Rattle.std.specs.Prelude.{◌≤◌, IfErr, IfSome, length};
+ghost use Rattle.std.specs.Prelude.{◌≡◌, ◌≤◌, ◌⊎◌, ℕ, IfErr, IfOk, IfSome, IsTrue, List, OnOk, length, string_bytes};
+ghost use Rattle.std.specs.Io.KnownBytes.{Appends, Keeps};
+ghost use Rattle.om_runner.specs.Telling.{told_of};
 ghost use Rattle.om_commands.specs.ClusterScript.{Script};
+ghost use Rattle.om_commands.specs.Errors.{error_of_run};
+ghost use Rattle.om_commands.specs.Follow.{IsFollowedAnswer, IsFollowedRun, IsPart, IsPartOf, IsPartly, told_line, told_text};
 ghost use Rattle.om_commands.specs.Run.{IsErrorOfFollowed, IsErrorOfRun};
+ghost use Rattle.om_commands.specs.RunText.{ends_text};
+ghost use Rattle.om_commands.specs.SimText.{name_at};
 
 use crate::cluster_script::ClusterScript;
 use crate::command::{read_input, write_answer};
 use crate::error::CommandError;
 use crate::run::{OpenGate, config_of};
 use crate::run_text::push_ends;
-use crate::sim_text::push_output;
+use crate::sim_text::{name_of, push_output};
 use om_interval::Pid;
 use om_manager::Output;
 use om_process::Status;
@@ -19,6 +25,7 @@ use std::alloc::{AllocError, Global};
 use std::io::{Read, Write};
 use std::sync::Wait;
 use std::thread::Threads;
+use std::time::Clock;
 
 // Writes the line of each output that it is told of.
 #[derive(Drop)]
@@ -31,8 +38,15 @@ struct Lines<'a, W: Write + Drop> {
 }
 
 // The name of a process, and none where there is no such process.
-fn name_in(programs: &Programs, pid: Pid) -> &str {
-    programs.name(pid.index()).unwrap_or("")
+fn name_in(programs: &Programs, pid: Pid) -> &str
+    ensures { result.now ≡ name_at programs.now pid }
+{
+    let p = pid.index();
+    if p < programs.n() {
+        name_of(programs, p)
+    } else {
+        ""
+    }
 }
 
 // The line of an output of a process.
@@ -41,7 +55,9 @@ fn line_of(
     programs: &Programs,
     pid: Pid,
     output: &Output,
-) -> Result<String, AllocError> {
+) -> Result<String, AllocError>
+    ensures { IfOk result (λ line. string_bytes line ≡ told_line programs.now (told_of pid output.now)) }
+{
     let mut text = String::new(alloc);
     push_output(
         alloc,
@@ -54,6 +70,9 @@ fn line_of(
 }
 
 impl<'a, W: Write + Drop> Follower for Lines<'a, W> {
+    ghost Tells = { λ before after told. (after.programs.now ≡ before.programs.now)
+        × Appends (W.contents before.writer) (W.contents after.writer) (told_text before.programs.now told) };
+
     fn tell(&mut self, pid: Pid, output: &Output) -> bool {
         let Ok(line) = line_of(self.alloc, self.programs, pid, output) else {
             self.lacks_memory = true;
@@ -69,8 +88,14 @@ impl<'a, W: Write + Drop> Follower for Lines<'a, W> {
 
 /// As `run` of [`crate::run`], but each output is written as soon as it is released: the lines of a process in order and each
 /// once, those of different processes in the order in which they were released. At the end comes how each process ended. Where
-/// the run is refused, what was released by then is written.
-pub fn run_followed<R: Threads + Wait + Sync, O: Opener<R> + Sync, I: Read, W: Write + Drop>(
+/// the run is refused, what was released by then is written; less where memory ran out or the writer refused. A file that is
+/// refused writes nothing.
+pub fn run_followed<
+    R: Threads + Wait + Clock + Sync,
+    O: Opener<R> + Sync,
+    I: Read,
+    W: Write + Drop,
+>(
     rt: &R,
     alloc: Global,
     turns: u64,
@@ -78,7 +103,12 @@ pub fn run_followed<R: Threads + Wait + Sync, O: Opener<R> + Sync, I: Read, W: W
     reader: &mut I,
     writer: W,
 ) -> (Result<(), CommandError>, W)
+    ensures text { IfSome (I.remaining reader.old) (λ bytes. OnOk result.0 ((text : List ℕ)
+        × IsFollowedRun ((store : O.Store) → IsTrue (O.Store.is_clean store)) bytes text
+        × Appends (W.contents writer) (W.contents result.1) text)) }
     ensures error { IfSome (I.remaining reader.old) (λ bytes. IfErr result.0 (IsErrorOfRun bytes)) }
+    ensures partly { IfSome (I.remaining reader.old) (λ bytes. IfErr result.0 (λ error. IsPartly error
+        (IsPart bytes (W.contents writer) (W.contents result.1)) (Keeps (W.contents writer) (W.contents result.1)))) }
 {
     match read_input(alloc, reader, ClusterScript::new(alloc)) {
         Ok(script) => answer(rt, alloc, turns, opener, &script, writer),
@@ -87,7 +117,7 @@ pub fn run_followed<R: Threads + Wait + Sync, O: Opener<R> + Sync, I: Read, W: W
 }
 
 // Writes what answers a script.
-fn answer<R: Threads + Wait + Sync, O: Opener<R> + Sync, W: Write + Drop>(
+fn answer<R: Threads + Wait + Clock + Sync, O: Opener<R> + Sync, W: Write + Drop>(
     rt: &R,
     alloc: Global,
     turns: u64,
@@ -95,7 +125,12 @@ fn answer<R: Threads + Wait + Sync, O: Opener<R> + Sync, W: Write + Drop>(
     script: &ClusterScript,
     writer: W,
 ) -> (Result<(), CommandError>, W)
+    ensures text { OnOk result.0 ((text : List ℕ)
+        × IsFollowedAnswer ((store : O.Store) → IsTrue (O.Store.is_clean store)) script.now text
+        × Appends (W.contents writer) (W.contents result.1) text) }
     ensures error { IfErr result.0 (IsErrorOfFollowed script.now) }
+    ensures partly { IfErr result.0 (λ error. IsPartly error
+        (IsPartOf script.now (W.contents writer) (W.contents result.1)) (Keeps (W.contents writer) (W.contents result.1))) }
 {
     let programs = script.programs();
     if programs.n() == 0 {
@@ -126,7 +161,9 @@ fn answer<R: Threads + Wait + Sync, O: Opener<R> + Sync, W: Write + Drop>(
 
 // As the caller is told why a run that was followed came to no end.
 fn error_of(fault: FollowFault, lacks_memory: bool) -> CommandError
-    ensures { (script : Script) → 1 ≤ length script.cluster.processes → IsErrorOfFollowed script result }
+    ensures error { (script : Script) → 1 ≤ length script.cluster.processes → IsErrorOfFollowed script result }
+    ensures unwanted { fault ≡ FollowFault.Unwanted → (result ≡ CommandError.NoMemory) ⊎ (result ≡ CommandError.CannotWrite) }
+    ensures run { (f : _) → fault ≡ FollowFault.Run f → result ≡ error_of_run f }
 {
     match fault {
         FollowFault::Run(fault) => fault.into(),
@@ -143,7 +180,8 @@ fn write_ends<W: Write>(
     writer: &mut W,
 ) -> Result<(), CommandError>
     requires { length statuses.now ≤ length programs.now.processes }
-    ensures error { IfErr result (λ e. (script : Script) → IsErrorOfFollowed script e) }
+    ensures text { OnOk result (Appends (W.contents writer.old) (W.contents writer.new) (ends_text programs.now statuses.now)) }
+    ensures error { IfErr result (λ e. (e ≡ CommandError.NoMemory) ⊎ (e ≡ CommandError.CannotWrite)) }
 {
     let mut text = String::new(alloc);
     push_ends(&mut text, programs, statuses)?;

@@ -17,11 +17,18 @@ use std::alloc::{AllocError, Global};
 use std::io::{Read, Write};
 use std::sync::Wait;
 use std::thread::Threads;
+use std::time::Clock;
 
 /// As `run` of [`crate::run`], and writes what the threads did as a script of `sim` to `record`, before the text: the lines of
 /// programs and processes, and then the events in one order, with comments. What they did until a run was refused is written too,
 /// if it can be.
-pub fn run_recorded<R: Threads + Wait + Sync, O: Opener<R> + Sync, I: Read, W: Write, F: Write>(
+pub fn run_recorded<
+    R: Threads + Wait + Clock + Sync,
+    O: Opener<R> + Sync,
+    I: Read,
+    W: Write,
+    F: Write,
+>(
     rt: &R,
     alloc: Global,
     turns: u64,
@@ -41,7 +48,7 @@ pub fn run_recorded<R: Threads + Wait + Sync, O: Opener<R> + Sync, I: Read, W: W
 }
 
 // The text that answers the script of an input. What the threads did is written.
-fn answer_to<R: Threads + Wait + Sync, O: Opener<R> + Sync, I: Read, F: Write>(
+fn answer_to<R: Threads + Wait + Clock + Sync, O: Opener<R> + Sync, I: Read, F: Write>(
     rt: &R,
     alloc: Global,
     turns: u64,
@@ -62,7 +69,7 @@ fn answer_to<R: Threads + Wait + Sync, O: Opener<R> + Sync, I: Read, F: Write>(
 }
 
 // The text that answers what was read, or why there is none; and the script of what the threads did.
-fn recorded<R: Threads + Wait + Sync, O: Opener<R> + Sync>(
+fn recorded<R: Threads + Wait + Clock + Sync, O: Opener<R> + Sync>(
     rt: &R,
     alloc: Global,
     turns: u64,
@@ -82,7 +89,7 @@ fn recorded<R: Threads + Wait + Sync, O: Opener<R> + Sync>(
 }
 
 // The text that answers a script, while the recorder takes in what the threads do.
-fn answer<R: Threads + Wait + Sync, O: Opener<R> + Sync>(
+fn answer<R: Threads + Wait + Clock + Sync, O: Opener<R> + Sync>(
     rt: &R,
     alloc: Global,
     turns: u64,

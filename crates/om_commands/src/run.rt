@@ -17,6 +17,7 @@ use std::alloc::{AllocError, Global};
 use std::io::{Read, Write};
 use std::sync::Wait;
 use std::thread::Threads;
+use std::time::Clock;
 
 // How often a worker asks the gate, which is open.
 const GATE_TURNS: u64 = 1;
@@ -34,7 +35,7 @@ impl Gate for OpenGate {
 /// Reads a cluster file whole, runs its cluster with a thread for each process over stores that `opener` makes, and
 /// then writes what each put out and how each ended. A worker takes at most so many `turns`. Refused, nothing is
 /// written, unless it was the writer that refused.
-pub fn run<R: Threads + Wait + Sync, O: Opener<R> + Sync, I: Read, W: Write>(
+pub fn run<R: Threads + Wait + Clock + Sync, O: Opener<R> + Sync, I: Read, W: Write>(
     rt: &R,
     alloc: Global,
     turns: u64,
@@ -53,7 +54,7 @@ pub fn run<R: Threads + Wait + Sync, O: Opener<R> + Sync, I: Read, W: Write>(
 }
 
 // The text that answers the script of an input.
-fn answer_to<R: Threads + Wait + Sync, O: Opener<R> + Sync, I: Read>(
+fn answer_to<R: Threads + Wait + Clock + Sync, O: Opener<R> + Sync, I: Read>(
     rt: &R,
     alloc: Global,
     turns: u64,
@@ -69,7 +70,7 @@ fn answer_to<R: Threads + Wait + Sync, O: Opener<R> + Sync, I: Read>(
 }
 
 // The text that answers a script.
-fn answer<R: Threads + Wait + Sync, O: Opener<R> + Sync>(
+fn answer<R: Threads + Wait + Clock + Sync, O: Opener<R> + Sync>(
     rt: &R,
     alloc: Global,
     turns: u64,

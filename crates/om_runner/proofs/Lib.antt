@@ -4,3 +4,5 @@ mod ReportLemmas
 mod WireLemmas
 mod SettleLemmas
 mod ActLemmas
+mod FaultLemmas
+mod FollowLemmas

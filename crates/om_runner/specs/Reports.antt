@@ -1,5 +1,5 @@
 -- What a run of a cluster ends with.
-use Rattle.std.specs.Prelude.{◌≡◌, ℕ, List, Some, Bool, IsTrue, slice_get, length}
+use Rattle.std.specs.Prelude.{◌≡◌, ℕ, ◌<◌, List, Some, Bool, IsTrue, slice_get, length}
 use Rattle.std.specs.FinMap as map
 use Rattle.om_stable.specs.Content.{Content}
 use Rattle.om_process.specs.Core.{status_of}
@@ -9,6 +9,8 @@ use Rattle.om_process.specs.Turns.{Reaches, next_move}
 use Rattle.om_process.specs.declared.image.Image.{Image}
 use Rattle.om_process.specs.declared.status.Status.{Status}
 use Rattle.om_process.specs.declared.status.Status.TheVariants.{Ready, Waiting, Ended, Trapped}
+use Rattle.om_runner.specs.declared.fault.RunFault.{RunFault}
+use Rattle.om_runner.specs.declared.fault.RunFault.TheVariants.{Turns, GateShut, Memory, Fault, Load, NoThread}
 
 -- a store without a record
 abbrev pub nothing : Content
@@ -37,3 +39,12 @@ abbrev pub AreStatusesAlong : List Image → List Status → Type 0
 AreStatusesAlong images statuses = (p : ℕ) (image : Image) (status : Status)
     → slice_get images p ≡ Some image → slice_get statuses p ≡ Some status
     → IsStatusAlong (program_of image) p (length images) status
+
+-- the fault is of one of n processes, or of none
+abbrev pub IsFaultOf : ℕ → RunFault → Type 0
+IsFaultOf n (Turns pid) = pid < n
+IsFaultOf n (GateShut pid) = pid < n
+IsFaultOf n (Fault pid) = pid < n
+IsFaultOf n (Load pid) = pid < n
+IsFaultOf n Memory = Unit {0}
+IsFaultOf n NoThread = Unit {0}

@@ -7,3 +7,5 @@ pub mod Ends
 pub mod Settling
 pub mod Acts
 pub mod Turning
+pub mod Sights
+pub mod Following

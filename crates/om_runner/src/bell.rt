@@ -3,13 +3,34 @@
 use std::sync::Wait;
 use std::sync::atomic::AtomicU64;
 use std::sync::atomic::Ordering::SeqCst;
-use std::time::Duration;
+use std::thread::yield_now;
+use std::time::{Clock, Duration, Instant};
 
 const SILENT: u64 = 0;
 
 const RUNG: u64 = 1;
 
 const ASLEEP: u64 = 2;
+
+// How often a worker yields at most while its bell is silent.
+const YIELDS: u32 = 2_048;
+
+// For how many microseconds it goes on with that. So long it sleeps first.
+const LONGEST_LOOK: u64 = 1_000;
+
+// A yield that takes more microseconds gave a time slice to another program.
+const SLICE: u64 = 100;
+
+// What comes of yielding while a bell is silent.
+#[derive(Clone, Copy, PartialEq, Eq)]
+pub(crate) enum Look {
+    // It was rung.
+    Rung,
+    // It was silent for as long as that is worth while.
+    Silent,
+    // A yield gave a time slice away.
+    Slice,
+}
 
 // One worker sleeps by it, and any rings it. Rung while its worker is awake, it ends the next sleep: so a worker that looks
 // before it sleeps misses nothing.
@@ -30,6 +51,39 @@ impl Bell {
         if self.state.swap(RUNG, SeqCst) == ASLEEP {
             self.state.wake_one();
         }
+    }
+
+    // Yields until it is rung, for a while; not where the clock cannot be read. Rung, it is silent again; else the ring is left
+    // to the sleep.
+    pub(crate) fn look<R: Clock>(&self, rt: &R) -> Look {
+        let Ok(start) = Instant::now(rt) else {
+            return Look::Silent;
+        };
+        let mut before = start;
+        for _ in 0..YIELDS {
+            if self.is_rung() {
+                return Look::Rung;
+            }
+            yield_now();
+            let Ok(after) = Instant::now(rt) else {
+                break;
+            };
+            if after.duration_since(before) > Duration::from_micros(SLICE) {
+                return Look::Slice;
+            }
+            if after.duration_since(start) > Duration::from_micros(LONGEST_LOOK) {
+                break;
+            }
+            before = after;
+        }
+        Look::Silent
+    }
+
+    // Whether it was rung. Then it is silent again.
+    fn is_rung(&self) -> bool {
+        self.state
+            .compare_exchange(RUNG, SILENT, SeqCst, SeqCst)
+            .is_ok()
     }
 
     // Sleeps until it is rung, for no longer than this, and says whether it was. It may be shorter for no reason.

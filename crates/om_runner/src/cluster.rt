@@ -1,15 +1,16 @@
 //! A cluster, a thread for each process.
 
-ghost use Rattle.std.specs.Prelude.{◌≡◌, ◌<◌, ◌≤◌, ℕ, All, IfOk, IfSome, IsTrue, length, map, slice_index_or, vec_capacity, vec_len};
+ghost use Rattle.std.specs.Prelude.{◌≡◌, ◌<◌, ◌≤◌, ◌↔◌, ◌⊎◌, ℕ, All, IfErr, IfNone, IfOk, IfSome, IsTrue, OnOk, length, map, slice_index_or, vec_capacity, vec_len};
 ghost use Rattle.om_board.specs.Released.{AreAllReleased};
 ghost use Rattle.om_interval.specs.declared.pid.TheConstants.{MAX_PROCESSES};
 ghost use Rattle.om_process.specs.Images.{program_of};
 ghost use Rattle.om_process.specs.declared.image.Image.{Image};
-ghost use Rattle.om_runner.specs.Reports.{AreAlong, AreStatusesAlong, IsEnd, IsStatusAlong};
-ghost use Rattle.om_runner.specs.steps.Ends.{AreEndsOf, IsEndOf, IsPromised, IsTurned};
+ghost use Rattle.om_runner.specs.Reports.{AreAlong, AreStatusesAlong, IsEnd, IsFaultOf, IsStatusAlong};
+ghost use Rattle.om_runner.specs.declared.fault.RunFault.TheVariants.{Memory};
+ghost use Rattle.om_runner.specs.steps.Ends.{AreBelow, AreEndsOf, AreOwnEnds, IsEndOf, IsFaultBy, IsGiven, IsLeastFault, IsOut, IsOwnEnd, IsPromised, IsTurned, IsWell};
 ghost use Rattle.om_runner.specs.steps.Network.{IsNetwork};
 ghost use Rattle.om_runner.specs.steps.Places.{member_of};
-ghost use Rattle.om_runner.specs.steps.Settling.{AreLeaves};
+ghost use Rattle.om_runner.specs.steps.Settling.{AreLeaves, AreSettled};
 ghost use Rattle.om_runner.specs.steps.Wiring.{IsWired};
 
 use crate::config::Config;
@@ -36,6 +37,7 @@ use std::sync::atomic::AtomicBool;
 use std::sync::atomic::Ordering::SeqCst;
 use std::thread;
 use std::thread::{Promise, PromisedHandle, Scope, Threads, join_promised};
+use std::time::Clock;
 
 // What a worker begins with.
 #[derive(Drop)]
@@ -67,7 +69,10 @@ pub(crate) struct Parts<S: Stable> {
 }
 
 // Asks the gate until it lets the process start.
-fn pass_gate<G: Gate>(gate: &G, gate_turns: u64, pid: Pid) -> Result<(), RunFault> {
+fn pass_gate<G: Gate>(gate: &G, gate_turns: u64, pid: Pid) -> Result<(), RunFault>
+    ensures asked { OnOk result (1 ≤ gate_turns) }
+    ensures fault { IfErr result (IsFaultBy pid) }
+{
     for _ in 0..gate_turns {
         if gate.may_start(pid) {
             return Ok(());
@@ -86,7 +91,8 @@ fn begin<'a, R, O: Opener<R>>(
     pid: Pid,
     n: usize,
 ) -> Result<Node<'a, O::Store>, RunFault>
-    ensures { IfOk result (λ node. node.member ≡ record { program = program_of image.entry.now; own = pid; n = n }) }
+    ensures member { IfOk result (λ node. node.member ≡ record { program = program_of image.entry.now; own = pid; n = n }) }
+    ensures fault { IfErr result (IsFaultBy pid) }
 {
     let store = match opener.make(rt, alloc, pid) {
         Ok(store) => store,
@@ -121,7 +127,7 @@ enum Turned<'a, K: Naming, S: Stable> {
 
 // One turn of a worker.
 #[inline(never)]
-fn take_turn<'a, K: Naming, S: Stable, R: Wait>(
+fn take_turn<'a, K: Naming, S: Stable, R: Wait + Clock>(
     rt: &R,
     alloc: Global,
     worker: &mut Worker<'a, K>,
@@ -132,8 +138,9 @@ fn take_turn<'a, K: Naming, S: Stable, R: Wait>(
     requires size { (member_of place).n ≡ K.cell.n }
     ensures same { worker.new.links ≡ worker.old.links }
     ensures turned { IfOk result (λ t. IsTurned S.is_clean (member_of place.entry) t) }
+    ensures fault { IfErr result (IsFaultBy worker.old.links.own) }
 {
-    let (place, pass) = match worker.turn(rt, alloc, place, pass) {
+    let (place, pass) = match worker.shown_turn(rt, alloc, place, pass) {
         Ok(turned) => turned,
         Err(trouble) => return Err(trouble.of(worker.pid())),
     };
@@ -150,7 +157,7 @@ fn take_turn<'a, K: Naming, S: Stable, R: Wait>(
 }
 
 // The turns of a worker until all are quiet: how its process ended, and its store.
-fn turns_until_over<'a, K: Naming, S: Stable, R: Wait>(
+fn turns_until_over<'a, K: Naming, S: Stable, R: Wait + Clock>(
     rt: &R,
     alloc: Global,
     turns: u64,
@@ -165,6 +172,8 @@ fn turns_until_over<'a, K: Naming, S: Stable, R: Wait>(
     ensures ended { IfOk result (λ end. IsEnd end.0) }
     ensures along { let m = node.entry.member in
         IfOk result (λ end. IsTrue (S.is_clean end.1) → IsStatusAlong m.program m.own m.n end.0) }
+    ensures given { OnOk result (1 ≤ turns) }
+    ensures fault { IfErr result (IsFaultBy worker.old.links.own) }
 {
     let mut pass = pass;
     let mut place = Place::Up(node);
@@ -189,7 +198,7 @@ fn turns_until_over<'a, K: Naming, S: Stable, R: Wait>(
 }
 
 // The same, with the ends that the worker gives up then.
-fn take_turns<'a, K: Naming, S: Stable, R: Wait>(
+fn take_turns<'a, K: Naming, S: Stable, R: Wait + Clock>(
     rt: &R,
     alloc: Global,
     turns: u64,
@@ -200,8 +209,10 @@ fn take_turns<'a, K: Naming, S: Stable, R: Wait>(
 ) -> Result<Finished<S>, RunFault>
     requires own { node.member.own ≡ worker.links.own }
     requires size { node.member.n ≡ K.cell.n }
-    ensures { let m = node.entry.member in
+    ensures end { let m = node.entry.member in
         IfOk result (λ f. IsEndOf S.is_clean m.program worker.entry.links.lines m.own m.n f) }
+    ensures given { OnOk result (1 ≤ turns) }
+    ensures fault { IfErr result (IsFaultBy worker.entry.links.own) }
 {
     let mut worker = worker;
     let (status, store) = turns_until_over(rt, alloc, turns, stop, &mut worker, node, pass)?;
@@ -221,7 +232,9 @@ fn admit<'a, K: Naming, R: Wait, G: Gate, O: Opener<R>>(
     pid: Pid,
     n: usize,
 ) -> Result<(Node<'a, O::Store>, Vec<u32>), RunFault>
-    ensures { IfOk result (λ made. made.0.member ≡ record { program = program_of image.entry.now; own = pid; n = n }) }
+    ensures member { IfOk result (λ made. made.0.member ≡ record { program = program_of image.entry.now; own = pid; n = n }) }
+    ensures asked { OnOk result (1 ≤ cluster.now.plan.now.gate_turns) }
+    ensures fault { IfErr result (IsFaultBy pid) }
 {
     let Cluster {
         rt,
@@ -238,13 +251,14 @@ fn admit<'a, K: Naming, R: Wait, G: Gate, O: Opener<R>>(
 }
 
 // What the thread of a process does.
-fn work<'a, K: Naming, R: Wait, G: Gate, O: Opener<R>>(
+fn work<'a, K: Naming, R: Wait + Clock, G: Gate, O: Opener<R>>(
     cluster: &Cluster<'a, K, R, G, O>,
     image: &'a Image,
     job: Job<'a, K>,
 ) -> Result<Finished<O::Store>, RunFault>
-    ensures { let l = job.entry.links in
+    ensures end { let l = job.entry.links in
         IfOk result (λ f. IsEndOf O.Store.is_clean (program_of image.entry.now) l.lines l.own l.n f) }
+    ensures own { IsOwnEnd cluster.now.plan.now job.entry.links.own result }
 {
     let Job { links, pass, .. } = job;
     let (node, kills) = admit(cluster, image, links.own(), links.n())?;
@@ -259,18 +273,20 @@ fn work<'a, K: Naming, R: Wait, G: Gate, O: Opener<R>>(
         ..
     } = *cluster;
     let past = Past::new(alloc, keeps);
-    let worker = Worker::new(plan, shared, links, kills, past, alloc, listeners);
+    let watch = cluster.opener.watch();
+    let worker = Worker::new(plan, shared, links, kills, past, alloc, listeners, watch);
     take_turns(rt, alloc, plan.turns, stop, worker, node, pass)
 }
 
 // The same, and where it ends with a fault, the others are stopped. Whoever follows is told of its end.
-fn work_or_stop<'a, K: Naming, R: Wait, G: Gate, O: Opener<R>>(
+fn work_or_stop<'a, K: Naming, R: Wait + Clock, G: Gate, O: Opener<R>>(
     cluster: &Cluster<'a, K, R, G, O>,
     image: &'a Image,
     job: Job<'a, K>,
 ) -> Result<Finished<O::Store>, RunFault>
-    ensures { let l = job.entry.links in
+    ensures end { let l = job.entry.links in
         IfOk result (λ f. IsEndOf O.Store.is_clean (program_of image.entry.now) l.lines l.own l.n f) }
+    ensures own { IsOwnEnd cluster.now.plan.now job.entry.links.own result }
 {
     let result = work(cluster, image, job);
     if result.is_err() {
@@ -280,9 +296,10 @@ fn work_or_stop<'a, K: Naming, R: Wait, G: Gate, O: Opener<R>>(
     result
 }
 
-// What the thread of a process promises: of which image, which inboxes, which process and how many.
+// What the thread of a process promises: of which run, which image, which inboxes, which process and how many.
 #[derive(Drop)]
 struct EndOf<'a, S: Stable> {
+    plan: &'a Config,
     image: &'a Image,
     inboxes: &'a [Vec<Inbox>],
     own: Pid,
@@ -291,7 +308,8 @@ struct EndOf<'a, S: Stable> {
 }
 
 impl<'a, S: Stable> Promise<Result<Finished<S>, RunFault>> for EndOf<'a, S> {
-    ghost kept_by = { λ p r. IfOk r (λ f. IsEndOf S.is_clean (program_of p.image.now) p.inboxes.now p.own p.n f) };
+    ghost kept_by = { λ p r. IfOk r (λ f. IsEndOf S.is_clean (program_of p.image.now) p.inboxes.now p.own p.n f)
+        × IsOwnEnd p.plan.now p.own r };
 }
 
 type Handle<'s, S> = PromisedHandle<Result<Finished<S>, RunFault>, EndOf<'s, S>>;
@@ -301,7 +319,7 @@ fn start<
     's,
     E,
     K: Naming + Send + Sync,
-    R: Threads + Wait + Sync,
+    R: Threads + Wait + Clock + Sync,
     G: Gate + Sync,
     O: Opener<R> + Sync,
 >(
@@ -310,12 +328,14 @@ fn start<
     image: &'s Image,
     job: Job<'s, K>,
 ) -> Option<Handle<'s, O::Store>>
+    ensures plan { IfSome result (λ h. h.promise.plan.now ≡ cluster.entry.now.plan.now) }
     ensures image { IfSome result (λ h. h.promise.image.now ≡ image.entry.now) }
     ensures inboxes { IfSome result (λ h. h.promise.inboxes.now ≡ job.entry.links.lines) }
     ensures own { IfSome result (λ h. h.promise.own ≡ job.entry.links.own) }
     ensures n { IfSome result (λ h. h.promise.n ≡ K.cell.n) }
 {
     let end = EndOf {
+        plan: cluster.plan,
         image,
         inboxes: job.links.inboxes(),
         own: job.links.own(),
@@ -332,7 +352,7 @@ fn start_all<
     's,
     E,
     K: Naming + Send + Sync,
-    R: Threads + Wait + Sync,
+    R: Threads + Wait + Clock + Sync,
     G: Gate + Sync,
     O: Opener<R> + Sync,
 >(
@@ -350,7 +370,8 @@ fn start_all<
     requires room { K.cell.n ≤ vec_capacity handles }
     ensures long { IfSome result (λ v. vec_len v ≡ K.cell.n) }
     ensures each { IfSome result (λ v. (i : ℕ) (a : Image) (h : _) → i < vec_len v
-        → IsPromised (slice_index_or cluster.entry.now.plan.now.images.items i a) cluster.entry.now.inboxes.now i K.cell.n
+        → IsPromised cluster.entry.now.plan.now (slice_index_or cluster.entry.now.plan.now.images.items i a)
+        cluster.entry.now.inboxes.now i K.cell.n
         (slice_index_or v.items i h).promise) }
 {
     for one in ends {
@@ -374,7 +395,7 @@ fn start_all<
 // All processes, each on a thread of its own, and all joined; and what was beside them.
 fn run_scoped<
     K: Naming + Send + Sync,
-    R: Threads + Wait + Sync,
+    R: Threads + Wait + Clock + Sync,
     G: Gate + Sync,
     O: Opener<R> + Sync,
     B: Beside<K, R>,
@@ -391,9 +412,13 @@ fn run_scoped<
     requires images { length cluster.now.plan.now.images.items ≡ K.cell.n }
     requires wired { IsWired K.cell.n cluster.now.inboxes.now ends.items }
     requires passes { vec_len passes ≡ K.cell.n }
+    requires same { B.Becomes beside beside }
     ensures long { IfOk result.0 (λ v. vec_len v ≡ K.cell.n) }
     ensures each { IfOk result.0 (λ v. AreEndsOf O.Store.is_clean cluster.now.plan.now.images.items
         cluster.now.inboxes.now K.cell.n v.items) }
+    ensures own { IfOk result.0 (λ v. AreOwnEnds cluster.now.plan.now K.cell.n v.items) }
+    ensures fault { IfErr result.0 (IsFaultOf K.cell.n) }
+    ensures beside { B.Becomes beside result.1 }
 {
     thread::scope(
         thread::scope_env(),
@@ -406,9 +431,13 @@ fn run_scoped<
             requires images { length cluster.now.plan.now.images.items ≡ K.cell.n }
             requires wired { IsWired K.cell.n cluster.now.inboxes.now ends.items }
             requires passes { vec_len passes ≡ K.cell.n }
+            requires same { B.Becomes beside beside }
             ensures long { IfOk result.0 (λ v. vec_len v ≡ K.cell.n) }
             ensures each { IfOk result.0 (λ v. AreEndsOf O.Store.is_clean cluster.entry.now.plan.now.images.items
                 cluster.entry.now.inboxes.now K.cell.n v.items) }
+            ensures own { IfOk result.0 (λ v. AreOwnEnds cluster.entry.now.plan.now K.cell.n v.items) }
+            ensures fault { IfErr result.0 (IsFaultOf K.cell.n) }
+            ensures beside { B.Becomes beside result.1 }
         {
             let Ok(handles) = Vec::with_capacity(cluster.alloc, passes.len()) else {
                 return (Err(RunFault::Memory), beside);
@@ -417,20 +446,43 @@ fn run_scoped<
                 return (Err(RunFault::NoThread), beside);
             };
             let beside = beside.attend(cluster);
-            let results = join_promised(cluster.rt, handles);
-            (results.map_err(|_| RunFault::Memory), beside)
+            match join_promised(cluster.rt, handles) {
+                Ok(results) => (Ok(results), beside),
+                Err(_) => (Err(RunFault::Memory), beside),
+            }
         },
     )
 }
 
+// Whether the worker's turns were out.
+fn is_out(fault: RunFault) -> bool
+    ensures { IsTrue result ↔ IsOut fault }
+{
+    match fault {
+        RunFault::Turns(_) => true,
+        RunFault::GateShut(_)
+        | RunFault::Memory
+        | RunFault::Fault(_)
+        | RunFault::Load(_)
+        | RunFault::NoThread => false,
+    }
+}
+
 // The fault that is told, of those that workers ended with.
-fn fault_of<S: Stable>(results: &[Result<Finished<S>, RunFault>]) -> Option<RunFault> {
+fn fault_of<S: Stable>(results: &[Result<Finished<S>, RunFault>]) -> Option<RunFault>
+    ensures none { IfNone result (AreBelow IsWell (length results.now) results.now) }
+    ensures least { IfSome result (IsLeastFault results.now) }
+{
     let mut last = None;
-    for result in results {
-        match result {
+    for i in 0..results.len() {
+        match &results[i] {
             Ok(_) => {}
-            Err(RunFault::Turns(pid)) => last = last.or(Some(RunFault::Turns(*pid))),
-            Err(fault) => return Some(*fault),
+            Err(fault) => {
+                if !is_out(*fault) {
+                    return Some(*fault);
+                }
+                last = last.or(Some(*fault));
+            }
         }
     }
     last
@@ -441,7 +493,8 @@ fn all_of<S: Stable>(
     alloc: Global,
     results: Vec<Result<Finished<S>, RunFault>>,
 ) -> Result<Vec<Finished<S>>, RunFault>
-    ensures { IfOk result (λ all. map Ok all.items ≡ results.items) }
+    ensures all { IfOk result (λ all. map Ok all.items ≡ results.items) }
+    ensures fault { IfErr result (λ f. IsLeastFault results.items f ⊎ (f ≡ Memory)) }
 {
     if let Some(fault) = fault_of(&results) {
         return Err(fault);
@@ -498,6 +551,8 @@ fn gathered<K: Naming, R: Wait, G, O: Opener<R>>(
     requires network { IsNetwork K.cell.n cluster.now.inboxes.now }
     requires long { vec_len results ≡ K.cell.n }
     requires each { AreEndsOf O.Store.is_clean cluster.now.plan.now.images.items cluster.now.inboxes.now K.cell.n results.items }
+    requires own { AreOwnEnds cluster.now.plan.now K.cell.n results.items }
+    requires some { 1 ≤ K.cell.n }
     ensures leaves { IfOk result (λ parts. AreLeaves (length cluster.now.inboxes.now) cluster.now.inboxes.now
         parts.puts.items parts.takes.items) }
     ensures statuses { IfOk result (λ parts. length parts.statuses.items ≡ length cluster.now.plan.now.images.items) }
@@ -505,6 +560,9 @@ fn gathered<K: Naming, R: Wait, G, O: Opener<R>>(
     ensures ended { IfOk result (λ parts. All IsEnd parts.statuses.items) }
     ensures along { IfOk result (λ parts. AreAlong O.Store.is_clean cluster.now.plan.now.images.items
         parts.statuses.items parts.stores.items) }
+    ensures given { OnOk result (IsGiven cluster.now.plan.now) }
+    ensures fault { IfErr result (λ f. IsLeastFault results.items f ⊎ (f ≡ Memory)) }
+    ensures own { IfErr result (IsFaultOf K.cell.n) }
 {
     let all = all_of(cluster.alloc, results)?;
     match parted(cluster.alloc, all) {
@@ -516,7 +574,7 @@ fn gathered<K: Naming, R: Wait, G, O: Opener<R>>(
 // What all workers of a cluster brought back, where each ended well; and what was beside them.
 pub(crate) fn run_workers<
     K: Naming + Send + Sync,
-    R: Threads + Wait + Sync,
+    R: Threads + Wait + Clock + Sync,
     G: Gate + Sync,
     O: Opener<R> + Sync,
     B: Beside<K, R>,
@@ -530,6 +588,8 @@ pub(crate) fn run_workers<
     requires images { length cluster.now.plan.now.images.items ≡ K.cell.n }
     requires wired { IsWired K.cell.n cluster.now.inboxes.now ends.items }
     requires passes { vec_len passes ≡ K.cell.n }
+    requires some { 1 ≤ K.cell.n }
+    requires same { B.Becomes beside beside }
     ensures leaves { IfOk result.0 (λ parts. AreLeaves (length cluster.now.inboxes.now) cluster.now.inboxes.now
         parts.puts.items parts.takes.items) }
     ensures statuses { IfOk result.0 (λ parts. length parts.statuses.items ≡ length cluster.now.plan.now.images.items) }
@@ -537,6 +597,9 @@ pub(crate) fn run_workers<
     ensures ended { IfOk result.0 (λ parts. All IsEnd parts.statuses.items) }
     ensures along { IfOk result.0 (λ parts. AreAlong O.Store.is_clean cluster.now.plan.now.images.items
         parts.statuses.items parts.stores.items) }
+    ensures given { OnOk result.0 (IsGiven cluster.now.plan.now) }
+    ensures fault { IfErr result.0 (IsFaultOf K.cell.n) }
+    ensures beside { B.Becomes beside result.1 }
 {
     let (results, beside) = run_scoped(cluster, ends, passes, beside);
     match results {
@@ -545,8 +608,29 @@ pub(crate) fn run_workers<
     }
 }
 
+// How all ended and their stores, once the inboxes are settled; what each process did; and the ends by which each takes.
+pub(crate) fn settled<K: Naming, R: Wait, G, O: Opener<R>>(
+    cluster: &Cluster<'_, K, R, G, O>,
+    parts: Parts<O::Store>,
+) -> (Vec<Status>, Vec<O::Store>, Vec<Witness>, Vec<Vec<TakePass>>)
+    requires leaves { AreLeaves (length cluster.now.inboxes.now) cluster.now.inboxes.now parts.puts.items parts.takes.items }
+    ensures statuses { result.0 ≡ parts.statuses }
+    ensures stores { result.1 ≡ parts.stores }
+    ensures settled { AreSettled (length parts.puts.items) parts.puts.items parts.takes.items result.3.items }
+{
+    let Parts {
+        statuses,
+        stores,
+        puts,
+        mut takes,
+        witnesses,
+    } = parts;
+    settle_all(cluster.rt, cluster.inboxes, puts, &mut takes);
+    (statuses, stores, witnesses, takes)
+}
+
 // Settles the inboxes, and reads the report from the board. The stores stand beside it, and what each process did.
-pub(crate) fn close<K: Naming, R: Wait, G: Gate, O: Opener<R>>(
+fn close<K: Naming, R: Wait, G: Gate, O: Opener<R>>(
     cluster: &Cluster<'_, K, R, G, O>,
     parts: Parts<O::Store>,
 ) -> Result<(Report, Vec<O::Store>, Vec<Witness>), RunFault>
@@ -562,15 +646,9 @@ pub(crate) fn close<K: Naming, R: Wait, G: Gate, O: Opener<R>>(
     ensures stores { IfOk result (λ r. length r.1.items ≡ length cluster.now.plan.now.images.items) }
     ensures ended { IfOk result (λ r. All IsEnd r.0.statuses.items) }
     ensures along { IfOk result (λ r. AreAlong O.Store.is_clean cluster.now.plan.now.images.items r.0.statuses.items r.1.items) }
+    ensures fault { IfErr result (λ f. f ≡ Memory) }
 {
-    let Parts {
-        statuses,
-        stores,
-        puts,
-        mut takes,
-        witnesses,
-    } = parts;
-    settle_all(cluster.rt, cluster.inboxes, puts, &mut takes);
+    let (statuses, stores, witnesses, _) = settled(cluster, parts);
     let board = cluster.shared.board.lock(cluster.rt);
     let Ok(report) = Report::of(cluster.alloc, board.manager(), statuses) else {
         return Err(RunFault::Memory);
@@ -580,7 +658,7 @@ pub(crate) fn close<K: Naming, R: Wait, G: Gate, O: Opener<R>>(
 
 fn run_named<
     K: Naming + Send + Sync,
-    R: Threads + Wait + Sync,
+    R: Threads + Wait + Clock + Sync,
     G: Gate + Sync,
     O: Opener<R> + Sync,
 >(
@@ -595,6 +673,7 @@ fn run_named<
 ) -> Result<(Report, Vec<O::Store>, Vec<Witness>), RunFault>
     requires named { blank ≡ K.cell }
     requires size { blank.n ≡ length plan.now.images.items }
+    requires some { 1 ≤ length plan.now.images.items }
     requires few { length plan.now.images.items ≤ MAX_PROCESSES }
     ensures released { IfOk result (λ r. AreAllReleased r.0.front.vec r.0.released.items) }
     ensures processes { IfOk result (λ r. length r.0.released.items ≡ length plan.now.images.items) }
@@ -602,6 +681,8 @@ fn run_named<
     ensures stores { IfOk result (λ r. length r.1.items ≡ length plan.now.images.items) }
     ensures ended { IfOk result (λ r. All IsEnd r.0.statuses.items) }
     ensures along { IfOk result (λ r. AreAlong O.Store.is_clean plan.now.images.items r.0.statuses.items r.1.items) }
+    ensures given { OnOk result (IsGiven plan.now) }
+    ensures fault { IfErr result (IsFaultOf (length plan.now.images.items)) }
 {
     let Ok((ground, ends, passes)) = ground_of::<K>(alloc, plan.images.len(), blank) else {
         return Err(RunFault::Memory);
@@ -625,7 +706,7 @@ fn run_named<
 
 /// Runs a cluster as [`run_cluster`] does, and hands back the store of each process beside the report. Where a process's store
 /// is clean, its status is that of a state along its image.
-pub fn run_and_keep_stores<R: Threads + Wait + Sync, G: Gate + Sync, O: Opener<R> + Sync>(
+pub fn run_and_keep_stores<R: Threads + Wait + Clock + Sync, G: Gate + Sync, O: Opener<R> + Sync>(
     rt: &R,
     alloc: Global,
     config: &Config,
@@ -640,6 +721,9 @@ pub fn run_and_keep_stores<R: Threads + Wait + Sync, G: Gate + Sync, O: Opener<R
     ensures stores { IfOk result (λ r. length r.1.items ≡ length config.now.images.items) }
     ensures ended { IfOk result (λ r. All IsEnd r.0.statuses.items) }
     ensures along { IfOk result (λ r. AreAlong O.Store.is_clean config.now.images.items r.0.statuses.items r.1.items) }
+    ensures turns { OnOk result (1 ≤ config.now.turns) }
+    ensures gate { OnOk result (1 ≤ config.now.gate_turns) }
+    ensures fault { IfErr result (IsFaultOf (length config.now.images.items)) }
 {
     let Ok(blank) = Blank::new(alloc, config.images.len()) else {
         return Err(RunFault::Memory);
@@ -658,7 +742,11 @@ pub fn run_and_keep_stores<R: Threads + Wait + Sync, G: Gate + Sync, O: Opener<R
 }
 
 /// Runs a cluster as [`run_cluster`] does, and hands back what each process did, but for what was rolled back, beside the report.
-pub fn run_and_keep_witnesses<R: Threads + Wait + Sync, G: Gate + Sync, O: Opener<R> + Sync>(
+pub fn run_and_keep_witnesses<
+    R: Threads + Wait + Clock + Sync,
+    G: Gate + Sync,
+    O: Opener<R> + Sync,
+>(
     rt: &R,
     alloc: Global,
     config: &Config,
@@ -673,6 +761,9 @@ pub fn run_and_keep_witnesses<R: Threads + Wait + Sync, G: Gate + Sync, O: Opene
     ensures ended { IfOk result (λ r. All IsEnd r.0.statuses.items) }
     ensures along { ((store : O.Store) → IsTrue (O.Store.is_clean store))
         → IfOk result (λ r. AreStatusesAlong config.now.images.items r.0.statuses.items) }
+    ensures turns { OnOk result (1 ≤ config.now.turns) }
+    ensures gate { OnOk result (1 ≤ config.now.gate_turns) }
+    ensures fault { IfErr result (IsFaultOf (length config.now.images.items)) }
 {
     let Ok(blank) = Blank::new(alloc, config.images.len()) else {
         return Err(RunFault::Memory);
@@ -692,7 +783,7 @@ pub fn run_and_keep_witnesses<R: Threads + Wait + Sync, G: Gate + Sync, O: Opene
 
 /// Runs a cluster as [`run_cluster`] does, while `recorder` takes in what its threads do. A process then notes what it stored before
 /// it runs on. What was taken in of a run that is refused stands in the recorder.
-pub fn run_and_record<R: Threads + Wait + Sync, G: Gate + Sync, O: Opener<R> + Sync>(
+pub fn run_and_record<R: Threads + Wait + Clock + Sync, G: Gate + Sync, O: Opener<R> + Sync>(
     rt: &R,
     alloc: Global,
     config: &Config,
@@ -708,6 +799,9 @@ pub fn run_and_record<R: Threads + Wait + Sync, G: Gate + Sync, O: Opener<R> + S
     ensures ended { IfOk result (λ report. All IsEnd report.statuses.items) }
     ensures along { ((store : O.Store) → IsTrue (O.Store.is_clean store))
         → IfOk result (λ report. AreStatusesAlong config.now.images.items report.statuses.items) }
+    ensures turns { OnOk result (1 ≤ config.now.turns) }
+    ensures gate { OnOk result (1 ≤ config.now.gate_turns) }
+    ensures fault { IfErr result (IsFaultOf (length config.now.images.items)) }
 {
     let Ok(blank) = Blank::new(alloc, config.images.len()) else {
         return Err(RunFault::Memory);
@@ -735,7 +829,7 @@ pub fn run_and_record<R: Threads + Wait + Sync, G: Gate + Sync, O: Opener<R> + S
 /// Refused with `NoThread` where a thread could not be made; else with the fault of the least process that has one other
 /// than `Turns`; else with `Turns`. With `Memory` also where memory runs out before or after the threads. The stores of a
 /// run that is refused are dropped as they are.
-pub fn run_cluster<R: Threads + Wait + Sync, G: Gate + Sync, O: Opener<R> + Sync>(
+pub fn run_cluster<R: Threads + Wait + Clock + Sync, G: Gate + Sync, O: Opener<R> + Sync>(
     rt: &R,
     alloc: Global,
     config: &Config,
@@ -750,6 +844,9 @@ pub fn run_cluster<R: Threads + Wait + Sync, G: Gate + Sync, O: Opener<R> + Sync
     ensures ended { IfOk result (λ report. All IsEnd report.statuses.items) }
     ensures along { ((store : O.Store) → IsTrue (O.Store.is_clean store))
         → IfOk result (λ report. AreStatusesAlong config.now.images.items report.statuses.items) }
+    ensures turns { OnOk result (1 ≤ config.now.turns) }
+    ensures gate { OnOk result (1 ≤ config.now.gate_turns) }
+    ensures fault { IfErr result (IsFaultOf (length config.now.images.items)) }
 {
     let (report, _) = run_and_keep_stores(rt, alloc, config, gate, opener)?;
     Ok(report)

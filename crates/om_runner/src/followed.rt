@@ -1,11 +1,15 @@
 //! A cluster whose outputs are told as they are released.
 
-ghost use Rattle.std.specs.Prelude.{◌≡◌, ◌≤◌, All, IfOk, IsTrue, length};
+ghost use Rattle.std.specs.Prelude.{◌≡◌, ◌≢◌, ◌≤◌, [], All, IfErr, IfOk, IsTrue, List, length};
 ghost use Rattle.om_board.specs.Released.{AreAllReleased};
 ghost use Rattle.om_interval.specs.declared.pid.TheConstants.{MAX_PROCESSES};
 ghost use Rattle.om_runner.specs.Reports.{AreAlong, AreStatusesAlong, IsEnd};
+ghost use Rattle.om_runner.specs.Telling.{AreInOrder, TellsAll, Told};
+ghost use Rattle.om_runner.specs.declared.follower.FollowFault.TheVariants.{Unwanted};
+ghost use Rattle.om_runner.specs.steps.Following.{IsFollowed};
+ghost use Rattle.om_runner.specs.steps.Settling.{AreLeaves};
 
-use crate::cluster::{close, run_workers};
+use crate::cluster::{Parts, run_workers, settled};
 use crate::config::Config;
 use crate::diary::Listeners;
 use crate::fault::RunFault;
@@ -20,10 +24,14 @@ use std::alloc::Global;
 use std::marker::Brand;
 use std::sync::Wait;
 use std::thread::Threads;
+use std::time::Clock;
 
-// It tells a follower of what they release. A follower that wants no more stops them.
-impl<'h, K: Naming, R: Wait, F: Follower> Beside<K, R> for Following<'h, F> {
-    fn attend<G, O>(self, cluster: &Cluster<'_, K, R, G, O>) -> Following<'h, F> {
+// It tells a follower of what they release. Where the run is to come to no end, it stops them.
+impl<'h, K: Naming, R: Wait, F: Follower> Beside<K, R> for Following<'h, K, F> {
+    ghost Becomes = { λ old new. (start : F) → IsFollowed F.Tells start old.lanes.items old.fault old.follower
+        → IsFollowed F.Tells start new.lanes.items new.fault new.follower };
+
+    fn attend<G, O>(self, cluster: &Cluster<'_, K, R, G, O>) -> Following<'h, K, F> {
         let n = cluster.bells.len();
         let following = self.follow(cluster.rt, cluster.alloc, cluster.shared, n);
         if following.is_over() {
@@ -33,10 +41,49 @@ impl<'h, K: Naming, R: Wait, F: Follower> Beside<K, R> for Following<'h, F> {
     }
 }
 
+// All workers have ended: the follower is told of the rest. With the report of what it was told, and the stores.
+fn close<K: Naming, R: Wait, G, O: Opener<R>, F: Follower>(
+    cluster: &Cluster<'_, K, R, G, O>,
+    parts: Result<Parts<O::Store>, RunFault>,
+    following: Following<'_, K, F>,
+) -> (Result<(Report, Vec<O::Store>), FollowFault>, F)
+    requires images { length cluster.now.plan.now.images.items ≡ K.cell.n }
+    requires leaves { IfOk parts (λ p. AreLeaves (length cluster.now.inboxes.now) cluster.now.inboxes.now p.puts.items p.takes.items) }
+    requires statuses { IfOk parts (λ p. length p.statuses.items ≡ length cluster.now.plan.now.images.items) }
+    requires stores { IfOk parts (λ p. length p.stores.items ≡ length cluster.now.plan.now.images.items) }
+    requires ended { IfOk parts (λ p. All IsEnd p.statuses.items) }
+    requires along { IfOk parts (λ p. AreAlong O.Store.is_clean cluster.now.plan.now.images.items p.statuses.items p.stores.items) }
+    ensures released { IfOk result.0 (λ r. AreAllReleased r.0.front.vec r.0.released.items) }
+    ensures processes { IfOk result.0 (λ r. length r.0.released.items ≡ length cluster.now.plan.now.images.items) }
+    ensures statuses { IfOk result.0 (λ r. length r.0.statuses.items ≡ length cluster.now.plan.now.images.items) }
+    ensures stores { IfOk result.0 (λ r. length r.1.items ≡ length cluster.now.plan.now.images.items) }
+    ensures ended { IfOk result.0 (λ r. All IsEnd r.0.statuses.items) }
+    ensures along { IfOk result.0 (λ r. AreAlong O.Store.is_clean cluster.now.plan.now.images.items r.0.statuses.items r.1.items) }
+    ensures told { (start : F) → IsFollowed F.Tells start following.entry.lanes.items following.entry.fault following.entry.follower
+        → IfOk result.0 (λ r. (told : List Told) × F.Tells start result.1 told × TellsAll told r.0.released.items) }
+    ensures partly { (start : F) → IsFollowed F.Tells start following.entry.lanes.items following.entry.fault following.entry.follower
+        → IfErr result.0 (λ fault. fault ≢ Unwanted → (told : List Told) × F.Tells start result.1 told × AreInOrder told) }
+{
+    let following = following.look(cluster.rt, cluster.alloc, cluster.shared);
+    let parts = match parts {
+        Ok(parts) => parts,
+        Err(fault) => {
+            let (fault, follower) = following.into_fault(fault);
+            return (Err(fault), follower);
+        }
+    };
+    let (statuses, stores, _, _) = settled(cluster, parts);
+    let (report, follower) = following.into_report(cluster.alloc, statuses);
+    match report {
+        Ok(report) => (Ok((report, stores)), follower),
+        Err(fault) => (Err(fault), follower),
+    }
+}
+
 fn run_named<
     'x,
     K: Naming + Send + Sync,
-    R: Threads + Wait + Sync,
+    R: Threads + Wait + Clock + Sync,
     G: Gate + Sync,
     O: Opener<R> + Sync,
     F: Follower,
@@ -51,19 +98,23 @@ fn run_named<
 ) -> (Result<(Report, Vec<O::Store>), FollowFault>, F)
     requires named { blank ≡ K.cell }
     requires size { blank.n ≡ length plan.now.images.items }
+    requires some { 1 ≤ length plan.now.images.items }
     requires few { length plan.now.images.items ≤ MAX_PROCESSES }
+    requires start { F.Tells follower follower [] }
     ensures released { IfOk result.0 (λ r. AreAllReleased r.0.front.vec r.0.released.items) }
     ensures processes { IfOk result.0 (λ r. length r.0.released.items ≡ length plan.now.images.items) }
     ensures statuses { IfOk result.0 (λ r. length r.0.statuses.items ≡ length plan.now.images.items) }
     ensures stores { IfOk result.0 (λ r. length r.1.items ≡ length plan.now.images.items) }
     ensures ended { IfOk result.0 (λ r. All IsEnd r.0.statuses.items) }
     ensures along { IfOk result.0 (λ r. AreAlong O.Store.is_clean plan.now.images.items r.0.statuses.items r.1.items) }
+    ensures told { IfOk result.0 (λ r. (told : List Told) × F.Tells follower result.1 told × TellsAll told r.0.released.items) }
+    ensures partly { IfErr result.0 (λ fault. fault ≢ Unwanted → (told : List Told) × F.Tells follower result.1 told × AreInOrder told) }
 {
     let Ok((ground, ends, passes)) = ground_of::<K>(alloc, plan.images.len(), blank) else {
         return (Err(FollowFault::Run(RunFault::Memory)), follower);
     };
     let herald = Herald::new(alloc);
-    let following = match Following::new(alloc, &herald, plan.images.len(), follower) {
+    let following = match Following::new(rt, alloc, &ground.shared, &herald, follower) {
         Ok(following) => following,
         Err(follower) => return (Err(FollowFault::Run(RunFault::Memory)), follower),
     };
@@ -81,27 +132,22 @@ fn run_named<
         bells: &ground.bells,
     };
     let (parts, following) = run_workers(&cluster, ends, passes, following);
-    let (follower, fault) = following.into_follower();
-    if let Some(fault) = fault {
-        return (Err(fault), follower);
-    }
-    let parts = match parts {
-        Ok(parts) => parts,
-        Err(fault) => return (Err(FollowFault::Run(fault)), follower),
-    };
-    match close(&cluster, parts) {
-        Ok((report, stores, _)) => (Ok((report, stores)), follower),
-        Err(fault) => (Err(FollowFault::Run(fault)), follower),
-    }
+    close(&cluster, parts, following)
 }
 
 /// Runs a cluster as [`run_cluster`](crate::run_cluster) does, and tells `follower` of its outputs as they are released: those of a
-/// process in order and each once, those of different processes in the order in which they were released. Where a run is refused,
-/// the follower was told of what was released by then. It comes back beside the report.
+/// process in order and each once, those of different processes in the order in which they were released. It comes back beside the
+/// report, which is of what it was told. Where a run is refused, it was told of what was released by then; of less where memory
+/// ran out for what is released, or it wanted no more.
 ///
 /// Refused with `Unwanted` where the follower wanted no more, which stops all workers; else as `run_cluster` is, and with `Memory`
 /// also where memory ran out for what is released.
-pub fn run_and_follow<R: Threads + Wait + Sync, G: Gate + Sync, O: Opener<R> + Sync, F: Follower>(
+pub fn run_and_follow<
+    R: Threads + Wait + Clock + Sync,
+    G: Gate + Sync,
+    O: Opener<R> + Sync,
+    F: Follower,
+>(
     rt: &R,
     alloc: Global,
     config: &Config,
@@ -111,12 +157,15 @@ pub fn run_and_follow<R: Threads + Wait + Sync, G: Gate + Sync, O: Opener<R> + S
 ) -> (Result<Report, FollowFault>, F)
     requires some { 1 ≤ length config.now.images.items }
     requires few { length config.now.images.items ≤ MAX_PROCESSES }
+    requires start { F.Tells follower follower [] }
     ensures released { IfOk result.0 (λ report. AreAllReleased report.front.vec report.released.items) }
     ensures processes { IfOk result.0 (λ report. length report.released.items ≡ length config.now.images.items) }
     ensures statuses { IfOk result.0 (λ report. length report.statuses.items ≡ length config.now.images.items) }
     ensures ended { IfOk result.0 (λ report. All IsEnd report.statuses.items) }
     ensures along { ((store : O.Store) → IsTrue (O.Store.is_clean store))
         → IfOk result.0 (λ report. AreStatusesAlong config.now.images.items report.statuses.items) }
+    ensures told { IfOk result.0 (λ report. (told : List Told) × F.Tells follower result.1 told × TellsAll told report.released.items) }
+    ensures partly { IfErr result.0 (λ fault. fault ≢ Unwanted → (told : List Told) × F.Tells follower result.1 told × AreInOrder told) }
 {
     let Ok(blank) = Blank::new(alloc, config.images.len()) else {
         return (Err(FollowFault::Run(RunFault::Memory)), follower);

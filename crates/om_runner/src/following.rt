@@ -1,67 +1,95 @@
 //! A follower while the cluster runs.
 
+ghost use Rattle.std.specs.Prelude.{◌≡◌, ◌≢◌, ◌≤◌, ℕ, List, [], None, Some, IfErr, IfOk, IsTrue, map, slice_get, vec_len};
+ghost use Rattle.om_board.specs.Released.{AreAllReleased, AreReleased};
+ghost use Rattle.om_interval.specs.declared.pid.TheConstants.{MAX_PROCESSES};
+ghost use Rattle.om_manager.specs.State.{size_of};
+ghost use Rattle.om_runner.specs.Telling.{AreInOrder, TellsAll, Told};
+ghost use Rattle.om_runner.specs.declared.follower.FollowFault.TheVariants.{Unwanted};
+ghost use Rattle.om_runner.specs.steps.Following.{AreEmpty, AreKept, AreTold, HasTold, HaveTold, IsFollowed, StayKept, told_in};
+
 use crate::fault::RunFault;
 use crate::follower::{FollowFault, Follower};
 use crate::herald::{Herald, Release};
-use om_board::{Naming, Shared};
-use om_interval::Pid;
+use crate::lane::Lane;
+use om_board::{Front, Naming, Pass, Report, Shared, copy_of};
+use om_interval::{MAX_PROCESSES, Pid};
 use om_manager::{Manager, Output};
+use om_process::Status;
 use std::alloc::{AllocError, Global};
 use std::sync::Wait;
 
-// The outputs of a process that are released and were copied, and of how many of them the follower was told.
-#[derive(Drop)]
-struct Lane {
-    outputs: Vec<Output>,
-    told: usize,
-}
-
 // A follower, and what is released as far as it looked.
 #[derive(Drop)]
-pub(crate) struct Following<'a, F: Follower> {
+pub(crate) struct Following<'a, K: Naming, F: Follower> {
     herald: &'a Herald,
-    follower: F,
+    pub(crate) follower: F,
     // By process.
-    lanes: Vec<Lane>,
-    // Why it is told no more, if it is not.
-    fault: Option<FollowFault>,
+    pub(crate) lanes: Vec<Lane>,
+    // Why the run is to come to no end.
+    pub(crate) fault: Option<FollowFault>,
+    // As it was when it looked last.
+    front: Front,
+    pass: Pass<K>,
+    ghost many: { vec_len lanes ≡ K.cell.n },
+    ghost few: { K.cell.n ≤ MAX_PROCESSES },
+    ghost kept: { AreKept front.vec lanes.items },
+    ghost stay: { StayKept pass lanes.items },
 }
 
-// So many lanes without an output.
-fn empty_lanes(alloc: Global, n: usize) -> Result<Vec<Lane>, AllocError> {
+// A lane without an output.
+fn empty_lane(alloc: Global) -> Lane
+    ensures { result.outputs.items ≡ [] }
+{
+    Lane {
+        outputs: Vec::new(alloc),
+        told: 0,
+    }
+}
+
+// So many of them.
+fn empty_lanes(alloc: Global, n: usize) -> Result<Vec<Lane>, AllocError>
+    ensures many { IfOk result (λ lanes. vec_len lanes ≡ n) }
+    ensures empty { IfOk result (λ lanes. AreEmpty lanes.items) }
+{
     let mut lanes = Vec::with_capacity(alloc, n)?;
     for _ in 0..n {
-        lanes.push(Lane {
-            outputs: Vec::new(alloc),
-            told: 0,
-        })?;
+        lanes.push_reserved(empty_lane(alloc));
     }
     Ok(lanes)
 }
 
 // Adds what is released of a process beyond what is there.
-fn add_new(alloc: Global, lane: &mut Lane, released: &[Output]) -> Result<(), AllocError> {
+fn add_new(alloc: Global, lane: &mut Lane, released: &[Output]) -> Result<(), AllocError>
+    ensures same { (p : ℕ) → told_in p (Some lane.new) ≡ told_in p (Some lane.old) }
+    ensures kept { (limit : ℕ) → AreReleased limit lane.old.outputs.items → AreReleased limit released.now
+        → AreReleased limit lane.new.outputs.items }
+{
     for i in lane.outputs.len()..released.len() {
-        let output = &released[i];
-        lane.outputs.push(Output {
-            seq: output.seq,
-            interval: output.interval,
-            bytes: Vec::from_slice(alloc, &output.bytes)?,
-        })?;
+        lane.outputs.push(copy_of(alloc, &released[i])?)?;
     }
     Ok(())
 }
 
 // Adds what the manager has released beyond what is there.
-fn add_all(alloc: Global, lanes: &mut Vec<Lane>, manager: &Manager) -> Result<(), AllocError> {
-    for p in 0..lanes.len().min(manager.recovery().n()) {
+fn add_all(alloc: Global, lanes: &mut Vec<Lane>, manager: &Manager) -> Result<(), AllocError>
+    requires { vec_len lanes.old ≡ size_of manager.now }
+    ensures many { vec_len lanes.new ≡ vec_len lanes.old }
+    ensures same { (p : ℕ) → told_in p (slice_get lanes.new.items p) ≡ told_in p (slice_get lanes.old.items p) }
+    ensures kept { AreKept manager.now.recovery lanes.old.items → AreKept manager.now.recovery lanes.new.items }
+{
+    for p in 0..manager.recovery().n() {
         add_new(alloc, &mut lanes[p], manager.released(Pid::at(p)))?;
     }
     Ok(())
 }
 
 // Tells of the outputs of a process below a number, those that are there.
-fn tell_below<F: Follower>(follower: &mut F, lane: &mut Lane, pid: Pid, below: usize) -> bool {
+fn tell_below<F: Follower>(follower: &mut F, lane: &mut Lane, pid: Pid, below: usize) -> bool
+    ensures outputs { lane.new.outputs ≡ lane.old.outputs }
+    ensures told { IsTrue result → HasTold F.Tells pid lane.old follower.old lane.new follower.new }
+    ensures all { IsTrue result → vec_len lane.old.outputs ≤ below → lane.new.told ≡ vec_len lane.new.outputs }
+{
     let end = below.min(lane.outputs.len());
     for i in lane.told..end {
         if !follower.tell(pid, &lane.outputs[i]) {
@@ -72,31 +100,99 @@ fn tell_below<F: Follower>(follower: &mut F, lane: &mut Lane, pid: Pid, below: u
     true
 }
 
+// Tells of the outputs of a process below a number, if there is such a process.
+fn tell_release<F: Follower>(follower: &mut F, lanes: &mut Vec<Lane>, release: Release) -> bool
+    ensures many { vec_len lanes.new ≡ vec_len lanes.old }
+    ensures kept { (vec : List ℕ) → AreKept vec lanes.old.items → AreKept vec lanes.new.items }
+    ensures told { IsTrue result → HaveTold F.Tells lanes.old.items follower.old lanes.new.items follower.new }
+{
+    let Release { process, below } = release;
+    let p = process.index();
+    if p >= lanes.len() {
+        return true;
+    }
+    tell_below(follower, &mut lanes[p], process, below)
+}
+
 // Tells of what was released, in order.
-fn tell_in_order<F: Follower>(
-    follower: &mut F,
-    lanes: &mut Vec<Lane>,
-    releases: &[Release],
-) -> bool {
+fn tell_in_order<F: Follower>(follower: &mut F, lanes: &mut Vec<Lane>, releases: &[Release]) -> bool
+    ensures many { vec_len lanes.new ≡ vec_len lanes.old }
+    ensures kept { (vec : List ℕ) → AreKept vec lanes.old.items → AreKept vec lanes.new.items }
+    ensures told { IsTrue result → HaveTold F.Tells lanes.old.items follower.old lanes.new.items follower.new }
+{
     for release in releases {
-        let Release { process, below } = *release;
-        let p = process.index();
-        if p < lanes.len() && !tell_below(follower, &mut lanes[p], process, below) {
+        if !tell_release(follower, lanes, *release) {
             return false;
         }
+    }
+    true
+}
+
+// Tells of all that is there.
+fn tell_rest<F: Follower>(follower: &mut F, lanes: &mut Vec<Lane>) -> bool
+    requires { vec_len lanes.old ≤ MAX_PROCESSES }
+    ensures many { vec_len lanes.new ≡ vec_len lanes.old }
+    ensures kept { (vec : List ℕ) → AreKept vec lanes.old.items → AreKept vec lanes.new.items }
+    ensures told { IsTrue result → HaveTold F.Tells lanes.old.items follower.old lanes.new.items follower.new }
+    ensures all { IsTrue result → AreTold lanes.new.items }
+{
+    for p in 0..lanes.len() {
+        if !tell_below(follower, &mut lanes[p], Pid::at(p), usize::MAX) {
+            return false;
+        }
+    }
+    true
+}
+
+// Tells of all that is there: in the order of its release, as far as that is known.
+fn tell_all<F: Follower>(follower: &mut F, lanes: &mut Vec<Lane>, releases: &[Release]) -> bool
+    requires { vec_len lanes.old ≤ MAX_PROCESSES }
+    ensures many { vec_len lanes.new ≡ vec_len lanes.old }
+    ensures kept { (vec : List ℕ) → AreKept vec lanes.old.items → AreKept vec lanes.new.items }
+    ensures told { IsTrue result → HaveTold F.Tells lanes.old.items follower.old lanes.new.items follower.new }
+    ensures all { IsTrue result → AreTold lanes.new.items }
+{
+    if !tell_in_order(follower, lanes, releases) {
+        return false;
+    }
+    if !tell_rest(follower, lanes) {
+        return false;
     }
     follower.pause()
 }
 
-impl<'a, F: Follower> Following<'a, F> {
-    // Of n processes at their start. The follower comes back where memory runs out.
-    pub(crate) fn new(
+// The outputs of each lane.
+fn outputs_of(alloc: Global, lanes: Vec<Lane>) -> Result<Vec<Vec<Output>>, AllocError>
+    ensures { IfOk result (λ outputs. outputs.items ≡ map (λ lane. lane.outputs) lanes.items) }
+{
+    let mut all = Vec::with_capacity(alloc, lanes.len())?;
+    for lane in lanes {
+        let Lane { outputs, .. } = lane;
+        all.push_reserved(outputs);
+    }
+    Ok(all)
+}
+
+impl<'a, K: Naming, F: Follower> Following<'a, K, F> {
+    // Of a cluster that is to run. The follower comes back where memory runs out.
+    pub(crate) fn new<R: Wait>(
+        rt: &R,
         alloc: Global,
+        shared: &Shared<K>,
         herald: &'a Herald,
-        n: usize,
         follower: F,
-    ) -> Result<Following<'a, F>, F> {
-        let Ok(lanes) = empty_lanes(alloc, n) else {
+    ) -> Result<Following<'a, K, F>, F>
+        ensures follower { IfOk result (λ f. f.follower ≡ follower) }
+        ensures none { IfOk result (λ f. AreEmpty f.lanes.items) }
+        ensures back { IfErr result (λ f. f ≡ follower) }
+    {
+        let mut guard = shared.board.lock(rt);
+        let board = &mut *guard;
+        let pass = board.pass(&shared.frontier);
+        let (front, pass) = shared.frontier.meet(rt, board, pass);
+        // The look tells what holds of every board.
+        let manager = board.manager();
+        let Ok(lanes) = empty_lanes(alloc, manager.recovery().n()) else {
             return Err(follower);
         };
         Ok(Following {
@@ -104,27 +200,63 @@ impl<'a, F: Follower> Following<'a, F> {
             follower,
             lanes,
             fault: None,
+            front,
+            pass,
         })
     }
 
-    // Tells of what was released by now, in the order in which it was. The lock is held only to copy what is new.
-    fn look<K: Naming, R: Wait>(
+    // Copies what is released by now, and gives the order in which it was, as far as that is known.
+    fn take_in<R: Wait>(
         self,
         rt: &R,
         alloc: Global,
         shared: &Shared<K>,
-    ) -> Following<'a, F> {
+    ) -> (Following<'a, K, F>, Vec<Release>)
+        ensures followed { (start : F) → IsFollowed F.Tells start self.entry.lanes.items self.entry.fault self.entry.follower
+            → IsFollowed F.Tells start result.0.lanes.items result.0.fault result.0.follower }
+    {
+        let Following {
+            herald,
+            follower,
+            mut lanes,
+            mut fault,
+            pass,
+            ..
+        } = self;
+        let mut guard = shared.board.lock(rt);
+        let board = &mut *guard;
+        let (front, pass) = shared.frontier.meet(rt, board, pass);
+        let releases = herald.releases(rt);
+        if add_all(alloc, &mut lanes, board.manager()).is_err() {
+            fault = fault.or(Some(FollowFault::Run(RunFault::Memory)));
+        }
+        let following = Following {
+            herald,
+            follower,
+            lanes,
+            fault,
+            front,
+            pass,
+        };
+        (following, releases)
+    }
+
+    // Tells of all that is there.
+    fn tell(self, releases: &[Release]) -> Following<'a, K, F>
+        ensures followed { (start : F) → IsFollowed F.Tells start self.entry.lanes.items self.entry.fault self.entry.follower
+            → IsFollowed F.Tells start result.lanes.items result.fault result.follower }
+        ensures all { result.fault ≡ None → AreTold result.lanes.items }
+    {
         let Following {
             herald,
             mut follower,
             mut lanes,
             mut fault,
+            front,
+            pass,
+            ..
         } = self;
-        let releases = herald.releases(rt);
-        if fault.is_none() {
-            fault = take_in(rt, alloc, shared, &mut lanes);
-        }
-        if fault.is_none() && !tell_in_order(&mut follower, &mut lanes, &releases) {
+        if !tell_all(&mut follower, &mut lanes, releases) {
             fault = Some(FollowFault::Unwanted);
         }
         Following {
@@ -132,22 +264,44 @@ impl<'a, F: Follower> Following<'a, F> {
             follower,
             lanes,
             fault,
+            front,
+            pass,
         }
     }
 
-    // Tells of what is released until so many workers have ended, or the follower is told no more.
-    pub(crate) fn follow<K: Naming, R: Wait>(
+    // Tells of what was released by now, in the order in which it was. The lock is held only to copy what is new.
+    pub(crate) fn look<R: Wait>(
+        self,
+        rt: &R,
+        alloc: Global,
+        shared: &Shared<K>,
+    ) -> Following<'a, K, F>
+        ensures followed { (start : F) → IsFollowed F.Tells start self.entry.lanes.items self.entry.fault self.entry.follower
+            → IsFollowed F.Tells start result.lanes.items result.fault result.follower }
+        ensures all { result.fault ≡ None → AreTold result.lanes.items }
+    {
+        if self.fault == Some(FollowFault::Unwanted) {
+            return self;
+        }
+        let (following, releases) = self.take_in(rt, alloc, shared);
+        following.tell(&releases)
+    }
+
+    // Tells of what is released until so many workers have ended, or the run is to come to no end.
+    pub(crate) fn follow<R: Wait>(
         self,
         rt: &R,
         alloc: Global,
         shared: &Shared<K>,
         n: usize,
-    ) -> Following<'a, F> {
+    ) -> Following<'a, K, F>
+        ensures { (start : F) → IsFollowed F.Tells start self.entry.lanes.items self.entry.fault self.entry.follower
+            → IsFollowed F.Tells start result.lanes.items result.fault result.follower }
+    {
         let mut following = self;
         for _ in rt.forever() {
-            let is_over = following.herald.have_ended(n);
             following = following.look(rt, alloc, shared);
-            if is_over || following.fault.is_some() {
+            if following.is_over() || following.herald.have_ended(n) {
                 break;
             }
             following.herald.sleep(rt);
@@ -155,32 +309,58 @@ impl<'a, F: Follower> Following<'a, F> {
         following
     }
 
-    // Whether the follower is told no more.
+    // Whether the run is to come to no end.
     pub(crate) fn is_over(&self) -> bool {
         self.fault.is_some()
     }
 
-    // The follower, and why it was told no more.
-    pub(crate) fn into_follower(self) -> (F, Option<FollowFault>) {
+    // The follower, where the workers came to no end.
+    pub(crate) fn into_fault(self, fault: RunFault) -> (FollowFault, F)
+        ensures follower { result.1 ≡ self.entry.follower }
+        ensures partly { (start : F) → IsFollowed F.Tells start self.entry.lanes.items self.entry.fault self.entry.follower
+            → result.0 ≢ Unwanted → (told : List Told) × F.Tells start result.1 told × AreInOrder told }
+    {
         let Following {
             follower,
-            fault,
+            fault: own,
             ..
         } = self;
-        (follower, fault)
+        (own.unwrap_or(FollowFault::Run(fault)), follower)
     }
-}
 
-// Copies what is released by now and was not copied, or says why it cannot.
-fn take_in<K: Naming, R: Wait>(
-    rt: &R,
-    alloc: Global,
-    shared: &Shared<K>,
-    lanes: &mut Vec<Lane>,
-) -> Option<FollowFault> {
-    let guard = shared.board.lock(rt);
-    match add_all(alloc, lanes, guard.manager()) {
-        Ok(()) => None,
-        Err(_) => Some(FollowFault::Run(RunFault::Memory)),
+    // The follower, and a report of what it was told.
+    pub(crate) fn into_report(
+        self,
+        alloc: Global,
+        statuses: Vec<Status>,
+    ) -> (Result<Report, FollowFault>, F)
+        requires { self.fault ≡ None → AreTold self.lanes.items }
+        ensures released { IfOk result.0 (λ r. AreAllReleased r.front.vec r.released.items) }
+        ensures processes { IfOk result.0 (λ r. vec_len r.released ≡ K.cell.n) }
+        ensures statuses { IfOk result.0 (λ r. r.statuses ≡ statuses) }
+        ensures told { (start : F) → IsFollowed F.Tells start self.entry.lanes.items self.entry.fault self.entry.follower
+            → IfOk result.0 (λ r. (told : List Told) × F.Tells start result.1 told × TellsAll told r.released.items) }
+        ensures partly { (start : F) → IsFollowed F.Tells start self.entry.lanes.items self.entry.fault self.entry.follower
+            → IfErr result.0 (λ fault. fault ≢ Unwanted → (told : List Told) × F.Tells start result.1 told × AreInOrder told) }
+    {
+        let Following {
+            follower,
+            lanes,
+            fault,
+            front,
+            ..
+        } = self;
+        if let Some(fault) = fault {
+            return (Err(fault), follower);
+        }
+        let Ok(released) = outputs_of(alloc, lanes) else {
+            return (Err(FollowFault::Run(RunFault::Memory)), follower);
+        };
+        let report = Report {
+            released,
+            statuses,
+            front,
+        };
+        (Ok(report), follower)
     }
 }

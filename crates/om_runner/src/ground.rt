@@ -85,8 +85,12 @@ pub(crate) fn stop_all<K: Naming, R, G, O>(cluster: &Cluster<'_, K, R, G, O>) {
 
 // What the thread that starts the others does beside them.
 pub(crate) trait Beside<K: Naming, R>: Drop {
+    // What it may have become.
+    ghost Becomes: { Self → Self → Type 0 };
+
     // Until the others have ended.
-    fn attend<G, O>(self, cluster: &Cluster<'_, K, R, G, O>) -> Self;
+    fn attend<G, O>(self, cluster: &Cluster<'_, K, R, G, O>) -> Self
+        ensures { Becomes self result };
 }
 
 // It waits for them.
@@ -94,6 +98,8 @@ pub(crate) trait Beside<K: Naming, R>: Drop {
 pub(crate) struct Alone;
 
 impl<K: Naming, R> Beside<K, R> for Alone {
+    ghost Becomes = { λ _ _. Unit {0} };
+
     fn attend<G, O>(self, _cluster: &Cluster<'_, K, R, G, O>) -> Alone {
         self
     }

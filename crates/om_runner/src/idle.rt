@@ -6,8 +6,7 @@ ghost use Rattle.om_runner.specs.declared.idle.TheConstants.{FIRST_SLEEP, IDLE_T
 /// After how many turns in which nothing happened a worker resends the messages that are kept.
 pub const IDLE_TURNS: u32 = 1_024;
 
-// A worker sleeps from the first of them on: beside busy programs a yield costs it a time slice, and a sleep that is ended nothing.
-// How long it sleeps first, and at most, in milliseconds.
+// How long a worker sleeps first, and at most, in milliseconds.
 const FIRST_SLEEP: u64 = 1;
 
 const LONGEST_SLEEP: u64 = 1_000;
@@ -15,7 +14,7 @@ const LONGEST_SLEEP: u64 = 1_000;
 // How a worker passed a turn in which nothing happened.
 #[derive(Clone, Copy, PartialEq, Eq)]
 pub(crate) enum Pause {
-    // Its sleep was ended.
+    // It was woken, while it yielded or slept.
     Woken,
     // Nobody ended its sleep.
     Slept,
@@ -67,6 +66,13 @@ impl Idle {
         ensures { result ≡ self.now.sleep }
     {
         self.sleep
+    }
+
+    // Whether no sleep has passed to its end since something happened.
+    pub(crate) fn is_fresh(&self) -> bool
+        ensures { IsTrue result ↔ self.now.sleep ≡ FIRST_SLEEP }
+    {
+        self.sleep == FIRST_SLEEP
     }
 
     // A message comes that was received before: nothing happens, but for the turns.

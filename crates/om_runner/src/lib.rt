@@ -10,11 +10,14 @@
 //!   did)
 //! - `cluster`: the threads, from the first store to the report; `network` (the inboxes of all), `settle` (what is left in
 //!   them)
-//! - `worker`: what a thread does, turn by turn; `idle` and `bell` (how it sleeps and is woken), `trouble` (why it stops)
+//! - `worker`: what a thread does, turn by turn; `idle`, `patience` and `bell` (how it yields, sleeps and is woken),
+//!   `trouble` (why it stops)
 //! - what a worker has: `node` (a process over its store), `links` (its ends of inboxes), `contact` and `desk` (the manager)
 //! - `ground`: what all threads have in common
 //! - `recorder` and `diary`: what the threads did, in one order
+//! - `watch`, with `sight`, `progress` and `watched`: what the processes do, for whoever looks while they run
 //! - `followed`, with `follower`, `following` and `herald`: outputs that are told as they are released
+//! - `followed`, with `follower`, `following`, `lane` and `herald`: outputs that are told as they are released
 #![tactic(auto)]
 
 mod bell;
@@ -30,13 +33,19 @@ mod following;
 mod ground;
 mod herald;
 mod idle;
+mod lane;
 mod links;
 mod network;
 mod node;
 mod opener;
+mod patience;
+mod progress;
 mod recorder;
 mod settle;
+mod sight;
 mod trouble;
+mod watch;
+mod watched;
 mod witness;
 mod worker;
 
@@ -51,4 +60,8 @@ pub use om_board::{
     Shared, TakePass, laws,
 };
 pub use opener::{Gate, OpenFault, Opener};
+pub use progress::Progress;
 pub use recorder::{Act, Letter, Record, Recorder};
+pub use sight::{Doing, Sight};
+pub use watch::Watch;
+pub use watched::Watched;

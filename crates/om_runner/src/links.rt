@@ -6,7 +6,7 @@ ghost use Rattle.om_process.specs.Core.{size_of};
 ghost use Rattle.om_runner.specs.steps.Network.{ArePuts, AreTakes, IsNetwork};
 ghost use Rattle.om_runner.specs.steps.Wiring.{HasEnds};
 
-use crate::bell::{Bell, ring_all};
+use crate::bell::{Bell, Look, ring_all};
 use crate::network::Ends;
 use om_board::{CAPACITY, Inbox, PutAnswer, PutPass, TakePass};
 use om_format::Message;
@@ -15,7 +15,7 @@ use om_process::ProcCore;
 use std::alloc::{AllocError, Global};
 use std::marker::Model;
 use std::sync::Wait;
-use std::time::Duration;
+use std::time::{Clock, Duration};
 
 // After how many messages from one sender its worker is woken, which may wait for room. An inbox that was full passes this
 // before it is empty.
@@ -138,6 +138,14 @@ impl<'a> Links<'a> {
     // Whether all messages that are kept were put, when they were put last.
     pub(crate) fn has_put_all(&self) -> bool {
         !self.left.iter().any(|left| *left)
+    }
+
+    // Yields until its worker is woken, for a while.
+    pub(crate) fn look<R: Clock>(&self, rt: &R) -> Look {
+        match self.bells.get(self.own.index()) {
+            Some(bell) => bell.look(rt),
+            None => Look::Rung,
+        }
     }
 
     // Sleeps until its worker is woken, for so many milliseconds at most, and says whether it was woken.

@@ -1,6 +1,7 @@
 ghost use Rattle.std.specs.Prelude.{◌≡◌, IfOk, IsTrue};
 ghost use Rattle.om_runner.specs.Reports.{nothing};
 
+use crate::watch::Watch;
 use om_interval::Pid;
 use om_stable::Stable;
 use std::alloc::Global;
@@ -23,7 +24,7 @@ pub enum OpenFault {
     Refused,
 }
 
-/// Makes the store of each process, in the thread that owns it.
+/// Makes the store of each process, in the thread that owns it, and says who watches them.
 pub trait Opener<R> {
     type Store: Stable + Send;
 
@@ -31,4 +32,9 @@ pub trait Opener<R> {
     fn make(&self, rt: &R, alloc: Global, pid: Pid) -> Result<Self::Store, OpenFault>
         ensures sound { IfOk result (λ store. IsTrue (Self.Store.is_clean store) → Self.Store.IsSound store) }
         ensures empty { IfOk result (λ store. IsTrue (Self.Store.is_clean store) → Self.Store.content store ≡ nothing) };
+
+    /// Who sees what the processes do while they run, if anybody does.
+    fn watch(&self) -> Option<&Watch> {
+        None
+    }
 }

@@ -1,3 +1,7 @@
+//! Why a worker cannot go on.
+
+ghost use Rattle.om_runner.specs.steps.Ends.{IsFaultBy};
+
 use crate::fault::RunFault;
 use om_interval::Pid;
 use om_manager::{FailError, JoinError, OutputError, RecordError};
@@ -16,7 +20,9 @@ pub(crate) enum Trouble {
 
 impl Trouble {
     // As the run's caller is told of it.
-    pub(crate) fn of(self, pid: Pid) -> RunFault {
+    pub(crate) fn of(self, pid: Pid) -> RunFault
+        ensures { IsFaultBy pid result }
+    {
         match self {
             Trouble::Memory => RunFault::Memory,
             Trouble::Refused => RunFault::Fault(pid),
@@ -25,7 +31,9 @@ impl Trouble {
 }
 
 // As the run's caller is told why a process was not started.
-pub(crate) fn load_fault(fault: StartFault, pid: Pid) -> RunFault {
+pub(crate) fn load_fault(fault: StartFault, pid: Pid) -> RunFault
+    ensures { IsFaultBy pid result }
+{
     match fault {
         StartFault::Memory => RunFault::Memory,
         StartFault::Fault => RunFault::Fault(pid),

@@ -4,9 +4,11 @@ ghost use Rattle.std.specs.Prelude.{◌≡◌, ◌<◌, ◌+◌, ◌⊎◌, ◌�
 ghost use Rattle.om_process.specs.Stores.{flushed};
 ghost use Rattle.om_runner.specs.steps.Acts.{HasDeclared, HasJoined, UnderLock};
 ghost use Rattle.om_runner.specs.steps.Places.{member_of};
+ghost use Rattle.om_runner.specs.steps.Sights.{doing_at};
 ghost use Rattle.om_runner.specs.steps.Turning.{HasNothingToSay, HasReported, HasRested, IsTurnOf, pause_turns, place_after};
 ghost use Rattle.om_runner.specs.steps.Wiring.{HasEnds};
 
+use crate::bell::Look;
 use crate::config::Config;
 use crate::contact::{Contact, Heard, Limits, Standing};
 use crate::diary::{Diary, Listeners};
@@ -14,7 +16,10 @@ use crate::idle::{Idle, Pause};
 use crate::links::Links;
 use crate::network::Ends;
 use crate::node::{Fallen, Node, has_ended};
+use crate::patience::Patience;
+use crate::sight::{Doing, Sight};
 use crate::trouble::Trouble;
+use crate::watch::Watch;
 use crate::witness::Past;
 use om_board::{Front, Naming, Pass, Shared};
 use om_format::Message;
@@ -23,6 +28,7 @@ use om_process::{Accept, Status, Witness};
 use om_stable::Stable;
 use std::alloc::Global;
 use std::sync::Wait;
+use std::time::Clock;
 
 // What is left of a worker's turns where all wait, whatever it is.
 const ALL_TURNS: u64 = u64::MAX;
@@ -42,6 +48,31 @@ pub(crate) enum Place<'a, S: Stable> {
     Down(Fallen<'a, S>),
     // All processes are quiet.
     Over(Node<'a, S>),
+}
+
+impl<'a, S: Stable> Place<'a, S> {
+    // What the process does there.
+    fn doing(&self) -> Doing
+        ensures { result ≡ doing_at self.now }
+    {
+        match self {
+            Place::Up(node) | Place::Over(node) => Doing::Up(node.core().status()),
+            Place::Called(_) => Doing::Called,
+            Place::In(_) => Doing::Joined,
+            Place::Failed(_) | Place::Down(_) => Doing::Down,
+        }
+    }
+
+    // The interval that the process is in, and how many instructions it has finished, where it is not down.
+    fn reached(&self) -> Option<(u32, u64)> {
+        match self {
+            Place::Up(node) | Place::Called(node) | Place::In(node) | Place::Over(node) => {
+                let core = node.core();
+                Some((core.interval(), core.machine().count()))
+            }
+            Place::Failed(_) | Place::Down(_) => None,
+        }
+    }
 }
 
 // What a turn of a process that runs comes to.
@@ -83,7 +114,10 @@ pub(crate) struct Worker<'a, K: Naming> {
     kills: Vec<u32>,
     past: Past,
     diary: Diary<'a>,
+    // Who sees what the process does.
+    watch: Option<&'a Watch>,
     idle: Idle,
+    patience: Patience,
     // Whether all that the process keeps was resent, after some idle turns, since it ran, received or refused a message.
     resent: bool,
     // How many turns the last one counts as beside itself.
@@ -95,6 +129,27 @@ pub(crate) struct Worker<'a, K: Naming> {
 // Whether x receipts are a multiple of k; none are of 0.
 fn is_multiple(x: u32, k: u32) -> bool {
     k != 0 && x % k == 0
+}
+
+// Passes a turn in which nothing happened: the worker yields for a while at first, where it has the patience, and sleeps.
+fn pause_of<R: Wait + Clock>(
+    rt: &R,
+    links: &Links<'_>,
+    idle: &Idle,
+    patience: &mut Patience,
+) -> Pause {
+    if idle.is_fresh() && patience.begin() {
+        match links.look(rt) {
+            Look::Rung => return Pause::Woken,
+            Look::Slice => patience.end(),
+            Look::Silent => {}
+        }
+    }
+    if links.sleep(rt, idle.sleep()) {
+        Pause::Woken
+    } else {
+        Pause::Slept
+    }
 }
 
 // Drops what need not be kept any longer.
@@ -144,6 +199,7 @@ impl<'a, K: Naming> Worker<'a, K> {
         past: Past,
         alloc: Global,
         listeners: Listeners<'a>,
+        watch: Option<&'a Watch>,
     ) -> Worker<'a, K>
         requires { links.n ≡ K.cell.n }
         ensures { result.links ≡ links.entry }
@@ -156,7 +212,9 @@ impl<'a, K: Naming> Worker<'a, K> {
             kills,
             past,
             diary: Diary::new(alloc, own, listeners),
+            watch,
             idle: Idle::new(),
+            patience: Patience::new(),
             resent: false,
             extra: 0,
         }
@@ -194,7 +252,7 @@ impl<'a, K: Naming> Worker<'a, K> {
     // One turn. Nothing that moves the process is inlined, here and below: a process over a large store is moved a field at a
     // time where several moves stand in one function, which then takes the compiler minutes.
     #[inline(never)]
-    pub(crate) fn turn<S: Stable, R: Wait>(
+    fn turn<S: Stable, R: Wait + Clock>(
         &mut self,
         rt: &R,
         alloc: Global,
@@ -220,9 +278,53 @@ impl<'a, K: Naming> Worker<'a, K> {
         }
     }
 
+    // One turn, at whose end whoever watches sees what the process does.
+    #[inline(never)]
+    pub(crate) fn shown_turn<S: Stable, R: Wait + Clock>(
+        &mut self,
+        rt: &R,
+        alloc: Global,
+        place: Place<'a, S>,
+        pass: Pass<K>,
+    ) -> Result<(Place<'a, S>, Pass<K>), Trouble>
+        requires own { (member_of place).own ≡ self.old.links.own }
+        requires size { (member_of place).n ≡ K.cell.n }
+        ensures same { self.new.links ≡ self.old.links }
+        ensures place { IfOk result (λ r. member_of r.0 ≡ member_of place.entry) }
+    {
+        if self.watch.is_none() {
+            return self.turn(rt, alloc, place, pass);
+        }
+        let mut turned = self.turn(rt, alloc, place, pass)?;
+        self.show(rt, &mut turned);
+        Ok(turned)
+    }
+
+    // Shows whoever watches what the process does where it stands.
+    #[inline(never)]
+    fn show<S: Stable, R: Wait>(&self, rt: &R, turned: &mut (Place<'a, S>, Pass<K>))
+        ensures { turned.new.0 ≡ turned.old.0 }
+    {
+        let Some(watch) = self.watch else {
+            return;
+        };
+        let pid = self.contact.pid;
+        let old = watch.sight(rt, pid).unwrap_or(Sight::new());
+        let (interval, count) = turned.0.reached().unwrap_or((old.interval, old.count));
+        let sight = Sight {
+            doing: turned.0.doing(),
+            interval,
+            count,
+            put: self.links.put(),
+            taken: self.links.taken(),
+            front: Some(self.contact.read(rt, &mut turned.1)),
+        };
+        watch.show(rt, pid, sight);
+    }
+
     // A turn of a process that runs.
     #[inline(never)]
-    fn go_on<S: Stable, R: Wait>(
+    fn go_on<S: Stable, R: Wait + Clock>(
         &mut self,
         rt: &R,
         alloc: Global,
@@ -247,7 +349,7 @@ impl<'a, K: Naming> Worker<'a, K> {
 
     // Runs the process, hands in what it has, and takes a message where it waits for one.
     #[inline(never)]
-    fn advance<S: Stable, R: Wait>(
+    fn advance<S: Stable, R: Wait + Clock>(
         &mut self,
         rt: &R,
         alloc: Global,
@@ -331,7 +433,7 @@ impl<'a, K: Naming> Worker<'a, K> {
 
     // Takes a message, where the process waits for one. What comes to one that has ended is dropped: a round that rolls it back
     // has all sent once more.
-    fn receive<S: Stable, R: Wait>(
+    fn receive<S: Stable, R: Wait + Clock>(
         &mut self,
         rt: &R,
         alloc: Global,
@@ -398,20 +500,20 @@ impl<'a, K: Naming> Worker<'a, K> {
 
     // A turn in which nothing happens to a process that is up. Where all that it keeps was resent, and put, the board knows
     // while it sleeps that it waits.
-    fn rest<R: Wait>(&mut self, rt: &R)
+    fn rest<R: Wait + Clock>(&mut self, rt: &R)
         ensures same { self.new.links ≡ self.old.links }
     {
         if self.resent && self.links.has_put_all() {
             self.wait(rt);
         } else {
-            let pause = self.sleep(rt);
+            let pause = pause_of(rt, &self.links, &self.idle, &mut self.patience);
             self.count(rt, pause);
         }
     }
 
     // Sleeps, while the board knows that the process waits. Where all wait, all turns that are left are idle, and they are spent
     // at once.
-    fn wait<R: Wait>(&mut self, rt: &R)
+    fn wait<R: Wait + Clock>(&mut self, rt: &R)
         ensures same { self.new.links ≡ self.old.links }
         ensures waited { HasRested K.cell.n self.old.contact.pid self.old.contact.round self.new.extra }
     {
@@ -419,17 +521,9 @@ impl<'a, K: Naming> Worker<'a, K> {
             self.extra = ALL_TURNS;
             return;
         }
-        let pause = self.sleep(rt);
+        let pause = pause_of(rt, &self.links, &self.idle, &mut self.patience);
         self.contact.withdraw(rt);
         self.count(rt, pause);
-    }
-
-    fn sleep<R: Wait>(&self, rt: &R) -> Pause {
-        if self.links.sleep(rt, self.idle.sleep()) {
-            Pause::Woken
-        } else {
-            Pause::Slept
-        }
     }
 
     // Counts a pause of a process that is up.
@@ -458,10 +552,10 @@ impl<'a, K: Naming> Worker<'a, K> {
     }
 
     // A turn in which nothing happens to a process that is in, or down.
-    fn doze<R: Wait>(&mut self, rt: &R)
+    fn doze<R: Wait + Clock>(&mut self, rt: &R)
         ensures same { self.new.links ≡ self.old.links }
     {
-        let pause = self.sleep(rt);
+        let pause = pause_of(rt, &self.links, &self.idle, &mut self.patience);
         self.pass(pause);
     }
 
@@ -571,7 +665,7 @@ impl<'a, K: Naming> Worker<'a, K> {
 
     // Waits for the round to be finished, and then goes on as its verdict says.
     #[inline(never)]
-    fn wait_in<S: Stable, R: Wait>(
+    fn wait_in<S: Stable, R: Wait + Clock>(
         &mut self,
         rt: &R,
         alloc: Global,
@@ -627,7 +721,7 @@ impl<'a, K: Naming> Worker<'a, K> {
 
     // Waits for the round to be finished, and then comes back.
     #[inline(never)]
-    fn wait_down<S: Stable, R: Wait>(
+    fn wait_down<S: Stable, R: Wait + Clock>(
         &mut self,
         rt: &R,
         alloc: Global,
@@ -653,7 +747,7 @@ impl<'a, K: Naming> Worker<'a, K> {
 
     // What the manager says of a round that is finished and that the process does not know yet, if there is one. After it all
     // that is kept is sent once more.
-    fn listen<R: Wait>(
+    fn listen<R: Wait + Clock>(
         &mut self,
         rt: &R,
         alloc: Global,

@@ -10,6 +10,7 @@ use std::sync::Wait;
 use std::sync::atomic::AtomicBool;
 use std::sync::atomic::Ordering::SeqCst;
 use std::thread::Threads;
+use std::time::Clock;
 
 // Sends to itself, receives, and ends.
 const SELF: [u32; 12] = [
@@ -107,7 +108,7 @@ impl<'a, R> Opener<R> for MeetingPairs<'a> {
 }
 
 // A run of the two over such stores.
-fn run<R: Threads + Wait + Abort + Sync>(rt: &R, alloc: Global, config: &Config) -> Report {
+fn run<R: Threads + Wait + Clock + Abort + Sync>(rt: &R, alloc: Global, config: &Config) -> Report {
     let (zero, one) = (AtomicBool::new(false), AtomicBool::new(false));
     let stores = MeetingPairs {
         zero: &zero,

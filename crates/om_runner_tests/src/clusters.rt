@@ -12,6 +12,7 @@ use std::sync::Wait;
 use std::sync::atomic::AtomicBool;
 use std::sync::atomic::Ordering::SeqCst;
 use std::thread::Threads;
+use std::time::Clock;
 
 // Each process takes 6 receipts; at each it adds 1 to a counter, outputs the counter and sends it on. Process 0 starts with
 // 0, and at the end the code is the counter.
@@ -99,7 +100,7 @@ fn bytes_of(rt: &impl Abort, alloc: Global, words: &[u32]) -> Vec<u8> {
 }
 
 // So many processes of the ring, of which those fail in these intervals.
-fn ring(rt: &impl Abort, alloc: Global, n: usize, kills: &[(u32, u32)]) -> Config {
+pub fn ring(rt: &impl Abort, alloc: Global, n: usize, kills: &[(u32, u32)]) -> Config {
     let mut failures = Vec::new(alloc);
     for (p, x) in kills {
         let failure = (process(rt, *p), *x);
@@ -155,7 +156,7 @@ fn assert_ring(rt: &impl Abort, n: u32, report: &Report) {
 }
 
 // A run over stores in memory.
-pub fn run<'a, R: Threads + Wait + Abort + Sync, G: Gate + Sync>(
+pub fn run<'a, R: Threads + Wait + Clock + Abort + Sync, G: Gate + Sync>(
     rt: &R,
     alloc: Global,
     config: &Config,
@@ -167,7 +168,7 @@ pub fn run<'a, R: Threads + Wait + Abort + Sync, G: Gate + Sync>(
 }
 
 // A ring goes round one process at a time, so no two kills meet in one round of recovery: each that happens makes one.
-fn assert_ring_runs<R: Threads + Wait + Abort + Sync, G: Gate + Sync>(
+fn assert_ring_runs<R: Threads + Wait + Clock + Abort + Sync, G: Gate + Sync>(
     rt: &R,
     alloc: Global,
     gate: &G,
@@ -185,7 +186,7 @@ fn assert_ring_runs<R: Threads + Wait + Abort + Sync, G: Gate + Sync>(
     assert!(rt; round == rounds, "{round}");
 }
 
-fn assert_kills<R: Threads + Wait + Abort + Sync>(
+fn assert_kills<R: Threads + Wait + Clock + Abort + Sync>(
     rt: &R,
     alloc: Global,
     n: u32,
@@ -203,7 +204,7 @@ fn rings_with_kills(rt: HostRuntime) {
 }
 
 // What one process's store of a ring of eight has had to do: so many calls, and the newest checkpoint's interval.
-fn kept_by<R: Threads + Wait + Abort + Sync>(
+fn kept_by<R: Threads + Wait + Clock + Abort + Sync>(
     rt: &R,
     alloc: Global,
     config: &Config,
@@ -270,7 +271,7 @@ fn a_join_stores_the_log(rt: HostRuntime) {
 }
 
 // Why a ring of eight does not come to its end, with a gate that always gives this answer.
-fn assert_fault<R: Threads + Wait + Abort + Sync>(
+fn assert_fault<R: Threads + Wait + Clock + Abort + Sync>(
     rt: &R,
     alloc: Global,
     (is_open, turns, gate_turns): (bool, u64, u64),

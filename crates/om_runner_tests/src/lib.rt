@@ -15,3 +15,5 @@ mod rows;
 mod threads;
 #[cfg(test)]
 mod waiting;
+#[cfg(test)]
+mod watching;

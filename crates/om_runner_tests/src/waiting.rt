@@ -8,9 +8,10 @@ use std::process::Abort;
 use std::sync::Wait;
 use std::sync::atomic::AtomicBool;
 use std::thread::Threads;
+use std::time::Clock;
 
 // Receives once, and ends.
-const WAITS: [u32; 7] = [
+pub const WAITS: [u32; 7] = [
     0x00200893, 0x10000513, 0x00400593, 0x00000073, 0x00000893, 0x00000513, 0x00000073,
 ];
 
@@ -22,7 +23,7 @@ const SENDS: [u32; 21] = [
 ];
 
 // Process 0 ends at once. Each other sends to it, and receives once.
-const ENDS: [u32; 18] = [
+pub const ENDS: [u32; 18] = [
     0x00400893, 0x00000073, 0x00051863, 0x00000893, 0x00000513, 0x00000073, 0x00100893, 0x00000513,
     0x10000593, 0x00400613, 0x00000073, 0x00200893, 0x10000513, 0x00400593, 0x00000073, 0x00000893,
     0x00000513, 0x00000073,
@@ -36,7 +37,7 @@ const COUNTS: [u32; 21] = [
 ];
 
 // So many processes with the same program, of which those fail in these intervals.
-fn cluster(
+pub fn cluster(
     rt: &impl Abort,
     alloc: Global,
     (n, words): (usize, &[u32]),
@@ -60,7 +61,7 @@ fn cluster(
 }
 
 // What a run ends with.
-fn end_of<R: Threads + Wait + Abort + Sync>(
+fn end_of<R: Threads + Wait + Clock + Abort + Sync>(
     rt: &R,
     alloc: Global,
     config: &Config,
@@ -72,7 +73,7 @@ fn end_of<R: Threads + Wait + Abort + Sync>(
 }
 
 // There are more turns than the test has time for: they are spent at once.
-fn assert_all_wait<R: Threads + Wait + Abort + Sync>(
+fn assert_all_wait<R: Threads + Wait + Clock + Abort + Sync>(
     rt: &R,
     alloc: Global,
     row: (usize, &[u32]),
@@ -116,7 +117,12 @@ fn have_ended(report: &Report, n: usize) -> bool {
             .all(|status| matches!(status, Status::Ended(_)))
 }
 
-fn assert_ends<R: Threads + Wait + Abort + Sync>(rt: &R, alloc: Global, n: usize, config: Config) {
+fn assert_ends<R: Threads + Wait + Clock + Abort + Sync>(
+    rt: &R,
+    alloc: Global,
+    n: usize,
+    config: Config,
+) {
     let told = end_of(rt, alloc, &config);
     drop(config);
     let report = told.expect(rt, "a report");

@@ -17,6 +17,7 @@ use std::alloc::{AllocError, Global};
 use std::process::Abort;
 use std::sync::Wait;
 use std::thread::Threads;
+use std::time::Clock;
 
 // Each process takes 6 receipts; at each it adds 1 to the counter at address 0100, puts it out and sends it on. Process 0
 // starts with 0, and at the end the code is the counter.
@@ -120,7 +121,7 @@ fn check_replay<S: Stable>(rt: &impl Abort, alloc: Global, store: &mut S, counte
 }
 
 // Runs a cluster over stores that are made so, and gives the report with the stores as they stand when it has ended.
-fn run_over<R: Threads + Wait + Sync, O: Opener<R> + Sync>(
+fn run_over<R: Threads + Wait + Clock + Sync, O: Opener<R> + Sync>(
     rt: &R,
     alloc: Global,
     config: &Config,
@@ -133,7 +134,7 @@ fn run_over<R: Threads + Wait + Sync, O: Opener<R> + Sync>(
 }
 
 // The same of the ring over such databases.
-fn run_ring<R: Threads + Wait + Sync, C: Connects + Sync + Drop>(
+fn run_ring<R: Threads + Wait + Clock + Sync, C: Connects + Sync + Drop>(
     rt: &R,
     alloc: Global,
     connects: C,
@@ -179,7 +180,7 @@ fn check_replays<S: Stable>(rt: &impl Abort, alloc: Global, stores: &mut [S]) {
 }
 
 // Runs the ring, looks at its report and replays each of its stores, or has this fault.
-fn check_ring<R: Threads + Wait + Abort + Sync, C: Connects + Sync + Drop>(
+fn check_ring<R: Threads + Wait + Clock + Abort + Sync, C: Connects + Sync + Drop>(
     rt: &R,
     alloc: Global,
     connects: C,

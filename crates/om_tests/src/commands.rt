@@ -13,6 +13,7 @@ use std::io::{Read, Write};
 use std::process::Abort;
 use std::sync::Wait;
 use std::thread::Threads;
+use std::time::Clock;
 
 static FRONTIERS: [Row; 24] = [
     ("procs 1", Writes, "recovery 0\n"),
@@ -158,7 +159,7 @@ impl Write for Failing {
 const TURNS: u64 = 1_000;
 
 // What each command answers to a stream that fails in its midst, and how much it wrote.
-fn unread<R: Threads + Wait + Sync>(
+fn unread<R: Threads + Wait + Clock + Sync>(
     rt: &R,
     alloc: Global,
 ) -> ([Result<(), CommandError>; 4], usize) {
@@ -180,7 +181,10 @@ fn unread<R: Threads + Wait + Sync>(
 }
 
 // What each answers where its text cannot be written to the end.
-fn unwritten<R: Threads + Wait + Sync>(rt: &R, alloc: Global) -> [Result<(), CommandError>; 4] {
+fn unwritten<R: Threads + Wait + Clock + Sync>(
+    rt: &R,
+    alloc: Global,
+) -> [Result<(), CommandError>; 4] {
     let mut one = b"program a 16 00000893 00000073\nproc p a\n".as_slice();
     let mut same = one;
     [

@@ -11,6 +11,7 @@ use std::alloc::Global;
 use std::process::Abort;
 use std::sync::Wait;
 use std::thread::Threads;
+use std::time::Clock;
 
 /// A command that reads a text.
 #[derive(Clone, Copy)]
@@ -40,7 +41,7 @@ pub enum How {
 pub type Row = (&'static str, How, &'static str);
 
 /// Compares what the command makes of each row's input, behind the head that all have.
-pub fn check<R: Threads + Wait + Abort + Sync>(
+pub fn check<R: Threads + Wait + Clock + Abort + Sync>(
     rt: &R,
     alloc: Global,
     command: Command,
@@ -54,7 +55,7 @@ pub fn check<R: Threads + Wait + Abort + Sync>(
 }
 
 /// Compares what the command makes of an input.
-pub fn check_input<R: Threads + Wait + Abort + Sync>(
+pub fn check_input<R: Threads + Wait + Clock + Abort + Sync>(
     rt: &R,
     alloc: Global,
     command: Command,
@@ -67,7 +68,7 @@ pub fn check_input<R: Threads + Wait + Abort + Sync>(
     check_answer(rt, alloc, input, (answer, &written), (how, wanted));
 }
 
-fn carry_out<R: Threads + Wait + Sync>(
+fn carry_out<R: Threads + Wait + Clock + Sync>(
     rt: &R,
     alloc: Global,
     command: Command,

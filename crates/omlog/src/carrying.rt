@@ -24,13 +24,14 @@ use std::process::ExitCode;
 use std::rt::Runtime;
 use std::sync::Wait;
 use std::thread::Threads;
+use std::time::Clock;
 use std::{env, io};
 
 // Runs the program on its arguments and standard streams: the status is 0 where it is done, 1 where a command was
 // refused, and 2 where the arguments were.
 //
 // `threads` is the same runtime, which only `main` may have start threads and wait.
-pub(crate) fn run<R: Threads + Wait + Sync>(rt: &HostRuntime, threads: &R) -> ExitCode {
+pub(crate) fn run<R: Threads + Wait + Clock + Sync>(rt: &HostRuntime, threads: &R) -> ExitCode {
     let words = match words(rt) {
         Ok(words) => words,
         Err(error) => return end_unread(rt, &error),
@@ -45,7 +46,7 @@ fn words<R: Runtime + AllocGlobal>(rt: &R) -> io::Result<Vec<String>> {
     Ok(env::args(rt)?.collect(rt.alloc())?)
 }
 
-fn carry_out<R: Threads + Wait + Sync>(
+fn carry_out<R: Threads + Wait + Clock + Sync>(
     rt: &HostRuntime,
     threads: &R,
     asked: Asked<'_>,
@@ -120,7 +121,7 @@ fn write_line<I: Read, W: Write>(
 
 // Runs the cluster that is read, over the files of the prefix or over memory. Before a file is made, the input is read, and is a
 // cluster file.
-fn run_over<R: Threads + Wait + Sync, I: Read, W: Write>(
+fn run_over<R: Threads + Wait + Clock + Sync, I: Read, W: Write>(
     rt: &HostRuntime,
     threads: &R,
     running: Running<'_>,
@@ -146,7 +147,7 @@ fn run_over<R: Threads + Wait + Sync, I: Read, W: Write>(
 
 // Runs the cluster over files that are made for it. A name that is there refuses the run before any file is made. Once it ended
 // well, each store is in its one file; where it was refused, the files that nobody wrote to are removed.
-fn run_over_files<R: Threads + Wait + Sync, W: Write>(
+fn run_over_files<R: Threads + Wait + Clock + Sync, W: Write>(
     rt: &HostRuntime,
     threads: &R,
     running: Running<'_>,

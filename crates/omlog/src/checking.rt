@@ -12,6 +12,7 @@ use std::fs::File;
 use std::io::{Read, Write};
 use std::sync::Wait;
 use std::thread::Threads;
+use std::time::Clock;
 use std::{fs, io};
 
 // Whether a file is made for it.
@@ -23,7 +24,7 @@ pub(crate) fn makes_file(checking: Checking<'_>) -> bool {
 }
 
 // Runs the cluster of an input over stores that are made so. The file is made before the cluster is started.
-pub(crate) fn run_as<R: Threads + Wait + Sync, O: Opener<R> + Sync, I: Read, W: Write>(
+pub(crate) fn run_as<R: Threads + Wait + Clock + Sync, O: Opener<R> + Sync, I: Read, W: Write>(
     rt: &HostRuntime,
     threads: &R,
     running: Running<'_>,

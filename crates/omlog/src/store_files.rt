@@ -7,10 +7,11 @@ use om_files::{Connects, InTables};
 use std::io::{Read, Write};
 use std::sync::Wait;
 use std::thread::Threads;
+use std::time::Clock;
 
 // Runs a cluster over stores in the databases that are connected.
 pub(crate) fn run_over_tables<
-    R: Threads + Wait + Sync,
+    R: Threads + Wait + Clock + Sync,
     C: Connects + Sync + Drop,
     I: Read,
     W: Write,

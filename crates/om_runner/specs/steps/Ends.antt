@@ -1,9 +1,12 @@
 -- What a worker brings back.
-use Rattle.std.specs.Prelude.{◌≡◌, ℕ, ◌<◌, List, Bool, IfOk, IsTrue, Result, slice_index_or}
+use Rattle.std.specs.Prelude.{◌≡◌, ℕ, ◌<◌, ◌≤◌, List, Bool, IfErr, IfOk, IsTrue, Option, None, Some, Result, Ok, Err, length, slice_get, slice_index_or}
 use Rattle.om_process.specs.Images.{program_of}
 use Rattle.om_process.specs.Process.{Program}
 use Rattle.om_process.specs.declared.image.Image.{Image}
 use Rattle.om_runner.specs.Reports.{IsEnd, IsStatusAlong}
+use Rattle.om_runner.specs.declared.config.Config.{Config}
+use Rattle.om_runner.specs.declared.fault.RunFault.{RunFault}
+use Rattle.om_runner.specs.declared.fault.RunFault.TheVariants.{Turns, GateShut, Memory, Fault, Load, NoThread}
 use Rattle.om_runner.specs.declared.cluster.EndOf.{EndOf}
 use Rattle.om_runner.specs.declared.cluster.Finished.{Finished}
 use Rattle.om_runner.specs.declared.cluster.Turned.{Turned}
@@ -29,9 +32,68 @@ abbrev pub AreEndsOf : {S E : Type 0} → (S → Bool) → List Image → Lines 
 AreEndsOf is_clean images lines n results = (i : ℕ) (image : Image) (result : Result (Finished _) _) → i < n
     → IfOk (slice_index_or results i result) (λ f. IsEndOf is_clean (program_of (slice_index_or images i image)) lines i n f)
 
--- what is promised is for this image, these inboxes, this process, and so many
-pub record IsPromised {S : Type 0} (image : Image) (lines : Lines) (own n : ℕ) (promise : EndOf S) : Type 0 where
+-- what is promised is for this run, this image, these inboxes, this process, and so many
+pub record IsPromised {S : Type 0} (config : Config) (image : Image) (lines : Lines) (own n : ℕ) (promise : EndOf S) : Type 0 where
+  pub plan_is : promise.plan.now ≡ config
   pub image_is : promise.image.now ≡ image
   pub lines_are : promise.inboxes.now ≡ lines
   pub own_is : promise.own ≡ own
   pub n_is : promise.n ≡ n
+
+-- the run gave its workers turns, and let them ask the gate
+pub record IsGiven (config : Config) : Type 0 where
+  pub turns : 1 ≤ config.turns
+  pub gate : 1 ≤ config.gate_turns
+
+-- the fault is of this process, or of none
+abbrev pub IsFaultBy : ℕ → RunFault → Type 0
+IsFaultBy own (Turns pid) = pid ≡ own
+IsFaultBy own (GateShut pid) = pid ≡ own
+IsFaultBy own (Fault pid) = pid ≡ own
+IsFaultBy own (Load pid) = pid ≡ own
+IsFaultBy own Memory = Unit {0}
+IsFaultBy own NoThread = Unit {0}
+
+-- the worker of a process ended well, and then the run gave it turns; or with a fault of its own
+pub record IsOwnEnd {F : Type 0} (config : Config) (own : ℕ) (result : Result F RunFault) : Type 0 where
+  pub given : IfOk result (λ f. IsGiven config)
+  pub fault : IfErr result (IsFaultBy own)
+
+-- so did each of n workers
+abbrev pub AreOwnEnds : {F : Type 0} → Config → ℕ → List (Result F RunFault) → Type 0
+AreOwnEnds config n results = (i : ℕ) (result : Result _ RunFault) → i < n → IsOwnEnd config i (slice_index_or results i result)
+
+-- a worker ended well
+abbrev pub IsWell : {F : Type 0} → Result F RunFault → Type 0
+IsWell (Ok f) = Unit {0}
+IsWell (Err fault) = ⊥
+
+-- the worker's turns were out
+abbrev pub IsOut : RunFault → Type 0
+IsOut (Turns pid) = Unit {0}
+IsOut (GateShut pid) = ⊥
+IsOut (Fault pid) = ⊥
+IsOut (Load pid) = ⊥
+IsOut Memory = ⊥
+IsOut NoThread = ⊥
+
+-- a worker ended well, or its turns were out
+abbrev pub IsWellOrOut : {F : Type 0} → Result F RunFault → Type 0
+IsWellOrOut (Ok f) = Unit {0}
+IsWellOrOut (Err fault) = IsOut fault
+
+-- so did each of the first k workers
+abbrev pub AreBelow : {F : Type 0} → (Result F RunFault → Type 0) → ℕ → List (Result F RunFault) → Type 0
+AreBelow Is k results = (j : ℕ) (result : Result _ RunFault) → j < k → slice_get results j ≡ Some result → Is result
+
+-- the fault that is told of all: of the first worker that has another than Turns; else of the first that has one
+pub data IsLeastFault {F : Type 0} (results : List (Result F RunFault)) (fault : RunFault) : Type 0 where
+  other : (place : ℕ) → slice_get results place ≡ Some (Err fault) → AreBelow IsWellOrOut place results
+      → (IsOut fault → ⊥) → IsLeastFault results fault
+  out : (place : ℕ) → slice_get results place ≡ Some (Err fault) → AreBelow IsWell place results
+      → AreBelow IsWellOrOut (length results) results → IsLeastFault results fault
+
+-- of the first k workers, the first whose turns were out
+abbrev pub IsFirstOut : {F : Type 0} → List (Result F RunFault) → ℕ → Option RunFault → Type 0
+IsFirstOut results k None = AreBelow IsWell k results
+IsFirstOut results k (Some fault) = (place : ℕ) × (slice_get results place ≡ Some (Err fault)) × AreBelow IsWell place results

@@ -7,12 +7,13 @@ use std::alloc::Global;
 use std::process::Abort;
 use std::sync::Wait;
 use std::thread::Threads;
+use std::time::Clock;
 
 // The turns of a worker.
 const TURNS: u64 = 50_000_000;
 
 // What a run that is followed answers and writes.
-fn followed<R: Threads + Wait + Abort + Sync>(
+fn followed<R: Threads + Wait + Clock + Abort + Sync>(
     rt: &R,
     alloc: Global,
     turns: u64,

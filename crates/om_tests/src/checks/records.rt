@@ -10,6 +10,7 @@ use std::alloc::Global;
 use std::process::Abort;
 use std::sync::Wait;
 use std::thread::Threads;
+use std::time::Clock;
 
 // The turns of a worker.
 const TURNS: u64 = 50_000_000;
@@ -50,7 +51,7 @@ fn records_are_played(rt: HostRuntime) {
 }
 
 // The record of a ring of n processes that is run with this cluster file, whose text is that of any run.
-fn recorded<R: Threads + Wait + Abort + Sync>(
+fn recorded<R: Threads + Wait + Clock + Abort + Sync>(
     rt: &R,
     alloc: Global,
     input: &str,

@@ -15,6 +15,7 @@ use std::alloc::Global;
 use std::process::Abort;
 use std::sync::Wait;
 use std::thread::Threads;
+use std::time::Clock;
 
 // Databases in memory.
 #[derive(Drop)]
@@ -39,7 +40,7 @@ enum Way {
 }
 
 // What a run over such stores answers and writes.
-fn carry_out<R: Threads + Wait + Sync, O: Opener<R> + Sync>(
+fn carry_out<R: Threads + Wait + Clock + Sync, O: Opener<R> + Sync>(
     rt: &R,
     alloc: Global,
     (way, turns): (Way, u64),
@@ -58,7 +59,12 @@ fn carry_out<R: Threads + Wait + Sync, O: Opener<R> + Sync>(
 const TURNS: u64 = 50_000_000;
 
 // Each way of running the input writes the text, over stores in memory and in tables.
-fn check_run<R: Threads + Wait + Abort + Sync>(rt: &R, alloc: Global, input: &str, text: &str) {
+fn check_run<R: Threads + Wait + Clock + Abort + Sync>(
+    rt: &R,
+    alloc: Global,
+    input: &str,
+    text: &str,
+) {
     let tables = InTables {
         connects: Databases,
     };

@@ -10,6 +10,7 @@ use std::alloc::Global;
 use std::process::Abort;
 use std::sync::Wait;
 use std::thread::Threads;
+use std::time::Clock;
 
 // The turns of a worker.
 const TURNS: u64 = 50_000_000;
@@ -28,7 +29,7 @@ fn outputs_of(rt: &impl Abort, alloc: Global, text: &[u8]) -> String {
 }
 
 // Runs a cluster and plays its witness, which comes to the same outputs; and how many lines they have.
-fn check_witness<R: Threads + Wait + Abort + Sync>(rt: &R, alloc: Global, input: &str) {
+fn check_witness<R: Threads + Wait + Clock + Abort + Sync>(rt: &R, alloc: Global, input: &str) {
     let mut written = Vec::new(alloc);
     let mut script = Vec::new(alloc);
     let mut played = Vec::new(alloc);

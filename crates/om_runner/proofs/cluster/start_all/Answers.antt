@@ -71,12 +71,13 @@ loop-one-preserved g c =
           let at : done + (k + 1) ≡ vec_len c.push_reserved.new.self + k = omega (arith, grown) in
           subst (λ i. HasEnds n lines i (get_or rest k e)) at (subst (HasEnds n lines (done + (k + 1))) same (was.3 (k + 1) e less))),
       λ k a h lt.
-          let here : IsPromised (get_or images (length c.loop-one.handles.items) a) lines (length c.loop-one.handles.items) n handle.promise = record {
+          let here : IsPromised c.args.cluster.now.plan.now (get_or images (length c.loop-one.handles.items) a) lines (length c.loop-one.handles.items) n handle.promise = record {
+            plan_is = started.plan;
             image_is = started.image ∙ c.index-image.ensures ∙ any_default images c.len-own.result c.index-image.result.now a within ∙ ap (λ i. get_or images i a) own;
             lines_are = started.inboxes ∙ c.new-links.ensures.lines;
             own_is = started.own ∙ c.new-links.ensures.own ∙ c.at.ensures ∙ own;
             n_is = started.n;
           } in
-          each_more (λ i x. IsPromised (get_or images i a) lines i n x.promise) c.loop-one.handles.items c.push_reserved.new.self.items handle c.push_reserved.ensures.items
+          each_more (λ i x. IsPromised c.args.cluster.now.plan.now (get_or images i a) lines i n x.promise) c.loop-one.handles.items c.push_reserved.new.self.items handle c.push_reserved.ensures.items
           (λ i x below. was.4 i a x (search rules)) here k h (search rules),
     )

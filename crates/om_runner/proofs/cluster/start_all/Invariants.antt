@@ -16,4 +16,4 @@ invariant-loop-one g l =
     × (vec_len l.passes ≡ into_iter_len l.one-iterator)
     × ((k : ℕ) (e : _) → k < into_iter_len l.one-iterator → HasEnds n l.cluster.inboxes.now (done + k) (get_or rest k e))
     × ((k : ℕ) (a : Image) (h : _) → k < done
-    → IsPromised (get_or images k a) l.cluster.inboxes.now k n (get_or (vec_items l.handles) k h).promise)
+    → IsPromised l.cluster.plan.now (get_or images k a) l.cluster.inboxes.now k n (get_or (vec_items l.handles) k h).promise)

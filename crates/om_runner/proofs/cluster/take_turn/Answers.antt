@@ -13,4 +13,4 @@ pub returns-in-Err-end-clause-turned : goal.returns-in-Err-end-clause-turned
 returns-in-Err-end-clause-turned g c = c.in-Err-end.ensures.member ∙ sym (ap member_of c.in-Over.is) ∙ c.in-Ok.ensures.place
 
 pub returns-in_default : goal.returns-in_default
-returns-in_default g c = record { same = c.in-Ok.ensures.same; turned = c.in-Ok.ensures.place }
+returns-in_default g c = record { same = c.in-Ok.ensures.same; turned = c.in-Ok.ensures.place; fault = tt }

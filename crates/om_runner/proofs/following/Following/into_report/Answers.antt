@@ -1,0 +1,19 @@
+use Rattle.std.proofs.Common.{◌≡◌, None}
+use Rattle.om_runner.proofs.FollowLemmas.{all_released, told_all, told_in_order}
+use Rattle.om_runner.proofs.following.Following.into_report.Goals as goal
+
+pub returns-in-Some-clause-partly : goal.returns-in-Some-clause-partly
+returns-in-Some-clause-partly g c = λ start was wanted.
+    told_in_order g.F.Follower.Tells start c.args.self.follower c.args.self.front.vec c.args.self.lanes.items c.args.self.kept (was (λ same. wanted (cc)))
+
+pub returns-in_default-outputs_of-clause-partly : goal.returns-in_default-outputs_of-clause-partly
+returns-in_default-outputs_of-clause-partly g c = λ start was wanted.
+    told_in_order g.F.Follower.Tells start c.args.self.follower c.args.self.front.vec c.args.self.lanes.items c.args.self.kept (was (λ same. cc))
+
+pub returns-clause-released : goal.returns-clause-released
+returns-clause-released g c = all_released c.args.self.front.vec c.args.self.lanes.items c.in-Ok.released.items c.in-Ok.ensures c.args.self.kept
+
+pub returns-clause-told : goal.returns-clause-told
+returns-clause-told g c = λ start was.
+    let none : c.args.self.fault ≡ None = cc in
+    told_all g.F.Follower.Tells start c.args.self.follower c.args.self.lanes.items c.in-Ok.released.items c.in-Ok.ensures (c.requires none) (was (λ same. cc))

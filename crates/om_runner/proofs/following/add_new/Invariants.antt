@@ -1,0 +1,12 @@
+use Rattle.std.proofs.Common.{◌≡◌, ℕ, Some}
+use Rattle.std.specs.Prelude.{vec_len}
+use Rattle.om_board.specs.Released.{AreReleased}
+use Rattle.om_runner.specs.steps.Following.{told_in}
+use Rattle.om_runner.proofs.following.add_new.Given as goal
+
+abbrev pub invariant-loop-i : goal.invariant-loop-i
+invariant-loop-i l = record {
+  at : vec_len l.lane.outputs ≡ l.i;
+  same : (p : ℕ) → told_in p (Some l.lane) ≡ told_in p (Some l.fn.lane);
+  kept : (limit : ℕ) → AreReleased limit l.fn.lane.outputs.items → AreReleased limit l.released → AreReleased limit l.lane.outputs.items;
+}

@@ -1,0 +1,11 @@
+use Rattle.std.proofs.Common.{◌≡◌, ℕ, List}
+use Rattle.std.specs.Prelude.{vec_len}
+use Rattle.om_runner.specs.steps.Following.{AreKept, HaveTold}
+use Rattle.om_runner.proofs.following.tell_in_order.Given as goal
+
+abbrev pub invariant-loop-release : goal.invariant-loop-release
+invariant-loop-release g l = record {
+  many : vec_len l.lanes ≡ vec_len l.fn.lanes;
+  kept : (vec : List ℕ) → AreKept vec l.fn.lanes.items → AreKept vec l.lanes.items;
+  told : HaveTold g.F.Follower.Tells l.fn.lanes.items l.fn.follower l.lanes.items l.follower;
+}

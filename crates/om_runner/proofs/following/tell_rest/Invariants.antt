@@ -1,0 +1,13 @@
+use Rattle.std.proofs.Common.{◌≡◌, ℕ, ◌<◌, List, Some}
+use Rattle.std.specs.Prelude.{slice_get, vec_len}
+use Rattle.om_runner.specs.declared.lane.Lane.{Lane}
+use Rattle.om_runner.specs.steps.Following.{AreKept, HaveTold}
+use Rattle.om_runner.proofs.following.tell_rest.Given as goal
+
+abbrev pub invariant-loop-p : goal.invariant-loop-p
+invariant-loop-p g l = record {
+  many : vec_len l.lanes ≡ vec_len l.fn.lanes;
+  kept : (vec : List ℕ) → AreKept vec l.fn.lanes.items → AreKept vec l.lanes.items;
+  told : HaveTold g.F.Follower.Tells l.fn.lanes.items l.fn.follower l.lanes.items l.follower;
+  ends : (q : ℕ) (lane : Lane) → q < l.p → slice_get l.lanes.items q ≡ Some lane → lane.told ≡ vec_len lane.outputs;
+}

@@ -1,0 +1,48 @@
+//! Who sees what the processes of a cluster do.
+
+use crate::sight::Sight;
+use om_interval::Pid;
+use std::alloc::{AllocError, Global};
+use std::sync::{Mutex, Wait};
+
+/// Sees what the processes of a cluster do while it runs. Each worker shows its process at the end of each turn.
+#[derive(Drop)]
+pub struct Watch {
+    // By process.
+    sights: Vec<Mutex<Sight>>,
+}
+
+impl Watch {
+    /// Of a cluster of so many processes that is to be run.
+    pub fn new(alloc: Global, n: usize) -> Result<Watch, AllocError> {
+        let mut sights = Vec::with_capacity(alloc, n)?;
+        for _ in 0..n {
+            sights.push(Mutex::new(Sight::new()))?;
+        }
+        Ok(Watch { sights })
+    }
+
+    /// What was seen last of each process, by number.
+    pub fn sights<R: Wait>(&self, rt: &R, alloc: Global) -> Result<Vec<Sight>, AllocError> {
+        let mut sights = Vec::with_capacity(alloc, self.sights.len())?;
+        for place in &self.sights {
+            let sight = *place.lock(rt);
+            sights.push(sight)?;
+        }
+        Ok(sights)
+    }
+
+    // What was seen of a process last.
+    pub(crate) fn sight<R: Wait>(&self, rt: &R, pid: Pid) -> Option<Sight> {
+        let place = self.sights.get(pid.index())?;
+        let sight = *place.lock(rt);
+        Some(sight)
+    }
+
+    // Takes in what is seen of a process.
+    pub(crate) fn show<R: Wait>(&self, rt: &R, pid: Pid, sight: Sight) {
+        if let Some(place) = self.sights.get(pid.index()) {
+            *place.lock(rt) = sight;
+        }
+    }
+}

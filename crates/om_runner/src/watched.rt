@@ -1,0 +1,25 @@
+//! Stores of a cluster that is watched.
+
+use crate::opener::{OpenFault, Opener};
+use crate::watch::Watch;
+use om_interval::Pid;
+use std::alloc::Global;
+
+/// Makes the stores that `opener` makes, for processes that are watched, where they are to be.
+#[derive(Clone, Copy)]
+pub struct Watched<'a, O> {
+    pub opener: &'a O,
+    pub watch: Option<&'a Watch>,
+}
+
+impl<'a, R, O: Opener<R>> Opener<R> for Watched<'a, O> {
+    type Store = O::Store;
+
+    fn make(&self, rt: &R, alloc: Global, pid: Pid) -> Result<O::Store, OpenFault> {
+        self.opener.make(rt, alloc, pid)
+    }
+
+    fn watch(&self) -> Option<&Watch> {
+        self.watch
+    }
+}

@@ -1,0 +1,171 @@
+use crate::clusters::{Always, Fused, ring, unstopped};
+use crate::rows::front;
+use crate::waiting::{ENDS, WAITS, cluster};
+use om_process::Status;
+use om_runner::{Config, Doing, Progress, RunFault, Sight, Watch, Watched, run_cluster};
+use std::alloc::Global;
+use std::process::Abort;
+use std::sync::Wait;
+use std::sync::atomic::AtomicBool;
+use std::thread::Threads;
+use std::time::Clock;
+
+const WAITING: Doing = Doing::Up(Status::Waiting);
+
+// Process 1 sends to process 0, and receives. The other receives once, and counts down from 2,147,479,552.
+const COUNTS: [u32; 19] = [
+    0x00400893, 0x00000073, 0x02051063, 0x00200893, 0x10000513, 0x00400593, 0x00000073, 0x7FFFF2B7,
+    0xFFF28293, 0xFE029EE3, 0x00100893, 0x00000513, 0x10000593, 0x00400613, 0x00000073, 0x00200893,
+    0x10000513, 0x00400593, 0x00000073,
+];
+
+// Why the run of a cluster that is watched came to no end.
+fn fault_of<'a, R: Threads + Wait + Clock + Abort + Sync>(
+    rt: &R,
+    alloc: Global,
+    config: &Config,
+    opener: &'a Fused<'a>,
+    watch: &'a Watch,
+) -> Option<RunFault> {
+    assert!(rt; 1 <= config.images.len() && config.images.len() <= 16);
+    let watch = Some(watch);
+    let watched = Watched { opener, watch };
+    run_cluster(rt, alloc, config, &Always(true), &watched).err()
+}
+
+// What was seen of the processes of a cluster, and why its run came to no end.
+fn seen<R: Threads + Wait + Clock + Abort + Sync>(
+    rt: &R,
+    alloc: Global,
+    config: &Config,
+) -> (Option<RunFault>, Vec<Sight>) {
+    let set = AtomicBool::new(true);
+    let opener = unstopped(&set);
+    let watch = Watch::new(alloc, config.images.len()).expect(rt, "memory");
+    let fault = fault_of(rt, alloc, config, &opener, &watch);
+    let sights = watch.sights(rt, alloc).expect(rt, "memory");
+    (fault, sights)
+}
+
+// What the processes of a run that is out of turns are seen to do, and in which interval.
+fn assert_seen<R: Threads + Wait + Clock + Abort + Sync>(
+    rt: &R,
+    alloc: Global,
+    config: Config,
+    doing: &[(Doing, u32)],
+) {
+    let (fault, sights) = seen(rt, alloc, &config);
+    drop(config);
+    assert!(rt; matches!(fault, Some(RunFault::Turns(_))), "{fault:?}");
+    assert!(rt; sights.len() == doing.len());
+    for (sight, (doing, interval)) in sights.iter().zip(doing) {
+        assert!(rt;
+            sight.doing == *doing && sight.interval == *interval,
+            "{sight:?}"
+        );
+    }
+}
+
+#[test]
+fn those_that_wait_are_seen(rt: HostRuntime) {
+    let alloc = rt.alloc();
+    let waits = cluster(&rt, alloc, (2, &WAITS), &[], u64::MAX);
+    assert_seen(&rt, alloc, waits, &[(WAITING, 0), (WAITING, 0)]);
+    let ends = cluster(&rt, alloc, (2, &ENDS), &[], u64::MAX);
+    let ended = Doing::Up(Status::Ended(0));
+    assert_seen(&rt, alloc, ends, &[(ended, 0), (WAITING, 0)]);
+}
+
+// The other has sent before, and is seen at the end of that turn, however late it comes.
+#[test]
+fn one_that_runs_is_seen(rt: HostRuntime) {
+    let alloc = rt.alloc();
+    let counts = cluster(&rt, alloc, (2, &COUNTS), &[], 20_000);
+    let runs = Doing::Up(Status::Ready);
+    assert_seen(&rt, alloc, counts, &[(runs, 1), (WAITING, 0)]);
+}
+
+// Whether this is process `p` of a ring of eight that has ended: six receipts, and its code. What it had received before may be
+// taken anew.
+fn is_end_of_ring(sight: &Sight, p: u32) -> bool {
+    let code = if p == 0 { 48 } else { p.wrapping_add(40) };
+    sight.doing == Doing::Up(Status::Ended(code))
+        && sight.has_ended()
+        && sight.interval == 6
+        && sight.taken >= 6
+}
+
+// At the end the last worker has read that the whole ring is recoverable.
+fn assert_ring_is_seen<R: Threads + Wait + Clock + Abort + Sync>(
+    rt: &R,
+    alloc: Global,
+    kills: &[(u32, u32)],
+    rounds: u32,
+) {
+    let config = ring(rt, alloc, 8, kills);
+    let (fault, sights) = seen(rt, alloc, &config);
+    drop(config);
+    assert!(rt; fault.is_none());
+    assert!(rt; sights.len() == 8);
+    for (p, sight) in sights.iter().enumerate() {
+        assert!(rt; is_end_of_ring(sight, p as u32), "{p} {sight:?}");
+    }
+    let front = Progress::of(&sights).front.expect(rt, "a front");
+    assert!(rt; front.round == rounds, "{front:?}");
+    assert!(rt; front.vec.as_slice() == [6; 8].as_slice(), "{front:?}");
+}
+
+#[test]
+fn those_that_ended_are_seen(rt: HostRuntime) {
+    assert_ring_is_seen(&rt, rt.alloc(), &[], 0);
+    assert_ring_is_seen(&rt, rt.alloc(), &[(3, 3), (5, 5)], 2);
+}
+
+// One that waits for a message.
+fn sight(
+    rt: &impl Abort,
+    count: u64,
+    (put, taken): (u64, u64),
+    version: u64,
+    vec: &[u32],
+) -> Sight {
+    Sight {
+        doing: WAITING,
+        interval: 5,
+        count,
+        put,
+        taken,
+        front: Some(front(rt, version, 1, vec)),
+    }
+}
+
+// What is written of how far processes have come that are seen so.
+fn assert_progress(rt: &impl Abort, alloc: Global, sights: &[Sight], wanted: &str) {
+    let progress = Progress::of(sights);
+    let text = format!(in alloc; "{progress}").expect(rt, "memory");
+    assert_eq!(rt; text.as_str(), wanted);
+}
+
+#[test]
+fn progress_is_the_sum_of_what_is_seen(rt: HostRuntime) {
+    let older_last = [
+        sight(&rt, 1_000, (3, 7), 9, &[4, 2]),
+        sight(&rt, 234, (4, 3), 8, &[3, 2]),
+    ];
+    let wanted = "1234 instructions, 7 messages put, 10 taken, round 1, recovery state 4 2";
+    assert_progress(&rt, rt.alloc(), &older_last, wanted);
+    let older_first = [
+        sight(&rt, 234, (4, 3), 8, &[3, 2]),
+        sight(&rt, 1_000, (3, 7), 9, &[4, 2]),
+    ];
+    assert_progress(&rt, rt.alloc(), &older_first, wanted);
+    let wanted = "0 instructions, 0 messages put, 0 taken";
+    assert_progress(&rt, rt.alloc(), &[], wanted);
+}
+
+#[test]
+fn what_a_process_waits_for_is_told(rt: HostRuntime) {
+    let one = sight(&rt, 1_000, (3, 7), 9, &[4, 2]);
+    let text = format!(in rt.alloc(); "{one}").expect(&rt, "memory");
+    assert_eq!(&rt; text.as_str(), "waits for a message, interval 5");
+}
