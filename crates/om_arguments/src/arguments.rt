@@ -195,8 +195,12 @@ With --follow each output is written as soon as it is released: the lines of a
 process in order, those of different processes as they come. What was released
 by then is written too where the run is refused.
 
-With --verbose a line before the one that refuses the run says which file was
-refused, and why, where it is a file.
+With --verbose more is said on standard error, and nothing else changes: where
+a file was refused, which one and why; where turns ran out, of each process
+that had not ended what it did or waited for, and in which interval; and while
+the run lasts, where standard error is a terminal, each second how far it has
+come: instructions of all processes, messages, the round of recovery, and the
+recovery state.
 
 Answers:
   out NAME NUMBER HEX  an output that is released

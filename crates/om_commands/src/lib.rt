@@ -11,7 +11,8 @@
 //! - `sim`: with `sim_script` and `events` (its lines), `sim_text` (the texts of answers)
 //! - `draw`: the same scripts, as a picture
 //! - `replay` with `state_text`, and `steps`; `show`
-//! - `run`: with `cluster_script` (its lines), `in_memory` (stores), `run_text`; `cluster_size` (how many processes)
+//! - `run`: with `cluster_script` (its lines), `in_memory` (stores), `run_text`; `cluster_size` (how many processes), `waiting` (what they
+//!   wait for)
 //! - `check`: `run --check`, with `checked` (the comparison), `kept_script` and `event_text` (the run without failures as a
 //!   script)
 //! - `followed`: `run --follow`
@@ -46,9 +47,11 @@ mod sim_script;
 mod sim_text;
 mod state_text;
 pub mod steps;
+mod waiting;
 mod word_script;
 
 pub use checked::{checked_events, checked_text};
 pub use cluster_size::count_processes;
 pub use error::CommandError;
 pub use in_memory::InMemory;
+pub use waiting::waiting_text;

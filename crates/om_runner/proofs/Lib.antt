@@ -6,3 +6,4 @@ mod SettleLemmas
 mod ActLemmas
 mod FaultLemmas
 mod FollowLemmas
+mod WatchLemmas

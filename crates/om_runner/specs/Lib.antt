@@ -1,3 +1,4 @@
 pub mod Reports
 pub mod Telling
+pub mod Watching
 pub mod steps

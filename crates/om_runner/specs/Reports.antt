@@ -1,5 +1,5 @@
 -- What a run of a cluster ends with.
-use Rattle.std.specs.Prelude.{◌≡◌, ℕ, ◌<◌, List, Some, Bool, IsTrue, slice_get, length}
+use Rattle.std.specs.Prelude.{◌≡◌, ℕ, ◌<◌, List, Option, None, Some, IfSome, Bool, IsTrue, slice_get, length}
 use Rattle.std.specs.FinMap as map
 use Rattle.om_stable.specs.Content.{Content}
 use Rattle.om_process.specs.Core.{status_of}
@@ -40,11 +40,15 @@ AreStatusesAlong images statuses = (p : ℕ) (image : Image) (status : Status)
     → slice_get images p ≡ Some image → slice_get statuses p ≡ Some status
     → IsStatusAlong (program_of image) p (length images) status
 
+-- the process that a fault names, if it names one
+abbrev pub process_of : RunFault → Option ℕ
+process_of (Turns pid) = Some pid
+process_of (GateShut pid) = Some pid
+process_of (Fault pid) = Some pid
+process_of (Load pid) = Some pid
+process_of Memory = None
+process_of NoThread = None
+
 -- the fault is of one of n processes, or of none
 abbrev pub IsFaultOf : ℕ → RunFault → Type 0
-IsFaultOf n (Turns pid) = pid < n
-IsFaultOf n (GateShut pid) = pid < n
-IsFaultOf n (Fault pid) = pid < n
-IsFaultOf n (Load pid) = pid < n
-IsFaultOf n Memory = Unit {0}
-IsFaultOf n NoThread = Unit {0}
+IsFaultOf n fault = IfSome (process_of fault) (λ pid. pid < n)

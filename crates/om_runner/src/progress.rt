@@ -1,5 +1,8 @@
 //! How far a cluster has come.
 
+ghost use Rattle.std.specs.Prelude.{◌≡◌, ◌<◌, ◌≤◌, ◌+◌, ◌↔◌, IsTrue};
+ghost use Rattle.om_runner.specs.Watching.{IsNewest, capped, newness, sum_over};
+
 use crate::sight::Sight;
 use om_board::Front;
 use std::fmt;
@@ -18,7 +21,9 @@ pub struct Progress {
 }
 
 // Whether one front is newer than the other. None is the oldest.
-fn is_newer(one: &Option<Front>, other: &Option<Front>) -> bool {
+fn is_newer(one: &Option<Front>, other: &Option<Front>) -> bool
+    ensures { IsTrue result ↔ newness other.now < newness one.now }
+{
     let Some(one) = one else {
         return false;
     };
@@ -30,7 +35,12 @@ fn is_newer(one: &Option<Front>, other: &Option<Front>) -> bool {
 
 impl Progress {
     /// Of a cluster of whose processes this was seen.
-    pub fn of(sights: &[Sight]) -> Progress {
+    pub fn of(sights: &[Sight]) -> Progress
+        ensures count { result.count ≡ sum_over (λ s. s.count) sights.now }
+        ensures put { result.put ≡ sum_over (λ s. s.put) sights.now }
+        ensures taken { result.taken ≡ sum_over (λ s. s.taken) sights.now }
+        ensures newest { IsNewest sights.now result.front }
+    {
         let mut progress = Progress {
             count: 0,
             put: 0,
@@ -44,7 +54,13 @@ impl Progress {
     }
 
     // With what was seen of one more process.
-    fn with(self, sight: &Sight) -> Progress {
+    fn with(self, sight: &Sight) -> Progress
+        ensures count { result.count ≡ capped (self.count + sight.now.count) }
+        ensures put { result.put ≡ capped (self.put + sight.now.put) }
+        ensures taken { result.taken ≡ capped (self.taken + sight.now.taken) }
+        ensures newer { newness self.front < newness sight.now.front → result.front ≡ sight.now.front }
+        ensures kept { newness sight.now.front ≤ newness self.front → result.front ≡ self.front }
+    {
         let front = if is_newer(&sight.front, &self.front) {
             sight.front
         } else {

@@ -1,5 +1,9 @@
 //! What is seen of a process while its cluster runs.
 
+ghost use Rattle.std.specs.Prelude.{◌≡◌, ◌↔◌, IsTrue, None};
+ghost use Rattle.om_runner.specs.Watching.{HasEnded};
+ghost use Rattle.om_runner.specs.declared.sight.Doing.TheVariants.{Begins};
+
 use om_board::Front;
 use om_process::Status;
 use std::fmt;
@@ -52,7 +56,9 @@ pub struct Sight {
 
 impl Sight {
     /// Of a process that was not started yet.
-    pub fn new() -> Sight {
+    pub fn new() -> Sight
+        ensures begins { result ≡ record { doing = Begins; interval = 0; count = 0; put = 0; taken = 0; front = None } }
+    {
         Sight {
             doing: Doing::Begins,
             interval: 0,
@@ -64,7 +70,9 @@ impl Sight {
     }
 
     /// Whether the process has come to its end.
-    pub fn has_ended(&self) -> bool {
+    pub fn has_ended(&self) -> bool
+        ensures ended { IsTrue result ↔ HasEnded self.now.doing }
+    {
         matches!(
             self.doing,
             Doing::Up(Status::Ended(_)) | Doing::Up(Status::Trapped(_))

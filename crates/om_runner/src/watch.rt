@@ -1,8 +1,11 @@
 //! Who sees what the processes of a cluster do.
 
+ghost use Rattle.std.specs.Prelude.{◌≡◌, IfOk, length};
+
 use crate::sight::Sight;
 use om_interval::Pid;
 use std::alloc::{AllocError, Global};
+use std::marker::Model;
 use std::sync::{Mutex, Wait};
 
 /// Sees what the processes of a cluster do while it runs. Each worker shows its process at the end of each turn.
@@ -12,9 +15,23 @@ pub struct Watch {
     sights: Vec<Mutex<Sight>>,
 }
 
+// Of how many processes it is.
+impl Model for Watch {
+    ghost use Rattle.std.specs.Prelude.{ℕ, vec_len};
+    ghost use Rattle.std.specs.Coded.{coded_ℕ};
+
+    ghost Value = { ℕ };
+
+    ghost coded = { coded_ℕ };
+
+    ghost view = { λ w. vec_len w.sights };
+}
+
 impl Watch {
     /// Of a cluster of so many processes that is to be run.
-    pub fn new(alloc: Global, n: usize) -> Result<Watch, AllocError> {
+    pub fn new(alloc: Global, n: usize) -> Result<Watch, AllocError>
+        ensures many { IfOk result (λ watch. watch ≡ n) }
+    {
         let mut sights = Vec::with_capacity(alloc, n)?;
         for _ in 0..n {
             sights.push(Mutex::new(Sight::new()))?;
@@ -23,7 +40,9 @@ impl Watch {
     }
 
     /// What was seen last of each process, by number.
-    pub fn sights<R: Wait>(&self, rt: &R, alloc: Global) -> Result<Vec<Sight>, AllocError> {
+    pub fn sights<R: Wait>(&self, rt: &R, alloc: Global) -> Result<Vec<Sight>, AllocError>
+        ensures each { IfOk result (λ sights. length sights.items ≡ self.now) }
+    {
         let mut sights = Vec::with_capacity(alloc, self.sights.len())?;
         for place in &self.sights {
             let sight = *place.lock(rt);

@@ -8,6 +8,8 @@ mod clusters;
 #[cfg(test)]
 mod commands;
 #[cfg(test)]
+mod ending;
+#[cfg(test)]
 mod image;
 #[cfg(test)]
 mod programs;

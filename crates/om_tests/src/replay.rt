@@ -3,8 +3,11 @@
 ghost use Rattle.std.specs.Prelude.{◌≡◌, false};
 
 use crate::commands::Failing;
+use crate::ending::check_end;
 use om_commands::CommandError;
 use om_commands::replay::replay;
+use om_commands::show::show;
+use om_commands::steps::replay_steps;
 use om_files::replay_over;
 use om_interval::Pid;
 use om_isa::Ext;
@@ -285,18 +288,17 @@ fn a_writer_that_fails(rt: HostRuntime) {
     assert!(&rt; told == Err(CommandError::CannotWrite), "{told:?}");
 }
 
-static REFUSALS: [(CommandError, &str); 5] = [
-    (CommandError::NoCheckpoint, "no checkpoint"),
-    (CommandError::Damaged(7), "damaged 7"),
-    (CommandError::MissingReceipt(8), "missing receipt 8"),
-    (CommandError::Mismatch(9), "mismatch 9"),
-    (CommandError::StoreFault, "store fault"),
-];
-
 #[test]
-fn texts_of_refusals(rt: HostRuntime) {
-    for (error, text) in &REFUSALS {
-        let told = error.to_string(rt.alloc()).expect(&rt, "memory");
-        assert_eq!(rt; told.as_str(), *text);
-    }
+fn looks_that_are_refused(rt: HostRuntime) {
+    let mut store = MemStable::new(rt.alloc());
+    fill(&rt, rt.alloc(), &mut store, &RECEIPT);
+    let mut text = Vec::new(rt.alloc());
+    let told = replay(rt.alloc(), &mut store, 2, &mut text);
+    check_end(&rt, rt.alloc(), told, Some("missing receipt 2"));
+    let told = replay_steps(rt.alloc(), &mut store, 2, 1, true, &mut text);
+    check_end(&rt, rt.alloc(), told, Some("missing receipt 2"));
+    let mut store = FuseStable::new(MemStable::new(rt.alloc()), 0);
+    let told = show(rt.alloc(), &mut store, &mut text);
+    check_end(&rt, rt.alloc(), told, Some("store fault"));
+    assert_eq!(rt; text.len(), 0);
 }

@@ -1,5 +1,6 @@
 //! Rows of the commands that read a text: what a command is given, and what it must write or be refused with.
 
+use crate::ending::check_end;
 use om_commands::check::run_checked;
 use om_commands::decode::decode;
 use om_commands::frontier::frontier;
@@ -32,7 +33,7 @@ pub enum How {
     Writes,
     /// What is written begins with it.
     Begins,
-    /// The command is refused, nothing is written, and this is the text of the error.
+    /// The command is refused, nothing is written, and this is the line of the error.
     Refused,
 }
 
@@ -84,7 +85,7 @@ fn carry_out<R: Threads + Wait + Clock + Sync>(
     }
 }
 
-/// Compares what a command answered to this input, and what it wrote.
+/// Compares what a command answered to this input, how it ends then, and what it wrote.
 pub fn check_answer(
     rt: &impl Abort,
     alloc: Global,
@@ -92,24 +93,13 @@ pub fn check_answer(
     (answer, written): (Result<(), CommandError>, &[u8]),
     (how, wanted): (How, &str),
 ) {
-    let error = error_text(rt, alloc, answer);
     let told = shown(written, how, wanted.len());
-    match how {
-        How::Refused => compare(rt, input, (&error, told), (wanted, &[])),
-        _ => compare(rt, input, (&error, told), ("", wanted.as_bytes())),
-    }
-}
-
-// The text of the error, or none.
-fn error_text(rt: &impl Abort, alloc: Global, answer: Result<(), CommandError>) -> String {
-    match answer {
-        Ok(()) => String::new(alloc),
-        Err(error) => error.to_string(alloc).expect(rt, "memory"),
-    }
-}
-
-fn compare(rt: &impl Abort, input: &str, told: (&str, &[u8]), wanted: (&str, &[u8])) {
-    assert_eq!(rt; told, wanted, "{input}");
+    let (line, text) = match how {
+        How::Refused => (Some(wanted), ""),
+        _ => (None, wanted),
+    };
+    check_end(rt, alloc, answer, line);
+    assert_eq!(rt; told, text.as_bytes(), "{input}");
 }
 
 // What is compared of what was written: so many bytes where it has to begin with them, else all.

@@ -66,6 +66,9 @@ static FAULTY: [Row; 25] = [
     ),
 ];
 
+// A process that goes round for ever, of which one turn is taken.
+static ENDLESS: [Row; 1] = [("program a 16 0000006f\nproc p a\n", Refused, "out of turns")];
+
 // How many failures of the one process are planned, and what comes of it.
 static FAILURES: [(usize, How, &str); 2] = [
     (64, Writes, "end p ended 0\n"),
@@ -78,6 +81,8 @@ fn cluster_files_and_their_texts(rt: HostRuntime) {
     check(&rt, rt.alloc(), Command::Check(TURNS), ONE, &LINES);
     check(&rt, rt.alloc(), Command::Check(TURNS), "", &FAULTY);
     check(&rt, rt.alloc(), Command::Run(TURNS), "", &FAULTY);
+    check(&rt, rt.alloc(), Command::Run(1), "", &ENDLESS);
+    check(&rt, rt.alloc(), Command::Check(1), "", &ENDLESS);
     for (count, how, wanted) in &FAILURES {
         let kills = "kill p 9\n"
             .repeat(rt.alloc(), *count)

@@ -2,10 +2,11 @@
 
 ghost use Rattle.std.specs.Prelude.{◌≡◌};
 
-use crate::checking::{makes_file, run_as};
+use crate::checking::makes_file;
 use crate::source::source_of;
 use crate::store_files::run_over_tables;
 use crate::voice::{Voice, voice_of};
+use crate::watching::run_watched;
 use om_arguments::{Asked, Lines, Look, Request, Running, end, end_unasked, end_unread, parse};
 use om_commands::decode::decode;
 use om_commands::draw::{Window, draw};
@@ -31,7 +32,10 @@ use std::{env, io};
 // refused, and 2 where the arguments were.
 //
 // `threads` is the same runtime, which only `main` may have start threads and wait.
-pub(crate) fn run<R: Threads + Wait + Clock + Sync>(rt: &HostRuntime, threads: &R) -> ExitCode {
+pub(crate) fn run<R: Threads + Wait + Clock + Eprint + Sync>(
+    rt: &HostRuntime,
+    threads: &R,
+) -> ExitCode {
     let words = match words(rt) {
         Ok(words) => words,
         Err(error) => return end_unread(rt, &error),
@@ -46,7 +50,7 @@ fn words<R: Runtime + AllocGlobal>(rt: &R) -> io::Result<Vec<String>> {
     Ok(env::args(rt)?.collect(rt.alloc())?)
 }
 
-fn carry_out<R: Threads + Wait + Clock + Sync>(
+fn carry_out<R: Threads + Wait + Clock + Eprint + Sync>(
     rt: &HostRuntime,
     threads: &R,
     asked: Asked<'_>,
@@ -121,7 +125,7 @@ fn write_line<I: Read, W: Write>(
 
 // Runs the cluster that is read, over the files of the prefix or over memory. Before a file is made, the input is read, and is a
 // cluster file.
-fn run_over<R: Threads + Wait + Clock + Sync, I: Read, W: Write>(
+fn run_over<R: Threads + Wait + Clock + Eprint + Sync, I: Read, W: Write>(
     rt: &HostRuntime,
     threads: &R,
     running: Running<'_>,
@@ -135,19 +139,12 @@ fn run_over<R: Threads + Wait + Clock + Sync, I: Read, W: Write>(
     if makes_file(running.checking) {
         count_processes(rt.alloc(), &mut bytes.as_slice())?;
     }
-    run_as(
-        rt,
-        threads,
-        running,
-        &InMemory,
-        &mut bytes.as_slice(),
-        writer,
-    )
+    run_watched(rt, threads, running, &InMemory, &bytes, writer)
 }
 
 // Runs the cluster over files that are made for it. A name that is there refuses the run before any file is made. Once it ended
 // well, each store is in its one file; where it was refused, the files that nobody wrote to are removed.
-fn run_over_files<R: Threads + Wait + Clock + Sync, W: Write>(
+fn run_over_files<R: Threads + Wait + Clock + Eprint + Sync, W: Write>(
     rt: &HostRuntime,
     threads: &R,
     running: Running<'_>,
@@ -155,14 +152,14 @@ fn run_over_files<R: Threads + Wait + Clock + Sync, W: Write>(
     bytes: &[u8],
     writer: &mut W,
 ) -> Result<(), CommandError> {
-    let (mut counted, mut reader) = (bytes, bytes);
+    let mut counted = bytes;
     let n = count_processes(rt.alloc(), &mut counted)?;
     let places = match Places::look(rt, prefix, n) {
         Ok(places) => places,
         Err(error) => return Err(taken(rt, running, error)),
     };
     let files = Files { rt, prefix };
-    let outcome = run_over_tables(rt, threads, running, files, &mut reader, writer);
+    let outcome = run_over_tables(rt, threads, running, files, bytes, writer);
     match outcome {
         Ok(()) => settle(rt, prefix, n),
         Err(error) => {

@@ -6,6 +6,7 @@ mod checking;
 mod source;
 mod store_files;
 mod voice;
+mod watching;
 
 use std::process::ExitCode;
 

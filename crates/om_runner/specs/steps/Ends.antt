@@ -1,9 +1,9 @@
 -- What a worker brings back.
-use Rattle.std.specs.Prelude.{◌≡◌, ℕ, ◌<◌, ◌≤◌, List, Bool, IfErr, IfOk, IsTrue, Option, None, Some, Result, Ok, Err, length, slice_get, slice_index_or}
+use Rattle.std.specs.Prelude.{◌≡◌, ℕ, ◌<◌, ◌≤◌, List, Bool, IfErr, IfOk, IfSome, IsTrue, Option, None, Some, Result, Ok, Err, length, slice_get, slice_index_or}
 use Rattle.om_process.specs.Images.{program_of}
 use Rattle.om_process.specs.Process.{Program}
 use Rattle.om_process.specs.declared.image.Image.{Image}
-use Rattle.om_runner.specs.Reports.{IsEnd, IsStatusAlong}
+use Rattle.om_runner.specs.Reports.{IsEnd, IsStatusAlong, process_of}
 use Rattle.om_runner.specs.declared.config.Config.{Config}
 use Rattle.om_runner.specs.declared.fault.RunFault.{RunFault}
 use Rattle.om_runner.specs.declared.fault.RunFault.TheVariants.{Turns, GateShut, Memory, Fault, Load, NoThread}
@@ -47,12 +47,7 @@ pub record IsGiven (config : Config) : Type 0 where
 
 -- the fault is of this process, or of none
 abbrev pub IsFaultBy : ℕ → RunFault → Type 0
-IsFaultBy own (Turns pid) = pid ≡ own
-IsFaultBy own (GateShut pid) = pid ≡ own
-IsFaultBy own (Fault pid) = pid ≡ own
-IsFaultBy own (Load pid) = pid ≡ own
-IsFaultBy own Memory = Unit {0}
-IsFaultBy own NoThread = Unit {0}
+IsFaultBy own fault = IfSome (process_of fault) (λ pid. pid ≡ own)
 
 -- the worker of a process ended well, and then the run gave it turns; or with a fault of its own
 pub record IsOwnEnd {F : Type 0} (config : Config) (own : ℕ) (result : Result F RunFault) : Type 0 where

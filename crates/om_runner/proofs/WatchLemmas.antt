@@ -1,0 +1,42 @@
+-- What is seen of one process more.
+use Rattle.std.proofs.Common.{◌≡◌, ◌≢◌, inl, inr, ◌⊎◌, ℕ, ◌+◌, ◌<◌, ◌≤◌, List, [], ◌∷◌, ◌++◌, Option, Some, None, refl, sym, ap, ◌∙◌, subst, arith, length}
+use Rattle.std.specs.Prelude.{slice_index_or}
+use Rattle.std.specs.List.{All, Any}
+use Rattle.std.proofs.lemmas.List.Elements.{All-append}
+use Rattle.std.proofs.lemmas.List.Quantifiers.{Any-push}
+use Rattle.om_board.specs.declared.front.Front.{Front}
+use Rattle.om_runner.specs.Watching.{IsNewest, newness}
+use Rattle.om_runner.specs.declared.sight.Sight.{Sight}
+
+length_push : (sights : List Sight) (s : Sight) → length sights < length (sights ++ s ∷ [])
+length_push [] s = omega arith
+length_push (t ∷ sights) s = let h = length_push sights s in omega arith
+
+index_push : (sights : List Sight) (s x : Sight) (k : ℕ) → k < length sights → slice_index_or (sights ++ s ∷ []) k x ≡ slice_index_or sights k x
+index_push [] s x k lt = absurd (omega arith)
+index_push (t ∷ sights) s x zero lt = refl
+index_push (t ∷ sights) s x (suc k) lt = index_push sights s x k (omega arith)
+
+-- one of the first is one of all
+any_push : (P : Sight → Type 0) (sights : List Sight) (s : Sight) → Any P sights → Any P (sights ++ s ∷ [])
+any_push P sights s (k, x, lt, at, is) = let long = length_push sights s in (k, x, omega arith, index_push sights s x k lt ∙ at, is)
+
+none_above : (n m : ℕ) (sights : List Sight) → n ≤ m → All (λ s. newness s.front ≤ n) sights → All (λ s. newness s.front ≤ m) sights
+none_above n m [] le each = each
+none_above n m (s ∷ sights) le each = (omega (arith, le, each.0), none_above n m sights le each.1)
+
+-- a front that is newer than those before it
+pub newer_seen : (sights : List Sight) (front : Option Front) (s : Sight) → IsNewest sights front → newness front < newness s.front
+    → IsNewest (sights ++ s ∷ []) s.front
+newer_seen sights front s was newer = record {
+  seen = λ some. Any-push (λ t. t.front ≡ s.front) sights s refl;
+  newest = All-append _ sights (s ∷ []) (none_above (newness front) (newness s.front) sights (omega (arith, newer)) was.newest) (omega arith, tt);
+}
+
+-- one that is not
+pub older_seen : (sights : List Sight) (front : Option Front) (s : Sight) → IsNewest sights front → newness s.front ≤ newness front
+    → IsNewest (sights ++ s ∷ []) front
+older_seen sights front s was older = record {
+  seen = λ some. any_push (λ t. t.front ≡ front) sights s (was.seen some);
+  newest = All-append _ sights (s ∷ []) was.newest (older, tt);
+}
