@@ -129,6 +129,14 @@ pub node_moved : {S : Type 0} (content : S → Content) (is_clean : S → Bool) 
 node_moved content is_clean IsSound m core next store is own size on =
     node_called content is_clean IsSound m core next store store is (λ c. c) (λ c s. s) own size on (λ k here stored. stored)
 
+-- what is reached through boxes
+pub node_through : {S : Type 0} (content : S → Content) (is_clean : S → Bool) (IsSound : S → Type 0) (m : Member) (core seen : CoreState) (store held : S)
+    → seen ≡ core → held ≡ store → IsNode content is_clean IsSound (record { member = m; core = core }) store
+    → IsNode content is_clean IsSound (record { member = m; core = seen }) held
+node_through content is_clean IsSound m core seen store held same_core same_store is =
+    subst (λ d. IsNode content is_clean IsSound (record { member = m; core = d }) held) (sym same_core)
+    (subst (IsNode content is_clean IsSound (record { member = m; core = core })) (sym same_store) is)
+
 -- ---- the moves of a member
 -- it has run
 pub node_ran : {S : Type 0} (content : S → Content) (is_clean : S → Bool) (IsSound : S → Type 0) (m : Member) (core next : CoreState) (store : S) (fuel : ℕ)

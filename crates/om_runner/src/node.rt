@@ -17,7 +17,7 @@ use om_manager::{OutputError, RecordError};
 use om_member::Office;
 use om_process::{Accept, Down, Image, ProcCore, Ran, StartFault, Status};
 use om_stable::Stable;
-use std::alloc::Global;
+use std::alloc::{AllocError, Global};
 use std::marker::Model;
 
 // A process that is up, and its store. Where the store is clean, the process stands along its image, and so does each
@@ -28,8 +28,9 @@ pub(crate) struct Node<'a, S: Stable> {
     pid: Pid,
     // The number of processes.
     n: usize,
-    core: ProcCore,
-    store: S,
+    // In boxes, which a worker moves from call to call.
+    core: Box<ProcCore>,
+    store: Box<S>,
 }
 
 impl<'a, S: Stable> Model for Node<'a, S> {
@@ -40,11 +41,11 @@ impl<'a, S: Stable> Model for Node<'a, S> {
 
     ghost view = { λ d. record {
       member = record { program = program_of d.image.now; own = d.pid; n = d.n };
-      core = d.core;
+      core = d.core.value;
     } };
 
     ghost invariant = { λ d. IsNode S.content S.is_clean S.IsSound
-        (record { member = record { program = program_of d.image.now; own = d.pid; n = d.n }; core = d.core }) d.store };
+        (record { member = record { program = program_of d.image.now; own = d.pid; n = d.n }; core = d.core.value }) d.store.value };
 }
 
 // A process that is down, and its store.
@@ -53,7 +54,7 @@ pub(crate) struct Fallen<'a, S: Stable> {
     image: &'a Image,
     pid: Pid,
     n: usize,
-    store: S,
+    store: Box<S>,
 }
 
 impl<'a, S: Stable> Model for Fallen<'a, S> {
@@ -65,7 +66,17 @@ impl<'a, S: Stable> Model for Fallen<'a, S> {
     ghost view = { λ d. record { program = program_of d.image.now; own = d.pid; n = d.n } };
 
     ghost invariant = { λ d. IsKept S.content S.is_clean S.IsSound
-        (record { program = program_of d.image.now; own = d.pid; n = d.n }) d.store };
+        (record { program = program_of d.image.now; own = d.pid; n = d.n }) d.store.value };
+}
+
+// A value in a box of its own.
+fn boxed<T: Drop>(alloc: Global, value: T) -> Result<Box<T>, AllocError>
+    ensures { IfOk result (λ b. b.value ≡ value) }
+{
+    match Box::new(alloc, value) {
+        Ok(in_box) => Ok(in_box),
+        Err(error) => Err(AllocError::from(error)),
+    }
 }
 
 // Whether a process has come to its end.
@@ -91,7 +102,7 @@ impl<'a, S: Stable> Node<'a, S> {
         requires empty { IsTrue (S.is_clean store) → S.content store ≡ nothing }
         ensures { IfOk result (λ node. node.member ≡ record { program = program_of image.entry.now; own = pid; n = n }) }
     {
-        let mut store = store;
+        let mut store = boxed(alloc, store)?;
         let core = ProcCore::start(
             alloc,
             &image.bytes,
@@ -99,8 +110,9 @@ impl<'a, S: Stable> Node<'a, S> {
             image.ext,
             pid,
             n,
-            &mut store,
+            &mut *store,
         )?;
+        let core = boxed(alloc, core)?;
         Ok(Node {
             image,
             pid,
@@ -139,7 +151,7 @@ impl<'a, S: Stable> Node<'a, S> {
         ensures member { self.new.member ≡ self.old.member }
         ensures stored { OnOk result (self.new.core ≡ flushed self.old.core) }
     {
-        Ok(self.core.flush(alloc, &mut self.store)?)
+        Ok(self.core.flush(alloc, &mut *self.store)?)
     }
 
     // Stores a checkpoint of now.
@@ -147,7 +159,7 @@ impl<'a, S: Stable> Node<'a, S> {
     pub(crate) fn checkpoint(&mut self, alloc: Global) -> Result<(), Trouble>
         ensures { self.new.member ≡ self.old.member }
     {
-        Ok(self.core.checkpoint(alloc, &mut self.store)?)
+        Ok(self.core.checkpoint(alloc, &mut *self.store)?)
     }
 
     // Offers the pending rows to the manager, up to the first that is refused, and says how many were not: those are pending no
@@ -234,7 +246,7 @@ impl<'a, S: Stable> Node<'a, S> {
             core,
             store,
         } = self;
-        core.fail();
+        Box::into_inner(core).fail();
         Fallen {
             image,
             pid,
@@ -256,7 +268,7 @@ impl<'a, S: Stable> Node<'a, S> {
             return Err(self);
         }
         let Node { store, .. } = self;
-        Ok((status, store))
+        Ok((status, Box::into_inner(store)))
     }
 }
 
@@ -278,14 +290,17 @@ impl<'a, S: Stable> Fallen<'a, S> {
             n,
             mut store,
         } = self;
-        match (Down { pid, n }).roll_back(alloc, &mut store, starts, verdict) {
-            Ok(core) => Ok(Node {
-                image,
-                pid,
-                n,
-                core,
-                store,
-            }),
+        match (Down { pid, n }).roll_back(alloc, &mut *store, starts, verdict) {
+            Ok(core) => {
+                let core = boxed(alloc, core)?;
+                Ok(Node {
+                    image,
+                    pid,
+                    n,
+                    core,
+                    store,
+                })
+            }
             Err((_, fault)) => Err(Trouble::from(fault)),
         }
     }
