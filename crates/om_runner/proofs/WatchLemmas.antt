@@ -1,11 +1,14 @@
 -- What is seen of one process more.
-use Rattle.std.proofs.Common.{◌≡◌, ◌≢◌, inl, inr, ◌⊎◌, ℕ, ◌+◌, ◌<◌, ◌≤◌, List, [], ◌∷◌, ◌++◌, Option, Some, None, refl, sym, ap, ◌∙◌, subst, arith, length}
+use Rattle.std.proofs.Common.{◌≡◌, ℕ, zero, suc, ◌+◌, ◌<◌, ◌≤◌, List, [], ◌∷◌, ◌++◌, Option, refl, sym, ap, ◌∙◌, subst, arith, get_or, length, take, add-one, inl, inr}
 use Rattle.std.specs.Prelude.{slice_index_or}
-use Rattle.std.specs.List.{All, Any}
+use Rattle.std.specs.List.{All, Any, sum_by}
 use Rattle.std.proofs.lemmas.List.Elements.{All-append}
 use Rattle.std.proofs.lemmas.List.Quantifiers.{Any-push}
+use Rattle.std.proofs.lemmas.Bool.{cases_lt}
+use Rattle.std.proofs.lemmas.List.Sums.{sum_by_push}
+use Rattle.std.proofs.Math.Seq.{take-suc}
 use Rattle.om_board.specs.declared.front.Front.{Front}
-use Rattle.om_runner.specs.Watching.{IsNewest, newness}
+use Rattle.om_runner.specs.Watching.{IsNewest, capped, newness, sum_over}
 use Rattle.om_runner.specs.declared.sight.Sight.{Sight}
 
 length_push : (sights : List Sight) (s : Sight) → length sights < length (sights ++ s ∷ [])
@@ -40,3 +43,25 @@ older_seen sights front s was older = record {
   seen = λ some. any_push (λ t. t.front ≡ front) sights s (was.seen some);
   newest = All-append _ sights (s ∷ []) was.newest (older, tt);
 }
+
+-- the sum over one more
+pub sum_next : (f : Sight → ℕ) (sights : List Sight) (k : ℕ) (d : Sight) → k < length sights
+    → capped (sum_over f (take k sights) + f (get_or sights k d)) ≡ sum_over f (take (k + 1) sights)
+sum_next f sights k d lt =
+    let next : sum_by f (take (suc k) sights) ≡ sum_by f (take k sights) + f (get_or sights k d) =
+        ap (sum_by f) (take-suc sights k d lt) ∙ sum_by_push f (take k sights) (get_or sights k d) in
+    let same : sum_by f (take (k + 1) sights) ≡ sum_by f (take (suc k) sights) = ap (λ n. sum_by f (take n sights)) (add-one k) in
+    omega (arith, next, same)
+
+pub newest_next : (sights : List Sight) (k : ℕ) (d : Sight) (front next : Option Front) → k < length sights → IsNewest (take k sights) front
+    → (newness front < newness (get_or sights k d).front → next ≡ (get_or sights k d).front)
+    → (newness (get_or sights k d).front ≤ newness front → next ≡ front)
+    → IsNewest (take (k + 1) sights) next
+newest_next sights k d front next lt was newer older =
+    let s = get_or sights k d in
+    let all : take (k + 1) sights ≡ take k sights ++ s ∷ [] = ap (λ n. take n sights) (add-one k) ∙ take-suc sights k d lt in
+    subst (λ l. IsNewest l next) (sym all)
+    (elim (cases_lt (newness front) (newness s.front)) [
+      | inl more ↦ subst (λ f. IsNewest (take k sights ++ s ∷ []) f) (sym (newer more)) (newer_seen (take k sights) front s was more)
+      | inr less ↦ subst (λ f. IsNewest (take k sights ++ s ∷ []) f) (sym (older less)) (older_seen (take k sights) front s was less)
+    ])
