@@ -565,46 +565,78 @@ fn sim_command<'a>(alloc: Global) -> Command<'a> {
 }
 
 fn run_command<'a>(alloc: Global) -> Result<Command<'a>, AllocError> {
-    let turns = Arg::new(alloc, TURNS).long(TURNS).value_name("K").help(
+    let command = Command::new(alloc, RUN)
+        .about("Logged processes that run in threads, fail and recover")
+        .after_help(RUN_HELP)
+        .arg(turns_option(alloc))?
+        .arg(store_option(alloc))?;
+    with_tellings(alloc, with_checks(alloc, command)?)
+}
+
+// With the options that check a run.
+fn with_checks<'a>(alloc: Global, command: Command<'a>) -> Result<Command<'a>, AllocError> {
+    command
+        .arg(check_option(alloc))?
+        .arg(witness_option(alloc))
+}
+
+// With the options that say what happened in a run.
+fn with_tellings<'a>(alloc: Global, command: Command<'a>) -> Result<Command<'a>, AllocError> {
+    command
+        .arg(record_option(alloc)?)?
+        .arg(follow_option(alloc)?)?
+        .arg(verbose_option(alloc))
+}
+
+fn turns_option<'a>(alloc: Global) -> Arg<'a> {
+    Arg::new(alloc, TURNS).long(TURNS).value_name("K").help(
         "The most turns of each process, a number of 64 bits [default: 50000000]",
-    );
-    let store = Arg::new(alloc, STORE)
+    )
+}
+
+fn store_option<'a>(alloc: Global) -> Arg<'a> {
+    Arg::new(alloc, STORE)
         .long(STORE)
         .value_name("PREFIX")
-        .help("Keep the stores in files");
-    let check = Arg::new(alloc, CHECK)
+        .help("Keep the stores in files")
+}
+
+fn check_option<'a>(alloc: Global) -> Arg<'a> {
+    Arg::new(alloc, CHECK)
         .long(CHECK)
         .help("Write only what a run without failures writes")
-        .action(ArgAction::SetTrue);
-    let witness = Arg::new(alloc, WITNESS)
+        .action(ArgAction::SetTrue)
+}
+
+fn witness_option<'a>(alloc: Global) -> Arg<'a> {
+    Arg::new(alloc, WITNESS)
         .long(WITNESS)
         .value_name("FILE")
-        .help("Check, and write that run to FILE as a script of sim");
-    let record = Arg::new(alloc, RECORD)
+        .help("Check, and write that run to FILE as a script of sim")
+}
+
+fn record_option<'a>(alloc: Global) -> Result<Arg<'a>, AllocError> {
+    Arg::new(alloc, RECORD)
         .long(RECORD)
         .value_name("FILE")
         .help("Write what the threads did to FILE as a script of sim")
         .conflicts_with(CHECK)?
-        .conflicts_with(WITNESS)?;
-    let follow = Arg::new(alloc, FOLLOW)
+        .conflicts_with(WITNESS)
+}
+
+fn follow_option<'a>(alloc: Global) -> Result<Arg<'a>, AllocError> {
+    Arg::new(alloc, FOLLOW)
         .long(FOLLOW)
         .help("Write each output as soon as it is released")
         .action(ArgAction::SetTrue)
         .conflicts_with(CHECK)?
         .conflicts_with(WITNESS)?
-        .conflicts_with(RECORD)?;
-    let verbose = Arg::new(alloc, VERBOSE)
+        .conflicts_with(RECORD)
+}
+
+fn verbose_option<'a>(alloc: Global) -> Arg<'a> {
+    Arg::new(alloc, VERBOSE)
         .long(VERBOSE)
-        .help("Say on standard error too which file was refused, and why")
-        .action(ArgAction::SetTrue);
-    Command::new(alloc, RUN)
-        .about("Logged processes that run in threads, fail and recover")
-        .after_help(RUN_HELP)
-        .arg(turns)?
-        .arg(store)?
-        .arg(check)?
-        .arg(witness)?
-        .arg(record)?
-        .arg(follow)?
-        .arg(verbose)
+        .help("Say more on standard error: what was refused, who waited, how far it is")
+        .action(ArgAction::SetTrue)
 }

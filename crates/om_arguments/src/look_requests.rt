@@ -143,25 +143,34 @@ pub(crate) fn show_command<'a>(alloc: Global) -> Result<Command<'a>, AllocError>
 }
 
 pub(crate) fn replay_command<'a>(alloc: Global) -> Result<Command<'a>, AllocError> {
-    let interval = Arg::new(alloc, INTERVAL)
-        .help("The interval, 0 to 4294967295")
-        .required(true);
-    let steps = Arg::new(alloc, STEPS)
-        .long(STEPS)
-        .value_name("K")
-        .help("Go on for K instructions, a number of 64 bits");
-    let trace = Arg::new(alloc, TRACE)
-        .long(TRACE)
-        .help("Write a line for each of these instructions")
-        .action(ArgAction::SetTrue)
-        .requires_arg(STEPS)?;
     Command::new(alloc, REPLAY)
         .about("The state of a process in an interval, from its store")
         .after_help(REPLAY_HELP)
         .arg(store_file(alloc))?
-        .arg(interval)?
-        .arg(steps)?
-        .arg(trace)
+        .arg(interval_argument(alloc))?
+        .arg(steps_option(alloc))?
+        .arg(trace_option(alloc)?)
+}
+
+fn interval_argument<'a>(alloc: Global) -> Arg<'a> {
+    Arg::new(alloc, INTERVAL)
+        .help("The interval, 0 to 4294967295")
+        .required(true)
+}
+
+fn steps_option<'a>(alloc: Global) -> Arg<'a> {
+    Arg::new(alloc, STEPS)
+        .long(STEPS)
+        .value_name("K")
+        .help("Go on for K instructions, a number of 64 bits")
+}
+
+fn trace_option<'a>(alloc: Global) -> Result<Arg<'a>, AllocError> {
+    Arg::new(alloc, TRACE)
+        .long(TRACE)
+        .help("Write a line for each of these instructions")
+        .action(ArgAction::SetTrue)
+        .requires_arg(STEPS)
 }
 
 fn store_file<'a>(alloc: Global) -> Arg<'a> {
