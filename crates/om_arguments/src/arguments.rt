@@ -575,9 +575,7 @@ fn run_command<'a>(alloc: Global) -> Result<Command<'a>, AllocError> {
 
 // With the options that check a run.
 fn with_checks<'a>(alloc: Global, command: Command<'a>) -> Result<Command<'a>, AllocError> {
-    command
-        .arg(check_option(alloc))?
-        .arg(witness_option(alloc))
+    command.arg(check_option(alloc))?.arg(witness_option(alloc))
 }
 
 // With the options that say what happened in a run.

@@ -2,7 +2,7 @@
 use Rattle.std.proofs.Common.{◌≡◌, ℕ, zero, suc, ◌+◌, ◌<◌, ◌≤◌, List, [], ◌∷◌, ◌++◌, Option, refl, sym, ap, ◌∙◌, subst, arith, get_or, length, take, add-one, inl, inr}
 use Rattle.std.specs.Prelude.{slice_index_or}
 use Rattle.std.specs.List.{All, Any, sum_by}
-use Rattle.std.proofs.lemmas.List.Elements.{All-append}
+use Rattle.std.proofs.lemmas.List.Elements.{All-push}
 use Rattle.std.proofs.lemmas.List.Quantifiers.{Any-push}
 use Rattle.std.proofs.lemmas.Bool.{cases_lt}
 use Rattle.std.proofs.lemmas.List.Sums.{sum_by_push}
@@ -25,15 +25,14 @@ any_push : (P : Sight → Type 0) (sights : List Sight) (s : Sight) → Any P si
 any_push P sights s (k, x, lt, at, is) = let long = length_push sights s in (k, x, omega arith, index_push sights s x k lt ∙ at, is)
 
 none_above : (n m : ℕ) (sights : List Sight) → n ≤ m → All (λ s. newness s.front ≤ n) sights → All (λ s. newness s.front ≤ m) sights
-none_above n m [] le each = each
-none_above n m (s ∷ sights) le each = (omega (arith, le, each.0), none_above n m sights le each.1)
+none_above n m sights le each = λ k d lt. let here = each k d lt in omega (arith, le, here)
 
 -- a front that is newer than those before it
 pub newer_seen : (sights : List Sight) (front : Option Front) (s : Sight) → IsNewest sights front → newness front < newness s.front
     → IsNewest (sights ++ s ∷ []) s.front
 newer_seen sights front s was newer = record {
   seen = λ some. Any-push (λ t. t.front ≡ s.front) sights s refl;
-  newest = All-append _ sights (s ∷ []) (none_above (newness front) (newness s.front) sights (omega (arith, newer)) was.newest) (omega arith, tt);
+  newest = All-push (λ t. newness t.front ≤ newness s.front) sights s (none_above (newness front) (newness s.front) sights (omega (arith, newer)) was.newest) (omega arith);
 }
 
 -- one that is not
@@ -41,7 +40,7 @@ pub older_seen : (sights : List Sight) (front : Option Front) (s : Sight) → Is
     → IsNewest (sights ++ s ∷ []) front
 older_seen sights front s was older = record {
   seen = λ some. any_push (λ t. t.front ≡ front) sights s (was.seen some);
-  newest = All-append _ sights (s ∷ []) was.newest (older, tt);
+  newest = All-push (λ t. newness t.front ≤ newness front) sights s was.newest older;
 }
 
 -- the sum over one more
@@ -49,7 +48,7 @@ pub sum_next : (f : Sight → ℕ) (sights : List Sight) (k : ℕ) (d : Sight) �
     → capped (sum_over f (take k sights) + f (get_or sights k d)) ≡ sum_over f (take (k + 1) sights)
 sum_next f sights k d lt =
     let next : sum_by f (take (suc k) sights) ≡ sum_by f (take k sights) + f (get_or sights k d) =
-        ap (sum_by f) (take-suc sights k d lt) ∙ sum_by_push f (take k sights) (get_or sights k d) in
+    ap (sum_by f) (take-suc sights k d lt) ∙ sum_by_push f (take k sights) (get_or sights k d) in
     let same : sum_by f (take (k + 1) sights) ≡ sum_by f (take (suc k) sights) = ap (λ n. sum_by f (take n sights)) (add-one k) in
     omega (arith, next, same)
 
