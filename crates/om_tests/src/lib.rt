@@ -21,3 +21,5 @@ mod rows;
 mod run;
 #[cfg(test)]
 mod sim;
+#[cfg(test)]
+mod waiting;
