@@ -17,7 +17,7 @@ use Rattle.om_interval.specs.declared.pid.TheConstants.{MAX_PROCESSES}
 use Rattle.om_process.specs.Images.{program_of}
 use Rattle.om_process.specs.declared.image.Image.{Image}
 use Rattle.om_process.specs.declared.status.Status.{Status}
-use Rattle.om_programs.specs.Programs.{Cluster, program_at, programs_of}
+use Rattle.om_scripts.specs.Programs.{Cluster, program_at, programs_of}
 use Rattle.om_world.specs.World.{WorldState}
 use Rattle.om_world.specs.declared.entry.Entry.{Entry}
 use Rattle.om_commands.specs.ClusterScript.{Script, meaning_of, no_lines}

@@ -2,6 +2,7 @@ pub mod CheckLemmas
 pub mod DecodeLemmas
 pub mod DrawLemmas
 pub mod FollowLemmas
+pub mod PlainNames
 pub mod ReportLemmas
 pub mod RunLemmas
 pub mod ScriptLemmas

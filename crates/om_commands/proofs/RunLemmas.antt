@@ -11,7 +11,7 @@ use Rattle.om_process.specs.Images.{program_of}
 use Rattle.om_process.specs.Process.{Program}
 use Rattle.om_process.specs.declared.image.Image.{Image}
 use Rattle.om_process.specs.declared.status.Status.{Status}
-use Rattle.om_programs.specs.Programs.{Cluster, programs_of}
+use Rattle.om_scripts.specs.Programs.{Cluster, programs_of}
 use Rattle.om_board.specs.Released.{AreAllReleased}
 use Rattle.om_runner.specs.Reports.{AreStatusesAlong, IsEnd, IsStatusAlong}
 use Rattle.om_board.specs.declared.report.Report.{Report}

@@ -15,7 +15,7 @@ use Rattle.om_format.specs.Checkpoints.{is_memory_size}
 use Rattle.om_process.specs.Process.{Program}
 use Rattle.om_process.specs.declared.start.StartFault.{StartFault}
 use Rattle.om_process.specs.declared.start.StartFault.TheVariants.{BadPlace, BadSize, ImageTooLong, Present, Fault, Memory}
-use Rattle.om_programs.specs.Programs.{Cluster, IsProgram, programs_of}
+use Rattle.om_scripts.specs.Programs.{Cluster, IsProgram, programs_of}
 use Rattle.om_stable.specs.Content.{Content}
 use Rattle.om_world.proofs.Beginning.{all_at}
 use Rattle.om_world.specs.Started.{IsRefusedAt, IsWhy}

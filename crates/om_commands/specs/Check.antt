@@ -3,7 +3,7 @@ use Rattle.std.specs.Prelude.{◌≡◌, ℕ, ◌≤◌, List, length}
 use Rattle.om_check.specs.FailureFree.{IsRunBy}
 use Rattle.om_manager.specs.Outputs.{HeldOutput}
 use Rattle.om_process.specs.declared.status.Status.{Status}
-use Rattle.om_programs.specs.Programs.{Cluster, programs_of}
+use Rattle.om_scripts.specs.Programs.{Cluster, programs_of}
 use Rattle.om_world.specs.declared.entry.Entry.{Entry}
 use Rattle.om_commands.specs.Command.{IsScript}
 use Rattle.om_commands.specs.ClusterScript.{Script, meaning_of, no_lines}

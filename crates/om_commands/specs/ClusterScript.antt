@@ -6,8 +6,8 @@ use Rattle.om_text.specs.Numbers.{number_of, long_number_of}
 use Rattle.om_text.specs.Reading.{◌>>=◌, refused, or_error}
 use Rattle.om_text.specs.declared.error.LineError.{LineError}
 use Rattle.om_text.specs.declared.error.LineError.TheVariants.{UnknownLine, WrongCount, BadNumber, BadName, NoSuchName, TooMany}
-use Rattle.om_programs.specs.Named.{is_name, place_of}
-use Rattle.om_programs.specs.Programs.{Cluster, no_programs, program_line, process_line}
+use Rattle.om_scripts.specs.Named.{is_name, place_of}
+use Rattle.om_scripts.specs.Programs.{Cluster, no_programs, program_line, process_line}
 use Rattle.om_commands.specs.declared.cluster_script.TheConstants.{DEFAULT_CHECKPOINT, DEFAULT_FLUSH, DEFAULT_FUEL, MAX_KILLS}
 
 -- what has been read: the programs and processes; which processes are to fail, each in which interval; after how many

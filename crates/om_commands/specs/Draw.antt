@@ -1,7 +1,8 @@
 -- What the command `draw` answers to the bytes of its input.
-use Rattle.std.specs.Prelude.{◌≡◌, ℕ, ◌-◌, List, drop, length, map, nat_le, take}
+use Rattle.std.specs.Prelude.{◌≡◌, ℕ, ◌-◌, List, [], ◌∷◌, drop, length, map, nat_le, take}
 use Rattle.std.specs.List.{count_by}
-use Rattle.om_programs.specs.Programs.{programs_of}
+use Rattle.om_manager.specs.State.{size_of}
+use Rattle.om_scripts.specs.Programs.{programs_of}
 use Rattle.om_text.specs.Lines.{lines_of}
 use Rattle.om_text.specs.Numbered.{numbered}
 use Rattle.om_text.specs.Words.{words_of}
@@ -9,7 +10,10 @@ use Rattle.om_world.specs.Played.{Played}
 use Rattle.om_world.specs.World.{WorldState, IsKnown}
 use Rattle.om_world.specs.declared.event.Answer.{Answer}
 use Rattle.om_world.specs.declared.event.Event.{Event}
+use Rattle.om_picture.specs.Drawing.{IsSketchOf, Sketch}
+use Rattle.om_picture.specs.Marks.{Entry, IsDrawingOf}
 use Rattle.om_picture.specs.PictureText.{picture_text}
+use Rattle.om_picture.specs.Plain.{HasPlainNames}
 use Rattle.om_picture.specs.declared.ending.Drawn.{Drawn}
 use Rattle.om_commands.specs.Command.{IsScript}
 use Rattle.om_commands.specs.Sim.{IsBegun}
@@ -25,23 +29,38 @@ event_lines bytes events =
 abbrev pub count_within : List ℕ → ℕ → ℕ
 count_within lines last = count_by (λ line. nat_le line last) lines
 
--- events that are played, with some answers
-abbrev pub ArePlayed : WorldState → List Event → WorldState → Type 0
-ArePlayed old events new = (answers : List Answer) × Played old events answers new
+-- events with the numbers of their lines and their answers; 0 stands for the number of a line that there is not
+abbrev pub entries_of : List ℕ → List Event → List Answer → List Entry
+entries_of lines [] answers = []
+entries_of lines (event ∷ events) [] = []
+entries_of [] (event ∷ events) (answer ∷ answers) = record { line = 0; event = event; answer = answer } ∷ entries_of [] events answers
+entries_of (line ∷ lines) (event ∷ events) (answer ∷ answers) =
+    record { line = line; event = event; answer = answer } ∷ entries_of lines events answers
 
--- a picture of the first events of a script, so many, played from this world on
-abbrev pub IsPlayedPicture : Script → ℕ → WorldState → List ℕ → Type 0
-IsPlayedPicture script count begun text =
-    (end : WorldState) × ArePlayed begun (take count script.events) end × IsKnown end
-    × ((drawn : Drawn) × (text ≡ picture_text script.cluster drawn))
+-- events of these lines are played, with some answers, and a picture of so many processes has their marks, from a line on
+pub record AreDrawn (lines : List ℕ) (events : List Event) (n first : ℕ) (old new : WorldState) (sketch : Sketch) : Type 0 where
+  pub answers : List Answer
+  pub played : Played old events answers new
+  pub marks : IsSketchOf n first (entries_of lines events answers) sketch
+
+-- a picture of the first events of a script, so many, played from this world on: it has the marks of those from a line on
+pub record IsPlayedPicture (script : Script) (lines : List ℕ) (first count : ℕ) (begun : WorldState) (text : List ℕ) : Type 0 where
+  pub answers : List Answer
+  pub end : WorldState
+  pub played : Played begun (take count script.events) answers end
+  pub known : IsKnown end
+  pub drawn : Drawn
+  pub marks : IsDrawingOf (size_of begun.manager) first (entries_of lines (take count script.events) answers) drawn
+  pub written : text ≡ picture_text script.cluster drawn
 
 -- the same, from the start of its world
-abbrev pub IsPictureOf : Script → ℕ → List ℕ → Type 0
-IsPictureOf script count text =
-    (begun : WorldState) × IsBegun (programs_of script.cluster) begun × IsPlayedPicture script count begun text
+abbrev pub IsPictureOf : Script → List ℕ → ℕ → ℕ → List ℕ → Type 0
+IsPictureOf script lines first count text =
+    (begun : WorldState) × IsBegun (programs_of script.cluster) begun × IsPlayedPicture script lines first count begun text
 
--- a picture of the script that these bytes are, of its events up to the last line
-pub record IsDrawn (last : ℕ) (bytes text : List ℕ) : Type 0 where
+-- a picture of the script that these bytes are, of its events from the first line up to the last; no name in it needs an escape
+pub record IsDrawn (first last : ℕ) (bytes text : List ℕ) : Type 0 where
   pub script : Script
   pub is_script : IsScript meaning_of no_lines bytes script
-  pub picture : IsPictureOf script (count_within (event_lines bytes (length script.events)) last) text
+  pub names : HasPlainNames script.cluster
+  pub picture : (let lines = event_lines bytes (length script.events) in IsPictureOf script lines first (count_within lines last) text)

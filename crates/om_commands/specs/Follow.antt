@@ -3,7 +3,7 @@ use Rattle.std.specs.Prelude.{◌≡◌, ℕ, List, ◌++◌, Option}
 use Rattle.std.specs.Io.KnownBytes.{Appends}
 use Rattle.std.specs.List.{flat_map}
 use Rattle.om_board.specs.declared.report.Report.{Report}
-use Rattle.om_programs.specs.Programs.{Cluster, programs_of}
+use Rattle.om_scripts.specs.Programs.{Cluster, programs_of}
 use Rattle.om_runner.specs.Telling.{AreInOrder, TellsAll, Told}
 use Rattle.om_commands.specs.Command.{IsScript}
 use Rattle.om_commands.specs.ClusterScript.{Script, meaning_of, no_lines}

@@ -3,7 +3,7 @@ use Rattle.std.specs.Prelude.{◌≡◌, ℕ, ◌≤◌, List, All, Some, length
 use Rattle.om_manager.specs.Outputs.{HeldOutput, held_of}
 use Rattle.om_process.specs.Process.{Program}
 use Rattle.om_process.specs.declared.status.Status.{Status}
-use Rattle.om_programs.specs.Programs.{programs_of}
+use Rattle.om_scripts.specs.Programs.{programs_of}
 use Rattle.om_board.specs.Released.{AreAllReleased}
 use Rattle.om_runner.specs.Reports.{IsEnd, IsStatusAlong}
 use Rattle.om_board.specs.declared.report.Report.{Report}

@@ -4,7 +4,7 @@ use Rattle.std.specs.List.{flat_map, range_with_len}
 use Rattle.om_manager.specs.Outputs.{HeldOutput}
 use Rattle.om_process.specs.declared.status.Status.{Status}
 use Rattle.om_process.specs.declared.status.Status.TheVariants.{Ready}
-use Rattle.om_programs.specs.Programs.{Cluster}
+use Rattle.om_scripts.specs.Programs.{Cluster}
 use Rattle.om_commands.specs.SimText.{name_at, outputs_text}
 use Rattle.om_commands.specs.StateText.{status_text}
 

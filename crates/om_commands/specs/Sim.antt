@@ -1,7 +1,7 @@
 -- What the command `sim` answers to the bytes of its input.
 use Rattle.std.specs.Prelude.{◌≡◌, ℕ, List, ◌++◌, All, length}
 use Rattle.om_process.specs.Process.{Program}
-use Rattle.om_programs.specs.Programs.{programs_of}
+use Rattle.om_scripts.specs.Programs.{programs_of}
 use Rattle.om_world.specs.Played.{IsFaultless, Played}
 use Rattle.om_world.specs.Holds.{Holds}
 use Rattle.om_world.specs.Started.{IsStarted}

@@ -5,7 +5,7 @@ use Rattle.om_isa.specs.declared.ext.Ext.TheVariants.{I, Im}
 use Rattle.om_text.specs.Reading.{◌>>=◌}
 use Rattle.om_text.specs.declared.error.LineError.{LineError}
 use Rattle.om_text.specs.declared.error.LineError.TheVariants.{UnknownLine}
-use Rattle.om_programs.specs.Programs.{Cluster, no_programs, program_line, process_line}
+use Rattle.om_scripts.specs.Programs.{Cluster, no_programs, program_line, process_line}
 use Rattle.om_world.specs.declared.event.Event.{Event}
 use Rattle.om_commands.specs.Events.{event_line}
 

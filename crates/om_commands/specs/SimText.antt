@@ -9,7 +9,7 @@ use Rattle.om_manager.specs.declared.answers.Gathered.TheVariants.{Waiting, Fini
 use Rattle.om_process.specs.Core.{CoreState, move_of, status_of}
 use Rattle.om_process.specs.declared.accept.Accept.{Accept}
 use Rattle.om_process.specs.declared.accept.Accept.TheVariants as accepts
-use Rattle.om_programs.specs.Programs.{Cluster}
+use Rattle.om_scripts.specs.Programs.{Cluster}
 use Rattle.om_world.specs.World.{WorldState}
 use Rattle.om_world.specs.declared.event.Answer.{Answer}
 use Rattle.om_world.specs.declared.event.Answer.TheVariants.{Ran, Given, Noted, Resent, Trimmed, Pruned, Down, Back, GoesOn, Refused}

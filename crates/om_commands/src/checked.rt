@@ -3,7 +3,7 @@
 ghost use Rattle.std.specs.Prelude.{◌≡◌, ◌≤◌, ◌<◌, ℕ, IfErr, IfOk, length, map, string_bytes};
 ghost use Rattle.om_check.specs.Whole.{AreStatusesOf, HasStatus, IsDone, IsWhole};
 ghost use Rattle.om_interval.specs.declared.pid.TheConstants.{MAX_PROCESSES};
-ghost use Rattle.om_programs.specs.Programs.{programs_of};
+ghost use Rattle.om_scripts.specs.Programs.{programs_of};
 ghost use Rattle.om_commands.specs.Check.{IsErrorOfPlay, IsFailureFreeText};
 ghost use Rattle.om_commands.specs.Run.{outputs_of};
 ghost use Rattle.om_commands.specs.RunText.{run_text};
@@ -13,8 +13,8 @@ use crate::run_text::run_text;
 use om_check::{play, play_and_keep_events};
 use om_interval::{MAX_PROCESSES, Pid};
 use om_process::{Status, Witness};
-use om_programs::Programs;
 use om_runner::Report;
+use om_scripts::Programs;
 use om_stable::MemStable;
 use om_world::{Event, World};
 use std::alloc::{AllocError, Global};

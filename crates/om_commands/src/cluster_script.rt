@@ -6,7 +6,7 @@ ghost use Rattle.om_commands.specs.ClusterScript.{Script, checkpoint_line, close
 
 use om_interval::Pid;
 use om_isa::Ext;
-use om_programs::{Programs, name_of};
+use om_scripts::{Programs, name_of};
 use om_text::{BuildError, Builder, LineError, long_number_of, number_of};
 use std::alloc::Global;
 use std::marker::Model;

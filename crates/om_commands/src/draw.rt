@@ -1,11 +1,13 @@
 //! The command `draw`: the picture of a world that is played.
 
-ghost use Rattle.std.specs.Prelude.{◌≡◌, ◌⊎◌, ◌∷◌, [], ℕ, List, length, take, IfSome, IfOk, IfErr, OnOk, OnErr, string_bytes};
+ghost use Rattle.std.specs.Prelude.{◌≡◌, ◌⊎◌, ◌∷◌, [], ℕ, List, length, slice_index, take, IfSome, IfOk, IfErr, OnOk, OnErr, string_bytes};
 ghost use Rattle.std.specs.Io.KnownBytes.{Appends, Keeps};
 ghost use Rattle.om_world.specs.Played.{Played};
 ghost use Rattle.om_world.specs.World.{IsKnown};
 ghost use Rattle.om_commands.specs.Command.{IsErrorOf, IsScript, IsSilent};
-ghost use Rattle.om_commands.specs.Draw.{ArePlayed, IsDrawn, IsPictureOf, IsPlayedPicture, count_within, event_lines};
+ghost use Rattle.om_picture.specs.Drawing.{IsSketchOf, sketch_of};
+ghost use Rattle.om_picture.specs.Marks.{step_entry};
+ghost use Rattle.om_commands.specs.Draw.{AreDrawn, IsDrawn, IsPictureOf, IsPlayedPicture, count_within, event_lines};
 ghost use Rattle.om_commands.specs.Sim.{LacksProcesses};
 ghost use Rattle.om_commands.specs.SimScript.{meaning_of, no_lines};
 
@@ -15,7 +17,7 @@ use crate::sim::start;
 use crate::sim_script::SimScript;
 use om_picture::reading::{play_step, standings_of};
 use om_picture::{Picture, Step, picture_text};
-use om_programs::Programs;
+use om_scripts::Programs;
 use om_stable::MemStable;
 use om_text::{numbered_lines, read_script, read_text};
 use om_world::{Event, World};
@@ -39,7 +41,7 @@ pub fn draw<R: Read, W: Write>(
     writer: &mut W,
     window: Window,
 ) -> Result<(), CommandError>
-    ensures text { IfSome (R.remaining reader.old) (λ bytes. OnOk result ((text : List ℕ) × IsDrawn window.to bytes text
+    ensures text { IfSome (R.remaining reader.old) (λ bytes. OnOk result ((text : List ℕ) × IsDrawn window.from window.to bytes text
         × Appends (W.contents writer.old) (W.contents writer.new) text)) }
     ensures error { IfSome (R.remaining reader.old) (λ bytes.
         IfErr result (IsErrorOf meaning_of no_lines LacksProcesses bytes)) }
@@ -55,7 +57,7 @@ fn picture_of<R: Read>(
     reader: &mut R,
     window: Window,
 ) -> Result<String, CommandError>
-    ensures text { IfSome (R.remaining reader.old) (λ bytes. IfOk result (λ text. IsDrawn window.to bytes (string_bytes text))) }
+    ensures text { IfSome (R.remaining reader.old) (λ bytes. IfOk result (λ text. IsDrawn window.from window.to bytes (string_bytes text))) }
     ensures error { IfSome (R.remaining reader.old) (λ bytes.
         IfErr result (IsErrorOf meaning_of no_lines LacksProcesses bytes)) }
 {
@@ -108,7 +110,7 @@ fn draw_script(
     count: usize,
     from: usize,
 ) -> Result<String, CommandError>
-    ensures text { IfOk result (λ text. IsPictureOf script.now count (string_bytes text)) }
+    ensures text { IfOk result (λ text. IsPictureOf script.now lines.now from count (string_bytes text)) }
     ensures error { IfErr result (λ error. (error ≡ CommandError.NoMemory)
         ⊎ ((error ≡ CommandError.EmptyScript) × LacksProcesses script.now)) }
 {
@@ -130,7 +132,7 @@ fn played_picture(
     world: &mut World<MemStable>,
 ) -> Result<String, AllocError>
     requires known { IsKnown world.old }
-    ensures { IfOk result (λ text. IsPlayedPicture script.now count world.old (string_bytes text)) }
+    ensures { IfOk result (λ text. IsPlayedPicture script.now lines.now from count world.old (string_bytes text)) }
 {
     let programs = script.programs();
     let recovery = world.manager().recovery();
@@ -159,15 +161,26 @@ fn play(
     picture: &mut Picture,
 ) -> Result<(), AllocError>
     requires known { IsKnown world.old }
-    ensures played { OnOk result (ArePlayed world.old events.now world.new) }
+    ensures drawn { (n first : ℕ) → IsSketchOf n first [] (sketch_of picture.old)
+        → OnOk result (AreDrawn lines.now events.now n first world.old world.new (sketch_of picture.new)) }
     ensures known { IsKnown world.new }
 {
     for k in 0..events.len() {
-        let line = lines.get(k).copied().unwrap_or(0);
+        let line = line_of(lines, k);
         let step = play_line(alloc, world, line, events[k])?;
         picture.draw(alloc, &step)?;
     }
     Ok(())
+}
+
+// The number of the line of an event, and 0 where there is none.
+fn line_of(lines: &[usize], k: usize) -> usize
+    ensures { result ≡ slice_index lines.now k }
+{
+    match lines.get(k) {
+        Some(line) => *line,
+        None => 0,
+    }
 }
 
 // Plays the event of a line over stores that never fail.
@@ -179,6 +192,7 @@ fn play_line(
 ) -> Result<Step, AllocError>
     requires known { IsKnown world.old }
     ensures played { IfOk result (λ step. Played world.old (event ∷ []) (step.answer ∷ []) world.new) }
+    ensures entry { IfOk result (λ step. step_entry step ≡ record { line = line; event = event; answer = step.answer }) }
     ensures known { IsKnown world.new }
 {
     play_step(alloc, world, line, event)

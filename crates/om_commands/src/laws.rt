@@ -1,7 +1,7 @@
 //! What is said of the texts of runs without failures.
 
 ghost use Rattle.std.specs.Prelude.{◌≡◌, ℕ, List};
-ghost use Rattle.om_programs.specs.Programs.{Cluster};
+ghost use Rattle.om_scripts.specs.Programs.{Cluster};
 ghost use Rattle.om_world.specs.declared.entry.Entry.{Entry};
 ghost use Rattle.om_commands.specs.Check.{IsTextBy};
 

@@ -3,8 +3,8 @@
 use crate::event_text::push_event;
 use crate::report::push_state;
 use om_interval::Pid;
-use om_programs::Programs;
 use om_runner::{Act, Letter, Record};
+use om_scripts::Programs;
 use om_world::Event;
 use std::alloc::{AllocError, Global};
 use std::collections::BTreeMap;

@@ -8,7 +8,7 @@ use crate::sim_text::{name_of, push_outputs};
 use crate::state_text::push_status;
 use om_manager::Output;
 use om_process::Status;
-use om_programs::Programs;
+use om_scripts::Programs;
 use std::alloc::{AllocError, Global};
 use std::fmt::Write;
 

@@ -5,7 +5,7 @@ ghost use Rattle.om_commands.specs.SimScript.{Script, meaning_of, no_lines, with
 
 use crate::events::event_of;
 use om_isa::Ext;
-use om_programs::Programs;
+use om_scripts::Programs;
 use om_text::{BuildError, Builder, LineError};
 use om_world::Event;
 use std::alloc::{AllocError, Global};

@@ -12,7 +12,7 @@ use crate::state_text::push_status;
 use om_interval::Pid;
 use om_manager::{Gathered, Manager, Output};
 use om_process::{Accept, ProcCore};
-use om_programs::Programs;
+use om_scripts::Programs;
 use om_stable::Stable;
 use om_world::{Answer, Refusal, World};
 use std::alloc::{AllocError, Global};

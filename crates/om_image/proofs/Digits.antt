@@ -10,7 +10,7 @@ use Rattle.hex.specs.Hex.{encode_with, lower_digits}
 use Rattle.om_text.specs.Numbers.{are_digits, hex_word}
 use Rattle.om_text.specs.Reading.{◌>>=◌, or_error}
 use Rattle.om_text.specs.declared.error.LineError.TheVariants as LineError
-use Rattle.om_programs.specs.Programs.{words_in}
+use Rattle.om_scripts.specs.Programs.{words_in}
 use Rattle.om_image.specs.Image.{word_text}
 
 -- the digits, by their values

@@ -12,9 +12,9 @@ use Rattle.om_text.specs.Numbers.{number_of, below, are_digits}
 use Rattle.om_text.specs.Reading.{◌>>=◌, refused, or_error}
 use Rattle.om_text.specs.declared.error.LineError.{LineError}
 use Rattle.om_text.specs.declared.error.LineError.TheVariants as faults
-use Rattle.om_programs.specs.Named.{is_name, is_name_byte}
-use Rattle.om_programs.specs.Programs.{Cluster, no_programs, program_in, program_line, words_in}
-use Rattle.om_programs.specs.declared.names.TheConstants.{MAX_NAME}
+use Rattle.om_scripts.specs.Named.{is_name, is_name_byte}
+use Rattle.om_scripts.specs.Programs.{Cluster, no_programs, program_in, program_line, words_in}
+use Rattle.om_scripts.specs.declared.names.TheConstants.{MAX_NAME}
 use Rattle.om_image.proofs.Lines.{IsPlain}
 
 -- what a read line says

@@ -18,8 +18,8 @@ use Rattle.om_text.specs.Reading.{Gives}
 use Rattle.om_text.specs.declared.error.BuildError.{BuildError}
 use Rattle.om_text.specs.declared.error.BuildError.TheVariants as building
 use Rattle.om_text.specs.declared.error.LineError.{LineError}
-use Rattle.om_programs.specs.Programs.{Cluster, no_programs, program_in, program_line, words_in}
-use Rattle.om_programs.proofs.ImageLemmas.{length-words}
+use Rattle.om_scripts.specs.Programs.{Cluster, no_programs, program_in, program_line, words_in}
+use Rattle.om_scripts.proofs.ImageLemmas.{length-words}
 use Rattle.om_image.specs.Image.{AreWordsOf, IsErrorOf, IsImageLine, IsRefused, keyword, most_read, word_text}
 use Rattle.om_image.specs.declared.error.ImageError.{ImageError}
 use Rattle.om_image.specs.declared.error.ImageError.TheVariants as errors

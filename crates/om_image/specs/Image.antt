@@ -14,7 +14,7 @@ use Rattle.om_text.specs.declared.error.BuildError.TheVariants as building
 use Rattle.om_text.specs.declared.error.LineError.{LineError}
 use Rattle.om_text.specs.declared.text.ReadError.{ReadError}
 use Rattle.om_text.specs.declared.text.ReadError.TheVariants as reading
-use Rattle.om_programs.specs.Programs.{no_programs, program_line}
+use Rattle.om_scripts.specs.Programs.{no_programs, program_line}
 use Rattle.om_image.specs.declared.error.ImageError.{ImageError}
 use Rattle.om_image.specs.declared.error.ImageError.TheVariants as errors
 

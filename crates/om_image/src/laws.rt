@@ -2,7 +2,7 @@
 
 ghost use Rattle.std.specs.Prelude.{◌≡◌, ℕ, ◌<◌, ◌^◌, List, All, map, Some, Ok};
 ghost use Rattle.om_text.specs.Numbers.{hex_word};
-ghost use Rattle.om_programs.specs.Programs.{words_in};
+ghost use Rattle.om_scripts.specs.Programs.{words_in};
 ghost use Rattle.om_image.specs.Image.{word_text};
 
 /// A word's eight digits read back as the word.

@@ -8,7 +8,7 @@ ghost use Rattle.om_image.specs.steps.Lines.{IsErrorOfLine, IsTaken, spaced};
 use crate::error::ImageError;
 use crate::words::{texts_of, words_of};
 use om_isa::Ext;
-use om_programs::Programs;
+use om_scripts::Programs;
 use om_text::{BuildError, LineError};
 use std::alloc::{AllocError, Global};
 

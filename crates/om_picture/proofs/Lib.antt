@@ -1,1 +1,3 @@
+pub mod DrawLemmas
+pub mod MarkLemmas
 pub mod PlainLemmas

@@ -11,8 +11,8 @@ use Rattle.om_process.specs.declared.accept.Accept.TheVariants as accepts
 use Rattle.om_process.specs.declared.status.Status.{Status}
 use Rattle.om_process.specs.declared.status.Status.TheVariants as statuses
 use Rattle.om_machine.specs.Causes.{cause_number}
-use Rattle.om_programs.specs.Named.{is_name, is_name_byte}
-use Rattle.om_programs.specs.Programs.{Cluster, program_name}
+use Rattle.om_scripts.specs.Named.{is_name, is_name_byte}
+use Rattle.om_scripts.specs.Programs.{Cluster, program_name}
 use Rattle.om_world.specs.declared.event.Answer.{Answer}
 use Rattle.om_world.specs.declared.event.Answer.TheVariants as answers
 use Rattle.om_world.specs.declared.event.Event.{Event}

@@ -1,6 +1,9 @@
 pub mod AnswerText
+pub mod Drawing
+pub mod Marks
 pub mod PictureText
 pub mod Plain
 pub mod ShapeText
 pub mod Shows
 pub mod WordText
+pub mod steps

@@ -1,7 +1,7 @@
 -- The text of a whole picture.
 use Rattle.std.specs.Prelude.{ℕ, List, ◌∷◌, ◌++◌, codes, decimal}
 use Rattle.std.specs.List.{flat_map}
-use Rattle.om_programs.specs.Programs.{Cluster}
+use Rattle.om_scripts.specs.Programs.{Cluster}
 use Rattle.om_picture.specs.ShapeText.{band_text, crossing_text, road_text, shape_text, way_text}
 use Rattle.om_picture.specs.WordText.{word_text}
 use Rattle.om_picture.specs.declared.counts.Counts.{Counts}

@@ -1,7 +1,7 @@
 -- Text that needs no escape between tags or quotes.
 use Rattle.std.specs.Prelude.{◌≡◌, ℕ, Bool, true, not, ◌||◌, ◌==◌, List}
 use Rattle.std.specs.List.{list_all}
-use Rattle.om_programs.specs.Programs.{Cluster}
+use Rattle.om_scripts.specs.Programs.{Cluster}
 
 -- none of `"`, `&`, `<` and `>`
 abbrev pub is_plain : ℕ → Bool

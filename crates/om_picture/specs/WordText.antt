@@ -2,7 +2,7 @@
 use Rattle.std.specs.Prelude.{ℕ, ◌==◌, ◌-◌, nat_le, if◌then◌else◌, List, [], ◌∷◌, ◌++◌, Option, None, Some, slice_get, take, codes, decimal}
 use Rattle.std.specs.Option.{option_map}
 use Rattle.hex.specs.Hex.{encode_lower}
-use Rattle.om_programs.specs.Programs.{Cluster, program_name}
+use Rattle.om_scripts.specs.Programs.{Cluster, program_name}
 use Rattle.om_picture.specs.AnswerText.{recovery_text, status_text, why_word}
 use Rattle.om_picture.specs.declared.sheet.Style.{Style}
 use Rattle.om_picture.specs.declared.sheet.Style.TheVariants as styles

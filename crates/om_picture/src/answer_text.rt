@@ -51,7 +51,8 @@ fn push_ran(
     sent: usize,
     made: usize,
 ) -> Result<(), AllocError>
-    ensures { OnOk result (string_bytes text.new ≡ string_bytes text.old ++ codes "ran " ++ decimal steps ++ 32 ∷ status_text status ++ codes " sent " ++ decimal sent ++ codes " made " ++ decimal made) }
+    ensures { OnOk result (string_bytes text.new ≡ string_bytes text.old ++ codes "ran " ++ decimal steps ++ 32 ∷ status_text status
+        ++ codes " sent " ++ decimal sent ++ codes " made " ++ decimal made) }
 {
     write!(text, "ran {steps} ")?;
     push_status(text, status)?;

@@ -1,8 +1,14 @@
 //! The right side of a picture: how all stands in the end.
 
+ghost use Rattle.std.specs.Prelude.{◌≡◌, ℕ, List, IfOk, OnOk};
+ghost use Rattle.om_picture.specs.Drawing.{IsSketchOf, mark_marks, sketch_of};
+ghost use Rattle.om_picture.specs.Marks.{Entry, IsDrawingOf};
+ghost use Rattle.om_picture.specs.steps.Adding.{Draws, EndsLane, Settles};
+
 use crate::column::AXIS;
 use crate::counts::Counts;
 use crate::frame::Frame;
+use crate::history::Mark;
 use crate::lane::{Stand, lane_y};
 use crate::measure::{CHARACTER, digits, standing_length};
 use crate::page::{Page, count_of};
@@ -75,11 +81,11 @@ impl Page {
         right.saturating_add(16)
     }
 
-    // Draws the band of a gathering that is open.
-    fn end_band(&mut self, right: u32) -> Result<(), AllocError> {
+    // Draws the band of a gathering that is open, within the window.
+    fn end_band(&mut self, on: bool, right: u32) -> Result<(), AllocError> {
         match self.opened {
-            Some(opened) => self.band(opened, right, What::Gathering),
-            None => Ok(()),
+            Some(opened) if on => self.band(opened, right, What::Gathering),
+            _ => Ok(()),
         }
     }
 
@@ -185,12 +191,13 @@ impl Picture {
         alloc: Global,
         standings: &[Option<Standing>],
         lengths: &[u32],
-    ) -> Result<Drawn, AllocError> {
+    ) -> Result<Drawn, AllocError>
+        ensures { (n first : ℕ) (entries : List Entry) → IsSketchOf n first entries (sketch_of self)
+            → IfOk result (IsDrawingOf n first entries) }
+    {
         let mut picture = self;
         let right = picture.page.right();
-        if picture.on {
-            picture.page.end_band(right)?;
-        }
+        picture.page.end_band(picture.on, right)?;
         picture.end_lanes(alloc, right, standings)?;
         picture.page.stubs()?;
         picture.page.name_lanes()?;
@@ -204,12 +211,15 @@ impl Picture {
         alloc: Global,
         right: u32,
         standings: &[Option<Standing>],
-    ) -> Result<(), AllocError> {
+    ) -> Result<(), AllocError>
+        ensures { OnOk result (Draws (sketch_of self.old) (sketch_of self.new)) }
+    {
         let recovery = self.recovery;
         let mut places = Vec::new(alloc);
         for p in 0..self.histories.len() {
             let x = self.end_lane(p, right)?;
-            places.push(self.page.spot(p, x))?;
+            let spot = self.page.spot(p, x);
+            places.push(spot)?;
             let standing = standings.get(p).copied().unwrap_or(None);
             let place = place_of(recovery, p);
             self.page.tell_lane(p, right, standing, place)?;
@@ -219,7 +229,9 @@ impl Picture {
         Ok(())
     }
 
-    fn drawn(self, right: u32, longest: u32) -> Drawn {
+    fn drawn(self, right: u32, longest: u32) -> Drawn
+        ensures { result.marks ≡ self.marks }
+    {
         let words = longest.saturating_mul(CHARACTER);
         let width = right.saturating_add(24).saturating_add(words).max(LEAST);
         let page = self.page;
@@ -238,39 +250,34 @@ impl Picture {
     }
 
     // Draws what is left of a lane: the place of the last line.
-    fn end_lane(&mut self, p: usize, right: u32) -> Result<u32, AllocError> {
-        let Some(history) = self.histories.get(p) else {
-            return Ok(right);
-        };
-        let place = self.page.end_road(p, history.first(), right)?;
+    fn end_lane(&mut self, p: usize, right: u32) -> Result<u32, AllocError>
+        ensures { OnOk result (EndsLane (sketch_of self.old) (sketch_of self.new) p) }
+    {
+        let first = self.first_waiting(p);
+        let place = self.page.end_road(p, first, right)?;
         self.end_marks(p)?;
         Ok(place)
     }
 
-    // Draws the marks that are left of a lane as they stand.
-    fn end_marks(&mut self, p: usize) -> Result<(), AllocError> {
-        let Some(history) = self.histories.get(p) else {
-            return Ok(());
-        };
-        let stored = history.stored;
-        let from = history.settled;
-        let to = history.marks.len();
-        for k in from..to {
-            self.end_mark(p, k, stored)?;
+    // Draws the marks that wait on a lane as they stand.
+    fn end_marks(&mut self, p: usize) -> Result<(), AllocError>
+        ensures { OnOk result (EndsLane (sketch_of self.old) (sketch_of self.new) p) }
+    {
+        let stored = self.stored(p);
+        while let Some(mark) = self.next(p) {
+            self.end_mark(p, &mark, stored)?;
         }
-        self.pass(p, to);
         Ok(())
     }
 
-    fn end_mark(&mut self, p: usize, k: usize, stored: u32) -> Result<(), AllocError> {
-        let Some(mark) = self.mark_at(p, k) else {
-            return Ok(());
-        };
+    fn end_mark(&mut self, p: usize, mark: &Mark, stored: u32) -> Result<(), AllocError>
+        ensures { OnOk result (Settles (sketch_of self.old) (sketch_of self.new) (mark_marks mark.now)) }
+    {
         let is_receipt = matches!(mark.shown, Shown::Receipt { .. });
         let fate = Fate {
             cut: false,
             safe: is_receipt && mark.interval <= stored,
         };
-        self.settle(p, &mark, fate)
+        self.settle(p, mark, fate)
     }
 }

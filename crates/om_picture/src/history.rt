@@ -1,5 +1,7 @@
 //! The marks of a lane, in order, and how many of them are settled.
 
+ghost use Rattle.std.specs.Prelude.{◌≡◌, ◌≤◌, [], ◌∷◌, ◌++◌, drop, length, OnOk, MatchOption};
+
 use crate::sheet::Title;
 use crate::shown::Shown;
 use crate::step::Label;
@@ -19,7 +21,7 @@ pub struct Mark {
     pub title: Title,
 }
 
-/// The marks of a lane.
+/// The history of a lane.
 #[derive(Drop)]
 pub struct History {
     /// The interval of the process.
@@ -31,10 +33,13 @@ pub struct History {
     pub marks: Vec<Mark>,
     /// How many marks are known to be kept or cut: the first ones.
     pub settled: usize,
+    ghost in_range: { settled ≤ length marks.items },
 }
 
 impl History {
-    pub(crate) fn new(alloc: Global) -> History {
+    pub(crate) fn new(alloc: Global) -> History
+        ensures { drop result.settled result.marks.items ≡ [] }
+    {
         History {
             interval: 0,
             stored: 0,
@@ -45,12 +50,30 @@ impl History {
     }
 
     /// Adds a mark.
-    pub(crate) fn add(&mut self, mark: &Mark) -> Result<(), AllocError> {
+    pub(crate) fn add(&mut self, mark: &Mark) -> Result<(), AllocError>
+        ensures { OnOk result (drop self.new.settled self.new.marks.items ≡ drop self.old.settled self.old.marks.items ++ mark.now ∷ []) }
+    {
         self.marks.extend_from_slice(slice::from_ref(mark))
     }
 
+    /// Takes the first mark that is not settled, if there is one.
+    pub(crate) fn next(&mut self) -> Option<Mark>
+        ensures { MatchOption result
+            ((drop self.old.settled self.old.marks.items ≡ []) × (drop self.new.settled self.new.marks.items ≡ []))
+            (λ mark. drop self.old.settled self.old.marks.items ≡ mark ∷ drop self.new.settled self.new.marks.items) }
+    {
+        if self.settled >= self.marks.len() {
+            return None;
+        }
+        let mark = self.marks[self.settled];
+        self.settled += 1;
+        Some(mark)
+    }
+
     /// The process is back in an interval.
-    pub(crate) fn go_back(&mut self, interval: u32) {
+    pub(crate) fn go_back(&mut self, interval: u32)
+        ensures { drop self.new.settled self.new.marks.items ≡ drop self.old.settled self.old.marks.items }
+    {
         self.ended = false;
         self.interval = interval;
         self.stored = interval;
@@ -58,14 +81,17 @@ impl History {
 
     /// How many marks are settled once the recovery state has this interval: all up to the first mark beyond it.
     pub(crate) fn covered(&self, place: u32) -> usize {
-        let mut count = self.settled;
         for k in self.settled..self.marks.len() {
             if self.marks[k].interval > place {
-                return count;
+                return k - self.settled;
             }
-            count = k + 1;
         }
-        count
+        self.waiting()
+    }
+
+    /// How many marks are not settled.
+    pub(crate) fn waiting(&self) -> usize {
+        self.marks.len() - self.settled
     }
 
     /// The place of the first mark that is not settled.

@@ -1,8 +1,8 @@
 //! What holds of the texts of a picture: each function stands for a theorem over the definitions alone.
 
 ghost use Rattle.std.specs.Prelude.{◌≡◌, ℕ, List, true};
-ghost use Rattle.om_programs.specs.Named.{is_name};
-ghost use Rattle.om_programs.specs.Programs.{Cluster};
+ghost use Rattle.om_scripts.specs.Named.{is_name};
+ghost use Rattle.om_scripts.specs.Programs.{Cluster};
 ghost use Rattle.om_picture.specs.AnswerText.{recovery_text};
 ghost use Rattle.om_picture.specs.Plain.{HasPlainNames, is_plain_text};
 ghost use Rattle.om_picture.specs.ShapeText.{told_text};

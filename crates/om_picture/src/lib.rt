@@ -1,4 +1,18 @@
-//! The space-time picture of a run: what each event showed, where that stands, and its text.
+//! The space-time picture of a run, as an SVG: what each event showed, where that stands, and its text.
+//!
+//! A picture costs its events, and some 240 bytes for each mark; lanes are few, and a mark is settled once. It is told each
+//! event with its answer, the frames and outputs that it made, and the recovery state behind it, and takes these at their
+//! word; `reading` reads them of a world that plays the event. Nothing else is trusted here.
+//!
+//! In an order of reading:
+//!
+//! - what an event shows: `step` (an event, its answer and what is read of the world), `shown` (what that shows), `reading`
+//!   (playing an event)
+//! - the drawing: `picture` (what is drawn, event by event), `own` (an event on its lane), `history` (marks that wait for their
+//!   fate), `settle` (marks that are kept), `rounds` (marks that are cut), `ending` (the right side)
+//! - where it stands: `page` (all but the marks), `column`, `lane`, `frame` (messages), `measure` (how wide texts are), `counts`
+//! - the pieces, and their text: `sheet`, `text` (the whole), `shape_text`, `word_text`, `answer_text`
+//! - `laws`: no byte of a name or a number needs an escape
 #![tactic(auto)]
 
 pub use ending::Drawn;

@@ -1,5 +1,10 @@
 //! What each kind of event shows on its lane.
 
+ghost use Rattle.std.specs.Prelude.{◌≡◌, ◌==◌, ◌<◌, not, Some, None, length, OnOk, IfOk};
+ghost use Rattle.om_picture.specs.Drawing.{sketch_of};
+ghost use Rattle.om_picture.specs.Marks.{CameBack, Failed, Joined, NotTaken, Saved, Taken, WentOn, Worked, step_entry};
+ghost use Rattle.om_picture.specs.steps.Adding.{AddsMark};
+
 use crate::frame::Frame;
 use crate::lane::{Extent, NOTHING, Stand, Wanted, or_left};
 use crate::measure::{CHARACTER, digits, label_length, status_length, why_length};
@@ -90,6 +95,24 @@ fn back_words(interval: u32, inc: u32) -> Wanted {
 }
 
 impl Page {
+    // The middle of the next column; 0, where no column stands, before the window.
+    fn place(
+        &mut self,
+        on: bool,
+        width: u32,
+        line: usize,
+        p: usize,
+        wanted: Wanted,
+    ) -> Result<u32, AllocError>
+        ensures { IfOk result (λ x. (x == 0) ≡ not on) }
+    {
+        if !on {
+            return Ok(0);
+        }
+        let x = self.column(width, line, p, wanted)?;
+        Ok(x.max(1))
+    }
+
     // The column of a refusal, with its word unless that was just told.
     fn why_column(&mut self, p: usize, line: usize, answer: Answer) -> Result<u32, AllocError> {
         let lane = self.lane_at(p);
@@ -131,6 +154,26 @@ impl Page {
         Ok(())
     }
 
+    // What a refused message shows beside its mark: the place of that, and 0 before the window.
+    fn refuse(&mut self, on: bool, p: usize, step: &Step, frame: usize) -> Result<u32, AllocError> {
+        let frame = self.give(frame);
+        if !on {
+            return Ok(0);
+        }
+        let x = self.why_column(p, step.line, step.answer)?;
+        let to = self.spot(p, x);
+        self.trail(frame, to)?;
+        self.counts.add_refusal();
+        Ok(x)
+    }
+
+    // A gathering is open from here on, if none was.
+    fn open(&mut self, declared: bool) {
+        if declared && self.opened.is_none() {
+            self.opened = Some(self.cur);
+        }
+    }
+
     // A new incarnation of a process.
     fn begin_inc(&mut self, p: usize, inc: u32) {
         if let Some(lane) = self.lanes.get_mut(p) {
@@ -139,7 +182,17 @@ impl Page {
     }
 
     // The interval and the incarnation of a process that is back.
-    fn tell_back(&mut self, p: usize, x: u32, interval: u32, inc: u32) -> Result<(), AllocError> {
+    fn tell_back(
+        &mut self,
+        on: bool,
+        p: usize,
+        x: u32,
+        interval: u32,
+        inc: u32,
+    ) -> Result<(), AllocError> {
+        if !on {
+            return Ok(());
+        }
         let y = self.y(p);
         let what = What::Number(u64::from(interval));
         self.say(Style::Plain, x.saturating_add(7), y.saturating_sub(5), what)?;
@@ -149,20 +202,6 @@ impl Page {
 }
 
 impl Picture {
-    // The middle of the next column; 0 before the window.
-    fn column(
-        &mut self,
-        width: u32,
-        line: usize,
-        p: usize,
-        wanted: Wanted,
-    ) -> Result<u32, AllocError> {
-        if !self.on {
-            return Ok(0);
-        }
-        self.page.column(width, line, p, wanted)
-    }
-
     pub(crate) fn draw_run(
         &mut self,
         p: usize,
@@ -170,19 +209,18 @@ impl Picture {
         sent: usize,
         made: usize,
         ends: Option<Status>,
-    ) -> Result<(), AllocError> {
-        let x = self.column(RUN, step.line, p, run_words(step, ends))?;
+    ) -> Result<(), AllocError>
+        requires { p < length self.old.histories.items }
+        ensures { OnOk result (AddsMark (sketch_of self.old) (sketch_of self.new) (Some Worked) (step_entry step.now)) }
+    {
+        let wanted = run_words(step, ends);
+        let x = self.page.place(self.on, RUN, step.line, p, wanted)?;
         let outputs = numbers(step.first, step.fresh);
         let frames = self.page.make(x, p, step, false)?;
-        if self.on {
-            self.page.counts.add_run(step.fresh, sent);
-        }
+        self.page.count_run(self.on, step.fresh, sent);
+        self.end_program(p, ends.is_some());
         let shown = Shown::Run { sent, made, ends };
-        self.wait(p, step, x, shown, More::Made { outputs, frames })?;
-        if ends.is_some() {
-            self.program_ended(p);
-        }
-        Ok(())
+        self.wait(p, step, x, shown, More::Made { outputs, frames })
     }
 
     pub(crate) fn draw_resend(
@@ -190,13 +228,14 @@ impl Picture {
         p: usize,
         step: &Step,
         sent: usize,
-    ) -> Result<(), AllocError> {
-        let x = self.column(RESEND, step.line, p, NOTHING)?;
+    ) -> Result<(), AllocError>
+        requires { p < length self.old.histories.items }
+        ensures { OnOk result (AddsMark (sketch_of self.old) (sketch_of self.new) (Some Worked) (step_entry step.now)) }
+    {
+        let x = self.page.place(self.on, RESEND, step.line, p, NOTHING)?;
         let frames = self.page.make(x, p, step, true)?;
         let outputs = numbers(0, 0);
-        if self.on {
-            self.page.counts.add_resend(sent);
-        }
+        self.page.count_resend(self.on, sent);
         let shown = Shown::Resend { sent };
         self.wait(p, step, x, shown, More::Made { outputs, frames })
     }
@@ -207,14 +246,15 @@ impl Picture {
         step: &Step,
         frame: usize,
         interval: u32,
-    ) -> Result<(), AllocError> {
+    ) -> Result<(), AllocError>
+        requires { p < length self.old.histories.items }
+        ensures { OnOk result (AddsMark (sketch_of self.old) (sketch_of self.new) (Some Taken) (step_entry step.now)) }
+    {
         let wanted = number_beside(9, interval);
-        let x = self.column(RECEIPT, step.line, p, wanted)?;
+        let x = self.page.place(self.on, RECEIPT, step.line, p, wanted)?;
         let _ = self.page.give(frame);
         self.page.hold(p, x);
-        if self.on {
-            self.page.counts.add_receipt();
-        }
+        self.page.count_receipt(self.on);
         self.receive(p, interval);
         let shown = Shown::Receipt { frame, interval };
         self.wait(p, step, x, shown, More::Nothing)
@@ -225,20 +265,18 @@ impl Picture {
         p: usize,
         step: &Step,
         frame: usize,
-    ) -> Result<(), AllocError> {
-        let frame = self.page.give(frame);
-        if !self.on {
-            return Ok(());
-        }
-        let x = self.page.why_column(p, step.line, step.answer)?;
-        let to = self.page.spot(p, x);
-        self.page.trail(frame, to)?;
-        self.page.counts.add_refusal();
+    ) -> Result<(), AllocError>
+        ensures { OnOk result (AddsMark (sketch_of self.old) (sketch_of self.new) (Some NotTaken) (step_entry step.now)) }
+    {
+        let x = self.page.refuse(self.on, p, step, frame)?;
         self.shape(Form::Refused, p, x, step)
     }
 
     // All receipts of a process are stored.
-    fn log(&mut self, p: usize, x: u32, step: &Step) -> Result<(), AllocError> {
+    fn log(&mut self, p: usize, x: u32, step: &Step) -> Result<(), AllocError>
+        requires { p < length self.old.histories.items }
+        ensures { OnOk result (AddsMark (sketch_of self.old) (sketch_of self.new) None (step_entry step.now)) }
+    {
         self.store(p);
         match self.page.lose(p) {
             Some(from) => {
@@ -249,13 +287,19 @@ impl Picture {
         }
     }
 
-    pub(crate) fn draw_flush(&mut self, p: usize, step: &Step) -> Result<(), AllocError> {
-        let x = self.column(FLUSH, step.line, p, NOTHING)?;
+    pub(crate) fn draw_flush(&mut self, p: usize, step: &Step) -> Result<(), AllocError>
+        requires { p < length self.old.histories.items }
+        ensures { OnOk result (AddsMark (sketch_of self.old) (sketch_of self.new) None (step_entry step.now)) }
+    {
+        let x = self.page.place(self.on, FLUSH, step.line, p, NOTHING)?;
         self.log(p, x, step)
     }
 
-    pub(crate) fn draw_checkpoint(&mut self, p: usize, step: &Step) -> Result<(), AllocError> {
-        let x = self.column(CHECKPOINT, step.line, p, NOTHING)?;
+    pub(crate) fn draw_checkpoint(&mut self, p: usize, step: &Step) -> Result<(), AllocError>
+        requires { p < length self.old.histories.items }
+        ensures { OnOk result (AddsMark (sketch_of self.old) (sketch_of self.new) (Some Saved) (step_entry step.now)) }
+    {
+        let x = self.page.place(self.on, CHECKPOINT, step.line, p, NOTHING)?;
         let interval = self.interval(p);
         self.wait(p, step, x, Shown::Checkpoint, More::Interval(interval))
     }
@@ -265,28 +309,31 @@ impl Picture {
         p: usize,
         step: &Step,
         declared: bool,
-    ) -> Result<(), AllocError> {
-        if declared && self.page.opened.is_none() {
-            self.page.opened = Some(self.page.cur);
-        }
-        let x = self.column(FAILURE, step.line, p, NOTHING)?;
+    ) -> Result<(), AllocError>
+        ensures { OnOk result (AddsMark (sketch_of self.old) (sketch_of self.new) (Some Failed) (step_entry step.now)) }
+    {
+        self.page.open(declared);
+        let x = self.page.place(self.on, FAILURE, step.line, p, NOTHING)?;
         self.page.leave(p, x, Stand::Down)?;
         let _ = self.page.lose(p);
-        if self.on {
-            self.page.counts.add_failure();
-        }
+        self.page.count_failure(self.on);
         self.shape(Form::Failure, p, x, step)
     }
 
-    pub(crate) fn draw_join(&mut self, p: usize, step: &Step) -> Result<(), AllocError> {
-        let x = self.column(JOIN, step.line, p, NOTHING)?;
+    pub(crate) fn draw_join(&mut self, p: usize, step: &Step) -> Result<(), AllocError>
+        requires { p < length self.old.histories.items }
+        ensures { OnOk result (AddsMark (sketch_of self.old) (sketch_of self.new) (Some Joined) (step_entry step.now)) }
+    {
+        let x = self.page.place(self.on, JOIN, step.line, p, NOTHING)?;
         self.log(p, x, step)?;
         self.page.leave(p, x, Stand::In)?;
         self.shape(Form::Join, p, x, step)
     }
 
-    pub(crate) fn draw_goes_on(&mut self, p: usize, step: &Step) -> Result<(), AllocError> {
-        let x = self.column(GOES_ON, step.line, p, NOTHING)?;
+    pub(crate) fn draw_goes_on(&mut self, p: usize, step: &Step) -> Result<(), AllocError>
+        ensures { OnOk result (AddsMark (sketch_of self.old) (sketch_of self.new) (Some WentOn) (step_entry step.now)) }
+    {
+        let x = self.page.place(self.on, GOES_ON, step.line, p, NOTHING)?;
         self.page.stand_up(p, x)?;
         self.shape(Form::GoesOn, p, x, step)
     }
@@ -297,14 +344,15 @@ impl Picture {
         step: &Step,
         interval: u32,
         inc: u32,
-    ) -> Result<(), AllocError> {
+    ) -> Result<(), AllocError>
+        requires { p < length self.old.histories.items }
+        ensures { OnOk result (AddsMark (sketch_of self.old) (sketch_of self.new) (Some CameBack) (step_entry step.now)) }
+    {
         let wanted = back_words(interval, inc);
-        let x = self.column(BACK, step.line, p, wanted)?;
+        let x = self.page.place(self.on, BACK, step.line, p, wanted)?;
         self.page.stand_up(p, x)?;
         self.page.begin_inc(p, inc);
-        if self.on {
-            self.page.tell_back(p, x, interval, inc)?;
-        }
+        self.page.tell_back(self.on, p, x, interval, inc)?;
         self.go_back(p, interval);
         self.shape(Form::Back, p, x, step)
     }

@@ -2,6 +2,7 @@
 
 use crate::counts::Counts;
 use crate::frame::{Frame, add_frames};
+use crate::history::Mark;
 use crate::lane::{Lane, Stand, add_stretch, lane_y, or_left};
 use crate::measure::{CHARACTER, digits};
 use crate::sheet::{Band, Numbers, Sheet, Spot, Stretch, Style, What, Word};
@@ -67,6 +68,44 @@ impl Page {
             counts: Counts::new(),
             sheet: Sheet::new(alloc),
         })
+    }
+
+    /// An event of the window is counted.
+    pub(crate) fn count_event(&mut self, on: bool) {
+        if on {
+            self.counts.add_event();
+        }
+    }
+
+    pub(crate) fn count_run(&mut self, on: bool, made: u64, sent: usize) {
+        if on {
+            self.counts.add_run(made, sent);
+        }
+    }
+
+    pub(crate) fn count_resend(&mut self, on: bool, sent: usize) {
+        if on {
+            self.counts.add_resend(sent);
+        }
+    }
+
+    pub(crate) fn count_receipt(&mut self, on: bool) {
+        if on {
+            self.counts.add_receipt();
+        }
+    }
+
+    pub(crate) fn count_failure(&mut self, on: bool) {
+        if on {
+            self.counts.add_failure();
+        }
+    }
+
+    /// The outputs of a mark of the window are released, or cut.
+    pub(crate) fn count_fate(&mut self, on: bool, mark: &Mark, cut: bool) {
+        if on && mark.x != 0 {
+            self.counts.add_fate(mark.fresh, cut);
+        }
     }
 
     /// Adds a word.

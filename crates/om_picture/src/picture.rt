@@ -1,5 +1,10 @@
 //! A picture that is drawn event by event.
 
+ghost use Rattle.std.specs.Prelude.{◌≡◌, ◌==◌, ◌<◌, [], ◌∷◌, ◌++◌, ℕ, List, Option, Some, if◌then◌else◌, length, OnOk, IfOk, MatchOption};
+ghost use Rattle.om_picture.specs.Drawing.{IsSketchOf, sketch_of, waiting_kind};
+ghost use Rattle.om_picture.specs.Marks.{Entry, entry_marks, kind_drawn, kind_shown, marks_on, own_marks, shape_marks, step_entry, title_entry};
+ghost use Rattle.om_picture.specs.steps.Adding.{Adds, AddsMark, AreEmpty, Reaches, Settles, Takes, lane_of};
+
 use crate::history::{History, Mark};
 use crate::page::Page;
 use crate::sheet::{Form, More, Shape, Title};
@@ -19,8 +24,19 @@ pub struct Picture {
     pub(crate) page: Page,
     // The marks whose fate is known.
     pub(crate) marks: Vec<Shape>,
-    // Those of each lane, in order.
+    // Those of each lane that wait, in order.
     pub(crate) histories: Vec<History>,
+}
+
+fn new_histories(alloc: Global, count: usize) -> Result<Vec<History>, AllocError>
+    ensures lanes { IfOk result (λ histories. length histories.items ≡ count) }
+    ensures empty { IfOk result (λ histories. AreEmpty histories.items) }
+{
+    let mut histories = Vec::new(alloc);
+    for _ in 0..count {
+        histories.push(History::new(alloc))?;
+    }
+    Ok(histories)
 }
 
 impl Picture {
@@ -30,11 +46,10 @@ impl Picture {
         recovery: DepVec,
         longest: u32,
         first: usize,
-    ) -> Result<Picture, AllocError> {
-        let mut histories = Vec::new(alloc);
-        for _ in 0..recovery.n() {
-            histories.push(History::new(alloc))?;
-        }
+    ) -> Result<Picture, AllocError>
+        ensures { IfOk result (λ picture. IsSketchOf (length recovery) first [] (sketch_of picture)) }
+    {
+        let histories = new_histories(alloc, recovery.n())?;
         Ok(Picture {
             first,
             on: false,
@@ -46,41 +61,78 @@ impl Picture {
     }
 
     /// Draws what an event showed.
-    pub fn draw(&mut self, alloc: Global, step: &Step) -> Result<(), AllocError> {
+    pub fn draw(&mut self, alloc: Global, step: &Step) -> Result<(), AllocError>
+        ensures { OnOk result ((n first : ℕ) (entries : List Entry) → IsSketchOf n first entries (sketch_of self.old)
+            → IsSketchOf n first (entries ++ step_entry step.now ∷ []) (sketch_of self.new)) }
+    {
         self.begin(step.line)?;
-        if let Some(p) = process_of(step.event) {
-            self.draw_own(p, step)?;
-        }
-        let recovery = step.recovery;
-        let changed = self.change(recovery);
+        self.draw_event(step)?;
+        let changed = self.change(step.recovery);
         self.keep(step, changed)?;
-        if is_finished(step.answer) {
-            self.finish(alloc, step, changed)?;
-        }
-        Ok(())
+        self.end_round(alloc, step, changed)
     }
 
     // The event of a line is counted; with the first line of the window, the picture begins.
-    fn begin(&mut self, line: usize) -> Result<(), AllocError> {
-        if line >= self.first && !self.on {
-            self.on = true;
-            for p in 0..self.histories.len() {
-                let interval = self.interval(p);
-                self.page.begin_lane(p, interval)?;
-            }
-        }
+    fn begin(&mut self, line: usize) -> Result<(), AllocError>
+        ensures { OnOk result (Reaches (sketch_of self.old) (sketch_of self.new) line) }
+    {
+        self.reach(line)?;
+        self.page.count_event(self.on);
+        Ok(())
+    }
+
+    fn reach(&mut self, line: usize) -> Result<(), AllocError>
+        ensures { OnOk result (Reaches (sketch_of self.old) (sketch_of self.new) line) }
+    {
         if self.on {
-            self.page.counts.add_event();
+            return Ok(());
+        }
+        if line < self.first {
+            return Ok(());
+        }
+        self.on = true;
+        self.tell_lanes()
+    }
+
+    // Tells how the lanes stand as the window begins.
+    fn tell_lanes(&mut self) -> Result<(), AllocError>
+        ensures { OnOk result (sketch_of self.new ≡ sketch_of self.old) }
+    {
+        for p in 0..self.histories.len() {
+            let interval = self.interval(p);
+            self.page.begin_lane(p, interval)?;
         }
         Ok(())
     }
 
+    fn draw_event(&mut self, step: &Step) -> Result<(), AllocError>
+        ensures { OnOk result (Adds (sketch_of self.old) (sketch_of self.new)
+            (if self.old.on then entry_marks (length self.old.histories.items) (step_entry step.now) else [])) }
+    {
+        match process_of(step.event) {
+            Some(p) => self.draw_own(p, step),
+            None => Ok(()),
+        }
+    }
+
     // What the event itself shows.
-    fn draw_own(&mut self, p: usize, step: &Step) -> Result<(), AllocError> {
-        let Some(history) = self.histories.get(p) else {
+    fn draw_own(&mut self, p: usize, step: &Step) -> Result<(), AllocError>
+        ensures { OnOk result (Adds (sketch_of self.old) (sketch_of self.new)
+            (if self.old.on then marks_on (length self.old.histories.items) (Some p) (step_entry step.now) else [])) }
+    {
+        if p >= self.histories.len() {
             return Ok(());
-        };
-        match shown_of(step, history.ended) {
+        }
+        let ended = self.histories[p].ended;
+        let shown = shown_of(step, ended);
+        self.draw_shown(p, step, shown)
+    }
+
+    fn draw_shown(&mut self, p: usize, step: &Step, shown: Shown) -> Result<(), AllocError>
+        requires { p < length self.old.histories.items }
+        ensures { OnOk result (AddsMark (sketch_of self.old) (sketch_of self.new) (kind_shown shown) (step_entry step.now)) }
+    {
+        match shown {
             Shown::Nothing => Ok(()),
             Shown::Run { sent, made, ends } => self.draw_run(p, step, sent, made, ends),
             Shown::Resend { sent } => self.draw_resend(p, step, sent),
@@ -96,16 +148,57 @@ impl Picture {
     }
 
     // The recovery state is this one from now on: whether it was another.
-    fn change(&mut self, recovery: DepVec) -> bool {
+    fn change(&mut self, recovery: DepVec) -> bool
+        ensures { sketch_of self.new ≡ sketch_of self.old }
+    {
         let is_changed = recovery != self.recovery;
         self.recovery = recovery;
         is_changed
+    }
+
+    // If a round is finished, all is cut to the recovery state.
+    fn end_round(&mut self, alloc: Global, step: &Step, changed: bool) -> Result<(), AllocError>
+        ensures { OnOk result (Adds (sketch_of self.old) (sketch_of self.new) []) }
+    {
+        if is_finished(step.answer) {
+            return self.finish(alloc, step, changed);
+        }
+        Ok(())
     }
 
     // The interval of a process.
     pub(crate) fn interval(&self, p: usize) -> u32 {
         match self.histories.get(p) {
             Some(history) => history.interval,
+            None => 0,
+        }
+    }
+
+    // Up to which interval the receipts of a process are stored.
+    pub(crate) fn stored(&self, p: usize) -> u32 {
+        match self.histories.get(p) {
+            Some(history) => history.stored,
+            None => 0,
+        }
+    }
+
+    // The place of the first mark that waits on a lane.
+    pub(crate) fn first_waiting(&self, p: usize) -> Option<u32> {
+        self.histories.get(p)?.first()
+    }
+
+    // How many marks wait on a lane.
+    pub(crate) fn waiting(&self, p: usize) -> usize {
+        match self.histories.get(p) {
+            Some(history) => history.waiting(),
+            None => 0,
+        }
+    }
+
+    // How many of them are settled once the recovery state has this interval.
+    pub(crate) fn covered(&self, p: usize, place: u32) -> usize {
+        match self.histories.get(p) {
+            Some(history) => history.covered(place),
             None => 0,
         }
     }
@@ -117,7 +210,9 @@ impl Picture {
         p: usize,
         x: u32,
         step: &Step,
-    ) -> Result<(), AllocError> {
+    ) -> Result<(), AllocError>
+        ensures { OnOk result (AddsMark (sketch_of self.old) (sketch_of self.new) (kind_drawn form) (step_entry step.now)) }
+    {
         if !self.on {
             return Ok(());
         }
@@ -132,7 +227,9 @@ impl Picture {
     }
 
     // Adds a mark whose fate is known.
-    pub(crate) fn add_shape(&mut self, shape: &Shape) -> Result<(), AllocError> {
+    pub(crate) fn add_shape(&mut self, shape: &Shape) -> Result<(), AllocError>
+        ensures { OnOk result (Settles (sketch_of self.old) (sketch_of self.new) (shape_marks shape.now)) }
+    {
         self.marks.extend_from_slice(slice::from_ref(shape))
     }
 
@@ -144,7 +241,11 @@ impl Picture {
         x: u32,
         shown: Shown,
         more: More,
-    ) -> Result<(), AllocError> {
+    ) -> Result<(), AllocError>
+        requires { p < length self.old.histories.items }
+        ensures { OnOk result (Adds (sketch_of self.old) (sketch_of self.new)
+            (if x == 0 then [] else own_marks (Some (waiting_kind shown)) (step_entry step.now))) }
+    {
         let mark = Mark {
             x,
             interval: self.interval(p),
@@ -153,55 +254,58 @@ impl Picture {
             label: step.label,
             title: title_of(step, more),
         };
-        if p >= self.histories.len() {
-            return Ok(());
-        }
         let history = &mut self.histories[p];
         history.add(&mark)
     }
 
-    // The program of a process came to its end.
-    pub(crate) fn program_ended(&mut self, p: usize) {
-        if p < self.histories.len() {
-            let history = &mut self.histories[p];
-            history.ended = true;
+    // Takes the first mark that waits on a lane, if there is one.
+    pub(crate) fn next(&mut self, p: usize) -> Option<Mark>
+        ensures { MatchOption result ((sketch_of self.new ≡ sketch_of self.old) × (lane_of (sketch_of self.old) p ≡ []))
+            (λ mark. Takes (sketch_of self.old) (sketch_of self.new) p mark) }
+    {
+        if p >= self.histories.len() {
+            return None;
         }
+        let history = &mut self.histories[p];
+        history.next()
+    }
+
+    // The program of a process came to its end, if it did.
+    pub(crate) fn end_program(&mut self, p: usize, ended: bool)
+        requires { p < length self.old.histories.items }
+        ensures same { sketch_of self.new ≡ sketch_of self.old }
+        ensures lanes { length self.new.histories.items ≡ length self.old.histories.items }
+    {
+        let history = &mut self.histories[p];
+        history.ended |= ended;
     }
 
     // An interval of a process began.
-    pub(crate) fn receive(&mut self, p: usize, interval: u32) {
-        if p < self.histories.len() {
-            let history = &mut self.histories[p];
-            history.interval = interval;
-        }
+    pub(crate) fn receive(&mut self, p: usize, interval: u32)
+        requires { p < length self.old.histories.items }
+        ensures same { sketch_of self.new ≡ sketch_of self.old }
+        ensures lanes { length self.new.histories.items ≡ length self.old.histories.items }
+    {
+        let history = &mut self.histories[p];
+        history.interval = interval;
     }
 
     // All receipts of a process are stored.
-    pub(crate) fn store(&mut self, p: usize) {
-        if p < self.histories.len() {
-            let history = &mut self.histories[p];
-            history.stored = history.interval;
-        }
+    pub(crate) fn store(&mut self, p: usize)
+        requires { p < length self.old.histories.items }
+        ensures { sketch_of self.new ≡ sketch_of self.old }
+    {
+        let history = &mut self.histories[p];
+        history.stored = history.interval;
     }
 
     // A process is back in an interval.
-    pub(crate) fn go_back(&mut self, p: usize, interval: u32) {
-        if p < self.histories.len() {
-            let history = &mut self.histories[p];
-            history.go_back(interval);
-        }
-    }
-
-    // So many marks of a lane are settled.
-    pub(crate) fn pass(&mut self, p: usize, settled: usize) {
-        if p < self.histories.len() {
-            let history = &mut self.histories[p];
-            history.settled = settled;
-        }
-    }
-
-    pub(crate) fn mark_at(&self, p: usize, k: usize) -> Option<Mark> {
-        self.histories.get(p)?.marks.get(k).copied()
+    pub(crate) fn go_back(&mut self, p: usize, interval: u32)
+        requires { p < length self.old.histories.items }
+        ensures { sketch_of self.new ≡ sketch_of self.old }
+    {
+        let history = &mut self.histories[p];
+        history.go_back(interval);
     }
 }
 
@@ -211,7 +315,9 @@ pub(crate) fn state_if(changed: bool, step: &Step) -> Option<DepVec> {
 }
 
 // The title of an event.
-pub(crate) fn title_of(step: &Step, more: More) -> Title {
+pub(crate) fn title_of(step: &Step, more: More) -> Title
+    ensures { title_entry result ≡ step_entry step.now }
+{
     Title {
         line: step.line,
         event: step.event,

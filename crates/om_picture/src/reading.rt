@@ -154,7 +154,7 @@ pub fn play_step<S: Stable>(
     ensures event { IfOk result (λ step. step.event ≡ event) }
     ensures recovery { IfOk result (λ step. step.recovery ≡ world.new.manager.recovery) }
     ensures size { size_of world.new.manager ≡ size_of world.old.manager }
-    ensures always { ((store : S) → IsTrue (S.is_clean store)) → all_clean world.new.clean ≡ true }
+    ensures always { ((store : S) → IsTrue (S.is_clean store)) → all_clean world.new.health ≡ true }
     ensures origins { world.new.origins ≡ world.old.origins }
 {
     let p = process_of(event).unwrap_or(MAX_PROCESSES);

@@ -1,5 +1,9 @@
 //! Rounds: what they cut, and the lines to which all went back.
 
+ghost use Rattle.std.specs.Prelude.{[], OnOk};
+ghost use Rattle.om_picture.specs.Drawing.{sketch_of};
+ghost use Rattle.om_picture.specs.steps.Adding.{Adds};
+
 use crate::lane::or_left;
 use crate::measure::{CHARACTER, recovery_length};
 use crate::page::Page;
@@ -38,6 +42,21 @@ impl Page {
             lane.live = None;
         }
         Ok(place)
+    }
+
+    // No gathering is open any more; within the window, its round is told.
+    fn close(
+        &mut self,
+        on: bool,
+        step: &Step,
+        changed: bool,
+        places: Vec<Spot>,
+    ) -> Result<(), AllocError> {
+        if on {
+            self.tell_round(step, changed, places)?;
+        }
+        self.opened = None;
+        Ok(())
     }
 
     // The band, the name, the recovery line and the recovery state of a round.
@@ -81,52 +100,57 @@ impl Picture {
         alloc: Global,
         step: &Step,
         changed: bool,
-    ) -> Result<(), AllocError> {
+    ) -> Result<(), AllocError>
+        ensures { OnOk result (Adds (sketch_of self.old) (sketch_of self.new) []) }
+    {
         self.page.round = self.page.round.saturating_add(1);
-        let mut places = Vec::new(alloc);
-        for p in 0..self.histories.len() {
-            let x = self.cut_lane(p)?;
-            places.push(self.page.spot(p, x))?;
-        }
-        if self.on {
-            self.page.tell_round(step, changed, places)?;
-        }
-        self.page.opened = None;
+        let places = self.cut_lanes(alloc)?;
+        self.page.close(self.on, step, changed, places)?;
         Ok(())
     }
 
+    // Cuts the lanes: the places of the recovery line.
+    fn cut_lanes(&mut self, alloc: Global) -> Result<Vec<Spot>, AllocError>
+        ensures { OnOk result (Adds (sketch_of self.old) (sketch_of self.new) []) }
+    {
+        let mut places = Vec::new(alloc);
+        for p in 0..self.histories.len() {
+            let x = self.cut_lane(p)?;
+            let spot = self.page.spot(p, x);
+            places.push(spot)?;
+        }
+        Ok(places)
+    }
+
     // Cuts a lane: the place of the recovery line.
-    fn cut_lane(&mut self, p: usize) -> Result<u32, AllocError> {
-        let Some(history) = self.histories.get(p) else {
-            return Ok(self.page.left);
-        };
-        let place = self.page.cut_road(p, history.first())?;
+    fn cut_lane(&mut self, p: usize) -> Result<u32, AllocError>
+        ensures { OnOk result (Adds (sketch_of self.old) (sketch_of self.new) []) }
+    {
+        let first = self.first_waiting(p);
+        let place = self.page.cut_road(p, first)?;
         self.cut_marks(p)?;
         Ok(place)
     }
 
-    // Draws the marks that are left of a lane as cut.
-    fn cut_marks(&mut self, p: usize) -> Result<(), AllocError> {
-        let Some(history) = self.histories.get(p) else {
-            return Ok(());
-        };
-        let stored = history.stored;
-        let from = history.settled;
-        let to = history.marks.len();
-        for k in from..to {
-            self.cut_mark(p, k, stored)?;
+    // Draws the marks that wait on a lane as cut.
+    fn cut_marks(&mut self, p: usize) -> Result<(), AllocError>
+        ensures { OnOk result (Adds (sketch_of self.old) (sketch_of self.new) []) }
+    {
+        let stored = self.stored(p);
+        let count = self.waiting(p);
+        for _ in 0..count {
+            self.cut_next(p, stored)?;
         }
-        self.pass(p, to);
         Ok(())
     }
 
-    fn cut_mark(&mut self, p: usize, k: usize, stored: u32) -> Result<(), AllocError> {
-        let Some(mark) = self.mark_at(p, k) else {
+    fn cut_next(&mut self, p: usize, stored: u32) -> Result<(), AllocError>
+        ensures { OnOk result (Adds (sketch_of self.old) (sketch_of self.new) []) }
+    {
+        let Some(mark) = self.next(p) else {
             return Ok(());
         };
-        if mark.x != 0 && self.on {
-            self.page.counts.add_fate(mark.fresh, true);
-        }
+        self.page.count_fate(self.on, &mark, true);
         let fate = Fate {
             cut: true,
             safe: mark.interval <= stored,

@@ -1,5 +1,10 @@
 //! Marks that are known to be kept or cut.
 
+ghost use Rattle.std.specs.Prelude.{◌≡◌, [], Some, OnOk};
+ghost use Rattle.om_picture.specs.Drawing.{mark_marks, sketch_of, waiting_kind};
+ghost use Rattle.om_picture.specs.Marks.{kind_drawn, own_marks, title_entry};
+ghost use Rattle.om_picture.specs.steps.Adding.{Adds, Settles};
+
 use crate::history::Mark;
 use crate::lane::{lane_y, or_left};
 use crate::page::Page;
@@ -24,7 +29,10 @@ fn style(fate: Fate, style: Style) -> Style {
 }
 
 // A mark of a form, at the place of this one.
-fn shape_of(form: Form, lane: u32, mark: &Mark, fate: Fate) -> Shape {
+fn shape_of(form: Form, lane: u32, mark: &Mark, fate: Fate) -> Shape
+    ensures form { result.form ≡ form }
+    ensures title { result.title ≡ mark.now.title }
+{
     Shape {
         form,
         cut: fate.cut,
@@ -34,7 +42,9 @@ fn shape_of(form: Form, lane: u32, mark: &Mark, fate: Fate) -> Shape {
 }
 
 // The form of a mark.
-fn form_of(shown: Shown, fate: Fate) -> Form {
+fn form_of(shown: Shown, fate: Fate) -> Form
+    ensures { kind_drawn result ≡ Some (waiting_kind shown) }
+{
     match shown {
         Shown::Receipt { .. } => Form::Receipt { stored: fate.safe },
         Shown::Checkpoint => Form::Checkpoint,
@@ -52,6 +62,14 @@ fn has_outputs(shown: Shown) -> bool {
 }
 
 impl Page {
+    // The place of a mark that is kept, where it has outputs that were held.
+    fn held_at(&self, mark: &Mark) -> Option<u32> {
+        if mark.fresh > 0 && mark.x != self.x {
+            return Some(or_left(mark.x, self.left));
+        }
+        None
+    }
+
     // The words of a mark whose fate is known, and the message of a receipt.
     fn tell(&mut self, lane: u32, mark: &Mark, fate: Fate) -> Result<(), AllocError> {
         match mark.shown {
@@ -120,76 +138,80 @@ impl Page {
 
 impl Picture {
     // Draws a mark whose fate is known; one from before the window is passed over.
-    pub(crate) fn settle(&mut self, p: usize, mark: &Mark, fate: Fate) -> Result<(), AllocError> {
+    pub(crate) fn settle(&mut self, p: usize, mark: &Mark, fate: Fate) -> Result<(), AllocError>
+        ensures { OnOk result (Settles (sketch_of self.old) (sketch_of self.new) (mark_marks mark.now)) }
+    {
         if mark.x == 0 {
             return Ok(());
         }
         let lane = self.page.lane_at(p).number;
         self.page.tell(lane, mark, fate)?;
-        if has_outputs(mark.shown) {
-            self.add_outputs(lane, mark, fate)?;
-        }
-        let form = form_of(mark.shown, fate);
-        self.add_shape(&shape_of(form, lane, mark, fate))
+        self.add_outputs(lane, mark, fate)?;
+        self.add_form(form_of(mark.shown, fate), lane, mark, fate)
     }
 
     // The stem of the outputs of a mark, and its head, if they were not all made before.
-    fn add_outputs(&mut self, lane: u32, mark: &Mark, fate: Fate) -> Result<(), AllocError> {
+    fn add_outputs(&mut self, lane: u32, mark: &Mark, fate: Fate) -> Result<(), AllocError>
+        ensures { OnOk result (Settles (sketch_of self.old) (sketch_of self.new) []) }
+    {
+        if !has_outputs(mark.shown) {
+            return Ok(());
+        }
         let again = mark.fresh == 0;
-        self.add_shape(&shape_of(Form::Stem { again }, lane, mark, fate))?;
+        self.add_form(Form::Stem { again }, lane, mark, fate)?;
         if again {
             return Ok(());
         }
         let released = fate.safe && !fate.cut;
-        self.add_shape(&shape_of(Form::Head { released }, lane, mark, fate))
+        self.add_form(Form::Head { released }, lane, mark, fate)
+    }
+
+    // A form at the place of a mark.
+    fn add_form(&mut self, form: Form, lane: u32, mark: &Mark, fate: Fate) -> Result<(), AllocError>
+        ensures { OnOk result (Settles (sketch_of self.old) (sketch_of self.new)
+            (own_marks (kind_drawn form) (title_entry mark.now.title))) }
+    {
+        self.add_shape(&shape_of(form, lane, mark, fate))
     }
 
     // Settles what the recovery state now covers, and shows where outputs that were held are released.
-    pub(crate) fn keep(&mut self, step: &Step, changed: bool) -> Result<(), AllocError> {
-        let recovery = step.recovery;
+    pub(crate) fn keep(&mut self, step: &Step, changed: bool) -> Result<(), AllocError>
+        ensures { OnOk result (Adds (sketch_of self.old) (sketch_of self.new) []) }
+    {
         for p in 0..self.histories.len() {
-            let held = self.keep_lane(p, recovery)?;
+            let held = self.keep_lane(p, step.recovery)?;
             self.release(p, held, step, changed)?;
         }
         Ok(())
     }
 
     // The same for a lane: the place of the first output that was held and is released.
-    fn keep_lane(&mut self, p: usize, recovery: DepVec) -> Result<Option<u32>, AllocError> {
-        let place = place_of(recovery, p);
-        let Some(history) = self.histories.get(p) else {
-            return Ok(None);
-        };
-        let from = history.settled;
-        let to = history.covered(place);
+    fn keep_lane(&mut self, p: usize, recovery: DepVec) -> Result<Option<u32>, AllocError>
+        ensures { OnOk result (Adds (sketch_of self.old) (sketch_of self.new) []) }
+    {
+        let count = self.covered(p, place_of(recovery, p));
         let mut held = None;
-        for k in from..to {
-            let found = self.keep_mark(p, k)?;
-            if held.is_none() {
-                held = found;
-            }
+        for _ in 0..count {
+            let found = self.keep_next(p)?;
+            held = held.or(found);
         }
-        self.pass(p, to);
         Ok(held)
     }
 
-    // Keeps a mark: its place, where it has outputs that were held.
-    fn keep_mark(&mut self, p: usize, k: usize) -> Result<Option<u32>, AllocError> {
-        let Some(mark) = self.mark_at(p, k) else {
+    // Keeps the next mark: its place, where it has outputs that were held.
+    fn keep_next(&mut self, p: usize) -> Result<Option<u32>, AllocError>
+        ensures { OnOk result (Adds (sketch_of self.old) (sketch_of self.new) []) }
+    {
+        let Some(mark) = self.next(p) else {
             return Ok(None);
         };
         let fate = Fate {
             cut: false,
             safe: true,
         };
+        self.page.count_fate(self.on, &mark, false);
         self.settle(p, &mark, fate)?;
-        if mark.x != 0 && self.on {
-            self.page.counts.add_fate(mark.fresh, false);
-        }
-        if mark.fresh > 0 && mark.x != self.page.x {
-            return Ok(Some(or_left(mark.x, self.page.left)));
-        }
-        Ok(None)
+        Ok(self.page.held_at(&mark))
     }
 
     // Shows that outputs which were made at a place are released, if there are some.
@@ -199,7 +221,9 @@ impl Picture {
         held: Option<u32>,
         step: &Step,
         changed: bool,
-    ) -> Result<(), AllocError> {
+    ) -> Result<(), AllocError>
+        ensures { OnOk result (Adds (sketch_of self.old) (sketch_of self.new) []) }
+    {
         let Some(from) = held else {
             return Ok(());
         };

@@ -1,5 +1,8 @@
 //! An event of a script, and what is seen of the world behind it.
 
+ghost use Rattle.std.specs.Prelude.{◌≡◌};
+ghost use Rattle.om_picture.specs.Marks.{process_of};
+
 use om_interval::{DepVec, MAX_PROCESSES};
 use om_process::Status;
 use om_world::{Answer, Event};
@@ -44,7 +47,9 @@ pub struct Standing {
 }
 
 /// The process of an event.
-pub fn process_of(event: Event) -> Option<usize> {
+pub fn process_of(event: Event) -> Option<usize>
+    ensures { result ≡ process_of event }
+{
     match event {
         Event::Run { process, .. }
         | Event::Give { process, .. }

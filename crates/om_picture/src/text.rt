@@ -11,7 +11,7 @@ use crate::ending::Drawn;
 use crate::shape_text::{push_band, push_crossing, push_road, push_shape, push_way};
 use crate::sheet::{Band, Crossing, Road, Shape, Sheet, Way, Word};
 use crate::word_text::push_word;
-use om_programs::Programs;
+use om_scripts::Programs;
 use std::alloc::{AllocError, Global};
 use std::fmt::Write;
 
@@ -50,32 +50,42 @@ path{fill:none}
 .j{stroke:#007a5e;stroke-width:2;stroke-dasharray:3 3;stroke-linejoin:round}
 </style>
 <defs>
-<marker id=\"a\" viewBox=\"0 0 8 8\" refX=\"13\" refY=\"4\" markerWidth=\"8\" markerHeight=\"8\" orient=\"auto\" markerUnits=\"userSpaceOnUse\"><path d=\"M0 0L8 4 0 8z\" style=\"fill:#444\"/></marker>
-<marker id=\"g\" viewBox=\"0 0 8 8\" refX=\"13\" refY=\"4\" markerWidth=\"8\" markerHeight=\"8\" orient=\"auto\" markerUnits=\"userSpaceOnUse\"><path d=\"M0 0L8 4 0 8z\" style=\"fill:#aaa\"/></marker>
+<marker id=\"a\" viewBox=\"0 0 8 8\" refX=\"13\" refY=\"4\" markerWidth=\"8\" markerHeight=\"8\" orient=\"auto\" \
+markerUnits=\"userSpaceOnUse\"><path d=\"M0 0L8 4 0 8z\" style=\"fill:#444\"/></marker>
+<marker id=\"g\" viewBox=\"0 0 8 8\" refX=\"13\" refY=\"4\" markerWidth=\"8\" markerHeight=\"8\" orient=\"auto\" \
+markerUnits=\"userSpaceOnUse\"><path d=\"M0 0L8 4 0 8z\" style=\"fill:#aaa\"/></marker>
 </defs>
 ";
 
 /// What the marks mean.
 pub const LEGEND: &str = "\
 <text class=\"t\" x=\"0\" y=\"0\">Legend</text>
-<path class=\"u0\" d=\"M0 18H14\"/><path class=\"u1\" d=\"M14 18H28\"/><path class=\"u2\" d=\"M28 18H42\"/><text x=\"52\" y=\"21\">up, by incarnation</text>
+<path class=\"u0\" d=\"M0 18H14\"/><path class=\"u1\" d=\"M14 18H28\"/><path class=\"u2\" d=\"M28 18H42\"/>\
+<text x=\"52\" y=\"21\">up, by incarnation</text>
 <path class=\"w\" d=\"M0 36H42\"/><text x=\"52\" y=\"39\">joined, waits for the round</text>
 <path class=\"d\" d=\"M0 54H42\"/><text x=\"52\" y=\"57\">down</text>
-<path class=\"c\" d=\"M0 72H42\"/><circle class=\"vx\" cx=\"12\" cy=\"72\" r=\"4\"/><circle class=\"lx\" cx=\"31\" cy=\"72\" r=\"4\"/><text x=\"52\" y=\"75\">cut by a round: lost, orphan</text>
+<path class=\"c\" d=\"M0 72H42\"/><circle class=\"vx\" cx=\"12\" cy=\"72\" r=\"4\"/><circle class=\"lx\" cx=\"31\" cy=\"72\" r=\"4\"/>\
+<text x=\"52\" y=\"75\">cut by a round: lost, orphan</text>
 <path class=\"u0\" d=\"M0 90H42\"/><path class=\"l\" d=\"M17 84l10 6-10 6z\"/><text x=\"52\" y=\"93\">back, in a new incarnation</text>
 <path class=\"u0\" d=\"M0 108H42\"/><path class=\"v\" d=\"M17 102l10 6-10 6z\"/><text x=\"52\" y=\"111\">goes on as it was</text>
-<path class=\"u0\" d=\"M270 18H312\"/><circle class=\"v\" cx=\"291\" cy=\"18\" r=\"4\"/><text x=\"296\" y=\"13\">1</text><text x=\"322\" y=\"21\">receipt, in memory only; its interval</text>
+<path class=\"u0\" d=\"M270 18H312\"/><circle class=\"v\" cx=\"291\" cy=\"18\" r=\"4\"/><text x=\"296\" y=\"13\">1</text>\
+<text x=\"322\" y=\"21\">receipt, in memory only; its interval</text>
 <path class=\"u0\" d=\"M270 36H312\"/><circle class=\"l\" cx=\"291\" cy=\"36\" r=\"4\"/><text x=\"322\" y=\"39\">receipt, stored</text>
-<path class=\"u0\" d=\"M270 52H312\"/><path class=\"i\" d=\"M280 58v3H302v-3\"/><text x=\"322\" y=\"57\">a flush stores the receipts since</text>
-<path class=\"u0\" d=\"M270 72H312\"/><rect class=\"l\" x=\"286\" y=\"67\" width=\"10\" height=\"10\"/><text x=\"322\" y=\"75\">checkpoint</text>
+<path class=\"u0\" d=\"M270 52H312\"/><path class=\"i\" d=\"M280 58v3H302v-3\"/>\
+<text x=\"322\" y=\"57\">a flush stores the receipts since</text>
+<path class=\"u0\" d=\"M270 72H312\"/><rect class=\"l\" x=\"286\" y=\"67\" width=\"10\" height=\"10\"/>\
+<text x=\"322\" y=\"75\">checkpoint</text>
 <path class=\"f\" d=\"M285 84l12 12m0-12l-12 12\"/><text x=\"322\" y=\"93\">fails</text>
 <path class=\"u0\" d=\"M270 108H312\"/><path class=\"k\" d=\"M291 101v14\"/><text x=\"322\" y=\"111\">joins, or its program ends</text>
 <path class=\"m\" d=\"M560 14L614 20\"/><text x=\"622\" y=\"21\">message</text>
 <path class=\"n\" d=\"M560 32L614 38\"/><text x=\"622\" y=\"39\">message that was sent again</text>
 <path class=\"q\" d=\"M583 58l8-11m-3-2l6 4\"/><text x=\"622\" y=\"57\">never given; how many, if more</text>
 <path class=\"o\" d=\"M560 70L587 72\"/><path class=\"h\" d=\"M587 67l5 5-5 5-5-5z\"/><text x=\"622\" y=\"75\">refused, and why</text>
-<path class=\"k\" d=\"M568 97v-13\"/><path class=\"v\" d=\"M564 84l4-6 4 6z\"/><path class=\"o\" d=\"M573 81H587\"/><path class=\"l\" d=\"M586 84l4-6 4 6z\"/><path class=\"k\" d=\"M608 97v-13m-4 0h8\"/><text x=\"622\" y=\"93\">output: held, released; made again</text>
-<rect class=\"b\" x=\"560\" y=\"100\" width=\"18\" height=\"15\"/><path class=\"r\" d=\"M587 99l4 18\"/><path class=\"j\" d=\"M602 99l4 18\"/><text x=\"622\" y=\"111\">round; recovery line of it, of the end</text>
+<path class=\"k\" d=\"M568 97v-13\"/><path class=\"v\" d=\"M564 84l4-6 4 6z\"/><path class=\"o\" d=\"M573 81H587\"/>\
+<path class=\"l\" d=\"M586 84l4-6 4 6z\"/><path class=\"k\" d=\"M608 97v-13m-4 0h8\"/>\
+<text x=\"622\" y=\"93\">output: held, released; made again</text>
+<rect class=\"b\" x=\"560\" y=\"100\" width=\"18\" height=\"15\"/><path class=\"r\" d=\"M587 99l4 18\"/>\
+<path class=\"j\" d=\"M602 99l4 18\"/><text x=\"622\" y=\"111\">round; recovery line of it, of the end</text>
 ";
 
 #[tactic(auto, unfolding(crate::specs::PictureText::style_text))]

@@ -8,7 +8,7 @@ use crate::answer_text::{push_recovery, push_status};
 use crate::measure::why_word;
 use crate::sheet::{Style, What, Word};
 use crate::step::{LABEL_BYTES, Label, Standing};
-use om_programs::Programs;
+use om_scripts::Programs;
 use std::alloc::{AllocError, Global};
 use std::fmt::Write;
 

@@ -14,7 +14,7 @@ use Rattle.om_runner.specs.declared.cluster.Finished.{Finished}
 use Rattle.om_runner.specs.declared.network.Ends.{Ends}
 use Rattle.om_runner.specs.steps.Ends.{AreEndsOf, IsEndOf}
 use Rattle.om_runner.specs.steps.Network.{ArePuts, AreTakes, IsNetwork, Lines}
-use Rattle.om_runner.specs.steps.Settling.{AreLeaves}
+use Rattle.om_runner.specs.steps.Settling.{ArePasses}
 use Rattle.om_runner.specs.steps.Wiring.{HasEnds, IsWired}
 
 -- ---- lists
@@ -89,13 +89,13 @@ all_ended is_clean images lines n results fs statuses many all long each statuse
     let end = ended_so is_clean images lines n results fs many all long each p found.0 found.1 in
     subst IsEnd found.2 end.2.ended
 
--- and these are the leaves of all
+-- and these are the passes of all
 pub all_leaves : {S E : Type 0} (is_clean : S → Bool) (images : List Image) (lines : Lines) (n : ℕ) (results : List (Result (Finished S) E)) (fs : List (Finished S))
     (puts : List (Vec Traffic Global)) (takes : List (Vec Takings Global))
     → IsNetwork n lines → length images ≡ n → map Ok fs ≡ results → length results ≡ n
     → AreEndsOf is_clean images lines n results
     → puts ≡ map (λ f. f.ends.puts) fs → takes ≡ map (λ f. f.ends.takes) fs
-    → AreLeaves n lines puts takes
+    → ArePasses n lines puts takes
 all_leaves {S = S} is_clean images lines n results fs puts takes network many all long each puts_are takes_are = record {
   network = network;
   senders = ap length puts_are ∙ length-map fs (λ (f : Finished S). f.ends.puts) ∙ count;

@@ -11,7 +11,7 @@ use Rattle.om_runner.proofs.LinkLemmas.{same_line}
 use Rattle.om_runner.proofs.WireLemmas.{set_apart, set_here}
 use Rattle.om_board.specs.Inboxes.{Line, Traffic, Takings}
 use Rattle.om_runner.specs.steps.Network.{Lines}
-use Rattle.om_runner.specs.steps.Settling.{AreLeaves, AreSettled, HavePairs, IsRowSettled, StandsAt, with_put}
+use Rattle.om_runner.specs.steps.Settling.{ArePasses, AreSettled, HavePairs, IsRowSettled, StandsAt, with_put}
 
 -- ---- elements of rows
 stands_same : {A : Type 0} (rows : List (Vec A Global)) (i j : ℕ) (x y : A) → StandsAt rows i j x → StandsAt rows i j y → x ≡ y
@@ -75,7 +75,7 @@ taken_inside rows i j row taken at row_is =
     subst (λ (r : Vec Takings Global). j < length r.items) (sym (row_is ∙ get_or_from_slice_get rows i at.0 row at.1)) (slice_get_within at.0.items j taken at.2)
 
 -- ---- one sender
--- the next of its leaves to put, and the receiver's to take
+-- the next of its passes to put, and the receiver's to take
 pub pair_next : (done from : ℕ) (row : List Line) (puts : List Traffic) (old now : List (Vec Takings Global)) (put : Traffic)
     → HavePairs row from puts old → IsRowSettled done from puts old now → slice_get puts done ≡ Some put
     → (slice_get row done ≡ Some put.line) × ((taken : Takings) × StandsAt now done from taken × (taken.line ≡ put.line))
@@ -125,28 +125,28 @@ row_goes_on done from puts old now new d row put taken after was put_at taken_at
     kept to by t at apart = subst (λ l. StandsAt l to by t) (sym new_is) (stands_apart now done from d row after to by t row_is at apart)
 
 -- ---- all senders
--- the next sender's leaves to put, and all receivers' to take
+-- the next sender's passes to put, and all receivers' to take
 pub pairs_next : (n : ℕ) (lines : Lines) (puts : List (Vec Traffic Global)) (old now : List (Vec Takings Global)) (from : ℕ) (row : Vec Traffic Global) (inboxes : Vec Line Global)
-    → AreLeaves n lines puts old → AreSettled from puts old now → slice_get puts from ≡ Some row → slice_get lines from ≡ Some inboxes
+    → ArePasses n lines puts old → AreSettled from puts old now → slice_get puts from ≡ Some row → slice_get lines from ≡ Some inboxes
     → HavePairs inboxes.items from row.items now
-pairs_next n lines puts old now from row inboxes leaves was row_at inboxes_at to put at =
-    let inbox = leaves.putting from row row_at to put at in
+pairs_next n lines puts old now from row inboxes passes was row_at inboxes_at to put at =
+    let inbox = passes.putting from row row_at to put at in
     let same : inbox.0 ≡ inboxes = same_Some inbox.0 inboxes (sym inbox.1 ∙ inboxes_at) in
-    let to_in : to < n = subst (λ k. to < k) (leaves.put from row row_at) (slice_get_within row.items to put at) in
-    let from_in : from < n = subst (λ k. from < k) leaves.senders (slice_get_within puts from row row_at) in (
+    let to_in : to < n = subst (λ k. to < k) (passes.put from row row_at) (slice_get_within row.items to put at) in
+    let from_in : from < n = subst (λ k. from < k) passes.senders (slice_get_within puts from row row_at) in (
       subst (λ (r : Vec Line Global). slice_get r.items to ≡ Some put.line) same inbox.2,
       elim (slice_get_cases old to).1 [
         | inl own ↦
-            let long = leaves.take to own.0 own.2 in
+            let long = passes.take to own.0 own.2 in
             elim (slice_get_cases own.0.items from).1 [
               | inl taken ↦ (
                 taken.0,
                 was.later from to taken.0 (omega arith) (own.0, own.2, taken.2),
-                same_line lines from to taken.0.line put.line (leaves.taking to own.0 own.2 from taken.0 taken.2) inbox,
+                same_line lines from to taken.0.line put.line (passes.taking to own.0 own.2 from taken.0 taken.2) inbox,
               )
               | inr past ↦ let l = past.0 in absurd (omega arith)
             ]
-        | inr past ↦ let l = past.0 in let r = leaves.receivers in absurd (omega arith)
+        | inr past ↦ let l = past.0 in let r = passes.receivers in absurd (omega arith)
       ],
     )
 

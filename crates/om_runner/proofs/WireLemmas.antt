@@ -12,7 +12,7 @@ use Rattle.om_runner.specs.steps.Wiring.{AreRows, HasEnds, HavePuts, IsRow, IsWi
 use Rattle.om_board.proofs.ListLemmas.{map_get, map_had, more_had, none_in}
 
 -- ---- one list of each process
--- setting one end whose leaves to take have one more
+-- setting one end whose passes to take have one more
 pub taken_grown : (ends : List Ends) (i : ℕ) (d e : Ends) (line : Line) → i < length ends → lines_taken e.takes.items ≡ lines_taken (get_or ends i d).takes.items ++ line ∷ []
     → all_taken (set ends i e) ≡ grown_at (all_taken ends) i line
 taken_grown [] i d e line lt is = absurd (omega arith)
@@ -75,7 +75,7 @@ set_apart (x ∷ xs) zero (suc j) y ne = refl
 set_apart (x ∷ xs) (suc i) zero y ne = refl
 set_apart (x ∷ xs) (suc i) (suc j) y ne = set_apart xs i j y (omega arith)
 
--- the senders before keep their leaves, and the next one has its own
+-- the senders before keep their passes, and the next one has its own
 pub puts_go_on : (rows : Lines) (row : Vec Line Global) (puts : List Line) (old new : List Ends) → HavePuts rows old → puts ≡ row.items → length rows < length old
     → all_put new ≡ set (all_put old) (length rows) puts → HavePuts (rows ++ row ∷ []) new
 puts_go_on rows row puts old new have is lt put p r e at there = elim (more_had rows p row r at) [

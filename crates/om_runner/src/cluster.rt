@@ -10,7 +10,7 @@ ghost use Rattle.om_runner.specs.declared.fault.RunFault.TheVariants.{Memory};
 ghost use Rattle.om_runner.specs.steps.Ends.{AreBelow, AreEndsOf, AreOwnEnds, IsEndOf, IsFaultBy, IsGiven, IsLeastFault, IsOut, IsOwnEnd, IsPromised, IsTurned, IsWell};
 ghost use Rattle.om_runner.specs.steps.Network.{IsNetwork};
 ghost use Rattle.om_runner.specs.steps.Places.{member_of};
-ghost use Rattle.om_runner.specs.steps.Settling.{AreLeaves, AreSettled};
+ghost use Rattle.om_runner.specs.steps.Settling.{ArePasses, AreSettled};
 ghost use Rattle.om_runner.specs.steps.Wiring.{IsWired};
 
 use crate::config::Config;
@@ -23,9 +23,9 @@ use crate::node::Node;
 use crate::opener::{Gate, OpenFault, Opener};
 use crate::recorder::Recorder;
 use crate::settle::settle_all;
-use crate::trouble::load_fault;
 use crate::witness::Past;
 use crate::worker::{Place, Worker};
+use crate::worker_fault::load_fault;
 use om_board::{Blank, Inbox, Naming, Pass, PutPass, Report, Shared, TakePass};
 use om_interval::{MAX_PROCESSES, Pid};
 use om_process::{Image, Status, Witness};
@@ -142,7 +142,7 @@ fn take_turn<'a, K: Naming, S: Stable, R: Wait + Clock>(
 {
     let (place, pass) = match worker.shown_turn(rt, alloc, place, pass) {
         Ok(turned) => turned,
-        Err(trouble) => return Err(trouble.of(worker.pid())),
+        Err(worker_fault) => return Err(worker_fault.of(worker.pid())),
     };
     match place {
         Place::Over(node) => {
@@ -553,7 +553,7 @@ fn gathered<K: Naming, R: Wait, G, O: Opener<R>>(
     requires each { AreEndsOf O.Store.is_clean cluster.now.plan.now.images.items cluster.now.inboxes.now K.cell.n results.items }
     requires own { AreOwnEnds cluster.now.plan.now K.cell.n results.items }
     requires some { 1 ≤ K.cell.n }
-    ensures leaves { IfOk result (λ parts. AreLeaves (length cluster.now.inboxes.now) cluster.now.inboxes.now
+    ensures passes { IfOk result (λ parts. ArePasses (length cluster.now.inboxes.now) cluster.now.inboxes.now
         parts.puts.items parts.takes.items) }
     ensures statuses { IfOk result (λ parts. length parts.statuses.items ≡ length cluster.now.plan.now.images.items) }
     ensures stores { IfOk result (λ parts. length parts.stores.items ≡ length cluster.now.plan.now.images.items) }
@@ -590,7 +590,7 @@ pub(crate) fn run_workers<
     requires passes { vec_len passes ≡ K.cell.n }
     requires some { 1 ≤ K.cell.n }
     requires same { B.Becomes beside beside }
-    ensures leaves { IfOk result.0 (λ parts. AreLeaves (length cluster.now.inboxes.now) cluster.now.inboxes.now
+    ensures passes { IfOk result.0 (λ parts. ArePasses (length cluster.now.inboxes.now) cluster.now.inboxes.now
         parts.puts.items parts.takes.items) }
     ensures statuses { IfOk result.0 (λ parts. length parts.statuses.items ≡ length cluster.now.plan.now.images.items) }
     ensures stores { IfOk result.0 (λ parts. length parts.stores.items ≡ length cluster.now.plan.now.images.items) }
@@ -613,7 +613,7 @@ pub(crate) fn settled<K: Naming, R: Wait, G, O: Opener<R>>(
     cluster: &Cluster<'_, K, R, G, O>,
     parts: Parts<O::Store>,
 ) -> (Vec<Status>, Vec<O::Store>, Vec<Witness>, Vec<Vec<TakePass>>)
-    requires leaves { AreLeaves (length cluster.now.inboxes.now) cluster.now.inboxes.now parts.puts.items parts.takes.items }
+    requires passes { ArePasses (length cluster.now.inboxes.now) cluster.now.inboxes.now parts.puts.items parts.takes.items }
     ensures statuses { result.0 ≡ parts.statuses }
     ensures stores { result.1 ≡ parts.stores }
     ensures settled { AreSettled (length parts.puts.items) parts.puts.items parts.takes.items result.3.items }
@@ -635,7 +635,7 @@ fn close<K: Naming, R: Wait, G: Gate, O: Opener<R>>(
     parts: Parts<O::Store>,
 ) -> Result<(Report, Vec<O::Store>, Vec<Witness>), RunFault>
     requires images { length cluster.now.plan.now.images.items ≡ K.cell.n }
-    requires leaves { AreLeaves (length cluster.now.inboxes.now) cluster.now.inboxes.now parts.puts.items parts.takes.items }
+    requires passes { ArePasses (length cluster.now.inboxes.now) cluster.now.inboxes.now parts.puts.items parts.takes.items }
     requires statuses { length parts.statuses.items ≡ length cluster.now.plan.now.images.items }
     requires stores { length parts.stores.items ≡ length cluster.now.plan.now.images.items }
     requires ended { All IsEnd parts.statuses.items }

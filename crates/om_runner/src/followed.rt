@@ -7,7 +7,7 @@ ghost use Rattle.om_runner.specs.Reports.{AreAlong, AreStatusesAlong, IsEnd};
 ghost use Rattle.om_runner.specs.Telling.{AreInOrder, TellsAll, Told};
 ghost use Rattle.om_runner.specs.declared.follower.FollowFault.TheVariants.{Unwanted};
 ghost use Rattle.om_runner.specs.steps.Following.{IsFollowed};
-ghost use Rattle.om_runner.specs.steps.Settling.{AreLeaves};
+ghost use Rattle.om_runner.specs.steps.Settling.{ArePasses};
 
 use crate::cluster::{Parts, run_workers, settled};
 use crate::config::Config;
@@ -48,7 +48,7 @@ fn close<K: Naming, R: Wait, G, O: Opener<R>, F: Follower>(
     following: Following<'_, K, F>,
 ) -> (Result<(Report, Vec<O::Store>), FollowFault>, F)
     requires images { length cluster.now.plan.now.images.items ≡ K.cell.n }
-    requires leaves { IfOk parts (λ p. AreLeaves (length cluster.now.inboxes.now) cluster.now.inboxes.now p.puts.items p.takes.items) }
+    requires passes { IfOk parts (λ p. ArePasses (length cluster.now.inboxes.now) cluster.now.inboxes.now p.puts.items p.takes.items) }
     requires statuses { IfOk parts (λ p. length p.statuses.items ≡ length cluster.now.plan.now.images.items) }
     requires stores { IfOk parts (λ p. length p.stores.items ≡ length cluster.now.plan.now.images.items) }
     requires ended { IfOk parts (λ p. All IsEnd p.statuses.items) }

@@ -45,7 +45,7 @@ pub(crate) struct Ground<K: Naming> {
     pub(crate) stop: AtomicBool,
 }
 
-// Of as many processes as the cell is for; with the leaves and the pass of each.
+// Of as many processes as the cell is for; with the passes of each.
 pub(crate) fn ground_of<K: Naming>(
     alloc: Global,
     n: usize,

@@ -11,19 +11,17 @@
 //! - `cluster`: the threads, from the first store to the report; `network` (the inboxes of all), `settle` (what is left in
 //!   them)
 //! - `worker`: what a thread does, turn by turn; `idle`, `patience` and `bell` (how it yields, sleeps and is woken),
-//!   `trouble` (why it stops)
-//! - what a worker has: `node` (a process over its store), `links` (its ends of inboxes), `contact` and `desk` (the manager)
+//!   `worker_fault` (why it stops)
+//! - what a worker has: `node` (a process over its store), `links` (its ends of inboxes), `manager_link` and `desk` (the manager)
 //! - `ground`: what all threads have in common
 //! - `recorder` and `diary`: what the threads did, in one order
 //! - `watch`, with `sight`, `progress` and `watched`: what the processes do, for whoever looks while they run
-//! - `followed`, with `follower`, `following` and `herald`: outputs that are told as they are released
 //! - `followed`, with `follower`, `following`, `lane` and `herald`: outputs that are told as they are released
 #![tactic(auto)]
 
 mod bell;
 mod cluster;
 mod config;
-mod contact;
 mod desk;
 mod diary;
 mod fault;
@@ -35,6 +33,7 @@ mod herald;
 mod idle;
 mod lane;
 mod links;
+mod manager_link;
 mod network;
 mod node;
 mod opener;
@@ -43,11 +42,11 @@ mod progress;
 mod recorder;
 mod settle;
 mod sight;
-mod trouble;
 mod watch;
 mod watched;
 mod witness;
 mod worker;
+mod worker_fault;
 
 pub use cluster::{run_and_keep_stores, run_and_keep_witnesses, run_and_record, run_cluster};
 pub use config::Config;

@@ -168,7 +168,7 @@ impl<'a> Links<'a> {
         ring_all(self.bells);
     }
 
-    // Gives the leaves of the process up.
+    // Gives the passes of the process up.
     pub(crate) fn into_ends(self) -> Ends
         ensures { HasEnds self.entry.n self.entry.lines self.entry.own result }
     {

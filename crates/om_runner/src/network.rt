@@ -8,7 +8,7 @@ use om_board::{Inbox, PutPass, TakePass};
 use om_interval::{MAX_PROCESSES, Pid};
 use std::alloc::{AllocError, Global};
 
-// The leaves that one process has.
+// The passes that one process has.
 #[derive(Drop)]
 pub(crate) struct Ends {
     // By receiver.
@@ -17,7 +17,7 @@ pub(crate) struct Ends {
     pub(crate) takes: Vec<TakePass>,
 }
 
-// An inbox from each process to each, and the leaves of each process.
+// An inbox from each process to each, and the passes of each process.
 #[derive(Drop)]
 pub(crate) struct Network {
     // By sender, and there by receiver.
@@ -25,7 +25,7 @@ pub(crate) struct Network {
     pub(crate) ends: Vec<Ends>,
 }
 
-// As many places without any leave.
+// As many places without any pass.
 fn no_ends(alloc: Global, n: usize) -> Result<Vec<Ends>, AllocError>
     ensures { IfOk result (λ ends. all_taken ends.items ≡ replicate n []) }
 {
@@ -39,7 +39,7 @@ fn no_ends(alloc: Global, n: usize) -> Result<Vec<Ends>, AllocError>
     Ok(ends)
 }
 
-// Gives a process one leave more to take.
+// Gives a process one pass more to take.
 fn add_take(ends: &mut Vec<Ends>, to: usize, take: TakePass) -> Result<(), AllocError>
     requires { to < length ends.old.items }
     ensures taken { OnOk result (all_taken ends.new.items ≡ grown_at (all_taken ends.old.items) to take.line) }
@@ -50,7 +50,7 @@ fn add_take(ends: &mut Vec<Ends>, to: usize, take: TakePass) -> Result<(), Alloc
     Ok(())
 }
 
-// The inboxes of one sender, and its leaves to put. Each receiver gets one leave more to take.
+// The inboxes of one sender, and its passes to put. Each receiver gets one pass more to take.
 fn connect(
     alloc: Global,
     from: usize,
@@ -77,7 +77,7 @@ fn connect(
     Ok((inboxes, puts))
 }
 
-// Gives a process its leaves to put.
+// Gives a process its passes to put.
 fn set_puts(ends: &mut Vec<Ends>, from: usize, puts: Vec<PutPass>)
     requires { from < length ends.old.items }
     ensures put { all_put ends.new.items ≡ slice_set (all_put ends.old.items) from (lines_put puts.items) }

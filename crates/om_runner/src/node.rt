@@ -10,7 +10,7 @@ ghost use Rattle.om_process.specs.Images.{program_of};
 ghost use Rattle.om_process.specs.Stores.{flushed};
 ghost use Rattle.om_runner.specs.Reports.{IsEnd, IsStatusAlong, nothing};
 
-use crate::trouble::Trouble;
+use crate::worker_fault::WorkerFault;
 use om_format::Message;
 use om_interval::{Bounds, Pid, Starts, Verdict};
 use om_manager::{OutputError, RecordError};
@@ -50,14 +50,14 @@ impl<'a, S: Stable> Model for Node<'a, S> {
 
 // A process that is down, and its store.
 #[derive(Drop)]
-pub(crate) struct Fallen<'a, S: Stable> {
+pub(crate) struct DownNode<'a, S: Stable> {
     image: &'a Image,
     pid: Pid,
     n: usize,
     store: Box<S>,
 }
 
-impl<'a, S: Stable> Model for Fallen<'a, S> {
+impl<'a, S: Stable> Model for DownNode<'a, S> {
     ghost use Rattle.om_process.specs.Images.{program_of};
     ghost use Rattle.om_runner.specs.steps.Nodes.{Member, IsKept};
 
@@ -132,7 +132,7 @@ impl<'a, S: Stable> Node<'a, S> {
     }
 
     // Runs at most so many instructions.
-    pub(crate) fn run(&mut self, alloc: Global, fuel: u64) -> Result<Ran, Trouble>
+    pub(crate) fn run(&mut self, alloc: Global, fuel: u64) -> Result<Ran, WorkerFault>
         ensures { self.new.member ≡ self.old.member }
     {
         Ok(self.core.run(alloc, fuel)?)
@@ -147,7 +147,7 @@ impl<'a, S: Stable> Node<'a, S> {
 
     // Stores the volatile log.
     #[inline(never)]
-    pub(crate) fn flush(&mut self, alloc: Global) -> Result<(), Trouble>
+    pub(crate) fn flush(&mut self, alloc: Global) -> Result<(), WorkerFault>
         ensures member { self.new.member ≡ self.old.member }
         ensures stored { OnOk result (self.new.core ≡ flushed self.old.core) }
     {
@@ -156,7 +156,7 @@ impl<'a, S: Stable> Node<'a, S> {
 
     // Stores a checkpoint of now.
     #[inline(never)]
-    pub(crate) fn checkpoint(&mut self, alloc: Global) -> Result<(), Trouble>
+    pub(crate) fn checkpoint(&mut self, alloc: Global) -> Result<(), WorkerFault>
         ensures { self.new.member ≡ self.old.member }
     {
         Ok(self.core.checkpoint(alloc, &mut *self.store)?)
@@ -201,7 +201,7 @@ impl<'a, S: Stable> Node<'a, S> {
     }
 
     // Drops what stands in the store before a checkpoint.
-    fn prune(&mut self, alloc: Global, checkpoint: u32) -> Result<(), Trouble>
+    fn prune(&mut self, alloc: Global, checkpoint: u32) -> Result<(), WorkerFault>
         ensures { self.new.member ≡ self.old.member }
     {
         Ok(self.store.prune(alloc, checkpoint)?)
@@ -213,7 +213,7 @@ impl<'a, S: Stable> Node<'a, S> {
         alloc: Global,
         bounds: &Bounds,
         checkpoint: u32,
-    ) -> Result<(), Trouble>
+    ) -> Result<(), WorkerFault>
         requires { length bounds.now.got ≡ self.old.member.n }
         ensures { self.new.member ≡ self.old.member }
     {
@@ -227,7 +227,7 @@ impl<'a, S: Stable> Node<'a, S> {
         alloc: Global,
         starts: &Starts,
         verdict: &Verdict,
-    ) -> Result<(), Trouble>
+    ) -> Result<(), WorkerFault>
         requires { length starts.now ≡ self.old.member.n }
         ensures { self.new.member ≡ self.old.member }
     {
@@ -236,7 +236,7 @@ impl<'a, S: Stable> Node<'a, S> {
 
     // The process fails.
     #[inline(never)]
-    pub(crate) fn fail(self) -> Fallen<'a, S>
+    pub(crate) fn fail(self) -> DownNode<'a, S>
         ensures { result ≡ self.entry.member }
     {
         let Node {
@@ -247,7 +247,7 @@ impl<'a, S: Stable> Node<'a, S> {
             store,
         } = self;
         Box::into_inner(core).fail();
-        Fallen {
+        DownNode {
             image,
             pid,
             n,
@@ -272,7 +272,7 @@ impl<'a, S: Stable> Node<'a, S> {
     }
 }
 
-impl<'a, S: Stable> Fallen<'a, S> {
+impl<'a, S: Stable> DownNode<'a, S> {
     // Comes back after a round that rolls it back.
     #[inline(never)]
     pub(crate) fn come_back(
@@ -280,11 +280,11 @@ impl<'a, S: Stable> Fallen<'a, S> {
         alloc: Global,
         starts: &Starts,
         verdict: &Verdict,
-    ) -> Result<Node<'a, S>, Trouble>
+    ) -> Result<Node<'a, S>, WorkerFault>
         requires { length starts.now ≡ self.n }
         ensures { IfOk result (λ node. node.member ≡ self.entry) }
     {
-        let Fallen {
+        let DownNode {
             image,
             pid,
             n,
@@ -301,7 +301,7 @@ impl<'a, S: Stable> Fallen<'a, S> {
                     store,
                 })
             }
-            Err((_, fault)) => Err(Trouble::from(fault)),
+            Err((_, fault)) => Err(WorkerFault::from(fault)),
         }
     }
 }

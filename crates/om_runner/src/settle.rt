@@ -1,7 +1,7 @@
 //! The inboxes at the end of a run, when every worker has ended.
 
 ghost use Rattle.std.specs.Prelude.{◌≡◌, length};
-ghost use Rattle.om_runner.specs.steps.Settling.{AreLeaves, AreSettled, HavePairs, IsRowSettled};
+ghost use Rattle.om_runner.specs.steps.Settling.{ArePasses, AreSettled, HavePairs, IsRowSettled};
 
 use om_board::{Inbox, PutPass, TakePass};
 use std::sync::Wait;
@@ -22,7 +22,7 @@ fn settle_row<R: Wait>(
     }
 }
 
-// Has each receiver take in what every sender has put for it. The leaves to put stand by sender and there by receiver, those
+// Has each receiver take in what every sender has put for it. The passes to put stand by sender and there by receiver, those
 // to take by receiver and there by sender.
 pub(crate) fn settle_all<R: Wait>(
     rt: &R,
@@ -30,7 +30,7 @@ pub(crate) fn settle_all<R: Wait>(
     puts: Vec<Vec<PutPass>>,
     takes: &mut Vec<Vec<TakePass>>,
 )
-    requires { AreLeaves (length inboxes.now) inboxes.now puts.items takes.old.items }
+    requires { ArePasses (length inboxes.now) inboxes.now puts.items takes.old.items }
     ensures { AreSettled (length puts.items) puts.items takes.old.items takes.new.items }
 {
     for (from, row) in puts.into_iter().enumerate() {

@@ -1,6 +1,6 @@
 //! What a worker keeps of what its process did.
 
-use crate::trouble::Trouble;
+use crate::worker_fault::WorkerFault;
 use om_interval::Pid;
 use om_process::Witness;
 use std::alloc::Global;
@@ -25,9 +25,9 @@ impl Past {
     }
 
     // One more receipt.
-    pub(crate) fn receive(&mut self, from: Pid) -> Result<(), Trouble> {
+    pub(crate) fn receive(&mut self, from: Pid) -> Result<(), WorkerFault> {
         if self.keeps && self.witness.senders.push(from.index() as u8).is_err() {
-            return Err(Trouble::Memory);
+            return Err(WorkerFault::Memory);
         }
         Ok(())
     }

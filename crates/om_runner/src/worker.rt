@@ -10,17 +10,17 @@ ghost use Rattle.om_runner.specs.steps.Wiring.{HasEnds};
 
 use crate::bell::Look;
 use crate::config::Config;
-use crate::contact::{Contact, Heard, Limits, Standing};
 use crate::diary::{Diary, Listeners};
 use crate::idle::{Idle, Pause};
 use crate::links::Links;
+use crate::manager_link::{Limits, ManagerLink, RoundOutcome, Standing};
 use crate::network::Ends;
-use crate::node::{Fallen, Node, has_ended};
+use crate::node::{DownNode, Node, has_ended};
 use crate::patience::Patience;
 use crate::sight::{Doing, Sight};
-use crate::trouble::Trouble;
 use crate::watch::Watch;
 use crate::witness::Past;
+use crate::worker_fault::WorkerFault;
 use om_board::{Front, Naming, Pass, Shared};
 use om_format::Message;
 use om_interval::{Pid, Verdict};
@@ -43,9 +43,9 @@ pub(crate) enum Place<'a, S: Stable> {
     // It joined, and waits for the round to be finished.
     In(Node<'a, S>),
     // It failed, which the manager is still to be told.
-    Failed(Fallen<'a, S>),
+    Failed(DownNode<'a, S>),
     // It failed, and waits for the round to be finished.
-    Down(Fallen<'a, S>),
+    Down(DownNode<'a, S>),
     // All processes are quiet.
     Over(Node<'a, S>),
 }
@@ -103,12 +103,12 @@ impl Step {
     }
 }
 
-// A worker, but for its process. Where it gives a process up for a trouble it drops it by a call: at the end of the scope each
+// A worker, but for its process. Where it gives a process up for a worker_fault it drops it by a call: at the end of the scope each
 // part of the process would be dropped in turn.
 #[derive(Drop)]
 pub(crate) struct Worker<'a, K: Naming> {
     plan: &'a Config,
-    contact: Contact<'a, K>,
+    manager_link: ManagerLink<'a, K>,
     links: Links<'a>,
     // The intervals at which the process is still to fail.
     kills: Vec<u32>,
@@ -122,7 +122,7 @@ pub(crate) struct Worker<'a, K: Naming> {
     resent: bool,
     // How many turns the last one counts as beside itself.
     extra: u64,
-    ghost linked: { links.own ≡ contact.pid },
+    ghost linked: { links.own ≡ manager_link.pid },
     ghost many: { links.n ≡ K.cell.n },
 }
 
@@ -157,7 +157,7 @@ fn shed<'a, S: Stable>(
     node: &mut Node<'a, S>,
     alloc: Global,
     limits: Option<Limits>,
-) -> Result<(), Trouble>
+) -> Result<(), WorkerFault>
     requires { IfSome limits (λ l. length l.bounds.got ≡ node.old.member.n) }
     ensures { node.new.member ≡ node.old.member }
 {
@@ -172,20 +172,22 @@ fn shed<'a, S: Stable>(
 fn after_round<'a, S: Stable>(
     alloc: Global,
     node: Node<'a, S>,
-    heard: &Heard,
-) -> Result<Node<'a, S>, Trouble>
-    requires { length heard.now.starts ≡ node.member.n }
+    round_outcome: &RoundOutcome,
+) -> Result<Node<'a, S>, WorkerFault>
+    requires { length round_outcome.now.starts ≡ node.member.n }
     ensures { IfOk result (λ next. next.member ≡ node.entry.member) }
 {
-    if heard.verdict.back {
-        return node.fail().come_back(alloc, &heard.starts, &heard.verdict);
+    if round_outcome.verdict.back {
+        return node
+            .fail()
+            .come_back(alloc, &round_outcome.starts, &round_outcome.verdict);
     }
     let mut node = node;
-    match node.resume(alloc, &heard.starts, &heard.verdict) {
+    match node.resume(alloc, &round_outcome.starts, &round_outcome.verdict) {
         Ok(()) => Ok(node),
-        Err(trouble) => {
+        Err(worker_fault) => {
             drop(node);
-            Err(trouble)
+            Err(worker_fault)
         }
     }
 }
@@ -207,7 +209,7 @@ impl<'a, K: Naming> Worker<'a, K> {
         let own = links.own();
         Worker {
             plan,
-            contact: Contact::new(own, shared),
+            manager_link: ManagerLink::new(own, shared),
             links,
             kills,
             past,
@@ -224,7 +226,7 @@ impl<'a, K: Naming> Worker<'a, K> {
     pub(crate) fn pid(&self) -> Pid
         ensures { result ≡ self.now.links.own }
     {
-        self.contact.pid
+        self.manager_link.pid
     }
 
     // How many turns the last one counts as beside itself.
@@ -234,7 +236,7 @@ impl<'a, K: Naming> Worker<'a, K> {
         self.extra
     }
 
-    // Gives the leaves of the process up, when it has ended, and what it did.
+    // Gives the passes of the process up, when it has ended, and what it did.
     pub(crate) fn into_ends(self) -> (Ends, Witness)
         ensures { let l = self.entry.links in HasEnds K.cell.n l.lines l.own result.0 }
     {
@@ -258,22 +260,22 @@ impl<'a, K: Naming> Worker<'a, K> {
         alloc: Global,
         place: Place<'a, S>,
         pass: Pass<K>,
-    ) -> Result<(Place<'a, S>, Pass<K>), Trouble>
+    ) -> Result<(Place<'a, S>, Pass<K>), WorkerFault>
         requires own { (member_of place).own ≡ self.old.links.own }
         requires size { (member_of place).n ≡ K.cell.n }
         ensures same { self.new.links ≡ self.old.links }
         ensures place { IfOk result (λ r. member_of r.0 ≡ member_of place.entry) }
-        ensures turned { IfOk result (λ r. IsTurnOf K.cell.n self.old.contact.round place.entry r.0) }
+        ensures turned { IfOk result (λ r. IsTurnOf K.cell.n self.old.manager_link.round place.entry r.0) }
     {
         let mut pass = pass;
         self.extra = 0;
-        let front = self.contact.read(rt, &mut pass);
+        let front = self.manager_link.read(rt, &mut pass);
         match place {
             Place::Up(node) => self.go_on(rt, alloc, &front, node, pass),
             Place::Called(node) => self.join(rt, alloc, node, pass),
             Place::In(node) => self.wait_in(rt, alloc, &front, node, pass),
-            Place::Failed(fallen) => self.declare(rt, alloc, fallen, pass),
-            Place::Down(fallen) => self.wait_down(rt, alloc, &front, fallen, pass),
+            Place::Failed(down_node) => self.declare(rt, alloc, down_node, pass),
+            Place::Down(down_node) => self.wait_down(rt, alloc, &front, down_node, pass),
             Place::Over(node) => Ok((Place::Over(node), pass)),
         }
     }
@@ -286,7 +288,7 @@ impl<'a, K: Naming> Worker<'a, K> {
         alloc: Global,
         place: Place<'a, S>,
         pass: Pass<K>,
-    ) -> Result<(Place<'a, S>, Pass<K>), Trouble>
+    ) -> Result<(Place<'a, S>, Pass<K>), WorkerFault>
         requires own { (member_of place).own ≡ self.old.links.own }
         requires size { (member_of place).n ≡ K.cell.n }
         ensures same { self.new.links ≡ self.old.links }
@@ -308,7 +310,7 @@ impl<'a, K: Naming> Worker<'a, K> {
         let Some(watch) = self.watch else {
             return;
         };
-        let pid = self.contact.pid;
+        let pid = self.manager_link.pid;
         let old = watch.sight(rt, pid).unwrap_or(Sight::new());
         let (interval, count) = turned.0.reached().unwrap_or((old.interval, old.count));
         let sight = Sight {
@@ -317,7 +319,7 @@ impl<'a, K: Naming> Worker<'a, K> {
             count,
             put: self.links.put(),
             taken: self.links.taken(),
-            front: Some(self.contact.read(rt, &mut turned.1)),
+            front: Some(self.manager_link.read(rt, &mut turned.1)),
         };
         watch.show(rt, pid, sight);
     }
@@ -331,7 +333,7 @@ impl<'a, K: Naming> Worker<'a, K> {
         front: &Front,
         node: Node<'a, S>,
         pass: Pass<K>,
-    ) -> Result<(Place<'a, S>, Pass<K>), Trouble>
+    ) -> Result<(Place<'a, S>, Pass<K>), WorkerFault>
         requires own { node.member.own ≡ self.old.links.own }
         requires size { node.member.n ≡ K.cell.n }
         ensures same { self.new.links ≡ self.old.links }
@@ -340,9 +342,9 @@ impl<'a, K: Naming> Worker<'a, K> {
         let mut node = node;
         match self.advance(rt, alloc, front, &mut node, pass) {
             Ok((step, pass)) => Ok((step.place_of(node), pass)),
-            Err(trouble) => {
+            Err(worker_fault) => {
                 drop(node);
-                Err(trouble)
+                Err(worker_fault)
             }
         }
     }
@@ -356,7 +358,7 @@ impl<'a, K: Naming> Worker<'a, K> {
         front: &Front,
         node: &mut Node<'a, S>,
         pass: Pass<K>,
-    ) -> Result<(Step, Pass<K>), Trouble>
+    ) -> Result<(Step, Pass<K>), WorkerFault>
         requires own { node.old.member.own ≡ self.old.links.own }
         requires size { node.old.member.n ≡ K.cell.n }
         ensures same { self.new.links ≡ self.old.links }
@@ -381,7 +383,7 @@ impl<'a, K: Naming> Worker<'a, K> {
         rt: &R,
         alloc: Global,
         node: &mut Node<'a, S>,
-    ) -> Result<Status, Trouble>
+    ) -> Result<Status, WorkerFault>
         requires own { node.old.member.own ≡ self.old.links.own }
         requires size { node.old.member.n ≡ K.cell.n }
         ensures same { self.new.links ≡ self.old.links }
@@ -412,20 +414,20 @@ impl<'a, K: Naming> Worker<'a, K> {
         node: &mut Node<'a, S>,
         status: Status,
         pass: Pass<K>,
-    ) -> Result<(Standing, Pass<K>), Trouble>
+    ) -> Result<(Standing, Pass<K>), WorkerFault>
         requires own { node.old.member.own ≡ self.old.links.own }
         requires size { node.old.member.n ≡ K.cell.n }
         ensures same { self.new.links ≡ self.old.links }
         ensures member { node.new.member ≡ node.old.member }
-        ensures reported { IfOk result (λ r. HasNothingToSay self.old.contact.handed status node.old.core r.0 node.new.core
-            ⊎ HasReported K.cell.n self.old.contact.pid self.old.contact.round status node.old.core r.0) }
+        ensures reported { IfOk result (λ r. HasNothingToSay self.old.manager_link.handed status node.old.core r.0 node.new.core
+            ⊎ HasReported K.cell.n self.old.manager_link.pid self.old.manager_link.round status node.old.core r.0) }
     {
         let ended = has_ended(status);
-        if !self.contact.is_due(node.core(), front, ended) {
+        if !self.manager_link.is_due(node.core(), front, ended) {
             return Ok((Standing::Closed, pass));
         }
         let (standing, limits, pass) = self
-            .contact
+            .manager_link
             .meet(rt, alloc, node, ended, &mut self.diary, pass)?;
         shed(node, alloc, limits)?;
         Ok((standing, pass))
@@ -439,7 +441,7 @@ impl<'a, K: Naming> Worker<'a, K> {
         alloc: Global,
         node: &mut Node<'a, S>,
         status: Status,
-    ) -> Result<Step, Trouble>
+    ) -> Result<Step, WorkerFault>
         ensures same { self.new.links ≡ self.old.links }
         ensures member { node.new.member ≡ node.old.member }
     {
@@ -473,7 +475,7 @@ impl<'a, K: Naming> Worker<'a, K> {
         alloc: Global,
         node: &mut Node<'a, S>,
         message: &Message,
-    ) -> Result<Step, Trouble>
+    ) -> Result<Step, WorkerFault>
         ensures same { self.new.links ≡ self.old.links }
         ensures member { node.new.member ≡ node.old.member }
     {
@@ -485,14 +487,14 @@ impl<'a, K: Naming> Worker<'a, K> {
                 self.change();
                 self.after_receipt(alloc, node, x)
             }
-            Accept::Memory => Err(Trouble::Memory),
+            Accept::Memory => Err(WorkerFault::Memory),
             Accept::Repeat => {
                 self.idle.interrupt();
                 Ok(Step::Up)
             }
             _ => {
                 self.change();
-                self.contact.refuse(rt);
+                self.manager_link.refuse(rt);
                 Ok(Step::Up)
             }
         }
@@ -515,14 +517,17 @@ impl<'a, K: Naming> Worker<'a, K> {
     // at once.
     fn wait<R: Wait + Clock>(&mut self, rt: &R)
         ensures same { self.new.links ≡ self.old.links }
-        ensures waited { HasRested K.cell.n self.old.contact.pid self.old.contact.round self.new.extra }
+        ensures waited { HasRested K.cell.n self.old.manager_link.pid self.old.manager_link.round self.new.extra }
     {
-        if self.contact.wait(rt, self.links.put(), self.links.taken()) {
+        if self
+            .manager_link
+            .wait(rt, self.links.put(), self.links.taken())
+        {
             self.extra = ALL_TURNS;
             return;
         }
         let pause = pause_of(rt, &self.links, &self.idle, &mut self.patience);
-        self.contact.withdraw(rt);
+        self.manager_link.withdraw(rt);
         self.count(rt, pause);
     }
 
@@ -531,7 +536,7 @@ impl<'a, K: Naming> Worker<'a, K> {
         ensures same { self.new.links ≡ self.old.links }
     {
         if self.pass(pause) {
-            self.contact.offer(rt);
+            self.manager_link.offer(rt);
             self.resent = true;
         }
     }
@@ -565,7 +570,7 @@ impl<'a, K: Naming> Worker<'a, K> {
         alloc: Global,
         node: &mut Node<'a, S>,
         x: u32,
-    ) -> Result<Step, Trouble>
+    ) -> Result<Step, WorkerFault>
         ensures same { self.new.links ≡ self.old.links }
         ensures member { node.new.member ≡ node.old.member }
         ensures killed { Contains self.old.kills.items x → result ≡ Ok Step.Failed }
@@ -604,18 +609,18 @@ impl<'a, K: Naming> Worker<'a, K> {
         alloc: Global,
         node: Node<'a, S>,
         pass: Pass<K>,
-    ) -> Result<(Place<'a, S>, Pass<K>), Trouble>
+    ) -> Result<(Place<'a, S>, Pass<K>), WorkerFault>
         requires own { node.member.own ≡ self.old.links.own }
         ensures same { self.new.links ≡ self.old.links }
         ensures place { IfOk result (λ r. member_of r.0 ≡ node.entry.member) }
-        ensures turned { IfOk result (λ r. IsTurnOf K.cell.n self.old.contact.round (Place.Called node.entry) r.0) }
+        ensures turned { IfOk result (λ r. IsTurnOf K.cell.n self.old.manager_link.round (Place.Called node.entry) r.0) }
     {
         let mut node = node;
         match self.enter(rt, alloc, &mut node, pass) {
             Ok(pass) => Ok((Place::In(node), pass)),
-            Err(trouble) => {
+            Err(worker_fault) => {
                 drop(node);
-                Err(trouble)
+                Err(worker_fault)
             }
         }
     }
@@ -627,7 +632,7 @@ impl<'a, K: Naming> Worker<'a, K> {
         alloc: Global,
         node: &mut Node<'a, S>,
         pass: Pass<K>,
-    ) -> Result<Pass<K>, Trouble>
+    ) -> Result<Pass<K>, WorkerFault>
         requires { node.old.member.own ≡ self.old.links.own }
         ensures same { self.new.links ≡ self.old.links }
         ensures member { node.new.member ≡ node.old.member }
@@ -635,7 +640,9 @@ impl<'a, K: Naming> Worker<'a, K> {
             HasJoined before.manager node.old.member.own (flushed node.old.core) after.manager node.new.core)) }
     {
         node.flush(alloc)?;
-        let (is_finished, pass) = self.contact.join(rt, alloc, node, &mut self.diary, pass)?;
+        let (is_finished, pass) = self
+            .manager_link
+            .join(rt, alloc, node, &mut self.diary, pass)?;
         if is_finished {
             self.links.wake_all();
         }
@@ -649,18 +656,18 @@ impl<'a, K: Naming> Worker<'a, K> {
         &mut self,
         rt: &R,
         alloc: Global,
-        fallen: Fallen<'a, S>,
+        down_node: DownNode<'a, S>,
         pass: Pass<K>,
-    ) -> Result<(Place<'a, S>, Pass<K>), Trouble>
-        requires { fallen.own ≡ self.old.links.own }
+    ) -> Result<(Place<'a, S>, Pass<K>), WorkerFault>
+        requires { down_node.own ≡ self.old.links.own }
         ensures same { self.new.links ≡ self.old.links }
-        ensures place { IfOk result (λ r. member_of r.0 ≡ fallen.entry) }
-        ensures turned { IfOk result (λ r. IsTurnOf K.cell.n self.old.contact.round (Place.Failed fallen.entry) r.0) }
+        ensures place { IfOk result (λ r. member_of r.0 ≡ down_node.entry) }
+        ensures turned { IfOk result (λ r. IsTurnOf K.cell.n self.old.manager_link.round (Place.Failed down_node.entry) r.0) }
     {
-        let pass = self.contact.declare(rt, alloc, &mut self.diary, pass)?;
+        let pass = self.manager_link.declare(rt, alloc, &mut self.diary, pass)?;
         self.links.wake_all();
         self.change();
-        Ok((Place::Down(fallen), pass))
+        Ok((Place::Down(down_node), pass))
     }
 
     // Waits for the round to be finished, and then goes on as its verdict says.
@@ -672,27 +679,27 @@ impl<'a, K: Naming> Worker<'a, K> {
         front: &Front,
         node: Node<'a, S>,
         pass: Pass<K>,
-    ) -> Result<(Place<'a, S>, Pass<K>), Trouble>
+    ) -> Result<(Place<'a, S>, Pass<K>), WorkerFault>
         requires size { node.member.n ≡ K.cell.n }
         ensures same { self.new.links ≡ self.old.links }
         ensures place { IfOk result (λ r. member_of r.0 ≡ node.entry.member) }
     {
-        let (heard, pass) = match self.listen(rt, alloc, front, pass) {
-            Ok(heard) => heard,
-            Err(trouble) => {
+        let (round_outcome, pass) = match self.listen(rt, alloc, front, pass) {
+            Ok(round_outcome) => round_outcome,
+            Err(worker_fault) => {
                 drop(node);
-                return Err(trouble);
+                return Err(worker_fault);
             }
         };
-        let place = match heard {
+        let place = match round_outcome {
             None => Place::In(node),
-            Some(heard) => {
-                let is_back = heard.verdict.back;
+            Some(round_outcome) => {
+                let is_back = round_outcome.verdict.back;
                 if is_back {
-                    self.past.cut(heard.verdict.r);
+                    self.past.cut(round_outcome.verdict.r);
                 }
-                let node = after_round(alloc, node, &heard)?;
-                self.up_again(rt, node, &heard.verdict, is_back)?
+                let node = after_round(alloc, node, &round_outcome)?;
+                self.up_again(rt, node, &round_outcome.verdict, is_back)?
             }
         };
         Ok((place, pass))
@@ -706,7 +713,7 @@ impl<'a, K: Naming> Worker<'a, K> {
         node: Node<'a, S>,
         verdict: &Verdict,
         is_back: bool,
-    ) -> Result<Place<'a, S>, Trouble>
+    ) -> Result<Place<'a, S>, WorkerFault>
         ensures same { self.new.links ≡ self.old.links }
         ensures place { IfOk result (λ place. member_of place ≡ node.entry.member) }
     {
@@ -726,20 +733,24 @@ impl<'a, K: Naming> Worker<'a, K> {
         rt: &R,
         alloc: Global,
         front: &Front,
-        fallen: Fallen<'a, S>,
+        down_node: DownNode<'a, S>,
         pass: Pass<K>,
-    ) -> Result<(Place<'a, S>, Pass<K>), Trouble>
-        requires size { fallen.n ≡ K.cell.n }
+    ) -> Result<(Place<'a, S>, Pass<K>), WorkerFault>
+        requires size { down_node.n ≡ K.cell.n }
         ensures same { self.new.links ≡ self.old.links }
-        ensures place { IfOk result (λ r. member_of r.0 ≡ fallen.entry) }
+        ensures place { IfOk result (λ r. member_of r.0 ≡ down_node.entry) }
     {
-        let (heard, pass) = self.listen(rt, alloc, front, pass)?;
-        let place = match heard {
-            None => Place::Down(fallen),
-            Some(heard) => {
-                self.past.cut(heard.verdict.r);
-                let node = fallen.come_back(alloc, &heard.starts, &heard.verdict)?;
-                self.up_again(rt, node, &heard.verdict, true)?
+        let (round_outcome, pass) = self.listen(rt, alloc, front, pass)?;
+        let place = match round_outcome {
+            None => Place::Down(down_node),
+            Some(round_outcome) => {
+                self.past.cut(round_outcome.verdict.r);
+                let node = down_node.come_back(
+                    alloc,
+                    &round_outcome.starts,
+                    &round_outcome.verdict,
+                )?;
+                self.up_again(rt, node, &round_outcome.verdict, true)?
             }
         };
         Ok((place, pass))
@@ -753,17 +764,17 @@ impl<'a, K: Naming> Worker<'a, K> {
         alloc: Global,
         front: &Front,
         pass: Pass<K>,
-    ) -> Result<(Option<Heard>, Pass<K>), Trouble>
+    ) -> Result<(Option<RoundOutcome>, Pass<K>), WorkerFault>
         ensures same { self.new.links ≡ self.old.links }
-        ensures starts { IfOk result (λ r. IfSome r.0 (λ heard. length heard.starts ≡ K.cell.n)) }
+        ensures starts { IfOk result (λ r. IfSome r.0 (λ round_outcome. length round_outcome.starts ≡ K.cell.n)) }
     {
-        if !self.contact.is_behind(front) {
+        if !self.manager_link.is_behind(front) {
             self.doze(rt);
             return Ok((None, pass));
         }
         self.idle.end();
         self.links.resend();
-        let (heard, pass) = self.contact.hear(rt, alloc, pass)?;
-        Ok((Some(heard), pass))
+        let (round_outcome, pass) = self.manager_link.hear(rt, alloc, pass)?;
+        Ok((Some(round_outcome), pass))
     }
 }

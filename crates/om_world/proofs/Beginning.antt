@@ -29,7 +29,7 @@ use Rattle.om_manager.specs.declared.presence.Presence.TheVariants.{Away, Failed
 use Rattle.om_world.specs.declared.entry.Entry.{Entry}
 use Rattle.om_world.specs.declared.place.Place.{Place}
 use Rattle.om_world.specs.Live.{program_at}
-use Rattle.om_world.specs.World.{WorldState, Past, history, IsEmpty, IsKnown, all_clean}
+use Rattle.om_world.specs.World.{Health, WorldState, Past, history, IsEmpty, IsKnown, all_clean}
 use Rattle.om_world.specs.Started.{HaveFirst, IsLoadable, IsNew, IsStarted}
 use Rattle.om_world.specs.steps.Sound.{HasBytes, HasShape, IsCoreOf, IsRunning, IsStored, IsUpIn, IsWorld, Sound}
 use Rattle.om_world.specs.steps.Starting.{AreStarted}
@@ -77,22 +77,22 @@ keep_same (q ∷ qs) = (([], refl, plain q.first), keep_same qs)
     plain : (x : ℕ) → x ≡ x + 0
     plain x = omega arith
 
-clean_at : {S : Type 0} (is_clean : S → Bool) (xs : List S) (i : ℕ) (s : S) → all_clean (map is_clean xs) ≡ true → slice_get xs i ≡ Some s → is_clean s ≡ true
-clean_at is_clean [] i s all at = absurd (none_in i s at)
-clean_at is_clean (x ∷ xs) zero s all at = ap is_clean (sym (once x s at)) ∙ first (is_clean x) (all_clean (map is_clean xs)) all
+clean_at : {S : Type 0} (health : S → Health) (xs : List S) (i : ℕ) (s : S) → all_clean (map health xs) ≡ true → slice_get xs i ≡ Some s → (health s).clean ≡ true
+clean_at health [] i s all at = absurd (none_in i s at)
+clean_at health (x ∷ xs) zero s all at = ap (λ y. (health y).clean) (sym (once x s at)) ∙ first (health x).clean (all_clean (map health xs)) all
   where
     first : (a b : Bool) → (a && b) ≡ true → a ≡ true
     first true b e = refl
     first false b e = e
-clean_at is_clean (x ∷ xs) (suc i) s all at = clean_at is_clean xs i s (second (is_clean x) (all_clean (map is_clean xs)) all) at
+clean_at health (x ∷ xs) (suc i) s all at = clean_at health xs i s (second (health x).clean (all_clean (map health xs)) all) at
   where
     second : (a b : Bool) → (a && b) ≡ true → b ≡ true
     second true b e = e
     second false b e = cc
 
-pub clean_from : {S : Type 0} (is_clean : S → Bool) (xs : List S) → ((i : ℕ) (s : S) → slice_get xs i ≡ Some s → is_clean s ≡ true) → all_clean (map is_clean xs) ≡ true
-clean_from is_clean [] each = refl
-clean_from is_clean (x ∷ xs) each = ap (λ b. b && all_clean (map is_clean xs)) (each 0 x refl) ∙ clean_from is_clean xs (λ i. each (suc i))
+pub clean_from : {S : Type 0} (health : S → Health) (xs : List S) → ((i : ℕ) (s : S) → slice_get xs i ≡ Some s → (health s).clean ≡ true) → all_clean (map health xs) ≡ true
+clean_from health [] each = refl
+clean_from health (x ∷ xs) each = ap (λ b. b && all_clean (map health xs)) (each 0 x refl) ∙ clean_from health xs (λ i. each (suc i))
 
 sound_from : {S : Type 0} (IsSound : S → Type 0) (xs : List S) → ((i : ℕ) (s : S) → slice_get xs i ≡ Some s → IsSound s) → AllByRecursion IsSound xs
 sound_from IsSound [] each = tt
@@ -140,16 +140,20 @@ none_stored v p = record {
 }
 
 -- ---- all of them
-pub record IsBegun {S : Type 0} (content : S → Content) (is_clean : S → Bool) (IsSound : S → Type 0) (programs : List Program) (cores : List (Option CoreState)) (xs ys : List S) (m : ManagerState) : Type 0 where
+-- whether what a store holds is known
+abbrev pub clean_in : {S : Type 0} → (S → Health) → S → Bool
+clean_in health store = (health store).clean
+
+pub record IsBegun {S : Type 0} (content : S → Content) (health : S → Health) (IsSound : S → Type 0) (programs : List Program) (cores : List (Option CoreState)) (xs ys : List S) (m : ManagerState) : Type 0 where
   pub few : length programs ≤ MAX_PROCESSES
   pub stores : length xs ≡ length programs
-  pub started : AreStarted content is_clean IsSound programs (length programs) (length programs) cores xs ys
+  pub started : AreStarted content (clean_in health) IsSound programs (length programs) (length programs) cores xs ys
   pub fresh : IsNew (length programs) m
   pub manager : IsManager m
-  pub sound : (i : ℕ) (s : S) → slice_get xs i ≡ Some s → IsTrue (is_clean s) → IsSound s
+  pub sound : (i : ℕ) (s : S) → slice_get xs i ≡ Some s → IsTrue (health s).clean → IsSound s
 
-abbrev pub begun : {S : Type 0} → (S → Content) → (S → Bool) → List Program → List (Option CoreState) → List S → List S → ManagerState → WorldState
-begun content is_clean programs cores xs ys m = record {
+abbrev pub begun : {S : Type 0} → (S → Content) → (S → Health) → List Program → List (Option CoreState) → List S → List S → ManagerState → WorldState
+begun content health programs cores xs ys m = record {
   programs = programs;
   live = [];
   frames = [];
@@ -158,14 +162,14 @@ begun content is_clean programs cores xs ys m = record {
   rounds = replicate (length programs) 0;
   manager = m;
   contents = map content ys;
-  clean = map is_clean ys;
+  health = map health ys;
   origins = map content xs;
 }
 
 -- the core at a place
-core_at : {S : Type 0} (content : S → Content) (is_clean : S → Bool) (IsSound : S → Type 0) (programs : List Program) (cores : List (Option CoreState)) (xs ys : List S) (m : ManagerState) (p : ℕ) (c : CoreState) → IsBegun content is_clean IsSound programs cores xs ys m → slice_get cores p ≡ Some (Some c)
+core_at : {S : Type 0} (content : S → Content) (health : S → Health) (IsSound : S → Type 0) (programs : List Program) (cores : List (Option CoreState)) (xs ys : List S) (m : ManagerState) (p : ℕ) (c : CoreState) → IsBegun content health IsSound programs cores xs ys m → slice_get cores p ≡ Some (Some c)
     → (program : Program) × (slice_get programs p ≡ Some program) × (p < length programs) × (started_core program p (length programs) ≡ c)
-core_at content is_clean IsSound programs cores xs ys m p c b at =
+core_at content health IsSound programs cores xs ys m p c b at =
     let short = inside cores p (Some c) at in
     let many = b.started.many in
     let lt : p < length programs = omega arith in
@@ -177,26 +181,26 @@ abbrev IsOver : {S : Type 0} → (S → Content) → (S → Type 0) → List Pro
 IsOver {S} content IsSound programs ys p program before = (after : S) × (slice_get ys p ≡ Some after) × (get (content before).checkpoints 0 ≡ None)
     × HasGainedCheckpoint (started_core program p (length programs)) (content before) (content after) × IsSound after
 
-over_at : {S : Type 0} (content : S → Content) (is_clean : S → Bool) (IsSound : S → Type 0) (programs : List Program) (cores : List (Option CoreState)) (xs ys : List S) (m : ManagerState) (p : ℕ) (program : Program) (before : S) → IsBegun content is_clean IsSound programs cores xs ys m
-    → all_clean (map is_clean ys) ≡ true → slice_get programs p ≡ Some program → slice_get xs p ≡ Some before → IsOver content IsSound programs ys p program before
-over_at content is_clean IsSound programs cores xs ys m p program before b all at was =
+over_at : {S : Type 0} (content : S → Content) (health : S → Health) (IsSound : S → Type 0) (programs : List Program) (cores : List (Option CoreState)) (xs ys : List S) (m : ManagerState) (p : ℕ) (program : Program) (before : S) → IsBegun content health IsSound programs cores xs ys m
+    → all_clean (map health ys) ≡ true → slice_get programs p ≡ Some program → slice_get xs p ≡ Some before → IsOver content IsSound programs ys p program before
+over_at content health IsSound programs cores xs ys m p program before b all at was =
     let lt = inside programs p program at in
     let d = b.started.done p program before lt at was in
-    let clean : IsTrue (is_clean d.0) = clean_at is_clean ys p d.0 all d.1 in
+    let clean : IsTrue (health d.0).clean = clean_at health ys p d.0 all d.1 in
     let sound = b.sound p before was (d.2.clean clean) in
     (d.0, d.1, d.2.free (clean, sound), d.2.stored (clean, sound), d.2.sound clean sound)
 
 -- what a store holds, where all are clean and none held anything
-held_at : {S : Type 0} (content : S → Content) (is_clean : S → Bool) (IsSound : S → Type 0) (programs : List Program) (cores : List (Option CoreState)) (xs ys : List S) (m : ManagerState) (p : ℕ) (held : Content) → IsBegun content is_clean IsSound programs cores xs ys m
-    → IsKnown (begun content is_clean programs cores xs ys m) → slice_get (map content ys) p ≡ Some held → (program : Program) × (slice_get programs p ≡ Some program) × HasGainedCheckpoint (started_core program p (length programs)) nothing held
-held_at content is_clean IsSound programs cores xs ys m p held b known at =
+held_at : {S : Type 0} (content : S → Content) (health : S → Health) (IsSound : S → Type 0) (programs : List Program) (cores : List (Option CoreState)) (xs ys : List S) (m : ManagerState) (p : ℕ) (held : Content) → IsBegun content health IsSound programs cores xs ys m
+    → IsKnown (begun content health programs cores xs ys m) → slice_get (map content ys) p ≡ Some held → (program : Program) × (slice_get programs p ≡ Some program) × HasGainedCheckpoint (started_core program p (length programs)) nothing held
+held_at content health IsSound programs cores xs ys m p held b known at =
     let s = before_map content ys p held at in
     let short = inside ys p s.0 s.1 in
     let size = b.started.size in
     let stores = b.stores in
     let program = there programs p (omega arith) in
     let before = there xs p (omega arith) in
-    let o = over_at content is_clean IsSound programs cores xs ys m p program.0 before.0 b known.1 program.1 before.1 in
+    let o = over_at content health IsSound programs cores xs ys m p program.0 before.0 b known.1 program.1 before.1 in
     let is : content o.0 ≡ held = ap content (once o.0 s.0 (sym o.1 ∙ s.1)) ∙ s.2 in
     let none : content before.0 ≡ nothing = all_at IsEmpty (map content xs) p (content before.0) known.0 (map_at content xs p before.0 before.1) in
     (program.0, program.1, subst (HasGainedCheckpoint (started_core program.0 p (length programs)) nothing) is (subst (λ a. HasGainedCheckpoint (started_core program.0 p (length programs)) a (content o.0)) none o.3))
@@ -207,14 +211,14 @@ none_joined n p at = apart (same_at n p Place.Up Place.In at)
     apart : Place.In ≡ Place.Up → ⊥
     apart e = cc
 
-shape_begun : {S : Type 0} (content : S → Content) (is_clean : S → Bool) (IsSound : S → Type 0) (programs : List Program) (cores : List (Option CoreState)) (xs ys : List S) (m : ManagerState) → IsBegun content is_clean IsSound programs cores xs ys m → HasShape (begun content is_clean programs cores xs ys m)
-shape_begun content is_clean IsSound programs cores xs ys m b = record {
+shape_begun : {S : Type 0} (content : S → Content) (health : S → Health) (IsSound : S → Type 0) (programs : List Program) (cores : List (Option CoreState)) (xs ys : List S) (m : ManagerState) → IsBegun content health IsSound programs cores xs ys m → HasShape (begun content health programs cores xs ys m)
+shape_begun content health IsSound programs cores xs ys m b = record {
   few = b.few;
   stores = length-map content ys ∙ b.started.size ∙ b.stores;
   cores = b.started.many;
   places = length-replicate (length programs) Place.Up;
   own = λ p c at.
-      let o = core_at content is_clean IsSound programs cores xs ys m p c b at in
+      let o = core_at content health IsSound programs cores xs ys m p c b at in
       subst (IsCoreOf (length programs) p) o.3 (record { own = refl; size = length-replicate (length programs) 0 });
   there = λ p at.
       let short = inside (replicate (length programs) Place.Up) p Place.Up at in
@@ -269,22 +273,22 @@ up_begun n m p program new = record {
   away = nobody_in m p new.gathering;
 }
 
-sound_begun : {S : Type 0} (content : S → Content) (is_clean : S → Bool) (IsSound : S → Type 0) (programs : List Program) (cores : List (Option CoreState)) (xs ys : List S) (m : ManagerState) → IsBegun content is_clean IsSound programs cores xs ys m → IsKnown (begun content is_clean programs cores xs ys m) → Sound (begun content is_clean programs cores xs ys m)
-sound_begun content is_clean IsSound programs cores xs ys m b known = record {
+sound_begun : {S : Type 0} (content : S → Content) (health : S → Health) (IsSound : S → Type 0) (programs : List Program) (cores : List (Option CoreState)) (xs ys : List S) (m : ManagerState) → IsBegun content health IsSound programs cores xs ys m → IsKnown (begun content health programs cores xs ys m) → Sound (begun content health programs cores xs ys m)
+sound_begun content health IsSound programs cores xs ys m b known = record {
   legal = tt;
   frames = λ i f at. absurd (none_in i f at);
   outputs = λ p i o at. absurd (none_in i o (sym (ap (λ l. slice_get l i) (ap (λ l. slice_index_or l p []) b.fresh.outputs ∙ index_same (length programs) p [])) ∙ at));
   rows = λ row has. first_claim programs m row b.fresh has;
-  stored = λ p held at. let h = held_at content is_clean IsSound programs cores xs ys m p held b known at in gained_stored programs m p held h.0 h.1 h.2;
+  stored = λ p held at. let h = held_at content health IsSound programs cores xs ys m p held b known at in gained_stored programs m p held h.0 h.1 h.2;
   backed = λ row held has at.
-      let h = held_at content is_clean IsSound programs cores xs ys m row.pid held b known at in
+      let h = held_at content health IsSound programs cores xs ys m row.pid held b known at in
       inl (first_backed (length programs) row row.pid held h.0 ((b.fresh.rows row).0 has).1 h.2);
   running = λ p c held at holds runs.
-      let o = core_at content is_clean IsSound programs cores xs ys m p c b at in
-      let h = held_at content is_clean IsSound programs cores xs ys m p held b known holds in
+      let o = core_at content health IsSound programs cores xs ys m p c b at in
+      let h = held_at content health IsSound programs cores xs ys m p held b known holds in
       let is : h.0 ≡ o.0 = once h.0 o.0 (sym h.1 ∙ o.1) in
       subst (IsRunning (at_start programs m) p held) o.3 (gained_running programs m p held o.0 o.1 (subst (λ x. HasGainedCheckpoint (started_core x p (length programs)) nothing held) is h.2));
-  up = λ p c at place. let o = core_at content is_clean IsSound programs cores xs ys m p c b at in subst (IsUpIn m p) o.3 (up_begun (length programs) m p o.0 b.fresh);
+  up = λ p c at place. let o = core_at content health IsSound programs cores xs ys m p c b at in subst (IsUpIn m p) o.3 (up_begun (length programs) m p o.0 b.fresh);
   joined = λ p x at. absurd (not_joined (presence_of (presences_of m.gathering) p) x (nobody_in m p b.fresh.gathering) at);
   failed = λ p at. absurd (not_failed (presence_of (presences_of m.gathering) p) (nobody_in m p b.fresh.gathering) at);
   gathered = λ p not. absurd (not (nobody_in m p b.fresh.gathering));
@@ -301,27 +305,27 @@ sound_begun content is_clean IsSound programs cores xs ys m b known = record {
     no_news : (p : ℕ) → slice_index (replicate (length programs) 0) p < m.round → ⊥
     no_news p news = let first = b.fresh.round in omega arith
 
-stores_sound : {S : Type 0} (content : S → Content) (is_clean : S → Bool) (IsSound : S → Type 0) (programs : List Program) (cores : List (Option CoreState)) (xs ys : List S) (m : ManagerState) → IsBegun content is_clean IsSound programs cores xs ys m → all_clean (map is_clean ys) ≡ true → AllByRecursion IsSound ys
-stores_sound content is_clean IsSound programs cores xs ys m b all = sound_from IsSound ys (λ p s at.
+stores_sound : {S : Type 0} (content : S → Content) (health : S → Health) (IsSound : S → Type 0) (programs : List Program) (cores : List (Option CoreState)) (xs ys : List S) (m : ManagerState) → IsBegun content health IsSound programs cores xs ys m → all_clean (map health ys) ≡ true → AllByRecursion IsSound ys
+stores_sound content health IsSound programs cores xs ys m b all = sound_from IsSound ys (λ p s at.
     let short = inside ys p s at in
     let size = b.started.size in
     let stores = b.stores in
     let program = there programs p (omega arith) in
     let before = there xs p (omega arith) in
-    let o = over_at content is_clean IsSound programs cores xs ys m p program.0 before.0 b all program.1 before.1 in
+    let o = over_at content health IsSound programs cores xs ys m p program.0 before.0 b all program.1 before.1 in
     subst IsSound (once o.0 s (sym o.1 ∙ at)) o.4)
 
-pub world_begun : {S : Type 0} (content : S → Content) (is_clean : S → Bool) (IsSound : S → Type 0) (programs : List Program) (cores : List (Option CoreState)) (xs ys : List S) (m : ManagerState) → IsBegun content is_clean IsSound programs cores xs ys m
-    → IsWorld IsSound ys (begun content is_clean programs cores xs ys m)
-world_begun content is_clean IsSound programs cores xs ys m b = record {
-  shape = shape_begun content is_clean IsSound programs cores xs ys m b;
-  clean = λ known. (stores_sound content is_clean IsSound programs cores xs ys m b known.1, sound_begun content is_clean IsSound programs cores xs ys m b known);
+pub world_begun : {S : Type 0} (content : S → Content) (health : S → Health) (IsSound : S → Type 0) (programs : List Program) (cores : List (Option CoreState)) (xs ys : List S) (m : ManagerState) → IsBegun content health IsSound programs cores xs ys m
+    → IsWorld IsSound ys (begun content health programs cores xs ys m)
+world_begun content health IsSound programs cores xs ys m b = record {
+  shape = shape_begun content health IsSound programs cores xs ys m b;
+  clean = λ known. (stores_sound content health IsSound programs cores xs ys m b known.1, sound_begun content health IsSound programs cores xs ys m b known);
 }
 
 -- ---- what a start says
-pub is_started : {S : Type 0} (content : S → Content) (is_clean : S → Bool) (IsSound : S → Type 0) (programs : List Program) (cores : List (Option CoreState)) (xs ys : List S) (m : ManagerState) → IsBegun content is_clean IsSound programs cores xs ys m
-    → IsStarted programs (begun content is_clean programs cores xs ys m)
-is_started content is_clean IsSound programs cores xs ys m b = record {
+pub is_started : {S : Type 0} (content : S → Content) (health : S → Health) (IsSound : S → Type 0) (programs : List Program) (cores : List (Option CoreState)) (xs ys : List S) (m : ManagerState) → IsBegun content health IsSound programs cores xs ys m
+    → IsStarted programs (begun content health programs cores xs ys m)
+is_started content health IsSound programs cores xs ys m b = record {
   programs = refl;
   live = refl;
   frames = refl;
@@ -332,45 +336,45 @@ is_started content is_clean IsSound programs cores xs ys m b = record {
   manager = b.fresh;
 }
 
-pub have_first : {S : Type 0} (content : S → Content) (is_clean : S → Bool) (IsSound : S → Type 0) (programs : List Program) (cores : List (Option CoreState)) (xs ys : List S) (m : ManagerState) → IsBegun content is_clean IsSound programs cores xs ys m → all_clean (map is_clean ys) ≡ true
-    → HaveFirst (begun content is_clean programs cores xs ys m)
-have_first content is_clean IsSound programs cores xs ys m b all = λ p c before at was.
-    let core = core_at content is_clean IsSound programs cores xs ys m p c b at in
+pub have_first : {S : Type 0} (content : S → Content) (health : S → Health) (IsSound : S → Type 0) (programs : List Program) (cores : List (Option CoreState)) (xs ys : List S) (m : ManagerState) → IsBegun content health IsSound programs cores xs ys m → all_clean (map health ys) ≡ true
+    → HaveFirst (begun content health programs cores xs ys m)
+have_first content health IsSound programs cores xs ys m b all = λ p c before at was.
+    let core = core_at content health IsSound programs cores xs ys m p c b at in
     let store = before_map content xs p before was in
-    let o = over_at content is_clean IsSound programs cores xs ys m p core.0 store.0 b all core.1 store.1 in
+    let o = over_at content health IsSound programs cores xs ys m p core.0 store.0 b all core.1 store.1 in
     (content o.0, map_at content ys p o.0 o.1, subst (λ (a : Content). get a.checkpoints 0 ≡ None) store.2 o.2, subst (λ d. HasGainedCheckpoint d before (content o.0)) core.3 (subst (λ a. HasGainedCheckpoint (started_core core.0 p (length programs)) a (content o.0)) store.2 o.3))
 
-pub clean_begun : {S : Type 0} (content : S → Content) (is_clean : S → Bool) (IsSound : S → Type 0) (programs : List Program) (cores : List (Option CoreState)) (xs ys : List S) (m : ManagerState) → IsBegun content is_clean IsSound programs cores xs ys m → all_clean (map is_clean ys) ≡ true → all_clean (map is_clean xs) ≡ true
-clean_begun content is_clean IsSound programs cores xs ys m b all = clean_from is_clean xs (λ p s at.
+pub clean_begun : {S : Type 0} (content : S → Content) (health : S → Health) (IsSound : S → Type 0) (programs : List Program) (cores : List (Option CoreState)) (xs ys : List S) (m : ManagerState) → IsBegun content health IsSound programs cores xs ys m → all_clean (map health ys) ≡ true → All (λ store. IsTrue (health store).clean) xs
+clean_begun content health IsSound programs cores xs ys m b all = all_from (λ store. IsTrue (health store).clean) xs (λ p s at.
     let short = inside xs p s at in
     let stores = b.stores in
     let program = there programs p (omega arith) in
     let d = b.started.done p program.0 s (omega arith) program.1 at in
-    d.2.clean (clean_at is_clean ys p d.0 all d.1))
+    d.2.clean (clean_at health ys p d.0 all d.1))
 
-pub all_loadable : {S : Type 0} (content : S → Content) (is_clean : S → Bool) (IsSound : S → Type 0) (programs : List Program) (cores : List (Option CoreState)) (xs ys : List S) (m : ManagerState) → IsBegun content is_clean IsSound programs cores xs ys m → All IsLoadable programs
-all_loadable content is_clean IsSound programs cores xs ys m b = all_from IsLoadable programs (λ p program at. b.started.loadable p program (inside programs p program at) at)
+pub all_loadable : {S : Type 0} (content : S → Content) (health : S → Health) (IsSound : S → Type 0) (programs : List Program) (cores : List (Option CoreState)) (xs ys : List S) (m : ManagerState) → IsBegun content health IsSound programs cores xs ys m → All IsLoadable programs
+all_loadable content health IsSound programs cores xs ys m b = all_from IsLoadable programs (λ p program at. b.started.loadable p program (inside programs p program at) at)
 
 -- ---- from what the calls of a start say
-pub begun_by : {S : Type 0} (content : S → Content) (is_clean : S → Bool) (IsSound : S → Type 0) (programs : List Program) (n : ℕ) (cores : List (Option CoreState)) (xs ys : List S) (m : ManagerState) → length programs ≡ n → n ≤ MAX_PROCESSES → length xs ≡ n
-    → AreStarted content is_clean IsSound programs n n cores xs ys → IsNew n m → IsManager m → ((i : ℕ) (s : S) → slice_get xs i ≡ Some s → IsTrue (is_clean s) → IsSound s) → IsBegun content is_clean IsSound programs cores xs ys m
-begun_by content is_clean IsSound programs n cores xs ys m size few stores started fresh manager sound = record {
+pub begun_by : {S : Type 0} (content : S → Content) (health : S → Health) (IsSound : S → Type 0) (programs : List Program) (n : ℕ) (cores : List (Option CoreState)) (xs ys : List S) (m : ManagerState) → length programs ≡ n → n ≤ MAX_PROCESSES → length xs ≡ n
+    → AreStarted content (clean_in health) IsSound programs n n cores xs ys → IsNew n m → IsManager m → ((i : ℕ) (s : S) → slice_get xs i ≡ Some s → IsTrue (health s).clean → IsSound s) → IsBegun content health IsSound programs cores xs ys m
+begun_by content health IsSound programs n cores xs ys m size few stores started fresh manager sound = record {
   few = subst (λ k. k ≤ MAX_PROCESSES) (sym size) few;
   stores = stores ∙ sym size;
-  started = subst (λ k. AreStarted content is_clean IsSound programs k k cores xs ys) (sym size) started;
+  started = subst (λ k. AreStarted content (clean_in health) IsSound programs k k cores xs ys) (sym size) started;
   fresh = subst (λ k. IsNew k m) (sym size) fresh;
   manager = manager;
   sound = sound;
 }
 
-pub begun_is : {S : Type 0} (content : S → Content) (is_clean : S → Bool) (programs ps : List Program) (n : ℕ) (live : List Entry) (frames : List Message) (cores : List (Option CoreState)) (places : List Place) (rounds : List ℕ) (xs os ys : List S) (m : ManagerState) → length programs ≡ n
+pub begun_is : {S : Type 0} (content : S → Content) (health : S → Health) (programs ps : List Program) (n : ℕ) (live : List Entry) (frames : List Message) (cores : List (Option CoreState)) (places : List Place) (rounds : List ℕ) (xs os ys : List S) (m : ManagerState) → length programs ≡ n
     → ps ≡ programs → live ≡ [] → frames ≡ [] → places ≡ replicate n Place.Up → rounds ≡ replicate n 0 → os ≡ xs
-    → begun content is_clean programs cores xs ys m ≡ record { programs = ps; live = live; frames = frames; cores = cores; places = places; rounds = rounds; manager = m; contents = map content ys; clean = map is_clean ys; origins = map content os }
-begun_is content is_clean programs ps n live frames cores places rounds xs os ys m size p l f u r o =
-    ap (λ k. record { programs = programs; live = []; frames = []; cores = cores; places = replicate k Place.Up; rounds = replicate k 0; manager = m; contents = map content ys; clean = map is_clean ys; origins = map content xs }) size
-    ∙ sym (ap (λ k. record { programs = k; live = live; frames = frames; cores = cores; places = places; rounds = rounds; manager = m; contents = map content ys; clean = map is_clean ys; origins = map content os }) p
-    ∙ ap (λ k. record { programs = programs; live = k; frames = frames; cores = cores; places = places; rounds = rounds; manager = m; contents = map content ys; clean = map is_clean ys; origins = map content os }) l
-    ∙ ap (λ k. record { programs = programs; live = []; frames = k; cores = cores; places = places; rounds = rounds; manager = m; contents = map content ys; clean = map is_clean ys; origins = map content os }) f
-    ∙ ap (λ k. record { programs = programs; live = []; frames = []; cores = cores; places = k; rounds = rounds; manager = m; contents = map content ys; clean = map is_clean ys; origins = map content os }) u
-    ∙ ap (λ k. record { programs = programs; live = []; frames = []; cores = cores; places = replicate n Place.Up; rounds = k; manager = m; contents = map content ys; clean = map is_clean ys; origins = map content os }) r
-    ∙ ap (λ k. record { programs = programs; live = []; frames = []; cores = cores; places = replicate n Place.Up; rounds = replicate n 0; manager = m; contents = map content ys; clean = map is_clean ys; origins = map content k }) o)
+    → begun content health programs cores xs ys m ≡ record { programs = ps; live = live; frames = frames; cores = cores; places = places; rounds = rounds; manager = m; contents = map content ys; health = map health ys; origins = map content os }
+begun_is content health programs ps n live frames cores places rounds xs os ys m size p l f u r o =
+    ap (λ k. record { programs = programs; live = []; frames = []; cores = cores; places = replicate k Place.Up; rounds = replicate k 0; manager = m; contents = map content ys; health = map health ys; origins = map content xs }) size
+    ∙ sym (ap (λ k. record { programs = k; live = live; frames = frames; cores = cores; places = places; rounds = rounds; manager = m; contents = map content ys; health = map health ys; origins = map content os }) p
+    ∙ ap (λ k. record { programs = programs; live = k; frames = frames; cores = cores; places = places; rounds = rounds; manager = m; contents = map content ys; health = map health ys; origins = map content os }) l
+    ∙ ap (λ k. record { programs = programs; live = []; frames = k; cores = cores; places = places; rounds = rounds; manager = m; contents = map content ys; health = map health ys; origins = map content os }) f
+    ∙ ap (λ k. record { programs = programs; live = []; frames = []; cores = cores; places = k; rounds = rounds; manager = m; contents = map content ys; health = map health ys; origins = map content os }) u
+    ∙ ap (λ k. record { programs = programs; live = []; frames = []; cores = cores; places = replicate n Place.Up; rounds = k; manager = m; contents = map content ys; health = map health ys; origins = map content os }) r
+    ∙ ap (λ k. record { programs = programs; live = []; frames = []; cores = cores; places = replicate n Place.Up; rounds = replicate n 0; manager = m; contents = map content ys; health = map health ys; origins = map content k }) o)

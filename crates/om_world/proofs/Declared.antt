@@ -20,19 +20,20 @@ use Rattle.om_world.specs.World.{IsEmpty, IsKnown, WorldState, all_clean}
 use Rattle.om_world.specs.steps.Gathering.{HasDeclared, IsWhyNot, declared}
 use Rattle.om_world.specs.steps.Moves.{Keeps, answered, refusal_of_failure}
 use Rattle.om_world.specs.steps.Sound.{IsWorld}
+use Rattle.om_world.proofs.FailureCounts.{counts_by}
 use Rattle.om_world.proofs.Declaring.{here}
 use Rattle.om_world.proofs.Keeping.{keeps_by}
 use Rattle.om_world.proofs.Lists.{inside, once}
 
 -- what the stores hold is as well known as before
-pub known_by : (a b : WorldState) → b.origins ≡ a.origins → b.clean ≡ a.clean → IsKnown b → IsKnown a
-known_by a b origins clean known = (subst (All IsEmpty) origins known.0, ap all_clean (sym clean) ∙ known.1)
+pub known_by : (a b : WorldState) → b.origins ≡ a.origins → b.health ≡ a.health → IsKnown b → IsKnown a
+known_by a b origins health known = (subst (All IsEmpty) origins known.0, ap all_clean (sym health) ∙ known.1)
 
 known_down : (w v : WorldState) (p : ℕ) → v ≡ taken_down w p false → IsKnown v → IsKnown w
-known_down w v p e = known_by w v (ap (λ (x : WorldState). x.origins) e) (ap (λ (x : WorldState). x.clean) e)
+known_down w v p e = known_by w v (ap (λ (x : WorldState). x.origins) e) (ap (λ (x : WorldState). x.health) e)
 
 known_declared : (v z : WorldState) (p : ℕ) (told : Gathered) → HasDeclared v p (Ok told) z → IsKnown z → IsKnown v
-known_declared v z p told h = known_by v z (ap (λ (x : WorldState). x.origins) h.others) (ap (λ (x : WorldState). x.clean) h.others)
+known_declared v z p told h = known_by v z (ap (λ (x : WorldState). x.origins) h.others) (ap (λ (x : WorldState). x.health) h.others)
 
 pub fail_happened : (w v z : WorldState) (p : ℕ) (told : Gathered) → IsToDeclare w p → v ≡ taken_down w p false → HasDeclared v p (Ok told) z → IsKnown z → FailHappened w p told z
 fail_happened w v z p told due e h known = record {
@@ -46,7 +47,8 @@ pub fail_keeps : (w v z : WorldState) (p : ℕ) (told : Gathered) → v ≡ take
 fail_keeps w v z p told e h = record {
   size = h.size ∙ ap (λ (x : WorldState). managers.size_of x.manager) e;
   released = subst (λ (m : ManagerState). KeepsReleased m z.manager) (ap (λ (x : WorldState). x.manager) e) h.released;
-  clean = λ all. ap all_clean (sym (ap (λ (x : WorldState). x.clean) h.others ∙ ap (λ (x : WorldState). x.clean) e)) ∙ all;
+  clean = λ all. ap all_clean (sym (ap (λ (x : WorldState). x.health) h.others ∙ ap (λ (x : WorldState). x.health) e)) ∙ all;
+  counts = counts_by w.health z.health (ap (λ (x : WorldState). x.health) h.others ∙ ap (λ (x : WorldState). x.health) e);
   origins = ap (λ (x : WorldState). x.origins) h.others ∙ ap (λ (x : WorldState). x.origins) e;
 }
 
@@ -73,7 +75,7 @@ fail_refused IsSound xs w v z p fault told i due e h is known =
 
 -- ---- taking it down
 pub down_keeps : (w v : WorldState) (p : ℕ) → v ≡ taken_down w p false → Keeps w v
-down_keeps w v p e = keeps_by w v (ap (λ (x : WorldState). x.manager) e) (ap (λ (x : WorldState). x.clean) e) (ap (λ (x : WorldState). x.origins) e)
+down_keeps w v p e = keeps_by w v (ap (λ (x : WorldState). x.manager) e) (ap (λ (x : WorldState). x.health) e) (ap (λ (x : WorldState). x.origins) e)
 
 pub refused_keeps : (w v z : WorldState) (p : ℕ) (fault : FailError) → v ≡ taken_down w p false → HasDeclared v p (Err fault) z → Keeps w z
 refused_keeps w v z p fault e d = down_keeps w z p (d.refused ∙ e)

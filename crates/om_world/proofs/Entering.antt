@@ -32,10 +32,11 @@ use Rattle.om_world.specs.World.{IsKnown, WorldState, all_clean}
 use Rattle.om_world.specs.steps.Gathering.{HasEntered}
 use Rattle.om_world.specs.steps.Moves.{HasCalled, HasTold, Keeps, answered, refusal_of_join, refusal_of_record, refusal_of_store}
 use Rattle.om_world.specs.steps.Running.{HasHandedIn, refusal_of_output}
+use Rattle.om_world.proofs.FailureCounts.{counts_by, counts_then}
 use Rattle.om_world.proofs.Declared.{known_by}
 use Rattle.om_world.proofs.Keeping.{keeps_recorded, prefix_then}
-use Rattle.om_world.proofs.Lists.{once}
-use Rattle.om_world.proofs.Recording.{has_noted, has_stored, known_mid, set_there, some_noted, store_refused}
+use Rattle.om_world.proofs.Lists.{once, set_there}
+use Rattle.om_world.proofs.Recording.{has_noted, has_stored, known_mid, some_noted, store_refused}
 
 -- ---- the gathering stays open while rows and outputs are told
 noted_gathering : (m : ManagerState) (note : Note) (rows : Rows) (state : List ℕ) → (after_note m note rows state).gathering ≡ m.gathering
@@ -49,7 +50,7 @@ all_gathering old new p (row ∷ rows) n = all_gathering n.0 new p rows n.3 ∙ 
 
 -- ---- stored, noted and handed in
 known_handed : (v z : WorldState) (p : ℕ) (end : Result (Unit {0}) OutputError) → HasHandedIn v p end z → IsKnown z → IsKnown v
-known_handed v z p end h = known_by v z (ap (λ (x : WorldState). x.origins) h.others) (ap (λ (x : WorldState). x.clean) h.others)
+known_handed v z p end h = known_by v z (ap (λ (x : WorldState). x.origins) h.others) (ap (λ (x : WorldState). x.health) h.others)
 
 -- the core is that of the process once it had stored and noted all
 core_handed : (w mid v z : WorldState) (p count : ℕ) (end : Result (Unit {0}) OutputError) → IsUp w p → (h : HasCalled Log w p (Ok tt) mid) → HasTold mid p count (Ok tt) v → (k : HasHandedIn v p end z) → k.core ≡ with_pending (flushed h.core) []
@@ -89,7 +90,7 @@ handed_over w mid v z p count end up h t k known =
 
 -- ---- it is in
 known_entered : (z u : WorldState) (p : ℕ) (told : Gathered) → HasEntered z p (Ok told) u → IsKnown u → IsKnown z
-known_entered z u p told e = known_by z u (ap (λ (x : WorldState). x.origins) e.others) (ap (λ (x : WorldState). x.clean) e.others)
+known_entered z u p told e = known_by z u (ap (λ (x : WorldState). x.origins) e.others) (ap (λ (x : WorldState). x.health) e.others)
 
 pub join_happened : (w mid v z u : WorldState) (p count : ℕ) (told : Gathered) → IsUp w p → w.manager.gathering ≢ None → HasCalled Log w p (Ok tt) mid → HasTold mid p count (Ok tt) v → HasHandedIn v p (Ok tt) z → HasEntered z p (Ok told) u → IsKnown u
     → JoinHappened w p told u
@@ -115,7 +116,7 @@ join_not_stored w v p fault told up opened h is known = subst (λ r. Happened w 
   where
     by : (fault : StoreError) → HasCalled Log w p (Err fault) v → Happened w (Event.Join p) (answers.Refused (refusal_of_store fault)) v
     by store_errors.Present h = absurd (h.free known refl refl)
-    by store_errors.Fault h = (up, opened, (store_refused Log w v p store_errors.Fault up h known).1)
+    by store_errors.Fault h = (up, opened, h.counted refl, (store_refused Log w v p store_errors.Fault up h known).2)
     by store_errors.Memory h = (up, opened, inl (store_refused Log w v p store_errors.Memory up h known).1)
 
 pub join_not_noted : (w mid v : WorldState) (p count : ℕ) (fault : RecordError) (told : Result Answer Refusal) → IsUp w p → w.manager.gathering ≢ None → HasCalled Log w p (Ok tt) mid → HasTold mid p count (Err fault) v → told ≡ Err (refusal_of_record fault) → IsKnown v
@@ -147,6 +148,7 @@ keeps_then a b c f g = record {
   size = g.size ∙ f.size;
   released = λ q few. let size = f.size in prefix_then (released_by a.manager q) (released_by b.manager q) (released_by c.manager q) (f.released q few) (g.released q (omega arith));
   clean = λ all. f.clean (g.clean all);
+  counts = counts_then a.health b.health c.health f.counts g.counts;
   origins = g.origins ∙ f.origins;
 }
 
@@ -154,7 +156,8 @@ handed_keeps : (v z : WorldState) (p : ℕ) (end : Result (Unit {0}) OutputError
 handed_keeps v z p end k = record {
   size = ap managers.size_of k.more.1;
   released = k.released;
-  clean = λ all. ap all_clean (sym (ap (λ (x : WorldState). x.clean) k.others)) ∙ all;
+  clean = λ all. ap all_clean (sym (ap (λ (x : WorldState). x.health) k.others)) ∙ all;
+  counts = counts_by v.health z.health (ap (λ (x : WorldState). x.health) k.others);
   origins = ap (λ (x : WorldState). x.origins) k.others;
 }
 
@@ -165,13 +168,15 @@ entered_keeps : (z u : WorldState) (p : ℕ) (told : Result Gathered JoinError) 
 entered_keeps z u p (Ok told) e = record {
   size = e.size;
   released = e.released;
-  clean = λ all. ap all_clean (sym (ap (λ (x : WorldState). x.clean) e.others)) ∙ all;
+  clean = λ all. ap all_clean (sym (ap (λ (x : WorldState). x.health) e.others)) ∙ all;
+  counts = counts_by z.health u.health (ap (λ (x : WorldState). x.health) e.others);
   origins = ap (λ (x : WorldState). x.origins) e.others;
 }
 entered_keeps z u p (Err fault) e = record {
   size = e.size;
   released = e.released;
-  clean = λ all. ap all_clean (sym (ap (λ (x : WorldState). x.clean) e.refused)) ∙ all;
+  clean = λ all. ap all_clean (sym (ap (λ (x : WorldState). x.health) e.refused)) ∙ all;
+  counts = counts_by z.health u.health (ap (λ (x : WorldState). x.health) e.refused);
   origins = ap (λ (x : WorldState). x.origins) e.refused;
 }
 

@@ -1,5 +1,5 @@
 -- What a store gains, and what stays true.
-use Rattle.std.proofs.Common.{◌≡◌, ◌≢◌, ◌⊎◌, inl, inr, ℕ, zero, suc, ◌+◌, ◌-◌, ◌≤◌, ◌<◌, List, [], ◌∷◌, ◌++◌, length, take, map, set, Some, Bool, true, false, refl, sym, ap, ◌∙◌, subst, arith, length-append}
+use Rattle.std.proofs.Common.{◌≡◌, ◌≢◌, ◌⊎◌, inl, inr, ℕ, zero, suc, ◌+◌, ◌-◌, ◌≤◌, ◌<◌, List, [], ◌∷◌, ◌++◌, length, take, map, set, Some, true, false, refl, sym, ap, ◌∙◌, subst, arith, length-append}
 use Rattle.std.specs.Prelude.{slice_get, slice_index}
 use Rattle.std.specs.FinMap.{get, insert}
 use Rattle.std.proofs.lemmas.List.{take_all}
@@ -22,7 +22,7 @@ use Rattle.om_world.specs.declared.place.Place.{Place}
 use Rattle.om_world.specs.Changes.{HasGained, stored}
 use Rattle.om_world.specs.Failures.{HasNews}
 use Rattle.om_world.specs.Live.{program_at}
-use Rattle.om_world.specs.World.{WorldState, Past, past_of, history}
+use Rattle.om_world.specs.World.{Health, WorldState, Past, past_of, history}
 use Rattle.om_world.specs.steps.Sound.{HasBytes, HasShape, IsCoreOf, IsPending, IsRunning, IsStored, IsUpIn, KeptWithin, LogAlong, Runs, Sound, kind_of, receipts_in}
 use Rattle.om_world.proofs.Kept.{remade, interval_is, row_of}
 use Rattle.om_world.proofs.Lists.{at_change, either, once}
@@ -265,9 +265,9 @@ store_interval : (kind : RowKind) (c : CoreState) → (stored kind c).now.interv
 store_interval Log c = refl
 store_interval Checkpoint c = refl
 
-pub sound_store : (kind : RowKind) (w : WorldState) (p : ℕ) (a b : Content) (c : CoreState) (clean : List Bool) → HasShape w → Sound w → slice_get w.cores p ≡ Some (Some c) → slice_get w.contents p ≡ Some a → Runs w p → HasGained kind c a b
-    → Sound (remade w w.live w.frames (set w.cores p (Some (stored kind c))) w.manager (set w.contents p b) clean)
-sound_store kind w p a b c clean h s at holds runs g =
+pub sound_store : (kind : RowKind) (w : WorldState) (p : ℕ) (a b : Content) (c : CoreState) (health : List Health) → HasShape w → Sound w → slice_get w.cores p ≡ Some (Some c) → slice_get w.contents p ≡ Some a → Runs w p → HasGained kind c a b
+    → Sound (remade w w.live w.frames (set w.cores p (Some (stored kind c))) w.manager (set w.contents p b) health)
+sound_store kind w p a b c health h s at holds runs g =
     let v = past_of w in
     let r = s.running p c a at holds runs in
     record {
@@ -318,6 +318,6 @@ sound_store kind w p a b c clean h s at holds runs g =
       ];
     }
 
--- what is known of the stores' cleanliness is in no claim
-pub sound_clean : (w : WorldState) (contents : List Content) (old new : List Bool) → Sound (remade w w.live w.frames w.cores w.manager contents old) → Sound (remade w w.live w.frames w.cores w.manager contents new)
+-- how the stores stand is in no claim
+pub sound_clean : (w : WorldState) (contents : List Content) (old new : List Health) → Sound (remade w w.live w.frames w.cores w.manager contents old) → Sound (remade w w.live w.frames w.cores w.manager contents new)
 sound_clean w contents old new s = record { legal = s.legal; frames = s.frames; outputs = s.outputs; rows = s.rows; stored = s.stored; backed = s.backed; running = s.running; up = s.up; joined = s.joined; failed = s.failed; gathered = s.gathered; current = s.current; known = s.known; behind = s.behind; inside = s.inside; beyond = s.beyond }

@@ -42,37 +42,37 @@ given_at (x ∷ cs) zero c at = ap (λ y. y ∷ cs) (sym (once x (Some c) at))
 given_at (x ∷ cs) (suc p) c at = ap (λ l. x ∷ l) (given_at cs p c at)
 
 pub after_give : {S : Type 0} (IsSound : S → Type 0) (xs : List S) (w : WorldState) (p f x : ℕ) (m : Message) (e : Entry) (cs : List (Option CoreState)) (live : List Entry) → IsWorld IsSound xs w → IsUp w p
-    → slice_get w.frames f ≡ Some m → e ≡ entry_of m → IsOffered w.cores p m (accepts.Taken x) cs → live ≡ w.live ++ e ∷ [] → IsWorld IsSound xs (remade w live w.frames cs w.manager w.contents w.clean)
+    → slice_get w.frames f ≡ Some m → e ≡ entry_of m → IsOffered w.cores p m (accepts.Taken x) cs → live ≡ w.live ++ e ∷ [] → IsWorld IsSound xs (remade w live w.frames cs w.manager w.contents w.health)
 after_give IsSound xs w p f x m e cs live i up frame is offer more =
     let c = offer.core in let at = offer.there in let due = offer.answers.0 in
     let mine : p ≡ e.to = sym (i.shape.own p c at).own ∙ sym due.next.no_orphan.no_stranger.to ∙ ap (λ (d : Entry). d.to) (sym is) in
-    subst (λ l. IsWorld IsSound xs (remade w l w.frames cs w.manager w.contents w.clean)) (sym more)
-    (subst (λ l. IsWorld IsSound xs (remade w (w.live ++ e ∷ []) w.frames l w.manager w.contents w.clean)) (sym (offer.cores ∙ ap (λ o. set w.cores o (Some (taken c m))) mine))
+    subst (λ l. IsWorld IsSound xs (remade w l w.frames cs w.manager w.contents w.health)) (sym more)
+    (subst (λ l. IsWorld IsSound xs (remade w (w.live ++ e ∷ []) w.frames l w.manager w.contents w.health)) (sym (offer.cores ∙ ap (λ o. set w.cores o (Some (taken c m))) mine))
     (record {
-      shape = shape_core w e.to c (taken c m) (w.live ++ e ∷ []) w.frames w.manager w.contents w.clean i.shape (subst (λ o. slice_get w.cores o ≡ Some (Some c)) mine at) refl (length-set _ c.own _ ∙ length-set c.now.vec m.from _) refl i.shape.manager refl;
+      shape = shape_core w e.to c (taken c m) (w.live ++ e ∷ []) w.frames w.manager w.contents w.health i.shape (subst (λ o. slice_get w.cores o ≡ Some (Some c)) mine at) refl (length-set _ c.own _ ∙ length-set c.now.vec m.from _) refl i.shape.manager refl;
       clean = λ all. let s = i.clean all in (s.0, sound_taken w f m e c i.shape s.1 (recovery_within w i.shape s.1) frame is (subst (λ o. slice_get w.places o ≡ Some Place.Up) mine up) (subst (λ o. slice_get w.cores o ≡ Some (Some c)) mine at) due);
     }))
 
 pub given_taken : (w : WorldState) (p f x : ℕ) (m : Message) (e : Entry) (cs : List (Option CoreState)) (live : List Entry) → IsUp w p
-    → slice_get w.frames f ≡ Some m → e ≡ entry_of m → IsOffered w.cores p m (accepts.Taken x) cs → live ≡ w.live ++ e ∷ [] → GiveHappened w p f (accepts.Taken x) (remade w live w.frames cs w.manager w.contents w.clean)
+    → slice_get w.frames f ≡ Some m → e ≡ entry_of m → IsOffered w.cores p m (accepts.Taken x) cs → live ≡ w.live ++ e ∷ [] → GiveHappened w p f (accepts.Taken x) (remade w live w.frames cs w.manager w.contents w.health)
 given_taken w p f x m e cs live up frame is offer more = (
   m,
   offer.core,
   record { up = up; frame = frame; core = offer.there },
   offer.answers,
-  ap (λ l. remade w l w.frames cs w.manager w.contents w.clean) (more ∙ ap (λ (d : Entry). w.live ++ d ∷ []) is) ∙ ap (λ l. remade w (w.live ++ entry_of m ∷ []) w.frames l w.manager w.contents w.clean) offer.cores,
+  ap (λ l. remade w l w.frames cs w.manager w.contents w.health) (more ∙ ap (λ (d : Entry). w.live ++ d ∷ []) is) ∙ ap (λ l. remade w (w.live ++ entry_of m ∷ []) w.frames l w.manager w.contents w.health) offer.cores,
 )
 
 pub not_given : (w : WorldState) (p f : ℕ) (m : Message) (a : Accept) (cs : List (Option CoreState)) → IsUp w p → slice_get w.frames f ≡ Some m → ((x : ℕ) → a ≢ accepts.Taken x) → a ≢ accepts.Memory → IsOffered w.cores p m a cs
-    → GiveHappened w p f a (remade w w.live w.frames cs w.manager w.contents w.clean)
+    → GiveHappened w p f a (remade w w.live w.frames cs w.manager w.contents w.health)
 not_given w p f m (accepts.Taken x) cs up frame nt nm o = absurd (nt x refl)
 not_given w p f m accepts.Memory cs up frame nt nm o = absurd (nm refl)
-not_given w p f m accepts.Stranger cs up frame nt nm o = (m, o.core, record { up = up; frame = frame; core = o.there }, o.answers, ap (λ l. remade w w.live w.frames l w.manager w.contents w.clean) o.cores)
-not_given w p f m accepts.Orphan cs up frame nt nm o = (m, o.core, record { up = up; frame = frame; core = o.there }, o.answers, ap (λ l. remade w w.live w.frames l w.manager w.contents w.clean) o.cores)
-not_given w p f m accepts.Repeat cs up frame nt nm o = (m, o.core, record { up = up; frame = frame; core = o.there }, o.answers, ap (λ l. remade w w.live w.frames l w.manager w.contents w.clean) o.cores)
-not_given w p f m accepts.Ahead cs up frame nt nm o = (m, o.core, record { up = up; frame = frame; core = o.there }, o.answers, ap (λ l. remade w w.live w.frames l w.manager w.contents w.clean) o.cores)
-not_given w p f m accepts.NotWaiting cs up frame nt nm o = (m, o.core, record { up = up; frame = frame; core = o.there }, o.answers, ap (λ l. remade w w.live w.frames l w.manager w.contents w.clean) o.cores)
-not_given w p f m accepts.Full cs up frame nt nm o = (m, o.core, record { up = up; frame = frame; core = o.there }, o.answers, ap (λ l. remade w w.live w.frames l w.manager w.contents w.clean) o.cores)
+not_given w p f m accepts.Stranger cs up frame nt nm o = (m, o.core, record { up = up; frame = frame; core = o.there }, o.answers, ap (λ l. remade w w.live w.frames l w.manager w.contents w.health) o.cores)
+not_given w p f m accepts.Orphan cs up frame nt nm o = (m, o.core, record { up = up; frame = frame; core = o.there }, o.answers, ap (λ l. remade w w.live w.frames l w.manager w.contents w.health) o.cores)
+not_given w p f m accepts.Repeat cs up frame nt nm o = (m, o.core, record { up = up; frame = frame; core = o.there }, o.answers, ap (λ l. remade w w.live w.frames l w.manager w.contents w.health) o.cores)
+not_given w p f m accepts.Ahead cs up frame nt nm o = (m, o.core, record { up = up; frame = frame; core = o.there }, o.answers, ap (λ l. remade w w.live w.frames l w.manager w.contents w.health) o.cores)
+not_given w p f m accepts.NotWaiting cs up frame nt nm o = (m, o.core, record { up = up; frame = frame; core = o.there }, o.answers, ap (λ l. remade w w.live w.frames l w.manager w.contents w.health) o.cores)
+not_given w p f m accepts.Full cs up frame nt nm o = (m, o.core, record { up = up; frame = frame; core = o.there }, o.answers, ap (λ l. remade w w.live w.frames l w.manager w.contents w.health) o.cores)
 
 -- memory is refused
 pub no_room : (w v : WorldState) (p f : ℕ) (m : Message) (r : Result Answer Refusal) → IsUp w p → HasShape w → slice_get w.frames f ≡ Some m → r ≡ Err refusals.Memory → v ≡ w → Happened w (Event.Give p f) (answered r) v
@@ -89,7 +89,7 @@ none_taken cs new p m accepts.NotWaiting nt o = o.cores
 none_taken cs new p m accepts.Full nt o = o.cores
 none_taken cs new p m accepts.Memory nt o = o.cores
 
-pub after_none : {S : Type 0} (IsSound : S → Type 0) (xs : List S) (w : WorldState) (live : List Entry) (cs : List (Option CoreState)) → IsWorld IsSound xs w → live ≡ w.live → cs ≡ w.cores → IsWorld IsSound xs (remade w live w.frames cs w.manager w.contents w.clean)
+pub after_none : {S : Type 0} (IsSound : S → Type 0) (xs : List S) (w : WorldState) (live : List Entry) (cs : List (Option CoreState)) → IsWorld IsSound xs w → live ≡ w.live → cs ≡ w.cores → IsWorld IsSound xs (remade w live w.frames cs w.manager w.contents w.health)
 after_none IsSound xs w live cs i same still =
-    subst (λ l. IsWorld IsSound xs (remade w l w.frames cs w.manager w.contents w.clean)) (sym same)
-    (subst (λ l. IsWorld IsSound xs (remade w w.live w.frames l w.manager w.contents w.clean)) (sym still) i)
+    subst (λ l. IsWorld IsSound xs (remade w l w.frames cs w.manager w.contents w.health)) (sym same)
+    (subst (λ l. IsWorld IsSound xs (remade w w.live w.frames l w.manager w.contents w.health)) (sym still) i)

@@ -97,7 +97,7 @@ abbrev IsMade : Past → ℕ → ℕ → kept.Entry → Type 0
 IsMade v p number e = AtInterval (history v p) e.interval (Makes (program_at v.programs p) p (length v.programs) (length v.programs) number e)
 
 abbrev with_m : WorldState → ManagerState → WorldState
-with_m w m = remade w w.live w.frames w.cores m w.contents w.clean
+with_m w m = remade w w.live w.frames w.cores m w.contents w.health
 
 last_or : (xs : List HeldOutput) (x o : HeldOutput) (i : ℕ) → slice_get (xs ++ x ∷ []) i ≡ Some o → (slice_get xs i ≡ Some o) ⊎ ((i ≡ length xs) × (o ≡ x))
 last_or [] x o zero at = inr (refl, sym (once x o at))
@@ -163,7 +163,7 @@ one_handed w mid round p next e note h s lt at made t = elim (taken w.manager mi
       let long : length (held_by mid p) ≡ length (held_by w.manager p) + 1 = ap (λ (m : ManagerState). length (held_by m p)) new ∙ held_long w.manager p out here in
       let g = goes_on_by w.manager mid h.manager t.below t.released (λ row has. subst (λ (m : ManagerState). HasRow m.rows row) (sym new) has)
       (ap (λ (m : ManagerState). m.starts) new) (ap (λ (m : ManagerState). m.round) new) (ap (λ (m : ManagerState). m.gathering) new) (ap (λ (m : ManagerState). m.backs) new) (ap (λ (m : ManagerState). m.last) new) in (
-        shape_same w w.live w.frames mid w.contents w.clean h refl t.sound (sym t.below.same_places),
+        shape_same w w.live w.frames mid w.contents w.health h refl t.sound (sym t.below.same_places),
         sound_manager w mid s g
             (λ q i o f. elim (held_last w.manager p q i out o here (subst (λ (m : ManagerState). slice_get (held_by m q) i ≡ Some o) new f)) [
               | inl old ↦ s.outputs q i o old
@@ -328,13 +328,13 @@ is_held w p c end m h s up at t =
     high first next le = omega arith
 
 pub after_handed : {S : Type 0} (IsSound : S → Type 0) (xs : List S) (w : WorldState) (p : ℕ) (end : Result (Unit {0}) OutputError) (m : ManagerState) → IsWorld IsSound xs w → IsUp w p → IsHandedIn w p end m
-    → IsWorld IsSound xs (remade w w.live w.frames w.cores m w.contents w.clean)
+    → IsWorld IsSound xs (remade w w.live w.frames w.cores m w.contents w.health)
 after_handed IsSound xs w p end m i up n =
     let c = n.0 in let t = n.2 in
     let short = inside w.cores p (Some c) n.1 in let cores = i.shape.cores in let size = i.shape.size in
     let more = handed_more w.manager m c.round p (take t.count (outputs_from c (length (held_by w.manager p)))) (omega arith) i.shape.manager t.handed in
     record {
-      shape = shape_same w w.live w.frames m w.contents w.clean i.shape refl more.2 more.3;
+      shape = shape_same w w.live w.frames m w.contents w.health i.shape refl more.2 more.3;
       clean = λ all. let s = i.clean all in (s.0, (is_held w p c end m i.shape s.1 up n.1 t).sound);
     }
 
@@ -363,7 +363,7 @@ memory_alone w p c (Err fault) m t k =
     (subst (λ x. NotesOutput m (offer_of c.round p x) (Err fault) m) e.2 f.2)
 
 pub has_handed : {S : Type 0} (IsSound : S → Type 0) (xs : List S) (w : WorldState) (p : ℕ) (end : Result (Unit {0}) OutputError) (m : ManagerState) → IsWorld IsSound xs w → IsUp w p → IsHandedIn w p end m
-    → HasHandedIn w p end (remade w w.live w.frames w.cores m w.contents w.clean)
+    → HasHandedIn w p end (remade w w.live w.frames w.cores m w.contents w.health)
 has_handed IsSound xs w p end m i up n =
     let c = n.0 in let t = n.2 in
     let short = inside w.cores p (Some c) n.1 in let cores = i.shape.cores in let size = i.shape.size in

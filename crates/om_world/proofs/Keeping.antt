@@ -8,8 +8,10 @@ use Rattle.om_manager.specs.State.{ManagerState, released_by, size_of}
 use Rattle.om_manager.specs.declared.answers.RecordError.{RecordError}
 pub use Rattle.om_member.proofs.KeepLemmas.{prefix_then}
 use Rattle.om_member.proofs.KeepLemmas.{prefix_same}
+use Rattle.om_world.specs.Changes.{NoneFell}
 use Rattle.om_world.specs.World.{WorldState, all_clean}
 use Rattle.om_world.specs.steps.Moves.{AreTold, HasCalled, HasTold, Keeps}
+use Rattle.om_world.proofs.FailureCounts.{counts_by}
 
 pub keeps_same : (m : ManagerState) → KeepsReleased m m
 keeps_same m p lt = prefix_same (released_by m p)
@@ -25,11 +27,12 @@ told_size old new round p [] same = ap size_of same
 told_size old new round p (row ∷ rows) told = let places = told.2.below.same_places in let rest = told_size told.0 new round p rows told.3 in omega arith
 
 -- an event that leaves the manager and the stores
-pub keeps_by : (old new : WorldState) → new.manager ≡ old.manager → new.clean ≡ old.clean → new.origins ≡ old.origins → Keeps old new
-keeps_by old new manager clean origins = record {
+pub keeps_by : (old new : WorldState) → new.manager ≡ old.manager → new.health ≡ old.health → new.origins ≡ old.origins → Keeps old new
+keeps_by old new manager health origins = record {
   size = ap size_of manager;
   released = subst (λ m. KeepsReleased old.manager m) (sym manager) (keeps_same old.manager);
-  clean = λ all. ap all_clean (sym clean) ∙ all;
+  clean = λ all. ap all_clean (sym health) ∙ all;
+  counts = counts_by old.health new.health health;
   origins = origins;
 }
 
@@ -38,6 +41,7 @@ keeps_called kind w v p a h = record {
   size = ap (λ (x : WorldState). size_of x.manager) h.others;
   released = subst (λ m. KeepsReleased w.manager m) (sym (ap (λ (x : WorldState). x.manager) h.others)) (keeps_same w.manager);
   clean = h.was_clean;
+  counts = h.counts;
   origins = ap (λ (x : WorldState). x.origins) h.others;
 }
 
@@ -46,10 +50,11 @@ pub keeps_recorded : (kind : RowKind) (w mid v : WorldState) (p count : ℕ) (a 
 keeps_recorded kind w mid v p count a end h t = record {
   size = told_size mid.manager v.manager t.core.round p _ t.told.told ∙ ap (λ (x : WorldState). size_of x.manager) h.others;
   released = subst (λ m. KeepsReleased m v.manager) (ap (λ (x : WorldState). x.manager) h.others) (told_keeps mid.manager v.manager t.core.round p _ t.told.told);
-  clean = λ all. h.was_clean (ap all_clean (sym (ap (λ (x : WorldState). x.clean) t.others)) ∙ all);
+  clean = λ all. h.was_clean (ap all_clean (sym (ap (λ (x : WorldState). x.health) t.others)) ∙ all);
+  counts = subst (λ l. NoneFell w.health l) (sym (ap (λ (x : WorldState). x.health) t.others)) h.counts;
   origins = ap (λ (x : WorldState). x.origins) t.others ∙ ap (λ (x : WorldState). x.origins) h.others;
 }
 
 -- where the new one stands as its parts do
-pub keeps_seen : (w v new : WorldState) → w ≡ v → new.manager ≡ w.manager → new.clean ≡ w.clean → new.origins ≡ w.origins → Keeps v new
-keeps_seen w v new e manager clean origins = subst (λ (x : WorldState). Keeps x new) e (keeps_by w new manager clean origins)
+pub keeps_seen : (w v new : WorldState) → w ≡ v → new.manager ≡ w.manager → new.health ≡ w.health → new.origins ≡ w.origins → Keeps v new
+keeps_seen w v new e manager health origins = subst (λ (x : WorldState). Keeps x new) e (keeps_by w new manager health origins)

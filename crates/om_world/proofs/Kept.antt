@@ -32,23 +32,23 @@ use Rattle.om_world.specs.declared.entry.Entry.{Entry}
 use Rattle.om_world.specs.declared.place.Place.{Place}
 use Rattle.om_world.specs.Failures.{HasNews}
 use Rattle.om_world.specs.Live.{program_at, receipt_of, received, MayFollow}
-use Rattle.om_world.specs.World.{WorldState, Past, past_of, history, recovered, entry_of, output_entry}
+use Rattle.om_world.specs.World.{Health, WorldState, Past, past_of, history, recovered, entry_of, output_entry}
 use Rattle.om_world.specs.steps.Sound.{Sound, HasShape, Said, IsFrame, KeptWithin, IsStored, NothingAbove, LogAlong, LogOf, receipts_in, IsCoreOf, IsRunning, IsUpIn, Runs}
 use Rattle.om_world.proofs.Legal.{at_more, one_more, received-append}
 use Rattle.om_world.proofs.Lists.{none_in, once, at_change, set_apart, there, inside, either, none_some}
 
 -- a world with these parts changed
-abbrev pub remade : WorldState → List Entry → List Message → List (Option CoreState) → ManagerState → List Content → List Bool → WorldState
-remade w live frames cores manager contents clean = record { programs = w.programs; live = live; frames = frames; cores = cores; places = w.places; rounds = w.rounds; manager = manager; contents = contents; clean = clean; origins = w.origins }
+abbrev pub remade : WorldState → List Entry → List Message → List (Option CoreState) → ManagerState → List Content → List Health → WorldState
+remade w live frames cores manager contents health = record { programs = w.programs; live = live; frames = frames; cores = cores; places = w.places; rounds = w.rounds; manager = manager; contents = contents; health = health; origins = w.origins }
 
 -- ---- the shape
-pub shape_same : (w : WorldState) (live : List Entry) (frames : List Message) (m : ManagerState) (contents : List Content) (clean : List Bool) → HasShape w → length contents ≡ length w.contents → IsManager m → managers.size_of m ≡ managers.size_of w.manager
-    → HasShape (remade w live frames w.cores m contents clean)
-shape_same w live frames m contents clean s long is size = record { few = s.few; stores = long ∙ s.stores; cores = s.cores; places = s.places; own = s.own; rounds = s.rounds; there = s.there; inside = s.inside; manager = is; size = size ∙ s.size }
+pub shape_same : (w : WorldState) (live : List Entry) (frames : List Message) (m : ManagerState) (contents : List Content) (health : List Health) → HasShape w → length contents ≡ length w.contents → IsManager m → managers.size_of m ≡ managers.size_of w.manager
+    → HasShape (remade w live frames w.cores m contents health)
+shape_same w live frames m contents health s long is size = record { few = s.few; stores = long ∙ s.stores; cores = s.cores; places = s.places; own = s.own; rounds = s.rounds; there = s.there; inside = s.inside; manager = is; size = size ∙ s.size }
 
-pub shape_core : (w : WorldState) (p : ℕ) (c d : CoreState) (live : List Entry) (frames : List Message) (m : ManagerState) (contents : List Content) (clean : List Bool) → HasShape w → slice_get w.cores p ≡ Some (Some c) → d.own ≡ c.own → size_of d.now ≡ size_of c.now
-    → length contents ≡ length w.contents → IsManager m → managers.size_of m ≡ managers.size_of w.manager → HasShape (remade w live frames (set w.cores p (Some d)) m contents clean)
-shape_core w p c d live frames m contents clean s at own size long is many = record {
+pub shape_core : (w : WorldState) (p : ℕ) (c d : CoreState) (live : List Entry) (frames : List Message) (m : ManagerState) (contents : List Content) (health : List Health) → HasShape w → slice_get w.cores p ≡ Some (Some c) → d.own ≡ c.own → size_of d.now ≡ size_of c.now
+    → length contents ≡ length w.contents → IsManager m → managers.size_of m ≡ managers.size_of w.manager → HasShape (remade w live frames (set w.cores p (Some d)) m contents health)
+shape_core w p c d live frames m contents health s at own size long is many = record {
   few = s.few;
   stores = long ∙ s.stores;
   cores = length-set w.cores p (Some d) ∙ s.cores;
@@ -78,7 +78,7 @@ shape_core w p c d live frames m contents clean s at own size long is many = rec
 -- ---- one core changes
 pub sound_core : (w : WorldState) (p : ℕ) (c d : CoreState) → Sound w → slice_get w.cores p ≡ Some (Some c)
     → ((held : Content) → IsRunning (past_of w) p held c → IsRunning (past_of w) p held d) → (IsUpIn w.manager p c → IsUpIn w.manager p d)
-    → d.inc ≡ c.inc → d.now.interval ≡ c.now.interval → Sound (remade w w.live w.frames (set w.cores p (Some d)) w.manager w.contents w.clean)
+    → d.inc ≡ c.inc → d.now.interval ≡ c.now.interval → Sound (remade w w.live w.frames (set w.cores p (Some d)) w.manager w.contents w.health)
 sound_core w p c d s at run know inc interval = record {
   legal = s.legal;
   frames = s.frames;
@@ -143,7 +143,7 @@ running_turns v p k held c t turns r =
     }
 
 pub sound_turns : (w : WorldState) (p k : ℕ) (c : CoreState) (t : Process) → HasShape w → Sound w → slice_get w.cores p ≡ Some (Some c) → Turns c.own (size_of c.now) k c.now t
-    → Sound (remade w w.live w.frames (set w.cores p (Some (with_now c t))) w.manager w.contents w.clean)
+    → Sound (remade w w.live w.frames (set w.cores p (Some (with_now c t))) w.manager w.contents w.health)
 sound_turns w p k c t h s at turns =
     let own = h.own p c at in
     let mine : Turns p (length w.programs) k c.now t = subst (λ o. Turns o (length w.programs) k c.now t) own.own (subst (λ n. Turns c.own n k c.now t) own.size turns) in
@@ -317,7 +317,7 @@ pub interval_is : (v : Past) (p : ℕ) (held : Content) (c : CoreState) (r : IsR
 interval_is v p held c r = ap (λ (x : Process). x.interval) r.state.2.same ∙ interval_along (program_at v.programs p) p (length v.programs) r.state.1.0 (history v p) r.state.0 r.state.1.1
 
 pub sound_taken : (w : WorldState) (i : ℕ) (m : Message) (e : Entry) (c : CoreState) → HasShape w → Sound w → ((q : ℕ) → recovered w.manager q ≤ length (history (past_of w) q)) → slice_get w.frames i ≡ Some m → e ≡ entry_of m → slice_get w.places e.to ≡ Some Place.Up → slice_get w.cores e.to ≡ Some (Some c) → IsDue c m
-    → Sound (remade w (w.live ++ e ∷ []) w.frames (set w.cores e.to (Some (taken c m))) w.manager w.contents w.clean)
+    → Sound (remade w (w.live ++ e ∷ []) w.frames (set w.cores e.to (Some (taken c m))) w.manager w.contents w.health)
 sound_taken w i m e c h s within frame is place at due =
     let v = past_of w in
     let n = length w.programs in

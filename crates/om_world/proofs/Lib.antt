@@ -31,6 +31,7 @@ pub mod Finish
 pub mod Legal
 pub mod Released
 pub mod Counting
+pub mod FailureCounts
 pub mod Gathering
 pub mod Declaring
 pub mod Declared

@@ -1,15 +1,18 @@
 -- Lists of which one element changes.
-use Rattle.std.proofs.Common.{◌≡◌, ◌≢◌, ◌⊎◌, inl, inr, ℕ, zero, suc, ◌<◌, List, [], ◌∷◌, length, map, set, get_or, Option, Some, None, Bool, true, false, refl, sym, ap, ◌∙◌, subst, arith}
+use Rattle.std.proofs.Common.{◌≡◌, ◌≢◌, ◌⊎◌, inl, inr, ℕ, zero, suc, ◌<◌, List, [], ◌∷◌, length, map, set, get_or, Option, Some, None, Result, Err, Bool, true, false, refl, sym, ap, ◌∙◌, subst, arith}
 use Rattle.std.specs.List.{AllByRecursion}
 use Rattle.std.specs.Prelude.{◌&&◌, nat_eq, slice_get}
 use Rattle.std.proofs.lemmas.Bool.Decides.{nat_tests}
-use Rattle.om_world.specs.World.{all_clean}
+use Rattle.om_world.specs.World.{Health, all_clean}
 
 pub none_in : {A : Type 0} (i : ℕ) (s : A) → slice_get [] i ≡ Some s → ⊥
 none_in i s h = cc
 
 pub once : {A : Type 0} (a b : A) → Some a ≡ Some b → a ≡ b
 once a b e = cc
+
+pub once_err : {T E : Type 0} (r : Result T E) (a b : E) → r ≡ Err a → r ≡ Err b → a ≡ b
+once_err r a b e f = cc
 
 -- what stands at a place of a list that was changed at one
 pub at_change : {A : Type 0} (cs : List A) (i j : ℕ) (s t : A) → slice_get (set cs i t) j ≡ Some s → ((j ≡ i) × (s ≡ t)) ⊎ ((j ≢ i) × (slice_get cs j ≡ Some s))
@@ -66,10 +69,10 @@ both true b e = (refl, e)
 both false b e = cc
 
 -- all are clean where all are after one changed, and that one was clean if it is
-pub clean_before : {S : Type 0} (clean : S → Bool) (xs : List S) (i : ℕ) (s t : S) → slice_get xs i ≡ Some s → (clean t ≡ true → clean s ≡ true) → all_clean (map clean (set xs i t)) ≡ true → (all_clean (map clean xs) ≡ true) × (clean t ≡ true)
-clean_before clean [] i s t at was all = absurd (none_in i s at)
-clean_before clean (x ∷ xs) zero s t at was all = let b = both (clean t) (all_clean (map clean xs)) all in (ap (λ c. c && all_clean (map clean xs)) (ap clean (once x s at) ∙ was b.0) ∙ b.1, b.0)
-clean_before clean (x ∷ xs) (suc i) s t at was all = let b = both (clean x) (all_clean (map clean (set xs i t))) all in let r = clean_before clean xs i s t at was b.1 in (ap (λ c. c && all_clean (map clean xs)) b.0 ∙ r.0, r.1)
+pub clean_before : {S : Type 0} (health : S → Health) (xs : List S) (i : ℕ) (s t : S) → slice_get xs i ≡ Some s → ((health t).clean ≡ true → (health s).clean ≡ true) → all_clean (map health (set xs i t)) ≡ true → (all_clean (map health xs) ≡ true) × ((health t).clean ≡ true)
+clean_before health [] i s t at was all = absurd (none_in i s at)
+clean_before health (x ∷ xs) zero s t at was all = let b = both (health t).clean (all_clean (map health xs)) all in (ap (λ c. c && all_clean (map health xs)) (ap (λ y. (health y).clean) (once x s at) ∙ was b.0) ∙ b.1, b.0)
+clean_before health (x ∷ xs) (suc i) s t at was all = let b = both (health x).clean (all_clean (map health (set xs i t))) all in let r = clean_before health xs i s t at was b.1 in (ap (λ c. c && all_clean (map health xs)) b.0 ∙ r.0, r.1)
 
 pub sound_at : {S : Type 0} (IsSound : S → Type 0) (xs : List S) (i : ℕ) (s : S) → AllByRecursion IsSound xs → slice_get xs i ≡ Some s → IsSound s
 sound_at IsSound [] i s all at = absurd (none_in i s at)
@@ -95,3 +98,8 @@ pub same_map : {S X : Type 0} (f : S → X) (xs : List S) (i : ℕ) (s t : S) �
 same_map f [] i s t at e = refl
 same_map f (x ∷ xs) zero s t at e = ap (λ y. y ∷ map f xs) (ap f (once x s at) ∙ sym e)
 same_map f (x ∷ xs) (suc i) s t at e = ap (λ ys. f x ∷ ys) (same_map f xs i s t at e)
+
+pub set_there : {A : Type 0} (xs : List A) (p : ℕ) (x y : A) → slice_get xs p ≡ Some x → slice_get (set xs p y) p ≡ Some y
+set_there [] p x y at = absurd (none_in p x at)
+set_there (z ∷ xs) zero x y at = refl
+set_there (z ∷ xs) (suc p) x y at = set_there xs p x y at

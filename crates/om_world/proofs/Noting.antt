@@ -4,7 +4,7 @@ use Rattle.std.specs.Prelude.{slice_get, slice_index_or, IfErr, IsSome}
 use Rattle.std.specs.FinMap.{get}
 use Rattle.om_stable.specs.Content.{Content, IsTaken}
 use Rattle.om_stable.specs.declared.error.StoreError.{StoreError}
-use Rattle.om_stable.specs.declared.error.StoreError.TheVariants.{Present}
+use Rattle.om_stable.specs.declared.error.StoreError.TheVariants.{Fault, Present}
 use Rattle.om_process.specs.declared.row.Row.{Row}
 use Rattle.om_process.specs.Claims.{AtInterval, RowOf}
 use Rattle.om_process.specs.Core.{CoreState, with_pending}
@@ -18,9 +18,10 @@ use Rattle.om_manager.specs.State.{ManagerState}
 use Rattle.om_manager.specs.declared.answers.RecordError.{RecordError}
 use Rattle.om_manager.specs.declared.answers.RecordError.TheVariants.{Refused}
 use Rattle.om_world.specs.Changes.{IsUp, row_for, stored}
-use Rattle.om_world.specs.World.{WorldState, Past, past_of, history, IsKnown, all_clean}
+use Rattle.om_world.specs.World.{Health, WorldState, Past, past_of, history, IsKnown, all_clean}
 use Rattle.om_world.specs.steps.Moves.{AreTold, Gained, IsCalled, IsTold, IsToldUpTo, HasCalled, HasTold, after_store}
 use Rattle.om_world.specs.steps.Sound.{HasBytes, HasShape, IsOld, IsPending, IsWorld, Sound, kind_of}
+use Rattle.om_world.proofs.FailureCounts.{called_counts, counted}
 use Rattle.om_world.proofs.Gaining.{sound_store, sound_clean}
 use Rattle.om_world.proofs.Giving.{given_at}
 use Rattle.om_world.proofs.Kept.{remade, shape_core, shape_same, sound_core}
@@ -60,10 +61,10 @@ row_begun v p a row k = go row.ckpt refl
     go false e = rw e (λ f. k.begun e)
 
 abbrev with_m : WorldState → ManagerState → WorldState
-with_m w m = remade w w.live w.frames w.cores m w.contents w.clean
+with_m w m = remade w w.live w.frames w.cores m w.contents w.health
 
 shape_told : (w : WorldState) (m : ManagerState) (round p : ℕ) (row : Row) (note : Note) → HasShape w → IsTold w.manager round p row (Ok note) m → HasShape (with_m w m)
-shape_told w m round p row note h t = shape_same w w.live w.frames m w.contents w.clean h refl t.sound (sym t.below.same_places)
+shape_told w m round p row note h t = shape_same w w.live w.frames m w.contents w.health h refl t.sound (sym t.below.same_places)
 
 sound_told : (w : WorldState) (m : ManagerState) (round p : ℕ) (a : Content) (row : Row) (note : Note) → HasShape w → Sound w → slice_get w.contents p ≡ Some a → IsPending (past_of w) p a row → IsTold w.manager round p row (Ok note) m → Sound (with_m w m)
 sound_told w m round p a row note h s at k t = sound_manager w m s (told_goes_on w.manager m round p row note h.manager t)
@@ -124,13 +125,13 @@ known_after w p count end m c h s up at t =
     (all.0, all.1, all.2, λ i row f. (store.0, all.3 row (r.pending i row f)))
 
 pub after_note : {S : Type 0} (IsSound : S → Type 0) (xs : List S) (w : WorldState) (p count : ℕ) (end : Result (Unit {0}) RecordError) (m : ManagerState) (cs : List (Option CoreState)) → IsWorld IsSound xs w → IsUp w p → IsNotedIn w p count end m cs
-    → IsWorld IsSound xs (remade w w.live w.frames cs m w.contents w.clean)
+    → IsWorld IsSound xs (remade w w.live w.frames cs m w.contents w.health)
 after_note IsSound xs w p count end m cs i up n =
     let c = n.0 in let at = n.1 in let t = n.2 in
     let d = with_pending c (drop count c.pending) in
     let h = shape_all w m c.round p (take count c.pending) i.shape t.told in
-    subst (λ l. IsWorld IsSound xs (remade w w.live w.frames l m w.contents w.clean)) (sym n.3) (record {
-      shape = shape_core (with_m w m) p c d w.live w.frames m w.contents w.clean h at refl refl refl h.manager refl;
+    subst (λ l. IsWorld IsSound xs (remade w w.live w.frames l m w.contents w.health)) (sym n.3) (record {
+      shape = shape_core (with_m w m) p c d w.live w.frames m w.contents w.health h at refl refl refl h.manager refl;
       clean = λ all.
           let s = i.clean all in let k = known_after w p count end m c i.shape s.1 up at t in (
             s.0,
@@ -159,56 +160,56 @@ refused_memory w p count (Err fault) m c h s up at t =
         go false e = rw e k.row_of
 
 pub has_told : {S : Type 0} (IsSound : S → Type 0) (xs : List S) (w : WorldState) (p count : ℕ) (end : Result (Unit {0}) RecordError) (m : ManagerState) (cs : List (Option CoreState)) → IsWorld IsSound xs w → IsUp w p → IsNotedIn w p count end m cs
-    → HasTold w p count end (remade w w.live w.frames cs m w.contents w.clean)
+    → HasTold w p count end (remade w w.live w.frames cs m w.contents w.health)
 has_told IsSound xs w p count end m cs i up n = record {
   core = n.0;
   there = n.1;
   told = n.2;
-  others = ap (λ l. remade w w.live w.frames l m w.contents w.clean) n.3;
+  others = ap (λ l. remade w w.live w.frames l m w.contents w.health) n.3;
   memory = λ all. let s = i.clean all in refused_memory w p count end m n.0 i.shape s.1 up n.1 n.2;
 }
 
 -- ---- a store that was called
-abbrev pub IsCalledIn : {S : Type 0} → (S → Content) → (S → Bool) → (S → Type 0) → RowKind → List (Option CoreState) → ℕ → Result (Unit {0}) StoreError → List S → List S → List (Option CoreState) → Type 0
-IsCalledIn content clean IsSound kind cores p answer xs ys cs = (c : CoreState) × (slice_get cores p ≡ Some (Some c)) × (cs ≡ set cores p (Some (after_store kind c answer))) × IsCalled content clean IsSound xs ys p (Gained kind c answer)
+abbrev pub IsCalledIn : {S : Type 0} → (S → Content) → (S → Health) → (S → Type 0) → RowKind → List (Option CoreState) → ℕ → Result (Unit {0}) StoreError → List S → List S → List (Option CoreState) → Type 0
+IsCalledIn content health IsSound kind cores p answer xs ys cs = (c : CoreState) × (slice_get cores p ≡ Some (Some c)) × (cs ≡ set cores p (Some (after_store kind c answer))) × IsCalled content health IsSound (answer ≡ Err Fault) xs ys p (Gained kind c answer)
 
-abbrev pub over : {S : Type 0} → (S → Content) → (S → Bool) → WorldState → List S → List (Option CoreState) → WorldState
-over content clean w xs cs = remade w w.live w.frames cs w.manager (map content xs) (map clean xs)
+abbrev pub over : {S : Type 0} → (S → Content) → (S → Health) → WorldState → List S → List (Option CoreState) → WorldState
+over content health w xs cs = remade w w.live w.frames cs w.manager (map content xs) (map health xs)
 
 same_stored : (kind : RowKind) (c : CoreState) → ((stored kind c).own ≡ c.own) × ((stored kind c).now ≡ c.now)
 same_stored Log c = (refl, refl)
 same_stored Checkpoint c = (refl, refl)
 
-pub after_called : {S : Type 0} (content : S → Content) (clean : S → Bool) (IsSound : S → Type 0) (kind : RowKind) (w : WorldState) (p : ℕ) (answer : Result (Unit {0}) StoreError) (xs ys : List S) (cs : List (Option CoreState))
-    → IsWorld IsSound xs (over content clean w xs w.cores) → IsUp w p → IsCalledIn content clean IsSound kind w.cores p answer xs ys cs → IsWorld IsSound ys (over content clean w ys cs)
-after_called content clean IsSound kind w p (Ok done) xs ys cs i up n =
+pub after_called : {S : Type 0} (content : S → Content) (health : S → Health) (IsSound : S → Type 0) (kind : RowKind) (w : WorldState) (p : ℕ) (answer : Result (Unit {0}) StoreError) (xs ys : List S) (cs : List (Option CoreState))
+    → IsWorld IsSound xs (over content health w xs w.cores) → IsUp w p → IsCalledIn content health IsSound kind w.cores p answer xs ys cs → IsWorld IsSound ys (over content health w ys cs)
+after_called content health IsSound kind w p (Ok done) xs ys cs i up n =
     let c = n.0 in let at = n.1 in let k = n.3 in
     let same = same_stored kind c in
-    subst (λ l. IsWorld IsSound l (over content clean w l cs)) (sym k.stores) (subst (λ l. IsWorld IsSound (set xs p k.after) (over content clean w (set xs p k.after) l)) (sym n.2) (record {
-      shape = shape_core (over content clean w xs w.cores) p c (stored kind c) w.live w.frames w.manager (map content (set xs p k.after)) (map clean (set xs p k.after)) i.shape at same.0 (ap (λ (q : _). length q.vec) same.1)
+    subst (λ l. IsWorld IsSound l (over content health w l cs)) (sym k.stores) (subst (λ l. IsWorld IsSound (set xs p k.after) (over content health w (set xs p k.after) l)) (sym n.2) (record {
+      shape = shape_core (over content health w xs w.cores) p c (stored kind c) w.live w.frames w.manager (map content (set xs p k.after)) (map health (set xs p k.after)) i.shape at same.0 (ap (λ (q : _). length q.vec) same.1)
           (length-map content (set xs p k.after) ∙ length-set xs p k.after ∙ sym (length-map content xs)) i.shape.manager refl;
       clean = λ all.
-          let before = clean_before clean xs p k.before k.after k.there k.clean all.1 in
+          let before = clean_before health xs p k.before k.after k.there k.clean all.1 in
           let s = i.clean (all.0, before.0) in
           let was = sound_at IsSound xs p k.before s.0 k.there in (
             sound_set IsSound xs p k.after s.0 (k.sound before.1 was),
-            subst (λ l. Sound (remade w w.live w.frames (set w.cores p (Some (stored kind c))) w.manager l (map clean (set xs p k.after)))) (map_set content xs p k.after)
-                (sound_store kind (over content clean w xs w.cores) p (content k.before) (content k.after) c (map clean (set xs p k.after)) i.shape s.1 at (map_at content xs p k.before k.there) (inl up) (k.did before.1 was)),
+            subst (λ l. Sound (remade w w.live w.frames (set w.cores p (Some (stored kind c))) w.manager l (map health (set xs p k.after)))) (map_set content xs p k.after)
+                (sound_store kind (over content health w xs w.cores) p (content k.before) (content k.after) c (map health (set xs p k.after)) i.shape s.1 at (map_at content xs p k.before k.there) (inl up) (k.did before.1 was)),
           );
     }))
-after_called content clean IsSound kind w p (Err why) xs ys cs i up n =
+after_called content health IsSound kind w p (Err why) xs ys cs i up n =
     let c = n.0 in let at = n.1 in let k = n.3 in
     let back = n.2 ∙ given_at w.cores p c at in
-    subst (λ l. IsWorld IsSound l (over content clean w l cs)) (sym k.stores) (subst (λ l. IsWorld IsSound (set xs p k.after) (over content clean w (set xs p k.after) l)) (sym back) (record {
-      shape = shape_same (over content clean w xs w.cores) w.live w.frames w.manager (map content (set xs p k.after)) (map clean (set xs p k.after)) i.shape
+    subst (λ l. IsWorld IsSound l (over content health w l cs)) (sym k.stores) (subst (λ l. IsWorld IsSound (set xs p k.after) (over content health w (set xs p k.after) l)) (sym back) (record {
+      shape = shape_same (over content health w xs w.cores) w.live w.frames w.manager (map content (set xs p k.after)) (map health (set xs p k.after)) i.shape
           (length-map content (set xs p k.after) ∙ length-set xs p k.after ∙ sym (length-map content xs)) i.shape.manager refl;
       clean = λ all.
-          let before = clean_before clean xs p k.before k.after k.there k.clean all.1 in
+          let before = clean_before health xs p k.before k.after k.there k.clean all.1 in
           let s = i.clean (all.0, before.0) in
           let was = sound_at IsSound xs p k.before s.0 k.there in (
             sound_set IsSound xs p k.after s.0 (k.sound before.1 was),
-            subst (λ l. Sound (remade w w.live w.frames w.cores w.manager l (map clean (set xs p k.after)))) (same_map content xs p k.before k.after k.there (same_content kind c why (content k.before) (content k.after) (k.did before.1 was)))
-                (sound_clean (over content clean w xs w.cores) (map content xs) (map clean xs) (map clean (set xs p k.after)) s.1),
+            subst (λ l. Sound (remade w w.live w.frames w.cores w.manager l (map health (set xs p k.after)))) (same_map content xs p k.before k.after k.there (same_content kind c why (content k.before) (content k.after) (k.did before.1 was)))
+                (sound_clean (over content health w xs w.cores) (map content xs) (map health xs) (map health (set xs p k.after)) s.1),
           );
     }))
   where
@@ -217,22 +218,24 @@ after_called content clean IsSound kind w p (Err why) xs ys cs i up n =
     same_content Checkpoint c why a b g = g.0
 
 -- what the call did, as the world is told it
-pub has_called : {S : Type 0} (content : S → Content) (clean : S → Bool) (IsSound : S → Type 0) (kind : RowKind) (w : WorldState) (p : ℕ) (answer : Result (Unit {0}) StoreError) (xs ys : List S) (cs : List (Option CoreState))
-    → IsWorld IsSound xs (over content clean w xs w.cores) → IsUp w p → IsCalledIn content clean IsSound kind w.cores p answer xs ys cs → HasCalled kind (over content clean w xs w.cores) p answer (over content clean w ys cs)
-has_called content clean IsSound kind w p answer xs ys cs i up n = record {
+pub has_called : {S : Type 0} (content : S → Content) (health : S → Health) (IsSound : S → Type 0) (kind : RowKind) (w : WorldState) (p : ℕ) (answer : Result (Unit {0}) StoreError) (xs ys : List S) (cs : List (Option CoreState))
+    → IsWorld IsSound xs (over content health w xs w.cores) → IsUp w p → IsCalledIn content health IsSound kind w.cores p answer xs ys cs → HasCalled kind (over content health w xs w.cores) p answer (over content health w ys cs)
+has_called content health IsSound kind w p answer xs ys cs i up n = record {
   core = n.0;
   there = n.1;
-  others = ap (λ l. over content clean w ys l) n.2;
+  others = ap (λ l. over content health w ys l) n.2;
   did = λ all. let d = done all in (content n.3.before, content n.3.after, d.0, d.1, d.2);
-  was_clean = λ all. let k = n.3 in (clean_before clean xs p k.before k.after k.there k.clean (subst (λ zs. all_clean (map clean zs) ≡ true) k.stores all)).0;
+  was_clean = λ all. let k = n.3 in (clean_before health xs p k.before k.after k.there k.clean (subst (λ zs. all_clean (map health zs) ≡ true) k.stores all)).0;
+  counted = counted content health IsSound p xs ys (Gained kind n.0 answer) n.3;
+  counts = called_counts content health IsSound p xs ys (Gained kind n.0 answer) n.3;
   free = λ all log present. let d = done all in taken (d.2) log present (d.3 (length n.0.log));
 }
   where
-    done : IsKnown (over content clean w ys cs) → (slice_get (map content xs) p ≡ Some (content n.3.before)) × (map content ys ≡ set (map content xs) p (content n.3.after)) × Gained kind n.0 answer (content n.3.before) (content n.3.after)
+    done : IsKnown (over content health w ys cs) → (slice_get (map content xs) p ≡ Some (content n.3.before)) × (map content ys ≡ set (map content xs) p (content n.3.after)) × Gained kind n.0 answer (content n.3.before) (content n.3.after)
         × ((k : ℕ) → IsTaken (content n.3.before).receipts (first_logged n.0) k → ⊥)
     done all =
         let k = n.3 in let at = n.1 in
-        let before = clean_before clean xs p k.before k.after k.there k.clean (subst (λ zs. all_clean (map clean zs) ≡ true) k.stores all.1) in
+        let before = clean_before health xs p k.before k.after k.there k.clean (subst (λ zs. all_clean (map health zs) ≡ true) k.stores all.1) in
         let s = i.clean (all.0, before.0) in
         let was = sound_at IsSound xs p k.before s.0 k.there in
         let here = map_at content xs p k.before k.there in (

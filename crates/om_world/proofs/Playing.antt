@@ -5,9 +5,11 @@ use Rattle.om_manager.specs.Sound.{KeepsReleased}
 use Rattle.om_manager.specs.State.{released_by, size_of}
 use Rattle.om_world.specs.declared.event.Event.{Event}
 use Rattle.om_world.specs.declared.event.Answer.{Answer}
+use Rattle.om_world.specs.Changes.{NoneFell}
 use Rattle.om_world.specs.Played.{Played, Step}
 use Rattle.om_world.specs.World.{WorldState, IsEmpty, IsKnown, all_clean}
 use Rattle.om_world.specs.steps.Moves.{Keeps}
+use Rattle.om_world.proofs.FailureCounts.{counts_stay, counts_then}
 use Rattle.om_world.proofs.Keeping.{keeps_same, prefix_then}
 use Rattle.om_world.proofs.Lists.{none_in, once}
 
@@ -34,12 +36,13 @@ pub record IsPlayed (old : WorldState) (events : List Event) (k : ℕ) (answers 
   pub long : length answers ≡ k
   pub size : size_of new.manager ≡ size_of old.manager
   pub released : KeepsReleased old.manager new.manager
-  pub clean : all_clean new.clean ≡ true → all_clean old.clean ≡ true
+  pub clean : all_clean new.health ≡ true → all_clean old.health ≡ true
+  pub counts : NoneFell old.health new.health
   pub origins : new.origins ≡ old.origins
   pub played : IsKnown new → Played old (take k events) answers new
 
 pub none_played : (w : WorldState) (events : List Event) → IsPlayed w events 0 [] w
-none_played w events = record { long = refl; size = refl; released = keeps_same w.manager; clean = λ all. all; origins = refl; played = λ known. refl }
+none_played w events = record { long = refl; size = refl; released = keeps_same w.manager; clean = λ all. all; counts = counts_stay w.health; origins = refl; played = λ known. refl }
 
 pub one_played : (old mid new : WorldState) (events : List Event) (k : ℕ) (answers : List Answer) (e : Event) (a : Answer) → slice_get events k ≡ Some e → IsPlayed old events k answers mid → (IsKnown new → Step mid e a new) → Keeps mid new → IsPlayed old events (k + 1) (answers ++ a ∷ []) new
 one_played old mid new events k answers e a at p step keeps = record {
@@ -47,6 +50,7 @@ one_played old mid new events k answers e a at p step keeps = record {
   size = keeps.size ∙ p.size;
   released = λ q lt. let size = p.size in prefix_then (released_by old.manager q) (released_by mid.manager q) (released_by new.manager q) (p.released q lt) (keeps.released q (omega arith));
   clean = λ all. p.clean (keeps.clean all);
+  counts = counts_then old.health mid.health new.health p.counts keeps.counts;
   origins = keeps.origins ∙ p.origins;
   played = λ known. subst (λ es. Played old es (answers ++ a ∷ []) new) (take_next events k e at) (played_more old mid new (take k events) answers e a (p.played (known_before mid new keeps known)) (step known));
 }

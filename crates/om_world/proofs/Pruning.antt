@@ -19,18 +19,21 @@ use Rattle.om_manager.specs.State as managers
 use Rattle.om_manager.specs.State.{ManagerState, held_by, released_by}
 use Rattle.om_world.specs.declared.event.Event.{Event}
 use Rattle.om_world.specs.declared.event.Answer.TheVariants as answers
+use Rattle.om_world.specs.Changes.{HasFailed, NoneFell, RoseAt}
 use Rattle.om_world.specs.Happened.{Happened, ManagerPruned, PruneHappened, PruneStopped, StorePruned}
-use Rattle.om_world.specs.World.{WorldState, Past, IsEmpty, IsKnown, past_of, recovered, all_clean}
+use Rattle.om_world.specs.Played.{IsCounted}
+use Rattle.om_world.specs.World.{Health, WorldState, Past, IsEmpty, IsKnown, past_of, recovered, all_clean}
 use Rattle.om_world.specs.steps.Moves.{IsCalled, Keeps, refusal_of_store}
 use Rattle.om_world.specs.steps.Pruning.{AllPruned, ArePruned, HasPruned, WasPruned}
 use Rattle.om_world.specs.steps.Sound.{HasBytes, IsBefore, IsOld, IsRunning, IsStored, IsWorld, Runs, Sound, kind_of}
+use Rattle.om_world.proofs.FailureCounts.{called_counts, counted, counts_stay, counts_then, failed_after, memory_apart, present_apart}
 use Rattle.om_world.proofs.Gaining.{sound_clean}
 use Rattle.om_world.proofs.Keeping.{keeps_same}
 use Rattle.om_world.proofs.Kept.{remade, shape_same}
-use Rattle.om_world.proofs.Lists.{at_change, clean_before, either, inside, length-map, map_at, map_set, once, set_apart, sound_at, sound_set}
+use Rattle.om_world.proofs.Lists.{at_change, clean_before, either, inside, length-map, map_at, map_set, once, set_apart, set_there, sound_at, sound_set}
 use Rattle.om_world.proofs.Noting.{over}
 use Rattle.om_world.proofs.Raising.{GoesOn, less, sound_manager}
-use Rattle.om_world.proofs.Recording.{set_back, set_there}
+use Rattle.om_world.proofs.Recording.{set_back}
 
 -- ---- the manager
 lower : (kind : RowKind) (x c e : ℕ) → c ≤ e → IsBefore kind x c → IsBefore kind x e
@@ -68,9 +71,9 @@ goes_on old new is m = record {
     same_le : (a b : ℕ) → a ≡ b → a ≤ b
     same_le a b e = omega arith
 
-pub after_pruned : {S : Type 0} (IsSound : S → Type 0) (xs : List S) (w : WorldState) (m : ManagerState) → IsWorld IsSound xs w → ManagerPruned w.manager m → IsManager m → IsWorld IsSound xs (remade w w.live w.frames w.cores m w.contents w.clean)
+pub after_pruned : {S : Type 0} (IsSound : S → Type 0) (xs : List S) (w : WorldState) (m : ManagerState) → IsWorld IsSound xs w → ManagerPruned w.manager m → IsManager m → IsWorld IsSound xs (remade w w.live w.frames w.cores m w.contents w.health)
 after_pruned IsSound xs w m i pruned is = record {
-  shape = shape_same w w.live w.frames m w.contents w.clean i.shape refl is (ap managers.size_of pruned.others);
+  shape = shape_same w w.live w.frames m w.contents w.health i.shape refl is (ap managers.size_of pruned.others);
   clean = λ all.
       let s = i.clean all in (
         s.0,
@@ -136,8 +139,8 @@ running_pruned v p c a core e r = record {
   };
 }
 
-sound_pruned : (w : WorldState) (p c : ℕ) (a b : Content) (clean : List Bool) → Sound w → slice_get w.contents p ≡ Some a → IsEffective w.manager.rows p (recovered w.manager p) c → b ≡ kept_by_prune a c → Sound (remade w w.live w.frames w.cores w.manager (set w.contents p b) clean)
-sound_pruned w p c a b clean s at e is =
+sound_pruned : (w : WorldState) (p c : ℕ) (a b : Content) (health : List Health) → Sound w → slice_get w.contents p ≡ Some a → IsEffective w.manager.rows p (recovered w.manager p) c → b ≡ kept_by_prune a c → Sound (remade w w.live w.frames w.cores w.manager (set w.contents p b) health)
+sound_pruned w p c a b health s at e is =
     let v = past_of w in
     record {
       legal = s.legal;
@@ -175,41 +178,41 @@ sound_pruned w p c a b clean s at e is =
     }
 
 -- the store at this place is pruned to its effective checkpoint, or refuses
-abbrev pub IsPrunedIn : {S : Type 0} → (S → Content) → (S → Bool) → (S → Type 0) → WorldState → ℕ → ℕ → Result (Unit {0}) StoreError → List S → List S → Type 0
-IsPrunedIn content clean IsSound w p c answer xs ys = IsEffective w.manager.rows p (recovered w.manager p) c × IsCalled content clean IsSound xs ys p (WasPruned c answer)
+abbrev pub IsPrunedIn : {S : Type 0} → (S → Content) → (S → Health) → (S → Type 0) → WorldState → ℕ → ℕ → Result (Unit {0}) StoreError → List S → List S → Type 0
+IsPrunedIn content health IsSound w p c answer xs ys = IsEffective w.manager.rows p (recovered w.manager p) c × IsCalled content health IsSound (answer ≡ Err store_errors.Fault) xs ys p (WasPruned c answer)
 
-sound_either : (w : WorldState) (p c : ℕ) (answer : Result (Unit {0}) StoreError) (a b : Content) (clean : List Bool) → Sound w → slice_get w.contents p ≡ Some a → IsEffective w.manager.rows p (recovered w.manager p) c → WasPruned c answer a b
-    → Sound (remade w w.live w.frames w.cores w.manager (set w.contents p b) clean)
-sound_either w p c (Ok done) a b clean s at e is = sound_pruned w p c a b clean s at e is
-sound_either w p c (Err why) a b clean s at e is =
-    subst (λ l. Sound (remade w w.live w.frames w.cores w.manager l clean)) (sym (ap (set w.contents p) is ∙ set_back w.contents p a at)) (sound_clean w w.contents w.clean clean s)
+sound_either : (w : WorldState) (p c : ℕ) (answer : Result (Unit {0}) StoreError) (a b : Content) (health : List Health) → Sound w → slice_get w.contents p ≡ Some a → IsEffective w.manager.rows p (recovered w.manager p) c → WasPruned c answer a b
+    → Sound (remade w w.live w.frames w.cores w.manager (set w.contents p b) health)
+sound_either w p c (Ok done) a b health s at e is = sound_pruned w p c a b health s at e is
+sound_either w p c (Err why) a b health s at e is =
+    subst (λ l. Sound (remade w w.live w.frames w.cores w.manager l health)) (sym (ap (set w.contents p) is ∙ set_back w.contents p a at)) (sound_clean w w.contents w.health health s)
 
-pub after_store : {S : Type 0} (content : S → Content) (clean : S → Bool) (IsSound : S → Type 0) (w : WorldState) (p c : ℕ) (answer : Result (Unit {0}) StoreError) (xs ys : List S)
-    → IsWorld IsSound xs (over content clean w xs w.cores) → IsPrunedIn content clean IsSound w p c answer xs ys → IsWorld IsSound ys (over content clean w ys w.cores)
-after_store content clean IsSound w p c answer xs ys i n =
+pub after_store : {S : Type 0} (content : S → Content) (health : S → Health) (IsSound : S → Type 0) (w : WorldState) (p c : ℕ) (answer : Result (Unit {0}) StoreError) (xs ys : List S)
+    → IsWorld IsSound xs (over content health w xs w.cores) → IsPrunedIn content health IsSound w p c answer xs ys → IsWorld IsSound ys (over content health w ys w.cores)
+after_store content health IsSound w p c answer xs ys i n =
     let k = n.1 in
-    subst (λ l. IsWorld IsSound l (over content clean w l w.cores)) (sym k.stores) (record {
-      shape = shape_same (over content clean w xs w.cores) w.live w.frames w.manager (map content (set xs p k.after)) (map clean (set xs p k.after)) i.shape
+    subst (λ l. IsWorld IsSound l (over content health w l w.cores)) (sym k.stores) (record {
+      shape = shape_same (over content health w xs w.cores) w.live w.frames w.manager (map content (set xs p k.after)) (map health (set xs p k.after)) i.shape
           (length-map content (set xs p k.after) ∙ length-set xs p k.after ∙ sym (length-map content xs)) i.shape.manager refl;
       clean = λ all.
-          let before = clean_before clean xs p k.before k.after k.there k.clean all.1 in
+          let before = clean_before health xs p k.before k.after k.there k.clean all.1 in
           let s = i.clean (all.0, before.0) in
           let was = sound_at IsSound xs p k.before s.0 k.there in (
             sound_set IsSound xs p k.after s.0 (k.sound before.1 was),
-            subst (λ l. Sound (remade w w.live w.frames w.cores w.manager l (map clean (set xs p k.after)))) (map_set content xs p k.after)
-                (sound_either (over content clean w xs w.cores) p c answer (content k.before) (content k.after) (map clean (set xs p k.after)) s.1 (map_at content xs p k.before k.there) n.0 (k.did before.1 was)),
+            subst (λ l. Sound (remade w w.live w.frames w.cores w.manager l (map health (set xs p k.after)))) (map_set content xs p k.after)
+                (sound_either (over content health w xs w.cores) p c answer (content k.before) (content k.after) (map health (set xs p k.after)) s.1 (map_at content xs p k.before k.there) n.0 (k.did before.1 was)),
           );
     })
 
-pub has_pruned : {S : Type 0} (content : S → Content) (clean : S → Bool) (IsSound : S → Type 0) (w : WorldState) (p c : ℕ) (answer : Result (Unit {0}) StoreError) (xs ys : List S)
-    → IsWorld IsSound xs (over content clean w xs w.cores) → IsPrunedIn content clean IsSound w p c answer xs ys → answer ≢ Err store_errors.Present → HasPruned (over content clean w xs w.cores) p answer (over content clean w ys w.cores)
-has_pruned content clean IsSound w p c answer xs ys i n never = record {
+pub has_pruned : {S : Type 0} (content : S → Content) (health : S → Health) (IsSound : S → Type 0) (w : WorldState) (p c : ℕ) (answer : Result (Unit {0}) StoreError) (xs ys : List S)
+    → IsWorld IsSound xs (over content health w xs w.cores) → IsPrunedIn content health IsSound w p c answer xs ys → answer ≢ Err store_errors.Present → HasPruned (over content health w xs w.cores) p answer (over content health w ys w.cores)
+has_pruned content health IsSound w p c answer xs ys i n never = record {
   checkpoint = c;
   effective = n.0;
   others = refl;
   did = λ all.
       let k = n.1 in
-      let before = clean_before clean xs p k.before k.after k.there k.clean (subst (λ zs. all_clean (map clean zs) ≡ true) k.stores all.1) in
+      let before = clean_before health xs p k.before k.after k.there k.clean (subst (λ zs. all_clean (map health zs) ≡ true) k.stores all.1) in
       let s = i.clean (all.0, before.0) in (
         content k.before,
         content k.after,
@@ -217,8 +220,10 @@ has_pruned content clean IsSound w p c answer xs ys i n never = record {
         ap (map content) k.stores ∙ sym (map_set content xs p k.after),
         k.did before.1 (sound_at IsSound xs p k.before s.0 k.there),
       );
-  was_clean = λ all. let k = n.1 in (clean_before clean xs p k.before k.after k.there k.clean (subst (λ zs. all_clean (map clean zs) ≡ true) k.stores all)).0;
+  was_clean = λ all. let k = n.1 in (clean_before health xs p k.before k.after k.there k.clean (subst (λ zs. all_clean (map health zs) ≡ true) k.stores all)).0;
   never_present = never;
+  counted = counted content health IsSound p xs ys (WasPruned c answer) n.1;
+  counts = called_counts content health IsSound p xs ys (WasPruned c answer) n.1;
 }
 
 -- ---- the stores in order
@@ -226,19 +231,21 @@ pub none_pruned : (w : WorldState) → ArePruned w 0 w
 none_pruned w = record {
   others = refl;
   was_clean = λ all. all;
+  counts = counts_stay w.health;
   stores = λ known p before at. (before, at, λ lt. absurd (omega arith), λ _. refl);
 }
 
 known_before : (mid new : WorldState) (p : ℕ) (answer : Result (Unit {0}) StoreError) → HasPruned mid p answer new → IsKnown new → IsKnown mid
 known_before mid new p answer h known = (subst (λ l. All IsEmpty l) (ap (λ (x : WorldState). x.origins) h.others) known.0, h.was_clean known.1)
 
-after_both : (old mid new : WorldState) → mid ≡ record old { contents = mid.contents; clean = mid.clean } → new ≡ record mid { contents = new.contents; clean = new.clean } → new ≡ record old { contents = new.contents; clean = new.clean }
-after_both old mid new a b = b ∙ ap (λ (x : WorldState). record x { contents = new.contents; clean = new.clean }) a
+after_both : (old mid new : WorldState) → mid ≡ record old { contents = mid.contents; health = mid.health } → new ≡ record mid { contents = new.contents; health = new.health } → new ≡ record old { contents = new.contents; health = new.health }
+after_both old mid new a b = b ∙ ap (λ (x : WorldState). record x { contents = new.contents; health = new.health }) a
 
 pub one_pruned : (old mid new : WorldState) (k : ℕ) → ArePruned old k mid → HasPruned mid k (Ok tt) new → ArePruned old (k + 1) new
 one_pruned old mid new k a h = record {
   others = after_both old mid new a.others h.others;
   was_clean = λ all. a.was_clean (h.was_clean all);
+  counts = counts_then old.health mid.health new.health a.counts h.counts;
   stores = λ known p before at.
       let m = a.stores (known_before mid new k (Ok tt) h known) p before at in
       let d = h.did known in
@@ -265,10 +272,11 @@ one_pruned old mid new k a h = record {
       ];
 }
 
-pub refused_pruned : (old mid new : WorldState) (k : ℕ) (fault : StoreError) → ArePruned old k mid → HasPruned mid k (Err fault) new → ArePruned old k new
+refused_pruned : (old mid new : WorldState) (k : ℕ) (fault : StoreError) → ArePruned old k mid → HasPruned mid k (Err fault) new → ArePruned old k new
 refused_pruned old mid new k fault a h = record {
   others = after_both old mid new a.others h.others;
   was_clean = λ all. a.was_clean (h.was_clean all);
+  counts = counts_then old.health mid.health new.health a.counts h.counts;
   stores = λ known p before at.
       let m = a.stores (known_before mid new k (Err fault) h known) p before at in
       let d = h.did known in
@@ -276,16 +284,25 @@ refused_pruned old mid new k fault a h = record {
       (m.0, ap (λ l. slice_get l p) same ∙ m.1, m.2, m.3);
 }
 
+pub refused_all : (old mid new : WorldState) (k : ℕ) (fault : StoreError) → ArePruned old k mid → HasPruned mid k (Err fault) new → AllPruned old (Err fault) new
+refused_all old mid new k fault a h = record {
+  count = k;
+  pruned = refused_pruned old mid new k fault a h;
+  all = tt;
+  refused = λ e. h.never_present (ap Err e);
+  counted = λ e. (k, failed_after old.health mid.health new.health k a.counts (h.counted e));
+}
+
 -- ---- the whole of it
-manager_then : (w v z : WorldState) → ManagerPruned w.manager v.manager → z ≡ record v { contents = z.contents; clean = z.clean } → ManagerPruned w.manager z.manager
+manager_then : (w v z : WorldState) → ManagerPruned w.manager v.manager → z ≡ record v { contents = z.contents; health = z.health } → ManagerPruned w.manager z.manager
 manager_then w v z m e = subst (λ (k : ManagerState). ManagerPruned w.manager k) (sym (ap (λ (x : WorldState). x.manager) e)) m
 
-others_then : (w v z : WorldState) → v ≡ record w { manager = v.manager } → z ≡ record v { contents = z.contents; clean = z.clean } → z ≡ record w { manager = z.manager; contents = z.contents; clean = z.clean }
+others_then : (w v z : WorldState) → v ≡ record w { manager = v.manager } → z ≡ record v { contents = z.contents; health = z.health } → z ≡ record w { manager = z.manager; contents = z.contents; health = z.health }
 others_then w v z a b =
-    b ∙ ap (λ (x : WorldState). record x { contents = z.contents; clean = z.clean }) a
-    ∙ ap (λ m. record w { manager = m; contents = z.contents; clean = z.clean }) (sym (ap (λ (x : WorldState). x.manager) b))
+    b ∙ ap (λ (x : WorldState). record x { contents = z.contents; health = z.health }) a
+    ∙ ap (λ m. record w { manager = m; contents = z.contents; health = z.health }) (sym (ap (λ (x : WorldState). x.manager) b))
 
-pruned_then : (v z : WorldState) (p : ℕ) (a b : Content) → z ≡ record v { contents = z.contents; clean = z.clean } → StorePruned v p a b → StorePruned z p a b
+pruned_then : (v z : WorldState) (p : ℕ) (a b : Content) → z ≡ record v { contents = z.contents; health = z.health } → StorePruned v p a b → StorePruned z p a b
 pruned_then v z p a b e s = subst (λ (m : ManagerState). (c : ℕ) × IsEffective m.rows p (recovered m p) c × (b ≡ kept_by_prune a c)) (sym (ap (λ (x : WorldState). x.manager) e)) s
 
 pub prune_happened : (w v z : WorldState) → ManagerPruned w.manager v.manager → v ≡ record w { manager = v.manager } → AllPruned v (Ok tt) z → IsKnown z → PruneHappened w z
@@ -308,10 +325,20 @@ prune_stopped w v z refusal m e a known = record {
   others = others_then w v z e a.pruned.others;
 }
 
+failed_in : (w v z : WorldState) → v ≡ record w { manager = v.manager } → AllPruned v (Err store_errors.Fault) z → (p : ℕ) × HasFailed w p z
+failed_in w v z e a = let failed = a.counted refl in (failed.0, subst (λ l. RoseAt l failed.0 z.health) (ap (λ (x : WorldState). x.health) e) failed.1)
+
 pub prune_refused : (w v z : WorldState) (fault : StoreError) → ManagerPruned w.manager v.manager → v ≡ record w { manager = v.manager } → AllPruned v (Err fault) z → IsKnown z → Happened w Event.Prune (answers.Refused (refusal_of_store fault)) z
 prune_refused w v z store_errors.Present m e a known = absurd (a.refused refl)
-prune_refused w v z store_errors.Fault m e a known = prune_stopped w v z store_errors.Fault m e a known
+prune_refused w v z store_errors.Fault m e a known =
+    (failed_in w v z e a, prune_stopped w v z store_errors.Fault m e a known)
 prune_refused w v z store_errors.Memory m e a known = prune_stopped w v z store_errors.Memory m e a known
+
+-- the count of a store that refused
+pub prune_counted : (w v z : WorldState) (fault : StoreError) → v ≡ record w { manager = v.manager } → AllPruned v (Err fault) z → IsCounted w z (answers.Refused (refusal_of_store fault))
+prune_counted w v z store_errors.Present e a = λ is. absurd (present_apart is)
+prune_counted w v z store_errors.Fault e a = λ is. failed_in w v z e a
+prune_counted w v z store_errors.Memory e a = λ is. absurd (memory_apart is)
 
 pub prune_keeps : (w v z : WorldState) (end : Result (Unit {0}) StoreError) → ManagerPruned w.manager v.manager → v ≡ record w { manager = v.manager } → AllPruned v end z → Keeps w z
 prune_keeps w v z end m e a =
@@ -319,6 +346,7 @@ prune_keeps w v z end m e a =
     record {
       size = ap managers.size_of n.others;
       released = λ p lt. subst (λ l. IsPrefix (released_by w.manager p) l) (sym (same_released w.manager z.manager p n)) (keeps_same w.manager p lt);
-      clean = λ all. ap all_clean (sym (ap (λ (x : WorldState). x.clean) e)) ∙ a.pruned.was_clean all;
+      clean = λ all. ap all_clean (sym (ap (λ (x : WorldState). x.health) e)) ∙ a.pruned.was_clean all;
+      counts = subst (λ l. NoneFell l z.health) (ap (λ (x : WorldState). x.health) e) a.pruned.counts;
       origins = ap (λ (x : WorldState). x.origins) a.pruned.others ∙ ap (λ (x : WorldState). x.origins) e;
     }

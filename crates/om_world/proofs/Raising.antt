@@ -104,7 +104,7 @@ pub sound_manager : (w : WorldState) (m : ManagerState) → Sound w → GoesOn w
     → ((p i : ℕ) (o : HeldOutput) → slice_get (held_by m p) i ≡ Some o → AtInterval (history (past_of w) p) o.interval (Makes (program_at w.programs p) p (length w.programs) (length w.programs) i (output_entry o)))
     → ((row : noted.Row) → HasRow m.rows row → HasRow w.manager.rows row
     ⊎ (AtInterval (history (past_of w) row.pid) row.interval (RowOf row.pid (length w.programs) row.vec row.got) × ((held : Content) → slice_get w.contents row.pid ≡ Some held → HasBytes held row.kind row.interval ⊎ IsOld w.manager row.pid row.kind row.interval)))
-    → Sound (remade w w.live w.frames w.cores m w.contents w.clean)
+    → Sound (remade w w.live w.frames w.cores m w.contents w.health)
 sound_manager w m s g outputs rows = record {
   legal = s.legal;
   frames = λ i f at. let old = s.frames i f at in record { from = old.from; known = subst (λ starts. f.tag.inc ≤ newest_of starts f.from) (sym g.starts) old.known; said = elim old.said [ inl cut ↦ inl (subst (λ starts. IsOrphan starts f.from f.tag.inc f.tag.interval) (sym g.starts) cut) | inr said ↦ inr said ] };
@@ -127,7 +127,7 @@ sound_manager w m s g outputs rows = record {
     had_news : (p : ℕ) → slice_index w.rounds p < m.round → HasNews w p
     had_news p news = subst (λ r. slice_index w.rounds p < r) g.round news
 
-    ran : (p : ℕ) → Runs (remade w w.live w.frames w.cores m w.contents w.clean) p → Runs w p
+    ran : (p : ℕ) → Runs (remade w w.live w.frames w.cores m w.contents w.health) p → Runs w p
     ran p runs = elim runs [
       | inl up ↦ inl up
       | inr joined ↦ inr (joined.0, λ news. subst (λ backs. is_named backs p ≡ false) g.backs (joined.1 (subst (λ r. slice_index w.rounds p < r) (sym g.round) news)))

@@ -15,10 +15,12 @@ use Rattle.om_world.specs.Happened as happened
 use Rattle.om_world.specs.Changes.{Changes, HasStored, IsSame, IsUp, Stays, stored}
 use Rattle.om_world.specs.Changes.{HasNoted}
 use Rattle.om_world.specs.Happened.{Happened, HasCheckpoint}
+use Rattle.om_world.specs.Played.{IsCounted}
 use Rattle.om_world.specs.World.{WorldState, IsEmpty, IsKnown, all_clean}
 use Rattle.om_world.specs.steps.Moves.{AreTold, HasCalled, HasTold, IsToldUpTo, Gained, event_of, refusal_of_record, refusal_of_store}
+use Rattle.om_world.proofs.FailureCounts.{memory_apart, present_apart}
 use Rattle.om_world.proofs.Giving.{given_at}
-use Rattle.om_world.proofs.Lists.{inside, once}
+use Rattle.om_world.proofs.Lists.{inside, once, set_there}
 use Rattle.om_world.proofs.Telling.{told_notes}
 
 -- ---- lists
@@ -32,14 +34,6 @@ set_twice [] p x y = refl
 set_twice (z ∷ xs) zero x y = refl
 set_twice (z ∷ xs) (suc p) x y = ap (λ l. z ∷ l) (set_twice xs p x y)
 
-pub set_there : {A : Type 0} (xs : List A) (p : ℕ) (x y : A) → slice_get xs p ≡ Some x → slice_get (set xs p y) p ≡ Some y
-set_there [] p x y at = absurd (none p at)
-  where
-    none : (p : ℕ) → slice_get [] p ≡ Some x → ⊥
-    none p at = cc
-set_there (z ∷ xs) zero x y at = refl
-set_there (z ∷ xs) (suc p) x y at = set_there xs p x y at
-
 -- ---- the store refused
 same_content : (kind : RowKind) (c : CoreState) (error : StoreError) (a b : Content) → Gained kind c (Err error) a b → b ≡ a
 same_content Log c error a b g = g.0
@@ -49,21 +43,27 @@ is_same : (kind : RowKind) (w v : WorldState) (p : ℕ) (fault : StoreError) →
 is_same kind w v p fault h all =
     let d = h.did all in
     let contents : v.contents ≡ w.contents = d.3 ∙ ap (set w.contents p) (same_content kind h.core fault d.0 d.1 d.4) ∙ set_back w.contents p d.0 d.2 in
-    h.others ∙ ap (λ cs. record w { cores = cs; contents = v.contents; clean = v.clean }) (given_at w.cores p h.core h.there) ∙ ap (λ l. record w { contents = l; clean = v.clean }) contents
+    h.others ∙ ap (λ cs. record w { cores = cs; contents = v.contents; health = v.health }) (given_at w.cores p h.core h.there) ∙ ap (λ l. record w { contents = l; health = v.health }) contents
 
 pub store_refused : (kind : RowKind) (w v : WorldState) (p : ℕ) (fault : StoreError) → IsUp w p → HasCalled kind w p (Err fault) v → IsKnown v → Happened w (event_of kind p) (answers.Refused (refusal_of_store fault)) v
 store_refused Log w v p store_errors.Present up h all = absurd (h.free all refl refl)
-store_refused Log w v p store_errors.Fault up h all = (up, is_same Log w v p store_errors.Fault h all)
+store_refused Log w v p store_errors.Fault up h all = (up, h.counted refl, is_same Log w v p store_errors.Fault h all)
 store_refused Log w v p store_errors.Memory up h all = (up, inl (is_same Log w v p store_errors.Memory h all))
 store_refused Checkpoint w v p store_errors.Present up h all =
     let d = h.did all in
     (up, record { core = h.core; is_core = h.there; held = d.0; is_held = d.2; there = d.4.1 refl }, is_same Checkpoint w v p store_errors.Present h all)
-store_refused Checkpoint w v p store_errors.Fault up h all = (up, is_same Checkpoint w v p store_errors.Fault h all)
+store_refused Checkpoint w v p store_errors.Fault up h all = (up, h.counted refl, is_same Checkpoint w v p store_errors.Fault h all)
 store_refused Checkpoint w v p store_errors.Memory up h all = (up, inl (is_same Checkpoint w v p store_errors.Memory h all))
 
+-- a fault is that of a store which counts it
+pub store_counted : (kind : RowKind) (w v : WorldState) (p : ℕ) (fault : StoreError) → HasCalled kind w p (Err fault) v → IsCounted w v (answers.Refused (refusal_of_store fault))
+store_counted kind w v p store_errors.Present h = λ is. absurd (present_apart is)
+store_counted kind w v p store_errors.Fault h = λ is. (p, h.counted refl)
+store_counted kind w v p store_errors.Memory h = λ is. absurd (memory_apart is)
+
 -- ---- stored, and some rows noted
-clean_mid : (mid v : WorldState) (p count : ℕ) (end : Result (Unit {0}) RecordError) → HasTold mid p count end v → v.clean ≡ mid.clean
-clean_mid mid v p count end t = ap (λ (x : WorldState). x.clean) t.others
+clean_mid : (mid v : WorldState) (p count : ℕ) (end : Result (Unit {0}) RecordError) → HasTold mid p count end v → v.health ≡ mid.health
+clean_mid mid v p count end t = ap (λ (x : WorldState). x.health) t.others
 
 pub known_mid : (mid v : WorldState) (p count : ℕ) (end : Result (Unit {0}) RecordError) → HasTold mid p count end v → IsKnown v → IsKnown mid
 known_mid mid v p count end t all = (subst (All IsEmpty) (ap (λ (x : WorldState). x.origins) t.others) all.0, ap all_clean (sym (clean_mid mid v p count end t)) ∙ all.1)

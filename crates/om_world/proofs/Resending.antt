@@ -61,9 +61,9 @@ is_frame w p c m h s at up f =
 
 -- messages that a process keeps are frames
 pub after_frames : {S : Type 0} (IsSound : S → Type 0) (xs : List S) (w : WorldState) (p : ℕ) (c : CoreState) (few : ℕ → ℕ) (n : ℕ) (fs : List Message) → IsWorld IsSound xs w → IsUp w p → slice_get w.cores p ≡ Some (Some c) → fs ≡ w.frames ++ messages_behind c few n
-    → IsWorld IsSound xs (remade w w.live fs w.cores w.manager w.contents w.clean)
-after_frames IsSound xs w p c few n fs i up at is = subst (λ l. IsWorld IsSound xs (remade w w.live l w.cores w.manager w.contents w.clean)) (sym is) (record {
-  shape = shape_same w w.live (w.frames ++ messages_behind c few n) w.manager w.contents w.clean i.shape refl i.shape.manager refl;
+    → IsWorld IsSound xs (remade w w.live fs w.cores w.manager w.contents w.health)
+after_frames IsSound xs w p c few n fs i up at is = subst (λ l. IsWorld IsSound xs (remade w w.live l w.cores w.manager w.contents w.health)) (sym is) (record {
+  shape = shape_same w w.live (w.frames ++ messages_behind c few n) w.manager w.contents w.health i.shape refl i.shape.manager refl;
   clean = λ all. let s = i.clean all in (
     s.0,
     record {
@@ -88,5 +88,5 @@ after_frames IsSound xs w p c few n fs i up at is = subst (λ l. IsWorld IsSound
 })
 
 -- no message became a frame
-pub frames_stay : {S : Type 0} (IsSound : S → Type 0) (xs : List S) (w : WorldState) (frames : List Message) → IsWorld IsSound xs w → frames ≡ w.frames → IsWorld IsSound xs (remade w w.live frames w.cores w.manager w.contents w.clean)
-frames_stay IsSound xs w frames i same = subst (λ l. IsWorld IsSound xs (remade w w.live l w.cores w.manager w.contents w.clean)) (sym same) i
+pub frames_stay : {S : Type 0} (IsSound : S → Type 0) (xs : List S) (w : WorldState) (frames : List Message) → IsWorld IsSound xs w → frames ≡ w.frames → IsWorld IsSound xs (remade w w.live frames w.cores w.manager w.contents w.health)
+frames_stay IsSound xs w frames i same = subst (λ l. IsWorld IsSound xs (remade w w.live l w.cores w.manager w.contents w.health)) (sym same) i

@@ -4,19 +4,25 @@ use Rattle.std.specs.Prelude.{All, slice_get, slice_index}
 use Rattle.om_interval.specs.Starts.{is_named, newest_of}
 use Rattle.om_stable.specs.Content.{kept_by_cut}
 use Rattle.om_process.specs.declared.replay.ReplayFault.{ReplayFault}
+use Rattle.om_process.specs.declared.replay.ReplayFault.TheVariants.{NoCheckpoint, Damaged, MissingReceipt, Mismatch, Fault, Memory}
 use Rattle.om_process.specs.Core.{CoreState}
 use Rattle.om_process.specs.Stored.{IsReplay}
+use Rattle.om_manager.specs.Sound.{KeepsReleased}
+use Rattle.om_manager.specs.State as managers
 use Rattle.om_manager.specs.State.{ManagerState}
 use Rattle.om_world.specs.declared.event.Answer.TheVariants as answers
 use Rattle.om_world.specs.declared.event.Event.{Event}
 use Rattle.om_world.specs.declared.place.Place.{Place}
-use Rattle.om_world.specs.Changes.{IsSame, IsUp}
+use Rattle.om_world.specs.Changes.{HasFailed, IsSame, IsUp, NoneFell, RoseAt}
 use Rattle.om_world.specs.Failures.{BackHappened, BackStopped, HasNews, IsToComeBack, down, put_up, rolled_back, taken_down}
 use Rattle.om_world.specs.Happened.{Happened}
+use Rattle.om_world.specs.Played.{IsCounted}
 use Rattle.om_world.specs.World.{WorldState, IsEmpty, IsKnown, all_clean, recovered}
-use Rattle.om_world.specs.steps.Moves.{refusal_of_replay}
+use Rattle.om_world.specs.steps.Moves.{Keeps, refusal_of_replay}
 use Rattle.om_world.specs.steps.Returning.{HasLeft, IsBeyond, IsDue, Returns, StaysDown}
 use Rattle.om_world.specs.steps.Sound.{IsWorld}
+use Rattle.om_world.proofs.FailureCounts.{damaged_apart, memory_apart}
+use Rattle.om_world.proofs.Keeping.{keeps_same}
 use Rattle.om_world.proofs.Recording.{set_twice}
 use Rattle.om_world.proofs.Returning.{is_beyond}
 
@@ -36,11 +42,11 @@ record Alike (w mid : WorldState) : Type 0 where
   rounds : mid.rounds ≡ w.rounds
   manager : mid.manager ≡ w.manager
   contents : mid.contents ≡ w.contents
-  clean : mid.clean ≡ w.clean
+  health : mid.health ≡ w.health
   origins : mid.origins ≡ w.origins
 
 alike : (w mid : WorldState) (p : ℕ) → IsFrom w p mid → Alike w mid
-alike w mid p from = elim from [ inl same ↦ subst (Alike w) (sym same) (record { programs = refl; rounds = refl; manager = refl; contents = refl; clean = refl; origins = refl }) | inr same ↦ subst (Alike w) (sym same) (record { programs = refl; rounds = refl; manager = refl; contents = refl; clean = refl; origins = refl }) ]
+alike w mid p from = elim from [ inl same ↦ subst (Alike w) (sym same) (record { programs = refl; rounds = refl; manager = refl; contents = refl; health = refl; origins = refl }) | inr same ↦ subst (Alike w) (sym same) (record { programs = refl; rounds = refl; manager = refl; contents = refl; health = refl; origins = refl }) ]
 
 -- the process comes up the same from both
 same_up : (w mid : WorldState) (p : ℕ) (core : CoreState) → IsFrom w p mid → put_up mid p core ≡ put_up w p core
@@ -51,9 +57,9 @@ same_up w mid p core from = elim from [
       ∙ ap (λ l. record (put_up w p core) { places = l }) (set_twice w.places p (Place.Down false) Place.Up)
 ]
 
-known_then : (w mid v : WorldState) (p : ℕ) → IsFrom w p mid → v.origins ≡ mid.origins → (all_clean v.clean ≡ true → all_clean mid.clean ≡ true) → IsKnown v → IsKnown w
+known_then : (w mid v : WorldState) (p : ℕ) → IsFrom w p mid → v.origins ≡ mid.origins → (all_clean v.health ≡ true → all_clean mid.health ≡ true) → IsKnown v → IsKnown w
 known_then w mid v p from origins clean known =
-    let a = alike w mid p from in (subst (All IsEmpty) (origins ∙ a.origins) known.0, subst (λ l. all_clean l ≡ true) a.clean (clean known.1))
+    let a = alike w mid p from in (subst (All IsEmpty) (origins ∙ a.origins) known.0, subst (λ l. all_clean l ≡ true) a.health (clean known.1))
 
 -- ---- it came back
 pub back_happened : (w mid v : WorldState) (p interval inc : ℕ) → IsToComeBack w p → (IsKnown w → IsBeyond w p) → HasLeft w p mid → Returns mid p (Ok (interval, inc)) v → IsKnown v → BackHappened w p interval inc v
@@ -81,7 +87,7 @@ back_happened w mid v p interval inc due beyond left r known =
       is_before = ap (λ l. slice_get l p) (sym a.contents) ∙ d.1;
       replay = subst (λ x. IsReplay d.0 x core) (sym at) d.2;
       contents = d.4 ∙ ap (λ l. set l p (kept_by_cut d.0 (slice_index mid.manager.last p))) a.contents ∙ ap (λ x. set w.contents p (kept_by_cut d.0 x)) (sym at);
-      others = h.others ∙ ap (λ (x : WorldState). record x { contents = v.contents; clean = v.clean }) (same_up w mid p core from);
+      others = h.others ∙ ap (λ (x : WorldState). record x { contents = v.contents; health = v.health }) (same_up w mid p core from);
     }
   where
     was_beyond : (w : WorldState) (p : ℕ) (c : CoreState) → IsToComeBack w p → IsBeyond w p → slice_get w.places p ≡ Some Place.In → slice_get w.cores p ≡ Some (Some c) → recovered w.manager p < c.now.interval
@@ -93,13 +99,45 @@ stopped : (w mid v : WorldState) (p : ℕ) → IsToComeBack w p → HasLeft w p 
 stopped w mid v p (down declared place news) left same = inl (down declared place news, declared, place, subst (λ (x : WorldState). IsSame x v) (left.1 (λ joined. down_or_in declared (sym place ∙ joined))) same)
 stopped w mid v p (rolled_back joined news back) left same = inr (rolled_back joined news back, joined, subst (λ (x : WorldState). IsSame x v) (left.0 joined) same)
 
+failed_from : (w mid v : WorldState) (p : ℕ) → IsToComeBack w p → HasLeft w p mid → StaysDown mid p Fault v → HasFailed w p v
+failed_from w mid v p due left d = subst (λ l. RoseAt l p v.health) (alike w mid p (from_left w mid p due left)).health (d.counted refl)
+
 pub back_stopped : (w mid v : WorldState) (p : ℕ) (fault : ReplayFault) → IsToComeBack w p → HasLeft w p mid → StaysDown mid p fault v → IsKnown v → Happened w (Event.Resume p) (answers.Refused (refusal_of_replay fault)) v
 back_stopped w mid v p why due left d known =
-    let s = stopped w mid v p due left (d.others ∙ ap (λ l. record mid { contents = l; clean = v.clean }) (d.same known)) in
+    let s = stopped w mid v p due left (d.others ∙ ap (λ l. record mid { contents = l; health = v.health }) (d.same known)) in
     elim (d.why known) [
-      | inl is ↦ subst (λ f. Happened w (Event.Resume p) (answers.Refused (refusal_of_replay f)) v) (sym is) s
+      | inl is ↦ subst (λ f. Happened w (Event.Resume p) (answers.Refused (refusal_of_replay f)) v) (sym is)
+          (failed_from w mid v p due left (subst (λ f. StaysDown mid p f v) is d), s)
       | inr is ↦ subst (λ f. Happened w (Event.Resume p) (answers.Refused (refusal_of_replay f)) v) (sym is) (inl s)
     ]
+
+pub back_counted : (w mid v : WorldState) (p : ℕ) (fault : ReplayFault) → IsToComeBack w p → HasLeft w p mid → StaysDown mid p fault v → IsCounted w v (answers.Refused (refusal_of_replay fault))
+back_counted w mid v p Fault due left d = λ is. (p, failed_from w mid v p due left d)
+back_counted w mid v p NoCheckpoint due left d = λ is. absurd (damaged_apart is)
+back_counted w mid v p (Damaged y) due left d = λ is. absurd (damaged_apart is)
+back_counted w mid v p (MissingReceipt y) due left d = λ is. absurd (damaged_apart is)
+back_counted w mid v p (Mismatch y) due left d = λ is. absurd (damaged_apart is)
+back_counted w mid v p Memory due left d = λ is. absurd (memory_apart is)
+
+-- ---- what it leaves
+left_keeps : (w mid v : WorldState) (p : ℕ) → IsToComeBack w p → HasLeft w p mid → v.manager ≡ mid.manager → v.origins ≡ mid.origins → (all_clean v.health ≡ true → all_clean mid.health ≡ true) → NoneFell mid.health v.health → Keeps w v
+left_keeps w mid v p due left manager origins clean counts =
+    let a = alike w mid p (from_left w mid p due left) in
+    record {
+      size = ap managers.size_of (manager ∙ a.manager);
+      released = subst (λ m. KeepsReleased w.manager m) (sym (manager ∙ a.manager)) (keeps_same w.manager);
+      clean = λ all. subst (λ l. all_clean l ≡ true) a.health (clean all);
+      counts = subst (λ l. NoneFell l v.health) a.health counts;
+      origins = origins ∙ a.origins;
+    }
+
+pub back_keeps : (w mid v : WorldState) (p interval inc : ℕ) → IsToComeBack w p → HasLeft w p mid → Returns mid p (Ok (interval, inc)) v → Keeps w v
+back_keeps w mid v p interval inc due left r = let h = r.1 in
+    left_keeps w mid v p due left (ap (λ (x : WorldState). x.manager) h.others) (ap (λ (x : WorldState). x.origins) h.others) h.was_clean h.counts
+
+pub stays_keeps : (w mid v : WorldState) (p : ℕ) (fault : ReplayFault) → IsToComeBack w p → HasLeft w p mid → StaysDown mid p fault v → Keeps w v
+stays_keeps w mid v p why due left d =
+    left_keeps w mid v p due left (ap (λ (x : WorldState). x.manager) d.others) (ap (λ (x : WorldState). x.origins) d.others) d.was_clean d.counts
 
 -- ---- who is to come up again
 pub no_news : {S : Type 0} (IsSound : S → Type 0) (xs : List S) (w : WorldState) (p : ℕ) → IsWorld IsSound xs w → IsUp w p → HasNews w p → IsKnown w → ⊥

@@ -32,14 +32,14 @@ use Rattle.om_manager.specs.declared.presence.Presence.TheVariants.{Away, Failed
 use Rattle.om_world.specs.declared.place.Place.{Place}
 use Rattle.om_world.specs.Failures.{HasNews, IsToGoOn, put_up}
 use Rattle.om_world.specs.Live.{program_at}
-use Rattle.om_world.specs.World.{WorldState, Past, past_of, history, recovered}
+use Rattle.om_world.specs.World.{Health, WorldState, Past, past_of, history, recovered}
 use Rattle.om_world.specs.steps.Returning.{IsBackIn, IsBeyond}
 use Rattle.om_world.specs.steps.Sound.{HasBytes, HasShape, IsCoreOf, IsOld, IsRunning, IsStored, IsUpIn, KeptWithin, LogOf, Runs, Sound}
 use Rattle.om_world.proofs.Kept.{kept_grown}
 use Rattle.om_world.proofs.Legal.{take_take}
-use Rattle.om_world.proofs.Lists.{at_change, either, none_in, none_some, once, set_apart, there}
+use Rattle.om_world.proofs.Lists.{at_change, either, none_in, none_some, once, set_apart, set_there, there}
 use Rattle.om_world.proofs.Raising.{recovery_within}
-use Rattle.om_world.proofs.Recording.{set_back, set_there}
+use Rattle.om_world.proofs.Recording.{set_back}
 
 -- ---- records of a store
 has_some : (o : Option (List ℕ)) (x : List ℕ) → o ≡ Some x → IsSome o
@@ -312,8 +312,8 @@ replayed_at w p held core h s lt news at own size r =
     one_reading a b bytes x y = (one_checkpoint bytes x.0 y.0 a b x.1 y.1).1
 
 -- ---- the world in which it is up again
-abbrev pub come_back : WorldState → ℕ → CoreState → List Content → List Bool → WorldState
-come_back w p core contents clean = record (put_up w p core) { contents = contents; clean = clean }
+abbrev pub come_back : WorldState → ℕ → CoreState → List Content → List Health → WorldState
+come_back w p core contents health = record (put_up w p core) { contents = contents; health = health }
 
 round_here : (rounds : List ℕ) (p x : ℕ) → p < length rounds → slice_index (set rounds p x) p ≡ x
 round_here [] p x lt = absurd (omega arith)
@@ -402,9 +402,9 @@ back_running w p a core h s lt news at b r =
       };
     }
 
-pub shape_back : (w : WorldState) (p : ℕ) (core : CoreState) (contents : List Content) (clean : List Bool) → HasShape w → p < length w.programs → core.own ≡ p → size_of core.now ≡ length w.programs → length contents ≡ length w.contents
-    → HasShape (come_back w p core contents clean)
-shape_back w p core contents clean h lt own size long = record {
+pub shape_back : (w : WorldState) (p : ℕ) (core : CoreState) (contents : List Content) (health : List Health) → HasShape w → p < length w.programs → core.own ≡ p → size_of core.now ≡ length w.programs → length contents ≡ length w.contents
+    → HasShape (come_back w p core contents health)
+shape_back w p core contents health h lt own size long = record {
   few = h.few;
   stores = long ∙ h.stores;
   cores = length-set w.cores p (Some core) ∙ h.cores;
@@ -427,9 +427,9 @@ shape_back w p core contents clean h lt own size long = record {
     here = let long = h.cores in let was = there w.cores p (omega arith) in set_there w.cores p was.0 (Some core) was.1
 
 -- a world whose process p is up with this core, where its claims hold
-up_again : (w : WorldState) (p : ℕ) (core : CoreState) (a b : Content) (clean : List Bool) → HasShape w → Sound w → p < length w.programs → HasNews w p → slice_get w.contents p ≡ Some a → IsUpIn w.manager p core → IsRunning (past_of w) p b core → IsStored (past_of w) p b
-    → ((row : noted.Row) → HasRow w.manager.rows row → row.pid ≡ p → HasBytes a row.kind row.interval → HasBytes b row.kind row.interval) → Sound (come_back w p core (set w.contents p b) clean)
-up_again w p core a b clean h s lt news at up run stored keeps =
+up_again : (w : WorldState) (p : ℕ) (core : CoreState) (a b : Content) (health : List Health) → HasShape w → Sound w → p < length w.programs → HasNews w p → slice_get w.contents p ≡ Some a → IsUpIn w.manager p core → IsRunning (past_of w) p b core → IsStored (past_of w) p b
+    → ((row : noted.Row) → HasRow w.manager.rows row → row.pid ≡ p → HasBytes a row.kind row.interval → HasBytes b row.kind row.interval) → Sound (come_back w p core (set w.contents p b) health)
+up_again w p core a b health h s lt news at up run stored keeps =
     let v = past_of w in
     let round = w.manager.round in
     record {
@@ -503,11 +503,11 @@ up_again w p core a b clean h s lt news at up run stored keeps =
     no_more : (a b : ℕ) → a ≡ b → a < b → ⊥
     no_more a b e lt = omega arith
 
-pub sound_back : (w : WorldState) (p : ℕ) (a : Content) (core : CoreState) (clean : List Bool) → HasShape w → Sound w → p < length w.programs → HasNews w p → slice_get w.contents p ≡ Some a → IsBackIn w.manager p core → IsReplay a (slice_index w.manager.last p) core
-    → Sound (come_back w p core (set w.contents p (kept_by_cut a (slice_index w.manager.last p))) clean)
-sound_back w p a core clean h s lt news at b r =
+pub sound_back : (w : WorldState) (p : ℕ) (a : Content) (core : CoreState) (health : List Health) → HasShape w → Sound w → p < length w.programs → HasNews w p → slice_get w.contents p ≡ Some a → IsBackIn w.manager p core → IsReplay a (slice_index w.manager.last p) core
+    → Sound (come_back w p core (set w.contents p (kept_by_cut a (slice_index w.manager.last p))) health)
+sound_back w p a core health h s lt news at b r =
     let x = slice_index w.manager.last p in
-    up_again w p core a (kept_by_cut a x) clean h s lt news at (record { round = b.round; starts = b.starts; inc = b.inc; away = is_away w p s news }) (back_running w p a core h s lt news at b r) (cut_stored (past_of w) p x a (s.stored p a at))
+    up_again w p core a (kept_by_cut a x) health h s lt news at (record { round = b.round; starts = b.starts; inc = b.inc; away = is_away w p s news }) (back_running w p a core h s lt news at b r) (cut_stored (past_of w) p x a (s.stored p a at))
     (λ row has same old. record_kept a x row.interval row.kind
     (let behind = s.behind p lt news in let le = (s.rows row has).0 in subst (λ k. row.interval ≤ k) behind (subst (λ o. row.interval ≤ length (history (past_of w) o)) same le)) old)
 
@@ -519,8 +519,8 @@ sound_on w p c h s lt due at =
     let runs : Runs w p = inr (due.joined, λ news. due.kept) in
     let r = s.running p c store.0 at store.1 runs in
     let d = resumed c w.manager.round w.manager.starts in
-    subst (λ l. Sound (come_back w p d l w.clean)) (set_back w.contents p store.0 store.1)
-    (up_again w p d store.0 store.0 w.clean h s lt due.news store.1 (record { round = refl; starts = refl; inc = s.inside p c at due.joined runs; away = is_away w p s due.news })
+    subst (λ l. Sound (come_back w p d l w.health)) (set_back w.contents p store.0 store.1)
+    (up_again w p d store.0 store.0 w.health h s lt due.news store.1 (record { round = refl; starts = refl; inc = s.inside p c at due.joined runs; away = is_away w p s due.news })
     (record { state = r.state; kept = r.kept; log = r.log; pending = r.pending; above = record { receipts = r.above.receipts; checkpoints = r.above.checkpoints } }) (s.stored p store.0 store.1) (λ row has same old. old))
 
 -- whom the round rolls back without a failure was beyond its place of the recovery state

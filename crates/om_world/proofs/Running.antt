@@ -18,8 +18,8 @@ use Rattle.om_world.specs.Happened.{Happened, HasRun}
 use Rattle.om_world.specs.World.{WorldState, IsKnown, all_clean}
 use Rattle.om_world.specs.steps.Moves.{GoesOn, HasRunAt, Keeps}
 use Rattle.om_world.specs.steps.Running.{AreKept, HasHandedIn, HasSent, KeepsMore, messages_past, refusal_of_output}
-use Rattle.om_world.proofs.Lists.{once}
-use Rattle.om_world.proofs.Recording.{set_there}
+use Rattle.om_world.proofs.FailureCounts.{counts_by}
+use Rattle.om_world.proofs.Lists.{once, set_there}
 use Rattle.om_world.proofs.Sending.{behind_same, grown_at}
 
 same_core : (cs : List (Option CoreState)) (p : ℕ) (c d : CoreState) → slice_get cs p ≡ Some (Some c) → slice_get cs p ≡ Some (Some d) → c ≡ d
@@ -117,7 +117,8 @@ keeps_by : (w v u z : WorldState) (p fuel : ℕ) → HasWent w p fuel v → u �
 keeps_by w v u z p fuel t e f size keeps = record {
   size = size ∙ ap (λ (x : WorldState). managers.size_of x.manager) e ∙ ap (λ (x : WorldState). managers.size_of x.manager) t.1;
   released = subst (λ m. KeepsReleased m z.manager) (ap (λ (x : WorldState). x.manager) e ∙ ap (λ (x : WorldState). x.manager) t.1) keeps;
-  clean = λ all. ap all_clean (sym (ap (λ (x : WorldState). x.clean) f ∙ ap (λ (x : WorldState). x.clean) e ∙ ap (λ (x : WorldState). x.clean) t.1)) ∙ all;
+  clean = λ all. ap all_clean (sym (ap (λ (x : WorldState). x.health) f ∙ ap (λ (x : WorldState). x.health) e ∙ ap (λ (x : WorldState). x.health) t.1)) ∙ all;
+  counts = counts_by w.health z.health (ap (λ (x : WorldState). x.health) f ∙ ap (λ (x : WorldState). x.health) e ∙ ap (λ (x : WorldState). x.health) t.1);
   origins = ap (λ (x : WorldState). x.origins) f ∙ ap (λ (x : WorldState). x.origins) e ∙ ap (λ (x : WorldState). x.origins) t.1;
 }
 

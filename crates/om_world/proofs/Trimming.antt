@@ -74,13 +74,13 @@ abbrev pub IsTrimmedIn : WorldState → ℕ → List ℕ → ℕ → List (Optio
 IsTrimmedIn w p got released cs = (c : CoreState) × (slice_get w.cores p ≡ Some (Some c)) × (cs ≡ set w.cores p (Some (trimmed_core c got released)))
 
 pub after_trim : {S : Type 0} (IsSound : S → Type 0) (xs : List S) (w : WorldState) (p : ℕ) (got : List ℕ) (released : ℕ) (cs : List (Option CoreState)) → IsWorld IsSound xs w → p < length w.programs
-    → AreGotFrom w.manager.rows w.manager.recovery p got → released ≡ length (released_by w.manager p) → IsTrimmedIn w p got released cs → IsWorld IsSound xs (remade w w.live w.frames cs w.manager w.contents w.clean)
+    → AreGotFrom w.manager.rows w.manager.recovery p got → released ≡ length (released_by w.manager p) → IsTrimmedIn w p got released cs → IsWorld IsSound xs (remade w w.live w.frames cs w.manager w.contents w.health)
 after_trim IsSound xs w p got released cs i lt g is t =
     let c = t.0 in let at = t.1 in
     let d = trimmed_core c got released in
     let size = i.shape.size in let places = g.places in
-    subst (λ l. IsWorld IsSound xs (remade w w.live w.frames l w.manager w.contents w.clean)) (sym t.2) (record {
-      shape = shape_core w p c d w.live w.frames w.manager w.contents w.clean i.shape at refl refl refl i.shape.manager refl;
+    subst (λ l. IsWorld IsSound xs (remade w w.live w.frames l w.manager w.contents w.health)) (sym t.2) (record {
+      shape = shape_core w p c d w.live w.frames w.manager w.contents w.health i.shape at refl refl refl i.shape.manager refl;
       clean = λ all.
           let s = i.clean all in (
             s.0,
@@ -97,6 +97,6 @@ after_trim IsSound xs w p got released cs i lt g is t =
     })
 
 pub trim_happened : (w : WorldState) (p : ℕ) (got : List ℕ) (released : ℕ) (cs : List (Option CoreState)) → IsUp w p → AreGotFrom w.manager.rows w.manager.recovery p got → released ≡ length (released_by w.manager p) → IsTrimmedIn w p got released cs
-    → TrimHappened w p (remade w w.live w.frames cs w.manager w.contents w.clean)
+    → TrimHappened w p (remade w w.live w.frames cs w.manager w.contents w.health)
 trim_happened w p got released cs up g is t =
-    (up, t.0, t.1, got, g, ap (λ l. remade w w.live w.frames l w.manager w.contents w.clean) (t.2 ∙ ap (λ k. set w.cores p (Some (trimmed_core t.0 got k))) is))
+    (up, t.0, t.1, got, g, ap (λ l. remade w w.live w.frames l w.manager w.contents w.health) (t.2 ∙ ap (λ k. set w.cores p (Some (trimmed_core t.0 got k))) is))

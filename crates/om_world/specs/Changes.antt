@@ -5,6 +5,7 @@ use Rattle.om_format.specs.declared.queue.Entry as kept
 use Rattle.om_format.specs.declared.message.Message.{Message}
 use Rattle.om_format.specs.Queues.{queue_end}
 use Rattle.om_stable.specs.Content.{Content}
+use Rattle.om_stable.specs.Count.{Rose}
 use Rattle.om_process.specs.declared.row.Row as pending
 use Rattle.om_process.specs.Core.{CoreState, size_of, with_pending}
 use Rattle.om_process.specs.Frames.{messages_to, outputs_of}
@@ -17,7 +18,7 @@ use Rattle.om_manager.specs.Notes.{Notes}
 use Rattle.om_manager.specs.Outputs.{HeldOutput}
 use Rattle.om_manager.specs.State.{ManagerState, held_by}
 use Rattle.om_world.specs.declared.place.Place.{Place}
-use Rattle.om_world.specs.World.{WorldState}
+use Rattle.om_world.specs.World.{Health, WorldState}
 pub use Rattle.om_member.specs.Told.{row_for}
 
 -- what was received stays, and who is up
@@ -28,9 +29,26 @@ pub record Stays (old new : WorldState) : Type 0 where
   pub rounds : new.rounds ≡ old.rounds
   pub origins : new.origins ≡ old.origins
 
--- all stays but what is known of the stores
+-- all stays but how the stores stand
 abbrev pub IsSame : WorldState → WorldState → Type 0
-IsSame old new = new ≡ record old { clean = new.clean }
+IsSame old new = new ≡ record old { health = new.health }
+
+-- the count of failures of the store at a place rose
+pub record RoseAt (old : List Health) (p : ℕ) (new : List Health) : Type 0 where
+  pub before : Health
+  pub after : Health
+  pub is_before : slice_get old p ≡ Some before
+  pub is_after : slice_get new p ≡ Some after
+  pub rose : Rose before.failed after.failed
+
+-- no store counts fewer failures than before
+pub record NoneFell (old new : List Health) : Type 0 where
+  pub many : length new ≡ length old
+  pub counts : (p : ℕ) (before after : Health) → slice_get old p ≡ Some before → slice_get new p ≡ Some after → before.failed ≤ after.failed
+
+-- the store of process p failed, and counts it
+abbrev pub HasFailed : WorldState → ℕ → WorldState → Type 0
+HasFailed old p new = RoseAt old.health p new.health
 
 abbrev pub IsUp : WorldState → ℕ → Type 0
 IsUp w p = slice_get w.places p ≡ Some Place.Up

@@ -129,7 +129,7 @@ pub record BackHappened (old : WorldState) (p interval inc : ℕ) (new : WorldSt
   pub is_before : slice_get old.contents p ≡ Some before
   pub replay : IsReplay before interval core
   pub contents : new.contents ≡ slice_set old.contents p (kept_by_cut before interval)
-  pub others : new ≡ record (put_up old p core) { contents = new.contents; clean = new.clean }
+  pub others : new ≡ record (put_up old p core) { contents = new.contents; health = new.health }
 
 -- a newer round is finished, and the process is in and not rolled back
 pub record IsToGoOn (w : WorldState) (p : ℕ) : Type 0 where

@@ -23,7 +23,7 @@ use Rattle.om_world.specs.declared.event.Refusal.{Refusal}
 use Rattle.om_world.specs.declared.event.Refusal.TheVariants as refusals
 use Rattle.om_world.specs.World.{WorldState, recovered, entry_of}
 use Rattle.om_world.specs.Failures.{BackHappened, BackStopped, DownHappened, FailHappened, FailRefused, GoOnHappened, HasNews, IsDeclared, IsToGoOn, JoinHappened, JoinStopped}
-use Rattle.om_world.specs.Changes.{IsSame, IsUp, Changes, new_messages, all_messages, made_by, HoldsMore, stored, HasStored, HasNoted, StoreStopped}
+use Rattle.om_world.specs.Changes.{HasFailed, IsSame, IsUp, Changes, new_messages, all_messages, made_by, HoldsMore, stored, HasStored, HasNoted, StoreStopped}
 
 -- ---- a run
 -- the process took as many turns as there are, up to the fuel
@@ -116,14 +116,14 @@ pub record PruneHappened (old new : WorldState) : Type 0 where
   pub manager : ManagerPruned old.manager new.manager
   pub stores : (p : ℕ) (before : Content) → slice_get old.contents p ≡ Some before
       → (after : Content) × (slice_get new.contents p ≡ Some after) × StorePruned new p before after
-  pub others : new ≡ record old { manager = new.manager; contents = new.contents; clean = new.clean }
+  pub others : new ≡ record old { manager = new.manager; contents = new.contents; health = new.health }
 
 -- a store refused: the manager is pruned, and some of the stores
 pub record PruneStopped (old new : WorldState) : Type 0 where
   pub manager : ManagerPruned old.manager new.manager
   pub stores : (p : ℕ) (before : Content) → slice_get old.contents p ≡ Some before
       → (after : Content) × (slice_get new.contents p ≡ Some after) × ((after ≡ before) ⊎ StorePruned new p before after)
-  pub others : new ≡ record old { manager = new.manager; contents = new.contents; clean = new.clean }
+  pub others : new ≡ record old { manager = new.manager; contents = new.contents; health = new.health }
 
 -- ---- all events
 -- an event of a process that is not there, or is not up; no other refusal is meant
@@ -132,7 +132,7 @@ NotRunning old p refusals.NoProcess new = (length old.programs ≤ p) × (new �
 NotRunning old p refusals.NotUp new = (p < length old.programs) × (IsUp old p → ⊥) × (new ≡ old)
 NotRunning old p why new = ⊥
 
--- why an event is refused, and what it leaves. Where all stores are clean, none is damaged
+-- why an event is refused, and what it leaves. A fault is that of a store which counts it. Where all stores are clean, none is damaged
 abbrev pub Refused : WorldState → Event → Refusal → WorldState → Type 0
 Refused old (Event.Run p fuel) refusals.Memory new = RunStopped old p fuel new
 Refused old (Event.Run p fuel) why new = NotRunning old p why new
@@ -140,17 +140,17 @@ Refused old (Event.Give p f) refusals.NoFrame new = IsUp old p × (length old.fr
 Refused old (Event.Give p f) refusals.Memory new = (m : Message) × (c : CoreState) × IsOffer old p f m c × (new ≡ old)
 Refused old (Event.Give p f) why new = NotRunning old p why new
 Refused old (Event.Flush p) refusals.Memory new = IsUp old p × StoreStopped Log old p new
-Refused old (Event.Flush p) refusals.Fault new = IsUp old p × IsSame old new
+Refused old (Event.Flush p) refusals.Fault new = IsUp old p × HasFailed old p new × IsSame old new
 Refused old (Event.Flush p) why new = NotRunning old p why new
 Refused old (Event.Checkpoint p) refusals.Memory new = IsUp old p × StoreStopped Checkpoint old p new
-Refused old (Event.Checkpoint p) refusals.Fault new = IsUp old p × IsSame old new
+Refused old (Event.Checkpoint p) refusals.Fault new = IsUp old p × HasFailed old p new × IsSame old new
 Refused old (Event.Checkpoint p) refusals.Present new = IsUp old p × HasCheckpoint old p × IsSame old new
 Refused old (Event.Checkpoint p) why new = NotRunning old p why new
 Refused old (Event.Resend p) refusals.Memory new = IsUp old p × (new ≡ old)
 Refused old (Event.Resend p) why new = NotRunning old p why new
 Refused old (Event.Trim p) why new = NotRunning old p why new
 Refused old Event.Prune refusals.Memory new = PruneStopped old new
-Refused old Event.Prune refusals.Fault new = PruneStopped old new
+Refused old Event.Prune refusals.Fault new = ((p : ℕ) × HasFailed old p new) × PruneStopped old new
 Refused old Event.Prune why new = ⊥
 Refused old (Event.Fail p) refusals.NoProcess new = (length old.programs ≤ p) × (new ≡ old)
 Refused old (Event.Fail p) refusals.NotUp new = IsDeclared old p × (new ≡ old)
@@ -160,12 +160,12 @@ Refused old (Event.Fail p) refusals.Memory new =
 Refused old (Event.Fail p) why new = ⊥
 Refused old (Event.Join p) refusals.NoRound new = IsUp old p × (old.manager.gathering ≡ None) × (new ≡ old)
 Refused old (Event.Join p) refusals.Memory new = IsUp old p × (old.manager.gathering ≢ None) × JoinStopped old p new
-Refused old (Event.Join p) refusals.Fault new = IsUp old p × (old.manager.gathering ≢ None) × IsSame old new
+Refused old (Event.Join p) refusals.Fault new = IsUp old p × (old.manager.gathering ≢ None) × HasFailed old p new × IsSame old new
 Refused old (Event.Join p) why new = NotRunning old p why new
 Refused old (Event.Resume p) refusals.NoProcess new = (length old.programs ≤ p) × (new ≡ old)
 Refused old (Event.Resume p) refusals.NotIn new = (p < length old.programs) × (HasNews old p → ⊥) × (new ≡ old)
 Refused old (Event.Resume p) refusals.Memory new = BackStopped old p new ⊎ (IsToGoOn old p × (new ≡ old))
-Refused old (Event.Resume p) refusals.Fault new = BackStopped old p new
+Refused old (Event.Resume p) refusals.Fault new = HasFailed old p new × BackStopped old p new
 Refused old (Event.Resume p) why new = ⊥
 
 -- what an event does, by its answer

@@ -1,11 +1,12 @@
 -- Events that are played in order.
-use Rattle.std.specs.Prelude.{◌≡◌, ◌≢◌, List, [], ◌∷◌}
+use Rattle.std.specs.Prelude.{◌≡◌, ◌≢◌, ℕ, List, [], ◌∷◌}
 use Rattle.om_manager.specs.Sound.{KeepsReleased}
 use Rattle.om_world.specs.declared.event.Event.{Event}
 use Rattle.om_world.specs.declared.event.Answer.{Answer}
 use Rattle.om_world.specs.declared.event.Answer.TheVariants.{Refused}
 use Rattle.om_world.specs.declared.event.Refusal.TheVariants.{Fault}
 use Rattle.om_world.specs.World.{WorldState}
+use Rattle.om_world.specs.Changes.{HasFailed}
 use Rattle.om_world.specs.Holds.{Holds}
 use Rattle.om_world.specs.Happened.{Happened}
 
@@ -25,3 +26,7 @@ Played old (e ∷ es) [] new = ⊥
 -- an event was answered with anything but a fault of a store
 abbrev pub IsFaultless : Answer → Type 0
 IsFaultless answer = answer ≢ Refused Fault
+
+-- an event that was answered with a fault is counted: some store counts more failures than before
+abbrev pub IsCounted : WorldState → WorldState → Answer → Type 0
+IsCounted old new answer = answer ≡ Refused Fault → (p : ℕ) × HasFailed old p new

@@ -14,6 +14,11 @@ use Rattle.om_world.specs.declared.entry.Entry.{Entry}
 use Rattle.om_world.specs.declared.place.Place.{Place}
 use Rattle.om_world.specs.Live.{received}
 
+-- how a store stands: whether what it holds is known, and how often it has failed
+pub record Health : Type 0 where
+  pub clean : Bool
+  pub failed : ℕ
+
 pub record WorldState : Type 0 where
   pub programs : List Program  -- by process
   pub live : List Entry  -- what was received and not cut, in order
@@ -23,16 +28,20 @@ pub record WorldState : Type 0 where
   pub rounds : List ℕ  -- by process, how many rounds were finished when it was last up
   pub manager : ManagerState
   pub contents : List Content  -- by process, what its store holds
-  pub clean : List Bool  -- by process, whether that is known
+  pub health : List Health  -- by process, how its store stands
   pub origins : List Content  -- by process, what its store held before the start
 
 -- an image as a program
 abbrev pub program_of : Image → Program
 program_of image = record { image = image.bytes.items; size = image.size; ext = image.ext }
 
+-- how a store of some type stands
+abbrev pub health_of : {S : Type 0} → (S → Bool) → (S → ℕ) → S → Health
+health_of is_clean failed store = record { clean = is_clean store; failed = failed store }
+
 -- what each store holds is known
-abbrev pub all_clean : List Bool → Bool
-all_clean = list_all (λ clean. clean)
+abbrev pub all_clean : List Health → Bool
+all_clean = list_all (λ (store : Health). store.clean)
 
 -- a store holds nothing
 abbrev pub IsEmpty : Content → Type 0
@@ -40,7 +49,7 @@ IsEmpty held = held ≡ record { receipts = empty; checkpoints = empty }
 
 -- the stores held nothing before the start, and what each holds now is known
 abbrev pub IsKnown : WorldState → Type 0
-IsKnown w = All IsEmpty w.origins × (all_clean w.clean ≡ true)
+IsKnown w = All IsEmpty w.origins × (all_clean w.health ≡ true)
 
 -- what the claims on processes speak of
 pub record Past : Type 0 where

@@ -7,3 +7,4 @@ pub mod Pruning
 pub mod Counts
 pub mod Gathering
 pub mod Returning
+pub mod Codes

@@ -87,7 +87,7 @@ pub enum Refusal {
     Spent,
     /// The process's store has a record of that kind of its interval.
     Present,
-    /// The process's store failed.
+    /// The process's store failed, at a prune some store, and its count of failures rose.
     Fault,
     /// The manager refused a row, an output, a failure or a join, or the process is not replayed from its store. Over stores that
     /// held nothing at the start and are clean, this does not come.

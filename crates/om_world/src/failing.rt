@@ -5,6 +5,7 @@ ghost use Rattle.om_interval.specs.declared.pid.TheConstants.{MAX_PROCESSES};
 ghost use Rattle.om_manager.specs.Rounds.{Failing};
 ghost use Rattle.om_world.specs.Failures.{live_after};
 ghost use Rattle.om_world.specs.Happened.{Happened};
+ghost use Rattle.om_world.specs.Played.{IsFaultless};
 ghost use Rattle.om_world.specs.World.{IsKnown};
 ghost use Rattle.om_world.specs.declared.event.Event.{Event};
 ghost use Rattle.om_world.specs.declared.place.Place.{Place};
@@ -99,6 +100,7 @@ impl<S: Stable> World<S> {
     pub(crate) fn fail(&mut self, alloc: Global, p: usize) -> Result<Answer, Refusal>
         ensures happened { IsKnown self.new → Happened self.old (Event.Fail p) (answered result) self.new }
         ensures keeps { Keeps self.old self.new }
+        ensures faultless { IsFaultless (answered result) }
     {
         if p >= self.images.len() {
             return Err(Refusal::NoProcess);

@@ -2,6 +2,7 @@
 
 ghost use Rattle.std.specs.Prelude.{ℕ, ◌≡◌, ◌≤◌, ◌<◌, ◌++◌, drop, length, slice_get, slice_index, Some, IfOk, OnErr, OnOk};
 ghost use Rattle.om_world.specs.declared.event.Event.{Event};
+ghost use Rattle.om_world.specs.Played.{IsFaultless};
 ghost use Rattle.om_world.specs.steps.Moves.{HasCore, Keeps, answered};
 ghost use Rattle.om_world.specs.steps.Running.{HasSent, KeepsMore, messages_past};
 ghost use Rattle.om_process.specs.Core.{CoreState, size_of};
@@ -110,6 +111,7 @@ impl<S: Stable> World<S> {
     pub(crate) fn resend(&mut self, alloc: Global, p: usize) -> Result<Answer, Refusal>
         ensures happened { Happened self.old (Event.Resend p) (answered result) self.new }
         ensures keeps { Keeps self.old self.new }
+        ensures faultless { IsFaultless (answered result) }
     {
         self.is_up(p)?;
         let mut frames = frames_at(&self.cores, p, alloc)?;

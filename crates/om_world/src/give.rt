@@ -2,6 +2,7 @@
 
 ghost use Rattle.std.specs.Prelude.{◌≡◌, IfOk};
 ghost use Rattle.om_world.specs.Happened.{Happened};
+ghost use Rattle.om_world.specs.Played.{IsFaultless};
 ghost use Rattle.om_world.specs.World.{entry_of};
 ghost use Rattle.om_world.specs.declared.event.Event.{Event};
 ghost use Rattle.om_world.specs.steps.Moves.{HasCore, IsOffered, Keeps, answered};
@@ -43,6 +44,7 @@ impl<S: Stable> World<S> {
     pub(crate) fn give(&mut self, alloc: Global, p: usize, f: usize) -> Result<Answer, Refusal>
         ensures happened { Happened self.old (Event.Give p f) (answered result) self.new }
         ensures keeps { Keeps self.old self.new }
+        ensures faultless { IsFaultless (answered result) }
     {
         self.is_up(p)?;
         if f >= self.frames.len() {

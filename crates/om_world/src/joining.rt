@@ -5,7 +5,7 @@ ghost use Rattle.om_interval.specs.declared.pid.TheConstants.{MAX_PROCESSES};
 ghost use Rattle.om_manager.specs.Rounds.{Joining};
 ghost use Rattle.om_world.specs.Changes.{IsUp};
 ghost use Rattle.om_world.specs.Happened.{Happened};
-ghost use Rattle.om_world.specs.Played.{IsFaultless};
+ghost use Rattle.om_world.specs.Played.{IsCounted, IsFaultless};
 ghost use Rattle.om_world.specs.World.{IsKnown};
 ghost use Rattle.om_world.specs.declared.event.Event.{Event};
 ghost use Rattle.om_world.specs.declared.event.Refusal.{Refusal};
@@ -83,6 +83,7 @@ impl<S: Stable> World<S> {
     pub(crate) fn join(&mut self, alloc: Global, p: usize) -> Result<Answer, Refusal>
         ensures happened { IsKnown self.new → Happened self.old (Event.Join p) (answered result) self.new }
         ensures keeps { Keeps self.old self.new }
+        ensures counted { IsCounted self.old self.new (answered result) }
         ensures faultless { ((store : S) → S.failed store ≡ 0) → IsFaultless (answered result) }
     {
         self.is_up(p)?;

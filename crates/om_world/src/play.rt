@@ -3,9 +3,10 @@
 ghost use Rattle.std.specs.Prelude.{◌≡◌, All, IfOk, IsTrue, OnErr, length, true};
 ghost use Rattle.om_manager.specs.Sound.{KeepsReleased};
 ghost use Rattle.om_manager.specs.State.{size_of};
+ghost use Rattle.om_world.specs.Changes.{NoneFell};
 ghost use Rattle.om_world.specs.Happened.{Happened};
 ghost use Rattle.om_world.specs.Holds.{Holds};
-ghost use Rattle.om_world.specs.Played.{IsFaultless, Played, Step};
+ghost use Rattle.om_world.specs.Played.{IsCounted, IsFaultless, Played, Step};
 ghost use Rattle.om_world.specs.World.{IsKnown, all_clean};
 ghost use Rattle.om_world.specs.steps.Moves.{Keeps, answered};
 
@@ -30,6 +31,7 @@ impl<S: Stable> World<S> {
     fn outcome(&mut self, alloc: Global, event: Event) -> Result<Answer, Refusal>
         ensures happened { IsKnown self.new → Happened self.old event (answered result) self.new }
         ensures keeps { Keeps self.old self.new }
+        ensures counted { IsCounted self.old self.new (answered result) }
         ensures faultless { ((store : S) → S.failed store ≡ 0) → IsKnown self.new → IsFaultless (answered result) }
     {
         match event {
@@ -50,6 +52,7 @@ impl<S: Stable> World<S> {
     fn happen(&mut self, alloc: Global, event: Event) -> Answer
         ensures step { IsKnown self.new → Step self.old event result self.new }
         ensures keeps { Keeps self.old self.new }
+        ensures counted { IsCounted self.old self.new result }
         ensures faultless { ((store : S) → S.failed store ≡ 0) → IsKnown self.new → IsFaultless result }
     {
         let answer = answer_of(self.outcome(alloc, event));
@@ -63,17 +66,20 @@ impl<S: Stable> World<S> {
     /// Where the stores held nothing before the start and are clean as the call ends, each event did what its answer says,
     /// and after each the world is a point of a run without failures (`Holds`; after Johnson and Zwaenepoel 1990). Stores of
     /// a type that is always clean are (`always`), and over stores of a type that never counts a failure no event is answered
-    /// with a fault (`faultless`): both are so of stores in memory.
+    /// with a fault (`faultless`): both are so of stores in memory. Whatever the stores do, no count of failures falls (`counts`), and
+    /// an event is answered with a fault only where one rises (`counted`).
     pub fn play(&mut self, alloc: Global, events: &[Event]) -> Result<Vec<Answer>, AllocError>
         ensures played { IsKnown self.new → IfOk result (λ answers. Played self.old events.now answers.items self.new) }
         ensures count { IfOk result (λ answers. length answers.items ≡ length events.now) }
+        ensures counted { IfOk result (λ answers. All (IsCounted self.old self.new) answers.items) }
+        ensures counts { NoneFell self.old.health self.new.health }
         ensures faultless { ((store : S) → S.failed store ≡ 0) → IsKnown self.new
             → IfOk result (λ answers. All IsFaultless answers.items) }
         ensures holds { IsKnown self.new → Holds self.new }
         ensures released { KeepsReleased self.old.manager self.new.manager }
         ensures size { size_of self.new.manager ≡ size_of self.old.manager }
-        ensures clean { all_clean self.new.clean ≡ true → all_clean self.old.clean ≡ true }
-        ensures always { ((store : S) → IsTrue (S.is_clean store)) → all_clean self.new.clean ≡ true }
+        ensures clean { all_clean self.new.health ≡ true → all_clean self.old.health ≡ true }
+        ensures always { ((store : S) → IsTrue (S.is_clean store)) → all_clean self.new.health ≡ true }
         ensures origins { self.new.origins ≡ self.old.origins }
         ensures refused { OnErr result (self.new ≡ self.old) }
     {

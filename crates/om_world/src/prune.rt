@@ -6,8 +6,8 @@ ghost use Rattle.om_manager.specs.State as managers;
 ghost use Rattle.om_stable.specs.declared.error.StoreError.{StoreError};
 ghost use Rattle.om_world.specs.Happened.{Happened, ManagerPruned};
 ghost use Rattle.om_recover.specs.Cutting.{IsEffective};
-ghost use Rattle.om_world.specs.Played.{IsFaultless};
-ghost use Rattle.om_world.specs.World.{IsKnown, recovered};
+ghost use Rattle.om_world.specs.Played.{IsCounted, IsFaultless};
+ghost use Rattle.om_world.specs.World.{IsKnown, health_of, recovered};
 ghost use Rattle.om_world.specs.declared.event.Event.{Event};
 ghost use Rattle.om_world.specs.steps.Moves.{IsCalled, Keeps, answered};
 ghost use Rattle.om_world.specs.steps.Pruning.{AllPruned, HasPruned, WasPruned};
@@ -30,7 +30,8 @@ fn prune_at<S: Stable>(
     requires few { p < MAX_PROCESSES }
     requires known { p < managers.size_of manager.now }
     ensures called { (c : ℕ) × IsEffective manager.now.rows p (recovered manager.now p) c
-        × IsCalled S.content S.is_clean S.IsSound stores.old.items stores.new.items p (WasPruned c result) }
+        × IsCalled S.content (health_of S.is_clean S.failed) S.IsSound (result ≡ Err StoreError.Fault)
+        stores.old.items stores.new.items p (WasPruned c result) }
     ensures never_present { result ≢ Err StoreError.Present }
     ensures faultless { ((store : S) → S.failed store ≡ 0) → result ≢ Err StoreError.Fault }
 {
@@ -79,6 +80,7 @@ impl<S: Stable> World<S> {
     pub(crate) fn prune(&mut self, alloc: Global) -> Result<Answer, Refusal>
         ensures happened { IsKnown self.new → Happened self.old Event.Prune (answered result) self.new }
         ensures keeps { Keeps self.old self.new }
+        ensures counted { IsCounted self.old self.new (answered result) }
         ensures faultless { ((store : S) → S.failed store ≡ 0) → IsFaultless (answered result) }
     {
         self.prune_manager();

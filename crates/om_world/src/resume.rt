@@ -6,8 +6,8 @@ ghost use Rattle.om_manager.specs.State as managers;
 ghost use Rattle.om_process.specs.declared.replay.ReplayFault.{ReplayFault};
 ghost use Rattle.om_world.specs.Failures.{HasNews, IsToGoOn, taken_down};
 ghost use Rattle.om_world.specs.Happened.{Happened, Refused};
-ghost use Rattle.om_world.specs.Played.{IsFaultless};
-ghost use Rattle.om_world.specs.World.{IsKnown};
+ghost use Rattle.om_world.specs.Played.{IsCounted, IsFaultless};
+ghost use Rattle.om_world.specs.World.{IsKnown, health_of};
 ghost use Rattle.om_world.specs.declared.event.Event.{Event};
 ghost use Rattle.om_world.specs.declared.event.Refusal.{Refusal};
 ghost use Rattle.om_world.specs.declared.place.Place.TheVariants as places;
@@ -54,8 +54,8 @@ fn roll_back_at<S: Stable>(
     requires few { p < MAX_PROCESSES }
     requires known { p < managers.size_of manager.now }
     ensures back { IfOk result (λ core. IsBackIn manager.now p core) }
-    ensures called { IsCalled S.content S.is_clean S.IsSound stores.old.items stores.new.items p
-        (IsRolledBack manager.now p result) }
+    ensures called { IsCalled S.content (health_of S.is_clean S.failed) S.IsSound (result ≡ Err ReplayFault.Fault)
+        stores.old.items stores.new.items p (IsRolledBack manager.now p result) }
     ensures faultless { ((store : S) → S.failed store ≡ 0) → result ≢ Err ReplayFault.Fault }
 {
     let down = Down {
@@ -155,6 +155,7 @@ impl<S: Stable> World<S> {
     pub(crate) fn resume(&mut self, alloc: Global, p: usize) -> Result<Answer, Refusal>
         ensures happened { IsKnown self.new → Happened self.old (Event.Resume p) (answered result) self.new }
         ensures keeps { Keeps self.old self.new }
+        ensures counted { IsCounted self.old self.new (answered result) }
         ensures faultless { ((store : S) → S.failed store ≡ 0) → IsFaultless (answered result) }
     {
         let back = self.comes_back(p)?;

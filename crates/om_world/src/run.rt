@@ -8,6 +8,7 @@ ghost use Rattle.om_process.specs.Core.{CoreState};
 ghost use Rattle.om_process.specs.Frames.{outputs_of};
 ghost use Rattle.om_world.specs.Changes.{IsUp};
 ghost use Rattle.om_world.specs.Happened.{Happened, HasRun};
+ghost use Rattle.om_world.specs.Played.{IsFaultless};
 ghost use Rattle.om_world.specs.World.{IsKnown};
 ghost use Rattle.om_world.specs.declared.event.Event.{Event};
 ghost use Rattle.om_world.specs.steps.Moves.{GoesOn, HasCore, HasRunAt, Keeps, answered};
@@ -131,6 +132,7 @@ impl<S: Stable> World<S> {
     pub(crate) fn run(&mut self, alloc: Global, p: usize, fuel: u64) -> Result<Answer, Refusal>
         ensures happened { IsKnown self.new → Happened self.old (Event.Run p fuel) (answered result) self.new }
         ensures keeps { Keeps self.old self.new }
+        ensures faultless { IsFaultless (answered result) }
     {
         self.is_up(p)?;
         let messages = self.messages(p);

@@ -129,10 +129,10 @@ impl<S: Stable> World<S> {
         requires stores { length stores.items ≡ length images.now }
         requires sound { All (λ store. IsTrue (S.is_clean store) → S.IsSound store) stores.items }
         ensures started { IfOk result (λ w. IsStarted (map program_of images.now) w) }
-        ensures stored { IfOk result (λ w. all_clean w.clean ≡ true → HaveFirst w) }
+        ensures stored { IfOk result (λ w. all_clean w.health ≡ true → HaveFirst w) }
         ensures origins { IfOk result (λ w. w.origins ≡ map S.content stores.items) }
-        ensures clean { IfOk result (λ w. all_clean w.clean ≡ true → all_clean (map S.is_clean stores.items) ≡ true) }
-        ensures always { IfOk result (λ w. ((store : S) → IsTrue (S.is_clean store)) → all_clean w.clean ≡ true) }
+        ensures clean { IfOk result (λ w. all_clean w.health ≡ true → All (λ store. IsTrue (S.is_clean store)) stores.items) }
+        ensures always { IfOk result (λ w. ((store : S) → IsTrue (S.is_clean store)) → all_clean w.health ≡ true) }
         ensures holds { IfOk result (λ w. IsKnown w → Holds w) }
         ensures loadable { OnOk result (All IsLoadable (map program_of images.now)) }
         ensures refused { IfErr result (λ fault. (fault ≡ StartFault.Memory)

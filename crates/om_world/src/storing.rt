@@ -5,8 +5,8 @@ ghost use Rattle.om_interval.specs.declared.pid.TheConstants.{MAX_PROCESSES};
 ghost use Rattle.om_world.specs.Changes.{IsUp};
 ghost use Rattle.om_stable.specs.declared.error.StoreError.{StoreError};
 ghost use Rattle.om_world.specs.Happened.{Happened};
-ghost use Rattle.om_world.specs.Played.{IsFaultless};
-ghost use Rattle.om_world.specs.World.{IsKnown};
+ghost use Rattle.om_world.specs.Played.{IsCounted, IsFaultless};
+ghost use Rattle.om_world.specs.World.{IsKnown, health_of};
 ghost use Rattle.om_process.specs.Core.{CoreState, with_pending};
 ghost use Rattle.om_world.specs.steps.Moves.{Gained, HasCalled, HasCore, HasTold, IsCalled, IsTold, IsToldUpTo, Keeps, after_store, answered, event_of};
 
@@ -31,7 +31,8 @@ fn store_at<S: Stable>(
     requires store { p < length stores.old.items }
     ensures called { (c : CoreState) × (slice_get cores.old.items p ≡ Some (Some c))
         × (cores.new.items ≡ slice_set cores.old.items p (Some (after_store kind c result)))
-        × IsCalled S.content S.is_clean S.IsSound stores.old.items stores.new.items p (Gained kind c result) }
+        × IsCalled S.content (health_of S.is_clean S.failed) S.IsSound (result ≡ Err StoreError.Fault)
+        stores.old.items stores.new.items p (Gained kind c result) }
     ensures faultless { ((store : S) → S.failed store ≡ 0) → result ≢ Err StoreError.Fault }
 {
     let store = &mut stores[p];
@@ -92,6 +93,7 @@ impl<S: Stable> World<S> {
     ) -> Result<Answer, Refusal>
         ensures happened { IsKnown self.new → Happened self.old (event_of kind p) (answered result) self.new }
         ensures keeps { Keeps self.old self.new }
+        ensures counted { IsCounted self.old self.new (answered result) }
         ensures faultless { ((store : S) → S.failed store ≡ 0) → IsFaultless (answered result) }
     {
         self.is_up(p)?;

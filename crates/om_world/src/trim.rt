@@ -4,6 +4,7 @@ ghost use Rattle.std.specs.Prelude.{◌≡◌, ◌++◌, ◌∷◌, [], length, 
 ghost use Rattle.om_process.specs.Core.{CoreState, size_of};
 ghost use Rattle.om_world.specs.Happened.{Happened};
 ghost use Rattle.om_world.specs.declared.event.Event.{Event};
+ghost use Rattle.om_world.specs.Played.{IsFaultless};
 ghost use Rattle.om_world.specs.steps.Moves.{Keeps, answered, trimmed_core};
 
 use crate::event::{Answer, Refusal};
@@ -29,6 +30,7 @@ impl<S: Stable> World<S> {
     pub(crate) fn trim(&mut self, p: usize) -> Result<Answer, Refusal>
         ensures happened { Happened self.old (Event.Trim p) (answered result) self.new }
         ensures keeps { Keeps self.old self.new }
+        ensures faultless { IsFaultless (answered result) }
     {
         self.is_up(p)?;
         let bounds = self.manager.bounds(Pid::at(p));

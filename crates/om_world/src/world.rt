@@ -37,7 +37,8 @@ pub struct World<S: Stable> {
 
 impl<S: Stable> Model for World<S> {
     ghost use Rattle.std.specs.Prelude.{map, ◌≡◌, true};
-    ghost use Rattle.om_world.specs.World.{WorldState, program_of};
+    ghost use Rattle.om_world.specs.World.{WorldState, health_of, program_of};
+    ghost use Rattle.om_world.specs.steps.Codes.{coded_health};
     ghost use Rattle.om_world.specs.steps.Sound.{IsWorld};
     ghost use Rattle.om_stable.specs.Content.{content_code};
     ghost use Rattle.om_manager.specs.steps.Codes.{coded_manager};
@@ -45,7 +46,7 @@ impl<S: Stable> Model for World<S> {
 
     ghost Value = { WorldState };
 
-    ghost coded = { Prim.hlevel (codes, content_code, coded_manager) };
+    ghost coded = { Prim.hlevel (codes, coded_health, content_code, coded_manager) };
 
     ghost view = { λ w. record {
       programs = map program_of w.images.items;
@@ -56,7 +57,7 @@ impl<S: Stable> Model for World<S> {
       rounds = w.rounds.items;
       manager = w.manager;
       contents = map S.content w.stores.items;
-      clean = map S.is_clean w.stores.items;
+      health = map (health_of S.is_clean S.failed) w.stores.items;
       origins = map S.content w.origins.value.items;
     } };
 
@@ -69,7 +70,7 @@ impl<S: Stable> Model for World<S> {
       rounds = w.rounds.items;
       manager = w.manager;
       contents = map S.content w.stores.items;
-      clean = map S.is_clean w.stores.items;
+      health = map (health_of S.is_clean S.failed) w.stores.items;
       origins = map S.content w.origins.value.items;
     }) };
 }
@@ -107,7 +108,7 @@ impl<S: Stable> World<S> {
     // What holds of a world of which all is known; and over stores that are always clean, that all are.
     pub(crate) fn told(&self)
         ensures holds { IsKnown self.now → Holds self.now }
-        ensures always { ((store : S) → IsTrue (S.is_clean store)) → all_clean self.now.clean ≡ true }
+        ensures always { ((store : S) → IsTrue (S.is_clean store)) → all_clean self.now.health ≡ true }
     {
         // Only a look: what is told holds of every world, by its type.
         let _ = &self.live;

@@ -4,7 +4,7 @@ use Rattle.om_isa.specs.declared.ext.Ext.{Ext}
 use Rattle.om_text.specs.declared.error.BuildError.{BuildError}
 use Rattle.om_text.specs.declared.error.BuildError.TheVariants as building
 use Rattle.om_text.specs.declared.error.LineError.{LineError}
-use Rattle.om_programs.specs.Programs.{Cluster, no_programs, program_line}
+use Rattle.om_scripts.specs.Programs.{Cluster, no_programs, program_line}
 use Rattle.om_image.specs.Image.{IsRefused}
 use Rattle.om_image.specs.declared.error.ImageError.{ImageError}
 use Rattle.om_image.specs.declared.error.ImageError.TheVariants as errors

@@ -13,9 +13,9 @@ use Rattle.om_board.specs.declared.waiting.Waiting.TheVariants.{Offers, Waits}
 use Rattle.om_member.specs.Handed.{AreHanded, outputs_from}
 use Rattle.om_member.specs.Keeps.{Keeps}
 use Rattle.om_member.specs.Told.{AreTold}
-use Rattle.om_runner.specs.declared.contact.Limits.{Limits}
-use Rattle.om_runner.specs.declared.contact.Standing.{Standing}
-use Rattle.om_runner.specs.declared.contact.Standing.TheVariants.{Gathers, Quiet}
+use Rattle.om_runner.specs.declared.manager_link.Limits.{Limits}
+use Rattle.om_runner.specs.declared.manager_link.Standing.{Standing}
+use Rattle.om_runner.specs.declared.manager_link.Standing.TheVariants.{Gathers, Quiet}
 
 -- a process handed over all that it had: its pending rows, in order, and then the outputs that the manager had not
 pub record HasHandedOver (before : ManagerState) (p : ℕ) (old : CoreState) (after : ManagerState) (new : CoreState) : Type 0 where

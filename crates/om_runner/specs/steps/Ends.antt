@@ -16,7 +16,7 @@ use Rattle.om_runner.specs.steps.Nodes.{Member}
 use Rattle.om_runner.specs.steps.Places.{member_of}
 use Rattle.om_runner.specs.steps.Wiring.{HasEnds}
 
--- how a process ended, with its store and its leaves
+-- how a process ended, with its store and its passes
 pub record IsEndOf {S : Type 0} (is_clean : S → Bool) (program : Program) (lines : Lines) (own n : ℕ) (f : Finished S) : Type 0 where
   pub ended : IsEnd f.status
   pub along : IsTrue (is_clean f.store) → IsStatusAlong program own n f.status

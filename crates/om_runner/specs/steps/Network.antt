@@ -19,11 +19,11 @@ pub record IsNetwork (n : ℕ) (lines : Lines) : Type 0 where
   pub from : (from to : ℕ) (line : Line) → IsAt lines from to line → line.from ≡ from
   pub to : (from to : ℕ) (line : Line) → IsAt lines from to line → line.to ≡ to
 
--- the leaves to put are those of one sender, by receiver
+-- the passes to put are those of one sender, by receiver
 abbrev pub ArePuts : Lines → ℕ → List Traffic → Type 0
 ArePuts lines from puts = (to : ℕ) (t : Traffic) → slice_get puts to ≡ Some t → IsAt lines from to t.line
 
--- the leaves to take are those of one receiver, by sender
+-- the passes to take are those of one receiver, by sender
 abbrev pub AreTakes : Lines → ℕ → List Takings → Type 0
 AreTakes lines to takes = (from : ℕ) (t : Takings) → slice_get takes from ≡ Some t → IsAt lines from to t.line
 

@@ -8,6 +8,6 @@ abbrev pub member_of : {S : Type 0} → Place S → Member
 member_of (Up node) = node.member
 member_of (Called node) = node.member
 member_of (In node) = node.member
-member_of (Failed fallen) = fallen
-member_of (Down fallen) = fallen
+member_of (Failed down_node) = down_node
+member_of (Down down_node) = down_node
 member_of (Over node) = node.member

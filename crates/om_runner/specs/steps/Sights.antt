@@ -11,5 +11,5 @@ doing_at (Up node) = shown.Up (status_of (move_of node.core))
 doing_at (Over node) = shown.Up (status_of (move_of node.core))
 doing_at (Called node) = shown.Called
 doing_at (In node) = shown.Joined
-doing_at (Failed fallen) = shown.Down
-doing_at (Down fallen) = shown.Down
+doing_at (Failed down_node) = shown.Down
+doing_at (Down down_node) = shown.Down

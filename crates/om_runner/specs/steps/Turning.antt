@@ -5,9 +5,9 @@ use Rattle.om_process.specs.Stores.{flushed}
 use Rattle.om_process.specs.declared.status.Status.{Status}
 use Rattle.om_member.specs.Handed.{outputs_from}
 use Rattle.om_runner.specs.Reports.{IsEnd}
-use Rattle.om_runner.specs.declared.contact.Limits.{Limits}
-use Rattle.om_runner.specs.declared.contact.Standing.{Standing}
-use Rattle.om_runner.specs.declared.contact.Standing.TheVariants as standings
+use Rattle.om_runner.specs.declared.manager_link.Limits.{Limits}
+use Rattle.om_runner.specs.declared.manager_link.Standing.{Standing}
+use Rattle.om_runner.specs.declared.manager_link.Standing.TheVariants as standings
 use Rattle.om_runner.specs.declared.worker.Place.{Place}
 use Rattle.om_runner.specs.declared.worker.Place.TheVariants.{Up, Called, In, Failed, Down, Over}
 use Rattle.om_runner.specs.declared.worker.Step.{Step}
@@ -46,8 +46,8 @@ abbrev pub IsTurnOf : {S : Type 0} → ℕ → ℕ → Place S → Place S → T
 IsTurnOf n round (Called old) next =
     (new : NodeState) × (next ≡ In new)
     × UnderLock n (λ before after. HasJoined before.manager old.member.own (flushed old.core) after.manager new.core)
-IsTurnOf n round (Failed fallen) next =
-    (next ≡ Down fallen) × UnderLock n (λ before after. HasDeclared before.manager fallen.own round after.manager)
+IsTurnOf n round (Failed down_node) next =
+    (next ≡ Down down_node) × UnderLock n (λ before after. HasDeclared before.manager down_node.own round after.manager)
 IsTurnOf n round other next = Unit
 
 -- how many turns a pause counts as, after so many idle ones

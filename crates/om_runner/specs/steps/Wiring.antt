@@ -5,7 +5,7 @@ use Rattle.om_board.specs.Inboxes.{Line, Traffic, Takings}
 use Rattle.om_runner.specs.declared.network.Ends.{Ends}
 use Rattle.om_runner.specs.steps.Network.{ArePuts, AreTakes, IsNetwork, Lines}
 
--- the inboxes of leaves to put, and to take
+-- the inboxes of passes to put, and to take
 abbrev pub lines_put : List Traffic → List Line
 lines_put puts = map (λ p. p.line) puts
 
@@ -46,7 +46,7 @@ pub record AreRows (n : ℕ) (rows : Lines) : Type 0 where
   pub long : (from : ℕ) (row : Vec Line Global) → slice_get rows from ≡ Some row → length row.items ≡ n
   pub pairs : (from : ℕ) (row : Vec Line Global) → slice_get rows from ≡ Some row → IsRow from row.items
 
--- the first senders have their leaves to put
+-- the first senders have their passes to put
 abbrev pub HavePuts : Lines → List Ends → Type 0
 HavePuts rows ends = (p : ℕ) (row : Vec Line Global) (e : Ends) → slice_get rows p ≡ Some row → slice_get ends p ≡ Some e
     → lines_put e.puts.items ≡ row.items

@@ -1,7 +1,8 @@
 -- What a call makes of the cores.
-use Rattle.std.specs.Prelude.{◌≡◌, ℕ, ◌≤◌, List, [], ◌∷◌, ◌++◌, length, drop, slice_get, slice_set, Bool, true, IsTrue, IsSome, Option, Some, Result, Ok, Err, IfErr}
+use Rattle.std.specs.Prelude.{◌≡◌, ℕ, ◌≤◌, List, [], ◌∷◌, ◌++◌, length, drop, slice_get, slice_set, true, IsTrue, IsSome, Option, Some, Result, Ok, Err, IfErr}
 use Rattle.std.specs.FinMap.{get}
 use Rattle.om_stable.specs.Content.{Content, IsTaken}
+use Rattle.om_stable.specs.Count.{Rose}
 use Rattle.om_stable.specs.declared.error.StoreError.{StoreError}
 use Rattle.om_stable.specs.declared.error.StoreError.TheVariants.{Present}
 use Rattle.om_stable.specs.declared.error.StoreError.TheVariants as store_errors
@@ -20,7 +21,7 @@ use Rattle.om_manager.specs.declared.answers.JoinError.TheVariants as joining
 use Rattle.om_process.specs.declared.replay.ReplayFault.{ReplayFault}
 use Rattle.om_process.specs.declared.replay.ReplayFault.TheVariants as replays
 use Rattle.om_manager.specs.declared.answers.RecordError.TheVariants.{Refused}
-use Rattle.om_world.specs.World.{WorldState, IsKnown, all_clean}
+use Rattle.om_world.specs.World.{Health, WorldState, IsKnown, all_clean}
 use Rattle.om_format.specs.declared.message.Message.{Message}
 use Rattle.om_process.specs.declared.accept.Accept.{Accept}
 use Rattle.om_process.specs.declared.accept.Accept.TheVariants as accepts
@@ -32,7 +33,7 @@ use Rattle.om_world.specs.declared.event.Event.{Event}
 use Rattle.om_world.specs.declared.event.Refusal.{Refusal}
 use Rattle.om_world.specs.declared.event.Refusal.TheVariants as why
 use Rattle.om_process.specs.Core.{CoreState, CoreTurns, with_now, with_pending}
-use Rattle.om_world.specs.Changes.{HasGained, stored}
+use Rattle.om_world.specs.Changes.{HasFailed, HasGained, NoneFell, stored}
 use Rattle.om_world.specs.Happened.{HasRun}
 pub use Rattle.om_member.specs.Told.{AreTold, IsTold, IsToldUpTo}
 
@@ -85,16 +86,18 @@ abbrev pub after_store : RowKind → CoreState → Result (Unit {0}) StoreError 
 after_store kind c (Ok done) = stored kind c
 after_store kind c (Err why) = c
 
--- one of the stores took a call, which did this to its content
-pub record IsCalled {S : Type 0} (content : S → Content) (is_clean : S → Bool) (IsSound : S → Type 0)
+-- one of the stores took a call, which did this to its content; where the call failed, the store counts it
+pub record IsCalled {S : Type 0} (content : S → Content) (health : S → Health) (IsSound : S → Type 0) (Failed : Type 0)
     (old new : List S) (p : ℕ) (Did : Content → Content → Type 0) : Type 0 where
   pub before : S
   pub after : S
   pub there : slice_get old p ≡ Some before
   pub stores : new ≡ slice_set old p after
-  pub clean : IsTrue (is_clean after) → IsTrue (is_clean before)
-  pub sound : IsTrue (is_clean after) → IsSound before → IsSound after
-  pub did : IsTrue (is_clean after) → IsSound before → Did (content before) (content after)
+  pub counted : Failed → Rose (health before).failed (health after).failed
+  pub count : (health before).failed ≤ (health after).failed
+  pub clean : IsTrue (health after).clean → IsTrue (health before).clean
+  pub sound : IsTrue (health after).clean → IsSound before → IsSound after
+  pub did : IsTrue (health after).clean → IsSound before → Did (content before) (content after)
 
 -- ---- the manager
 -- a process stored what it keeps of a kind, or its store refused; a log's receipts are never there already
@@ -104,11 +107,13 @@ pub record HasCalled (kind : RowKind) (old : WorldState) (p : ℕ) (answer : Res
   pub others : new ≡ record old {
     cores = slice_set old.cores p (Some (after_store kind core answer));
     contents = new.contents;
-    clean = new.clean;
+    health = new.health;
   }
   pub did : IsKnown new → (before : Content) × (after : Content) × (slice_get old.contents p ≡ Some before)
       × (new.contents ≡ slice_set old.contents p after) × Gained kind core answer before after
-  pub was_clean : all_clean new.clean ≡ true → all_clean old.clean ≡ true
+  pub was_clean : all_clean new.health ≡ true → all_clean old.health ≡ true
+  pub counted : answer ≡ Err store_errors.Fault → HasFailed old p new
+  pub counts : NoneFell old.health new.health
   pub free : IsKnown new → kind ≡ Log → answer ≡ Err Present → ⊥
 
 -- the pending rows of a process were offered up to the first that was refused, which was for want of memory
@@ -127,11 +132,12 @@ abbrev pub event_of : RowKind → ℕ → Event
 event_of Log p = Event.Flush p
 event_of Checkpoint p = Event.Checkpoint p
 
--- what each event leaves: what was released still is; and where what the stores hold is known, it was
+-- what each event leaves: what was released still is; where what the stores hold is known, it was; and counts do not fall
 pub record Keeps (old new : WorldState) : Type 0 where
   pub size : size_of new.manager ≡ size_of old.manager
   pub released : KeepsReleased old.manager new.manager
-  pub clean : all_clean new.clean ≡ true → all_clean old.clean ≡ true
+  pub clean : all_clean new.health ≡ true → all_clean old.health ≡ true
+  pub counts : NoneFell old.health new.health
   pub origins : new.origins ≡ old.origins
 
 -- what an event that a store or the manager refused is answered

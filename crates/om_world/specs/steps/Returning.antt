@@ -3,12 +3,14 @@ use Rattle.std.specs.Prelude.{◌≡◌, ℕ, ◌<◌, List, [], length, slice_g
 use Rattle.om_interval.specs.Starts.{is_named, newest_of}
 use Rattle.om_stable.specs.Content.{Content, kept_by_cut}
 use Rattle.om_process.specs.declared.replay.ReplayFault.{ReplayFault}
+use Rattle.om_process.specs.declared.replay.ReplayFault.TheVariants.{Fault}
 use Rattle.om_process.specs.Core.{CoreState, size_of}
 use Rattle.om_process.specs.Resumes.{resumed}
 use Rattle.om_process.specs.Stored.{CanReplay, IsNoMatterOfContent, IsReplay, TheProcess}
 use Rattle.om_manager.specs.State as managers
 use Rattle.om_manager.specs.State.{ManagerState}
 use Rattle.om_world.specs.declared.place.Place.{Place}
+use Rattle.om_world.specs.Changes.{HasFailed, NoneFell}
 use Rattle.om_world.specs.Failures.{HasNews, IsToComeBack, IsToGoOn, put_up, taken_down}
 use Rattle.om_world.specs.World.{WorldState, IsKnown, all_clean, recovered}
 
@@ -32,18 +34,21 @@ IsRolledBack m p (Err fault) before after =
 -- a process that was down is up again with this core, and its store is cut
 pub record HasComeBack (old : WorldState) (p : ℕ) (core : CoreState) (new : WorldState) : Type 0 where
   pub back : IsBackIn old.manager p core
-  pub others : new ≡ record (put_up old p core) { contents = new.contents; clean = new.clean }
-  pub was_clean : all_clean new.clean ≡ true → all_clean old.clean ≡ true
+  pub others : new ≡ record (put_up old p core) { contents = new.contents; health = new.health }
+  pub was_clean : all_clean new.health ≡ true → all_clean old.health ≡ true
+  pub counts : NoneFell old.health new.health
   pub did : IsKnown new → (before : Content) × (slice_get old.contents p ≡ Some before)
       × IsReplay before (slice_index old.manager.last p) core × (core.now.interval ≡ slice_index old.manager.last p)
       × (new.contents ≡ slice_set old.contents p (kept_by_cut before (slice_index old.manager.last p)))
 
 -- it did not come back, and all stays
 pub record StaysDown (old : WorldState) (p : ℕ) (fault : ReplayFault) (new : WorldState) : Type 0 where
-  pub others : new ≡ record old { contents = new.contents; clean = new.clean }
-  pub was_clean : all_clean new.clean ≡ true → all_clean old.clean ≡ true
+  pub others : new ≡ record old { contents = new.contents; health = new.health }
+  pub was_clean : all_clean new.health ≡ true → all_clean old.health ≡ true
   pub same : IsKnown new → new.contents ≡ old.contents
   pub why : IsKnown new → IsNoMatterOfContent fault
+  pub counted : fault ≡ Fault → HasFailed old p new
+  pub counts : NoneFell old.health new.health
 
 -- a process that was down is up again, in this interval and incarnation; or it is not
 abbrev pub Returns : WorldState → ℕ → Result (ℕ × ℕ) ReplayFault → WorldState → Type 0

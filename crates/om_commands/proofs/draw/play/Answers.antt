@@ -1,12 +1,34 @@
-use Rattle.std.proofs.Common.{◌+◌, take}
-use Rattle.std.proofs.lemmas.List.{take_more}
-use Rattle.om_commands.proofs.DrawLemmas.{are_played_then}
+use Rattle.std.proofs.Common.{◌≡◌, ◌+◌, ◌≤◌, List, arith, length, take, subst, rules}
+use Rattle.std.proofs.lemmas.List.{length-take, take_all, take_more}
+use Rattle.om_world.specs.declared.event.Event.{Event}
+use Rattle.om_picture.specs.Drawing.{sketch_of}
+use Rattle.om_picture.specs.Marks.{step_entry}
+use Rattle.om_commands.specs.Draw.{AreDrawn}
+use Rattle.om_commands.proofs.DrawLemmas.{drawn_then, none_drawn}
 use Rattle.om_commands.proofs.draw.play.Goals as goal
 
+pub loop-k-init : goal.loop-k-init
+loop-k-init c = record { drawn = λ n first begun. none_drawn c.args.lines.now n first c.args.world.now _ begun; known = c.requires.known }
+
 pub loop-k-preserved : goal.loop-k-preserved
-loop-k-preserved c = record {
-  played = are_played_then c.args.world.now c.loop-k.world c.play_line.new.world (take c.loop-k.k c.args.events.now)
-      (take (c.loop-k.k + 1) c.args.events.now) _ c.in_ok-step.step.answer (take_more c.args.events.now c.loop-k.k _ c.loop-k-test.true)
-      c.loop-k.invariant.played c.in_ok-step.ensures.played;
-  known = c.in_ok-step.ensures.known;
-}
+loop-k-preserved c =
+    let count : length (take c.loop-k.k c.args.events.now) ≡ c.loop-k.k = simp length-take (omega arith) in
+    record {
+      drawn = λ n first begun.
+          drawn_then c.args.lines.now (take c.loop-k.k c.args.events.now) (take (c.loop-k.k + 1) c.args.events.now) c.loop-k.k n first
+          c.args.world.now
+          c.loop-k.world c.play_line.new.world (sketch_of c.loop-k.picture) (sketch_of c.draw.new.self) _ c.in_ok-step.step.answer
+          c.line_of-line.result
+          (step_entry c.in_ok-step.step) (take_more c.args.events.now c.loop-k.k _ c.loop-k-test.true) count
+          (c.loop-k.invariant.drawn n first begun)
+          c.in_ok-step.ensures.played c.line_of-line.ensures c.in_ok-step.ensures.entry c.in_ok-draw.ensures;
+      known = c.in_ok-step.ensures.known;
+    }
+
+pub returns-clause-drawn : goal.returns-clause-drawn
+returns-clause-drawn c =
+    let past : length c.args.events.now ≤ c.loop-k.k = search rules in
+    let all : take c.loop-k.k c.args.events.now ≡ c.args.events.now = take_all c.loop-k.k c.args.events.now past in
+    λ n first begun.
+    subst (λ (es : List Event). AreDrawn c.args.lines.now es n first c.args.world.now c.loop-k.world (sketch_of c.loop-k.picture)) all
+    (c.loop-k.invariant.drawn n first begun)

@@ -1,10 +1,12 @@
-use Rattle.std.proofs.Common.{take}
+use Rattle.std.proofs.Common.{ℕ, [], take}
 use Rattle.om_world.specs.World.{IsKnown}
-use Rattle.om_commands.specs.Draw.{ArePlayed}
+use Rattle.om_picture.specs.Drawing.{IsSketchOf, sketch_of}
+use Rattle.om_commands.specs.Draw.{AreDrawn}
 use Rattle.om_commands.proofs.draw.play.Given as goal
 
 abbrev pub invariant-loop-k : goal.invariant-loop-k
 invariant-loop-k l = record {
-  played : ArePlayed l.fn.world (take l.k l.events) l.world;
+  drawn : (n first : ℕ) → IsSketchOf n first [] (sketch_of l.fn.picture)
+      → AreDrawn l.lines (take l.k l.events) n first l.fn.world l.world (sketch_of l.picture);
   known : IsKnown l.world;
 }

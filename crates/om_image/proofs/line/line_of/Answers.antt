@@ -1,6 +1,6 @@
 use Rattle.std.proofs.Common.{◌≡◌, ◌∷◌, ◌++◌, [], Ok, ap, ◌∙◌, map, subst}
 use Rattle.std.specs.Prelude.{string_bytes}
-use Rattle.om_programs.specs.Programs.{Cluster, no_programs, program_line}
+use Rattle.om_scripts.specs.Programs.{Cluster, no_programs, program_line}
 use Rattle.om_image.specs.Image.{keyword, word_text}
 use Rattle.om_image.specs.steps.Lines.{spaced}
 use Rattle.om_image.proofs.Whole.{image_line, image_short}

@@ -2,15 +2,15 @@ use Rattle.std.proofs.Common.{◌≡◌, ◌∙◌, rules, length, sym, subst, g
 use Rattle.std.proofs.lemmas.Option.{slice_get-get_or}
 use Rattle.om_runner.proofs.FaultLemmas.{given_by}
 use Rattle.om_runner.proofs.ReportLemmas.{all_along, all_ended, all_leaves, as_many}
-use Rattle.om_runner.specs.steps.Settling.{AreLeaves}
+use Rattle.om_runner.specs.steps.Settling.{ArePasses}
 use Rattle.om_runner.proofs.cluster.gathered.Goals as goal
 
-pub returns-in-Ok-clause-leaves : goal.returns-in-Ok-clause-leaves
-returns-in-Ok-clause-leaves g c =
+pub returns-in-Ok-clause-passes : goal.returns-in-Ok-clause-passes
+returns-in-Ok-clause-passes g c =
     let long : length c.args.results.items ≡ g.K.Naming.cell.n = (let l = c.requires.long in search rules) in
     let lines = c.args.cluster.now.inboxes.now in
     let parts = c.in-Ok.parts in
-    subst (λ k. AreLeaves k lines parts.puts.items parts.takes.items) (sym c.requires.network.senders)
+    subst (λ k. ArePasses k lines parts.puts.items parts.takes.items) (sym c.requires.network.senders)
     (all_leaves g.O.Store.Stable.is_clean c.args.cluster.now.plan.now.images.items lines g.K.Naming.cell.n c.args.results.items c.in_ok-all.all.items _ _
     c.requires.network c.requires.images c.in_ok-all.ensures.all long c.requires.each c.in-Ok.ensures.puts c.in-Ok.ensures.takes)
 

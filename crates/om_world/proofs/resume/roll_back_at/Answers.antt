@@ -1,9 +1,10 @@
 use Rattle.std.proofs.Common.{◌≡◌, ◌∙◌, ◌<◌, ap, length, refl, subst, sym}
 use Rattle.std.specs.Prelude.{slice_index}
 use Rattle.om_interval.specs.Starts.{newest_of}
+use Rattle.om_process.specs.declared.replay.ReplayFault.TheVariants.{Fault}
 use Rattle.om_process.specs.Stored.{CanReplay, TheProcess}
 use Rattle.om_manager.specs.State as managers
-use Rattle.om_world.proofs.Lists.{lent_at}
+use Rattle.om_world.proofs.Lists.{lent_at, once_err}
 use Rattle.om_world.proofs.resume.roll_back_at.Goals as goal
 
 pub returns-in-Err-clause-called : goal.returns-in-Err-clause-called
@@ -18,6 +19,8 @@ returns-in-Err-clause-called g c =
       after = c.roll_back.new.store;
       there = lent_at c.args.stores.now.items c.args.p before c.requires.store c.index_mut-store.ensures.value;
       stores = refl;
+      count = e.count;
+      counted = λ is. e.fault (once_err _ _ Fault refl is);
       clean = e.clean;
       sound = e.sound;
       did = λ clean sound. (

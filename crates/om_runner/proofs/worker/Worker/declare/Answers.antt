@@ -6,5 +6,5 @@ pub returns-clause-turned : goal.returns-clause-turned
 returns-clause-turned g c =
     let w = c.args.self.now in (
       refl,
-      subst (λ (p : ℕ). UnderLock g.K.Naming.cell.n (λ before after. HasDeclared before.manager p w.contact.round after.manager)) (sym (c.requires ∙ w.linked)) c.in_ok-pass.ensures.declared,
+      subst (λ (p : ℕ). UnderLock g.K.Naming.cell.n (λ before after. HasDeclared before.manager p w.manager_link.round after.manager)) (sym (c.requires ∙ w.linked)) c.in_ok-pass.ensures.declared,
     )

@@ -1,7 +1,7 @@
 use Rattle.std.proofs.Common.{◌≡◌, Some, false, true, Ok, Err, map, rules, sym, subst}
 use Rattle.std.specs.Prelude.{slice_get}
 use Rattle.om_world.specs.declared.place.Place.{Place}
-use Rattle.om_world.specs.World.{WorldState, program_of}
+use Rattle.om_world.specs.World.{WorldState, health_of, program_of}
 use Rattle.om_world.specs.steps.Gathering.{HasDeclared}
 use Rattle.om_world.proofs.Declaring.{after_declare, has_declared, not_declared, placed_with, round_at}
 use Rattle.om_world.proofs.Standing.{few, in_rounds, there_at}
@@ -16,7 +16,7 @@ declare_to-requires g c = few _ _ _ _ c.args.p c.self.invariant c.self.view_is (
 pub returns-in_err-told : goal.returns-in_err-told
 returns-in_err-told g c =
     let s = c.self.inside in
-    let w : WorldState = record { programs = map program_of s.images.items; live = s.live.entries; frames = s.frames.items; cores = s.cores.items; places = s.places.items; rounds = s.rounds.items; manager = s.manager; contents = map g.S.Stable.content s.stores.items; clean = map g.S.Stable.is_clean s.stores.items; origins = map g.S.Stable.content s.origins.value.items } in
+    let w : WorldState = record { programs = map program_of s.images.items; live = s.live.entries; frames = s.frames.items; cores = s.cores.items; places = s.places.items; rounds = s.rounds.items; manager = s.manager; contents = map g.S.Stable.content s.stores.items; health = map (health_of g.S.Stable.is_clean g.S.Stable.failed) s.stores.items; origins = map g.S.Stable.content s.origins.value.items } in
     let down = subst (λ (v : WorldState). slice_get v.places c.args.p ≡ Some (Place.Down false)) (sym c.self.view_is) c.requires in
     let is : c.from_residual.result ≡ Err c.in_err-told.field-0.0 = search rules in
     subst (λ (v : WorldState). HasDeclared v c.args.p c.from_residual.result (record w { live = c.declare_to.new.live.entries; manager = c.declare_to.new.manager })) c.self.view_is
@@ -32,7 +32,7 @@ invariant_of-self-2 g c =
 pub returns : goal.returns
 returns g c =
     let s = c.self.inside in
-    let w : WorldState = record { programs = map program_of s.images.items; live = s.live.entries; frames = s.frames.items; cores = s.cores.items; places = s.places.items; rounds = s.rounds.items; manager = s.manager; contents = map g.S.Stable.content s.stores.items; clean = map g.S.Stable.is_clean s.stores.items; origins = map g.S.Stable.content s.origins.value.items } in
+    let w : WorldState = record { programs = map program_of s.images.items; live = s.live.entries; frames = s.frames.items; cores = s.cores.items; places = s.places.items; rounds = s.rounds.items; manager = s.manager; contents = map g.S.Stable.content s.stores.items; health = map (health_of g.S.Stable.is_clean g.S.Stable.failed) s.stores.items; origins = map g.S.Stable.content s.origins.value.items } in
     let down = subst (λ (v : WorldState). slice_get v.places c.args.p ≡ Some (Place.Down false)) (sym c.self.view_is) c.requires in
     subst (λ (v : WorldState). HasDeclared v c.args.p (Ok c.in_ok-told.told) (placed_with w c.args.p (Place.Down true) c.declare_to.new.live.entries c.declare_to.new.manager)) c.self.view_is
     (has_declared g.S.Stable.IsSound s.stores.items w c.args.p c.index-round.result.now c.in_ok-told.told c.declare_to.new.manager c.declare_to.new.live.entries c.self.invariant down c.in_ok-told.ensures.answer c.in_ok-told.ensures.gathered)

@@ -4,7 +4,7 @@ use Rattle.om_world.specs.declared.event.Event.{Event}
 use Rattle.om_world.specs.declared.event.Refusal.TheVariants as refusals
 use Rattle.om_world.specs.Changes.{IsUp}
 use Rattle.om_world.specs.Happened.{GiveHappened, Happened}
-use Rattle.om_world.specs.World.{WorldState, program_of}
+use Rattle.om_world.specs.World.{WorldState, health_of, program_of}
 use Rattle.om_world.specs.steps.Moves.{IsOffered, answered}
 use Rattle.om_world.proofs.Giving.{after_give, after_none, given_taken, none_taken, not_given, no_room}
 use Rattle.om_world.proofs.Keeping.{keeps_by, keeps_seen}
@@ -29,9 +29,9 @@ returns-in_err-make_room-clause-happened g c =
     let frame : slice_get s.frames.items c.args.f ≡ Some c.index-message.result.now = lent_at _ c.args.f _ (subst (λ n. c.args.f < n) (c.len.ensures ∙ c.self.inside.frames.ok.0) c.if-f-len.false) c.index-message.ensures in
     let is : c.from_residual-in_err-make_room.result ≡ Err refusals.Memory = search rules in
     let up = subst (λ (w : WorldState). IsUp w c.args.p) (sym c.self.view_is) c.in_ok-is_up.ensures.up in
-    let w : WorldState = record { programs = map program_of s.images.items; live = s.live.entries; frames = s.frames.items; cores = s.cores.items; places = s.places.items; rounds = s.rounds.items; manager = s.manager; contents = map g.S.Stable.content s.stores.items; clean = map g.S.Stable.is_clean s.stores.items; origins = map g.S.Stable.content s.origins.value.items } in
-    subst (λ (v : WorldState). Happened v (Event.Give c.args.p c.args.f) (answered c.from_residual-in_err-make_room.result) (remade w c.make_room.new.self.entries w.frames w.cores w.manager w.contents w.clean)) c.self.view_is
-    (no_room w _ c.args.p c.args.f c.index-message.result.now c.from_residual-in_err-make_room.result up c.self.invariant.shape frame is (ap (λ l. remade w l w.frames w.cores w.manager w.contents w.clean) c.in_err-make_room.ensures.entries))
+    let w : WorldState = record { programs = map program_of s.images.items; live = s.live.entries; frames = s.frames.items; cores = s.cores.items; places = s.places.items; rounds = s.rounds.items; manager = s.manager; contents = map g.S.Stable.content s.stores.items; health = map (health_of g.S.Stable.is_clean g.S.Stable.failed) s.stores.items; origins = map g.S.Stable.content s.origins.value.items } in
+    subst (λ (v : WorldState). Happened v (Event.Give c.args.p c.args.f) (answered c.from_residual-in_err-make_room.result) (remade w c.make_room.new.self.entries w.frames w.cores w.manager w.contents w.health)) c.self.view_is
+    (no_room w _ c.args.p c.args.f c.index-message.result.now c.from_residual-in_err-make_room.result up c.self.invariant.shape frame is (ap (λ l. remade w l w.frames w.cores w.manager w.contents w.health) c.in_err-make_room.ensures.entries))
 
 pub invariant_of-self-in-Taken : goal.invariant_of-self-in-Taken
 invariant_of-self-in-Taken g c =
@@ -46,8 +46,8 @@ returns-in-Taken-clause-happened g c =
     let s = c.self.inside in
     let frame : slice_get s.frames.items c.args.f ≡ Some c.index-message.result.now = lent_at _ c.args.f _ (subst (λ n. c.args.f < n) (c.len.ensures ∙ c.self.inside.frames.ok.0) c.if-f-len.false) c.index-message.ensures in
     let up = subst (λ (w : WorldState). IsUp w c.args.p) (sym c.self.view_is) c.in_ok-is_up.ensures.up in
-    let w : WorldState = record { programs = map program_of s.images.items; live = s.live.entries; frames = s.frames.items; cores = s.cores.items; places = s.places.items; rounds = s.rounds.items; manager = s.manager; contents = map g.S.Stable.content s.stores.items; clean = map g.S.Stable.is_clean s.stores.items; origins = map g.S.Stable.content s.origins.value.items } in
-    subst (λ (v : WorldState). GiveHappened v c.args.p c.args.f (accepts.Taken c.in-Taken.x) (remade w c.add.new.self.entries w.frames c.offer_at.new.cores.items w.manager w.contents w.clean)) c.self.view_is
+    let w : WorldState = record { programs = map program_of s.images.items; live = s.live.entries; frames = s.frames.items; cores = s.cores.items; places = s.places.items; rounds = s.rounds.items; manager = s.manager; contents = map g.S.Stable.content s.stores.items; health = map (health_of g.S.Stable.is_clean g.S.Stable.failed) s.stores.items; origins = map g.S.Stable.content s.origins.value.items } in
+    subst (λ (v : WorldState). GiveHappened v c.args.p c.args.f (accepts.Taken c.in-Taken.x) (remade w c.add.new.self.entries w.frames c.offer_at.new.cores.items w.manager w.contents w.health)) c.self.view_is
     (given_taken w c.args.p c.args.f c.in-Taken.x c.index-message.result.now c.in_ok-entry.entry c.offer_at.new.cores.items c.add.new.self.entries up frame c.in_ok-entry.ensures
     (subst (λ a. IsOffered s.cores.items c.args.p c.index-message.result.now a c.offer_at.new.cores.items) c.in-Taken.is c.offer_at.ensures)
     (c.add.ensures ∙ ap (λ l. l ++ c.in_ok-entry.entry ∷ []) c.in_ok-make_room.ensures.entries))
@@ -57,20 +57,20 @@ returns-in-Memory-clause-happened g c =
     let s = c.self.inside in
     let frame : slice_get s.frames.items c.args.f ≡ Some c.index-message.result.now = lent_at _ c.args.f _ (subst (λ n. c.args.f < n) (c.len.ensures ∙ c.self.inside.frames.ok.0) c.if-f-len.false) c.index-message.ensures in
     let up = subst (λ (w : WorldState). IsUp w c.args.p) (sym c.self.view_is) c.in_ok-is_up.ensures.up in
-    let w : WorldState = record { programs = map program_of s.images.items; live = s.live.entries; frames = s.frames.items; cores = s.cores.items; places = s.places.items; rounds = s.rounds.items; manager = s.manager; contents = map g.S.Stable.content s.stores.items; clean = map g.S.Stable.is_clean s.stores.items; origins = map g.S.Stable.content s.origins.value.items } in
+    let w : WorldState = record { programs = map program_of s.images.items; live = s.live.entries; frames = s.frames.items; cores = s.cores.items; places = s.places.items; rounds = s.rounds.items; manager = s.manager; contents = map g.S.Stable.content s.stores.items; health = map (health_of g.S.Stable.is_clean g.S.Stable.failed) s.stores.items; origins = map g.S.Stable.content s.origins.value.items } in
     let o = subst (λ a. IsOffered s.cores.items c.args.p c.index-message.result.now a c.offer_at.new.cores.items) c.in-Memory.is c.offer_at.ensures in
-    subst (λ (v : WorldState). Happened v (Event.Give c.args.p c.args.f) (answered (Err refusals.Memory)) (remade w c.make_room.new.self.entries w.frames c.offer_at.new.cores.items w.manager w.contents w.clean)) c.self.view_is
+    subst (λ (v : WorldState). Happened v (Event.Give c.args.p c.args.f) (answered (Err refusals.Memory)) (remade w c.make_room.new.self.entries w.frames c.offer_at.new.cores.items w.manager w.contents w.health)) c.self.view_is
     (no_room w _ c.args.p c.args.f c.index-message.result.now (Err refusals.Memory) up c.self.invariant.shape frame refl
-    (ap (λ l. remade w l w.frames c.offer_at.new.cores.items w.manager w.contents w.clean) c.in_ok-make_room.ensures.entries ∙ ap (λ l. remade w w.live w.frames l w.manager w.contents w.clean) o.cores))
+    (ap (λ l. remade w l w.frames c.offer_at.new.cores.items w.manager w.contents w.health) c.in_ok-make_room.ensures.entries ∙ ap (λ l. remade w w.live w.frames l w.manager w.contents w.health) o.cores))
 
 pub returns-in_default-clause-happened : goal.returns-in_default-clause-happened
 returns-in_default-clause-happened g c =
     let s = c.self.inside in
     let frame : slice_get s.frames.items c.args.f ≡ Some c.index-message.result.now = lent_at _ c.args.f _ (subst (λ n. c.args.f < n) (c.len.ensures ∙ c.self.inside.frames.ok.0) c.if-f-len.false) c.index-message.ensures in
     let up = subst (λ (w : WorldState). IsUp w c.args.p) (sym c.self.view_is) c.in_ok-is_up.ensures.up in
-    let w : WorldState = record { programs = map program_of s.images.items; live = s.live.entries; frames = s.frames.items; cores = s.cores.items; places = s.places.items; rounds = s.rounds.items; manager = s.manager; contents = map g.S.Stable.content s.stores.items; clean = map g.S.Stable.is_clean s.stores.items; origins = map g.S.Stable.content s.origins.value.items } in
-    subst (λ (v : WorldState). GiveHappened v c.args.p c.args.f c.offer_at.result (remade w c.make_room.new.self.entries w.frames c.offer_at.new.cores.items w.manager w.contents w.clean)) c.self.view_is
-    (subst (λ l. GiveHappened w c.args.p c.args.f c.offer_at.result (remade w l w.frames c.offer_at.new.cores.items w.manager w.contents w.clean)) (sym c.in_ok-make_room.ensures.entries)
+    let w : WorldState = record { programs = map program_of s.images.items; live = s.live.entries; frames = s.frames.items; cores = s.cores.items; places = s.places.items; rounds = s.rounds.items; manager = s.manager; contents = map g.S.Stable.content s.stores.items; health = map (health_of g.S.Stable.is_clean g.S.Stable.failed) s.stores.items; origins = map g.S.Stable.content s.origins.value.items } in
+    subst (λ (v : WorldState). GiveHappened v c.args.p c.args.f c.offer_at.result (remade w c.make_room.new.self.entries w.frames c.offer_at.new.cores.items w.manager w.contents w.health)) c.self.view_is
+    (subst (λ l. GiveHappened w c.args.p c.args.f c.offer_at.result (remade w l w.frames c.offer_at.new.cores.items w.manager w.contents w.health)) (sym c.in_ok-make_room.ensures.entries)
     (not_given w c.args.p c.args.f c.index-message.result.now c.offer_at.result c.offer_at.new.cores.items up frame c.in_default.not-Taken c.in_default.not-Memory c.offer_at.ensures))
 
 pub returns-in_err-is_up-clause-happened : goal.returns-in_err-is_up-clause-happened

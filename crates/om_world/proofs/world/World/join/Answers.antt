@@ -1,10 +1,12 @@
-use Rattle.std.proofs.Common.{◌≡◌, Err, rules, subst, refl}
+use Rattle.std.proofs.Common.{◌≡◌, Err, rules, subst, sym, refl}
 use Rattle.om_recover.specs.declared.row.RowKind.TheVariants.{Log}
+use Rattle.om_world.specs.Played.{IsCounted}
 use Rattle.om_world.specs.steps.Gathering.{HasEntered}
-use Rattle.om_world.specs.steps.Moves.{HasCalled, HasTold, refusal_of_join, refusal_of_record, refusal_of_store}
+use Rattle.om_world.specs.steps.Moves.{HasCalled, HasTold, answered, refusal_of_join, refusal_of_record, refusal_of_store}
 use Rattle.om_world.specs.steps.Running.{HasHandedIn, refusal_of_output}
 use Rattle.om_world.proofs.Entering.{join_handed_keeps, join_happened, join_keeps, join_not_entered, join_not_handed, join_not_noted, join_not_stored}
 use Rattle.om_world.proofs.Keeping.{keeps_recorded, keeps_by}
+use Rattle.om_world.proofs.Recording.{store_counted}
 use Rattle.om_world.specs.declared.event.Event.{Event}
 use Rattle.om_world.proofs.NotRunning.{told_not_running}
 use Rattle.om_world.proofs.world.World.join.Goals as goal
@@ -15,6 +17,13 @@ returns-in_err-store-clause-happened g c = λ known.
     let h = subst (λ a. HasCalled Log w c.args.p a mid) c.in_err-store.was c.store.ensures.called in
     let is : c.from_residual-in_err-store.result ≡ Err (refusal_of_store c.in_err-store.field-0.0) = search rules in
     join_not_stored w mid c.args.p c.in_err-store.field-0.0 c.from_residual-in_err-store.result c.in_ok-is_up.ensures.up c.in_ok-is_gathering.ensures.open h is known
+
+pub returns-in_err-store-clause-counted : goal.returns-in_err-store-clause-counted
+returns-in_err-store-clause-counted g c =
+    let w = c.args.self.now in let mid = c.store.new.self in let fault = c.in_err-store.field-0.0 in
+    let h = subst (λ a. HasCalled Log w c.args.p a mid) c.in_err-store.was c.store.ensures.called in
+    let is : c.from_residual-in_err-store.result ≡ Err (refusal_of_store fault) = search rules in
+    subst (λ r. IsCounted w mid (answered r)) (sym is) (store_counted Log w mid c.args.p fault h)
 
 pub returns-in_err-end-clause-happened : goal.returns-in_err-end-clause-happened
 returns-in_err-end-clause-happened g c = λ known.

@@ -1,4 +1,5 @@
 use Rattle.std.proofs.Common.{◌+◌, arith, refl, subst, sym}
+use Rattle.om_world.proofs.FailureCounts.{counts_stay, one_counted}
 use Rattle.om_world.proofs.Keeping.{keeps_same}
 use Rattle.om_world.proofs.Faultless.{one_faultless}
 use Rattle.om_world.proofs.Playing.{IsPlayed, event_at, known_before, one_played}
@@ -10,6 +11,8 @@ loop-k-preserved g c =
     let same = c.push_reserved.ensures.capacity in
     record {
       room = omega arith;
+      counted = one_counted c.args.self.now c.loop-k.self c.happen-answer.new.self c.loop-k.answers.items _ c.happen-answer.result c.push_reserved.ensures.items
+          c.loop-k.invariant.played.counts c.happen-answer.ensures.keeps.counts c.loop-k.invariant.counted c.happen-answer.ensures.counted;
       faultless = λ never known. one_faultless c.loop-k.answers.items _ c.happen-answer.result c.push_reserved.ensures.items
           (c.loop-k.invariant.faultless never (known_before c.loop-k.self c.happen-answer.new.self c.happen-answer.ensures.keeps known))
           (c.happen-answer.ensures.faultless never known);
@@ -30,6 +33,9 @@ returns-in_err-answers-clause-size g c = refl
 pub returns-in_err-answers-clause-clean : goal.returns-in_err-answers-clause-clean
 returns-in_err-answers-clause-clean g c = λ all. all
 
+pub returns-in_err-answers-clause-counts : goal.returns-in_err-answers-clause-counts
+returns-in_err-answers-clause-counts g c = counts_stay c.args.self.now.health
+
 pub returns-in_err-answers-clause-always : goal.returns-in_err-answers-clause-always
 returns-in_err-answers-clause-always g c = c.told.ensures.always
 
@@ -47,6 +53,9 @@ returns-clause-size g c = c.loop-k.invariant.played.size
 
 pub returns-clause-clean : goal.returns-clause-clean
 returns-clause-clean g c = c.loop-k.invariant.played.clean
+
+pub returns-clause-counts : goal.returns-clause-counts
+returns-clause-counts g c = c.loop-k.invariant.played.counts
 
 pub returns-clause-always : goal.returns-clause-always
 returns-clause-always g c = c.told-2.ensures.always

@@ -1,6 +1,6 @@
-use Rattle.std.proofs.Common.{◌≡◌, ap, subst, sym, Err, rules}
+use Rattle.std.proofs.Common.{◌≡◌, subst, sym, Err, rules}
 use Rattle.om_world.specs.steps.Pruning.{AllPruned, HasPruned}
-use Rattle.om_world.proofs.Pruning.{none_pruned, one_pruned, refused_pruned}
+use Rattle.om_world.proofs.Pruning.{none_pruned, one_pruned, refused_all}
 use Rattle.om_world.proofs.world.World.prune_stores.Goals as goal
 
 pub loop-p-init : goal.loop-p-init
@@ -14,9 +14,4 @@ returns-in_err-prune_store-clause-pruned g c =
     let fault = c.in_err-prune_store.field-0.0 in
     let h = subst (λ a. HasPruned c.loop-p.self c.loop-p.p a c.prune_store.new.self) c.in_err-prune_store.was c.prune_store.ensures.pruned in
     let is : c.from_residual.result ≡ Err fault = search rules in
-    subst (λ r. AllPruned c.args.self.now r c.prune_store.new.self) (sym is) (record {
-      count = c.loop-p.p;
-      pruned = refused_pruned c.args.self.now c.loop-p.self c.prune_store.new.self c.loop-p.p fault c.loop-p.invariant h;
-      all = tt;
-      refused = λ e. h.never_present (ap Err e);
-    })
+    subst (λ r. AllPruned c.args.self.now r c.prune_store.new.self) (sym is) (refused_all c.args.self.now c.loop-p.self c.prune_store.new.self c.loop-p.p fault c.loop-p.invariant h)

@@ -1,8 +1,9 @@
 use Rattle.std.proofs.Common.{◌≡◌, subst, sym, Err, rules}
 use Rattle.om_world.specs.Happened.{Happened}
+use Rattle.om_world.specs.Played.{IsCounted}
 use Rattle.om_world.specs.steps.Moves.{HasCalled, HasTold, event_of, refusal_of_record, refusal_of_store, answered}
 use Rattle.om_world.proofs.Keeping.{keeps_called, keeps_recorded}
-use Rattle.om_world.proofs.Recording.{all_noted, some_noted, store_refused}
+use Rattle.om_world.proofs.Recording.{all_noted, some_noted, store_counted, store_refused}
 use Rattle.om_world.proofs.world.World.record.Goals as goal
 
 pub returns-in_err-store-clause-keeps : goal.returns-in_err-store-clause-keeps
@@ -13,6 +14,13 @@ returns-in_err-store-clause-happened g c = λ all.
     let h = subst (λ a. HasCalled c.args.kind c.args.self.now c.args.p a c.store.new.self) c.in_err-store.was c.store.ensures.called in
     let is : c.from_residual-in_err-store.result ≡ Err (refusal_of_store c.in_err-store.field-0.0) = search rules in
     subst (λ r. Happened c.args.self.now (event_of c.args.kind c.args.p) (answered r) c.store.new.self) (sym is) (store_refused c.args.kind c.args.self.now c.store.new.self c.args.p c.in_err-store.field-0.0 c.in_ok-is_up.ensures.up h all)
+
+pub returns-in_err-store-clause-counted : goal.returns-in_err-store-clause-counted
+returns-in_err-store-clause-counted g c =
+    let w = c.args.self.now in let mid = c.store.new.self in let fault = c.in_err-store.field-0.0 in
+    let h = subst (λ a. HasCalled c.args.kind w c.args.p a mid) c.in_err-store.was c.store.ensures.called in
+    let is : c.from_residual-in_err-store.result ≡ Err (refusal_of_store fault) = search rules in
+    subst (λ r. IsCounted w mid (answered r)) (sym is) (store_counted c.args.kind w mid c.args.p fault h)
 
 pub returns-in_err-end-clause-happened : goal.returns-in_err-end-clause-happened
 returns-in_err-end-clause-happened g c = λ all.

@@ -1,4 +1,0 @@
-use Rattle.om_runner.proofs.contact.Contact.withdraw.Goals as goal
-
-pub returns : goal.returns
-returns g c = (_, c.withdraw.new.self, c.manager.ensures.sound, record { told = c.withdraw.ensures.told; passed_over = c.withdraw.ensures.passed_over })

@@ -1,0 +1,329 @@
+//! What a worker has to do with the manager.
+
+ghost use Rattle.std.specs.Prelude.{◌≡◌, ◌<◌, ◌↔◌, [], Any, IfNone, IfOk, IfSome, IsTrue, OnOk, false, is_some, length};
+ghost use Rattle.om_board.specs.Boards.{IsBoard};
+ghost use Rattle.om_member.specs.Handed.{outputs_from};
+ghost use Rattle.om_runner.specs.steps.Acts.{AreLimits, HasDeclared, HasHandedOver, HasJoined, HasMet, HasOffered, HasPruned, HasRefused, HasWaited, HasWithdrawn, IsStanding, IsVerdictOf, UnderLock};
+
+use crate::desk::Desk;
+use crate::diary::Diary;
+use crate::node::Node;
+use crate::worker_fault::WorkerFault;
+use om_board::{Front, Naming, Pass, Shared};
+use om_interval::{Bounds, Pid, Starts, Verdict};
+use om_member::Office;
+use om_process::{ProcCore, Row};
+use om_stable::Stable;
+use std::alloc::Global;
+use std::sync::Wait;
+
+// How the manager stands.
+#[derive(Clone, Copy)]
+pub(crate) enum Standing {
+    // No gathering is open.
+    Closed,
+    // A gathering is open.
+    Gathers,
+    // All processes are quiet.
+    Quiet,
+}
+
+// What need not be kept any longer: by the process what is below the bounds, and by its store what stands before the
+// checkpoint.
+#[derive(Clone, Copy)]
+pub(crate) struct Limits {
+    pub(crate) bounds: Bounds,
+    pub(crate) checkpoint: u32,
+}
+
+// What the manager says of a finished round.
+#[derive(Drop)]
+pub(crate) struct RoundOutcome {
+    pub(crate) verdict: Verdict,
+    pub(crate) starts: Starts,
+}
+
+// What the worker of a process knows of the manager.
+#[derive(Drop)]
+pub(crate) struct ManagerLink<'a, K: Naming> {
+    pub(crate) pid: Pid,
+    shared: &'a Shared<K>,
+    // The round that the process is in.
+    round: u32,
+    // The version when it last looked for an open gathering.
+    seen: u64,
+    // How many outputs the manager had of the process then.
+    handed: u64,
+    ghost place: { pid < K.cell.n },
+}
+
+// Whether one of the rows is a checkpoint's.
+fn have_checkpoint(rows: &[Row]) -> bool
+    ensures { IsTrue result ↔ Any (λ row. IsTrue row.ckpt) rows.now }
+{
+    rows.iter().any(|row| row.ckpt)
+}
+
+// Whether one of them is a receipt's.
+fn have_receipt(rows: &[Row]) -> bool {
+    rows.iter().any(|row| !row.ckpt)
+}
+
+impl<'a, K: Naming> ManagerLink<'a, K> {
+    // Of a process at its start.
+    pub(crate) fn new(pid: Pid, shared: &'a Shared<K>) -> ManagerLink<'a, K>
+        requires { pid < K.cell.n }
+        ensures { result.pid ≡ pid }
+    {
+        ManagerLink {
+            pid,
+            shared,
+            round: 0,
+            seen: 0,
+            handed: 0,
+        }
+    }
+
+    // The last front.
+    pub(crate) fn read<R: Wait>(&self, rt: &R, pass: &mut Pass<K>) -> Front {
+        self.shared.frontier.read(rt, pass)
+    }
+
+    // Whether a round is finished that the process does not know yet.
+    pub(crate) fn is_behind(&self, front: &Front) -> bool {
+        front.round > self.round
+    }
+
+    // Whether there is something to hand in or to learn.
+    pub(crate) fn is_due(&self, core: &ProcCore, front: &Front, ended: bool) -> bool
+        ensures running { result ≡ false → ended ≡ false }
+        ensures told { result ≡ false → core.now.pending ≡ [] }
+        ensures handed { result ≡ false → outputs_from core.now self.now.handed ≡ [] }
+    {
+        ended
+            || front.version != self.seen
+            || !core.pending().is_empty()
+            || !core.outputs_from(self.handed).is_empty()
+    }
+
+    // Hands over all that the process has: its pending rows, and the outputs that the manager has not.
+    fn hand_over<S: Stable, R: Wait>(
+        &mut self,
+        alloc: Global,
+        desk: &mut Desk<'_, K, R>,
+        node: &mut Node<'_, S>,
+    ) -> Result<(), WorkerFault>
+        requires { node.old.member.own ≡ self.old.pid }
+        ensures pid { self.new.pid ≡ self.old.pid }
+        ensures round { self.new.round ≡ self.old.round }
+        ensures member { node.new.member ≡ node.old.member }
+        ensures sound { IsBoard K.cell.n desk.old.board.now }
+        ensures over { OnOk result (HasHandedOver desk.old.board.now.manager self.old.pid node.old.core
+            desk.new.board.now.manager node.new.core) }
+    {
+        // The look tells what holds of every board.
+        let _ = desk.board.manager();
+        let (_, end) = node.note(desk, alloc);
+        end?;
+        node.hand_in(desk, alloc)?;
+        self.handed = desk.board.manager().next_output(self.pid);
+        Ok(())
+    }
+
+    // Prunes the manager where it was told of a checkpoint. Then it says what need not be kept any longer.
+    fn prune<R: Wait>(&self, desk: &mut Desk<'_, K, R>, has_checkpoint: bool) -> Option<Limits>
+        ensures asked { is_some result ≡ has_checkpoint }
+        ensures pruned { IfSome result (λ l. HasPruned desk.old.board.now.manager desk.new.board.now.manager) }
+        ensures limits { IfSome result (λ l. AreLimits desk.new.board.now.manager self.now.pid l) }
+        ensures places { IfSome result (λ l. length l.bounds.got ≡ K.cell.n) }
+        ensures unpruned { IfNone result (desk.new.board.now ≡ desk.old.board.now) }
+    {
+        if !has_checkpoint {
+            return None;
+        }
+        desk.prune();
+        let manager = desk.board.manager();
+        Some(Limits {
+            bounds: manager.bounds(self.pid),
+            checkpoint: manager.effective(self.pid),
+        })
+    }
+
+    // How the manager stands. A process that has ended reports itself quiet.
+    fn ask<R: Wait>(&self, desk: &mut Desk<'_, K, R>, ended: bool) -> Standing
+        ensures { IsStanding desk.old.board.now self.now.pid self.now.round ended result desk.new.board.now }
+    {
+        if desk.board.manager().gathering() {
+            Standing::Gathers
+        } else if ended && desk.board.quiet(self.pid, self.round) {
+            Standing::Quiet
+        } else {
+            Standing::Closed
+        }
+    }
+
+    // Hands over all that the process has, and says how the manager stands. One that has ended reports itself quiet. Where a
+    // checkpoint was among the rows, the manager is pruned, and says what need not be kept any longer.
+    pub(crate) fn meet<S: Stable, R: Wait>(
+        &mut self,
+        rt: &R,
+        alloc: Global,
+        node: &mut Node<'_, S>,
+        ended: bool,
+        diary: &mut Diary<'_>,
+        pass: Pass<K>,
+    ) -> Result<(Standing, Option<Limits>, Pass<K>), WorkerFault>
+        requires { node.old.member.own ≡ self.old.pid }
+        ensures pid { self.new.pid ≡ self.old.pid }
+        ensures round { self.new.round ≡ self.old.round }
+        ensures member { node.new.member ≡ node.old.member }
+        ensures limits { IfOk result (λ met. IfSome met.1 (λ l. length l.bounds.got ≡ K.cell.n)) }
+        ensures met { IfOk result (λ met. UnderLock K.cell.n (λ before after.
+            HasMet before self.old.pid self.old.round ended node.old.core met.0 met.1 after node.new.core)) }
+    {
+        let has_checkpoint = have_checkpoint(node.core().pending());
+        let has_receipt = have_receipt(node.core().pending());
+        let mut guard = self.shared.board.lock(rt);
+        let mut desk = Desk {
+            rt,
+            board: &mut *guard,
+            frontier: &self.shared.frontier,
+        };
+        self.hand_over(alloc, &mut desk, node)?;
+        diary.noted(rt, has_receipt, has_checkpoint)?;
+        diary.announce(rt, desk.board.manager())?;
+        let limits = self.prune(&mut desk, has_checkpoint);
+        let standing = self.ask(&mut desk, ended);
+        let (front, pass) = desk.frontier.meet(rt, desk.board, pass);
+        self.seen = front.version;
+        Ok((standing, limits, pass))
+    }
+
+    // Hands over all that the process has, and joins the open gathering. Says whether that finished the round.
+    pub(crate) fn join<S: Stable, R: Wait>(
+        &mut self,
+        rt: &R,
+        alloc: Global,
+        node: &mut Node<'_, S>,
+        diary: &mut Diary<'_>,
+        pass: Pass<K>,
+    ) -> Result<(bool, Pass<K>), WorkerFault>
+        requires { node.old.member.own ≡ self.old.pid }
+        ensures pid { self.new.pid ≡ self.old.pid }
+        ensures round { self.new.round ≡ self.old.round }
+        ensures member { node.new.member ≡ node.old.member }
+        ensures joined { OnOk result (UnderLock K.cell.n (λ before after.
+            HasJoined before.manager self.old.pid node.old.core after.manager node.new.core)) }
+    {
+        let mut guard = self.shared.board.lock(rt);
+        let mut desk = Desk {
+            rt,
+            board: &mut *guard,
+            frontier: &self.shared.frontier,
+        };
+        self.hand_over(alloc, &mut desk, node)?;
+        let core = node.core();
+        desk.join(alloc, self.pid, core.round(), core.interval())?;
+        let (front, pass) = desk.frontier.meet(rt, desk.board, pass);
+        self.seen = front.version;
+        let is_finished = front.round > self.round;
+        diary.joined(rt, &front, is_finished)?;
+        diary.announce(rt, desk.board.manager())?;
+        Ok((is_finished, pass))
+    }
+
+    // Tells the board that the process puts all that it keeps anew from now on.
+    pub(crate) fn offer<R: Wait>(&self, rt: &R)
+        ensures { UnderLock K.cell.n (λ before after. HasOffered before self.now.pid self.now.round after) }
+    {
+        let mut guard = self.shared.board.lock(rt);
+        let board = &mut *guard;
+        // The look tells what holds of every board.
+        let _ = board.manager();
+        board.offer(self.pid, self.round);
+    }
+
+    // Tells the board that the process waits, with how many messages it has put and taken, and says whether all wait.
+    pub(crate) fn wait<R: Wait>(&self, rt: &R, put: u64, taken: u64) -> bool
+        ensures { UnderLock K.cell.n (λ before after. HasWaited before self.now.pid self.now.round put taken result after) }
+    {
+        let mut guard = self.shared.board.lock(rt);
+        let board = &mut *guard;
+        // The look tells what holds of every board.
+        let _ = board.manager();
+        board.wait(self.pid, self.round, put, taken)
+    }
+
+    // Takes back that the process waits.
+    pub(crate) fn withdraw<R: Wait>(&self, rt: &R)
+        ensures { UnderLock K.cell.n (λ before after. HasWithdrawn before self.now.pid after) }
+    {
+        let mut guard = self.shared.board.lock(rt);
+        let board = &mut *guard;
+        // The look tells what holds of every board.
+        let _ = board.manager();
+        board.withdraw(self.pid);
+    }
+
+    // Tells the board of a message that was refused, and that a resend may bring rightly.
+    pub(crate) fn refuse<R: Wait>(&self, rt: &R)
+        ensures { UnderLock K.cell.n (λ before after. HasRefused before after) }
+    {
+        let mut guard = self.shared.board.lock(rt);
+        let board = &mut *guard;
+        // The look tells what holds of every board.
+        let _ = board.manager();
+        board.refuse();
+    }
+
+    // Tells the manager that the process failed.
+    pub(crate) fn declare<R: Wait>(
+        &mut self,
+        rt: &R,
+        alloc: Global,
+        diary: &mut Diary<'_>,
+        pass: Pass<K>,
+    ) -> Result<Pass<K>, WorkerFault>
+        ensures pid { self.new.pid ≡ self.old.pid }
+        ensures round { self.new.round ≡ self.old.round }
+        ensures declared { OnOk result (UnderLock K.cell.n (λ before after.
+            HasDeclared before.manager self.old.pid self.old.round after.manager)) }
+    {
+        let mut guard = self.shared.board.lock(rt);
+        let board = &mut *guard;
+        // The look tells what holds of every board.
+        let _ = board.manager();
+        let frontier = &self.shared.frontier;
+        board.fail(rt, alloc, self.pid, self.round, frontier)?;
+        let (front, pass) = frontier.meet(rt, board, pass);
+        self.seen = front.version;
+        diary.failed(rt, &front, front.round > self.round)?;
+        diary.announce(rt, board.manager())?;
+        Ok(pass)
+    }
+
+    // What the manager says of the last finished round, which the process is in from now on.
+    pub(crate) fn hear<R: Wait>(
+        &mut self,
+        rt: &R,
+        alloc: Global,
+        pass: Pass<K>,
+    ) -> Result<(RoundOutcome, Pass<K>), WorkerFault>
+        ensures pid { self.new.pid ≡ self.old.pid }
+        ensures starts { IfOk result (λ r. length r.0.starts ≡ K.cell.n) }
+        ensures round { IfOk result (λ r. self.new.round ≡ r.0.verdict.round) }
+        ensures round_outcome { IfOk result (λ r. UnderLock K.cell.n (λ before after.
+            (r.0.starts ≡ before.manager.starts) × IsVerdictOf before.manager self.old.pid r.0.verdict × (after ≡ before))) }
+    {
+        let mut guard = self.shared.board.lock(rt);
+        let board = &mut *guard;
+        // The next gathering may be open already: `seen` stays, so that the next turn looks for it.
+        let (_, pass) = self.shared.frontier.meet(rt, board, pass);
+        let manager = board.manager();
+        let verdict = manager.verdict(self.pid);
+        let starts = manager.starts().copy(alloc)?;
+        self.round = verdict.round;
+        self.handed = manager.next_output(self.pid);
+        Ok((RoundOutcome { verdict, starts }, pass))
+    }
+}

@@ -1,0 +1,18 @@
+-- Names, and values by name.
+use Rattle.std.specs.Prelude.{ℕ, Bool, ◌&&◌, ◌||◌, List, map, length, Option, position, nat_lt, nat_le, ◌==◌}
+use Rattle.std.specs.List.{list_all}
+use Rattle.std.specs.Str.{bytes_eq}
+use Rattle.om_scripts.specs.declared.names.TheConstants.{MAX_NAME}
+
+-- a letter, a digit or `_`
+abbrev pub is_name_byte : ℕ → Bool
+is_name_byte b =
+    (nat_le 97 b && nat_le b 122) || (nat_le 65 b && nat_le b 90) || (nat_le 48 b && nat_le b 57) || (b == 95)
+
+-- one such byte or more, and not too many
+abbrev pub is_name : List ℕ → Bool
+is_name word = nat_lt 0 (length word) && nat_le (length word) MAX_NAME && list_all is_name_byte word
+
+-- the place of a name
+abbrev pub place_of : {V : Type 0} → List ℕ → List (List ℕ × V) → Option ℕ
+place_of name named = position (λ other. bytes_eq name other) (map (λ e. e.0) named)

@@ -1,0 +1,83 @@
+-- What the lines mean that give a cluster's programs and its processes.
+use Rattle.std.specs.Prelude.{◌≡◌, ℕ, ◌*◌, ◌<◌, ◌≤◌, All, Bool, false, true, not, ◌||◌, List, [], ◌∷◌, ◌++◌, length, flat_map, map, slice_index_or, Result, Ok, Err, is_some, nat_lt, nat_le}
+use Rattle.std.specs.Int.{to_le_bytes, w32}
+use Rattle.om_interval.specs.declared.pid.TheConstants.{MAX_PROCESSES}
+use Rattle.om_isa.specs.declared.ext.Ext.{Ext}
+use Rattle.om_isa.specs.declared.ext.Ext.TheVariants.{I}
+use Rattle.om_format.specs.Checkpoints.{is_memory_size}
+use Rattle.om_process.specs.Process.{Program}
+use Rattle.om_text.specs.Numbers.{number_of, hex_word}
+use Rattle.om_text.specs.Reading.{◌>>=◌, refused, or_error}
+use Rattle.om_text.specs.declared.error.LineError.{LineError}
+use Rattle.om_text.specs.declared.error.LineError.TheVariants.{WrongCount, BadNumber, BadWord, BadName, NameTaken, NoSuchName, OutOfPlace, TooMany, BadSize, ImageTooLong}
+use Rattle.om_scripts.specs.Named.{is_name, place_of}
+
+-- what has been read: the programs by name, the processes by name, each with the place of its program, and whether other
+-- lines have begun
+pub record Cluster : Type 0 where
+  pub programs : List (List ℕ × Program)
+  pub processes : List (List ℕ × ℕ)
+  pub is_closed : Bool
+
+-- nothing has been read
+abbrev pub no_programs : Cluster
+no_programs = record { programs = []; processes = []; is_closed = false }
+
+-- a machine is loaded with the program
+pub record IsProgram (p : Program) : Type 0 where
+  pub size : is_memory_size p.size ≡ true
+  pub fits : length p.image ≤ p.size
+
+-- what holds of what has been read, whatever the lines were
+pub record IsCluster (c : Cluster) : Type 0 where
+  pub programs : All (λ e. IsProgram e.1) c.programs
+  pub places : All (λ e. e.1 < length c.programs) c.processes
+  pub few : length c.processes ≤ MAX_PROCESSES
+
+-- the program at a place
+abbrev pub program_at : Cluster → ℕ → Program
+program_at cluster place = (slice_index_or cluster.programs place ([], record { image = []; size = 0; ext = I })).1
+
+-- the name of the program at a place
+abbrev pub program_name : Cluster → ℕ → List ℕ
+program_name cluster place = (slice_index_or cluster.programs place ([], record { image = []; size = 0; ext = I })).0
+
+-- the program of each process
+abbrev pub programs_of : Cluster → List Program
+programs_of cluster = map (λ e. program_at cluster e.1) cluster.processes
+
+-- the words of the machine that the words of the line write, if each writes one
+abbrev pub words_in : List (List ℕ) → Result (List ℕ) LineError
+words_in [] = Ok []
+words_in (word ∷ words) = do
+  w ← or_error (hex_word word) BadWord
+  ws ← words_in words
+  Ok (w ∷ ws)
+
+-- the program of an image in words
+abbrev pub program_in : Ext → ℕ → List ℕ → Program
+program_in ext size words = record { image = flat_map (to_le_bytes w32) words; size = size; ext = ext }
+
+-- a line `program NAME SIZE WORD ..`, by the words behind its first
+abbrev pub program_line : Ext → Cluster → List (List ℕ) → Result Cluster LineError
+program_line ext cluster (name ∷ size ∷ words) = do
+  bytes ← or_error (number_of size) BadNumber
+  image ← words_in words
+  _ ← refused (not (is_name name)) BadName
+  _ ← refused (is_some (place_of name cluster.programs)) NameTaken
+  _ ← refused cluster.is_closed OutOfPlace
+  _ ← refused (not (is_memory_size bytes)) BadSize
+  _ ← refused (nat_lt bytes (4 * length image)) ImageTooLong
+  Ok (record cluster { programs = cluster.programs ++ (name, program_in ext bytes image) ∷ [] })
+program_line ext cluster _ = Err WrongCount
+
+-- a line `proc NAME PROGRAM`, by the words behind its first
+abbrev pub process_line : Cluster → List (List ℕ) → Result Cluster LineError
+process_line cluster (name ∷ program ∷ []) = do
+  _ ← refused (not (is_name name) || not (is_name program)) BadName
+  _ ← refused (is_some (place_of name cluster.processes)) NameTaken
+  place ← or_error (place_of program cluster.programs) NoSuchName
+  _ ← refused cluster.is_closed OutOfPlace
+  _ ← refused (nat_le MAX_PROCESSES (length cluster.processes)) TooMany
+  Ok (record cluster { processes = cluster.processes ++ (name, place) ∷ [] })
+process_line cluster _ = Err WrongCount
