@@ -4,4 +4,5 @@ pub mod CellNames
 pub mod Waits
 pub mod Boards
 pub mod Released
+pub mod Made
 pub mod steps

@@ -1,4 +1,4 @@
-ghost use Rattle.std.specs.Prelude.{◌≡◌, ◌≢◌, ◌≤◌, ◌<◌, ◌↔◌, ℕ, [], ◌∷◌, length, slice_set, true, None, IsTrue, OnOk, OnErr};
+ghost use Rattle.std.specs.Prelude.{◌≡◌, ◌≢◌, ◌≤◌, ◌<◌, ◌↔◌, ℕ, [], ◌∷◌, length, replicate, slice_set, true, None, IsTrue, OnOk, OnErr};
 ghost use mathlib.Core.List.{IsPrefix};
 ghost use Rattle.om_interval.specs.Vectors.{IsBelow};
 ghost use Rattle.om_interval.specs.declared.pid.TheConstants.{MAX_PROCESSES};
@@ -9,6 +9,7 @@ ghost use Rattle.om_manager.specs.Sound.{KeepsReleased};
 ghost use Rattle.om_manager.specs.Notes.{Notes, NotesOutput};
 ghost use Rattle.om_manager.specs.Rounds.{Failing, Joining};
 ghost use Rattle.om_board.specs.Fronts.{front_of, first_front, EndsWith, Follows};
+ghost use Rattle.om_board.specs.Made.{HoldsMade, IsMade};
 ghost use Rattle.om_board.specs.Boards.{IsBoard, MayRest, MayWait, AreAllQuiet, DoAllWait, nobody, all_owe, told_by};
 ghost use Rattle.om_board.specs.declared.waiting.Waiting.TheVariants.{Owes, Offers, Waits};
 
@@ -23,6 +24,7 @@ use std::marker::Model;
 use std::sync::Wait;
 
 /// The manager with the leave to post to the frontier: each call that changes the manager posts its front in the same call.
+/// Over clean stores each output that it holds is one that its process's program makes.
 #[derive(Drop)]
 pub struct Board<K: Naming> {
     manager: Manager,
@@ -35,6 +37,7 @@ pub struct Board<K: Naming> {
 
 impl<K: Naming> Model for Board<K> {
     ghost use Rattle.om_board.specs.Boards.{BoardState, IsBoard};
+    ghost use Rattle.om_board.specs.Made.{HoldsMade};
     ghost use Rattle.om_board.specs.steps.Codes.{coded_board};
 
     ghost Value = { BoardState };
@@ -43,7 +46,8 @@ impl<K: Naming> Model for Board<K> {
 
     ghost view = { λ b. record { manager = b.manager; posted = b.writer; quiet = b.quiet; waiting = b.waiting } };
 
-    ghost invariant = { λ b. IsBoard K.cell.n (record { manager = b.manager; posted = b.writer; quiet = b.quiet; waiting = b.waiting }) };
+    ghost invariant = { λ b. IsBoard K.cell.n (record { manager = b.manager; posted = b.writer; quiet = b.quiet; waiting = b.waiting })
+        × (K.OverClean → HoldsMade K.programs K.cell.n b.manager) };
 }
 
 impl<K: Naming> Board<K> {
@@ -51,6 +55,7 @@ impl<K: Naming> Board<K> {
     pub(crate) fn new(manager: Manager, writer: Writer<K>) -> Board<K>
         requires places { size_of manager ≡ K.cell.n }
         requires first { front_of manager ≡ first_front K.cell.n }
+        requires outputs { manager.outputs ≡ replicate K.cell.n [] }
         requires posted { writer ≡ first_front K.cell.n ∷ [] }
         ensures manager { result.manager ≡ manager }
         ensures posted { result.posted ≡ first_front K.cell.n ∷ [] }
@@ -71,6 +76,7 @@ impl<K: Naming> Board<K> {
     pub fn manager(&self) -> &Manager
         ensures manager { result.now ≡ self.now.manager }
         ensures sound { IsBoard K.cell.n self.now }
+        ensures made { K.OverClean → HoldsMade K.programs K.cell.n self.now.manager }
     {
         &self.manager
     }
@@ -135,7 +141,8 @@ impl<K: Naming> Board<K> {
         told
     }
 
-    /// [`Manager::note_output`](om_manager::Manager::note_output). No front comes of it.
+    /// [`Manager::note_output`](om_manager::Manager::note_output), of an output that the process's program makes. No front comes
+    /// of it.
     pub fn note_output<R: Wait>(
         &mut self,
         _rt: &R,
@@ -147,6 +154,7 @@ impl<K: Naming> Board<K> {
         bytes: &[u8],
         _frontier: &Frontier<K>,
     ) -> Result<OutputNote, OutputError>
+        requires made { K.OverClean → IsMade K.programs K.cell.n pid seq (record { interval = x; bytes = bytes.now }) }
         ensures answer { NotesOutput self.old.manager
             (record { pid = pid; round = round; seq = seq; output = record { interval = x; bytes = bytes.now } })
             result self.new.manager }
@@ -259,9 +267,9 @@ impl<K: Naming> Board<K> {
     /// anew, where `round` is not the manager's, and while a gathering is open. Says whether all wait.
     ///
     /// A process that waits neither runs nor puts nor takes before it withdraws. So where as many messages were taken as put,
-    /// every inbox is empty. Each message that is kept anywhere was put since its process offered: after the last that was
-    /// refused for another reason than that it was received before, and after its process had last run or received. So it
-    /// was received, then or before, or its receiver has ended. A resend brings nothing else, no process can go on without a
+    /// every inbox is empty. Each message that is kept anywhere was put since its process offered, or left out since it had been
+    /// received where its receiver stands: after the last that was refused for another reason than that it was received
+    /// before, and after its process had last run or received. So it was received, then or before, or its receiver has ended. A resend brings nothing else, no process can go on without a
     /// message, none that has ended goes on at all, and only a receipt makes one fail: until the run ends, nothing happens.
     pub fn wait(&mut self, pid: Pid, round: u32, put: u64, taken: u64) -> bool
         requires { pid < size_of self.old.manager }

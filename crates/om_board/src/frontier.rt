@@ -12,17 +12,31 @@ use std::alloc::{AllocError, Global};
 use std::marker::{Brand, Model, PhantomData};
 use std::sync::Wait;
 
-/// Names the cell of one frontier, in proofs alone. Whoever makes a [`Blank`] goes on in a function generic over it.
+/// Names the cell of one frontier and the programs of its processes, in proofs alone. Whoever makes a [`Blank`] goes on in a
+/// function generic over it.
 pub trait Naming {
+    ghost use Rattle.std.specs.Prelude.{List};
+    ghost use Rattle.om_process.specs.Process.{Program};
     ghost use Rattle.om_board.specs.CellNames.{CellName};
 
     ghost cell: { CellName };
+
+    // By process.
+    ghost programs: { List Program };
+
+    // That the stores of the processes are clean: only then is it known what a process that comes back from one puts out.
+    ghost OverClean: { Type 0 };
 }
 
 impl Naming for Brand {
+    ghost use Rattle.std.specs.Prelude.{[]};
     ghost use Rattle.om_board.specs.CellNames.{no_cell};
 
     ghost cell = { no_cell };
+
+    ghost programs = { [] };
+
+    ghost OverClean = { ⊥ };
 }
 
 /// The cell of a frontier that has no name yet. To a contract it is what a name says of it.

@@ -1,10 +1,12 @@
 //! What a run of a cluster ends with.
 
-ghost use Rattle.std.specs.Prelude.{◌≡◌, ◌<◌, IfOk, length, map};
+ghost use Rattle.std.specs.Prelude.{◌≡◌, ◌<◌, ℕ, IfOk, List, length, map};
 ghost use Rattle.om_board.specs.Fronts.{front_of};
+ghost use Rattle.om_board.specs.Made.{AreAllMade, HoldsMade};
 ghost use Rattle.om_board.specs.Released.{AreAllReleased, AreReleasedBy};
 ghost use Rattle.om_manager.specs.Outputs.{AreNumbered, held_of};
 ghost use Rattle.om_manager.specs.State.{released_by as held_within, size_of};
+ghost use Rattle.om_process.specs.Process.{Program};
 
 use crate::front::Front;
 use om_interval::Pid;
@@ -77,6 +79,8 @@ impl Report {
         ensures statuses { IfOk result (λ report. report.statuses ≡ statuses) }
         ensures front { IfOk result (λ report. report.front ≡ front_of manager.now) }
         ensures released { IfOk result (λ report. AreAllReleased report.front.vec report.released.items) }
+        ensures made { (programs : List Program) (n : ℕ) → HoldsMade programs n manager.now
+            → IfOk result (λ report. AreAllMade programs n report.released.items) }
     {
         Ok(Report {
             released: released_by(alloc, manager)?,

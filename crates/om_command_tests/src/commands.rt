@@ -1,19 +1,15 @@
 use crate::rows::How::{Refused, Writes};
 use crate::rows::{Command, Row, check};
+use om_commands::CommandError;
 use om_commands::decode::decode;
 use om_commands::frontier::frontier;
-use om_commands::run::run;
 use om_commands::sim::sim;
-use om_commands::{CommandError, InMemory};
 use om_isa::Ext;
 use om_text::MAX_BYTES;
 use std::alloc::Global;
 use std::io;
 use std::io::{Read, Write};
 use std::process::Abort;
-use std::sync::Wait;
-use std::thread::Threads;
-use std::time::Clock;
 
 static FRONTIERS: [Row; 24] = [
     ("procs 1", Writes, "recovery 0\n"),
@@ -155,38 +151,20 @@ impl Write for Failing {
     }
 }
 
-// The turns of a worker.
-const TURNS: u64 = 1_000;
-
 // What each command answers to a stream that fails in its midst, and how much it wrote.
-fn unread<R: Threads + Wait + Clock + Sync>(
-    rt: &R,
-    alloc: Global,
-) -> ([Result<(), CommandError>; 4], usize) {
+fn unread(alloc: Global) -> ([Result<(), CommandError>; 3], usize) {
     let mut written = Vec::new(alloc);
     let answers = [
         frontier(alloc, &mut Failing { calls: 3 }, &mut written),
         decode(alloc, Ext::I, &mut Failing { calls: 3 }, &mut written),
         sim(alloc, &mut Failing { calls: 3 }, &mut written),
-        run(
-            rt,
-            alloc,
-            TURNS,
-            &InMemory,
-            &mut Failing { calls: 3 },
-            &mut written,
-        ),
     ];
     (answers, written.len())
 }
 
 // What each answers where its text cannot be written to the end.
-fn unwritten<R: Threads + Wait + Clock + Sync>(
-    rt: &R,
-    alloc: Global,
-) -> [Result<(), CommandError>; 4] {
+fn unwritten(alloc: Global) -> [Result<(), CommandError>; 3] {
     let mut one = b"program a 16 00000893 00000073\nproc p a\n".as_slice();
-    let mut same = one;
     [
         frontier(alloc, &mut b"procs 1".as_slice(), &mut Failing { calls: 3 }),
         decode(
@@ -196,28 +174,20 @@ fn unwritten<R: Threads + Wait + Clock + Sync>(
             &mut Failing { calls: 3 },
         ),
         sim(alloc, &mut one, &mut Failing { calls: 3 }),
-        run(
-            rt,
-            alloc,
-            TURNS,
-            &InMemory,
-            &mut same,
-            &mut Failing { calls: 3 },
-        ),
     ]
 }
 
 // Nothing is written of what cannot be read.
 #[test]
 fn streams_that_fail(rt: HostRuntime) {
-    let (answers, written) = unread(&rt, rt.alloc());
+    let (answers, written) = unread(rt.alloc());
     assert!(&rt;
-        answers == [Err(CommandError::CannotRead); 4] && written == 0,
+        answers == [Err(CommandError::CannotRead); 3] && written == 0,
         "{answers:?}"
     );
-    let answers = unwritten(&rt, rt.alloc());
+    let answers = unwritten(rt.alloc());
     assert!(&rt;
-        answers == [Err(CommandError::CannotWrite); 4],
+        answers == [Err(CommandError::CannotWrite); 3],
         "{answers:?}"
     );
 }

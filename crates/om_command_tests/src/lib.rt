@@ -1,10 +1,6 @@
-//! Tests of programs and the commands, also over stores in tables.
+//! Tests of programs and the commands but those that run a cluster, also over stores in tables.
 #![tactic(auto)]
 
-#[cfg(test)]
-mod checks;
-#[cfg(test)]
-mod clusters;
 #[cfg(test)]
 mod commands;
 #[cfg(test)]
@@ -18,8 +14,4 @@ mod replay;
 #[cfg(test)]
 mod rows;
 #[cfg(test)]
-mod run;
-#[cfg(test)]
 mod sim;
-#[cfg(test)]
-mod waiting;

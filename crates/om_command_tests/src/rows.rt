@@ -1,18 +1,13 @@
 //! Rows of the commands that read a text: what a command is given, and what it must write or be refused with.
 
 use crate::ending::check_end;
-use om_commands::check::run_checked;
+use om_commands::CommandError;
 use om_commands::decode::decode;
 use om_commands::frontier::frontier;
-use om_commands::run::run;
 use om_commands::sim::sim;
-use om_commands::{CommandError, InMemory};
 use om_isa::Ext;
 use std::alloc::Global;
 use std::process::Abort;
-use std::sync::Wait;
-use std::thread::Threads;
-use std::time::Clock;
 
 /// A command that reads a text.
 #[derive(Clone, Copy)]
@@ -20,10 +15,6 @@ pub enum Command {
     Frontier,
     Decode(Ext),
     Sim,
-    /// Over stores in memory. A worker takes so many turns.
-    Run(u64),
-    /// The same, checked.
-    Check(u64),
 }
 
 /// How the text of a row is meant.
@@ -42,22 +33,16 @@ pub enum How {
 pub type Row = (&'static str, How, &'static str);
 
 /// Compares what the command makes of each row's input, behind the head that all have.
-pub fn check<R: Threads + Wait + Clock + Abort + Sync>(
-    rt: &R,
-    alloc: Global,
-    command: Command,
-    head: &str,
-    rows: &[Row],
-) {
+pub fn check(rt: &impl Abort, alloc: Global, command: Command, head: &str, rows: &[Row]) {
     for (end, how, wanted) in rows {
         let input = format!(in alloc; "{head}{end}").expect(rt, "memory");
         check_input(rt, alloc, command, &input, *how, wanted);
     }
 }
 
-/// Compares what the command makes of an input.
-pub fn check_input<R: Threads + Wait + Clock + Abort + Sync>(
-    rt: &R,
+// Compares what the command makes of an input.
+fn check_input(
+    rt: &impl Abort,
     alloc: Global,
     command: Command,
     input: &str,
@@ -65,12 +50,11 @@ pub fn check_input<R: Threads + Wait + Clock + Abort + Sync>(
     wanted: &str,
 ) {
     let mut written = Vec::new(alloc);
-    let answer = carry_out(rt, alloc, command, input.as_bytes(), &mut written);
+    let answer = carry_out(alloc, command, input.as_bytes(), &mut written);
     check_answer(rt, alloc, input, (answer, &written), (how, wanted));
 }
 
-fn carry_out<R: Threads + Wait + Clock + Sync>(
-    rt: &R,
+fn carry_out(
     alloc: Global,
     command: Command,
     mut input: &[u8],
@@ -80,13 +64,11 @@ fn carry_out<R: Threads + Wait + Clock + Sync>(
         Command::Frontier => frontier(alloc, &mut input, written),
         Command::Decode(ext) => decode(alloc, ext, &mut input, written),
         Command::Sim => sim(alloc, &mut input, written),
-        Command::Run(turns) => run(rt, alloc, turns, &InMemory, &mut input, written),
-        Command::Check(turns) => run_checked(rt, alloc, turns, &InMemory, &mut input, written),
     }
 }
 
-/// Compares what a command answered to this input, how it ends then, and what it wrote.
-pub fn check_answer(
+// Compares what a command answered to this input, how it ends then, and what it wrote.
+fn check_answer(
     rt: &impl Abort,
     alloc: Global,
     input: &str,

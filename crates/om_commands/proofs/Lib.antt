@@ -1,10 +1,8 @@
-pub mod CheckLemmas
 pub mod DecodeLemmas
 pub mod DrawLemmas
-pub mod FollowLemmas
+pub mod LineLemmas
 pub mod PlainNames
 pub mod ReportLemmas
-pub mod RunLemmas
 pub mod ScriptLemmas
 pub mod SimLemmas
 pub mod TextLemmas

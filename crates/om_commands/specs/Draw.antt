@@ -1,5 +1,5 @@
 -- What the command `draw` answers to the bytes of its input.
-use Rattle.std.specs.Prelude.{◌≡◌, ℕ, ◌-◌, List, [], ◌∷◌, drop, length, map, nat_le, take}
+use Rattle.std.specs.Prelude.{◌≡◌, ℕ, ◌-◌, List, [], ◌∷◌, drop, length, map, nat_le, slice_index, take}
 use Rattle.std.specs.List.{count_by}
 use Rattle.om_manager.specs.State.{size_of}
 use Rattle.om_scripts.specs.Programs.{programs_of}
@@ -8,12 +8,13 @@ use Rattle.om_text.specs.Numbered.{numbered}
 use Rattle.om_text.specs.Words.{words_of}
 use Rattle.om_world.specs.Played.{Played}
 use Rattle.om_world.specs.World.{WorldState, IsKnown}
-use Rattle.om_world.specs.declared.event.Answer.{Answer}
 use Rattle.om_world.specs.declared.event.Event.{Event}
 use Rattle.om_picture.specs.Drawing.{IsSketchOf, Sketch}
-use Rattle.om_picture.specs.Marks.{Entry, IsDrawingOf}
+use Rattle.om_picture.specs.Fates.{Row}
+use Rattle.om_picture.specs.Marks.{IsDrawingOf}
 use Rattle.om_picture.specs.PictureText.{picture_text}
 use Rattle.om_picture.specs.Plain.{HasPlainNames}
+use Rattle.om_picture.specs.Reading.{newly_handed}
 use Rattle.om_picture.specs.declared.ending.Drawn.{Drawn}
 use Rattle.om_commands.specs.Command.{IsScript}
 use Rattle.om_commands.specs.Sim.{IsBegun}
@@ -29,28 +30,37 @@ event_lines bytes events =
 abbrev pub count_within : List ℕ → ℕ → ℕ
 count_within lines last = count_by (λ line. nat_le line last) lines
 
--- events with the numbers of their lines and their answers; 0 stands for the number of a line that there is not
-abbrev pub entries_of : List ℕ → List Event → List Answer → List Entry
-entries_of lines [] answers = []
-entries_of lines (event ∷ events) [] = []
-entries_of [] (event ∷ events) (answer ∷ answers) = record { line = 0; event = event; answer = answer } ∷ entries_of [] events answers
-entries_of (line ∷ lines) (event ∷ events) (answer ∷ answers) =
-    record { line = line; event = event; answer = answer } ∷ entries_of lines events answers
+-- an event of a line is played, and this is its row: its answer, the new outputs that it handed in, and the recovery state behind it
+pub record IsPlayedRow (number : ℕ) (happens : Event) (old : WorldState) (row : Row) (new : WorldState) : Type 0 where
+  pub line : row.entry.line ≡ number
+  pub event : row.entry.event ≡ happens
+  pub played : Played old (happens ∷ []) (row.entry.answer ∷ []) new
+  pub fresh : row.fresh ≡ newly_handed happens row.entry.answer old.manager new.manager
+  pub recovery : row.recovery ≡ new.manager.recovery
 
--- events of these lines are played, with some answers, and a picture of so many processes has their marks, from a line on
+-- events of these lines are played in order, each with its row; 0 stands for the number of a line that there is not
+abbrev pub ArePlayed : List ℕ → List Event → WorldState → List Row → WorldState → Type 0
+ArePlayed lines [] old [] new = new ≡ old
+ArePlayed lines (event ∷ events) old (row ∷ rows) new =
+    (mid : WorldState) × IsPlayedRow (slice_index lines 0) event old row mid × ArePlayed (drop 1 lines) events mid rows new
+ArePlayed lines [] old (row ∷ rows) new = ⊥
+ArePlayed lines (event ∷ events) old [] new = ⊥
+
+-- events of these lines are played, and a picture of so many processes has their marks, from a line on
 pub record AreDrawn (lines : List ℕ) (events : List Event) (n first : ℕ) (old new : WorldState) (sketch : Sketch) : Type 0 where
-  pub answers : List Answer
-  pub played : Played old events answers new
-  pub marks : IsSketchOf n first (entries_of lines events answers) sketch
+  pub rows : List Row
+  pub played : ArePlayed lines events old rows new
+  pub marks : IsSketchOf n first rows sketch
 
--- a picture of the first events of a script, so many, played from this world on: it has the marks of those from a line on
+-- a picture of the first events of a script, so many, played from this world on: it has the marks of those from a line on, each as
+-- it was in the end
 pub record IsPlayedPicture (script : Script) (lines : List ℕ) (first count : ℕ) (begun : WorldState) (text : List ℕ) : Type 0 where
-  pub answers : List Answer
+  pub rows : List Row
   pub end : WorldState
-  pub played : Played begun (take count script.events) answers end
+  pub played : ArePlayed lines (take count script.events) begun rows end
   pub known : IsKnown end
   pub drawn : Drawn
-  pub marks : IsDrawingOf (size_of begun.manager) first (entries_of lines (take count script.events) answers) drawn
+  pub marks : IsDrawingOf (size_of begun.manager) first rows drawn
   pub written : text ≡ picture_text script.cluster drawn
 
 -- the same, from the start of its world

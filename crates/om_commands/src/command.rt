@@ -9,8 +9,8 @@ use om_text::{Builder, read_script, read_text};
 use std::alloc::Global;
 use std::io::{Read, Write};
 
-// Reads the script that an input is.
-pub(crate) fn read_input<R: Read, B: Builder + Drop>(
+/// Reads an input whole, as the script of a builder: `TooLong`, `CannotRead`, `NoMemory`, or the first faulty line.
+pub fn read_input<R: Read, B: Builder + Drop>(
     alloc: Global,
     reader: &mut R,
     builder: B,
@@ -24,8 +24,8 @@ pub(crate) fn read_input<R: Read, B: Builder + Drop>(
     Ok(read_script(alloc, &bytes, builder)?)
 }
 
-// Writes the text of an answer.
-pub(crate) fn write_answer<W: Write>(writer: &mut W, text: &[u8]) -> Result<(), CommandError>
+/// Writes the text of an answer whole; refused with `CannotWrite`.
+pub fn write_answer<W: Write>(writer: &mut W, text: &[u8]) -> Result<(), CommandError>
     ensures text { OnOk result (Appends (W.contents writer.old) (W.contents writer.new) text.now) }
     ensures error { OnErr result (result ≡ Err CommandError.CannotWrite) }
 {

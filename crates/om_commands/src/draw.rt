@@ -1,12 +1,12 @@
 //! The command `draw`: the picture of a world that is played.
 
-ghost use Rattle.std.specs.Prelude.{◌≡◌, ◌⊎◌, ◌∷◌, [], ℕ, List, length, slice_index, take, IfSome, IfOk, IfErr, OnOk, OnErr, string_bytes};
+ghost use Rattle.std.specs.Prelude.{◌≡◌, ◌⊎◌, ◌∷◌, [], ℕ, List, length, slice_index, take, IfSome, IfOk, IfErr, OnOk, string_bytes};
 ghost use Rattle.std.specs.Io.KnownBytes.{Appends, Keeps};
 ghost use Rattle.om_world.specs.Played.{Played};
 ghost use Rattle.om_world.specs.World.{IsKnown};
 ghost use Rattle.om_commands.specs.Command.{IsErrorOf, IsScript, IsSilent};
 ghost use Rattle.om_picture.specs.Drawing.{IsSketchOf, sketch_of};
-ghost use Rattle.om_picture.specs.Marks.{step_entry};
+ghost use Rattle.om_picture.specs.Reading.{newly_handed};
 ghost use Rattle.om_commands.specs.Draw.{AreDrawn, IsDrawn, IsPictureOf, IsPlayedPicture, count_within, event_lines};
 ghost use Rattle.om_commands.specs.Sim.{LacksProcesses};
 ghost use Rattle.om_commands.specs.SimScript.{meaning_of, no_lines};
@@ -192,7 +192,10 @@ fn play_line(
 ) -> Result<Step, AllocError>
     requires known { IsKnown world.old }
     ensures played { IfOk result (λ step. Played world.old (event ∷ []) (step.answer ∷ []) world.new) }
-    ensures entry { IfOk result (λ step. step_entry step ≡ record { line = line; event = event; answer = step.answer }) }
+    ensures line { IfOk result (λ step. step.line ≡ line) }
+    ensures event { IfOk result (λ step. step.event ≡ event) }
+    ensures fresh { IfOk result (λ step. step.fresh ≡ newly_handed event step.answer world.old.manager world.new.manager) }
+    ensures recovery { IfOk result (λ step. step.recovery ≡ world.new.manager.recovery) }
     ensures known { IsKnown world.new }
 {
     play_step(alloc, world, line, event)

@@ -1,11 +1,9 @@
 ghost use Rattle.std.specs.Prelude.{◌≡◌};
 ghost use Rattle.om_text.specs.declared.text.ReadError.TheVariants as reading;
 ghost use Rattle.om_text.specs.declared.error.BuildError.TheVariants as errors;
-ghost use Rattle.om_commands.specs.Errors.{error_of_reading, error_of_building, error_of_play, error_of_replay, error_of_run};
+ghost use Rattle.om_commands.specs.Errors.{error_of_reading, error_of_building, error_of_replay};
 
-use om_check::PlayFault;
 use om_process::ReplayFault;
-use om_runner::RunFault;
 use om_text::{BuildError, ReadError, ScriptError};
 use std::alloc::AllocError;
 use thiserror::Error;
@@ -80,34 +78,6 @@ impl From<ReplayFault> for CommandError {
             ReplayFault::Mismatch(y) => CommandError::Mismatch(y),
             ReplayFault::Fault => CommandError::StoreFault,
             ReplayFault::Memory => CommandError::NoMemory,
-        }
-    }
-}
-
-impl From<RunFault> for CommandError {
-    ghost from_gives = { λ fault e. e ≡ error_of_run fault };
-
-    fn from(fault: RunFault) -> CommandError {
-        match fault {
-            RunFault::Turns(_) => CommandError::OutOfTurns,
-            RunFault::GateShut(_) => CommandError::GateShut,
-            RunFault::Memory => CommandError::NoMemory,
-            RunFault::Fault(_) | RunFault::Load(_) => CommandError::StoreFault,
-            RunFault::NoThread => CommandError::NoThread,
-        }
-    }
-}
-
-impl From<PlayFault> for CommandError {
-    ghost from_gives = { λ fault e. e ≡ error_of_play fault };
-
-    fn from(fault: PlayFault) -> CommandError {
-        match fault {
-            PlayFault::Memory => CommandError::NoMemory,
-            PlayFault::NotSent(_)
-            | PlayFault::NotWaiting(_)
-            | PlayFault::Spent(_)
-            | PlayFault::NotEnded(_) => CommandError::Unlike,
         }
     }
 }

@@ -1,12 +1,10 @@
-//! What is said of the texts of runs without failures.
+//! What holds of scripts: each function stands for a theorem over the definitions alone.
 
-ghost use Rattle.std.specs.Prelude.{◌≡◌, ℕ, List};
-ghost use Rattle.om_scripts.specs.Programs.{Cluster};
-ghost use Rattle.om_world.specs.declared.entry.Entry.{Entry};
-ghost use Rattle.om_commands.specs.Check.{IsTextBy};
+ghost use Rattle.std.specs.Prelude.{◌≡◌, ◌<◌, ℕ, List, length, slice_index};
+ghost use Rattle.om_commands.specs.Draw.{event_lines};
 
-/// What is received in a run without failures determines its text.
-pub fn one_text()
-    ensures { (cluster : Cluster) (live : List Entry) (text other : List ℕ) → IsTextBy cluster live text → IsTextBy cluster live other
-        → text ≡ other }
+/// The numbers of the lines of events rise: each event has a line of its own, behind those of the events before it.
+pub fn event_lines_rise()
+    ensures { (bytes : List ℕ) (events i j : ℕ) → i < j → j < length (event_lines bytes events)
+        → slice_index (event_lines bytes events) i < slice_index (event_lines bytes events) j }
 {}

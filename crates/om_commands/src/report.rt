@@ -116,8 +116,8 @@ fn push_error(text: &mut String, error: NoteError) -> Result<(), AllocError>
     }
 }
 
-// Writes the intervals of a state, each after a space, and ends the line.
-pub(crate) fn push_state(text: &mut String, state: &DepVec) -> Result<(), AllocError>
+/// Writes the intervals of a state, each after a space, and ends the line.
+pub fn push_state(text: &mut String, state: &DepVec) -> Result<(), AllocError>
     ensures { OnOk result (string_bytes text.new ≡ string_bytes text.old ++ state_text state.now) }
 {
     for interval in state.as_slice() {

@@ -106,8 +106,8 @@ fn push_answers(text: &mut String, answers: &[Answer]) -> Result<(), AllocError>
     Ok(())
 }
 
-// The name of a process.
-pub(crate) fn name_of(programs: &Programs, p: usize) -> &str
+/// The name of a process.
+pub fn name_of(programs: &Programs, p: usize) -> &str
     requires { p < length programs.now.processes }
     ensures { result.now ≡ name_at programs.now p }
 {
@@ -183,8 +183,8 @@ fn push_bytes(alloc: Global, text: &mut String, bytes: &[u8]) -> Result<(), Allo
     text.push_str(&hex::encode(alloc, bytes)?)
 }
 
-// Writes the line of an output.
-pub(crate) fn push_output(
+/// Writes the line of an output: the name of its process, its number, and its bytes in hexadecimal.
+pub fn push_output(
     alloc: Global,
     text: &mut String,
     name: &str,
@@ -198,8 +198,8 @@ pub(crate) fn push_output(
     text.push('\n')
 }
 
-// Writes a line for each output.
-pub(crate) fn push_outputs(
+/// Writes a line for each output of a process, numbered from 0.
+pub fn push_outputs(
     alloc: Global,
     text: &mut String,
     name: &str,

@@ -103,8 +103,8 @@ fn push_row(
     text.push('\n')
 }
 
-// Writes what a process is about to do.
-pub(crate) fn push_status(text: &mut String, status: Status) -> Result<(), AllocError>
+/// Writes what a process is about to do: `ready`, `waiting`, `ended CODE` or `trapped CAUSE`.
+pub fn push_status(text: &mut String, status: Status) -> Result<(), AllocError>
     ensures { OnOk result (string_bytes text.new ≡ string_bytes text.old ++ status_text status) }
 {
     match status {

@@ -1,2 +1,3 @@
 pub mod VectorLemmas
+pub mod LineLemmas
 pub mod StartsLemmas

@@ -1,4 +1,4 @@
 -- What only the crate's own parts rest on: no public clause cites these.
 pub mod InUse
 pub mod InUseLaws
-pub mod Room
+pub mod Lines

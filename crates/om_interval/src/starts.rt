@@ -1,27 +1,28 @@
-ghost use Rattle.std.specs.Prelude.{◌≡◌, ℕ, ◌+◌, ◌-◌, ◌<◌, ◌≤◌, ◌^◌, ◌↔◌, List, [], ◌∷◌, ◌++◌, length, map, replicate, slice_get, slice_index, vec_len, true, false, Some, IsTrue, IfOk, OnOk, OnErr};
+ghost use Rattle.std.specs.Prelude.{◌≡◌, ℕ, ◌+◌, ◌-◌, ◌<◌, ◌≤◌, ◌↔◌, List, [], ◌∷◌, length, replicate, slice_get, Some, IsTrue, IfOk, OnOk, OnErr};
 ghost use Rattle.om_interval.specs.Starts.{starts_of, newest_of, AllAreStarts, IsOrphan, MayBegin, BeginIncarnations};
-ghost use Rattle.om_interval.specs.steps.Room.{HaveRoom, starts_in};
 ghost use Rattle.om_interval.specs.declared.pid.TheConstants.{MAX_PROCESSES};
 
 use crate::dep_vec::DepVec;
+use crate::line::Line;
 use crate::pid::{MAX_PROCESSES, Pid};
 use crate::tag::Tag;
 use std::alloc::{AllocError, Global};
 use std::marker::Model;
 
 /// For each process the intervals at which its incarnations start, as far as they are known (after Strom and Yemini
-/// 1985). Incarnation 0 starts at interval 0.
+/// 1985). Incarnation 0 starts at interval 0. Copies share what was known long ago, so that one costs little more than what
+/// is new.
 #[derive(Debug, Drop)]
 pub struct Starts {
-    by_process: Vec<Vec<u64>>,
+    by_process: Vec<Line>,
 }
 
 impl Model for Starts {
     ghost Value = { List (List ℕ) };
 
-    ghost view = { λ s. map (λ starts. starts.items) s.by_process.items };
+    ghost view = { λ s. s.by_process.items };
 
-    ghost invariant = { λ s. AllAreStarts (map (λ starts. starts.items) s.by_process.items) };
+    ghost invariant = { λ s. AllAreStarts s.by_process.items };
 }
 
 impl Starts {
@@ -33,9 +34,7 @@ impl Starts {
     {
         let mut by_process = Vec::with_capacity(alloc, n)?;
         for _ in 0..n {
-            let mut starts = Vec::with_capacity(alloc, 1)?;
-            starts.push_reserved(0);
-            by_process.push_reserved(starts);
+            by_process.push_reserved(Line::new(alloc)?);
         }
         Ok(Starts { by_process })
     }
@@ -66,7 +65,7 @@ impl Starts {
         ensures first { inc ≡ 0 → result ≡ Some 0 }
     {
         let starts = &self.by_process[pid.index()];
-        number_at(starts, inc)
+        starts.get(inc as usize)
     }
 
     /// Whether a message with this tag is an orphan: a later incarnation of its sender began at or below the interval in
@@ -75,8 +74,8 @@ impl Starts {
         requires { pid < length self.now }
         ensures { IsTrue result ↔ IsOrphan self.now pid tag.inc tag.interval }
     {
-        let next = &self.by_process[pid.index()].get(tag.inc as usize + 1);
-        next.is_some_and(|start| *start <= u64::from(tag.interval))
+        let next = self.by_process[pid.index()].get(tag.inc as usize + 1);
+        next.is_some_and(|start| start <= u64::from(tag.interval))
     }
 
     /// The same starts once more.
@@ -85,7 +84,7 @@ impl Starts {
     {
         let mut by_process = Vec::with_capacity(alloc, self.by_process.len())?;
         for starts in &self.by_process {
-            by_process.push_reserved(Vec::from_slice(alloc, starts)?);
+            by_process.push_reserved(starts.copy(alloc)?);
         }
         Ok(Starts { by_process })
     }
@@ -102,42 +101,29 @@ impl Starts {
         ensures ok { OnOk result (BeginIncarnations who r.now self.old self.new) }
         ensures err { OnErr result (self.new ≡ self.old) }
     {
-        make_room(&mut self.by_process, who)?;
-        begin(&mut self.by_process, who, r.as_slice());
+        self.by_process = begun(alloc, &self.by_process, who, r.as_slice())?;
         Ok(())
     }
 }
 
-fn number_at(numbers: &[u64], place: u32) -> Option<u64>
-    ensures { result ≡ slice_get numbers.now place }
+// The starts once each named process has one more, right above its place of the state.
+fn begun(
+    alloc: Global,
+    by_process: &Vec<Line>,
+    who: [bool; MAX_PROCESSES],
+    state: &[u32],
+) -> Result<Vec<Line>, AllocError>
+    requires may { MayBegin who state.now by_process.now.items }
+    requires within { length by_process.now.items ≤ MAX_PROCESSES }
+    ensures { IfOk result (λ begun. BeginIncarnations who state.now by_process.now.items begun.items) }
 {
-    numbers.get(place as usize).copied()
-}
-
-// Makes room for one more start of each named process.
-fn make_room(by_process: &mut Vec<Vec<u64>>, who: [bool; MAX_PROCESSES]) -> Result<(), AllocError>
-    requires { vec_len by_process.old ≤ MAX_PROCESSES }
-    ensures same { starts_in by_process.new.items ≡ starts_in by_process.old.items }
-    ensures room { OnOk result (HaveRoom who by_process.new.items) }
-{
+    let mut begun = Vec::with_capacity(alloc, by_process.len())?;
     for p in 0..by_process.len() {
+        let mut starts = by_process[p].copy(alloc)?;
         if who[p] {
-            by_process[p].try_reserve(1)?;
+            starts.push(alloc, u64::from(state[p]) + 1)?;
         }
+        begun.push_reserved(starts);
     }
-    Ok(())
-}
-
-// Adds a start, right above its place of the state, to each named process.
-fn begin(by_process: &mut Vec<Vec<u64>>, who: [bool; MAX_PROCESSES], state: &[u32])
-    requires places { length state.now ≡ vec_len by_process.old }
-    requires within { length state.now ≤ MAX_PROCESSES }
-    requires room { HaveRoom who by_process.old.items }
-    ensures { BeginIncarnations who state.now (starts_in by_process.old.items) (starts_in by_process.new.items) }
-{
-    for p in 0..by_process.len() {
-        if who[p] {
-            by_process[p].push_reserved(u64::from(state[p]) + 1);
-        }
-    }
+    Ok(begun)
 }

@@ -3,7 +3,7 @@
 ghost use Rattle.std.specs.Prelude.{◌<◌, length};
 ghost use Rattle.om_manager.specs.State.{held_by, size_of};
 ghost use Rattle.om_member.specs.Keeps.{Keeps};
-ghost use Rattle.om_member.specs.Handed.{AreHandedUpTo, IsHanded, outputs_from};
+ghost use Rattle.om_member.specs.Handed.{AreHandedUpTo, AreTaken, IsHanded, MayHandIn, held_as, outputs_from};
 
 use crate::office::Office;
 use om_interval::Pid;
@@ -19,6 +19,7 @@ fn hand_one<O: Office>(
     round: u32,
     output: &Made,
 ) -> Result<OutputNote, OutputError>
+    requires { O.Takes pid output.now.seq (held_as output.now) }
     ensures { IsHanded (O.state office.old) round pid output.now result (O.state office.new) }
 {
     office.note_output(
@@ -39,6 +40,7 @@ fn hand_all<O: Office>(
     round: u32,
     outputs: &[Made],
 ) -> Result<(), OutputError>
+    requires { AreTaken O.Takes pid outputs.now }
     ensures { AreHandedUpTo (O.state office.old) round pid outputs.now result (O.state office.new) }
 {
     for i in 0..outputs.len() {
@@ -54,7 +56,8 @@ pub fn hand_in<O: Office>(
     alloc: Global,
     pid: Pid,
 ) -> Result<(), OutputError>
-    requires { pid < size_of (O.state office.old) }
+    requires known { pid < size_of (O.state office.old) }
+    requires taken { MayHandIn O.Takes pid core.now }
     ensures keeps { Keeps (O.state office.old) (O.state office.new) }
     ensures handed { AreHandedUpTo (O.state office.old) core.now.round pid
         (outputs_from core.now (length (held_by (O.state office.old) pid))) result (O.state office.new) }

@@ -1,9 +1,10 @@
 //! The manager as a process reaches it.
 
-ghost use Rattle.std.specs.Prelude.{◌≡◌};
+ghost use Rattle.std.specs.Prelude.{◌≡◌, ℕ};
 ghost use Rattle.om_interval.specs.Vectors.{IsBelow};
 ghost use Rattle.om_recover.specs.Records.{log_of, checkpoint_of};
 ghost use Rattle.om_recover.specs.Cutting.{IsPruned};
+ghost use Rattle.om_manager.specs.Outputs.{HeldOutput};
 ghost use Rattle.om_manager.specs.State.{ManagerState};
 ghost use Rattle.om_manager.specs.Sound.{IsManager, KeepsReleased};
 ghost use Rattle.om_manager.specs.Notes.{Notes, NotesOutput};
@@ -18,6 +19,9 @@ use std::alloc::Global;
 pub trait Office {
     /// The manager.
     ghost state: { Self → ManagerState };
+
+    /// Which outputs may be handed in: of a process, under a number.
+    ghost Takes: { ℕ → ℕ → HeldOutput → Type 0 };
 
     /// The manager, for its reads.
     fn manager(&self) -> &Manager
@@ -64,6 +68,7 @@ pub trait Office {
         seq: u64,
         bytes: &[u8],
     ) -> Result<OutputNote, OutputError>
+        requires taken { Takes pid seq (record { interval = x; bytes = bytes.now }) }
         ensures answer { NotesOutput (state self.old)
             (record { pid = pid; round = round; seq = seq; output = record { interval = x; bytes = bytes.now } })
             result (state self.new) }
@@ -100,6 +105,8 @@ pub trait Office {
 
 impl Office for Manager {
     ghost state = { λ m. m };
+
+    ghost Takes = { λ _ _ _. Unit {0} };
 
     fn manager(&self) -> &Manager {
         // The read tells what holds of every manager.

@@ -1,258 +1,450 @@
 -- What is drawn of an event, and of all events of a window.
-use Rattle.std.proofs.Common.{◌≡◌, ◌≢◌, ◌∙◌, ◌+◌, ◌<◌, ◌≤◌, ◌==◌, ◌||◌, ◌&&◌, ℕ, suc, Bool, true, false, if◌then◌else◌, is_none, nat_le, nat_lt, List, [], ◌∷◌, ◌++◌, Option, Some, None, Result, OnOk, length, map, get_or, refl, ap, sym, subst, arith, below_more, get_or-set_other}
+use Rattle.std.proofs.Common.{◌≡◌, ◌≢◌, ◌∙◌, ◌+◌, ◌<◌, ◌≤◌, ◌||◌, ◌&&◌, ◌⊎◌, ℕ, zero, suc, Bool, true, false, if◌then◌else◌, max, List, [], ◌∷◌, ◌++◌, Option, Some, None, Result, OnOk, length, map, get_or, set, refl, ap, sym, subst, inl, inr, arith, append_assoc, get_or-set_other, length-set}
+use Rattle.std.specs.Prelude.{nat_le, slice_index}
 use Rattle.std.specs.List.{flat_map, sum_by}
 use Rattle.std.specs.declared.alloc.AllocError.{AllocError}
 use Rattle.std.proofs.Math.Bool.{or-false, or_assoc}
-use Rattle.std.proofs.lemmas.Bool.{lt-ltb, le-ltb}
+use Rattle.std.proofs.lemmas.Bool.{eq-eqb, lt-ltb, le-ltb}
+use Rattle.std.proofs.lemmas.Bool.Decides.{eqb_tells}
 use Rattle.std.proofs.lemmas.List.{append-nil, length-map}
-use Rattle.std.proofs.lemmas.List.Concat.{flat_map-append, flat_map-cons}
 use Rattle.std.proofs.lemmas.List.Sums.{sum_by-append}
 use Rattle.std.proofs.lemmas.Result.{on_ok_weaker}
-use Rattle.om_process.specs.declared.status.Status.{Status}
 use Rattle.om_world.specs.declared.event.Answer.{Answer}
-use Rattle.om_world.specs.declared.event.Answer.TheVariants as answers
 use Rattle.om_world.specs.declared.event.Event.{Event}
-use Rattle.om_world.specs.declared.event.Event.TheVariants as events
-use Rattle.om_picture.specs.Drawing.{IsSketchOf, Sketch, all_marks, mark_marks, waiting_of}
-use Rattle.om_picture.specs.Marks.{AreTheSame, Entry, EventMark, entry_marks, is_reached, kind_shown, mark_unless, marks_on, own_marks, process_of, shape_marks, window}
-use Rattle.om_picture.specs.Shows.{new_end, shown}
+use Rattle.om_picture.specs.Drawing.{IsLaneOf, IsSketchOf, Lane, Sketch, all_marks, lane_in, lane_marks, lane_of, lanes_marks, new_lane, waiting_marks}
+use Rattle.om_picture.specs.Fates.{Fate, Row, ended_after, fate_behind, fate_of, has_ended, highest, interval_after, interval_behind, is_of, is_process, is_store, next_ended, next_interval, next_place, process_of, stores}
+use Rattle.om_picture.specs.Marks.{AreTheSame, EventMark, event_marks, fated_marks, is_reached, marks_among, marks_on, row_marks, shape_marks, sure_marks}
+use Rattle.om_picture.specs.Shows.{is_finished, shown}
 use Rattle.om_picture.specs.declared.history.History.{History}
 use Rattle.om_picture.specs.declared.history.Mark.{Mark}
 use Rattle.om_picture.specs.declared.sheet.Shape.{Shape}
 use Rattle.om_picture.specs.declared.shown.Shown.{Shown}
-use Rattle.om_picture.specs.declared.shown.Shown.TheVariants as shows
-use Rattle.om_picture.specs.steps.Adding.{Adds, AddsMark, AreEmpty, Draws, EndsLane, Reaches, Settles, Takes, lane_of}
-use Rattle.om_picture.proofs.MarkLemmas.{adds_none, none_if, taken_settled, then_none}
+use Rattle.om_picture.specs.steps.Adding.{AreNew, IsAmid, LaneShows, LearnsAll, Reaches, SettlesAll, SettlesIf, Shows, ShowsEvent, ShowsOn, Stays, amid_marks, fate_amid, fate_now, is_stored_by, now_marks}
+use Rattle.om_picture.proofs.FateLemmas.{end_fate, ended_more, ended_told, fated_same, first_fate, highest_more, interval_more, interval_told, open_fate, place_again, round_fate, store_shown, waiting_alike, waiting_all}
+use Rattle.om_picture.proofs.LaneLemmas.{all_counted, lane_counted, lanes_alike}
 
--- events
+-- ---- whose event it is
+of_own : (p : ℕ) (row : Row) → process_of row.entry.event ≡ Some p → is_of p row ≡ true
+of_own p row is = ap (λ (o : Option ℕ). is_process p o) is ∙ eq-eqb p p refl
 
--- whether it is known that its program came to its end matters to no run but an idle one
-idle_alike : (a b c d : Bool) (sent made : ℕ) (x y : Option Status) (entry : Entry)
-    → mark_unless (a && b) (kind_shown (if a && (b && c) then shows.Nothing else shows.Run sent made x)) entry
-    ≡ mark_unless (a && b) (kind_shown (if a && (b && d) then shows.Nothing else shows.Run sent made y)) entry
-idle_alike false b c d sent made x y entry = refl
-idle_alike true false c d sent made x y entry = refl
-idle_alike true true true true sent made x y entry = refl
-idle_alike true true true false sent made x y entry = refl
-idle_alike true true false true sent made x y entry = refl
-idle_alike true true false false sent made x y entry = refl
+of_other : (p q : ℕ) (row : Row) → process_of row.entry.event ≡ Some p → q ≢ p → is_of q row ≡ false
+of_other p q row is away = ap (λ (o : Option ℕ). is_process q o) is ∙ elim (eqb_tells p q) [
+  | inl same ↦ absurd (away (sym same.1))
+  | inr other ↦ other.0
+]
 
-ended_alike : (ended : Bool) (line : ℕ) (event : Event) (answer : Answer)
-    → (let entry : Entry = record { line = line; event = event; answer = answer } in
-    own_marks (kind_shown (shown ended event answer)) entry ≡ own_marks (kind_shown (shown false event answer)) entry)
-ended_alike ended line (events.Run process fuel) (answers.Ran steps status sent made) =
-    idle_alike (sent == 0) (made == 0) (is_none (new_end ended status)) (is_none (new_end false status)) sent made _ _ _
-ended_alike ended line (events.Run process fuel) answer = refl
-ended_alike ended line (events.Give process frame) answer = refl
-ended_alike ended line (events.Flush process) answer = refl
-ended_alike ended line (events.Checkpoint process) answer = refl
-ended_alike ended line (events.Resend process) answer = refl
-ended_alike ended line (events.Trim process) answer = refl
-ended_alike ended line (events.Fail process) answer = refl
-ended_alike ended line (events.Join process) answer = refl
-ended_alike ended line (events.Resume process) answer = refl
-ended_alike ended line events.Prune answer = refl
+of_none : (q : ℕ) (row : Row) → process_of row.entry.event ≡ None → is_of q row ≡ false
+of_none q row is = ap (λ (o : Option ℕ). is_process q o) is
 
--- an event of a process that there is
-pub own_drawn : (r : Result (Unit {0}) AllocError) (old new : Sketch) (n p line : ℕ) (event : Event) (answer : Answer) (ended : Bool)
-    (is : Shown)
-    → p < n → is ≡ shown ended event answer
-    → (let entry : Entry = record { line = line; event = event; answer = answer } in
-    OnOk r (AddsMark old new (kind_shown is) entry) → OnOk r (Adds old new (if old.on then marks_on n (Some p) entry else [])))
-own_drawn r old new n p line event answer ended is within shows_it drawn =
-    let entry : Entry = record { line = line; event = event; answer = answer } in
-    let test : nat_lt p n ≡ true = lt-ltb p n within in
-    let there : marks_on n (Some p) entry ≡ own_marks (kind_shown (shown false event answer)) entry = rw test refl in
-    let same : own_marks (kind_shown is) entry ≡ marks_on n (Some p) entry =
-    ap (λ (s : Shown). own_marks (kind_shown s) entry) shows_it ∙ ended_alike ended line event answer ∙ sym there in
-    subst (λ (l : List EventMark). OnOk r (Adds old new (if old.on then l else []))) same drawn
+-- an event of another process changes no fate and stores nothing
+other_marks : (row : Row) (later : List Row) (q : ℕ) (lane : Lane) → is_of q row ≡ false
+    → lane_marks (row ∷ later) q lane ≡ amid_marks row later q lane
+other_marks row later q lane other =
+    waiting_alike (λ i stored. fate_behind q i stored lane.reached (row ∷ later)) (λ i stored. fate_amid row later q i stored lane.reached)
+    (λ (i : ℕ) (stored : Bool).
+    first_fate row later q i lane.reached stored
+    ∙ ap (λ (b : Bool). fate_amid row later q i (stored || (b && is_store row.entry.event row.entry.answer)) lane.reached) other
+    ∙ ap (λ (b : Bool). fate_amid row later q i b lane.reached) (or-false stored)) lane.stored lane.waiting
 
--- one of a process that there is not
-pub past_drawn : (s : Sketch) (n p : ℕ) (entry : Entry) → n ≤ p → Adds s s (if s.on then marks_on n (Some p) entry else [])
-past_drawn s n p entry past =
-    let test : nat_lt p n ≡ false = le-ltb p n past in
-    let none : marks_on n (Some p) entry ≡ [] = rw test refl in
-    subst (λ (l : List EventMark). Adds s s (if s.on then l else [])) (sym none)
-    (subst (λ (l : List EventMark). Adds s s l) (none_if s.on) (adds_none s))
+other_interval : (q was : ℕ) (row : Row) → is_of q row ≡ false → next_interval q was row ≡ was
+other_interval q was row other = ap (λ (b : Bool). if b then interval_after row.entry.event row.entry.answer was else was) other
 
-pub event_drawn : (r : Result (Unit {0}) AllocError) (old new : Sketch) (n p : ℕ) (entry : Entry) → Some p ≡ process_of entry.event
-    → OnOk r (Adds old new (if old.on then marks_on n (Some p) entry else []))
-    → OnOk r (Adds old new (if old.on then entry_marks n entry else []))
-event_drawn r old new n p entry is drawn =
-    subst (λ (o : Option ℕ). OnOk r (Adds old new (if old.on then marks_on n o entry else []))) is drawn
+other_ended : (q : ℕ) (was : Bool) (row : Row) → is_of q row ≡ false → next_ended q was row ≡ was
+other_ended q was row other = ap (λ (b : Bool). if b then ended_after row.entry.event row.entry.answer was else was) other
 
-pub none_drawn : (s : Sketch) (n : ℕ) (entry : Entry) → None ≡ process_of entry.event → Adds s s (if s.on then entry_marks n entry else [])
-none_drawn s n entry is =
-    subst (λ (o : Option ℕ). Adds s s (if s.on then marks_on n o entry else [])) is
-    (subst (λ (l : List EventMark). Adds s s l) (none_if s.on) (adds_none s))
+own_interval : (p was : ℕ) (row : Row) → is_of p row ≡ true → next_interval p was row ≡ interval_after row.entry.event row.entry.answer was
+own_interval p was row own = ap (λ (b : Bool). if b then interval_after row.entry.event row.entry.answer was else was) own
 
--- the window
+own_ended : (p : ℕ) (was : Bool) (row : Row) → is_of p row ≡ true → next_ended p was row ≡ ended_after row.entry.event row.entry.answer was
+own_ended p was row own = ap (λ (b : Bool). if b then ended_after row.entry.event row.entry.answer was else was) own
 
-window_step : (b : Bool) (first : ℕ) (x : Entry) (xs : List Entry) (entry : Entry)
-    → window first (xs ++ entry ∷ []) ≡ window first xs ++ (if is_reached first xs || nat_le first entry.line then entry ∷ [] else [])
-    → (if b then x ∷ (xs ++ entry ∷ []) else window first (xs ++ entry ∷ []))
-    ≡ (if b then x ∷ xs else window first xs) ++ (if (b || is_reached first xs) || nat_le first entry.line then entry ∷ [] else [])
-window_step true first x xs entry before = refl
-window_step false first x xs entry before = before
+-- ---- the lane of its process
+stored_marks : (b : Bool) (row : Row) (later : List Row) (p : ℕ) (lane : Lane) (stored : ℕ) → stores p row ≡ b
+    → stored ≡ (if b then length lane.waiting else lane.stored)
+    → waiting_marks (λ i s. fate_amid row later p i s lane.reached) stored lane.waiting ≡ lane_marks (row ∷ later) p lane
+stored_marks true row later p lane stored is now =
+    ap (λ (n : ℕ). waiting_marks (λ i s. fate_amid row later p i s lane.reached) n lane.waiting) now
+    ∙ sym (waiting_all (λ i s. fate_amid row later p i s lane.reached) lane.stored lane.waiting)
+    ∙ sym (waiting_alike (λ i s. fate_behind p i s lane.reached (row ∷ later)) (λ i s. fate_amid row later p i (s || true) lane.reached)
+    (λ (i : ℕ) (s : Bool). first_fate row later p i lane.reached s
+    ∙ ap (λ (b : Bool). fate_amid row later p i (s || b) lane.reached) is) lane.stored lane.waiting)
+stored_marks false row later p lane stored is now =
+    ap (λ (n : ℕ). waiting_marks (λ i s. fate_amid row later p i s lane.reached) n lane.waiting) now
+    ∙ sym (waiting_alike (λ i s. fate_behind p i s lane.reached (row ∷ later)) (λ i s. fate_amid row later p i s lane.reached)
+    (λ (i : ℕ) (s : Bool). first_fate row later p i lane.reached s
+    ∙ ap (λ (b : Bool). fate_amid row later p i (s || b) lane.reached) is
+    ∙ ap (λ (b : Bool). fate_amid row later p i b lane.reached) (or-false s)) lane.stored lane.waiting)
 
-window_more : (first : ℕ) (entries : List Entry) (entry : Entry)
-    → window first (entries ++ entry ∷ [])
-    ≡ window first entries ++ (if is_reached first entries || nat_le first entry.line then entry ∷ [] else [])
-window_more first [] entry = refl
-window_more first (x ∷ xs) entry = window_step (nat_le first x.line) first x xs entry (window_more first xs entry)
+own_marks : (on : Bool) (s : Shown) (row : Row) (later : List Row) (p : ℕ) (a b : Lane) → stores p row ≡ is_stored_by s
+    → LaneShows on s row.fresh row.entry a b
+    → amid_marks row later p b
+    ≡ lane_marks (row ∷ later) p a
+    ++ (if on then fated_marks s row.fresh (fate_amid row later p b.interval false a.reached) row.entry else [])
+own_marks on s row later p a b is lane =
+    ap (λ (n : ℕ). waiting_marks (λ i st. fate_amid row later p i st n) b.stored b.waiting) lane.reached
+    ∙ lane.waits (λ i st. fate_amid row later p i st a.reached)
+    ∙ ap (λ (l : List EventMark). l
+    ++ (if on then fated_marks s row.fresh (fate_amid row later p b.interval false a.reached) row.entry else []))
+    (stored_marks (is_stored_by s) row later p a b.stored is lane.stored)
 
-reached_more : (first : ℕ) (entries : List Entry) (entry : Entry)
-    → is_reached first (entries ++ entry ∷ []) ≡ (is_reached first entries || nat_le first entry.line)
-reached_more first [] entry = or-false (nat_le first entry.line)
-reached_more first (x ∷ xs) entry =
-    ap (λ (b : Bool). nat_le first x.line || b) (reached_more first xs entry)
-    ∙ sym (or_assoc (nat_le first x.line) (is_reached first xs) (nat_le first entry.line))
+-- the fate of its own mark
+own_fate : (s : Shown) (row : Row) (later : List Row) (p i was : ℕ) → stores p row ≡ is_stored_by s
+    → fated_marks s row.fresh (fate_amid row later p i false was) row.entry
+    ≡ fated_marks s row.fresh (fate_behind p i false was (row ∷ later)) row.entry
+own_fate s row later p i was is =
+    fated_same s row.fresh (fate_amid row later p i false was) (fate_behind p i false was (row ∷ later)) row.entry
+    (λ (none : is_stored_by s ≡ false).
+    sym (first_fate row later p i was false ∙ ap (λ (b : Bool). fate_amid row later p i (false || b) was) (is ∙ none)))
 
-flat_if : (b : Bool) (f : Entry → List EventMark) (entry : Entry) → flat_map f (if b then entry ∷ [] else []) ≡ (if b then f entry else [])
-flat_if true f entry = flat_map-cons f entry [] ∙ append-nil (f entry)
-flat_if false f entry = refl
+-- ---- an event is drawn
+if_both : (count : EventMark → ℕ) (on : Bool) (x y : List EventMark)
+    → sum_by count (if on then x ++ y else []) ≡ sum_by count (if on then x else []) + sum_by count (if on then y else [])
+if_both count true x y = sum_by-append count x y
+if_both count false x y = refl
 
--- the marks of the events of a window, with one event more
-marks_more : (n first : ℕ) (entries : List Entry) (entry : Entry) (on : Bool) → on ≡ (is_reached first entries || nat_le first entry.line)
-    → flat_map (entry_marks n) (window first (entries ++ entry ∷ []))
-    ≡ flat_map (entry_marks n) (window first entries) ++ (if on then entry_marks n entry else [])
-marks_more n first entries entry on is =
-    ap (λ (l : List Entry). flat_map (entry_marks n) l) (window_more first entries entry)
-    ∙ flat_map-append (entry_marks n) (window first entries)
-    (if is_reached first entries || nat_le first entry.line then entry ∷ [] else [])
-    ∙ ap (λ (l : List EventMark). flat_map (entry_marks n) (window first entries) ++ l)
-    (flat_if (is_reached first entries || nat_le first entry.line) (entry_marks n) entry)
-    ∙ ap (λ (b : Bool). flat_map (entry_marks n) (window first entries) ++ (if b then entry_marks n entry else [])) (sym is)
-
-all_same : (old new : Sketch) → new.drawn ≡ old.drawn → new.waiting ≡ old.waiting → all_marks new ≡ all_marks old
+alike : (v w : ℕ → Lane → List EventMark) (s : Sketch)
+    → ((q : ℕ) → q < length s.lanes → v q (lane_of s q) ≡ w q (lane_of s q)) → all_marks v s ≡ all_marks w s
 unfolding all_marks
-all_same old new drawn waiting =
-    ap (λ (l : List EventMark). l ++ flat_map (flat_map mark_marks) new.waiting) drawn
-    ∙ ap (λ (ws : List (List Mark)). old.drawn ++ flat_map (flat_map mark_marks) ws) waiting
+alike v w s same =
+    ap (λ (l : List EventMark). s.drawn ++ l) (lanes_alike v w 0 s.lanes (λ (q : ℕ) (below : q < length s.lanes).
+    let at : q ≡ 0 + q = omega arith in
+    subst (λ (n : ℕ). v n (lane_of s q) ≡ w n (lane_of s q)) at (same q below)))
 
--- a picture of events, and of one more
-sketch_more : (old mid new : Sketch) (m : ℕ) (entry : Entry) → Reaches old mid entry.line → m ≡ length mid.waiting
-    → Adds mid new (if mid.on then entry_marks m entry else [])
-    → (n first : ℕ) (entries : List Entry) → IsSketchOf n first entries old → IsSketchOf n first (entries ++ entry ∷ []) new
-sketch_more old mid new m entry reached count adds n first entries before =
-    let on : mid.on ≡ (is_reached first entries || nat_le first entry.line) =
-    reached.on ∙ ap (λ (b : Bool). b || nat_le old.first entry.line) before.on
-    ∙ ap (λ (k : ℕ). is_reached first entries || nat_le k entry.line) before.first_line in
-    let lanes : length mid.waiting ≡ n = ap (λ (ws : List (List Mark)). length ws) reached.waiting ∙ before.lanes in
-    let marks : flat_map (entry_marks n) (window first (entries ++ entry ∷ []))
-    ≡ flat_map (entry_marks n) (window first entries) ++ (if mid.on then entry_marks m entry else []) =
-    marks_more n first entries entry mid.on on
-    ∙ ap (λ (k : ℕ). flat_map (entry_marks n) (window first entries) ++ (if mid.on then entry_marks k entry else [])) (sym (count
-    ∙ lanes)) in
+-- it is of no process that there is
+amid_none : (n : ℕ) (before : List Row) (row : Row) (s : Sketch) → length s.lanes ≡ n
+    → ((p : ℕ) → p < n → IsLaneOf p before (lane_of s p)) → ((q : ℕ) → q < n → is_of q row ≡ false)
+    → ((later : List Row) → marks_on n (process_of row.entry.event) before row later ≡ []) → IsAmid n before row s s
+amid_none n before row s count lanes others none = record {
+  on = refl;
+  first = refl;
+  count = count;
+  interval = λ (p : ℕ) (below : p < n).
+      (lanes p below).interval ∙ sym (interval_more p 0 before row ∙ other_interval p (interval_behind p before) row (others p below));
+  ended = λ (p : ℕ) (below : p < n).
+      (lanes p below).ended ∙ sym (ended_more p false before row ∙ other_ended p (has_ended p before) row (others p below));
+  reached = λ (p : ℕ) (below : p < n). (lanes p below).reached;
+  marks = λ (later : List Row) (c : EventMark → ℕ).
+      let same = ap (λ (l : List EventMark). sum_by c l) (alike (amid_marks row later) (lane_marks (row ∷ later)) s
+      (λ (q : ℕ) (below : q < length s.lanes). let within : q < n = omega arith in
+      sym (other_marks row later q (lane_of s q) (others q within)))) in
+      let more : sum_by c (if s.on then marks_on n (process_of row.entry.event) before row later else []) ≡ 0 =
+      ap (λ (l : List EventMark). sum_by c (if s.on then l else [])) (none later) ∙ none_counted c s.on in
+      let both = sum_by-append c (all_marks (lane_marks (row ∷ later)) s)
+      (if s.on then marks_on n (process_of row.entry.event) before row later else []) in
+      omega arith;
+}
+  where
+    none_counted : (c : EventMark → ℕ) (on : Bool) → sum_by c (let l : List EventMark = if on then [] else [] in l) ≡ 0
+    none_counted c true = refl
+    none_counted c false = refl
+
+-- the marks of an event of a process that there is
+event_here : (n p : ℕ) (before : List Row) (row : Row) (later : List Row) → process_of row.entry.event ≡ Some p → p < n
+    → marks_on n (process_of row.entry.event) before row later ≡ event_marks p before row later
+event_here n p before row later is within =
+    ap (λ (o : Option ℕ). marks_on n o before row later) is
+    ∙ ap (λ (b : Bool). if b then event_marks p before row later else []) (lt-ltb p n within)
+
+stored_own : (p : ℕ) (ended : Bool) (row : Row) → process_of row.entry.event ≡ Some p
+    → stores p row ≡ is_stored_by (shown ended row.entry.event row.entry.answer)
+stored_own p ended row is =
+    ap (λ (b : Bool). b && is_store row.entry.event row.entry.answer) (of_own p row is)
+    ∙ sym (store_shown ended row.entry.event row.entry.answer)
+
+amid_shown : (n p : ℕ) (before : List Row) (row : Row) (a b : Sketch) → length a.lanes ≡ n → process_of row.entry.event ≡ Some p → p < n
+    → ((q : ℕ) → q < n → IsLaneOf q before (lane_of a q))
+    → Shows a b p (shown (lane_of a p).ended row.entry.event row.entry.answer) row.fresh row.entry → IsAmid n before row a b
+amid_shown n p before row a b count is within lanes s =
+    let event : Event = row.entry.event in
+    let answer : Answer = row.entry.answer in
+    let e : Bool = (lane_of a p).ended in
+    let sh : Shown = shown e event answer in
+    let own = of_own p row is in
+    let st = stored_own p e row is in
+    let mine = lanes p within in
+    let interval_here : (lane_of b p).interval ≡ interval_behind p (before ++ row ∷ []) =
+    s.lane.interval ∙ interval_told e event answer (lane_of a p).interval
+    ∙ sym (own_interval p (lane_of a p).interval row own)
+    ∙ ap (λ (i : ℕ). next_interval p i row) mine.interval ∙ sym (interval_more p 0 before row) in
+    let ended_here : (lane_of b p).ended ≡ has_ended p (before ++ row ∷ []) =
+    s.lane.ended ∙ ended_told e event answer ∙ sym (own_ended p e row own)
+    ∙ ap (λ (x : Bool). next_ended p x row) mine.ended ∙ sym (ended_more p false before row) in
+    let away : (q : ℕ) → q ≢ p → lane_of b q ≡ lane_of a q =
+    (λ (q : ℕ) (off : q ≢ p).
+    ap (λ (ls : List Lane). get_or ls q new_lane) s.lanes ∙ get_or-set_other a.lanes p q (lane_of b p) new_lane off) in
     record {
-      on = adds.on ∙ on ∙ sym (reached_more first entries entry);
-      first_line = adds.first ∙ reached.first ∙ before.first_line;
-      lanes = adds.lanes ∙ lanes;
-      marks = λ (c : EventMark → ℕ).
-          let more : List EventMark = if mid.on then entry_marks m entry else [] in
-          let x : sum_by c (all_marks new) ≡ sum_by c (all_marks mid ++ more) = adds.marks c in
-          let y = sum_by-append c (all_marks mid) more in
-          let z : sum_by c (all_marks mid) ≡ sum_by c (all_marks old) =
-          ap (λ (l : List EventMark). sum_by c l) (all_same old mid reached.drawn reached.waiting) in
-          let w : sum_by c (all_marks old) ≡ sum_by c (flat_map (entry_marks n) (window first entries)) = before.marks c in
-          let v = sum_by-append c (flat_map (entry_marks n) (window first entries)) more in
-          let u : sum_by c (flat_map (entry_marks n) (window first (entries ++ entry ∷ [])))
-          ≡ sum_by c (flat_map (entry_marks n) (window first entries) ++ more) = ap (λ (l : List EventMark). sum_by c l) marks in
+      on = s.on;
+      first = s.first;
+      count = ap (λ (ls : List Lane). length ls) s.lanes ∙ length-set a.lanes p (lane_of b p) ∙ count;
+      interval = λ (q : ℕ) (below : q < n). elim (eqb_tells q p) [
+        | inl here ↦
+            subst (λ (k : ℕ). (lane_of b k).interval ≡ interval_behind k (before ++ row ∷ [])) (sym here.1) interval_here
+        | inr off ↦
+            ap (λ (l : Lane). l.interval) (away q off.1) ∙ (lanes q below).interval
+            ∙ sym (interval_more q 0 before row ∙ other_interval q (interval_behind q before) row (of_other p q row is off.1))
+      ];
+      ended = λ (q : ℕ) (below : q < n). elim (eqb_tells q p) [
+        | inl here ↦ subst (λ (k : ℕ). (lane_of b k).ended ≡ has_ended k (before ++ row ∷ [])) (sym here.1) ended_here
+        | inr off ↦
+            ap (λ (l : Lane). l.ended) (away q off.1) ∙ (lanes q below).ended
+            ∙ sym (ended_more q false before row ∙ other_ended q (has_ended q before) row (of_other p q row is off.1))
+      ];
+      reached = λ (q : ℕ) (below : q < n). elim (eqb_tells q p) [
+        | inl here ↦
+            subst (λ (k : ℕ). (lane_of b k).reached ≡ highest k 0 before) (sym here.1) (s.lane.reached ∙ mine.reached)
+        | inr off ↦ ap (λ (l : Lane). l.reached) (away q off.1) ∙ (lanes q below).reached
+      ];
+      marks = λ (later : List Row) (c : EventMark → ℕ).
+          let sure : List EventMark = sure_marks sh row.entry in
+          let fate : Fate = fate_of p (interval_behind p (before ++ row ∷ [])) before (row ∷ later) in
+          let fated : List EventMark = fated_marks sh row.fresh fate row.entry in
+          let amid : List EventMark = fated_marks sh row.fresh (fate_amid row later p (lane_of b p).interval false (lane_of a p).reached)
+          row.entry in
+          let fates : amid ≡ fated =
+          own_fate sh row later p (lane_of b p).interval (lane_of a p).reached st
+          ∙ ap (λ (i : ℕ). fated_marks sh row.fresh (fate_behind p i false (lane_of a p).reached (row ∷ later)) row.entry) interval_here
+          ∙ ap (λ (r : ℕ). fated_marks sh row.fresh
+          (fate_behind p (interval_behind p (before ++ row ∷ [])) false r (row ∷ later)) row.entry) mine.reached in
+          let events : marks_on n (process_of event) before row later ≡ sure ++ fated =
+          event_here n p before row later is within
+          ∙ ap (λ (x : Bool). sure_marks (shown x event answer) row.entry ++ fated_marks (shown x event answer) row.fresh fate row.entry)
+          (sym mine.ended) in
+          let new = all_counted c (amid_marks row later) b in
+          let old = all_counted c (lane_marks (row ∷ later)) a in
+          let drawn : sum_by c b.drawn ≡ sum_by c a.drawn + sum_by c (if a.on then sure else []) =
+          ap (λ (l : List EventMark). sum_by c l) s.drawn ∙ sum_by-append c a.drawn (if a.on then sure else []) in
+          let set_lanes : sum_by c (lanes_marks (amid_marks row later) 0 b.lanes)
+          ≡ sum_by c (lanes_marks (amid_marks row later) 0 (set a.lanes p (lane_of b p))) =
+          ap (λ (ls : List Lane). sum_by c (lanes_marks (amid_marks row later) 0 ls)) s.lanes in
+          let one = lane_counted c (lane_marks (row ∷ later)) (amid_marks row later) a.lanes p (lane_of b p) s.within
+          (λ (q : ℕ) (off : q ≢ p) (l : Lane). other_marks row later q l (of_other p q row is off)) in
+          let here : sum_by c (amid_marks row later p (lane_of b p))
+          ≡ sum_by c (lane_marks (row ∷ later) p (lane_of a p)) + sum_by c (if a.on then amid else []) =
+          ap (λ (l : List EventMark). sum_by c l) (own_marks a.on sh row later p (lane_of a p) (lane_of b p) st s.lane)
+          ∙ sum_by-append c (lane_marks (row ∷ later) p (lane_of a p)) (if a.on then amid else []) in
+          let same : sum_by c (if a.on then amid else []) ≡ sum_by c (if a.on then fated else []) =
+          ap (λ (l : List EventMark). sum_by c (if a.on then l else [])) fates in
+          let both = if_both c a.on sure fated in
+          let told : sum_by c (if a.on then marks_on n (process_of event) before row later else [])
+          ≡ sum_by c (if a.on then sure ++ fated else []) = ap (λ (l : List EventMark). sum_by c (if a.on then l else [])) events in
+          let whole = sum_by-append c (all_marks (lane_marks (row ∷ later)) a)
+          (if a.on then marks_on n (process_of event) before row later else []) in
           omega arith;
     }
 
-pub step_drawn : (r : Result (Unit {0}) AllocError) (old mid own changed kept new : Sketch) (m : ℕ) (entry : Entry)
-    → Reaches old mid entry.line
-    → m ≡ length mid.waiting → Adds mid own (if mid.on then entry_marks m entry else []) → changed ≡ own → Adds changed kept []
-    → OnOk r (Adds kept new [])
-    → OnOk r ((n first : ℕ) (entries : List Entry) → IsSketchOf n first entries old → IsSketchOf n first (entries ++ entry ∷ []) new)
-step_drawn r old mid own changed kept new m entry reached count adds same keeps ends =
-    on_ok_weaker r (λ (e : Adds kept new []).
-    let more : List EventMark = if mid.on then entry_marks m entry else [] in
-    let as_kept : Adds own kept [] = subst (λ (s : Sketch). Adds s kept []) same keeps in
-    sketch_more old mid new m entry reached count (then_none mid kept new more (then_none mid own kept more adds as_kept) e)) ends
+within_or : (p n : ℕ) → (p < n) ⊎ (n ≤ p)
+within_or p n = grind arith
 
--- the end
+amid_by : (o : Option ℕ) (n : ℕ) (before : List Row) (row : Row) (a b : Sketch) → process_of row.entry.event ≡ o → length a.lanes ≡ n
+    → ((q : ℕ) → q < n → IsLaneOf q before (lane_of a q)) → ShowsOn o a b row → IsAmid n before row a b
+amid_by None n before row a b is count lanes same =
+    subst (λ (s : Sketch). IsAmid n before row a s) (sym same)
+    (amid_none n before row a count lanes (λ (q : ℕ) (below : q < n). of_none q row is)
+    (λ (later : List Row). ap (λ (o : Option ℕ). marks_on n o before row later) is))
+amid_by (Some p) n before row a b is count lanes at = elim (within_or p n) [
+  | inl within ↦ let there : p < length a.lanes = omega arith in amid_shown n p before row a b count is within lanes (at.shows there)
+  | inr past ↦
+      let beyond : length a.lanes ≤ p = omega arith in
+      subst (λ (s : Sketch). IsAmid n before row a s) (sym (at.past beyond))
+      (amid_none n before row a count lanes
+      (λ (q : ℕ) (below : q < n). let off : q ≢ p = omega arith in of_other p q row is off)
+      (λ (later : List Row).
+      ap (λ (o : Option ℕ). marks_on n o before row later) is
+      ∙ ap (λ (x : Bool). if x then event_marks p before row later else []) (le-ltb p n past)))
+]
 
-pub lanes_ended : (a b c : Sketch) (p : ℕ) → Adds a b [] → ((q : ℕ) → q < p → lane_of b q ≡ []) → EndsLane b c p
-    → (Adds a c []) × ((q : ℕ) → q < p + 1 → lane_of c q ≡ [])
-lanes_ended a b c p adds empty ends = (
-  then_none a b c [] adds ends.adds,
-  below_more (λ (q : ℕ). lane_of c q ≡ []) p
-      (λ (q : ℕ) (below : q < p). let other : q ≢ p = omega arith in ends.others q other ∙ empty q below)
-      ends.here,
+-- ---- its recovery state and its round
+told_lane : (p : ℕ) (before : List Row) (row : Row) (b c : Lane) → b.reached ≡ highest p 0 before
+    → c.reached ≡ max b.reached (slice_index row.recovery p) → c.reached ≡ highest p 0 (before ++ row ∷ [])
+told_lane p before row b c was is = is ∙ ap (λ (n : ℕ). next_place p n row) was ∙ sym (highest_more p 0 before row)
+
+told_again : (p : ℕ) (row : Row) (b c : Lane) → c.reached ≡ max b.reached (slice_index row.recovery p)
+    → next_place p c.reached row ≡ c.reached
+told_again p row b c is = ap (λ (n : ℕ). next_place p n row) is ∙ place_again p b.reached row ∙ sym is
+
+no_waiting : (f : ℕ → Bool → Fate) (stored : ℕ) (marks : List Mark) → marks ≡ [] → waiting_marks f stored marks ≡ []
+no_waiting f stored marks none = ap (λ (l : List Mark). waiting_marks f stored l) none
+
+round_told : (finished : Bool) (row : Row) (later : List Row) (c d : Sketch) → is_finished row.entry.answer ≡ finished
+    → ((q : ℕ) → q < length c.lanes → next_place q (lane_of c q).reached row ≡ (lane_of c q).reached) → SettlesIf finished c d
+    → AreTheSame (all_marks (lane_marks later) d) (all_marks (amid_marks row later) c)
+round_told false row later c d is again same =
+    λ (x : EventMark → ℕ).
+    ap (λ (s : Sketch). sum_by x (all_marks (lane_marks later) s)) same
+    ∙ sym (ap (λ (l : List EventMark). sum_by x l) (alike (amid_marks row later) (lane_marks later) c
+    (λ (q : ℕ) (below : q < length c.lanes).
+    waiting_alike (λ i st. fate_amid row later q i st (lane_of c q).reached) (λ i st. fate_behind q i st (lane_of c q).reached later)
+    (λ (i : ℕ) (st : Bool). open_fate row later q i (lane_of c q).reached st is (again q below))
+    (lane_of c q).stored (lane_of c q).waiting)))
+round_told true row later c d is again settled =
+    λ (x : EventMark → ℕ).
+    ap (λ (l : List EventMark). sum_by x l) (alike (lane_marks later) (now_marks true) d
+    (λ (q : ℕ) (below : q < length d.lanes).
+    let long = settled.keeps.count in
+    let within : q < length c.lanes = omega arith in
+    no_waiting (λ i st. fate_behind q i st (lane_of d q).reached later) (lane_of d q).stored (lane_of d q).waiting
+    (settled.empty q within)
+    ∙ sym (no_waiting (λ i st. fate_now true (nat_le i (lane_of d q).reached) st) (lane_of d q).stored (lane_of d q).waiting
+    (settled.empty q within))))
+    ∙ settled.keeps.marks x
+    ∙ sym (ap (λ (l : List EventMark). sum_by x l) (alike (amid_marks row later) (now_marks true) c
+    (λ (q : ℕ) (below : q < length c.lanes).
+    waiting_alike (λ i st. fate_amid row later q i st (lane_of c q).reached) (λ i st. fate_now true (nat_le i (lane_of c q).reached) st)
+    (λ (i : ℕ) (st : Bool). round_fate row later q i (lane_of c q).reached st is (again q below))
+    (lane_of c q).stored (lane_of c q).waiting)))
+
+settled_facts : (finished : Bool) (c d : Sketch) → SettlesIf finished c d
+    → (d.on ≡ c.on) × (d.first ≡ c.first) × (length d.lanes ≡ length c.lanes) × ((q : ℕ) → Stays (lane_of c q) (lane_of d q))
+settled_facts false c d same = (
+  ap (λ (s : Sketch). s.on) same,
+  ap (λ (s : Sketch). s.first) same,
+  ap (λ (s : Sketch). length s.lanes) same,
+  λ (q : ℕ). subst (λ (s : Sketch). Stays (lane_of c q) (lane_of s q)) (sym same)
+      (record { interval = refl; ended = refl; reached = refl }),
 )
+settled_facts true c d settled = (settled.keeps.on, settled.keeps.first, settled.keeps.count, settled.lanes)
 
-no_rest : (ws : List (List Mark)) → ((q : ℕ) → q < length ws → get_or ws q [] ≡ []) → flat_map (flat_map mark_marks) ws ≡ []
-no_rest [] empty = refl
-no_rest (w ∷ ws) empty =
-    let here : w ≡ [] = empty 0 (omega arith) in
-    flat_map-cons (flat_map mark_marks) w ws
-    ∙ ap (λ (l : List Mark). flat_map mark_marks l ++ flat_map (flat_map mark_marks) ws) here
-    ∙ no_rest ws (λ (q : ℕ) (below : q < length ws). empty (suc q) (omega arith))
+-- ---- the window
+reached_more : (first : ℕ) (rows : List Row) (row : Row)
+    → is_reached first (rows ++ row ∷ []) ≡ (is_reached first rows || nat_le first row.entry.line)
+reached_more first [] row = or-false (nat_le first row.entry.line)
+reached_more first (x ∷ rows) row =
+    ap (λ (b : Bool). nat_le first x.entry.line || b) (reached_more first rows row)
+    ∙ sym (or_assoc (nat_le first x.entry.line) (is_reached first rows) (nat_le first row.entry.line))
 
-pub all_ended : (a b : Sketch) (n : ℕ) → n ≡ length a.waiting → Adds a b [] → ((q : ℕ) → q < n → lane_of b q ≡ []) → Draws a b
-all_ended a b n count adds empty = record {
-  marks = λ (c : EventMark → ℕ). adds.marks c ∙ ap (λ (l : List EventMark). sum_by c l) (append-nil (all_marks a));
-  rest = no_rest b.waiting (λ (q : ℕ) (below : q < length b.waiting). let as_many = adds.lanes in let within : q < n =
-      omega arith in empty q within);
-}
+among_more : (n first : ℕ) (before rows : List Row) (row : Row) (later : List Row)
+    → marks_among n first before (rows ++ row ∷ []) later
+    ≡ marks_among n first before rows (row ∷ later) ++ row_marks n first (before ++ rows) row later
+among_more n first before [] row later =
+    append-nil (row_marks n first before row later)
+    ∙ ap (λ (l : List Row). row_marks n first l row later) (sym (append-nil before))
+among_more n first before (x ∷ rows) row later =
+    ap (λ (l : List Row). row_marks n first before x l ++ marks_among n first (before ++ x ∷ []) (rows ++ row ∷ []) later)
+    (append_assoc rows (row ∷ []) later)
+    ∙ ap (λ (l : List EventMark). row_marks n first before x (rows ++ row ∷ later) ++ l)
+    (among_more n first (before ++ x ∷ []) rows row later)
+    ∙ sym (append_assoc (row_marks n first before x (rows ++ row ∷ later)) (marks_among n first (before ++ x ∷ []) rows (row ∷ later))
+    (row_marks n first ((before ++ x ∷ []) ++ rows) row later))
+    ∙ ap (λ (l : List Row). (row_marks n first before x (rows ++ row ∷ later) ++ marks_among n first (before ++ x ∷ []) rows (row ∷ later))
+    ++ row_marks n first l row later) (append_assoc before (x ∷ []) rows)
 
-drawn_whole : (s : Sketch) → flat_map (flat_map mark_marks) s.waiting ≡ [] → all_marks s ≡ s.drawn
+-- ---- one event more
+same_all : (v : ℕ → Lane → List EventMark) (a b : Sketch) → b.drawn ≡ a.drawn → b.lanes ≡ a.lanes → all_marks v b ≡ all_marks v a
 unfolding all_marks
-drawn_whole s rest = ap (λ (l : List EventMark). s.drawn ++ l) rest ∙ append-nil s.drawn
+same_all v a b drawn lanes =
+    ap (λ (l : List EventMark). l ++ lanes_marks v 0 b.lanes) drawn
+    ∙ ap (λ (ls : List Lane). a.drawn ++ lanes_marks v 0 ls) lanes
 
-pub whole_drawn : (old new : Sketch) (drawn : List EventMark) → Draws old new → drawn ≡ new.drawn
-    → (n first : ℕ) (entries : List Entry) → IsSketchOf n first entries old
-    → AreTheSame drawn (flat_map (entry_marks n) (window first entries))
-whole_drawn old new drawn draws same n first entries before =
-    λ (c : EventMark → ℕ).
-    ap (λ (l : List EventMark). sum_by c l) (same ∙ sym (drawn_whole new draws.rest)) ∙ draws.marks c ∙ before.marks c
+sketch_more : (a b c d e : Sketch) (row : Row) → Reaches a b row.entry.line → ShowsEvent b c row → LearnsAll row c d
+    → SettlesIf (is_finished row.entry.answer) d e
+    → (n first : ℕ) (rows : List Row) → IsSketchOf n first rows a → IsSketchOf n first (rows ++ row ∷ []) e
+sketch_more a b c d e row reached shows learns settles n first rows before =
+    let count : length b.lanes ≡ n = ap (λ (ls : List Lane). length ls) reached.lanes ∙ before.count in
+    let lanes : (p : ℕ) → p < n → IsLaneOf p rows (lane_of b p) =
+    (λ (p : ℕ) (below : p < n).
+    subst (λ (l : Lane). IsLaneOf p rows l) (sym (ap (λ (ls : List Lane). get_or ls p new_lane) reached.lanes)) (before.lanes p below)) in
+    let amid : IsAmid n rows row b c = amid_by (process_of row.entry.event) n rows row b c refl count lanes shows in
+    let facts = settled_facts (is_finished row.entry.answer) d e settles in
+    let keeps = (learns.keeps []).count in
+    let long : length d.lanes ≡ n = keeps ∙ amid.count in
+    let learned : (p : ℕ) → p < n → _ = (λ (p : ℕ) (below : p < n).
+    let there : p < length c.lanes = (let h = amid.count in omega arith) in learns.lanes p there) in
+    let on : b.on ≡ is_reached first (rows ++ row ∷ []) =
+    reached.on ∙ ap (λ (x : Bool). x || nat_le a.first row.entry.line) before.on
+    ∙ ap (λ (k : ℕ). is_reached first rows || nat_le k row.entry.line) before.first_line ∙ sym (reached_more first rows row) in
+    record {
+      on = facts.0 ∙ (learns.keeps []).on ∙ amid.on ∙ on;
+      first_line = facts.1 ∙ (learns.keeps []).first ∙ amid.first ∙ reached.first ∙ before.first_line;
+      count = facts.2 ∙ long;
+      lanes = λ (p : ℕ) (below : p < n).
+          let l = learned p below in
+          record {
+            interval = (facts.3 p).interval ∙ l.interval ∙ amid.interval p below;
+            ended = (facts.3 p).ended ∙ l.ended ∙ amid.ended p below;
+            reached = (facts.3 p).reached ∙ told_lane p rows row (lane_of c p) (lane_of d p) (amid.reached p below) l.reached;
+          };
+      marks = λ (later : List Row) (x : EventMark → ℕ).
+          let own : List EventMark = if b.on then marks_on n (process_of row.entry.event) rows row later else [] in
+          let z = round_told (is_finished row.entry.answer) row later d e refl
+          (λ (q : ℕ) (below : q < length d.lanes). let within : q < n = omega arith in
+          told_again q row (lane_of c q) (lane_of d q) (learned q within).reached) settles x in
+          let y : sum_by x (all_marks (amid_marks row later) d) ≡ sum_by x (all_marks (amid_marks row later) c) =
+          (learns.keeps later).marks x in
+          let w : sum_by x (all_marks (amid_marks row later) c) ≡ sum_by x (all_marks (lane_marks (row ∷ later)) b ++ own) =
+          amid.marks later x in
+          let v = sum_by-append x (all_marks (lane_marks (row ∷ later)) b) own in
+          let u : sum_by x (all_marks (lane_marks (row ∷ later)) b) ≡ sum_by x (all_marks (lane_marks (row ∷ later)) a) =
+          ap (λ (l : List EventMark). sum_by x l) (same_all (lane_marks (row ∷ later)) a b reached.drawn reached.lanes) in
+          let t : sum_by x (all_marks (lane_marks (row ∷ later)) a) ≡ sum_by x (marks_among n first [] rows (row ∷ later)) =
+          before.marks (row ∷ later) x in
+          let s : sum_by x (marks_among n first [] (rows ++ row ∷ []) later)
+          ≡ sum_by x (marks_among n first [] rows (row ∷ later)) + sum_by x (row_marks n first rows row later) =
+          ap (λ (l : List EventMark). sum_by x l) (among_more n first [] rows row later)
+          ∙ sum_by-append x (marks_among n first [] rows (row ∷ later)) (row_marks n first rows row later) in
+          let r : sum_by x own ≡ sum_by x (row_marks n first rows row later) =
+          ap (λ (o : Bool). sum_by x (if o then marks_on n (process_of row.entry.event) rows row later else [])) on in
+          omega arith;
+    }
 
--- the next mark of a lane, as it is ended
-pub lane_less : (a b c d : Sketch) (p : ℕ) (mark : Mark) → Adds a b [] → ((q : ℕ) → q ≢ p → lane_of b q ≡ lane_of a q) → Takes b c p mark
-    → Settles c d (mark_marks mark) → (Adds a d []) × ((q : ℕ) → q ≢ p → lane_of d q ≡ lane_of a q)
-lane_less a b c d p mark adds others taken settled = (
-  then_none a b d [] adds (taken_settled b c d p mark taken settled),
-  λ (q : ℕ) (other : q ≢ p).
-      ap (λ (ws : List (List Mark)). get_or ws q []) (settled.waiting ∙ taken.waiting)
-      ∙ get_or-set_other b.waiting p q (lane_of c p) [] other ∙ others q other,
-)
+pub step_drawn : (r : Result (Unit {0}) AllocError) (a b c d e f : Sketch) (row : Row) → Reaches a b row.entry.line → ShowsEvent b c row
+    → d ≡ c → LearnsAll row d e → OnOk r (SettlesIf (is_finished row.entry.answer) e f)
+    → OnOk r ((n first : ℕ) (rows : List Row) → IsSketchOf n first rows a → IsSketchOf n first (rows ++ row ∷ []) f)
+step_drawn r a b c d e f row reached shows same learns settles =
+    on_ok_weaker r (λ (s : SettlesIf (is_finished row.entry.answer) e f).
+    sketch_more a b c e f row reached shows (subst (λ (x : Sketch). LearnsAll row x e) same learns) s) settles
 
-pub lane_shorter : (b c d : Sketch) (p : ℕ) (mark : Mark) → Takes b c p mark → Settles c d (mark_marks mark)
-    → length (lane_of d p) < length (lane_of b p)
-lane_shorter b c d p mark taken settled =
-    let was : length (lane_of b p) ≡ suc (length (lane_of c p)) = ap (λ (l : List Mark). length l) taken.was in
-    let now : length (lane_of d p) ≡ length (lane_of c p) = ap (λ (ws : List (List Mark)). length (get_or ws p [])) settled.waiting in
-    omega arith
+-- ---- the end
+no_lanes : (v : ℕ → Lane → List EventMark) (s : Sketch) → ((q : ℕ) → q < length s.lanes → v q (lane_of s q) ≡ [])
+    → all_marks v s ≡ s.drawn
+unfolding all_marks
+no_lanes v s none =
+    ap (λ (l : List EventMark). s.drawn ++ l) (lanes_alike v (λ q l. []) 0 s.lanes (λ (q : ℕ) (below : q < length s.lanes).
+    let at : q ≡ 0 + q = omega arith in
+    subst (λ (n : ℕ). v n (lane_of s q) ≡ []) at (none q below)) ∙ empty 0 s.lanes)
+    ∙ append-nil s.drawn
+  where
+    empty : (k : ℕ) (ls : List Lane) → lanes_marks (λ q l. []) k ls ≡ []
+    empty k [] = refl
+    empty k (l ∷ ls) = empty (suc k) ls
 
-pub lane_ended : (a b c : Sketch) (p : ℕ) → Adds a b [] → ((q : ℕ) → q ≢ p → lane_of b q ≡ lane_of a q) → (c ≡ b) × (lane_of b p ≡ [])
-    → EndsLane a c p
-lane_ended a b c p adds others last =
-    subst (λ (s : Sketch). EndsLane a s p) (sym last.0) (record { adds = adds; here = last.1; others = others })
+pub whole_drawn : (a b : Sketch) (drawn : List EventMark) → SettlesAll false a b → drawn ≡ b.drawn
+    → (n first : ℕ) (rows : List Row) → IsSketchOf n first rows a → AreTheSame drawn (marks_among n first [] rows [])
+whole_drawn a b drawn settled is n first rows before =
+    λ (x : EventMark → ℕ).
+    ap (λ (l : List EventMark). sum_by x l) (is ∙ sym (no_lanes (now_marks false) b (λ (q : ℕ) (below : q < length b.lanes).
+    let long = settled.keeps.count in
+    let within : q < length a.lanes = omega arith in
+    no_waiting (λ i st. fate_now false (nat_le i (lane_of b q).reached) st) (lane_of b q).stored (lane_of b q).waiting
+    (settled.empty q within))))
+    ∙ settled.keeps.marks x
+    ∙ sym (ap (λ (l : List EventMark). sum_by x l) (alike (lane_marks []) (now_marks false) a
+    (λ (q : ℕ) (below : q < length a.lanes).
+    waiting_alike (λ i st. fate_behind q i st (lane_of a q).reached []) (λ i st. fate_now false (nat_le i (lane_of a q).reached) st)
+    (λ (i : ℕ) (st : Bool). end_fate q i (lane_of a q).reached st) (lane_of a q).stored (lane_of a q).waiting)))
+    ∙ before.marks [] x
 
--- the start
+-- ---- the start
+pub new_more : (hs : List History) (h : History) → AreNew hs → lane_in h ≡ new_lane → AreNew (hs ++ h ∷ [])
+new_more [] h before here = (here, tt)
+new_more (x ∷ hs) h before here = (before.0, new_more hs h before.1 here)
 
-pub empty_more : (hs : List History) (h : History) → AreEmpty hs → waiting_of h ≡ [] → AreEmpty (hs ++ h ∷ [])
-empty_more [] h before here = (here, tt)
-empty_more (x ∷ hs) h before here = (before.0, empty_more hs h before.1 here)
+new_at : (hs : List History) (p : ℕ) → AreNew hs → get_or (map lane_in hs) p new_lane ≡ new_lane
+new_at [] p before = refl
+new_at (h ∷ hs) zero before = before.0
+new_at (h ∷ hs) (suc p) before = new_at hs p before.1
 
-empty_rest : (hs : List History) → AreEmpty hs → flat_map (flat_map mark_marks) (map waiting_of hs) ≡ []
-empty_rest [] empty = refl
-empty_rest (h ∷ hs) empty =
-    flat_map-cons (flat_map mark_marks) (waiting_of h) (map waiting_of hs)
-    ∙ ap (λ (l : List Mark). flat_map mark_marks l ++ flat_map (flat_map mark_marks) (map waiting_of hs)) empty.0
-    ∙ empty_rest hs empty.1
-
-pub new_sketch : (n first : ℕ) (shapes : List Shape) (hs : List History) → shapes ≡ [] → length hs ≡ n → AreEmpty hs
-    → IsSketchOf n first [] (record { on = false; first = first; drawn = flat_map shape_marks shapes; waiting = map waiting_of hs })
-new_sketch n first shapes hs none count empty =
-    let s : Sketch = record { on = false; first = first; drawn = flat_map shape_marks shapes; waiting = map waiting_of hs } in
+pub new_sketch : (n first : ℕ) (shapes : List Shape) (hs : List History) → shapes ≡ [] → length hs ≡ n → AreNew hs
+    → IsSketchOf n first [] (record { on = false; first = first; drawn = flat_map shape_marks shapes; lanes = map lane_in hs })
+new_sketch n first shapes hs none count new =
+    let s : Sketch = record { on = false; first = first; drawn = flat_map shape_marks shapes; lanes = map lane_in hs } in
     record {
       on = refl;
       first_line = refl;
-      lanes = length-map hs waiting_of ∙ count;
-      marks = λ (c : EventMark → ℕ).
-          ap (λ (l : List EventMark). sum_by c l) (drawn_whole s (empty_rest hs empty)
+      count = length-map hs lane_in ∙ count;
+      lanes = λ (p : ℕ) (below : p < n). subst (λ (l : Lane). IsLaneOf p [] l) (sym (new_at hs p new))
+          (record { interval = refl; ended = refl; reached = refl });
+      marks = λ (later : List Row) (x : EventMark → ℕ).
+          ap (λ (l : List EventMark). sum_by x l) (no_lanes (lane_marks later) s (λ (q : ℕ) (below : q < length s.lanes).
+          ap (λ (l : Lane). lane_marks later q l) (new_at hs q new))
           ∙ ap (λ (l : List Shape). flat_map shape_marks l) none);
     }

@@ -1,3 +1,6 @@
 pub mod DrawLemmas
-pub mod MarkLemmas
+pub mod FateLaws
+pub mod FateLemmas
+pub mod LaneLemmas
 pub mod PlainLemmas
+pub mod ShowLemmas

@@ -1,48 +1,94 @@
 -- A picture that is being drawn: which marks it has, drawn or waiting.
-use Rattle.std.specs.Prelude.{◌≡◌, ℕ, ◌==◌, Bool, if◌then◌else◌, List, [], ◌++◌, Some, drop, length, map}
+use Rattle.std.specs.Prelude.{◌≡◌, ℕ, suc, ◌<◌, ◌-◌, ◌==◌, Bool, false, if◌then◌else◌, nat_lt, List, [], ◌∷◌, ◌++◌, Some, drop, length, map, slice_index_or}
 use Rattle.std.specs.List.{flat_map}
-use Rattle.om_picture.specs.Marks.{AreTheSame, Entry, EventMark, Kind, Saved, Taken, Worked, entry_marks, is_reached, own_marks, shape_marks, title_entry, window}
+use Rattle.om_picture.specs.Fates.{Entry, Fate, Row, fate_behind, has_ended, highest, interval_behind}
+use Rattle.om_picture.specs.Marks.{AreTheSame, EventMark, Saved, Taken, Worked, is_reached, mark_of, marks_among, output_marks, shape_marks, title_entry}
 use Rattle.om_picture.specs.declared.history.History.{History}
 use Rattle.om_picture.specs.declared.history.Mark.{Mark}
 use Rattle.om_picture.specs.declared.picture.Picture.{Picture}
 use Rattle.om_picture.specs.declared.shown.Shown.{Shown}
 use Rattle.om_picture.specs.declared.shown.Shown.TheVariants as shows
 
--- what a mark that waits says of its event
-abbrev pub waiting_kind : Shown → Kind
-waiting_kind (shows.Receipt frame interval) = Taken
-waiting_kind shows.Checkpoint = Saved
-waiting_kind _ = Worked
+-- what a mark that waits comes to, of an event that showed this
+abbrev pub late_marks : Shown → ℕ → Fate → Entry → List EventMark
+late_marks (shows.Receipt frame interval) fresh fate entry = mark_of (Some (Taken fate.stored)) fate.cut entry
+late_marks shows.Checkpoint fresh fate entry = mark_of (Some Saved) fate.cut entry
+late_marks (shows.Run sent made ends) fresh fate entry = output_marks made fresh fate entry ++ mark_of (Some Worked) fate.cut entry
+late_marks _ fresh fate entry = mark_of (Some Worked) fate.cut entry
 
--- the mark of an event that is drawn once its fate is known; one from before the window is not
-abbrev pub mark_marks : Mark → List EventMark
-mark_marks mark = if mark.x == 0 then [] else own_marks (Some (waiting_kind mark.shown)) (title_entry mark.title)
+-- a mark from before the window is not drawn
+abbrev pub mark_marks : Mark → Fate → List EventMark
+mark_marks mark fate = if mark.x == 0 then [] else late_marks mark.shown mark.fresh fate (title_entry mark.title)
 
--- whether the window is reached, its first line, the marks of events that are drawn, and those that wait on each lane
+-- marks that wait, of which the first ones, so many, are stored, each with the fate of its interval
+abbrev pub waiting_marks : (ℕ → Bool → Fate) → ℕ → List Mark → List EventMark
+waiting_marks fate stored [] = []
+waiting_marks fate stored (mark ∷ marks) =
+    mark_marks mark (fate mark.interval (nat_lt 0 stored)) ++ waiting_marks fate (stored - 1) marks
+
+-- what is known of a process: its interval, whether its program ended, the highest place that it had in a recovery state, and the
+-- marks that wait, of which the first ones, so many, are stored
+pub record Lane : Type 0 where
+  pub interval : ℕ
+  pub ended : Bool
+  pub reached : ℕ
+  pub stored : ℕ
+  pub waiting : List Mark
+
+abbrev pub new_lane : Lane
+new_lane = record { interval = 0; ended = false; reached = 0; stored = 0; waiting = [] }
+
+abbrev pub lane_in : History → Lane
+lane_in history = record {
+  interval = history.interval;
+  ended = history.ended;
+  reached = history.reached;
+  stored = history.stored - history.settled;
+  waiting = drop history.settled history.marks.items;
+}
+
+-- whether the window is reached, its first line, the marks of events that are drawn, and the lanes
 pub record Sketch : Type 0 where
   pub on : Bool
   pub first : ℕ
   pub drawn : List EventMark
-  pub waiting : List (List Mark)
-
-abbrev pub waiting_of : History → List Mark
-waiting_of history = drop history.settled history.marks.items
+  pub lanes : List Lane
 
 abbrev pub sketch_of : Picture → Sketch
 sketch_of picture = record {
   on = picture.on;
   first = picture.first;
   drawn = flat_map shape_marks picture.marks.items;
-  waiting = map waiting_of picture.histories.items;
+  lanes = map lane_in picture.histories.items;
 }
 
--- all marks of events, those that are drawn and those that wait
-unfoldable pub all_marks : Sketch → List EventMark
-all_marks sketch = sketch.drawn ++ flat_map (flat_map mark_marks) sketch.waiting
+-- what the marks of lanes come to, of which the first is of this process
+abbrev pub lanes_marks : (ℕ → Lane → List EventMark) → ℕ → List Lane → List EventMark
+lanes_marks marks p [] = []
+lanes_marks marks p (lane ∷ lanes) = marks p lane ++ lanes_marks marks (suc p) lanes
 
--- a picture of so many processes and of these events, whose window begins at a line
-pub record IsSketchOf (n first : ℕ) (entries : List Entry) (sketch : Sketch) : Type 0 where
-  pub on : sketch.on ≡ is_reached first entries
+-- all marks, those that are drawn and what those come to that wait
+unfoldable pub all_marks : (ℕ → Lane → List EventMark) → Sketch → List EventMark
+all_marks marks sketch = sketch.drawn ++ lanes_marks marks 0 sketch.lanes
+
+-- what the marks that wait on a lane come to with these events
+abbrev pub lane_marks : List Row → ℕ → Lane → List EventMark
+lane_marks later p lane = waiting_marks (λ interval stored. fate_behind p interval stored lane.reached later) lane.stored lane.waiting
+
+abbrev pub lane_of : Sketch → ℕ → Lane
+lane_of sketch p = slice_index_or sketch.lanes p new_lane
+
+-- what is known of a process behind these events
+pub record IsLaneOf (p : ℕ) (rows : List Row) (lane : Lane) : Type 0 where
+  pub interval : lane.interval ≡ interval_behind p rows
+  pub ended : lane.ended ≡ has_ended p rows
+  pub reached : lane.reached ≡ highest p 0 rows
+
+-- a picture of so many processes and of these events, whose window begins at a line: whatever comes behind them, its marks come
+-- to those of the events
+pub record IsSketchOf (n first : ℕ) (rows : List Row) (sketch : Sketch) : Type 0 where
+  pub on : sketch.on ≡ is_reached first rows
   pub first_line : sketch.first ≡ first
-  pub lanes : length sketch.waiting ≡ n
-  pub marks : AreTheSame (all_marks sketch) (flat_map (entry_marks n) (window first entries))
+  pub count : length sketch.lanes ≡ n
+  pub lanes : (p : ℕ) → p < n → IsLaneOf p rows (lane_of sketch p)
+  pub marks : (later : List Row) → AreTheSame (all_marks (lane_marks later) sketch) (marks_among n first [] rows later)

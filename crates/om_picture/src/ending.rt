@@ -1,22 +1,22 @@
 //! The right side of a picture: how all stands in the end.
 
-ghost use Rattle.std.specs.Prelude.{◌≡◌, ℕ, List, IfOk, OnOk};
+ghost use Rattle.std.specs.Prelude.{◌≡◌, ℕ, List, length, false, IfOk, OnOk};
 ghost use Rattle.om_picture.specs.Drawing.{IsSketchOf, mark_marks, sketch_of};
-ghost use Rattle.om_picture.specs.Marks.{Entry, IsDrawingOf};
-ghost use Rattle.om_picture.specs.steps.Adding.{Draws, EndsLane, Settles};
+ghost use Rattle.om_picture.specs.Fates.{Row};
+ghost use Rattle.om_picture.specs.Marks.{IsDrawingOf};
+ghost use Rattle.om_picture.specs.steps.Adding.{Settles, SettlesAll, SettlesLane, fate_now};
 
 use crate::column::AXIS;
 use crate::counts::Counts;
 use crate::frame::Frame;
-use crate::history::Mark;
+use crate::history::Next;
 use crate::lane::{Stand, lane_y};
 use crate::measure::{CHARACTER, digits, standing_length};
 use crate::page::{Page, count_of};
 use crate::picture::Picture;
 use crate::rounds::before;
-use crate::settle::{Fate, place_of};
+use crate::settle::{fate_now, place_of};
 use crate::sheet::{Crossed, Crossing, Shape, Sheet, Spot, Style, Way, What};
-use crate::shown::Shown;
 use crate::step::Standing;
 use om_interval::DepVec;
 use std::alloc::{AllocError, Global};
@@ -192,8 +192,8 @@ impl Picture {
         standings: &[Option<Standing>],
         lengths: &[u32],
     ) -> Result<Drawn, AllocError>
-        ensures { (n first : ℕ) (entries : List Entry) → IsSketchOf n first entries (sketch_of self)
-            → IfOk result (IsDrawingOf n first entries) }
+        ensures { (n first : ℕ) (rows : List Row) → IsSketchOf n first rows (sketch_of self)
+            → IfOk result (IsDrawingOf n first rows) }
     {
         let mut picture = self;
         let right = picture.page.right();
@@ -212,7 +212,7 @@ impl Picture {
         right: u32,
         standings: &[Option<Standing>],
     ) -> Result<(), AllocError>
-        ensures { OnOk result (Draws (sketch_of self.old) (sketch_of self.new)) }
+        ensures { OnOk result (SettlesAll false (sketch_of self.old) (sketch_of self.new)) }
     {
         let recovery = self.recovery;
         let mut places = Vec::new(alloc);
@@ -251,7 +251,7 @@ impl Picture {
 
     // Draws what is left of a lane: the place of the last line.
     fn end_lane(&mut self, p: usize, right: u32) -> Result<u32, AllocError>
-        ensures { OnOk result (EndsLane (sketch_of self.old) (sketch_of self.new) p) }
+        ensures { OnOk result (SettlesLane false (sketch_of self.old) (sketch_of self.new) p) }
     {
         let first = self.first_waiting(p);
         let place = self.page.end_road(p, first, right)?;
@@ -261,23 +261,18 @@ impl Picture {
 
     // Draws the marks that wait on a lane as they stand.
     fn end_marks(&mut self, p: usize) -> Result<(), AllocError>
-        ensures { OnOk result (EndsLane (sketch_of self.old) (sketch_of self.new) p) }
+        ensures { OnOk result (SettlesLane false (sketch_of self.old) (sketch_of self.new) p) }
     {
-        let stored = self.stored(p);
-        while let Some(mark) = self.next(p) {
-            self.end_mark(p, &mark, stored)?;
+        while let Some(first) = self.next(p) {
+            self.end_mark(p, &first)?;
         }
         Ok(())
     }
 
-    fn end_mark(&mut self, p: usize, mark: &Mark, stored: u32) -> Result<(), AllocError>
-        ensures { OnOk result (Settles (sketch_of self.old) (sketch_of self.new) (mark_marks mark.now)) }
+    fn end_mark(&mut self, p: usize, next: &Next) -> Result<(), AllocError>
+        ensures { OnOk result (Settles (sketch_of self.old) (sketch_of self.new)
+            (mark_marks next.now.mark (fate_now false next.now.covered next.now.stored))) }
     {
-        let is_receipt = matches!(mark.shown, Shown::Receipt { .. });
-        let fate = Fate {
-            cut: false,
-            safe: is_receipt && mark.interval <= stored,
-        };
-        self.settle(p, mark, fate)
+        self.settle(p, &next.mark, fate_now(next, false))
     }
 }

@@ -1,6 +1,6 @@
 //! The marks of a lane, in order, and how many of them are settled.
 
-ghost use Rattle.std.specs.Prelude.{◌≡◌, ◌≤◌, [], ◌∷◌, ◌++◌, drop, length, OnOk, MatchOption};
+ghost use Rattle.std.specs.Prelude.{◌≡◌, ◌≤◌, [], length, max, OnOk, MatchOption};
 
 use crate::sheet::Title;
 use crate::shown::Shown;
@@ -21,77 +21,127 @@ pub struct Mark {
     pub title: Title,
 }
 
+/// The next mark of a lane.
+#[derive(Clone, Copy)]
+pub struct Next {
+    pub mark: Mark,
+    /// Whether a recovery state covers it.
+    pub covered: bool,
+    /// Whether it is stored.
+    pub stored: bool,
+}
+
 /// The history of a lane.
 #[derive(Drop)]
 pub struct History {
     /// The interval of the process.
     pub interval: u32,
-    /// Receipts up to this interval are stored.
-    pub stored: u32,
     /// Whether its program came to its end.
     pub ended: bool,
+    /// The highest place of the process in the recovery states so far.
+    pub reached: u32,
     pub marks: Vec<Mark>,
+    /// How many marks are stored: the first ones.
+    pub stored: usize,
     /// How many marks are known to be kept or cut: the first ones.
     pub settled: usize,
     ghost in_range: { settled ≤ length marks.items },
+    ghost known: { stored ≤ length marks.items },
 }
 
 impl History {
+    ghost use Rattle.om_picture.specs.Drawing.{lane_in, new_lane};
+    ghost use Rattle.om_picture.specs.steps.Adding.{Ends, GoesBack, IsMore, Raises, Receives, Stores, TakesCovered, TakesFirst};
+
     pub(crate) fn new(alloc: Global) -> History
-        ensures { drop result.settled result.marks.items ≡ [] }
+        ensures { lane_in result ≡ new_lane }
     {
         History {
             interval: 0,
-            stored: 0,
             ended: false,
+            reached: 0,
             marks: Vec::new(alloc),
+            stored: 0,
             settled: 0,
         }
     }
 
     /// Adds a mark.
     pub(crate) fn add(&mut self, mark: &Mark) -> Result<(), AllocError>
-        ensures { OnOk result (drop self.new.settled self.new.marks.items ≡ drop self.old.settled self.old.marks.items ++ mark.now ∷ []) }
+        ensures { OnOk result (IsMore mark.now (lane_in self.old) (lane_in self.new)) }
     {
         self.marks.extend_from_slice(slice::from_ref(mark))
     }
 
     /// Takes the first mark that is not settled, if there is one.
-    pub(crate) fn next(&mut self) -> Option<Mark>
-        ensures { MatchOption result
-            ((drop self.old.settled self.old.marks.items ≡ []) × (drop self.new.settled self.new.marks.items ≡ []))
-            (λ mark. drop self.old.settled self.old.marks.items ≡ mark ∷ drop self.new.settled self.new.marks.items) }
+    pub(crate) fn next(&mut self) -> Option<Next>
+        ensures { MatchOption result (((lane_in self.old).waiting ≡ []) × (lane_in self.new ≡ lane_in self.old))
+            (λ next. TakesFirst next (lane_in self.old) (lane_in self.new)) }
     {
         if self.settled >= self.marks.len() {
             return None;
         }
         let mark = self.marks[self.settled];
+        let stored = self.settled < self.stored;
+        self.settled += 1;
+        let covered = mark.interval <= self.reached;
+        Some(Next {
+            mark,
+            covered,
+            stored,
+        })
+    }
+
+    /// Takes the first mark that is not settled, if a recovery state covers it.
+    pub(crate) fn next_covered(&mut self) -> Option<Mark>
+        ensures { MatchOption result (lane_in self.new ≡ lane_in self.old)
+            (λ mark. TakesCovered mark (lane_in self.old) (lane_in self.new)) }
+    {
+        if self.settled >= self.marks.len() {
+            return None;
+        }
+        let mark = self.marks[self.settled];
+        if mark.interval > self.reached {
+            return None;
+        }
         self.settled += 1;
         Some(mark)
     }
 
+    /// The program came to its end, if it did.
+    pub(crate) fn end(&mut self, ended: bool)
+        ensures { Ends ended (lane_in self.old) (lane_in self.new) }
+    {
+        self.ended |= ended;
+    }
+
+    /// An interval began.
+    pub(crate) fn receive(&mut self, interval: u32)
+        ensures { Receives interval (lane_in self.old) (lane_in self.new) }
+    {
+        self.interval = interval;
+    }
+
+    /// All receipts are stored.
+    pub(crate) fn store(&mut self)
+        ensures { Stores (lane_in self.old) (lane_in self.new) }
+    {
+        self.stored = self.marks.len();
+    }
+
     /// The process is back in an interval.
     pub(crate) fn go_back(&mut self, interval: u32)
-        ensures { drop self.new.settled self.new.marks.items ≡ drop self.old.settled self.old.marks.items }
+        ensures { GoesBack interval (lane_in self.old) (lane_in self.new) }
     {
         self.ended = false;
         self.interval = interval;
-        self.stored = interval;
     }
 
-    /// How many marks are settled once the recovery state has this interval: all up to the first mark beyond it.
-    pub(crate) fn covered(&self, place: u32) -> usize {
-        for k in self.settled..self.marks.len() {
-            if self.marks[k].interval > place {
-                return k - self.settled;
-            }
-        }
-        self.waiting()
-    }
-
-    /// How many marks are not settled.
-    pub(crate) fn waiting(&self) -> usize {
-        self.marks.len() - self.settled
+    /// The process has this place in a recovery state.
+    pub(crate) fn reach(&mut self, place: u32)
+        ensures { Raises place (lane_in self.old) (lane_in self.new) }
+    {
+        self.reached = self.reached.max(place);
     }
 
     /// The place of the first mark that is not settled.

@@ -1,9 +1,10 @@
-//! What holds of the texts of a picture: each function stands for a theorem over the definitions alone.
+//! What holds of a picture and its texts: each function stands for a theorem over the definitions alone.
 
-ghost use Rattle.std.specs.Prelude.{◌≡◌, ℕ, List, true};
+ghost use Rattle.std.specs.Prelude.{◌≡◌, ◌↔◌, ℕ, List, true};
 ghost use Rattle.om_scripts.specs.Named.{is_name};
 ghost use Rattle.om_scripts.specs.Programs.{Cluster};
 ghost use Rattle.om_picture.specs.AnswerText.{recovery_text};
+ghost use Rattle.om_picture.specs.Fates.{IsCutBy, IsStoredBy, Row, is_cut, is_stored};
 ghost use Rattle.om_picture.specs.Plain.{HasPlainNames, is_plain_text};
 ghost use Rattle.om_picture.specs.ShapeText.{told_text};
 ghost use Rattle.om_picture.specs.WordText.{what_text};
@@ -28,4 +29,14 @@ pub fn words_are_plain()
 /// Names that a script may give need none.
 pub fn names_are_plain()
     ensures { (name : List ℕ) → is_name name ≡ true → is_plain_text name ≡ true }
+{}
+
+/// An interval is cut exactly where a round is finished and no recovery state up to it had the process as high.
+pub fn cut_by_a_round()
+    ensures { (p interval was : ℕ) (rows : List Row) → is_cut p interval was rows ≡ true ↔ IsCutBy p interval was rows }
+{}
+
+/// It is stored exactly where its process stores what it received, and no round before that cut it.
+pub fn stored_by_its_process()
+    ensures { (p interval was : ℕ) (rows : List Row) → is_stored p interval was rows ≡ true ↔ IsStoredBy p interval was rows }
 {}

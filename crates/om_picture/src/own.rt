@@ -2,8 +2,9 @@
 
 ghost use Rattle.std.specs.Prelude.{◌≡◌, ◌==◌, ◌<◌, not, Some, None, length, OnOk, IfOk};
 ghost use Rattle.om_picture.specs.Drawing.{sketch_of};
-ghost use Rattle.om_picture.specs.Marks.{CameBack, Failed, Joined, NotTaken, Saved, Taken, WentOn, Worked, step_entry};
-ghost use Rattle.om_picture.specs.steps.Adding.{AddsMark};
+ghost use Rattle.om_picture.specs.Fates.{step_entry};
+ghost use Rattle.om_picture.specs.steps.Adding.{Shows, Stores, Turns};
+ghost use Rattle.om_picture.specs.declared.shown.Shown.TheVariants as shows;
 
 use crate::frame::Frame;
 use crate::lane::{Extent, NOTHING, Stand, Wanted, or_left};
@@ -211,7 +212,8 @@ impl Picture {
         ends: Option<Status>,
     ) -> Result<(), AllocError>
         requires { p < length self.old.histories.items }
-        ensures { OnOk result (AddsMark (sketch_of self.old) (sketch_of self.new) (Some Worked) (step_entry step.now)) }
+        ensures { OnOk result (Shows (sketch_of self.old) (sketch_of self.new) p (shows.Run sent made ends)
+            step.now.fresh (step_entry step.now)) }
     {
         let wanted = run_words(step, ends);
         let x = self.page.place(self.on, RUN, step.line, p, wanted)?;
@@ -230,7 +232,7 @@ impl Picture {
         sent: usize,
     ) -> Result<(), AllocError>
         requires { p < length self.old.histories.items }
-        ensures { OnOk result (AddsMark (sketch_of self.old) (sketch_of self.new) (Some Worked) (step_entry step.now)) }
+        ensures { OnOk result (Shows (sketch_of self.old) (sketch_of self.new) p (shows.Resend sent) step.now.fresh (step_entry step.now)) }
     {
         let x = self.page.place(self.on, RESEND, step.line, p, NOTHING)?;
         let frames = self.page.make(x, p, step, true)?;
@@ -248,7 +250,8 @@ impl Picture {
         interval: u32,
     ) -> Result<(), AllocError>
         requires { p < length self.old.histories.items }
-        ensures { OnOk result (AddsMark (sketch_of self.old) (sketch_of self.new) (Some Taken) (step_entry step.now)) }
+        ensures { OnOk result (Shows (sketch_of self.old) (sketch_of self.new) p (shows.Receipt frame interval)
+            step.now.fresh (step_entry step.now)) }
     {
         let wanted = number_beside(9, interval);
         let x = self.page.place(self.on, RECEIPT, step.line, p, wanted)?;
@@ -266,7 +269,9 @@ impl Picture {
         step: &Step,
         frame: usize,
     ) -> Result<(), AllocError>
-        ensures { OnOk result (AddsMark (sketch_of self.old) (sketch_of self.new) (Some NotTaken) (step_entry step.now)) }
+        requires { p < length self.old.histories.items }
+        ensures { OnOk result (Shows (sketch_of self.old) (sketch_of self.new) p (shows.Refused frame)
+            step.now.fresh (step_entry step.now)) }
     {
         let x = self.page.refuse(self.on, p, step, frame)?;
         self.shape(Form::Refused, p, x, step)
@@ -275,7 +280,7 @@ impl Picture {
     // All receipts of a process are stored.
     fn log(&mut self, p: usize, x: u32, step: &Step) -> Result<(), AllocError>
         requires { p < length self.old.histories.items }
-        ensures { OnOk result (AddsMark (sketch_of self.old) (sketch_of self.new) None (step_entry step.now)) }
+        ensures { OnOk result (Turns Stores (sketch_of self.old) (sketch_of self.new) p) }
     {
         self.store(p);
         match self.page.lose(p) {
@@ -289,7 +294,7 @@ impl Picture {
 
     pub(crate) fn draw_flush(&mut self, p: usize, step: &Step) -> Result<(), AllocError>
         requires { p < length self.old.histories.items }
-        ensures { OnOk result (AddsMark (sketch_of self.old) (sketch_of self.new) None (step_entry step.now)) }
+        ensures { OnOk result (Shows (sketch_of self.old) (sketch_of self.new) p shows.Flush step.now.fresh (step_entry step.now)) }
     {
         let x = self.page.place(self.on, FLUSH, step.line, p, NOTHING)?;
         self.log(p, x, step)
@@ -297,7 +302,7 @@ impl Picture {
 
     pub(crate) fn draw_checkpoint(&mut self, p: usize, step: &Step) -> Result<(), AllocError>
         requires { p < length self.old.histories.items }
-        ensures { OnOk result (AddsMark (sketch_of self.old) (sketch_of self.new) (Some Saved) (step_entry step.now)) }
+        ensures { OnOk result (Shows (sketch_of self.old) (sketch_of self.new) p shows.Checkpoint step.now.fresh (step_entry step.now)) }
     {
         let x = self.page.place(self.on, CHECKPOINT, step.line, p, NOTHING)?;
         let interval = self.interval(p);
@@ -310,7 +315,9 @@ impl Picture {
         step: &Step,
         declared: bool,
     ) -> Result<(), AllocError>
-        ensures { OnOk result (AddsMark (sketch_of self.old) (sketch_of self.new) (Some Failed) (step_entry step.now)) }
+        requires { p < length self.old.histories.items }
+        ensures { OnOk result (Shows (sketch_of self.old) (sketch_of self.new) p (shows.Failure declared)
+            step.now.fresh (step_entry step.now)) }
     {
         self.page.open(declared);
         let x = self.page.place(self.on, FAILURE, step.line, p, NOTHING)?;
@@ -322,7 +329,7 @@ impl Picture {
 
     pub(crate) fn draw_join(&mut self, p: usize, step: &Step) -> Result<(), AllocError>
         requires { p < length self.old.histories.items }
-        ensures { OnOk result (AddsMark (sketch_of self.old) (sketch_of self.new) (Some Joined) (step_entry step.now)) }
+        ensures { OnOk result (Shows (sketch_of self.old) (sketch_of self.new) p shows.Join step.now.fresh (step_entry step.now)) }
     {
         let x = self.page.place(self.on, JOIN, step.line, p, NOTHING)?;
         self.log(p, x, step)?;
@@ -331,7 +338,8 @@ impl Picture {
     }
 
     pub(crate) fn draw_goes_on(&mut self, p: usize, step: &Step) -> Result<(), AllocError>
-        ensures { OnOk result (AddsMark (sketch_of self.old) (sketch_of self.new) (Some WentOn) (step_entry step.now)) }
+        requires { p < length self.old.histories.items }
+        ensures { OnOk result (Shows (sketch_of self.old) (sketch_of self.new) p shows.GoesOn step.now.fresh (step_entry step.now)) }
     {
         let x = self.page.place(self.on, GOES_ON, step.line, p, NOTHING)?;
         self.page.stand_up(p, x)?;
@@ -346,7 +354,8 @@ impl Picture {
         inc: u32,
     ) -> Result<(), AllocError>
         requires { p < length self.old.histories.items }
-        ensures { OnOk result (AddsMark (sketch_of self.old) (sketch_of self.new) (Some CameBack) (step_entry step.now)) }
+        ensures { OnOk result (Shows (sketch_of self.old) (sketch_of self.new) p (shows.Back interval inc)
+            step.now.fresh (step_entry step.now)) }
     {
         let wanted = back_words(interval, inc);
         let x = self.page.place(self.on, BACK, step.line, p, wanted)?;

@@ -1,11 +1,13 @@
 //! A picture that is drawn event by event.
 
-ghost use Rattle.std.specs.Prelude.{◌≡◌, ◌==◌, ◌<◌, [], ◌∷◌, ◌++◌, ℕ, List, Option, Some, if◌then◌else◌, length, OnOk, IfOk, MatchOption};
-ghost use Rattle.om_picture.specs.Drawing.{IsSketchOf, sketch_of, waiting_kind};
-ghost use Rattle.om_picture.specs.Marks.{Entry, entry_marks, kind_drawn, kind_shown, marks_on, own_marks, shape_marks, step_entry, title_entry};
-ghost use Rattle.om_picture.specs.steps.Adding.{Adds, AddsMark, AreEmpty, Reaches, Settles, Takes, lane_of};
+ghost use Rattle.std.specs.Prelude.{◌≡◌, ◌<◌, false, [], ◌∷◌, ◌++◌, ℕ, List, Some, if◌then◌else◌, length, OnOk, IfOk, MatchOption};
+ghost use Rattle.om_picture.specs.Drawing.{IsSketchOf, lane_of, sketch_of};
+ghost use Rattle.om_picture.specs.Fates.{Row, step_entry, step_row};
+ghost use Rattle.om_picture.specs.Marks.{kind_drawn, mark_of, shape_marks, title_entry};
+ghost use Rattle.om_picture.specs.Shows.{is_finished};
+ghost use Rattle.om_picture.specs.steps.Adding.{AreNew, Ends, GoesBack, Raises, Reaches, Receives, Settles, SettlesIf, Shows, ShowsEvent, ShowsOn, Stores, TakesCovered, TakesFirst, Turns, Waits};
 
-use crate::history::{History, Mark};
+use crate::history::{History, Mark, Next};
 use crate::page::Page;
 use crate::sheet::{Form, More, Shape, Title};
 use crate::shown::{Shown, is_finished, shown_of};
@@ -30,7 +32,7 @@ pub struct Picture {
 
 fn new_histories(alloc: Global, count: usize) -> Result<Vec<History>, AllocError>
     ensures lanes { IfOk result (λ histories. length histories.items ≡ count) }
-    ensures empty { IfOk result (λ histories. AreEmpty histories.items) }
+    ensures new { IfOk result (λ histories. AreNew histories.items) }
 {
     let mut histories = Vec::new(alloc);
     for _ in 0..count {
@@ -62,8 +64,8 @@ impl Picture {
 
     /// Draws what an event showed.
     pub fn draw(&mut self, alloc: Global, step: &Step) -> Result<(), AllocError>
-        ensures { OnOk result ((n first : ℕ) (entries : List Entry) → IsSketchOf n first entries (sketch_of self.old)
-            → IsSketchOf n first (entries ++ step_entry step.now ∷ []) (sketch_of self.new)) }
+        ensures { OnOk result ((n first : ℕ) (rows : List Row) → IsSketchOf n first rows (sketch_of self.old)
+            → IsSketchOf n first (rows ++ step_row step.now ∷ []) (sketch_of self.new)) }
     {
         self.begin(step.line)?;
         self.draw_event(step)?;
@@ -106,8 +108,7 @@ impl Picture {
     }
 
     fn draw_event(&mut self, step: &Step) -> Result<(), AllocError>
-        ensures { OnOk result (Adds (sketch_of self.old) (sketch_of self.new)
-            (if self.old.on then entry_marks (length self.old.histories.items) (step_entry step.now) else [])) }
+        ensures { OnOk result (ShowsEvent (sketch_of self.old) (sketch_of self.new) (step_row step.now)) }
     {
         match process_of(step.event) {
             Some(p) => self.draw_own(p, step),
@@ -117,8 +118,7 @@ impl Picture {
 
     // What the event itself shows.
     fn draw_own(&mut self, p: usize, step: &Step) -> Result<(), AllocError>
-        ensures { OnOk result (Adds (sketch_of self.old) (sketch_of self.new)
-            (if self.old.on then marks_on (length self.old.histories.items) (Some p) (step_entry step.now) else [])) }
+        ensures { OnOk result (ShowsOn (Some p) (sketch_of self.old) (sketch_of self.new) (step_row step.now)) }
     {
         if p >= self.histories.len() {
             return Ok(());
@@ -130,7 +130,7 @@ impl Picture {
 
     fn draw_shown(&mut self, p: usize, step: &Step, shown: Shown) -> Result<(), AllocError>
         requires { p < length self.old.histories.items }
-        ensures { OnOk result (AddsMark (sketch_of self.old) (sketch_of self.new) (kind_shown shown) (step_entry step.now)) }
+        ensures { OnOk result (Shows (sketch_of self.old) (sketch_of self.new) p shown step.now.fresh (step_entry step.now)) }
     {
         match shown {
             Shown::Nothing => Ok(()),
@@ -158,7 +158,7 @@ impl Picture {
 
     // If a round is finished, all is cut to the recovery state.
     fn end_round(&mut self, alloc: Global, step: &Step, changed: bool) -> Result<(), AllocError>
-        ensures { OnOk result (Adds (sketch_of self.old) (sketch_of self.new) []) }
+        ensures { OnOk result (SettlesIf (is_finished step.now.answer) (sketch_of self.old) (sketch_of self.new)) }
     {
         if is_finished(step.answer) {
             return self.finish(alloc, step, changed);
@@ -174,33 +174,9 @@ impl Picture {
         }
     }
 
-    // Up to which interval the receipts of a process are stored.
-    pub(crate) fn stored(&self, p: usize) -> u32 {
-        match self.histories.get(p) {
-            Some(history) => history.stored,
-            None => 0,
-        }
-    }
-
     // The place of the first mark that waits on a lane.
     pub(crate) fn first_waiting(&self, p: usize) -> Option<u32> {
         self.histories.get(p)?.first()
-    }
-
-    // How many marks wait on a lane.
-    pub(crate) fn waiting(&self, p: usize) -> usize {
-        match self.histories.get(p) {
-            Some(history) => history.waiting(),
-            None => 0,
-        }
-    }
-
-    // How many of them are settled once the recovery state has this interval.
-    pub(crate) fn covered(&self, p: usize, place: u32) -> usize {
-        match self.histories.get(p) {
-            Some(history) => history.covered(place),
-            None => 0,
-        }
     }
 
     // Adds the mark of an event that is not settled later, within the window.
@@ -211,7 +187,8 @@ impl Picture {
         x: u32,
         step: &Step,
     ) -> Result<(), AllocError>
-        ensures { OnOk result (AddsMark (sketch_of self.old) (sketch_of self.new) (kind_drawn form) (step_entry step.now)) }
+        ensures { OnOk result (Settles (sketch_of self.old) (sketch_of self.new)
+            (if self.old.on then mark_of (kind_drawn form) false (step_entry step.now) else [])) }
     {
         if !self.on {
             return Ok(());
@@ -243,25 +220,25 @@ impl Picture {
         more: More,
     ) -> Result<(), AllocError>
         requires { p < length self.old.histories.items }
-        ensures { OnOk result (Adds (sketch_of self.old) (sketch_of self.new)
-            (if x == 0 then [] else own_marks (Some (waiting_kind shown)) (step_entry step.now))) }
+        ensures { OnOk result (Turns (Waits x shown step.now.fresh (step_entry step.now)) (sketch_of self.old) (sketch_of self.new) p) }
     {
+        let title = title_of(step, more);
+        let history = &mut self.histories[p];
         let mark = Mark {
             x,
-            interval: self.interval(p),
+            interval: history.interval,
             shown,
             fresh: step.fresh,
             label: step.label,
-            title: title_of(step, more),
+            title,
         };
-        let history = &mut self.histories[p];
         history.add(&mark)
     }
 
     // Takes the first mark that waits on a lane, if there is one.
-    pub(crate) fn next(&mut self, p: usize) -> Option<Mark>
-        ensures { MatchOption result ((sketch_of self.new ≡ sketch_of self.old) × (lane_of (sketch_of self.old) p ≡ []))
-            (λ mark. Takes (sketch_of self.old) (sketch_of self.new) p mark) }
+    pub(crate) fn next(&mut self, p: usize) -> Option<Next>
+        ensures { MatchOption result ((sketch_of self.new ≡ sketch_of self.old) × ((lane_of (sketch_of self.old) p).waiting ≡ []))
+            (λ next. Turns (TakesFirst next) (sketch_of self.old) (sketch_of self.new) p) }
     {
         if p >= self.histories.len() {
             return None;
@@ -270,42 +247,63 @@ impl Picture {
         history.next()
     }
 
+    // Takes the first mark that waits on a lane, if a recovery state covers it.
+    pub(crate) fn next_covered(&mut self, p: usize) -> Option<Mark>
+        ensures { MatchOption result (sketch_of self.new ≡ sketch_of self.old)
+            (λ mark. Turns (TakesCovered mark) (sketch_of self.old) (sketch_of self.new) p) }
+    {
+        if p >= self.histories.len() {
+            return None;
+        }
+        let history = &mut self.histories[p];
+        history.next_covered()
+    }
+
     // The program of a process came to its end, if it did.
     pub(crate) fn end_program(&mut self, p: usize, ended: bool)
         requires { p < length self.old.histories.items }
-        ensures same { sketch_of self.new ≡ sketch_of self.old }
+        ensures turn { Turns (Ends ended) (sketch_of self.old) (sketch_of self.new) p }
         ensures lanes { length self.new.histories.items ≡ length self.old.histories.items }
     {
         let history = &mut self.histories[p];
-        history.ended |= ended;
+        history.end(ended);
     }
 
     // An interval of a process began.
     pub(crate) fn receive(&mut self, p: usize, interval: u32)
         requires { p < length self.old.histories.items }
-        ensures same { sketch_of self.new ≡ sketch_of self.old }
+        ensures turn { Turns (Receives interval) (sketch_of self.old) (sketch_of self.new) p }
         ensures lanes { length self.new.histories.items ≡ length self.old.histories.items }
     {
         let history = &mut self.histories[p];
-        history.interval = interval;
+        history.receive(interval);
     }
 
     // All receipts of a process are stored.
     pub(crate) fn store(&mut self, p: usize)
         requires { p < length self.old.histories.items }
-        ensures { sketch_of self.new ≡ sketch_of self.old }
+        ensures { Turns Stores (sketch_of self.old) (sketch_of self.new) p }
     {
         let history = &mut self.histories[p];
-        history.stored = history.interval;
+        history.store();
     }
 
     // A process is back in an interval.
     pub(crate) fn go_back(&mut self, p: usize, interval: u32)
         requires { p < length self.old.histories.items }
-        ensures { sketch_of self.new ≡ sketch_of self.old }
+        ensures { Turns (GoesBack interval) (sketch_of self.old) (sketch_of self.new) p }
     {
         let history = &mut self.histories[p];
         history.go_back(interval);
+    }
+
+    // A process has this place in a recovery state.
+    pub(crate) fn learn(&mut self, p: usize, place: u32)
+        requires { p < length self.old.histories.items }
+        ensures { Turns (Raises place) (sketch_of self.old) (sketch_of self.new) p }
+    {
+        let history = &mut self.histories[p];
+        history.reach(place);
     }
 }
 

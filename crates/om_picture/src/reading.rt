@@ -1,7 +1,8 @@
 //! What is read of a world, before and behind an event.
 
-ghost use Rattle.std.specs.Prelude.{◌≡◌, ◌∷◌, [], IfOk, IsTrue, length, true};
+ghost use Rattle.std.specs.Prelude.{◌≡◌, ◌∷◌, ◌-◌, [], if◌then◌else◌, IfOk, IsTrue, length, true};
 ghost use Rattle.om_manager.specs.State.{size_of};
+ghost use Rattle.om_picture.specs.Reading.{handed_by, has_made, makes, newly_handed};
 ghost use Rattle.om_world.specs.Played.{Played};
 ghost use Rattle.om_world.specs.World.{IsKnown, all_clean};
 
@@ -30,7 +31,9 @@ fn kept_of(core: &ProcCore) -> [usize; MAX_PROCESSES] {
     kept
 }
 
-fn before<S: Stable>(world: &World<S>, p: usize) -> Past {
+fn before<S: Stable>(world: &World<S>, p: usize) -> Past
+    ensures { result.next ≡ handed_by world.now.manager p }
+{
     if p >= world.manager().recovery().n() {
         return Past {
             kept: [0; MAX_PROCESSES],
@@ -92,9 +95,20 @@ fn label_at<S: Stable>(world: &World<S>, p: usize, number: u64) -> Label {
     label_of(&[])
 }
 
-fn made(answer: Answer) -> bool {
+fn has_made(answer: Answer) -> bool
+    ensures { result ≡ has_made answer }
+{
     match answer {
         Answer::Ran { made, .. } => made > 0,
+        _ => false,
+    }
+}
+
+fn makes(event: Event, answer: Answer) -> bool
+    ensures { result ≡ makes event answer }
+{
+    match event {
+        Event::Run { .. } => has_made(answer),
         _ => false,
     }
 }
@@ -112,9 +126,10 @@ fn step_of<S: Stable>(
     ensures event { result.event ≡ event }
     ensures answer { result.answer ≡ answer }
     ensures recovery { result.recovery ≡ world.now.manager.recovery }
+    ensures fresh { result.fresh ≡ (if makes event answer then handed_by world.now.manager p - old.now.next else 0) }
 {
     let new = before(world, p);
-    let fresh = if made(answer) {
+    let fresh = if makes(event, answer) {
         new.next.saturating_sub(old.next)
     } else {
         0
@@ -153,6 +168,7 @@ pub fn play_step<S: Stable>(
     ensures line { IfOk result (λ step. step.line ≡ line) }
     ensures event { IfOk result (λ step. step.event ≡ event) }
     ensures recovery { IfOk result (λ step. step.recovery ≡ world.new.manager.recovery) }
+    ensures fresh { IfOk result (λ step. step.fresh ≡ newly_handed event step.answer world.old.manager world.new.manager) }
     ensures size { size_of world.new.manager ≡ size_of world.old.manager }
     ensures always { ((store : S) → IsTrue (S.is_clean store)) → all_clean world.new.health ≡ true }
     ensures origins { world.new.origins ≡ world.old.origins }

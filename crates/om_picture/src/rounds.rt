@@ -1,14 +1,15 @@
 //! Rounds: what they cut, and the lines to which all went back.
 
-ghost use Rattle.std.specs.Prelude.{[], OnOk};
-ghost use Rattle.om_picture.specs.Drawing.{sketch_of};
-ghost use Rattle.om_picture.specs.steps.Adding.{Adds};
+ghost use Rattle.std.specs.Prelude.{◌<◌, length, true, OnOk};
+ghost use Rattle.om_picture.specs.Drawing.{mark_marks, sketch_of};
+ghost use Rattle.om_picture.specs.steps.Adding.{Settles, SettlesAll, SettlesLane, fate_now};
 
+use crate::history::Next;
 use crate::lane::or_left;
 use crate::measure::{CHARACTER, recovery_length};
 use crate::page::Page;
 use crate::picture::{Picture, state_if, title_of};
-use crate::settle::Fate;
+use crate::settle::fate_now;
 use crate::sheet::{Crossed, Crossing, More, Spot, Stretch, Style, What};
 use crate::step::Step;
 use om_interval::DepVec;
@@ -101,7 +102,7 @@ impl Picture {
         step: &Step,
         changed: bool,
     ) -> Result<(), AllocError>
-        ensures { OnOk result (Adds (sketch_of self.old) (sketch_of self.new) []) }
+        ensures { OnOk result (SettlesAll true (sketch_of self.old) (sketch_of self.new)) }
     {
         self.page.round = self.page.round.saturating_add(1);
         let places = self.cut_lanes(alloc)?;
@@ -111,7 +112,7 @@ impl Picture {
 
     // Cuts the lanes: the places of the recovery line.
     fn cut_lanes(&mut self, alloc: Global) -> Result<Vec<Spot>, AllocError>
-        ensures { OnOk result (Adds (sketch_of self.old) (sketch_of self.new) []) }
+        ensures { OnOk result (SettlesAll true (sketch_of self.old) (sketch_of self.new)) }
     {
         let mut places = Vec::new(alloc);
         for p in 0..self.histories.len() {
@@ -124,7 +125,7 @@ impl Picture {
 
     // Cuts a lane: the place of the recovery line.
     fn cut_lane(&mut self, p: usize) -> Result<u32, AllocError>
-        ensures { OnOk result (Adds (sketch_of self.old) (sketch_of self.new) []) }
+        ensures { OnOk result (SettlesLane true (sketch_of self.old) (sketch_of self.new) p) }
     {
         let first = self.first_waiting(p);
         let place = self.page.cut_road(p, first)?;
@@ -132,29 +133,22 @@ impl Picture {
         Ok(place)
     }
 
-    // Draws the marks that wait on a lane as cut.
+    // Settles the marks that wait on a lane: those that no recovery state covers are cut.
     fn cut_marks(&mut self, p: usize) -> Result<(), AllocError>
-        ensures { OnOk result (Adds (sketch_of self.old) (sketch_of self.new) []) }
+        ensures { OnOk result (SettlesLane true (sketch_of self.old) (sketch_of self.new) p) }
     {
-        let stored = self.stored(p);
-        let count = self.waiting(p);
-        for _ in 0..count {
-            self.cut_next(p, stored)?;
+        while let Some(first) = self.next(p) {
+            self.cut_mark(p, &first)?;
         }
         Ok(())
     }
 
-    fn cut_next(&mut self, p: usize, stored: u32) -> Result<(), AllocError>
-        ensures { OnOk result (Adds (sketch_of self.old) (sketch_of self.new) []) }
+    fn cut_mark(&mut self, p: usize, next: &Next) -> Result<(), AllocError>
+        ensures { OnOk result (Settles (sketch_of self.old) (sketch_of self.new)
+            (mark_marks next.now.mark (fate_now true next.now.covered next.now.stored))) }
     {
-        let Some(mark) = self.next(p) else {
-            return Ok(());
-        };
-        self.page.count_fate(self.on, &mark, true);
-        let fate = Fate {
-            cut: true,
-            safe: mark.interval <= stored,
-        };
-        self.settle(p, &mark, fate)
+        let fate = fate_now(next, true);
+        self.page.count_fate(self.on, &next.mark, fate.cut);
+        self.settle(p, &next.mark, fate)
     }
 }

@@ -1,11 +1,12 @@
 //! Marks that are known to be kept or cut.
 
-ghost use Rattle.std.specs.Prelude.{◌≡◌, [], Some, OnOk};
-ghost use Rattle.om_picture.specs.Drawing.{mark_marks, sketch_of, waiting_kind};
-ghost use Rattle.om_picture.specs.Marks.{kind_drawn, own_marks, title_entry};
-ghost use Rattle.om_picture.specs.steps.Adding.{Adds, Settles};
+ghost use Rattle.std.specs.Prelude.{◌≡◌, ◌<◌, nat_lt, [], length, slice_index, Some, OnOk};
+ghost use Rattle.om_picture.specs.Drawing.{mark_marks, sketch_of};
+ghost use Rattle.om_picture.specs.Fates.{step_row};
+ghost use Rattle.om_picture.specs.Marks.{kind_drawn, mark_of, output_marks, title_entry};
+ghost use Rattle.om_picture.specs.steps.Adding.{LearnsAll, LearnsAt, Settles, fate_in, fate_now, kept, kind_late, made_by};
 
-use crate::history::Mark;
+use crate::history::{Mark, Next};
 use crate::lane::{lane_y, or_left};
 use crate::page::Page;
 use crate::picture::{Picture, state_if, title_of};
@@ -16,11 +17,23 @@ use om_interval::DepVec;
 use om_process::Status;
 use std::alloc::AllocError;
 
-// How a mark is settled: cut by a round or not; safe, its receipt is stored and its outputs are released.
+/// How a mark is settled: cut by a round or not; covered by a recovery state, its outputs are released; stored.
 #[derive(Clone, Copy)]
 pub(crate) struct Fate {
     pub cut: bool,
-    pub safe: bool,
+    pub covered: bool,
+    pub stored: bool,
+}
+
+/// How the next mark of a lane is settled now; as a round is finished, or in the end.
+pub(crate) fn fate_now(next: &Next, finished: bool) -> Fate
+    ensures { fate_in result ≡ fate_now finished next.now.covered next.now.stored }
+{
+    Fate {
+        cut: finished && !next.covered,
+        covered: next.covered,
+        stored: next.covered || next.stored,
+    }
 }
 
 // The style of the words of a mark.
@@ -31,6 +44,7 @@ fn style(fate: Fate, style: Style) -> Style {
 // A mark of a form, at the place of this one.
 fn shape_of(form: Form, lane: u32, mark: &Mark, fate: Fate) -> Shape
     ensures form { result.form ≡ form }
+    ensures cut { result.cut ≡ fate.cut }
     ensures title { result.title ≡ mark.now.title }
 {
     Shape {
@@ -43,10 +57,12 @@ fn shape_of(form: Form, lane: u32, mark: &Mark, fate: Fate) -> Shape
 
 // The form of a mark.
 fn form_of(shown: Shown, fate: Fate) -> Form
-    ensures { kind_drawn result ≡ Some (waiting_kind shown) }
+    ensures { kind_drawn result ≡ Some (kind_late shown (fate_in fate)) }
 {
     match shown {
-        Shown::Receipt { .. } => Form::Receipt { stored: fate.safe },
+        Shown::Receipt { .. } => Form::Receipt {
+            stored: fate.stored,
+        },
         Shown::Checkpoint => Form::Checkpoint,
         Shown::Run { ends: Some(_), .. } => Form::End,
         _ => Form::Dot,
@@ -54,7 +70,9 @@ fn form_of(shown: Shown, fate: Fate) -> Form
 }
 
 // Whether a mark has outputs.
-fn has_outputs(shown: Shown) -> bool {
+fn has_outputs(shown: Shown) -> bool
+    ensures { result ≡ nat_lt 0 (made_by shown) }
+{
     match shown {
         Shown::Run { made, .. } => made > 0,
         _ => false,
@@ -139,7 +157,7 @@ impl Page {
 impl Picture {
     // Draws a mark whose fate is known; one from before the window is passed over.
     pub(crate) fn settle(&mut self, p: usize, mark: &Mark, fate: Fate) -> Result<(), AllocError>
-        ensures { OnOk result (Settles (sketch_of self.old) (sketch_of self.new) (mark_marks mark.now)) }
+        ensures { OnOk result (Settles (sketch_of self.old) (sketch_of self.new) (mark_marks mark.now (fate_in fate))) }
     {
         if mark.x == 0 {
             return Ok(());
@@ -152,7 +170,8 @@ impl Picture {
 
     // The stem of the outputs of a mark, and its head, if they were not all made before.
     fn add_outputs(&mut self, lane: u32, mark: &Mark, fate: Fate) -> Result<(), AllocError>
-        ensures { OnOk result (Settles (sketch_of self.old) (sketch_of self.new) []) }
+        ensures { OnOk result (Settles (sketch_of self.old) (sketch_of self.new)
+            (output_marks (made_by mark.now.shown) mark.now.fresh (fate_in fate) (title_entry mark.now.title))) }
     {
         if !has_outputs(mark.shown) {
             return Ok(());
@@ -162,56 +181,55 @@ impl Picture {
         if again {
             return Ok(());
         }
-        let released = fate.safe && !fate.cut;
+        let released = fate.covered;
         self.add_form(Form::Head { released }, lane, mark, fate)
     }
 
     // A form at the place of a mark.
     fn add_form(&mut self, form: Form, lane: u32, mark: &Mark, fate: Fate) -> Result<(), AllocError>
         ensures { OnOk result (Settles (sketch_of self.old) (sketch_of self.new)
-            (own_marks (kind_drawn form) (title_entry mark.now.title))) }
+            (mark_of (kind_drawn form) fate.cut (title_entry mark.now.title))) }
     {
         self.add_shape(&shape_of(form, lane, mark, fate))
     }
 
     // Settles what the recovery state now covers, and shows where outputs that were held are released.
     pub(crate) fn keep(&mut self, step: &Step, changed: bool) -> Result<(), AllocError>
-        ensures { OnOk result (Adds (sketch_of self.old) (sketch_of self.new) []) }
+        ensures { OnOk result (LearnsAll (step_row step.now) (sketch_of self.old) (sketch_of self.new)) }
     {
         for p in 0..self.histories.len() {
-            let held = self.keep_lane(p, step.recovery)?;
+            let held = self.keep_lane(p, step)?;
             self.release(p, held, step, changed)?;
         }
         Ok(())
     }
 
     // The same for a lane: the place of the first output that was held and is released.
-    fn keep_lane(&mut self, p: usize, recovery: DepVec) -> Result<Option<u32>, AllocError>
-        ensures { OnOk result (Adds (sketch_of self.old) (sketch_of self.new) []) }
+    fn keep_lane(&mut self, p: usize, step: &Step) -> Result<Option<u32>, AllocError>
+        requires { p < length self.old.histories.items }
+        ensures { OnOk result (LearnsAt (step_row step.now) (sketch_of self.old) (sketch_of self.new) p) }
     {
-        let count = self.covered(p, place_of(recovery, p));
+        self.learn(p, place_of(step.recovery, p));
         let mut held = None;
-        for _ in 0..count {
-            let found = self.keep_next(p)?;
+        while let Some(mark) = self.next_covered(p) {
+            let found = self.keep_mark(p, &mark)?;
             held = held.or(found);
         }
         Ok(held)
     }
 
-    // Keeps the next mark: its place, where it has outputs that were held.
-    fn keep_next(&mut self, p: usize) -> Result<Option<u32>, AllocError>
-        ensures { OnOk result (Adds (sketch_of self.old) (sketch_of self.new) []) }
+    // Keeps a mark: its place, where it has outputs that were held.
+    fn keep_mark(&mut self, p: usize, mark: &Mark) -> Result<Option<u32>, AllocError>
+        ensures { OnOk result (Settles (sketch_of self.old) (sketch_of self.new) (mark_marks mark.now kept)) }
     {
-        let Some(mark) = self.next(p) else {
-            return Ok(None);
-        };
+        self.page.count_fate(self.on, mark, false);
         let fate = Fate {
             cut: false,
-            safe: true,
+            covered: true,
+            stored: true,
         };
-        self.page.count_fate(self.on, &mark, false);
-        self.settle(p, &mark, fate)?;
-        Ok(self.page.held_at(&mark))
+        self.settle(p, mark, fate)?;
+        Ok(self.page.held_at(mark))
     }
 
     // Shows that outputs which were made at a place are released, if there are some.
@@ -222,7 +240,7 @@ impl Picture {
         step: &Step,
         changed: bool,
     ) -> Result<(), AllocError>
-        ensures { OnOk result (Adds (sketch_of self.old) (sketch_of self.new) []) }
+        ensures { OnOk result (Settles (sketch_of self.old) (sketch_of self.new) []) }
     {
         let Some(from) = held else {
             return Ok(());
@@ -244,6 +262,11 @@ impl Picture {
 }
 
 // The place of a process in a recovery state.
-pub(crate) fn place_of(recovery: DepVec, p: usize) -> u32 {
-    recovery.as_slice().get(p).copied().unwrap_or(0)
+pub(crate) fn place_of(recovery: DepVec, p: usize) -> u32
+    ensures { result ≡ slice_index recovery p }
+{
+    match recovery.as_slice().get(p) {
+        Some(place) => *place,
+        None => 0,
+    }
 }

@@ -1,7 +1,7 @@
 //! An event of a script, and what is seen of the world behind it.
 
 ghost use Rattle.std.specs.Prelude.{◌≡◌};
-ghost use Rattle.om_picture.specs.Marks.{process_of};
+ghost use Rattle.om_picture.specs.Fates.{process_of};
 
 use om_interval::{DepVec, MAX_PROCESSES};
 use om_process::Status;

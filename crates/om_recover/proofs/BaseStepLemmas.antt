@@ -9,7 +9,6 @@ use Rattle.om_recover.specs.declared.trees.Newest.{Newest}
 use Rattle.om_recover.specs.declared.trees.Bases.{Bases}
 use Rattle.om_recover.proofs.BaseLemmas.{newest_at, no_newest_at, newest_cases, one_newest, beside_newest, to_newest}
 use Rattle.om_recover.proofs.RunLemmas.{get_set_same, get_set_other}
-use Rattle.om_recover.proofs.PartLemmas.{changed, at_changed}
 
 interval_is : (x y : ℕ) (one other : Base) → newest_of x one ≡ newest_of y other → x ≡ y
 interval_is x y one other same = ap (λ (n : Newest). n.interval) same
@@ -239,10 +238,10 @@ some_left true (Some value) f some = refl
 some_left false o f some = absurd (true≢false (sym some))
 
 -- what is left of checkpoints
-pub bases_part : (test : ℕ × ℕ → Bool) (change : ℕ × ℕ → Base → Base) (old new : Bases) → AreBases old → AreSorted new.others.entries → new.others.entries ≡ changed test change old.others.entries
+pub bases_part : (test : ℕ × ℕ → Bool) (change : ℕ × ℕ → Base → Base) (old new : Bases) → AreBases old → AreSorted new.others.entries
+    → ((p x : ℕ) → at new.others.entries p x ≡ cond (test (p, x)) (option_map (change (p, x)) (at old.others.entries p x)) None)
     → AreNewestPart test change old.newest.items new.newest.items → AreBasesPart test change old new
-bases_part test change old new are sorted others_are newest =
-    let others_at = λ (p x : ℕ). ap (λ (entries : List ((ℕ × ℕ) × Base)). at entries p x) others_are ∙ at_changed test change old.others.entries p x in
+bases_part test change old new are sorted others_at newest =
     let was = λ (q y : ℕ) (other : Base) (own : IsNewest new.newest.items q y other). newest_was test change q y other (slice_get old.newest.items q) (sym (newest q) ∙ own) in
     record {
       sorted = record {

@@ -1,6 +1,8 @@
+pub mod PassingLemmas
 pub mod PlaceLemmas
 pub mod RowsLemmas
 pub mod StableLemmas
+pub mod DroppingLemmas
 pub mod EntryLemmas
 pub mod LogsLemmas
 pub mod RunLemmas

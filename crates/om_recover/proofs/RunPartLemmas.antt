@@ -89,7 +89,7 @@ unpruned_run run from below = record {
   dropped = λ y fails. inl (omega (arith, leb-false from y fails, below));
 }
 
-same_value : {X : Type 0} (o : Option X) → option_map (λ value. value) o ≡ o
+pub same_value : {X : Type 0} (o : Option X) → option_map (λ value. value) o ≡ o
 same_value None = refl
 same_value (Some value) = refl
 
@@ -102,10 +102,9 @@ some_passed true o some = (refl, some)
 some_passed false o some = absurd (true≢false (sym some))
 
 -- what is left of logs
-pub part_of : (test : ℕ × ℕ → Bool) (old new : Logs) → AreLogs old → AreSorted new.others.entries → new.others.entries ≡ changed test (λ _ vectors. vectors) old.others.entries
-    → AreRunsPart test old.runs.items new.runs.items → ArePart test old new
-part_of test old new are sorted others_are runs =
-    let others_at = λ (p x : ℕ). others_part test old.others.entries new.others.entries p x others_are in
+pub part_of : (test : ℕ × ℕ → Bool) (old new : Logs) → AreLogs old → AreSorted new.others.entries
+    → ((p x : ℕ) → at new.others.entries p x ≡ cond (test (p, x)) (at old.others.entries p x) None) → AreRunsPart test old.runs.items new.runs.items → ArePart test old new
+part_of test old new are sorted others_at runs =
     record {
       sorted = record {
         sorted = sorted;

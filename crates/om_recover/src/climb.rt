@@ -53,6 +53,7 @@ pub fn climb<S: Shelf>(
         return None;
     };
     let mut reached = begun;
+    let mut passed = begun;
     let mut looked = *state;
     while let Some(q) = first_behind(&looked, &reached) {
         let y = reached.get(q);
@@ -63,13 +64,17 @@ pub fn climb<S: Shelf>(
                 let memory = Memory {
                     start: x,
                     reached,
+                    passed,
                     waits: lacking,
                     from: vec.get(lacking),
                 };
                 memories.keep(pid, state.get(pid), memory);
                 return None;
             }
-            Ok(higher) => reached = higher,
+            Ok(higher) => {
+                reached = higher;
+                passed.set(q, y);
+            }
         }
     }
     Some(reached)

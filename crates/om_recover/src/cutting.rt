@@ -1,10 +1,11 @@
-ghost use Rattle.std.specs.Prelude.{◌≡◌, ℕ, ◌<◌, ◌≤◌, ◌↔◌, length, slice_index, min, nat_le, IsTrue};
+ghost use Rattle.std.specs.Prelude.{◌≡◌, ℕ, ◌<◌, length, slice_index, min, nat_le};
 ghost use Rattle.om_recover.specs.Cutting.{AreEffective, cut_to, pruned_to};
 ghost use Rattle.om_recover.specs.Recoverable.{IsRecoverable};
 ghost use Rattle.om_recover.specs.steps.Logs.{AreLogs, ArePart, AreRunsPart, IsRunPart};
 ghost use Rattle.om_recover.specs.steps.Bases.{AreBases, AreBasesPart, AreNewestPart, newest_part};
 ghost use Rattle.om_recover.specs.steps.Held.{AreIndexed, AreTrees, Hold, held};
 
+use crate::dropping::prune_entries;
 use crate::lookup::effective_of;
 use crate::trees::{Base, Bases, Logs, Newest, Run, Trees};
 use om_interval::{DepVec, Pid};
@@ -108,7 +109,7 @@ fn prune_bases(bases: &mut Bases, checkpoints: &DepVec)
     ensures { AreBasesPart (λ place. nat_le (slice_index checkpoints.now place.0) place.1) (λ _ base. base) bases.old bases.new }
 {
     prune_newest(&mut bases.newest, checkpoints);
-    bases.others.retain(|place, _| is_from(place, checkpoints));
+    prune_entries(&mut bases.others, checkpoints);
 }
 
 fn prune_newest(newest: &mut Vec<Option<Newest>>, checkpoints: &DepVec)
@@ -137,7 +138,7 @@ fn prune_logs(logs: &mut Logs, checkpoints: &DepVec)
     ensures { ArePart (λ place. nat_le (slice_index checkpoints.now place.0) place.1) logs.old logs.new }
 {
     prune_runs(&mut logs.runs, checkpoints);
-    logs.others.retain(|place, _| is_from(place, checkpoints));
+    prune_entries(&mut logs.others, checkpoints);
 }
 
 fn prune_runs(runs: &mut Vec<Run>, checkpoints: &DepVec)
@@ -158,12 +159,6 @@ fn prune_run(run: &mut Run, from: u32)
     run.logs.rotate_left(gone);
     run.logs.truncate(run.logs.len() - gone);
     run.first = from;
-}
-
-fn is_from(place: &(Pid, u32), checkpoints: &DepVec) -> bool
-    ensures { result ≡ nat_le (slice_index checkpoints.now place.now.0) place.now.1 }
-{
-    place_or_zero(checkpoints, place.0) <= place.1
 }
 
 fn place_or_zero(vector: &DepVec, pid: Pid) -> u32

@@ -12,7 +12,7 @@ use crate::row::{Row, RowKind};
 use crate::trees::{Bases, Logs, Newest, Run, Trees};
 use om_interval::{DepVec, Pid};
 use std::alloc::{AllocError, Global};
-use std::collections::BTreeMap;
+use std::collections::{BTreeMap, VecDeque};
 
 /// The trees of no rows of `n` processes.
 pub fn no_rows(alloc: Global, n: usize) -> Result<Trees, AllocError>
@@ -60,7 +60,7 @@ fn no_runs(alloc: Global, n: usize) -> Result<Vec<Run>, AllocError>
     for _ in 0..n {
         runs.push_reserved(Run {
             first: 0,
-            logs: Vec::new(alloc),
+            logs: VecDeque::new(alloc),
         });
     }
     Ok(runs)

@@ -100,6 +100,6 @@ fn push_to(run: &mut Run, x: u32, vectors: Vectors) -> Result<(), AllocError>
     if run.logs.is_empty() {
         run.first = x;
     }
-    run.logs.push_reserved(vectors);
+    run.logs.push_back_reserved(vectors);
     Ok(())
 }

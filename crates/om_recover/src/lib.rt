@@ -11,7 +11,7 @@
 //!   lent as a `Shelf`), `memory` (climbs that failed), `work` and `step` (what is counted)
 //! - the rows: `index` (all of them, a `Shelf`), `trees` (by process), `logs` and `bases` (the logs, the checkpoints),
 //!   `answer` (whether a row is new), `lookup`, `nearest` and `stable` (what is read), `adding`, `laying` and `storing` (what
-//!   is added), `cutting` (what is dropped), `first` (no rows)
+//!   is added), `cutting` and `dropping` (what is dropped), `first` (no rows)
 #![tactic(auto)]
 
 mod adding;
@@ -19,6 +19,7 @@ mod answer;
 mod bases;
 mod climb;
 mod cutting;
+mod dropping;
 mod first;
 mod index;
 pub mod laws;

@@ -1,5 +1,5 @@
-ghost use Rattle.std.specs.Prelude.{◌≡◌, ℕ, ◌<◌, ◌≤◌, ⊤, false, length, slice_index, slice_index_or, Option, Some, None, MatchOption};
-ghost use Rattle.om_recover.specs.steps.Memory.{IsKept, IsWithout};
+ghost use Rattle.std.specs.Prelude.{◌≡◌, ℕ, ◌<◌, ◌≤◌, ⊤, false, slice_index_or, Option, Some, None, MatchOption};
+ghost use Rattle.om_recover.specs.steps.Memory.{HasPlace, IsKept, IsPartWithin, IsUpTo, IsWithout, part_of};
 ghost use Rattle.om_interval.specs.declared.pid.TheConstants.{MAX_PROCESSES};
 
 use om_interval::{DepVec, MAX_PROCESSES, Pid};
@@ -11,10 +11,27 @@ pub struct Memory {
     pub start: u32,
     /// How far it came.
     pub reached: DepVec,
+    /// How far it came by what it read before the last: so far it comes whatever becomes of the last.
+    pub passed: DepVec,
     /// The process that lacks a stable interval ..
     pub waits: Pid,
     /// .. at this one or above.
     pub from: u32,
+}
+
+impl Memory {
+    // What is left of it where the interval that was read last is not in its way any longer: it lacks nothing.
+    fn part(&self) -> Memory
+        ensures { result ≡ part_of self.now }
+    {
+        Memory {
+            start: self.start,
+            reached: self.passed,
+            passed: self.passed,
+            waits: self.waits,
+            from: 0,
+        }
+    }
 }
 
 /// Of each process the climb that is remembered, if there is one.
@@ -58,28 +75,39 @@ impl Memories {
         self.put(pid, Some(memory));
     }
 
-    // Forgets those memories of the first `n` processes that came further, at a process, than to an interval.
+    // Forgets of the memories of the first `n` processes what came further, at a process, than to an interval.
     pub(crate) fn forget(&mut self, n: usize, pid: Pid, x: u32)
         requires within { n ≤ MAX_PROCESSES }
-        requires places { (q : ℕ) → q < n → MatchOption (slice_index_or self.old.places q None) ⊤ (λ memory. pid < length memory.reached) }
+        requires places { (q : ℕ) → q < n → MatchOption (slice_index_or self.old.places q None) ⊤ (HasPlace pid) }
         ensures { IsWithout n self.old.places self.new.places pid x }
     {
         for p in 0..n {
             let q = Pid::at(p);
             if self.is_beyond(q, pid, x) {
-                self.put(q, None);
+                self.put(q, self.part_within(q, pid, x));
             }
         }
     }
 
     // Whether a climb of a process is remembered that came further, at another, than to an interval.
     fn is_beyond(&self, of: Pid, pid: Pid, x: u32) -> bool
-        requires { MatchOption (slice_index_or self.now.places of None) ⊤ (λ memory. pid < length memory.reached) }
-        ensures { result ≡ false → MatchOption (slice_index_or self.now.places of None) ⊤ (λ memory. slice_index memory.reached pid ≤ x) }
+        requires { MatchOption (slice_index_or self.now.places of None) ⊤ (HasPlace pid) }
+        ensures { result ≡ false → MatchOption (slice_index_or self.now.places of None) ⊤ (IsUpTo pid x) }
     {
         match &self.places[of.index()] {
             None => false,
-            Some(memory) => x < memory.reached.get(pid),
+            Some(memory) => x < memory.reached.get(pid) || x < memory.passed.get(pid),
+        }
+    }
+
+    // What is left of a process's memory, unless that came further, at another, than to an interval.
+    fn part_within(&self, of: Pid, pid: Pid, x: u32) -> Option<Memory>
+        requires { MatchOption (slice_index_or self.now.places of None) ⊤ (HasPlace pid) }
+        ensures { IsPartWithin (slice_index_or self.now.places of None) pid x result }
+    {
+        match &self.places[of.index()] {
+            Some(memory) if memory.passed.get(pid) <= x => Some(memory.part()),
+            _ => None,
         }
     }
 }

@@ -1,5 +1,5 @@
 use om_interval::{DepVec, Pid};
-use std::collections::BTreeMap;
+use std::collections::{BTreeMap, VecDeque};
 
 /// The vectors of an interval.
 #[derive(Clone, Copy, Debug, PartialEq, Eq)]
@@ -30,12 +30,12 @@ pub struct Bases {
     pub others: BTreeMap<(Pid, u32), Base>,
 }
 
-/// Logs of a process that follow on one another, as most of them come.
+/// Logs of a process that follow on one another, as most of them come. What goes first is dropped first, and nothing moves.
 #[derive(Debug, Drop)]
 pub struct Run {
     /// The interval of the first.
     pub first: u32,
-    pub logs: Vec<Vectors>,
+    pub logs: VecDeque<Vectors>,
 }
 
 /// Logs: of each process a run, and the others by process and interval.

@@ -91,6 +91,27 @@ fn gaps(alloc: Global, size: u32) -> Result<Vec<Row>, Fail> {
     Ok(rows)
 }
 
+// The chain passes through the least stable interval of a third process, which falls at each note, while another goes on
+// alone.
+fn falls(alloc: Global, size: u32) -> Result<Vec<Row>, Fail> {
+    let mut rows = Vec::new(alloc);
+    for k in 1..size {
+        push(&mut rows, log(5, 0, k, &[(1, k), (2, 1)]))?;
+        push(&mut rows, log(5, 1, k, &[(0, k.saturating_add(1))]))?;
+    }
+    let end = [(1, size.saturating_sub(1)), (2, 1), (4, 1)];
+    push(&mut rows, log(5, 0, size, &end))?;
+    for i in 1..size {
+        let low = size.saturating_mul(2).saturating_sub(i);
+        push(
+            &mut rows,
+            row(RowKind::Checkpoint, 5, 2, low, &[(4, 1_000_000)]),
+        )?;
+        push(&mut rows, log(5, 3, i, &[]))?;
+    }
+    Ok(rows)
+}
+
 // Notes the rows: the state is then that of the process that went on alone.
 fn assert_state(rt: &impl Abort, alloc: Global, rows: &[Row], state: &[u32]) -> Result<(), Fail> {
     assert!(rt; 1 <= state.len() && state.len() <= MAX_PROCESSES);
@@ -119,4 +140,10 @@ fn notes_that_move_a_chains_end(rt: HostRuntime) -> Result<(), Fail> {
 fn notes_that_fill_gaps(rt: HostRuntime) -> Result<(), Fail> {
     let rows = gaps(rt.alloc(), 40_000)?;
     assert_state(&rt, rt.alloc(), &rows, &[0, 0, 0, 39_999])
+}
+
+#[test]
+fn notes_below_what_a_chain_passes_through(rt: HostRuntime) -> Result<(), Fail> {
+    let rows = falls(rt.alloc(), 40_000)?;
+    assert_state(&rt, rt.alloc(), &rows, &[0, 0, 0, 39_999, 0])
 }

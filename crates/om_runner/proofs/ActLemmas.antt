@@ -1,9 +1,12 @@
 -- What a worker does with the board.
 use Rattle.std.proofs.Common.{◌≡◌, ◌↔◌, ℕ, List, Option, None, Some, Bool, IsTrue, ap, ◌∙◌, subst, sym, length, take, drop, Ok}
-use Rattle.std.specs.Prelude.{Any, IfNone}
+use Rattle.std.specs.Prelude.{Any, IfNone, slice_get}
+use Rattle.std.proofs.lemmas.Option.{same_Some}
 use Rattle.std.proofs.Math.Seq.{drop-length, take-length}
 use Rattle.om_process.specs.Core.{CoreState, with_pending}
+use Rattle.om_process.specs.Process.{Program}
 use Rattle.om_process.specs.declared.row.Row.{Row}
+use Rattle.om_board.specs.Made.{IsMade, IsOutputOf}
 use Rattle.om_board.specs.Boards.{BoardState}
 use Rattle.om_manager.specs.Rounds.{Joining}
 use Rattle.om_manager.specs.declared.answers.Gathered.{Gathered}
@@ -13,6 +16,7 @@ use Rattle.om_member.specs.Keeps.{Keeps}
 use Rattle.om_member.specs.Told.{AreTold, IsToldUpTo}
 use Rattle.om_member.proofs.KeepLemmas.{keeps_then}
 use Rattle.om_runner.specs.steps.Acts.{HasHandedOver}
+use Rattle.om_runner.specs.steps.Nodes.{AreAlwaysClean, Member, TakesFrom}
 
 -- all that was offered was taken
 pub handed_over : (before mid after : ManagerState) (p q count : ℕ) (old new : CoreState) → q ≡ p → IsToldUpTo before old.round p old.pending count (Ok tt) mid → Keeps before mid
@@ -43,3 +47,10 @@ pruned_where asked has rows c d same are is_asked found =
 pub same_where_none : {A : Type 0} (asked : Option A) (a b : BoardState) → IfNone asked (a ≡ b) → IfNone asked (a.manager ≡ b.manager)
 same_where_none None a b same = ap (λ (x : BoardState). x.manager) same
 same_where_none (Some x) a b same = tt
+
+-- what the program of a member makes may be handed in where its cluster names that program
+pub takes_named : {S : Type 0} (programs : List Program) (n : ℕ) (over_clean : Type 0) (is_clean : S → Bool) (m : Member) → slice_get programs m.own ≡ Some m.program → m.n ≡ n
+    → (over_clean → AreAlwaysClean is_clean) → TakesFrom (λ p seq output. over_clean → IsMade programs n p seq output) is_clean m
+takes_named programs n over_clean is_clean m named size always seq output made clean program at =
+    subst (λ (q : Program). IsOutputOf q m.own n seq output) (same_Some m.program program (sym named ∙ at))
+    (subst (λ (k : ℕ). IsOutputOf m.program m.own k seq output) size (made (always clean)))

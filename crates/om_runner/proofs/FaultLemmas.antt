@@ -7,7 +7,7 @@ use Rattle.om_process.specs.Images.{program_of}
 use Rattle.om_process.specs.declared.image.Image.{Image}
 use Rattle.om_runner.specs.Reports.{IsFaultOf}
 use Rattle.om_runner.specs.declared.cluster.EndOf.{EndOf}
-use Rattle.om_runner.specs.declared.cluster.Finished.{Finished}
+use Rattle.om_runner.specs.declared.results.Finished.{Finished}
 use Rattle.om_runner.specs.declared.config.Config.{Config}
 use Rattle.om_runner.specs.declared.fault.RunFault.{RunFault}
 use Rattle.om_runner.specs.declared.fault.RunFault.TheVariants.{Turns, GateShut, Memory, Fault, Load, NoThread}

@@ -3,14 +3,17 @@ use Rattle.std.proofs.Common.{◌≡◌, ◌≢◌, ◌⊎◌, inl, inr, ℕ, ze
 use Rattle.std.specs.Prelude.{Option, Vec, slice_get, slice_index, vec_len}
 use Rattle.std.specs.declared.alloc.Global.{Global}
 use Rattle.std.specs.List.{filter}
-use Rattle.std.proofs.Math.Seq.{take-length, take-nil, take-suc}
+use Rattle.std.proofs.Math.Seq.{map-set_same, take-length, take-nil, take-suc}
 use Rattle.std.proofs.lemmas.Bool.{cases_eq, eq-eqb}
 use Rattle.std.proofs.lemmas.Bool.Decides.{nat_tests}
 use Rattle.std.proofs.lemmas.List.{get_or_past, map-append, take-append-le}
 use Rattle.std.proofs.lemmas.List.Elements.{filter-append}
 use Rattle.std.proofs.lemmas.Option.{get_or_from_slice_get, none-some, same_Some, slice_get_cases, slice_get_within}
 use Rattle.om_interval.specs.Vectors.{IsBelow}
+use Rattle.om_manager.specs.Outputs.{held_of}
 use Rattle.om_manager.specs.declared.output_log.Output.{Output}
+use Rattle.om_process.specs.Process.{Program}
+use Rattle.om_board.specs.Made.{AreAllMade, AreMade, IsMade}
 use Rattle.om_board.proofs.ListLemmas.{map_get, map_had, more_had, none_in}
 use Rattle.om_board.proofs.FrontLemmas.{ends_rise}
 use mathlib.Core.List.{IsPrefix}
@@ -19,9 +22,9 @@ use Rattle.om_board.specs.Fronts.{EndsWith, front_of}
 use Rattle.om_board.specs.declared.front.Front.{Front}
 use Rattle.om_board.specs.Released.{AreAllReleased, AreReleased}
 use Rattle.om_runner.proofs.WireLemmas.{set_apart, set_here}
-use Rattle.om_runner.specs.Telling.{AreInOrder, Told, TellsAll, of_process, outputs_in, told_of}
+use Rattle.om_runner.specs.Telling.{AreInOrder, AreToldMade, Told, TellsAll, of_process, outputs_in, told_of}
 use Rattle.om_runner.specs.declared.lane.Lane.{Lane}
-use Rattle.om_runner.specs.steps.Following.{AreEmpty, AreKept, AreTold, HasTold, HaveTold, IsTold, IsToldOf, StayKept, told_in}
+use Rattle.om_runner.specs.steps.Following.{AreEmpty, AreKept, AreLanesMade, AreTold, HasTold, HaveTold, IsTold, IsToldOf, StayKept, told_in}
 
 -- ---- lists
 -- one more of the first elements
@@ -69,6 +72,13 @@ same_told p told old new more within are = ap (λ os. map (told_of p) (take told
 pub released_next : (limit : ℕ) (outputs : List Output) (o : Output) → AreReleased limit outputs → o.seq ≡ length outputs → o.interval ≤ limit → AreReleased limit (outputs ++ o ∷ [])
 released_next limit outputs o are number inside i x at = elim (more_had outputs i o x at) [
   | inl here ↦ subst (λ (y : Output). (y.seq ≡ i) × (y.interval ≤ limit)) (sym here.1) (number ∙ sym here.0, inside)
+  | inr there ↦ are i x there
+]
+
+pub made_next : (programs : List Program) (n p : ℕ) (outputs : List Output) (o : Output) → AreMade programs n p outputs → IsMade programs n p o.seq (held_of o)
+    → AreMade programs n p (outputs ++ o ∷ [])
+made_next programs n p outputs o are one i x at = elim (more_had outputs i o x at) [
+  | inl here ↦ subst (λ (y : Output). IsMade programs n p y.seq (held_of y)) (sym here.1) one
   | inr there ↦ are i x there
 ]
 
@@ -127,6 +137,29 @@ pub kept_same : (vec : List ℕ) (lanes : List Lane) (p : ℕ) (old new : Lane) 
 kept_same vec lanes p old new at same are =
     kept_where vec lanes p old new at (λ was. subst (λ (v : Vec Output Global). AreReleased (slice_index vec p) v.items) (sym same) was) are
 
+pub made_where : (programs : List Program) (n : ℕ) (lanes : List Lane) (p : ℕ) (old new : Lane) → slice_get lanes p ≡ Some old
+    → (AreMade programs n p old.outputs.items → AreMade programs n p new.outputs.items)
+    → AreLanesMade programs n lanes → AreLanesMade programs n (set lanes p new)
+made_where programs n lanes p old new at makes are q lane there = elim (set_had lanes p new q lane (slice_get_within lanes p old at) there) [
+  | inl here ↦
+      subst (λ k. AreMade programs n k lane.outputs.items) (sym here.0)
+      (subst (λ (l : Lane). AreMade programs n p l.outputs.items) (sym here.1) (makes (are p old at)))
+  | inr other ↦ are q lane other.1
+]
+
+-- where a lane is told of, the outputs of all are the same
+pub outputs_same : (lanes : List Lane) (p : ℕ) (old new : Lane) → slice_get lanes p ≡ Some old → new.outputs ≡ old.outputs
+    → map (λ (l : Lane). l.outputs) (set lanes p new) ≡ map (λ (l : Lane). l.outputs) lanes
+outputs_same lanes p old new at same =
+    map-set_same (λ (l : Lane). l.outputs) lanes p new old (same ∙ ap (λ (l : Lane). l.outputs) (sym (get_or_from_slice_get lanes p old old at)))
+
+pub made_same : (programs : List Program) (n : ℕ) (old new : List Lane) → map (λ (l : Lane). l.outputs) new ≡ map (λ (l : Lane). l.outputs) old
+    → AreLanesMade programs n old → AreLanesMade programs n new
+made_same programs n old new same are p lane at =
+    let there = subst (λ os. slice_get os p ≡ Some lane.outputs) same (map_get (λ (l : Lane). l.outputs) new p lane at) in
+    let had = map_had (λ (l : Lane). l.outputs) old p lane.outputs there in
+    subst (λ (v : Vec Output Global). AreMade programs n p v.items) had.2 (are p had.0 had.1)
+
 -- of this lane as much was told as before
 pub same_where : (lanes : List Lane) (p : ℕ) (old new : Lane) → slice_get lanes p ≡ Some old → ((q : ℕ) → told_in q (Some new) ≡ told_in q (Some old))
     → (q : ℕ) → told_in q (slice_get (set lanes p new) q) ≡ told_in q (slice_get lanes q)
@@ -181,6 +214,9 @@ empty_next lanes lane none same p x at = elim (more_had lanes p lane x at) [
 pub kept_empty : (vec : List ℕ) (lanes : List Lane) → AreEmpty lanes → AreKept vec lanes
 kept_empty vec lanes none p lane at i o there = absurd (none_in i o (subst (λ os. slice_get os i ≡ Some o) (none p lane at) there))
 
+pub made_empty : (programs : List Program) (n : ℕ) (lanes : List Lane) → AreEmpty lanes → AreLanesMade programs n lanes
+made_empty programs n lanes none p lane at i o there = absurd (none_in i o (subst (λ os. slice_get os i ≡ Some o) (none p lane at) there))
+
 -- ---- from the start to the end
 empty_in : (lanes : List Lane) (p : ℕ) → AreEmpty lanes → told_in p (slice_get lanes p) ≡ []
 empty_in lanes p none = elim (slice_get_cases lanes p).1 [
@@ -222,6 +258,12 @@ all_released vec lanes released are kept p outputs at =
     let had = map_had (λ (l : Lane). l.outputs) lanes p outputs (subst (λ r. slice_get r p ≡ Some outputs) are at) in
     subst (λ (v : Vec Output Global). AreReleased (slice_index vec p) v.items) had.2 (kept p had.0 had.1)
 
+pub made_of_all : (programs : List Program) (n : ℕ) (lanes : List Lane) (released : List (Vec Output Global)) → released ≡ map (λ (l : Lane). l.outputs) lanes
+    → AreLanesMade programs n lanes → AreAllMade programs n released
+made_of_all programs n lanes released are made p outputs at =
+    let had = map_had (λ (l : Lane). l.outputs) lanes p outputs (subst (λ r. slice_get r p ≡ Some outputs) are at) in
+    subst (λ (v : Vec Output Global). AreMade programs n p v.items) had.2 (made p had.0 had.1)
+
 numbered_in : (vec : List ℕ) (lanes : List Lane) (p i : ℕ) (t : Told) → AreKept vec lanes → slice_get (told_in p (slice_get lanes p)) i ≡ Some t → t.number ≡ i
 numbered_in vec lanes p i t kept at = elim (slice_get_cases lanes p).1 [
   | inl there ↦
@@ -230,7 +272,23 @@ numbered_in vec lanes p i t kept at = elim (slice_get_cases lanes p).1 [
   | inr past ↦ absurd (none_in i t (subst (λ l. slice_get (told_in p l) i ≡ Some t) past.1 at))
 ]
 
-pub told_in_order : {F : Type 0} (Tells : F → F → List Told → Type 0) (start now : F) (vec : List ℕ) (lanes : List Lane) → AreKept vec lanes → IsTold Tells start lanes now
-    → (told : List Told) × Tells start now told × AreInOrder told
-told_in_order Tells start now vec lanes kept is =
-    (is.told, is.tells, λ p i t at. numbered_in vec lanes p i t kept (subst (λ l. slice_get l i ≡ Some t) (is.each p) at))
+made_in : (programs : List Program) (n : ℕ) (lanes : List Lane) (p i : ℕ) (t : Told) → AreLanesMade programs n lanes → slice_get (told_in p (slice_get lanes p)) i ≡ Some t
+    → (x : ℕ) × IsMade programs n p t.number (record { interval = x; bytes = t.bytes })
+made_in programs n lanes p i t made at = elim (slice_get_cases lanes p).1 [
+  | inl there ↦
+      let had = map_had (told_of p) (take there.0.told there.0.outputs.items) i t (subst (λ l. slice_get (told_in p l) i ≡ Some t) there.2 at) in
+      let one = made p there.0 there.2 i had.0 (taken_had there.0.outputs.items there.0.told i had.0 had.1) in
+      (had.0.interval, subst (λ (x : Told). IsMade programs n p x.number (record { interval = had.0.interval; bytes = x.bytes })) had.2 one)
+  | inr past ↦ absurd (none_in i t (subst (λ l. slice_get (told_in p l) i ≡ Some t) past.1 at))
+]
+
+-- what was told of the first outputs of each lane is in order, and of the programs where the lanes are
+pub told_partly : {F : Type 0} (Tells : F → F → List Told → Type 0) (start now : F) (vec : List ℕ) (lanes : List Lane) (clean : Type 0) (programs : List Program) (n : ℕ)
+    → AreKept vec lanes → (clean → AreLanesMade programs n lanes) → IsTold Tells start lanes now
+    → (told : List Told) × Tells start now told × AreInOrder told × (clean → AreToldMade programs n told)
+told_partly Tells start now vec lanes clean programs n kept made is = (
+  is.told,
+  is.tells,
+  λ p i t at. numbered_in vec lanes p i t kept (subst (λ l. slice_get l i ≡ Some t) (is.each p) at),
+  λ always p i t at. made_in programs n lanes p i t (made always) (subst (λ l. slice_get l i ≡ Some t) (is.each p) at),
+)

@@ -14,9 +14,15 @@ use Rattle.om_format.proofs.Checkpoints.{one_checkpoint}
 use Rattle.om_stable.specs.Calls.{IsKnown}
 use Rattle.om_stable.specs.Content.{Content, with_checkpoint, kept_by_cut, kept_by_prune}
 use Rattle.om_stable.proofs.RecordLemmas.{get-insert_here, get-insert_apart, get-retained}
+use Rattle.om_member.specs.Handed.{held_as}
+use Rattle.om_board.specs.Made.{IsOutputOf}
 use Rattle.om_process.specs.Accepts.{Answers, IsDue, taken, received}
 use Rattle.om_process.specs.declared.accept.Accept.{Accept}
 use Rattle.om_process.specs.declared.accept.Accept.TheVariants.{Taken, Stranger, Orphan, Repeat, Ahead, NotWaiting, Full, Memory}
+use Rattle.om_process.specs.Claims.{HasEntry}
+use Rattle.om_process.specs.declared.queues.Made.{Made}
+use Rattle.om_process.specs.Kept.{made_entry}
+use Rattle.om_process.proofs.Making.{part_has}
 use Rattle.om_process.specs.Core.{CoreState, CoreTurns, move_of, size_of, status_of, with_now}
 use Rattle.om_process.specs.declared.status.Status.{Status}
 use Rattle.om_process.specs.Parts.{Keeps, KeepQueues}
@@ -283,3 +289,12 @@ pub node_status : {S : Type 0} (content : S → Content) (is_clean : S → Bool)
 node_status content is_clean IsSound m core store status is clean at =
     let told : status ≡ status_of (next_move m.own m.n core.now.machine (made core.now.queues)) = subst (λ n. status ≡ status_of (next_move m.own n core.now.machine (made core.now.queues))) is.size (subst (λ o. status ≡ status_of (next_move o (size_of core.now) core.now.machine (made core.now.queues))) is.own at) in
     subst (IsStatusAlong m.program m.own m.n) (sym told) (way_status m core.now (is.stands clean))
+
+-- what it keeps as an output is one that its program makes
+pub node_output : {S : Type 0} (content : S → Content) (is_clean : S → Bool) (IsSound : S → Type 0) (m : Member) (core : CoreState) (store : S) (output : Made)
+    → IsNode content is_clean IsSound (record { member = m; core = core }) store → IsTrue (is_clean store)
+    → HasEntry core.now.queues (size_of core.now) output.seq (made_entry output) → IsOutputOf m.program m.own m.n output.seq (held_as output)
+node_output content is_clean IsSound m core store output is clean has =
+    let on = is.stands clean in
+    let here : HasEntry core.now.queues m.n output.seq (made_entry output) = subst (λ n. HasEntry core.now.queues n output.seq (made_entry output)) is.size has in
+    ∣ (on.0, (on.1.0, on.1.1, part_has on.1.0.queues core.now.queues m.n output.seq (made_entry output) on.1.2.queues here)) ∣₁

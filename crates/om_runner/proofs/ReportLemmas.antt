@@ -8,9 +8,13 @@ use Rattle.om_process.specs.Images.{program_of}
 use Rattle.om_process.specs.declared.image.Image.{Image}
 use Rattle.om_process.specs.declared.status.Status.{Status}
 use Rattle.om_board.proofs.ListLemmas.{map_get, map_had, more_had}
-use Rattle.om_runner.specs.Reports.{AreAlong, AreStatusesAlong, IsEnd, IsStatusAlong}
+use Rattle.om_manager.specs.declared.output_log.Output.{Output}
+use Rattle.om_process.specs.Process.{Program}
+use Rattle.om_board.specs.Made.{AreAllMade}
+use Rattle.std.proofs.lemmas.Result.{IfOk-weaker}
+use Rattle.om_runner.specs.Reports.{AreAlong, AreOutputsOf, AreStatusesAlong, IsEnd, IsStatusAlong}
 use Rattle.om_board.specs.Inboxes.{Traffic, Takings}
-use Rattle.om_runner.specs.declared.cluster.Finished.{Finished}
+use Rattle.om_runner.specs.declared.results.Finished.{Finished}
 use Rattle.om_runner.specs.declared.network.Ends.{Ends}
 use Rattle.om_runner.specs.steps.Ends.{AreEndsOf, IsEndOf}
 use Rattle.om_runner.specs.steps.Network.{ArePuts, AreTakes, IsNetwork, Lines}
@@ -133,3 +137,9 @@ along_always is_clean images statuses stores many along always p image status at
   | inl store ↦ along p image status store.0 at_image at_status store.2 (always store.0)
   | inr past ↦ let l = past.0 in let lt = slice_get_within images p image at_image in absurd (omega arith)
 ]
+
+-- where the programs are those of the images, the outputs are theirs
+pub made_of_images : {A E : Type 0} (released : A → List (Vec Output Global)) (programs : List Program) (n : ℕ) (images : List Image) (result : Result A E)
+    → programs ≡ map program_of images → n ≡ length images → IfOk result (λ r. AreAllMade programs n (released r)) → IfOk result (λ r. AreOutputsOf images (released r))
+made_of_images released programs n images result are many made =
+    IfOk-weaker result _ _ (λ r all. subst (λ ps. AreAllMade ps (length images) (released r)) are (subst (λ k. AreAllMade programs k (released r)) many all)) made

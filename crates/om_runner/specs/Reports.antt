@@ -1,7 +1,10 @@
 -- What a run of a cluster ends with.
-use Rattle.std.specs.Prelude.{◌≡◌, ℕ, ◌<◌, List, Option, None, Some, IfSome, Bool, IsTrue, slice_get, length}
-use Rattle.std.specs.FinMap as map
+use Rattle.std.specs.Prelude.{◌≡◌, ℕ, ◌<◌, List, Option, None, Some, IfSome, Bool, IsTrue, Vec, slice_get, length, map}
+use Rattle.std.specs.declared.alloc.Global.{Global}
+use Rattle.std.specs.FinMap.{empty}
 use Rattle.om_stable.specs.Content.{Content}
+use Rattle.om_manager.specs.declared.output_log.Output.{Output}
+use Rattle.om_board.specs.Made.{AreAllMade}
 use Rattle.om_process.specs.Core.{status_of}
 use Rattle.om_process.specs.Images.{program_of}
 use Rattle.om_process.specs.Process.{Process, Program, Received, made}
@@ -14,7 +17,7 @@ use Rattle.om_runner.specs.declared.fault.RunFault.TheVariants.{Turns, GateShut,
 
 -- a store without a record
 abbrev pub nothing : Content
-nothing = record { receipts = map.empty; checkpoints = map.empty }
+nothing = record { receipts = empty; checkpoints = empty }
 
 -- the process has come to an end
 abbrev pub IsEnd : Status → Type 0
@@ -39,6 +42,10 @@ abbrev pub AreStatusesAlong : List Image → List Status → Type 0
 AreStatusesAlong images statuses = (p : ℕ) (image : Image) (status : Status)
     → slice_get images p ≡ Some image → slice_get statuses p ≡ Some status
     → IsStatusAlong (program_of image) p (length images) status
+
+-- by process: each of its outputs is the one of its number that its image makes along some receipts
+abbrev pub AreOutputsOf : List Image → List (Vec Output Global) → Type 0
+AreOutputsOf images released = AreAllMade (map program_of images) (length images) released
 
 -- the process that a fault names, if it names one
 abbrev pub process_of : RunFault → Option ℕ

@@ -3,6 +3,8 @@ use Rattle.std.specs.Prelude.{◌≡◌, ℕ, ◌==◌, List, [], Vec, Option, N
 use Rattle.std.specs.List.{filter}
 use Rattle.std.specs.declared.alloc.Global.{Global}
 use Rattle.om_manager.specs.declared.output_log.Output.{Output}
+use Rattle.om_process.specs.Process.{Program}
+use Rattle.om_board.specs.Made.{IsMade}
 
 -- an output of a process, with its number
 pub record Told : Type 0 where
@@ -30,3 +32,8 @@ TellsAll told released = (p : ℕ) → of_process p told ≡ map (told_of p) (ou
 -- by process, what was told are outputs that are numbered from 0 without a gap
 abbrev pub AreInOrder : List Told → Type 0
 AreInOrder told = (p i : ℕ) (t : Told) → slice_get (of_process p told) i ≡ Some t → t.number ≡ i
+
+-- by process: each of what was told is the output of its number that its program makes, in some interval
+abbrev pub AreToldMade : List Program → ℕ → List Told → Type 0
+AreToldMade programs n told = (p i : ℕ) (t : Told) → slice_get (of_process p told) i ≡ Some t
+    → (x : ℕ) × IsMade programs n p t.number (record { interval = x; bytes = t.bytes })

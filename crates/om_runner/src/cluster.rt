@@ -1,14 +1,16 @@
 //! A cluster, a thread for each process.
 
-ghost use Rattle.std.specs.Prelude.{◌≡◌, ◌<◌, ◌≤◌, ◌↔◌, ◌⊎◌, ℕ, All, IfErr, IfNone, IfOk, IfSome, IsTrue, OnOk, length, map, slice_index_or, vec_capacity, vec_len};
+ghost use Rattle.std.specs.Prelude.{◌≡◌, ◌<◌, ◌≤◌, ℕ, All, IfErr, IfOk, IfSome, IsTrue, OnOk, Some, length, map, slice_get, slice_index_or, vec_capacity, vec_len};
+ghost use Rattle.om_board.specs.Made.{AreAllMade};
 ghost use Rattle.om_board.specs.Released.{AreAllReleased};
 ghost use Rattle.om_interval.specs.declared.pid.TheConstants.{MAX_PROCESSES};
 ghost use Rattle.om_process.specs.Images.{program_of};
 ghost use Rattle.om_process.specs.declared.image.Image.{Image};
-ghost use Rattle.om_runner.specs.Reports.{AreAlong, AreStatusesAlong, IsEnd, IsFaultOf, IsStatusAlong};
+ghost use Rattle.om_runner.specs.Reports.{AreAlong, AreOutputsOf, AreStatusesAlong, IsEnd, IsFaultOf, IsStatusAlong};
 ghost use Rattle.om_runner.specs.declared.fault.RunFault.TheVariants.{Memory};
-ghost use Rattle.om_runner.specs.steps.Ends.{AreBelow, AreEndsOf, AreOwnEnds, IsEndOf, IsFaultBy, IsGiven, IsLeastFault, IsOut, IsOwnEnd, IsPromised, IsTurned, IsWell};
-ghost use Rattle.om_runner.specs.steps.Network.{IsNetwork};
+ghost use Rattle.om_runner.specs.steps.Acts.{IsReadFrom, UnderLock};
+ghost use Rattle.om_runner.specs.steps.Ends.{AreEndsOf, AreOwnEnds, IsEndOf, IsFaultBy, IsGiven, IsOwnEnd, IsPromised, IsTurned};
+ghost use Rattle.om_runner.specs.steps.Nodes.{AreAlwaysClean};
 ghost use Rattle.om_runner.specs.steps.Places.{member_of};
 ghost use Rattle.om_runner.specs.steps.Settling.{ArePasses, AreSettled};
 ghost use Rattle.om_runner.specs.steps.Wiring.{IsWired};
@@ -22,11 +24,12 @@ use crate::network::Ends;
 use crate::node::Node;
 use crate::opener::{Gate, OpenFault, Opener};
 use crate::recorder::Recorder;
+use crate::results::{Finished, Parts, gathered};
 use crate::settle::settle_all;
 use crate::witness::Past;
 use crate::worker::{Place, Worker};
 use crate::worker_fault::load_fault;
-use om_board::{Blank, Inbox, Naming, Pass, PutPass, Report, Shared, TakePass};
+use om_board::{Blank, Inbox, Naming, Pass, Report, TakePass};
 use om_interval::{MAX_PROCESSES, Pid};
 use om_process::{Image, Status, Witness};
 use om_stable::Stable;
@@ -45,27 +48,6 @@ struct Job<'a, K: Naming> {
     links: Links<'a>,
     pass: Pass<K>,
     ghost sized: { links.n ≡ K.cell.n },
-}
-
-// What a worker brings back.
-#[derive(Drop)]
-pub(crate) struct Finished<S: Stable> {
-    status: Status,
-    store: S,
-    ends: Ends,
-    witness: Witness,
-}
-
-// What all workers brought back, by process.
-#[derive(Drop)]
-pub(crate) struct Parts<S: Stable> {
-    pub(crate) statuses: Vec<Status>,
-    pub(crate) stores: Vec<S>,
-    // By sender, and there by receiver.
-    pub(crate) puts: Vec<Vec<PutPass>>,
-    // By receiver, and there by sender.
-    pub(crate) takes: Vec<Vec<TakePass>>,
-    pub(crate) witnesses: Vec<Witness>,
 }
 
 // Asks the gate until it lets the process start.
@@ -135,7 +117,9 @@ fn take_turn<'a, K: Naming, S: Stable, R: Wait + Clock>(
     pass: Pass<K>,
 ) -> Result<Turned<'a, K, S>, RunFault>
     requires own { (member_of place).own ≡ worker.old.links.own }
+    requires program { slice_get K.programs (member_of place).own ≡ Some (member_of place).program }
     requires size { (member_of place).n ≡ K.cell.n }
+    requires clean { K.OverClean → AreAlwaysClean S.is_clean }
     ensures same { worker.new.links ≡ worker.old.links }
     ensures turned { IfOk result (λ t. IsTurned S.is_clean (member_of place.entry) t) }
     ensures fault { IfErr result (IsFaultBy worker.old.links.own) }
@@ -167,7 +151,9 @@ fn turns_until_over<'a, K: Naming, S: Stable, R: Wait + Clock>(
     pass: Pass<K>,
 ) -> Result<(Status, S), RunFault>
     requires own { node.member.own ≡ worker.old.links.own }
+    requires program { slice_get K.programs node.member.own ≡ Some node.member.program }
     requires size { node.member.n ≡ K.cell.n }
+    requires clean { K.OverClean → AreAlwaysClean S.is_clean }
     ensures same { worker.new.links ≡ worker.old.links }
     ensures ended { IfOk result (λ end. IsEnd end.0) }
     ensures along { let m = node.entry.member in
@@ -208,7 +194,9 @@ fn take_turns<'a, K: Naming, S: Stable, R: Wait + Clock>(
     pass: Pass<K>,
 ) -> Result<Finished<S>, RunFault>
     requires own { node.member.own ≡ worker.links.own }
+    requires program { slice_get K.programs node.member.own ≡ Some node.member.program }
     requires size { node.member.n ≡ K.cell.n }
+    requires clean { K.OverClean → AreAlwaysClean S.is_clean }
     ensures end { let m = node.entry.member in
         IfOk result (λ f. IsEndOf S.is_clean m.program worker.entry.links.lines m.own m.n f) }
     ensures given { OnOk result (1 ≤ turns) }
@@ -256,6 +244,8 @@ fn work<'a, K: Naming, R: Wait + Clock, G: Gate, O: Opener<R>>(
     image: &'a Image,
     job: Job<'a, K>,
 ) -> Result<Finished<O::Store>, RunFault>
+    requires program { slice_get K.programs job.links.own ≡ Some (program_of image.now) }
+    requires clean { K.OverClean → AreAlwaysClean O.Store.is_clean }
     ensures end { let l = job.entry.links in
         IfOk result (λ f. IsEndOf O.Store.is_clean (program_of image.entry.now) l.lines l.own l.n f) }
     ensures own { IsOwnEnd cluster.now.plan.now job.entry.links.own result }
@@ -284,6 +274,8 @@ fn work_or_stop<'a, K: Naming, R: Wait + Clock, G: Gate, O: Opener<R>>(
     image: &'a Image,
     job: Job<'a, K>,
 ) -> Result<Finished<O::Store>, RunFault>
+    requires program { slice_get K.programs job.links.own ≡ Some (program_of image.now) }
+    requires clean { K.OverClean → AreAlwaysClean O.Store.is_clean }
     ensures end { let l = job.entry.links in
         IfOk result (λ f. IsEndOf O.Store.is_clean (program_of image.entry.now) l.lines l.own l.n f) }
     ensures own { IsOwnEnd cluster.now.plan.now job.entry.links.own result }
@@ -328,6 +320,8 @@ fn start<
     image: &'s Image,
     job: Job<'s, K>,
 ) -> Option<Handle<'s, O::Store>>
+    requires program { slice_get K.programs job.links.own ≡ Some (program_of image.now) }
+    requires clean { K.OverClean → AreAlwaysClean O.Store.is_clean }
     ensures plan { IfSome result (λ h. h.promise.plan.now ≡ cluster.entry.now.plan.now) }
     ensures image { IfSome result (λ h. h.promise.image.now ≡ image.entry.now) }
     ensures inboxes { IfSome result (λ h. h.promise.inboxes.now ≡ job.entry.links.lines) }
@@ -343,7 +337,13 @@ fn start<
         store: PhantomData,
     };
     scope
-        .spawn_with(end, move || work_or_stop(cluster, image, job))
+        .spawn_with(
+            end,
+            move ||
+                requires program { slice_get K.programs job.links.own ≡ Some (program_of image.now) }
+                requires clean { K.OverClean → AreAlwaysClean O.Store.is_clean }
+            { work_or_stop(cluster, image, job) },
+        )
         .ok()
 }
 
@@ -364,6 +364,8 @@ fn start_all<
 ) -> Option<Vec<Handle<'s, O::Store>>>
     requires few { K.cell.n ≤ MAX_PROCESSES }
     requires images { length cluster.now.plan.now.images.items ≡ K.cell.n }
+    requires programs { K.programs ≡ map program_of cluster.now.plan.now.images.items }
+    requires clean { K.OverClean → AreAlwaysClean O.Store.is_clean }
     requires wired { IsWired K.cell.n cluster.now.inboxes.now ends.items }
     requires passes { vec_len passes ≡ K.cell.n }
     requires none { vec_len handles ≡ 0 }
@@ -380,7 +382,14 @@ fn start_all<
             unreachable!()
         };
         let own = handles.len();
-        let links = Links::new(Pid::at(own), cluster.inboxes, puts, takes, cluster.bells);
+        let links = Links::new(
+            Pid::at(own),
+            cluster.inboxes,
+            puts,
+            takes,
+            cluster.bells,
+            cluster.received,
+        );
         let job = Job { links, pass };
         let image = &cluster.plan.images[own];
         let Some(handle) = start(scope, cluster, image, job) else {
@@ -410,6 +419,8 @@ fn run_scoped<
 )
     requires few { K.cell.n ≤ MAX_PROCESSES }
     requires images { length cluster.now.plan.now.images.items ≡ K.cell.n }
+    requires programs { K.programs ≡ map program_of cluster.now.plan.now.images.items }
+    requires clean { K.OverClean → AreAlwaysClean O.Store.is_clean }
     requires wired { IsWired K.cell.n cluster.now.inboxes.now ends.items }
     requires passes { vec_len passes ≡ K.cell.n }
     requires same { B.Becomes beside beside }
@@ -429,6 +440,8 @@ fn run_scoped<
         )
             requires few { K.cell.n ≤ MAX_PROCESSES }
             requires images { length cluster.now.plan.now.images.items ≡ K.cell.n }
+            requires programs { K.programs ≡ map program_of cluster.now.plan.now.images.items }
+            requires clean { K.OverClean → AreAlwaysClean O.Store.is_clean }
             requires wired { IsWired K.cell.n cluster.now.inboxes.now ends.items }
             requires passes { vec_len passes ≡ K.cell.n }
             requires same { B.Becomes beside beside }
@@ -454,123 +467,6 @@ fn run_scoped<
     )
 }
 
-// Whether the worker's turns were out.
-fn is_out(fault: RunFault) -> bool
-    ensures { IsTrue result ↔ IsOut fault }
-{
-    match fault {
-        RunFault::Turns(_) => true,
-        RunFault::GateShut(_)
-        | RunFault::Memory
-        | RunFault::Fault(_)
-        | RunFault::Load(_)
-        | RunFault::NoThread => false,
-    }
-}
-
-// The fault that is told, of those that workers ended with.
-fn fault_of<S: Stable>(results: &[Result<Finished<S>, RunFault>]) -> Option<RunFault>
-    ensures none { IfNone result (AreBelow IsWell (length results.now) results.now) }
-    ensures least { IfSome result (IsLeastFault results.now) }
-{
-    let mut last = None;
-    for i in 0..results.len() {
-        match &results[i] {
-            Ok(_) => {}
-            Err(fault) => {
-                if !is_out(*fault) {
-                    return Some(*fault);
-                }
-                last = last.or(Some(*fault));
-            }
-        }
-    }
-    last
-}
-
-// What all workers brought back.
-fn all_of<S: Stable>(
-    alloc: Global,
-    results: Vec<Result<Finished<S>, RunFault>>,
-) -> Result<Vec<Finished<S>>, RunFault>
-    ensures all { IfOk result (λ all. map Ok all.items ≡ results.items) }
-    ensures fault { IfErr result (λ f. IsLeastFault results.items f ⊎ (f ≡ Memory)) }
-{
-    if let Some(fault) = fault_of(&results) {
-        return Err(fault);
-    }
-    let Ok(mut all) = Vec::with_capacity(alloc, results.len()) else {
-        return Err(RunFault::Memory);
-    };
-    for result in results {
-        all.push_reserved(result?);
-    }
-    Ok(all)
-}
-
-// Each kind of what was brought back, by process.
-fn parted<S: Stable>(alloc: Global, all: Vec<Finished<S>>) -> Result<Parts<S>, AllocError>
-    ensures statuses { IfOk result (λ parts. parts.statuses.items ≡ map (λ f. f.status) all.items) }
-    ensures stores { IfOk result (λ parts. parts.stores.items ≡ map (λ f. f.store) all.items) }
-    ensures puts { IfOk result (λ parts. parts.puts.items ≡ map (λ f. f.ends.puts) all.items) }
-    ensures takes { IfOk result (λ parts. parts.takes.items ≡ map (λ f. f.ends.takes) all.items) }
-{
-    let mut statuses = Vec::with_capacity(alloc, all.len())?;
-    let mut stores = Vec::with_capacity(alloc, all.len())?;
-    let mut puts = Vec::with_capacity(alloc, all.len())?;
-    let mut takes = Vec::with_capacity(alloc, all.len())?;
-    let mut witnesses = Vec::with_capacity(alloc, all.len())?;
-    for one in all {
-        let Finished {
-            status,
-            store,
-            ends,
-            witness,
-        } = one;
-        statuses.push_reserved(status);
-        stores.push_reserved(store);
-        puts.push_reserved(ends.puts);
-        takes.push_reserved(ends.takes);
-        witnesses.push_reserved(witness);
-    }
-    Ok(Parts {
-        statuses,
-        stores,
-        puts,
-        takes,
-        witnesses,
-    })
-}
-
-// What workers brought back, where each ended well.
-fn gathered<K: Naming, R: Wait, G, O: Opener<R>>(
-    cluster: &Cluster<'_, K, R, G, O>,
-    results: Vec<Result<Finished<O::Store>, RunFault>>,
-) -> Result<Parts<O::Store>, RunFault>
-    requires images { length cluster.now.plan.now.images.items ≡ K.cell.n }
-    requires network { IsNetwork K.cell.n cluster.now.inboxes.now }
-    requires long { vec_len results ≡ K.cell.n }
-    requires each { AreEndsOf O.Store.is_clean cluster.now.plan.now.images.items cluster.now.inboxes.now K.cell.n results.items }
-    requires own { AreOwnEnds cluster.now.plan.now K.cell.n results.items }
-    requires some { 1 ≤ K.cell.n }
-    ensures passes { IfOk result (λ parts. ArePasses (length cluster.now.inboxes.now) cluster.now.inboxes.now
-        parts.puts.items parts.takes.items) }
-    ensures statuses { IfOk result (λ parts. length parts.statuses.items ≡ length cluster.now.plan.now.images.items) }
-    ensures stores { IfOk result (λ parts. length parts.stores.items ≡ length cluster.now.plan.now.images.items) }
-    ensures ended { IfOk result (λ parts. All IsEnd parts.statuses.items) }
-    ensures along { IfOk result (λ parts. AreAlong O.Store.is_clean cluster.now.plan.now.images.items
-        parts.statuses.items parts.stores.items) }
-    ensures given { OnOk result (IsGiven cluster.now.plan.now) }
-    ensures fault { IfErr result (λ f. IsLeastFault results.items f ⊎ (f ≡ Memory)) }
-    ensures own { IfErr result (IsFaultOf K.cell.n) }
-{
-    let all = all_of(cluster.alloc, results)?;
-    match parted(cluster.alloc, all) {
-        Ok(parts) => Ok(parts),
-        Err(_) => Err(RunFault::Memory),
-    }
-}
-
 // What all workers of a cluster brought back, where each ended well; and what was beside them.
 pub(crate) fn run_workers<
     K: Naming + Send + Sync,
@@ -586,6 +482,8 @@ pub(crate) fn run_workers<
 ) -> (Result<Parts<O::Store>, RunFault>, B)
     requires few { K.cell.n ≤ MAX_PROCESSES }
     requires images { length cluster.now.plan.now.images.items ≡ K.cell.n }
+    requires programs { K.programs ≡ map program_of cluster.now.plan.now.images.items }
+    requires clean { K.OverClean → AreAlwaysClean O.Store.is_clean }
     requires wired { IsWired K.cell.n cluster.now.inboxes.now ends.items }
     requires passes { vec_len passes ≡ K.cell.n }
     requires some { 1 ≤ K.cell.n }
@@ -641,6 +539,8 @@ fn close<K: Naming, R: Wait, G: Gate, O: Opener<R>>(
     requires ended { All IsEnd parts.statuses.items }
     requires along { AreAlong O.Store.is_clean cluster.now.plan.now.images.items parts.statuses.items parts.stores.items }
     ensures released { IfOk result (λ r. AreAllReleased r.0.front.vec r.0.released.items) }
+    ensures read { IfOk result (λ r. UnderLock K.cell.n (λ before after. IsReadFrom before.manager r.0 × (after ≡ before))) }
+    ensures made { K.OverClean → IfOk result (λ r. AreAllMade K.programs K.cell.n r.0.released.items) }
     ensures processes { IfOk result (λ r. length r.0.released.items ≡ length cluster.now.plan.now.images.items) }
     ensures statuses { IfOk result (λ r. length r.0.statuses.items ≡ length cluster.now.plan.now.images.items) }
     ensures stores { IfOk result (λ r. length r.1.items ≡ length cluster.now.plan.now.images.items) }
@@ -675,7 +575,10 @@ fn run_named<
     requires size { blank.n ≡ length plan.now.images.items }
     requires some { 1 ≤ length plan.now.images.items }
     requires few { length plan.now.images.items ≤ MAX_PROCESSES }
+    requires programs { K.programs ≡ map program_of plan.now.images.items }
+    requires clean { K.OverClean → AreAlwaysClean O.Store.is_clean }
     ensures released { IfOk result (λ r. AreAllReleased r.0.front.vec r.0.released.items) }
+    ensures made { K.OverClean → IfOk result (λ r. AreOutputsOf plan.now.images.items r.0.released.items) }
     ensures processes { IfOk result (λ r. length r.0.released.items ≡ length plan.now.images.items) }
     ensures statuses { IfOk result (λ r. length r.0.statuses.items ≡ length plan.now.images.items) }
     ensures stores { IfOk result (λ r. length r.1.items ≡ length plan.now.images.items) }
@@ -699,6 +602,7 @@ fn run_named<
         listeners,
         inboxes: &ground.inboxes,
         bells: &ground.bells,
+        received: &ground.received,
     };
     let (parts, _) = run_workers(&cluster, ends, passes, Alone);
     close(&cluster, parts?)
@@ -716,6 +620,8 @@ pub fn run_and_keep_stores<R: Threads + Wait + Clock + Sync, G: Gate + Sync, O: 
     requires some { 1 ≤ length config.now.images.items }
     requires few { length config.now.images.items ≤ MAX_PROCESSES }
     ensures released { IfOk result (λ r. AreAllReleased r.0.front.vec r.0.released.items) }
+    ensures made { ((store : O.Store) → IsTrue (O.Store.is_clean store))
+        → IfOk result (λ r. AreOutputsOf config.now.images.items r.0.released.items) }
     ensures processes { IfOk result (λ r. length r.0.released.items ≡ length config.now.images.items) }
     ensures statuses { IfOk result (λ r. length r.0.statuses.items ≡ length config.now.images.items) }
     ensures stores { IfOk result (λ r. length r.1.items ≡ length config.now.images.items) }
@@ -756,6 +662,8 @@ pub fn run_and_keep_witnesses<
     requires some { 1 ≤ length config.now.images.items }
     requires few { length config.now.images.items ≤ MAX_PROCESSES }
     ensures released { IfOk result (λ r. AreAllReleased r.0.front.vec r.0.released.items) }
+    ensures made { ((store : O.Store) → IsTrue (O.Store.is_clean store))
+        → IfOk result (λ r. AreOutputsOf config.now.images.items r.0.released.items) }
     ensures processes { IfOk result (λ r. length r.0.released.items ≡ length config.now.images.items) }
     ensures statuses { IfOk result (λ r. length r.0.statuses.items ≡ length config.now.images.items) }
     ensures ended { IfOk result (λ r. All IsEnd r.0.statuses.items) }
@@ -794,6 +702,8 @@ pub fn run_and_record<R: Threads + Wait + Clock + Sync, G: Gate + Sync, O: Opene
     requires some { 1 ≤ length config.now.images.items }
     requires few { length config.now.images.items ≤ MAX_PROCESSES }
     ensures released { IfOk result (λ report. AreAllReleased report.front.vec report.released.items) }
+    ensures made { ((store : O.Store) → IsTrue (O.Store.is_clean store))
+        → IfOk result (λ report. AreOutputsOf config.now.images.items report.released.items) }
     ensures processes { IfOk result (λ report. length report.released.items ≡ length config.now.images.items) }
     ensures statuses { IfOk result (λ report. length report.statuses.items ≡ length config.now.images.items) }
     ensures ended { IfOk result (λ report. All IsEnd report.statuses.items) }
@@ -839,6 +749,8 @@ pub fn run_cluster<R: Threads + Wait + Clock + Sync, G: Gate + Sync, O: Opener<R
     requires some { 1 ≤ length config.now.images.items }
     requires few { length config.now.images.items ≤ MAX_PROCESSES }
     ensures released { IfOk result (λ report. AreAllReleased report.front.vec report.released.items) }
+    ensures made { ((store : O.Store) → IsTrue (O.Store.is_clean store))
+        → IfOk result (λ report. AreOutputsOf config.now.images.items report.released.items) }
     ensures processes { IfOk result (λ report. length report.released.items ≡ length config.now.images.items) }
     ensures statuses { IfOk result (λ report. length report.statuses.items ≡ length config.now.images.items) }
     ensures ended { IfOk result (λ report. All IsEnd report.statuses.items) }

@@ -17,7 +17,11 @@ pub(crate) struct Desk<'a, K: Naming, R: Wait> {
 }
 
 impl<'a, K: Naming, R: Wait> Office for Desk<'a, K, R> {
+    ghost use Rattle.om_board.specs.Made.{IsMade};
+
     ghost state = { λ d. d.board.now.manager };
+
+    ghost Takes = { λ p seq output. K.OverClean → IsMade K.programs K.cell.n p seq output };
 
     fn manager(&self) -> &Manager {
         self.board.manager()

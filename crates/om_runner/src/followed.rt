@@ -1,15 +1,18 @@
 //! A cluster whose outputs are told as they are released.
 
-ghost use Rattle.std.specs.Prelude.{◌≡◌, ◌≢◌, ◌≤◌, [], All, IfErr, IfOk, IsTrue, List, length};
+ghost use Rattle.std.specs.Prelude.{◌≡◌, ◌≢◌, ◌≤◌, [], All, IfErr, IfOk, IsTrue, List, length, map};
+ghost use Rattle.om_board.specs.Made.{AreAllMade};
 ghost use Rattle.om_board.specs.Released.{AreAllReleased};
 ghost use Rattle.om_interval.specs.declared.pid.TheConstants.{MAX_PROCESSES};
-ghost use Rattle.om_runner.specs.Reports.{AreAlong, AreStatusesAlong, IsEnd};
-ghost use Rattle.om_runner.specs.Telling.{AreInOrder, TellsAll, Told};
+ghost use Rattle.om_process.specs.Images.{program_of};
+ghost use Rattle.om_runner.specs.Reports.{AreAlong, AreOutputsOf, AreStatusesAlong, IsEnd};
+ghost use Rattle.om_runner.specs.Telling.{AreInOrder, AreToldMade, TellsAll, Told};
 ghost use Rattle.om_runner.specs.declared.follower.FollowFault.TheVariants.{Unwanted};
 ghost use Rattle.om_runner.specs.steps.Following.{IsFollowed};
+ghost use Rattle.om_runner.specs.steps.Nodes.{AreAlwaysClean};
 ghost use Rattle.om_runner.specs.steps.Settling.{ArePasses};
 
-use crate::cluster::{Parts, run_workers, settled};
+use crate::cluster::{run_workers, settled};
 use crate::config::Config;
 use crate::diary::Listeners;
 use crate::fault::RunFault;
@@ -18,6 +21,7 @@ use crate::following::Following;
 use crate::ground::{Beside, Cluster, ground_of, stop_all};
 use crate::herald::Herald;
 use crate::opener::{Gate, Opener};
+use crate::results::Parts;
 use om_board::{Blank, Naming, Report};
 use om_interval::MAX_PROCESSES;
 use std::alloc::Global;
@@ -54,6 +58,7 @@ fn close<K: Naming, R: Wait, G, O: Opener<R>, F: Follower>(
     requires ended { IfOk parts (λ p. All IsEnd p.statuses.items) }
     requires along { IfOk parts (λ p. AreAlong O.Store.is_clean cluster.now.plan.now.images.items p.statuses.items p.stores.items) }
     ensures released { IfOk result.0 (λ r. AreAllReleased r.0.front.vec r.0.released.items) }
+    ensures made { K.OverClean → IfOk result.0 (λ r. AreAllMade K.programs K.cell.n r.0.released.items) }
     ensures processes { IfOk result.0 (λ r. length r.0.released.items ≡ length cluster.now.plan.now.images.items) }
     ensures statuses { IfOk result.0 (λ r. length r.0.statuses.items ≡ length cluster.now.plan.now.images.items) }
     ensures stores { IfOk result.0 (λ r. length r.1.items ≡ length cluster.now.plan.now.images.items) }
@@ -62,7 +67,8 @@ fn close<K: Naming, R: Wait, G, O: Opener<R>, F: Follower>(
     ensures told { (start : F) → IsFollowed F.Tells start following.entry.lanes.items following.entry.fault following.entry.follower
         → IfOk result.0 (λ r. (told : List Told) × F.Tells start result.1 told × TellsAll told r.0.released.items) }
     ensures partly { (start : F) → IsFollowed F.Tells start following.entry.lanes.items following.entry.fault following.entry.follower
-        → IfErr result.0 (λ fault. fault ≢ Unwanted → (told : List Told) × F.Tells start result.1 told × AreInOrder told) }
+        → IfErr result.0 (λ fault. fault ≢ Unwanted → (told : List Told) × F.Tells start result.1 told × AreInOrder told
+        × (K.OverClean → AreToldMade K.programs K.cell.n told)) }
 {
     let following = following.look(cluster.rt, cluster.alloc, cluster.shared);
     let parts = match parts {
@@ -100,15 +106,19 @@ fn run_named<
     requires size { blank.n ≡ length plan.now.images.items }
     requires some { 1 ≤ length plan.now.images.items }
     requires few { length plan.now.images.items ≤ MAX_PROCESSES }
+    requires programs { K.programs ≡ map program_of plan.now.images.items }
+    requires clean { K.OverClean → AreAlwaysClean O.Store.is_clean }
     requires start { F.Tells follower follower [] }
     ensures released { IfOk result.0 (λ r. AreAllReleased r.0.front.vec r.0.released.items) }
+    ensures made { K.OverClean → IfOk result.0 (λ r. AreOutputsOf plan.now.images.items r.0.released.items) }
     ensures processes { IfOk result.0 (λ r. length r.0.released.items ≡ length plan.now.images.items) }
     ensures statuses { IfOk result.0 (λ r. length r.0.statuses.items ≡ length plan.now.images.items) }
     ensures stores { IfOk result.0 (λ r. length r.1.items ≡ length plan.now.images.items) }
     ensures ended { IfOk result.0 (λ r. All IsEnd r.0.statuses.items) }
     ensures along { IfOk result.0 (λ r. AreAlong O.Store.is_clean plan.now.images.items r.0.statuses.items r.1.items) }
     ensures told { IfOk result.0 (λ r. (told : List Told) × F.Tells follower result.1 told × TellsAll told r.0.released.items) }
-    ensures partly { IfErr result.0 (λ fault. fault ≢ Unwanted → (told : List Told) × F.Tells follower result.1 told × AreInOrder told) }
+    ensures partly { IfErr result.0 (λ fault. fault ≢ Unwanted → (told : List Told) × F.Tells follower result.1 told × AreInOrder told
+        × (K.OverClean → AreToldMade (map program_of plan.now.images.items) (length plan.now.images.items) told)) }
 {
     let Ok((ground, ends, passes)) = ground_of::<K>(alloc, plan.images.len(), blank) else {
         return (Err(FollowFault::Run(RunFault::Memory)), follower);
@@ -130,6 +140,7 @@ fn run_named<
         listeners: Listeners::followed(&herald),
         inboxes: &ground.inboxes,
         bells: &ground.bells,
+        received: &ground.received,
     };
     let (parts, following) = run_workers(&cluster, ends, passes, following);
     close(&cluster, parts, following)
@@ -159,13 +170,17 @@ pub fn run_and_follow<
     requires few { length config.now.images.items ≤ MAX_PROCESSES }
     requires start { F.Tells follower follower [] }
     ensures released { IfOk result.0 (λ report. AreAllReleased report.front.vec report.released.items) }
+    ensures made { ((store : O.Store) → IsTrue (O.Store.is_clean store))
+        → IfOk result.0 (λ report. AreOutputsOf config.now.images.items report.released.items) }
     ensures processes { IfOk result.0 (λ report. length report.released.items ≡ length config.now.images.items) }
     ensures statuses { IfOk result.0 (λ report. length report.statuses.items ≡ length config.now.images.items) }
     ensures ended { IfOk result.0 (λ report. All IsEnd report.statuses.items) }
     ensures along { ((store : O.Store) → IsTrue (O.Store.is_clean store))
         → IfOk result.0 (λ report. AreStatusesAlong config.now.images.items report.statuses.items) }
     ensures told { IfOk result.0 (λ report. (told : List Told) × F.Tells follower result.1 told × TellsAll told report.released.items) }
-    ensures partly { IfErr result.0 (λ fault. fault ≢ Unwanted → (told : List Told) × F.Tells follower result.1 told × AreInOrder told) }
+    ensures partly { IfErr result.0 (λ fault. fault ≢ Unwanted → (told : List Told) × F.Tells follower result.1 told × AreInOrder told
+        × (((store : O.Store) → IsTrue (O.Store.is_clean store))
+        → AreToldMade (map program_of config.now.images.items) (length config.now.images.items) told)) }
 {
     let Ok(blank) = Blank::new(alloc, config.images.len()) else {
         return (Err(FollowFault::Run(RunFault::Memory)), follower);

@@ -1,12 +1,14 @@
 //! A follower while the cluster runs.
 
 ghost use Rattle.std.specs.Prelude.{◌≡◌, ◌≢◌, ◌≤◌, ℕ, List, [], None, Some, IfErr, IfOk, IsTrue, map, slice_get, vec_len};
+ghost use Rattle.om_board.specs.Made.{AreAllMade, AreMade, HoldsMade};
 ghost use Rattle.om_board.specs.Released.{AreAllReleased, AreReleased};
 ghost use Rattle.om_interval.specs.declared.pid.TheConstants.{MAX_PROCESSES};
 ghost use Rattle.om_manager.specs.State.{size_of};
-ghost use Rattle.om_runner.specs.Telling.{AreInOrder, TellsAll, Told};
+ghost use Rattle.om_process.specs.Process.{Program};
+ghost use Rattle.om_runner.specs.Telling.{AreInOrder, AreToldMade, TellsAll, Told};
 ghost use Rattle.om_runner.specs.declared.follower.FollowFault.TheVariants.{Unwanted};
-ghost use Rattle.om_runner.specs.steps.Following.{AreEmpty, AreKept, AreTold, HasTold, HaveTold, IsFollowed, StayKept, told_in};
+ghost use Rattle.om_runner.specs.steps.Following.{AreEmpty, AreKept, AreLanesMade, AreTold, HasTold, HaveTold, IsFollowed, StayKept, told_in};
 
 use crate::fault::RunFault;
 use crate::follower::{FollowFault, Follower};
@@ -35,6 +37,7 @@ pub(crate) struct Following<'a, K: Naming, F: Follower> {
     ghost few: { K.cell.n ≤ MAX_PROCESSES },
     ghost kept: { AreKept front.vec lanes.items },
     ghost stay: { StayKept pass lanes.items },
+    ghost made: { K.OverClean → AreLanesMade K.programs K.cell.n lanes.items },
 }
 
 // A lane without an output.
@@ -64,6 +67,8 @@ fn add_new(alloc: Global, lane: &mut Lane, released: &[Output]) -> Result<(), Al
     ensures same { (p : ℕ) → told_in p (Some lane.new) ≡ told_in p (Some lane.old) }
     ensures kept { (limit : ℕ) → AreReleased limit lane.old.outputs.items → AreReleased limit released.now
         → AreReleased limit lane.new.outputs.items }
+    ensures made { (programs : List Program) (n p : ℕ) → AreMade programs n p lane.old.outputs.items → AreMade programs n p released.now
+        → AreMade programs n p lane.new.outputs.items }
 {
     for i in lane.outputs.len()..released.len() {
         lane.outputs.push(copy_of(alloc, &released[i])?)?;
@@ -77,6 +82,8 @@ fn add_all(alloc: Global, lanes: &mut Vec<Lane>, manager: &Manager) -> Result<()
     ensures many { vec_len lanes.new ≡ vec_len lanes.old }
     ensures same { (p : ℕ) → told_in p (slice_get lanes.new.items p) ≡ told_in p (slice_get lanes.old.items p) }
     ensures kept { AreKept manager.now.recovery lanes.old.items → AreKept manager.now.recovery lanes.new.items }
+    ensures made { (programs : List Program) (n : ℕ) → HoldsMade programs n manager.now → AreLanesMade programs n lanes.old.items
+        → AreLanesMade programs n lanes.new.items }
 {
     for p in 0..manager.recovery().n() {
         add_new(alloc, &mut lanes[p], manager.released(Pid::at(p)))?;
@@ -103,6 +110,7 @@ fn tell_below<F: Follower>(follower: &mut F, lane: &mut Lane, pid: Pid, below: u
 // Tells of the outputs of a process below a number, if there is such a process.
 fn tell_release<F: Follower>(follower: &mut F, lanes: &mut Vec<Lane>, release: Release) -> bool
     ensures many { vec_len lanes.new ≡ vec_len lanes.old }
+    ensures outputs { map (λ lane. lane.outputs) lanes.new.items ≡ map (λ lane. lane.outputs) lanes.old.items }
     ensures kept { (vec : List ℕ) → AreKept vec lanes.old.items → AreKept vec lanes.new.items }
     ensures told { IsTrue result → HaveTold F.Tells lanes.old.items follower.old lanes.new.items follower.new }
 {
@@ -117,6 +125,7 @@ fn tell_release<F: Follower>(follower: &mut F, lanes: &mut Vec<Lane>, release: R
 // Tells of what was released, in order.
 fn tell_in_order<F: Follower>(follower: &mut F, lanes: &mut Vec<Lane>, releases: &[Release]) -> bool
     ensures many { vec_len lanes.new ≡ vec_len lanes.old }
+    ensures outputs { map (λ lane. lane.outputs) lanes.new.items ≡ map (λ lane. lane.outputs) lanes.old.items }
     ensures kept { (vec : List ℕ) → AreKept vec lanes.old.items → AreKept vec lanes.new.items }
     ensures told { IsTrue result → HaveTold F.Tells lanes.old.items follower.old lanes.new.items follower.new }
 {
@@ -132,6 +141,7 @@ fn tell_in_order<F: Follower>(follower: &mut F, lanes: &mut Vec<Lane>, releases:
 fn tell_rest<F: Follower>(follower: &mut F, lanes: &mut Vec<Lane>) -> bool
     requires { vec_len lanes.old ≤ MAX_PROCESSES }
     ensures many { vec_len lanes.new ≡ vec_len lanes.old }
+    ensures outputs { map (λ lane. lane.outputs) lanes.new.items ≡ map (λ lane. lane.outputs) lanes.old.items }
     ensures kept { (vec : List ℕ) → AreKept vec lanes.old.items → AreKept vec lanes.new.items }
     ensures told { IsTrue result → HaveTold F.Tells lanes.old.items follower.old lanes.new.items follower.new }
     ensures all { IsTrue result → AreTold lanes.new.items }
@@ -148,6 +158,7 @@ fn tell_rest<F: Follower>(follower: &mut F, lanes: &mut Vec<Lane>) -> bool
 fn tell_all<F: Follower>(follower: &mut F, lanes: &mut Vec<Lane>, releases: &[Release]) -> bool
     requires { vec_len lanes.old ≤ MAX_PROCESSES }
     ensures many { vec_len lanes.new ≡ vec_len lanes.old }
+    ensures outputs { map (λ lane. lane.outputs) lanes.new.items ≡ map (λ lane. lane.outputs) lanes.old.items }
     ensures kept { (vec : List ℕ) → AreKept vec lanes.old.items → AreKept vec lanes.new.items }
     ensures told { IsTrue result → HaveTold F.Tells lanes.old.items follower.old lanes.new.items follower.new }
     ensures all { IsTrue result → AreTold lanes.new.items }
@@ -318,7 +329,8 @@ impl<'a, K: Naming, F: Follower> Following<'a, K, F> {
     pub(crate) fn into_fault(self, fault: RunFault) -> (FollowFault, F)
         ensures follower { result.1 ≡ self.entry.follower }
         ensures partly { (start : F) → IsFollowed F.Tells start self.entry.lanes.items self.entry.fault self.entry.follower
-            → result.0 ≢ Unwanted → (told : List Told) × F.Tells start result.1 told × AreInOrder told }
+            → result.0 ≢ Unwanted → (told : List Told) × F.Tells start result.1 told × AreInOrder told
+            × (K.OverClean → AreToldMade K.programs K.cell.n told) }
     {
         let Following {
             follower,
@@ -336,12 +348,14 @@ impl<'a, K: Naming, F: Follower> Following<'a, K, F> {
     ) -> (Result<Report, FollowFault>, F)
         requires { self.fault ≡ None → AreTold self.lanes.items }
         ensures released { IfOk result.0 (λ r. AreAllReleased r.front.vec r.released.items) }
+        ensures made { K.OverClean → IfOk result.0 (λ r. AreAllMade K.programs K.cell.n r.released.items) }
         ensures processes { IfOk result.0 (λ r. vec_len r.released ≡ K.cell.n) }
         ensures statuses { IfOk result.0 (λ r. r.statuses ≡ statuses) }
         ensures told { (start : F) → IsFollowed F.Tells start self.entry.lanes.items self.entry.fault self.entry.follower
             → IfOk result.0 (λ r. (told : List Told) × F.Tells start result.1 told × TellsAll told r.released.items) }
         ensures partly { (start : F) → IsFollowed F.Tells start self.entry.lanes.items self.entry.fault self.entry.follower
-            → IfErr result.0 (λ fault. fault ≢ Unwanted → (told : List Told) × F.Tells start result.1 told × AreInOrder told) }
+            → IfErr result.0 (λ fault. fault ≢ Unwanted → (told : List Told) × F.Tells start result.1 told × AreInOrder told
+            × (K.OverClean → AreToldMade K.programs K.cell.n told)) }
     {
         let Following {
             follower,

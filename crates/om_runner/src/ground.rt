@@ -8,6 +8,7 @@ use crate::bell::{Bell, ring_all};
 use crate::config::Config;
 use crate::diary::Listeners;
 use crate::network::{Ends, Network, connected};
+use crate::received::Received;
 use om_board::{Blank, Inbox, Naming, Pass, Shared};
 use om_interval::MAX_PROCESSES;
 use std::alloc::{AllocError, Global};
@@ -33,6 +34,8 @@ pub(crate) struct Cluster<'s, K: Naming, R, G, O> {
     pub(crate) inboxes: &'s [Vec<Inbox>],
     // By process, what wakes its worker.
     pub(crate) bells: &'s [Bell],
+    // By process, what it has received.
+    pub(crate) received: &'s [Received],
 }
 
 // What the threads of a cluster share, before there are any.
@@ -42,6 +45,7 @@ pub(crate) struct Ground<K: Naming> {
     // By sender, and there by receiver.
     pub(crate) inboxes: Vec<Vec<Inbox>>,
     pub(crate) bells: Vec<Bell>,
+    pub(crate) received: Vec<Received>,
     pub(crate) stop: AtomicBool,
 }
 
@@ -63,6 +67,7 @@ pub(crate) fn ground_of<K: Naming>(
         shared,
         inboxes,
         bells: bells_of(alloc, n)?,
+        received: received_of(alloc, n)?,
         stop: AtomicBool::new(false),
     };
     Ok((ground, ends, passes))
@@ -75,6 +80,15 @@ fn bells_of(alloc: Global, n: usize) -> Result<Vec<Bell>, AllocError> {
         bells.push(Bell::new())?;
     }
     Ok(bells)
+}
+
+// What each of so many processes has received at its start.
+fn received_of(alloc: Global, n: usize) -> Result<Vec<Received>, AllocError> {
+    let mut received = Vec::with_capacity(alloc, n)?;
+    for _ in 0..n {
+        received.push(Received::new(alloc, n)?)?;
+    }
+    Ok(received)
 }
 
 // Stops all workers.

@@ -9,10 +9,11 @@
 //! - what a run is given and what it answers: `config`, `opener` (who makes the stores), `fault`, `witness` (what each process
 //!   did)
 //! - `cluster`: the threads, from the first store to the report; `network` (the inboxes of all), `settle` (what is left in
-//!   them)
+//!   them), `results` (what the workers bring back)
 //! - `worker`: what a thread does, turn by turn; `idle`, `patience` and `bell` (how it yields, sleeps and is woken),
 //!   `worker_fault` (why it stops)
-//! - what a worker has: `node` (a process over its store), `links` (its ends of inboxes), `manager_link` and `desk` (the manager)
+//! - what a worker has: `node` (a process over its store), `links` (its ends of inboxes), `received` (what a resend may leave
+//!   out), `manager_link` and `desk` (the manager)
 //! - `ground`: what all threads have in common
 //! - `recorder` and `diary`: what the threads did, in one order
 //! - `watch`, with `sight`, `progress` and `watched`: what the processes do, for whoever looks while they run
@@ -39,7 +40,9 @@ mod node;
 mod opener;
 mod patience;
 mod progress;
+mod received;
 mod recorder;
+mod results;
 mod settle;
 mod sight;
 mod watch;

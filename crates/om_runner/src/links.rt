@@ -8,6 +8,7 @@ ghost use Rattle.om_runner.specs.steps.Wiring.{HasEnds};
 
 use crate::bell::{Bell, Look, ring_all};
 use crate::network::Ends;
+use crate::received::Received;
 use om_board::{CAPACITY, Inbox, PutAnswer, PutPass, TakePass};
 use om_format::Message;
 use om_interval::{MAX_PROCESSES, Pid};
@@ -39,6 +40,8 @@ pub(crate) struct Links<'a> {
     n: usize,
     // By process, what wakes its worker.
     bells: &'a [Bell],
+    // By process, what it has received.
+    received: &'a [Received],
     // How many messages the process has put, and taken.
     put: u64,
     taken: u64,
@@ -58,11 +61,16 @@ impl<'a> Model for Links<'a> {
     ghost invariant = { λ l. AreLinks (record { own = l.own; n = l.n; lines = l.inboxes.now }) l.puts.items l.takes.items l.turn };
 }
 
-// Where nothing is left to put, all is to be put from the first on.
-fn from_the_first(next: &mut [u32; MAX_PROCESSES], left: &[bool; MAX_PROCESSES]) {
-    for to in 0..MAX_PROCESSES {
+// Where nothing is left to put, all is to be put from the first on that its receiver lacks of this sender.
+fn from_the_first_lacked(
+    next: &mut [u32; MAX_PROCESSES],
+    left: &[bool; MAX_PROCESSES],
+    received: &[Received],
+    from: Pid,
+) {
+    for (to, receiver) in received.iter().enumerate().take(MAX_PROCESSES) {
         if !left[to] {
-            next[to] = 0;
+            next[to] = next[to].min(receiver.from(from));
         }
     }
 }
@@ -74,6 +82,7 @@ impl<'a> Links<'a> {
         puts: Vec<PutPass>,
         takes: Vec<TakePass>,
         bells: &'a [Bell],
+        received: &'a [Received],
     ) -> Links<'a>
         requires own { own < length inboxes.now }
         requires few { length inboxes.now ≤ MAX_PROCESSES }
@@ -96,6 +105,7 @@ impl<'a> Links<'a> {
             turn: 0,
             n,
             bells,
+            received,
             put: 0,
             taken: 0,
             left: [false; MAX_PROCESSES],
@@ -183,11 +193,27 @@ impl<'a> Links<'a> {
         self.next = [0; MAX_PROCESSES];
     }
 
-    // Has the messages that are kept put once more, to each process to which all of them were put.
+    // Has the messages that are kept put once more, to each process to which all of them were put: from the first on that it has not
+    // received, as it stands. The others it would refuse as received before; and where it goes back, all that is kept is put once more
+    // after that round.
     pub(crate) fn resend_put(&mut self)
         ensures { self.new ≡ self.old }
     {
-        from_the_first(&mut self.next, &self.left);
+        from_the_first_lacked(&mut self.next, &self.left, self.received, self.own);
+    }
+
+    // Tells the sender of a message, which the process has received, that it did.
+    pub(crate) fn tell_received(&self, message: &Message) {
+        if let Some(received) = self.received.get(self.own.index()) {
+            received.tell(message.from, message.ssn.saturating_add(1));
+        }
+    }
+
+    // Tells all senders how much the process has received where it stands.
+    pub(crate) fn tell_all_received(&self, core: &ProcCore) {
+        if let Some(received) = self.received.get(self.own.index()) {
+            received.tell_all(core.got());
+        }
     }
 
     // Puts the messages that are kept and not put yet, as far as there is room for them.

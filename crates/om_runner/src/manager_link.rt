@@ -1,8 +1,9 @@
 //! What a worker has to do with the manager.
 
-ghost use Rattle.std.specs.Prelude.{◌≡◌, ◌<◌, ◌↔◌, [], Any, IfNone, IfOk, IfSome, IsTrue, OnOk, false, is_some, length};
+ghost use Rattle.std.specs.Prelude.{◌≡◌, ◌<◌, ◌↔◌, [], Any, IfNone, IfOk, IfSome, IsTrue, OnOk, Some, false, is_some, length, slice_get};
 ghost use Rattle.om_board.specs.Boards.{IsBoard};
 ghost use Rattle.om_member.specs.Handed.{outputs_from};
+ghost use Rattle.om_runner.specs.steps.Nodes.{AreAlwaysClean};
 ghost use Rattle.om_runner.specs.steps.Acts.{AreLimits, HasDeclared, HasHandedOver, HasJoined, HasMet, HasOffered, HasPruned, HasRefused, HasWaited, HasWithdrawn, IsStanding, IsVerdictOf, UnderLock};
 
 use crate::desk::Desk;
@@ -113,7 +114,10 @@ impl<'a, K: Naming> ManagerLink<'a, K> {
         desk: &mut Desk<'_, K, R>,
         node: &mut Node<'_, S>,
     ) -> Result<(), WorkerFault>
-        requires { node.old.member.own ≡ self.old.pid }
+        requires own { node.old.member.own ≡ self.old.pid }
+        requires program { slice_get K.programs node.old.member.own ≡ Some node.old.member.program }
+        requires size { node.old.member.n ≡ K.cell.n }
+        requires clean { K.OverClean → AreAlwaysClean S.is_clean }
         ensures pid { self.new.pid ≡ self.old.pid }
         ensures round { self.new.round ≡ self.old.round }
         ensures member { node.new.member ≡ node.old.member }
@@ -173,7 +177,10 @@ impl<'a, K: Naming> ManagerLink<'a, K> {
         diary: &mut Diary<'_>,
         pass: Pass<K>,
     ) -> Result<(Standing, Option<Limits>, Pass<K>), WorkerFault>
-        requires { node.old.member.own ≡ self.old.pid }
+        requires own { node.old.member.own ≡ self.old.pid }
+        requires program { slice_get K.programs node.old.member.own ≡ Some node.old.member.program }
+        requires size { node.old.member.n ≡ K.cell.n }
+        requires clean { K.OverClean → AreAlwaysClean S.is_clean }
         ensures pid { self.new.pid ≡ self.old.pid }
         ensures round { self.new.round ≡ self.old.round }
         ensures member { node.new.member ≡ node.old.member }
@@ -208,7 +215,10 @@ impl<'a, K: Naming> ManagerLink<'a, K> {
         diary: &mut Diary<'_>,
         pass: Pass<K>,
     ) -> Result<(bool, Pass<K>), WorkerFault>
-        requires { node.old.member.own ≡ self.old.pid }
+        requires own { node.old.member.own ≡ self.old.pid }
+        requires program { slice_get K.programs node.old.member.own ≡ Some node.old.member.program }
+        requires size { node.old.member.n ≡ K.cell.n }
+        requires clean { K.OverClean → AreAlwaysClean S.is_clean }
         ensures pid { self.new.pid ≡ self.old.pid }
         ensures round { self.new.round ≡ self.old.round }
         ensures member { node.new.member ≡ node.old.member }

@@ -9,6 +9,7 @@ ghost use Rattle.om_process.specs.Core.{move_of, size_of, status_of, with_pendin
 ghost use Rattle.om_process.specs.Images.{program_of};
 ghost use Rattle.om_process.specs.Stores.{flushed};
 ghost use Rattle.om_runner.specs.Reports.{IsEnd, IsStatusAlong, nothing};
+ghost use Rattle.om_runner.specs.steps.Nodes.{TakesFrom};
 
 use crate::worker_fault::WorkerFault;
 use om_format::Message;
@@ -184,7 +185,8 @@ impl<'a, S: Stable> Node<'a, S> {
         office: &mut O,
         alloc: Global,
     ) -> Result<(), OutputError>
-        requires { self.now.member.own < managers.size_of (O.state office.old) }
+        requires known { self.now.member.own < managers.size_of (O.state office.old) }
+        requires taken { TakesFrom O.Takes S.is_clean self.now.member }
         ensures keeps { Keeps (O.state office.old) (O.state office.new) }
         ensures handed { let p = self.now.member.own in AreHandedUpTo (O.state office.old) self.now.core.round p
             (outputs_from self.now.core (length (managers.held_by (O.state office.old) p))) result (O.state office.new) }

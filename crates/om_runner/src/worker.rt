@@ -1,8 +1,9 @@
 //! What the thread of a process does.
 
-ghost use Rattle.std.specs.Prelude.{◌≡◌, ◌<◌, ◌+◌, ◌⊎◌, ◌↔◌, Contains, IfOk, IfSome, IsTrue, Ok, OnOk, length};
+ghost use Rattle.std.specs.Prelude.{◌≡◌, ◌<◌, ◌+◌, ◌⊎◌, ◌↔◌, Contains, IfOk, IfSome, IsTrue, Ok, OnOk, Some, length, slice_get};
 ghost use Rattle.om_process.specs.Stores.{flushed};
 ghost use Rattle.om_runner.specs.steps.Acts.{HasDeclared, HasJoined, UnderLock};
+ghost use Rattle.om_runner.specs.steps.Nodes.{AreAlwaysClean};
 ghost use Rattle.om_runner.specs.steps.Places.{member_of};
 ghost use Rattle.om_runner.specs.steps.Sights.{doing_at};
 ghost use Rattle.om_runner.specs.steps.Turning.{HasNothingToSay, HasReported, HasRested, IsTurnOf, pause_turns, place_after};
@@ -262,7 +263,9 @@ impl<'a, K: Naming> Worker<'a, K> {
         pass: Pass<K>,
     ) -> Result<(Place<'a, S>, Pass<K>), WorkerFault>
         requires own { (member_of place).own ≡ self.old.links.own }
+        requires program { slice_get K.programs (member_of place).own ≡ Some (member_of place).program }
         requires size { (member_of place).n ≡ K.cell.n }
+        requires clean { K.OverClean → AreAlwaysClean S.is_clean }
         ensures same { self.new.links ≡ self.old.links }
         ensures place { IfOk result (λ r. member_of r.0 ≡ member_of place.entry) }
         ensures turned { IfOk result (λ r. IsTurnOf K.cell.n self.old.manager_link.round place.entry r.0) }
@@ -290,7 +293,9 @@ impl<'a, K: Naming> Worker<'a, K> {
         pass: Pass<K>,
     ) -> Result<(Place<'a, S>, Pass<K>), WorkerFault>
         requires own { (member_of place).own ≡ self.old.links.own }
+        requires program { slice_get K.programs (member_of place).own ≡ Some (member_of place).program }
         requires size { (member_of place).n ≡ K.cell.n }
+        requires clean { K.OverClean → AreAlwaysClean S.is_clean }
         ensures same { self.new.links ≡ self.old.links }
         ensures place { IfOk result (λ r. member_of r.0 ≡ member_of place.entry) }
     {
@@ -335,7 +340,9 @@ impl<'a, K: Naming> Worker<'a, K> {
         pass: Pass<K>,
     ) -> Result<(Place<'a, S>, Pass<K>), WorkerFault>
         requires own { node.member.own ≡ self.old.links.own }
+        requires program { slice_get K.programs node.member.own ≡ Some node.member.program }
         requires size { node.member.n ≡ K.cell.n }
+        requires clean { K.OverClean → AreAlwaysClean S.is_clean }
         ensures same { self.new.links ≡ self.old.links }
         ensures place { IfOk result (λ r. member_of r.0 ≡ node.entry.member) }
     {
@@ -360,7 +367,9 @@ impl<'a, K: Naming> Worker<'a, K> {
         pass: Pass<K>,
     ) -> Result<(Step, Pass<K>), WorkerFault>
         requires own { node.old.member.own ≡ self.old.links.own }
+        requires program { slice_get K.programs node.old.member.own ≡ Some node.old.member.program }
         requires size { node.old.member.n ≡ K.cell.n }
+        requires clean { K.OverClean → AreAlwaysClean S.is_clean }
         ensures same { self.new.links ≡ self.old.links }
         ensures member { node.new.member ≡ node.old.member }
     {
@@ -416,7 +425,9 @@ impl<'a, K: Naming> Worker<'a, K> {
         pass: Pass<K>,
     ) -> Result<(Standing, Pass<K>), WorkerFault>
         requires own { node.old.member.own ≡ self.old.links.own }
+        requires program { slice_get K.programs node.old.member.own ≡ Some node.old.member.program }
         requires size { node.old.member.n ≡ K.cell.n }
+        requires clean { K.OverClean → AreAlwaysClean S.is_clean }
         ensures same { self.new.links ≡ self.old.links }
         ensures member { node.new.member ≡ node.old.member }
         ensures reported { IfOk result (λ r. HasNothingToSay self.old.manager_link.handed status node.old.core r.0 node.new.core
@@ -484,6 +495,7 @@ impl<'a, K: Naming> Worker<'a, K> {
         match answer {
             Accept::Taken(x) => {
                 self.past.receive(message.from)?;
+                self.links.tell_received(message);
                 self.change();
                 self.after_receipt(alloc, node, x)
             }
@@ -611,6 +623,9 @@ impl<'a, K: Naming> Worker<'a, K> {
         pass: Pass<K>,
     ) -> Result<(Place<'a, S>, Pass<K>), WorkerFault>
         requires own { node.member.own ≡ self.old.links.own }
+        requires program { slice_get K.programs node.member.own ≡ Some node.member.program }
+        requires size { node.member.n ≡ K.cell.n }
+        requires clean { K.OverClean → AreAlwaysClean S.is_clean }
         ensures same { self.new.links ≡ self.old.links }
         ensures place { IfOk result (λ r. member_of r.0 ≡ node.entry.member) }
         ensures turned { IfOk result (λ r. IsTurnOf K.cell.n self.old.manager_link.round (Place.Called node.entry) r.0) }
@@ -633,7 +648,10 @@ impl<'a, K: Naming> Worker<'a, K> {
         node: &mut Node<'a, S>,
         pass: Pass<K>,
     ) -> Result<Pass<K>, WorkerFault>
-        requires { node.old.member.own ≡ self.old.links.own }
+        requires own { node.old.member.own ≡ self.old.links.own }
+        requires program { slice_get K.programs node.old.member.own ≡ Some node.old.member.program }
+        requires size { node.old.member.n ≡ K.cell.n }
+        requires clean { K.OverClean → AreAlwaysClean S.is_clean }
         ensures same { self.new.links ≡ self.old.links }
         ensures member { node.new.member ≡ node.old.member }
         ensures joined { OnOk result (UnderLock K.cell.n (λ before after.
@@ -717,6 +735,7 @@ impl<'a, K: Naming> Worker<'a, K> {
         ensures same { self.new.links ≡ self.old.links }
         ensures place { IfOk result (λ place. member_of place ≡ node.entry.member) }
     {
+        self.links.tell_all_received(node.core());
         match self.diary.returned(rt, node.core(), verdict, is_back) {
             Ok(()) => Ok(Place::Up(node)),
             Err(error) => {

@@ -43,7 +43,9 @@ fn assert_held<K: Naming, R: Wait + Abort>(
     alloc: Global,
     board: &mut Board<K>,
     frontier: &Frontier<K>,
-) {
+)
+    requires { K.OverClean → ⊥ }
+{
     let told = board.note_output(rt, alloc, process(rt, 0), 0, 1, 0, b"A", frontier);
     assert!(rt; told == Ok(OutputNote::Held));
 }
@@ -66,7 +68,9 @@ fn waiting_rows<K: Naming, R: Wait + Abort>(
     alloc: Global,
     board: &mut Board<K>,
     frontier: &Frontier<K>,
-) {
+)
+    requires { K.OverClean → ⊥ }
+{
     let below = Ok(Note::Noted { raised: false });
     let stale = Err(RecordError::Stale { round: 0 });
     assert_logged(rt, alloc, board, frontier, 0, below);
@@ -125,7 +129,9 @@ fn rows_in_order<K: Naming, R: Wait + Abort>(
     board: &mut Board<K>,
     frontier: &Frontier<K>,
     pass: &mut Pass<K>,
-) {
+)
+    requires { K.OverClean → ⊥ }
+{
     waiting_rows(rt, alloc, board, frontier);
     assert_quiet(rt, board, 0, 0, false);
     assert_quiet(rt, board, 0, 1, false);
@@ -221,7 +227,9 @@ fn rows_under_lock<K: Naming, R: Wait + Abort>(
     alloc: Global,
     shared: &Shared<K>,
     mut pass: Pass<K>,
-) {
+)
+    requires { K.OverClean → ⊥ }
+{
     let mut board = shared.board.lock(rt);
     rows_of_waiting(rt, &mut board);
     rows_of_running(rt, &mut board);
@@ -233,7 +241,8 @@ fn rows_under_lock<K: Naming, R: Wait + Abort>(
 }
 
 fn rows_of_a_board<K: Naming, R: Wait + Abort>(rt: &R, alloc: Global, blank: Blank)
-    requires { blank ≡ K.cell }
+    requires named { blank ≡ K.cell }
+    requires no_program { K.OverClean → ⊥ }
 {
     let (shared, mut passes) = Shared::<K>::new(alloc, blank).expect(rt, "memory");
     let count = passes.len();

@@ -10,6 +10,8 @@ mod clusters;
 #[cfg(test)]
 mod inboxes;
 #[cfg(test)]
+mod resends;
+#[cfg(test)]
 mod rows;
 #[cfg(test)]
 mod threads;

@@ -34,7 +34,7 @@ fn fault_of<'a, R: Threads + Wait + Clock + Abort + Sync>(
 }
 
 // What was seen of the processes of a cluster, and why its run came to no end.
-fn seen<R: Threads + Wait + Clock + Abort + Sync>(
+pub fn seen<R: Threads + Wait + Clock + Abort + Sync>(
     rt: &R,
     alloc: Global,
     config: &Config,

@@ -8,16 +8,17 @@ use crate::store_files::run_over_tables;
 use crate::voice::{Voice, voice_of};
 use crate::watching::run_watched;
 use om_arguments::{Asked, Lines, Look, Request, Running, end, end_unasked, end_unread, parse};
+use om_commands::CommandError;
 use om_commands::decode::decode;
 use om_commands::draw::{Window, draw};
 use om_commands::frontier::frontier;
 use om_commands::sim::sim;
-use om_commands::{CommandError, InMemory, count_processes};
 use om_files::{
     Files, PlaceError, Places, first_unusable, replay_file, settle, show_file, steps_file,
 };
 use om_image::{ImageError, image};
 use om_isa::Ext;
+use om_run_commands::{InMemory, count_processes};
 use om_text::{ScriptError, read_text};
 use std::alloc::Global;
 use std::io::{Read, Write};

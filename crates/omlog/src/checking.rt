@@ -3,10 +3,10 @@
 use crate::voice::voice_of;
 use om_arguments::{Checking, Running};
 use om_commands::CommandError;
-use om_commands::check::{run_checked, run_with_witness};
-use om_commands::followed::run_followed;
-use om_commands::recorded::run_recorded;
-use om_commands::run::run;
+use om_run_commands::check::{run_checked, run_with_witness};
+use om_run_commands::followed::run_followed;
+use om_run_commands::recorded::run_recorded;
+use om_run_commands::run::run;
 use om_runner::Opener;
 use std::fs::File;
 use std::io::{Read, Write};

@@ -2,7 +2,8 @@
 
 use crate::checking::run_as;
 use om_arguments::Running;
-use om_commands::{CommandError, count_processes, waiting_text};
+use om_commands::CommandError;
+use om_run_commands::{count_processes, waiting_text};
 use om_runner::{Opener, Progress, Watch, Watched};
 use std::alloc::Global;
 use std::io::{IsTerminal, Write};

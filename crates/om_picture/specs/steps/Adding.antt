@@ -1,68 +1,246 @@
 -- Marks that are added to a picture, one step of its drawing at a time.
-use Rattle.std.specs.Prelude.{◌≡◌, ◌≢◌, ℕ, ◌<◌, ◌||◌, if◌then◌else◌, nat_le, List, [], ◌∷◌, ◌++◌, Option, length, slice_index_or, slice_set}
-use Rattle.std.specs.List.{flat_map}
-use Rattle.om_picture.specs.Drawing.{Sketch, all_marks, mark_marks, waiting_of}
-use Rattle.om_picture.specs.Marks.{AreTheSame, Entry, EventMark, Kind, own_marks}
+use Rattle.std.specs.Prelude.{◌≡◌, ◌≢◌, ℕ, ◌<◌, ◌≤◌, ◌-◌, Bool, true, false, not, ◌&&◌, ◌||◌, if◌then◌else◌, is_some, max, nat_le, nat_lt, List, [], ◌∷◌, ◌++◌, Option, None, Some, length, slice_index, slice_set}
+use Rattle.om_picture.specs.Drawing.{Lane, Sketch, all_marks, lane_in, lane_marks, lane_of, new_lane, waiting_marks}
+use Rattle.om_picture.specs.Fates.{Entry, Fate, Row, cuts, has_ended, highest, interval_behind, is_cut, is_stored, next_place, process_of}
+use Rattle.om_picture.specs.Marks.{AreTheSame, EventMark, Kind, Saved, Taken, Worked, fated_marks, marks_on, sure_marks, title_entry}
+use Rattle.om_picture.specs.Shows.{shown}
 use Rattle.om_picture.specs.declared.history.History.{History}
 use Rattle.om_picture.specs.declared.history.Mark.{Mark}
+use Rattle.om_picture.specs.declared.history.Next.{Next}
+use Rattle.om_picture.specs.declared.settle.Fate as settle
+use Rattle.om_picture.specs.declared.shown.Shown.{Shown}
+use Rattle.om_picture.specs.declared.shown.Shown.TheVariants as shows
 
--- the marks that wait on a lane
-abbrev pub lane_of : Sketch → ℕ → List Mark
-lane_of sketch p = slice_index_or sketch.waiting p []
+-- ---- a lane
+-- one mark more waits
+pub record IsMore (mark : Mark) (old new : Lane) : Type 0 where
+  pub few : old.stored ≤ length old.waiting
+  pub lane : new ≡ record old { waiting = old.waiting ++ mark ∷ [] }
 
--- these marks are added, and nothing else that a picture shows of events changes
-pub record Adds (old new : Sketch) (more : List EventMark) : Type 0 where
-  pub on : new.on ≡ old.on
-  pub first : new.first ≡ old.first
-  pub lanes : length new.waiting ≡ length old.waiting
-  pub marks : AreTheSame (all_marks new) (all_marks old ++ more)
+-- the first mark waits no more
+pub record Takes (mark : Mark) (old new : Lane) : Type 0 where
+  pub was : old.waiting ≡ mark ∷ new.waiting
+  pub lane : new ≡ record old { stored = old.stored - 1; waiting = new.waiting }
 
--- the mark of an event of this kind is added, once the window is reached
-abbrev pub AddsMark : Sketch → Sketch → Option Kind → Entry → Type 0
-AddsMark old new kind entry = Adds old new (if old.on then own_marks kind entry else [])
+pub record TakesFirst (next : Next) (old new : Lane) : Type 0 where
+  pub takes : Takes next.mark old new
+  pub covered : next.covered ≡ nat_le next.mark.interval old.reached
+  pub stored : next.stored ≡ nat_lt 0 old.stored
 
--- these marks are drawn, and those that wait are as they were
+pub record TakesCovered (mark : Mark) (old new : Lane) : Type 0 where
+  pub takes : Takes mark old new
+  pub covered : mark.interval ≤ old.reached
+
+abbrev pub Ends : Bool → Lane → Lane → Type 0
+Ends ended old new = new ≡ record old { ended = old.ended || ended }
+
+abbrev pub Receives : ℕ → Lane → Lane → Type 0
+Receives interval old new = new ≡ record old { interval = interval }
+
+abbrev pub Stores : Lane → Lane → Type 0
+Stores old new = new ≡ record old { stored = length old.waiting }
+
+abbrev pub GoesBack : ℕ → Lane → Lane → Type 0
+GoesBack interval old new = new ≡ record old { interval = interval; ended = false }
+
+abbrev pub Raises : ℕ → Lane → Lane → Type 0
+Raises place old new = new ≡ record old { reached = max old.reached place }
+
+-- a mark waits of an event that shows this, at a place
+abbrev pub Waits : ℕ → Shown → ℕ → Entry → Lane → Lane → Type 0
+Waits x shown fresh entry old new =
+    (mark : Mark) × IsMore mark old new × (mark.x ≡ x) × (mark.interval ≡ old.interval) × (mark.shown ≡ shown) × (mark.fresh ≡ fresh)
+    × (title_entry mark.title ≡ entry)
+
+-- ---- a picture
+-- these marks are drawn, and the lanes are as they were
 pub record Settles (old new : Sketch) (more : List EventMark) : Type 0 where
   pub on : new.on ≡ old.on
   pub first : new.first ≡ old.first
-  pub waiting : new.waiting ≡ old.waiting
+  pub lanes : new.lanes ≡ old.lanes
   pub drawn : new.drawn ≡ old.drawn ++ more
 
--- a mark waits on a lane, behind those that do
-pub record Waits (old new : Sketch) (p : ℕ) (mark : Mark) : Type 0 where
+-- the lane of a process changes so, and nothing else
+pub record Turns (Turn : Lane → Lane → Type 0) (old new : Sketch) (p : ℕ) : Type 0 where
   pub on : new.on ≡ old.on
   pub first : new.first ≡ old.first
   pub drawn : new.drawn ≡ old.drawn
-  pub waiting : new.waiting ≡ slice_set old.waiting p (lane_of old p ++ mark ∷ [])
-
--- the first mark of a lane waits no more
-pub record Takes (old new : Sketch) (p : ℕ) (mark : Mark) : Type 0 where
-  pub on : new.on ≡ old.on
-  pub first : new.first ≡ old.first
-  pub drawn : new.drawn ≡ old.drawn
-  pub within : p < length old.waiting
-  pub was : lane_of old p ≡ mark ∷ lane_of new p
-  pub waiting : new.waiting ≡ slice_set old.waiting p (lane_of new p)
+  pub within : p < length old.lanes
+  pub lanes : new.lanes ≡ slice_set old.lanes p (lane_of new p)
+  pub turn : Turn (lane_of old p) (lane_of new p)
 
 -- the window is reached, if this is a line of it
 pub record Reaches (old new : Sketch) (line : ℕ) : Type 0 where
   pub on : new.on ≡ (old.on || nat_le old.first line)
   pub first : new.first ≡ old.first
   pub drawn : new.drawn ≡ old.drawn
-  pub waiting : new.waiting ≡ old.waiting
+  pub lanes : new.lanes ≡ old.lanes
 
--- nothing waits on a lane any more
-pub record EndsLane (old new : Sketch) (p : ℕ) : Type 0 where
-  pub adds : Adds old new []
-  pub here : lane_of new p ≡ []
+-- ---- what an event shows
+abbrev pub interval_shown : ℕ → Shown → ℕ
+interval_shown was (shows.Receipt frame interval) = interval
+interval_shown was (shows.Back interval inc) = interval
+interval_shown was _ = was
+
+abbrev pub ended_shown : Bool → Shown → Bool
+ended_shown was (shows.Run sent made ends) = was || is_some ends
+ended_shown was (shows.Back interval inc) = false
+ended_shown was _ = was
+
+abbrev pub is_stored_by : Shown → Bool
+is_stored_by shows.Flush = true
+is_stored_by shows.Join = true
+is_stored_by _ = false
+
+-- what the lane of its process is behind it, and what its marks come to: the new one among them
+pub record LaneShows (on : Bool) (shown : Shown) (fresh : ℕ) (entry : Entry) (old new : Lane) : Type 0 where
+  pub interval : new.interval ≡ interval_shown old.interval shown
+  pub ended : new.ended ≡ ended_shown old.ended shown
+  pub reached : new.reached ≡ old.reached
+  pub stored : new.stored ≡ (if is_stored_by shown then length old.waiting else old.stored)
+  pub waits : (fate : ℕ → Bool → Fate) → waiting_marks fate new.stored new.waiting
+      ≡ waiting_marks fate new.stored old.waiting ++ (if on then fated_marks shown fresh (fate new.interval false) entry else [])
+
+-- an event of a process shows this
+pub record Shows (old new : Sketch) (p : ℕ) (shown : Shown) (fresh : ℕ) (entry : Entry) : Type 0 where
+  pub on : new.on ≡ old.on
+  pub first : new.first ≡ old.first
+  pub drawn : new.drawn ≡ old.drawn ++ (if old.on then sure_marks shown entry else [])
+  pub within : p < length old.lanes
+  pub lanes : new.lanes ≡ slice_set old.lanes p (lane_of new p)
+  pub lane : LaneShows old.on shown fresh entry (lane_of old p) (lane_of new p)
+
+-- an event of this process shows what its answer says, if there is the process
+pub record ShowsAt (p : ℕ) (old new : Sketch) (row : Row) : Type 0 where
+  pub shows : p < length old.lanes → Shows old new p (shown (lane_of old p).ended row.entry.event row.entry.answer) row.fresh row.entry
+  pub past : length old.lanes ≤ p → new ≡ old
+
+abbrev pub ShowsOn : Option ℕ → Sketch → Sketch → Row → Type 0
+ShowsOn None old new row = new ≡ old
+ShowsOn (Some p) old new row = ShowsAt p old new row
+
+abbrev pub ShowsEvent : Sketch → Sketch → Row → Type 0
+ShowsEvent old new row = ShowsOn (process_of row.entry.event) old new row
+
+-- ---- what waits
+-- the fate of an interval, where only the recovery state and the round of this event are still to come, and all behind it
+abbrev pub fate_amid : Row → List Row → ℕ → ℕ → Bool → ℕ → Fate
+fate_amid row later p interval stored was =
+    let now = cuts interval (next_place p was row) row in
+    let cut = now || is_cut p interval (next_place p was row) later in
+    let covered = not cut && nat_le interval (highest p (next_place p was row) later) in
+    record {
+      cut = cut;
+      covered = covered;
+      stored = covered || (stored || (not now && is_stored p interval (next_place p was row) later));
+    }
+
+abbrev pub amid_marks : Row → List Row → ℕ → Lane → List EventMark
+amid_marks row later p lane =
+    waiting_marks (λ interval stored. fate_amid row later p interval stored lane.reached) lane.stored lane.waiting
+
+-- the fate of what is settled now: covered; or else cut, where a round is finished
+abbrev pub fate_now : Bool → Bool → Bool → Fate
+fate_now finished covered stored = record { cut = finished && not covered; covered = covered; stored = covered || stored }
+
+abbrev pub now_marks : Bool → ℕ → Lane → List EventMark
+now_marks finished p lane =
+    waiting_marks (λ interval stored. fate_now finished (nat_le interval lane.reached) stored) lane.stored lane.waiting
+
+-- a recovery state covers it
+abbrev pub kept : Fate
+kept = record { cut = false; covered = true; stored = true }
+
+-- a fate, and what a mark that waits says by it
+abbrev pub fate_in : settle.Fate → Fate
+fate_in fate = record { cut = fate.cut; covered = fate.covered; stored = fate.stored }
+
+abbrev pub kind_late : Shown → Fate → Kind
+kind_late (shows.Receipt frame interval) fate = Taken fate.stored
+kind_late shows.Checkpoint fate = Saved
+kind_late _ fate = Worked
+
+abbrev pub made_by : Shown → ℕ
+made_by (shows.Run sent made ends) = made
+made_by _ = 0
+
+-- what is known of a process stays
+pub record Stays (old new : Lane) : Type 0 where
+  pub interval : new.interval ≡ old.interval
+  pub ended : new.ended ≡ old.ended
+  pub reached : new.reached ≡ old.reached
+
+-- the same, where its place in a recovery state is told
+pub record Learns (place : ℕ) (old new : Lane) : Type 0 where
+  pub interval : new.interval ≡ old.interval
+  pub ended : new.ended ≡ old.ended
+  pub reached : new.reached ≡ max old.reached place
+
+-- all marks come to the same
+pub record Keeps (value : ℕ → Lane → List EventMark) (old new : Sketch) : Type 0 where
+  pub on : new.on ≡ old.on
+  pub first : new.first ≡ old.first
+  pub count : length new.lanes ≡ length old.lanes
+  pub marks : AreTheSame (all_marks value new) (all_marks value old)
+
+-- a lane learns its place in a recovery state
+pub record LearnsAt (row : Row) (old new : Sketch) (p : ℕ) : Type 0 where
+  pub keeps : (later : List Row) → Keeps (amid_marks row later) old new
+  pub here : Learns (slice_index row.recovery p) (lane_of old p) (lane_of new p)
   pub others : (q : ℕ) → q ≢ p → lane_of new q ≡ lane_of old q
 
--- nothing waits on these lanes
-abbrev pub AreEmpty : List History → Type 0
-AreEmpty [] = Unit {0}
-AreEmpty (history ∷ histories) = (waiting_of history ≡ []) × AreEmpty histories
+-- the lanes below one do, and the others are as they were
+pub record LearnsBelow (row : Row) (old new : Sketch) (p : ℕ) : Type 0 where
+  pub keeps : (later : List Row) → Keeps (amid_marks row later) old new
+  pub learned : (q : ℕ) → q < p → Learns (slice_index row.recovery q) (lane_of old q) (lane_of new q)
+  pub others : (q : ℕ) → p ≤ q → lane_of new q ≡ lane_of old q
 
--- all marks are drawn
-pub record Draws (old new : Sketch) : Type 0 where
-  pub marks : AreTheSame (all_marks new) (all_marks old)
-  pub rest : flat_map (flat_map mark_marks) new.waiting ≡ []
+-- all lanes do
+pub record LearnsAll (row : Row) (old new : Sketch) : Type 0 where
+  pub keeps : (later : List Row) → Keeps (amid_marks row later) old new
+  pub lanes : (p : ℕ) → p < length old.lanes → Learns (slice_index row.recovery p) (lane_of old p) (lane_of new p)
+
+-- some of what waits on a lane is settled
+pub record SettlesSome (finished : Bool) (old new : Sketch) (p : ℕ) : Type 0 where
+  pub keeps : Keeps (now_marks finished) old new
+  pub here : Stays (lane_of old p) (lane_of new p)
+  pub others : (q : ℕ) → q ≢ p → lane_of new q ≡ lane_of old q
+
+-- all of it
+pub record SettlesLane (finished : Bool) (old new : Sketch) (p : ℕ) : Type 0 where
+  pub some : SettlesSome finished old new p
+  pub empty : (lane_of new p).waiting ≡ []
+
+-- and on the lanes below one
+pub record SettlesBelow (finished : Bool) (old new : Sketch) (p : ℕ) : Type 0 where
+  pub keeps : Keeps (now_marks finished) old new
+  pub lanes : (q : ℕ) → Stays (lane_of old q) (lane_of new q)
+  pub empty : (q : ℕ) → q < p → (lane_of new q).waiting ≡ []
+
+-- and on all lanes
+pub record SettlesAll (finished : Bool) (old new : Sketch) : Type 0 where
+  pub keeps : Keeps (now_marks finished) old new
+  pub lanes : (p : ℕ) → Stays (lane_of old p) (lane_of new p)
+  pub empty : (p : ℕ) → p < length old.lanes → (lane_of new p).waiting ≡ []
+
+-- what waits is settled, if a round is finished, and else nothing changes
+abbrev pub SettlesIf : Bool → Sketch → Sketch → Type 0
+SettlesIf false old new = new ≡ old
+SettlesIf true old new = SettlesAll true old new
+
+-- a picture of these events, once the next one is drawn, where its recovery state and its round are not told
+pub record IsAmid (n : ℕ) (before : List Row) (row : Row) (old new : Sketch) : Type 0 where
+  pub on : new.on ≡ old.on
+  pub first : new.first ≡ old.first
+  pub count : length new.lanes ≡ n
+  pub interval : (p : ℕ) → p < n → (lane_of new p).interval ≡ interval_behind p (before ++ row ∷ [])
+  pub ended : (p : ℕ) → p < n → (lane_of new p).ended ≡ has_ended p (before ++ row ∷ [])
+  pub reached : (p : ℕ) → p < n → (lane_of new p).reached ≡ highest p 0 before
+  pub marks : (later : List Row) → AreTheSame (all_marks (amid_marks row later) new)
+      (all_marks (lane_marks (row ∷ later)) old
+      ++ (if old.on then marks_on n (process_of row.entry.event) before row later else []))
+
+-- nothing is known of these lanes
+abbrev pub AreNew : List History → Type 0
+AreNew [] = Unit {0}
+AreNew (history ∷ histories) = (lane_in history ≡ new_lane) × AreNew histories

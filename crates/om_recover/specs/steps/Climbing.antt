@@ -55,6 +55,25 @@ pub record IsClimbing (n : ℕ) (rows : Rows) (state : List ℕ) (p x : ℕ) (re
   pub closed : (row : Row) → HasRow rows row → row.interval ≡ slice_index looked row.pid → IsBelow row.vec reached
   pub forced : (other : List ℕ) → IsRecoverable n rows other → IsBelow state other → x ≤ slice_index other p → IsBelow reached other
 
+-- a row that is needed within a bound names an interval of the process beyond the state, and this is its least stable one there
+pub record IsDemanded (rows : Rows) (state bound : List ℕ) (p x q y : ℕ) : Type 0 where
+  pub row : Row
+  pub there : HasRow rows row
+  pub needed : IsNeededWithin rows state bound p x row.pid row.interval
+  pub beyond : slice_index state q < slice_index row.vec q
+  pub least : IsLeastStable rows q (slice_index row.vec q) y
+
+-- what a climb knows of the intervals that it passed: what it reached beyond them, these demand
+pub record IsPassing (n : ℕ) (rows : Rows) (state : List ℕ) (p x : ℕ) (reached passed : List ℕ) : Type 0 where
+  pub places : length passed ≡ n
+  pub started : x ≤ slice_index passed p
+  pub within : (q : ℕ) → q < n → slice_index passed q ≤ slice_index reached q
+  pub stable : (q : ℕ) → q < n → slice_index state q < slice_index passed q → IsStable rows q (slice_index passed q)
+  pub needed : (q : ℕ) → q < n → slice_index state q < slice_index passed q
+      → IsNeededWithin rows state passed p x q (slice_index passed q)
+  pub demanded : (q : ℕ) → q < n → slice_index passed q < slice_index reached q
+      → IsDemanded rows state passed p x q (slice_index reached q)
+
 -- what is told of the least stable interval of the process at or above an interval
 abbrev pub TellsLeast : Rows → ℕ → ℕ → Option ℕ → Type 0
 TellsLeast rows p from told = MatchOption told ((z : ℕ) → IsStable rows p z → from ≤ z → ⊥) (IsLeastStable rows p from)

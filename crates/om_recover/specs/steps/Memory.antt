@@ -23,18 +23,41 @@ pub record IsRemembered (n : ℕ) (rows : Rows) (state : List ℕ) (p : ℕ) (me
       → IsNeededWithin rows state memory.reached p memory.start q (slice_index memory.reached q)
   pub reason : slice_index state memory.waits < memory.from → IsReason rows state p memory
 
+-- what is left of it where what was read last is not in its way: it lacks nothing
+abbrev pub part_of : Memory → Memory
+part_of memory = record memory { reached = memory.passed; from = 0 }
+
+-- a memory, and what is left of it
+pub record IsKnown (n : ℕ) (rows : Rows) (state : List ℕ) (p : ℕ) (memory : Memory) : Type 0 where
+  pub whole : IsRemembered n rows state p memory
+  pub part : IsRemembered n rows state p (part_of memory)
+
 -- each process's memory, if it has one
 abbrev pub AreRemembered : ℕ → Rows → List ℕ → List (Option Memory) → Type 0
-AreRemembered n rows state places = (p : ℕ) → p < n → MatchOption (slice_index_or places p None) ⊤ (IsRemembered n rows state p)
+AreRemembered n rows state places = (p : ℕ) → p < n → MatchOption (slice_index_or places p None) ⊤ (IsKnown n rows state p)
 
 -- at most the one process's memory became the given one
 abbrev pub IsKept : List (Option Memory) → List (Option Memory) → ℕ → Memory → Type 0
 IsKept old new p memory =
     (q : ℕ) → (slice_index_or new q None ≡ slice_index_or old q None) ⊎ ((q ≡ p) × (slice_index_or new q None ≡ Some memory))
 
--- the memories that are left came no further, at a process, than to an interval
+-- the memory has a place for the process
+pub record HasPlace (p : ℕ) (memory : Memory) : Type 0 where
+  pub reached : p < length memory.reached
+  pub passed : p < length memory.passed
+
+-- it came no further, at a process, than to an interval
+pub record IsUpTo (p x : ℕ) (memory : Memory) : Type 0 where
+  pub reached : slice_index memory.reached p ≤ x
+  pub passed : slice_index memory.passed p ≤ x
+
+-- nothing is left of a memory, or the part of it that came no further
+abbrev pub IsPartWithin : Option Memory → ℕ → ℕ → Option Memory → Type 0
+IsPartWithin old p x new =
+    (new ≡ None) ⊎ ((memory : Memory) × (old ≡ Some memory) × (new ≡ Some (part_of memory)) × (slice_index memory.passed p ≤ x))
+
+-- what is left of the memories came no further, at a process, than to an interval
 abbrev pub IsWithout : ℕ → List (Option Memory) → List (Option Memory) → ℕ → ℕ → Type 0
 IsWithout n old new p x =
-    (q : ℕ) → q < n → (slice_index_or new q None ≡ None)
-    ⊎ ((slice_index_or new q None ≡ slice_index_or old q None)
-    × MatchOption (slice_index_or old q None) ⊤ (λ memory. slice_index memory.reached p ≤ x))
+    (q : ℕ) → q < n → IsPartWithin (slice_index_or old q None) p x (slice_index_or new q None)
+    ⊎ ((slice_index_or new q None ≡ slice_index_or old q None) × MatchOption (slice_index_or old q None) ⊤ (IsUpTo p x))

@@ -1,5 +1,5 @@
 -- Entries by process and interval.
-use Rattle.std.specs.Prelude.{◌≡◌, ℕ, ◌≤◌, List, Option, Some, IsSome}
+use Rattle.std.specs.Prelude.{◌≡◌, ℕ, ◌<◌, ◌≤◌, List, Option, Some, None, IsSome, cond, slice_index, nat_le}
 use Rattle.std.specs.declared.cmp.Ordering.{Ordering}
 use Rattle.std.specs.Ordering.{ordering_then, nat_cmp}
 use Rattle.std.specs.List.Sorted.{IsStrictlySortedBy}
@@ -43,3 +43,23 @@ pub record IsPut {X : Type 0} (old new : List ((ℕ × ℕ) × X)) (p x : ℕ) (
   pub sorted : AreSorted new
   pub here : at new p x ≡ Some value
   pub others : (q y : ℕ) → (q ≡ p → y ≡ x → ⊥) → at new q y ≡ at old q y
+
+-- the process has no entry below the bound
+abbrev pub HasNoneBelow : {X : Type 0} → List ((ℕ × ℕ) × X) → ℕ → ℕ → Type 0
+HasNoneBelow entries p from = (y : ℕ) → IsSome (at entries p y) → y < from → ⊥
+
+-- the process has an entry at x, below the bound
+pub record IsBelowBound {X : Type 0} (entries : List ((ℕ × ℕ) × X)) (p from x : ℕ) : Type 0 where
+  pub there : IsSome (at entries p x)
+  pub below : x < from
+
+-- the entries without those of a process below the bound
+pub record AreFrom {X : Type 0} (old new : List ((ℕ × ℕ) × X)) (p from : ℕ) : Type 0 where
+  pub sorted : AreSorted new
+  pub dropped : (y : ℕ) → y < from → at new p y ≡ None
+  pub kept : (q y : ℕ) → (q ≡ p → y < from → ⊥) → at new q y ≡ at old q y
+
+-- the entries without those below these bounds
+pub record ArePruned {X : Type 0} (old new : List ((ℕ × ℕ) × X)) (bounds : List ℕ) : Type 0 where
+  pub sorted : AreSorted new
+  pub part : (p x : ℕ) → at new p x ≡ cond (nat_le (slice_index bounds p) x) (at old p x) None

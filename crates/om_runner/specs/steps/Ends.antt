@@ -8,7 +8,7 @@ use Rattle.om_runner.specs.declared.config.Config.{Config}
 use Rattle.om_runner.specs.declared.fault.RunFault.{RunFault}
 use Rattle.om_runner.specs.declared.fault.RunFault.TheVariants.{Turns, GateShut, Memory, Fault, Load, NoThread}
 use Rattle.om_runner.specs.declared.cluster.EndOf.{EndOf}
-use Rattle.om_runner.specs.declared.cluster.Finished.{Finished}
+use Rattle.om_runner.specs.declared.results.Finished.{Finished}
 use Rattle.om_runner.specs.declared.cluster.Turned.{Turned}
 use Rattle.om_runner.specs.declared.cluster.Turned.TheVariants.{On, Over}
 use Rattle.om_runner.specs.steps.Network.{Lines}

@@ -2,8 +2,10 @@
 use Rattle.std.specs.Prelude.{◌≡◌, ◌≢◌, ℕ, List, [], Option, None, Some, map, slice_get, slice_index, take, vec_len}
 use mathlib.Core.List.{IsPrefix}
 use Rattle.om_board.specs.Fronts.{EndsWith, IsPosted}
+use Rattle.om_board.specs.Made.{AreMade}
 use Rattle.om_board.specs.Released.{AreReleased}
 use Rattle.om_board.specs.declared.front.Front.{Front}
+use Rattle.om_process.specs.Process.{Program}
 use Rattle.om_runner.specs.Telling.{Told, of_process, told_of}
 use Rattle.om_runner.specs.declared.follower.FollowFault.{FollowFault}
 use Rattle.om_runner.specs.declared.follower.FollowFault.TheVariants.{Unwanted}
@@ -17,7 +19,11 @@ AreEmpty lanes = (p : ℕ) (lane : Lane) → slice_get lanes p ≡ Some lane →
 abbrev pub AreKept : List ℕ → List Lane → Type 0
 AreKept vec lanes = (p : ℕ) (lane : Lane) → slice_get lanes p ≡ Some lane → AreReleased (slice_index vec p) lane.outputs.items
 
--- so they are, whatever comes after the fronts that were seen
+-- the outputs of each lane are those that its process's program makes
+abbrev pub AreLanesMade : List Program → ℕ → List Lane → Type 0
+AreLanesMade programs n lanes = (p : ℕ) (lane : Lane) → slice_get lanes p ≡ Some lane → AreMade programs n p lane.outputs.items
+
+-- those of each lane are within its place still, whatever comes after the fronts that were seen
 abbrev pub StayKept : List Front → List Lane → Type 0
 StayKept seen lanes = (posted : List Front) (last : Front) → IsPrefix seen posted → IsPosted posted → EndsWith posted last → AreKept last.vec lanes
 

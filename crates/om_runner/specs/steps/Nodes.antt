@@ -7,6 +7,8 @@ use Rattle.om_process.specs.Claims.{CheckpointOf}
 use Rattle.om_process.specs.Core.{CoreState, size_of}
 use Rattle.om_process.specs.Process.{Process, Program, Received}
 use Rattle.om_process.specs.Replays.{process_of}
+use Rattle.om_manager.specs.Outputs.{HeldOutput}
+use Rattle.om_board.specs.Made.{IsOutputOf}
 
 -- one of n processes, with its program
 pub record Member : Type 0 where
@@ -41,3 +43,12 @@ pub record IsNode {S : Type 0} (content : S → Content) (is_clean : S → Bool)
   pub size : size_of d.core.now ≡ d.member.n
   pub kept : IsKept content is_clean IsSound d.member store
   pub stands : IsTrue (is_clean store) → IsOnWay d.member d.core.now
+
+-- each store of a kind is clean
+abbrev pub AreAlwaysClean : {S : Type 0} → (S → Bool) → Type 0
+AreAlwaysClean is_clean = (store : _) → IsTrue (is_clean store)
+
+-- what is an output of the member's program, if all stores are clean, may be handed in
+abbrev pub TakesFrom : {S : Type 0} → (ℕ → ℕ → HeldOutput → Type 0) → (S → Bool) → Member → Type 0
+TakesFrom Takes is_clean m = (seq : ℕ) (output : HeldOutput)
+    → (AreAlwaysClean is_clean → IsOutputOf m.program m.own m.n seq output) → Takes m.own seq output

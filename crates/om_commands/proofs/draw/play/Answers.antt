@@ -2,7 +2,7 @@ use Rattle.std.proofs.Common.{◌≡◌, ◌+◌, ◌≤◌, List, arith, length
 use Rattle.std.proofs.lemmas.List.{length-take, take_all, take_more}
 use Rattle.om_world.specs.declared.event.Event.{Event}
 use Rattle.om_picture.specs.Drawing.{sketch_of}
-use Rattle.om_picture.specs.Marks.{step_entry}
+use Rattle.om_picture.specs.Fates.{step_row}
 use Rattle.om_commands.specs.Draw.{AreDrawn}
 use Rattle.om_commands.proofs.DrawLemmas.{drawn_then, none_drawn}
 use Rattle.om_commands.proofs.draw.play.Goals as goal
@@ -17,11 +17,17 @@ loop-k-preserved c =
       drawn = λ n first begun.
           drawn_then c.args.lines.now (take c.loop-k.k c.args.events.now) (take (c.loop-k.k + 1) c.args.events.now) c.loop-k.k n first
           c.args.world.now
-          c.loop-k.world c.play_line.new.world (sketch_of c.loop-k.picture) (sketch_of c.draw.new.self) _ c.in_ok-step.step.answer
-          c.line_of-line.result
-          (step_entry c.in_ok-step.step) (take_more c.args.events.now c.loop-k.k _ c.loop-k-test.true) count
-          (c.loop-k.invariant.drawn n first begun)
-          c.in_ok-step.ensures.played c.line_of-line.ensures c.in_ok-step.ensures.entry c.in_ok-draw.ensures;
+          c.loop-k.world c.play_line.new.world (sketch_of c.loop-k.picture) (sketch_of c.draw.new.self) _ c.line_of-line.result
+          (step_row c.in_ok-step.step) (take_more c.args.events.now c.loop-k.k _ c.loop-k-test.true) count
+          (c.loop-k.invariant.drawn n first begun) c.line_of-line.ensures
+          (record {
+            line = c.in_ok-step.ensures.line;
+            event = c.in_ok-step.ensures.event;
+            played = c.in_ok-step.ensures.played;
+            fresh = c.in_ok-step.ensures.fresh;
+            recovery = c.in_ok-step.ensures.recovery;
+          })
+          c.in_ok-draw.ensures;
       known = c.in_ok-step.ensures.known;
     }
 

@@ -1,8 +1,14 @@
-use Rattle.std.proofs.Common.{subst, take}
+use Rattle.std.proofs.Common.{length, refl, subst, take}
+use Rattle.std.proofs.lemmas.Option.{slice_get_read}
 use Rattle.om_member.specs.Handed.{AreHanded, IsHanded}
 use Rattle.om_member.proofs.Lists.{take_next}
 use Rattle.om_member.proofs.OutputLemmas.{handed_next}
 use Rattle.om_member.proofs.handing.hand_all.Goals as goal
+
+pub hand_one-requires : goal.hand_one-requires
+hand_one-requires g c =
+    let ms = c.args.outputs.now in let i = c.loop-i.i in let m = c.index-outputs-i.result in
+    c.requires i m (slice_get_read ms (length ms) i m refl c.loop-i-test.true c.index-outputs-i.is)
 
 pub loop-i-preserved : goal.loop-i-preserved
 loop-i-preserved g c =

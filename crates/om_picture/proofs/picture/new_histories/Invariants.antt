@@ -1,9 +1,9 @@
 use Rattle.std.proofs.Common.{◌≡◌, length}
-use Rattle.om_picture.specs.steps.Adding.{AreEmpty}
+use Rattle.om_picture.specs.steps.Adding.{AreNew}
 use Rattle.om_picture.proofs.picture.new_histories.Given as goal
 
 abbrev pub invariant-loop : goal.invariant-loop
 invariant-loop l = record {
-  empty : AreEmpty l.histories.items;
+  new : AreNew l.histories.items;
   count : length l.histories.items ≡ l.counter;
 }

@@ -2,14 +2,17 @@ use Rattle.std.proofs.Common.{ℕ, ◌<◌, List, [], ◌∷◌, ◌∙◌, refl
 use Rattle.om_recover.specs.Rows.{Has}
 use Rattle.om_recover.specs.Attempts.{with_look}
 use Rattle.om_recover.specs.declared.row.RowKind.{RowKind}
-use Rattle.om_recover.specs.steps.Climbing.{IsClimbing}
+use Rattle.om_recover.specs.steps.Climbing.{IsClimbing, IsPassing}
+use Rattle.om_recover.proofs.PassingLemmas.{passing_start, passing_step}
 use Rattle.om_recover.proofs.ClimbLemmas.{HasLooked, left_to_look, row_of, vec_places, climbing_step, climb_fails, looked_nothing, looked_step, looks_fall}
-use Rattle.om_recover.proofs.MemoryLemmas.{all_with, remembered_failed}
+use Rattle.om_recover.proofs.MemoryLemmas.{all_with, part_remembered, remembered_failed}
+use Rattle.om_recover.specs.declared.memory.Memory.{Memory}
 use Rattle.om_recover.proofs.climb.climb.Goals as goal
 
 pub loop-q-init : goal.loop-q-init
 loop-q-init g c = record {
   climbing = c.in-Some.ensures;
+  passing = passing_start _ _ _ _ _ _ _ c.in-Some.ensures;
   remembered = c.requires.remembered;
   looks = [];
   counted = c.attempt.ensures;
@@ -58,6 +61,8 @@ loop-q-preserved g c =
     record {
       climbing = subst (λ (looked : List ℕ). IsClimbing (length c.args.state.now) (g.S.Shelf.rows c.args.shelf.now) c.args.state.now c.args.pid c.args.x c.in-Ok.higher looked) (sym c.set.ensures)
           (climbing_step _ _ _ _ _ _ _ _ _ _ _ c.requires.lawful c.loop-q.invariant.climbing in_cluster c.get-y.ensures behind c.look-vec.ensures.vec c.in-Ok.ensures);
+      passing = subst (λ (passed : List ℕ). IsPassing (length c.args.state.now) (g.S.Shelf.rows c.args.shelf.now) c.args.state.now c.args.pid c.args.x c.in-Ok.higher passed) (sym c.set-in-Ok.ensures)
+          (passing_step _ _ _ _ _ _ _ _ _ _ _ _ c.requires.lawful c.requires.process c.loop-q.invariant.climbing in_cluster c.get-y.ensures behind c.look-vec.ensures.vec c.in-Ok.ensures c.loop-q.invariant.passing);
       remembered = c.loop-q.invariant.remembered;
       looks = (c.in-Some-first_behind.q, c.get-y.result) ∷ c.loop-q.invariant.looks;
       counted = c.look-vec.ensures.counted ∙ ap (λ attempts. with_look attempts c.in-Some-first_behind.q c.get-y.result) c.loop-q.invariant.counted;
@@ -73,5 +78,9 @@ returns-in-Err-clause-remembered g c =
     let in_cluster : c.in-Some-first_behind.q < length c.args.state.now = omega (arith, c.in-Some-first_behind.ensures.0, c.loop-q.invariant.climbing.looked_places) in
     let behind : slice_index c.loop-q.looked c.in-Some-first_behind.q < c.get-y.result = omega (arith, c.in-Some-first_behind.ensures.1, c.get-y.ensures) in
     let waits : c.in-Err.lacking < length c.args.state.now = omega (arith, c.in-Err.ensures.within, c.loop-q.invariant.climbing.reached_places) in
+    let memory : Memory = record { start = c.args.x; reached = c.loop-q.reached; passed = c.loop-q.passed; waits = c.in-Err.lacking; from = c.get.result } in
     all_with _ _ _ _ _ _ _ c.loop-q.invariant.remembered
-    (remembered_failed _ _ _ _ _ _ _ _ _ _ _ c.loop-q.invariant.climbing in_cluster c.get-y.ensures behind c.look-vec.ensures.vec refl refl waits c.get.ensures) c.keep.ensures
+    (record {
+      whole = remembered_failed _ _ _ _ _ _ _ _ _ _ _ c.loop-q.invariant.climbing in_cluster c.get-y.ensures behind c.look-vec.ensures.vec refl refl waits c.get.ensures;
+      part = part_remembered _ _ _ _ c.loop-q.reached memory c.loop-q.invariant.passing waits;
+    }) c.keep.ensures

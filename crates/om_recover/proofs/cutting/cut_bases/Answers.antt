@@ -1,7 +1,8 @@
-use Rattle.std.proofs.Common.{rules, ◌≡◌, ℕ, slice_index, nat_le, min}
+use Rattle.std.proofs.Common.{rules, ◌≡◌, ◌∙◌, ℕ, List, ap, slice_index, nat_le, min}
 use Rattle.om_recover.specs.declared.trees.Base.{Base}
 use Rattle.om_recover.specs.declared.trees.Bases.{Bases}
-use Rattle.om_recover.proofs.PartLemmas.{changed, changed_pairs}
+use Rattle.om_recover.specs.steps.Nearest.{at}
+use Rattle.om_recover.proofs.PartLemmas.{changed, changed_pairs, at_changed}
 use Rattle.om_recover.proofs.BaseStepLemmas.{bases_part}
 use Rattle.om_recover.proofs.cutting.cut_bases.Goals as goal
 
@@ -12,4 +13,5 @@ returns c =
     let before = c.args.bases.now in
     let after : Bases = record { newest = c.cut_newest.new.newest; others = c.retain.new.self } in
     let others_are : after.others.entries ≡ changed test change before.others.entries = changed_pairs _ test change _ (λ k v b w f' t. search rules) _ _ c.retain.ensures.filtered in
-    bases_part test change before after c.requires c.retain.ensures.ordered others_are c.cut_newest.ensures
+    bases_part test change before after c.requires c.retain.ensures.ordered
+    (λ p x. ap (λ (entries : List ((ℕ × ℕ) × Base)). at entries p x) others_are ∙ at_changed test change before.others.entries p x) c.cut_newest.ensures

@@ -1,15 +1,15 @@
-use Rattle.std.proofs.Common.{rules, ◌≡◌, ℕ, slice_index, nat_le}
+use Rattle.std.proofs.Common.{◌∙◌, ℕ, Option, None, ap, cond, sym, slice_index, nat_le}
 use Rattle.om_recover.specs.declared.trees.Base.{Base}
 use Rattle.om_recover.specs.declared.trees.Bases.{Bases}
-use Rattle.om_recover.proofs.PartLemmas.{changed, changed_pairs}
+use Rattle.om_recover.specs.steps.Nearest.{at}
+use Rattle.om_recover.proofs.RunPartLemmas.{same_value}
 use Rattle.om_recover.proofs.BaseStepLemmas.{bases_part}
 use Rattle.om_recover.proofs.cutting.prune_bases.Goals as goal
 
 pub returns : goal.returns
 returns c =
     let test = λ (place : ℕ × ℕ). nat_le (slice_index c.args.checkpoints.now place.0) place.1 in
-    let change = λ (place : ℕ × ℕ) (base : Base). base in
     let before = c.args.bases.now in
-    let after : Bases = record { newest = c.prune_newest.new.newest; others = c.retain.new.self } in
-    let others_are : after.others.entries ≡ changed test change before.others.entries = changed_pairs _ test change _ (λ k v b w f' t. search rules) _ _ c.retain.ensures.filtered in
-    bases_part test change before after c.requires c.retain.ensures.ordered others_are c.prune_newest.ensures
+    let after : Bases = record { newest = c.prune_newest.new.newest; others = c.prune_entries.new.entries } in
+    bases_part test (λ _ base. base) before after c.requires c.prune_entries.ensures.sorted
+    (λ p x. c.prune_entries.ensures.part p x ∙ ap (λ (o : Option Base). cond (test (p, x)) o None) (sym (same_value (at before.others.entries p x)))) c.prune_newest.ensures

@@ -1,13 +1,10 @@
-use Rattle.std.proofs.Common.{rules, ◌≡◌, ℕ, slice_index, nat_le}
+use Rattle.std.proofs.Common.{ℕ, slice_index, nat_le}
 use Rattle.om_recover.specs.declared.trees.Logs.{Logs}
-use Rattle.om_recover.proofs.PartLemmas.{changed, changed_pairs}
 use Rattle.om_recover.proofs.RunPartLemmas.{part_of}
 use Rattle.om_recover.proofs.cutting.prune_logs.Goals as goal
 
 pub returns : goal.returns
 returns c =
     let test = λ (place : ℕ × ℕ). nat_le (slice_index c.args.checkpoints.now place.0) place.1 in
-    let before = c.args.logs.now in
-    let after : Logs = record { runs = c.prune_runs.new.runs; others = c.retain.new.self } in
-    let others_are : after.others.entries ≡ changed test (λ _ vectors. vectors) before.others.entries = changed_pairs _ test (λ _ vectors. vectors) _ (λ k v b w f' t. search rules) _ _ c.retain.ensures.filtered in
-    part_of test before after c.requires c.retain.ensures.ordered others_are c.prune_runs.ensures
+    let after : Logs = record { runs = c.prune_runs.new.runs; others = c.prune_entries.new.entries } in
+    part_of test c.args.logs.now after c.requires c.prune_entries.ensures.sorted c.prune_entries.ensures.part c.prune_runs.ensures

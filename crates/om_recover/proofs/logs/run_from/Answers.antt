@@ -10,7 +10,7 @@ returns c =
     let own = read_at c.args.runs.now _ c.index.result run c.index.ensures.place read.0 read.1 in
     let place = c.saturating_sub-place.ensures in
     let most = c.max.ensures in
-    let found = rw c.deref.ensures.value at c.in_ok-vectors.ensures.lookup in
+    let found = c.in_ok-vectors.ensures.item in
     is_run_from c.args.runs.now _ _ _ run _ own
     (record { place = c.saturating_sub-place.result; stands_at = omega (arith, most, place); there = read_at run.logs.items _ _ _ (omega arith) found.0 found.1 })
     (omega (arith, most))

@@ -1,4 +1,8 @@
-use Rattle.std.proofs.Common.{◌≡◌, ◌<◌, ◌+◌, rules, arith, sym, ap, ◌∙◌, subst, get_or, length, vec_len}
+use Rattle.std.proofs.Common.{◌≡◌, ◌<◌, ◌+◌, rules, arith, refl, sym, ap, ◌∙◌, subst, get_or, length, map, vec_len, Some}
+use Rattle.std.specs.Prelude.{slice_get}
+use Rattle.std.proofs.lemmas.Option.{slice_get_read}
+use Rattle.om_process.specs.Images.{program_of}
+use Rattle.om_board.proofs.ListLemmas.{map_get}
 use Rattle.std.specs.Vec.Iter.{into_iter_items, into_iter_len}
 use Rattle.om_runner.specs.steps.Network.{ArePuts, AreTakes}
 use Rattle.om_runner.specs.steps.Wiring.{HasEnds}
@@ -48,6 +52,17 @@ new-links-requires-clause-taking g c =
     let lt : 0 < into_iter_len c.loop-one.one-iterator = search rules in
     let have = subst (HasEnds g.K.Naming.cell.n c.args.cluster.now.inboxes.now (vec_len c.loop-one.handles + 0)) first (c.loop-one.invariant.3 0 c.in-Some.one lt) in
     subst (λ k. AreTakes c.args.cluster.now.inboxes.now k c.in-Some.one.takes.items) (search rules) have.taking
+
+pub start-requires-clause-program : goal.start-requires-clause-program
+start-requires-clause-program g c = λ lifetimes outlive.
+    let images = c.args.cluster.now.plan.now.images.items in
+    let own = c.len-own.result in
+    let image = c.index-image.result.now in
+    let within : own < length images = search rules in
+    let at : slice_get images own ≡ Some image = slice_get_read images (length images) own image refl within c.index-image.ensures in
+    let here : c.new-links.result.own ≡ own = c.new-links.ensures.own ∙ c.at.ensures in
+    subst (λ ps. slice_get ps c.new-links.result.own ≡ Some (program_of image)) (sym c.requires.programs)
+    (subst (λ i. slice_get (map program_of images) i ≡ Some (program_of image)) (sym here) (map_get program_of images own image at))
 
 pub loop-one-preserved : goal.loop-one-preserved
 loop-one-preserved g c =

@@ -11,3 +11,6 @@ returns-in-Ok-ended-clause-along g c = λ always.
     let long : length kept ≡ length images = (let l = c.run_named-ended.ensures.stores in search rules) in
     let along : AreAlong g.O.Store.Stable.is_clean images statuses kept = (let a = c.run_named-ended.ensures.along in search rules) in
     along_always g.O.Store.Stable.is_clean images statuses kept long along always
+
+pub returns-in-Ok-ended-clause-made : goal.returns-in-Ok-ended-clause-made
+returns-in-Ok-ended-clause-made g c = λ always. let made = c.run_named-ended.ensures.made always in search rules

@@ -9,3 +9,6 @@ index-requires c = core_within _ c.args.p _ c.requires.core c.args.cores.now.ok.
 
 pub unreachable-requires : goal.unreachable-requires
 unreachable-requires c = core_read _ c.args.p _ c.requires.core c.index.ensures c.in-None.is
+
+pub hand_in-requires-clause-taken : goal.hand_in-requires-clause-taken
+hand_in-requires-clause-taken c = λ made has. tt

@@ -8,7 +8,7 @@ use Rattle.om_board.proofs.FrontLemmas.{goes_on}
 use Rattle.om_board.proofs.board.Board.note_checkpoint.Goals as goal
 
 pub post-requires-clause-may : goal.post-requires-clause-may
-post-requires-clause-may g c = subst (MayFollow c.self.inside.writer) (sym c.of.ensures.front) (goes_on _ _ _ c.self.invariant.last c.note_checkpoint-told.ensures.front)
+post-requires-clause-may g c = subst (MayFollow c.self.inside.writer) (sym c.of.ensures.front) (goes_on _ _ _ c.self.invariant.0.last c.note_checkpoint-told.ensures.front)
 
 pub returns-clause-released : goal.returns-clause-released
 returns-clause-released g c = subst (λ (b : BoardState). KeepsReleased b.manager c.note_checkpoint-told.new.self) c.self.view_is c.note_checkpoint-told.ensures.released
@@ -18,4 +18,4 @@ returns-clause-refused g c =
     let old : BoardState = record { manager = c.self.inside.manager; posted = c.self.inside.writer; quiet = c.self.inside.quiet; waiting = c.self.inside.waiting } in
     let new : BoardState = record { manager = c.note_checkpoint-told.new.self; posted = c.post.new.self; quiet = c.self.inside.quiet; waiting = c.self.inside.waiting } in
     let follows = subst (λ f. Follows c.self.inside.writer f c.post.new.self) c.of.ensures.front c.post.ensures.follows in
-    subst (λ (b : BoardState). OnErr c.note_checkpoint-told.result (new ≡ b)) c.self.view_is (refused_row c.note_checkpoint-told.result old new _ _ c.note_checkpoint-told.ensures.answer c.self.invariant.last follows refl refl)
+    subst (λ (b : BoardState). OnErr c.note_checkpoint-told.result (new ≡ b)) c.self.view_is (refused_row c.note_checkpoint-told.result old new _ _ c.note_checkpoint-told.ensures.answer c.self.invariant.0.last follows refl refl)

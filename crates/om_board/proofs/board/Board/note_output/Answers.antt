@@ -1,10 +1,11 @@
-use Rattle.std.proofs.Common.{◌≡◌, ap, subst}
+use Rattle.std.proofs.Common.{◌≡◌, ap, rules, subst}
 use Rattle.std.specs.Prelude.{OnErr}
 use Rattle.std.proofs.lemmas.Result.{on_err_weaker}
 use Rattle.om_manager.specs.Sound.{KeepsReleased}
 use Rattle.om_manager.specs.State.{ManagerState}
 use Rattle.om_board.specs.Boards.{BoardState}
 use Rattle.om_board.proofs.BoardLemmas.{refused_output}
+use Rattle.om_board.proofs.MadeLemmas.{offered_made}
 use Rattle.om_board.proofs.board.Board.note_output.Goals as goal
 
 pub returns-clause-released : goal.returns-clause-released
@@ -16,3 +17,10 @@ returns-clause-refused g c =
     let told = c.note_output.result in
     subst (λ (b : BoardState). OnErr told (board c.note_output.new.self ≡ b)) c.self.view_is
     (on_err_weaker told (λ same. ap board same) (refused_output told _ _ _ c.note_output.ensures.answer))
+
+pub invariant_of-self : goal.invariant_of-self
+invariant_of-self g c = (
+  search rules,
+  λ clean. offered_made g.K.Naming.programs g.K.Naming.cell.n c.note_output.result _ _ _ c.self.invariant.0.manager c.note_output.ensures.answer
+      (c.requires.made clean) (c.self.invariant.1 clean),
+)

@@ -1,4 +1,4 @@
-use Rattle.om_picture.proofs.MarkLemmas.{shape_added}
+use Rattle.om_picture.proofs.LaneLemmas.{shape_added}
 use Rattle.om_picture.proofs.picture.Picture.add_shape.Goals as goal
 
 pub returns : goal.returns

@@ -1,12 +1,22 @@
-use Rattle.std.proofs.Common.{[]}
 use Rattle.om_picture.specs.Drawing.{sketch_of}
-use Rattle.om_picture.proofs.MarkLemmas.{adds_none, then_none}
+use Rattle.om_picture.proofs.LaneLemmas.{settles_fewer, settles_lane, settles_next, settles_start}
+use Rattle.std.proofs.Common.{true}
 use Rattle.om_picture.proofs.picture.Picture.cut_marks.Goals as goal
 
-pub loop-init : goal.loop-init
-loop-init c = adds_none (sketch_of c.args.self.now)
+pub loop-first-init : goal.loop-first-init
+loop-first-init c = settles_start true (sketch_of c.args.self.now) c.args.p
 
-pub loop-preserved : goal.loop-preserved
-loop-preserved c =
-    then_none (sketch_of c.args.self.now) (sketch_of c.loop.self) (sketch_of c.cut_next.new.self) [] c.loop.invariant
-    c.in_ok-cut_next.ensures
+pub loop-first-preserved : goal.loop-first-preserved
+loop-first-preserved c =
+    settles_next true (sketch_of c.args.self.now) (sketch_of c.loop-first.self) (sketch_of c.next.new.self) (sketch_of c.cut_mark.new.self)
+    c.args.p c.in-Some.first c.loop-first.invariant c.in-Some.ensures c.in_ok-cut_mark.ensures
+
+pub loop-first-smaller : goal.loop-first-smaller
+loop-first-smaller c =
+    settles_fewer (sketch_of c.loop-first.self) (sketch_of c.next.new.self) (sketch_of c.cut_mark.new.self) c.args.p c.in-Some.first _
+    c.in-Some.ensures c.in_ok-cut_mark.ensures
+
+pub returns : goal.returns
+returns c =
+    settles_lane true (sketch_of c.args.self.now) (sketch_of c.loop-first.self) (sketch_of c.next.new.self) c.args.p c.loop-first.invariant
+    c.in_default.ensures

@@ -1,7 +1,10 @@
-use Rattle.std.proofs.Common.{[]}
-use Rattle.om_picture.specs.Drawing.{sketch_of}
-use Rattle.om_picture.specs.steps.Adding.{Adds}
+use Rattle.std.proofs.Common.{length, true}
+use Rattle.om_picture.specs.Drawing.{lane_of, sketch_of}
+use Rattle.om_picture.specs.steps.Adding.{SettlesSome}
 use Rattle.om_picture.proofs.picture.Picture.cut_marks.Given as goal
 
-abbrev pub invariant-loop : goal.invariant-loop
-invariant-loop l = Adds (sketch_of l.fn.self) (sketch_of l.self) []
+abbrev pub invariant-loop-first : goal.invariant-loop-first
+invariant-loop-first l = SettlesSome true (sketch_of l.fn.self) (sketch_of l.self) l.p
+
+abbrev pub decreases-loop-first : goal.decreases-loop-first
+decreases-loop-first l = length (lane_of (sketch_of l.self) l.p).waiting

@@ -1,11 +1,9 @@
-use Rattle.std.proofs.Common.{Some}
 use Rattle.om_picture.specs.Drawing.{sketch_of}
-use Rattle.om_picture.specs.Marks.{Taken, step_entry}
-use Rattle.om_picture.proofs.MarkLemmas.{waits_mark}
+use Rattle.om_picture.specs.Fates.{step_entry}
+use Rattle.om_picture.proofs.ShowLemmas.{receipt_shown}
 use Rattle.om_picture.proofs.picture.Picture.draw_receipt.Goals as goal
 
 pub returns : goal.returns
 returns c =
-    waits_mark c.wait.result (sketch_of c.args.self.now) (sketch_of c.receive.new.self) (sketch_of c.wait.new.self) c.in_ok-x.x
-    (Some Taken) (step_entry c.args.step.now)
-    c.receive.ensures.same c.in_ok-x.ensures c.wait.ensures
+    receipt_shown c.wait.result (sketch_of c.args.self.now) (sketch_of c.receive.new.self) (sketch_of c.wait.new.self) c.args.p c.in_ok-x.x
+    _ _ _ (step_entry c.args.step.now) c.in_ok-x.ensures c.receive.ensures.turn c.wait.ensures

@@ -1,11 +1,9 @@
-use Rattle.std.proofs.Common.{Some}
 use Rattle.om_picture.specs.Drawing.{sketch_of}
-use Rattle.om_picture.specs.Marks.{Worked, step_entry}
-use Rattle.om_picture.proofs.MarkLemmas.{waits_mark}
+use Rattle.om_picture.specs.Fates.{step_entry}
+use Rattle.om_picture.proofs.ShowLemmas.{run_shown}
 use Rattle.om_picture.proofs.picture.Picture.draw_run.Goals as goal
 
 pub returns : goal.returns
 returns c =
-    waits_mark c.wait.result (sketch_of c.args.self.now) (sketch_of c.end_program.new.self) (sketch_of c.wait.new.self) c.in_ok-x.x
-    (Some Worked) (step_entry c.args.step.now)
-    c.end_program.ensures.same c.in_ok-x.ensures c.wait.ensures
+    run_shown c.wait.result (sketch_of c.args.self.now) (sketch_of c.end_program.new.self) (sketch_of c.wait.new.self) c.args.p c.in_ok-x.x
+    _ _ _ _ _ (step_entry c.args.step.now) c.is_some.ensures c.in_ok-x.ensures c.end_program.ensures.turn c.wait.ensures

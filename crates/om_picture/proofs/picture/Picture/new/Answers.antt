@@ -4,4 +4,4 @@ use Rattle.om_picture.proofs.picture.Picture.new.Goals as goal
 
 pub returns : goal.returns
 returns c =
-    new_sketch _ _ _ _ c.new-2.ensures.items (c.in_ok-histories.ensures.lanes ∙ c.n.ensures.places) c.in_ok-histories.ensures.empty
+    new_sketch _ _ _ _ c.new-2.ensures.items (c.in_ok-histories.ensures.lanes ∙ c.n.ensures.places) c.in_ok-histories.ensures.new

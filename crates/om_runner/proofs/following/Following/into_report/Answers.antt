@@ -1,17 +1,23 @@
 use Rattle.std.proofs.Common.{◌≡◌, None}
-use Rattle.om_runner.proofs.FollowLemmas.{all_released, told_all, told_in_order}
+use Rattle.om_runner.proofs.FollowLemmas.{all_released, made_of_all, told_all, told_partly}
 use Rattle.om_runner.proofs.following.Following.into_report.Goals as goal
 
 pub returns-in-Some-clause-partly : goal.returns-in-Some-clause-partly
 returns-in-Some-clause-partly g c = λ start was wanted.
-    told_in_order g.F.Follower.Tells start c.args.self.follower c.args.self.front.vec c.args.self.lanes.items c.args.self.kept (was (λ same. wanted (cc)))
+    told_partly g.F.Follower.Tells start c.args.self.follower c.args.self.front.vec c.args.self.lanes.items g.K.Naming.OverClean g.K.Naming.programs g.K.Naming.cell.n
+    c.args.self.kept c.args.self.made (was (λ same. wanted (cc)))
 
 pub returns-in_default-outputs_of-clause-partly : goal.returns-in_default-outputs_of-clause-partly
 returns-in_default-outputs_of-clause-partly g c = λ start was wanted.
-    told_in_order g.F.Follower.Tells start c.args.self.follower c.args.self.front.vec c.args.self.lanes.items c.args.self.kept (was (λ same. cc))
+    told_partly g.F.Follower.Tells start c.args.self.follower c.args.self.front.vec c.args.self.lanes.items g.K.Naming.OverClean g.K.Naming.programs g.K.Naming.cell.n
+    c.args.self.kept c.args.self.made (was (λ same. cc))
 
 pub returns-clause-released : goal.returns-clause-released
 returns-clause-released g c = all_released c.args.self.front.vec c.args.self.lanes.items c.in-Ok.released.items c.in-Ok.ensures c.args.self.kept
+
+pub returns-clause-made : goal.returns-clause-made
+returns-clause-made g c = λ clean.
+    made_of_all g.K.Naming.programs g.K.Naming.cell.n c.args.self.lanes.items c.in-Ok.released.items c.in-Ok.ensures (c.args.self.made clean)
 
 pub returns-clause-told : goal.returns-clause-told
 returns-clause-told g c = λ start was.

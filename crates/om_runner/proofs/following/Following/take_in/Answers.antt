@@ -1,5 +1,6 @@
 use Rattle.std.proofs.Common.{◌≡◌, ◌∙◌, ap, rules, subst, sym}
 use Rattle.om_board.specs.Boards.{BoardState, IsBoard}
+use Rattle.om_board.specs.Made.{HoldsMade}
 use Rattle.om_manager.specs.State.{ManagerState}
 use Rattle.om_runner.proofs.FollowLemmas.{kept_met}
 use Rattle.om_runner.specs.steps.Following.{AreKept, StayKept}
@@ -20,4 +21,6 @@ invariant_of-following g c =
       few = search rules;
       kept = kept.0;
       stay = subst (λ seen. StayKept seen new) (sym c.meet-front.ensures.all) kept.1;
+      made = λ clean. c.add_all.ensures.made g.K.Naming.programs n
+          (subst (HoldsMade g.K.Naming.programs n) (sym c.manager.ensures.manager) (c.manager.ensures.made clean)) (c.args.self.made clean);
     }

@@ -1,0 +1,52 @@
+-- The numbers of the lines that say something.
+use Rattle.std.proofs.Common.{◌≡◌, ◌+◌, ◌-◌, ◌<◌, ◌≤◌, ℕ, zero, suc, Bool, true, false, if◌then◌else◌, List, [], ◌∷◌, length, map, drop, get_or, arith}
+use Rattle.std.specs.Prelude.{slice_index}
+use Rattle.std.proofs.lemmas.List.{get_or-drop, length-drop}
+use Rattle.om_text.specs.Lines.{lines_of}
+use Rattle.om_text.specs.Numbered.{numbered}
+use Rattle.om_text.specs.Words.{is_passed_over, words_of}
+use Rattle.om_commands.specs.Draw.{event_lines}
+
+-- none is below the first
+first_below : (b : Bool) (number : ℕ) (rest : List ℕ) → ((i : ℕ) → i < length rest → number + 1 ≤ get_or rest i 0)
+    → (i : ℕ) → i < length (if b then rest else number ∷ rest) → number ≤ get_or (if b then rest else number ∷ rest) i 0
+first_below true number rest low i below = let h = low i below in omega arith
+first_below false number rest low zero below = omega arith
+first_below false number rest low (suc i) below = let h = low i (omega arith) in omega arith
+
+numbers_below : (number : ℕ) (lines : List (List (List ℕ))) (i : ℕ) → i < length (numbered number lines)
+    → number ≤ get_or (numbered number lines) i 0
+numbers_below number [] i below = absurd (omega arith)
+numbers_below number (words ∷ lines) i below =
+    first_below (is_passed_over words) number (numbered (number + 1) lines) (numbers_below (number + 1) lines) i below
+
+one_rises : (b : Bool) (number : ℕ) (rest : List ℕ) → ((i : ℕ) → i < length rest → number + 1 ≤ get_or rest i 0)
+    → ((i j : ℕ) → i < j → j < length rest → get_or rest i 0 < get_or rest j 0)
+    → (i j : ℕ) → i < j → j < length (if b then rest else number ∷ rest)
+    → get_or (if b then rest else number ∷ rest) i 0 < get_or (if b then rest else number ∷ rest) j 0
+one_rises true number rest low rise i j less below = rise i j less below
+one_rises false number rest low rise i zero less below = absurd (omega arith)
+one_rises false number rest low rise zero (suc j) less below = let h = low j (omega arith) in omega arith
+one_rises false number rest low rise (suc i) (suc j) less below = rise i j (omega arith) (omega arith)
+
+numbers_rise : (number : ℕ) (lines : List (List (List ℕ))) (i j : ℕ) → i < j → j < length (numbered number lines)
+    → get_or (numbered number lines) i 0 < get_or (numbered number lines) j 0
+numbers_rise number [] i j less below = absurd (omega arith)
+numbers_rise number (words ∷ lines) i j less below =
+    one_rises (is_passed_over words) number (numbered (number + 1) lines) (numbers_below (number + 1) lines)
+    (numbers_rise (number + 1) lines) i j less below
+
+dropped_rise : (xs : List ℕ) (n : ℕ) → ((i j : ℕ) → i < j → j < length xs → get_or xs i 0 < get_or xs j 0)
+    → (i j : ℕ) → i < j → j < length (drop n xs) → get_or (drop n xs) i 0 < get_or (drop n xs) j 0
+dropped_rise xs n rise i j less below =
+    let long = length-drop n xs in
+    let at_i : get_or (drop n xs) i 0 ≡ get_or xs (n + i) 0 = get_or-drop n xs i 0 in
+    let at_j : get_or (drop n xs) j 0 ≡ get_or xs (n + j) 0 = get_or-drop n xs j 0 in
+    let h = rise (n + i) (n + j) (omega arith) (omega arith) in
+    omega arith
+
+pub lines_rise : (bytes : List ℕ) (events i j : ℕ) → i < j → j < length (event_lines bytes events)
+    → slice_index (event_lines bytes events) i < slice_index (event_lines bytes events) j
+lines_rise bytes events i j less below =
+    let lines : List ℕ = numbered 1 (map words_of (lines_of bytes)) in
+    dropped_rise lines (length lines - events) (numbers_rise 1 (map words_of (lines_of bytes))) i j less below

@@ -1,0 +1,630 @@
+-- What the marks of a picture come to, as its lanes change.
+use Rattle.std.proofs.Common.{◌≡◌, ◌≢◌, ◌∙◌, ◌+◌, ◌-◌, ◌<◌, ◌≤◌, ◌==◌, ◌||◌, ℕ, zero, suc, Bool, true, false, if◌then◌else◌, max, List, [], ◌∷◌, ◌++◌, Option, Some, None, Result, Ok, Err, OnOk, MatchOption, is_ok, length, map, drop, get_or, set, refl, ap, sym, subst, inl, inr, arith, get_or-set_same, get_or-set_other, length-set, append_assoc}
+use Rattle.std.specs.Prelude.{nat_le, nat_lt, slice_index}
+use Rattle.std.specs.List.{flat_map, sum_by}
+use Rattle.std.specs.declared.alloc.AllocError.{AllocError}
+use Rattle.std.proofs.Math.Dec.{eqb-suc-zero}
+use Rattle.std.proofs.Math.Bool.{or-true}
+use Rattle.std.proofs.lemmas.Bool.{eq-eqb, ltb-false, ltb-true}
+use Rattle.std.proofs.lemmas.Bool.Decides.{eqb_tells}
+use Rattle.std.proofs.lemmas.List.{append-nil, drop-append-le, drop_all, drop_more, flat_map_more, get_or_past, get_or-map, length-drop, length-map, map-set, set-get_or}
+use Rattle.std.proofs.lemmas.List.Sums.{sum_by-append}
+use Rattle.std.proofs.lemmas.Result.{on_ok_weaker}
+use Rattle.om_picture.specs.Drawing.{Lane, Sketch, all_marks, lane_in, lane_of, lanes_marks, late_marks, mark_marks, new_lane, waiting_marks}
+use Rattle.om_picture.specs.Fates.{Entry, Fate, Row}
+use Rattle.om_picture.specs.Marks.{EventMark, Kind, Made, kind_drawn, mark_of, output_marks, shape_marks, title_entry}
+use Rattle.om_picture.specs.Shows.{shown}
+use Rattle.om_picture.specs.declared.history.History.{History}
+use Rattle.om_picture.specs.declared.history.Mark.{Mark}
+use Rattle.om_picture.specs.declared.history.Next.{Next}
+use Rattle.om_picture.specs.declared.sheet.Form.{Form}
+use Rattle.om_picture.specs.declared.sheet.Shape.{Shape}
+use Rattle.om_picture.specs.declared.sheet.Title.{Title}
+use Rattle.om_picture.specs.declared.shown.Shown.{Shown}
+use Rattle.om_picture.specs.declared.shown.Shown.TheVariants as shows
+use Rattle.om_picture.specs.steps.Adding.{IsMore, Keeps, Learns, LearnsAll, LearnsAt, LearnsBelow, Raises, Settles, SettlesAll, SettlesBelow, SettlesLane, SettlesSome, Shows, ShowsAt, Stays, Takes, TakesCovered, TakesFirst, Turns, Waits, amid_marks, fate_amid, fate_now, kept, kind_late, made_by, now_marks}
+use Rattle.om_picture.proofs.FateLemmas.{amid_again, kept_amid, waiting_alike}
+
+-- ---- counts
+pub all_counted : (count : EventMark → ℕ) (marks : ℕ → Lane → List EventMark) (s : Sketch)
+    → sum_by count (all_marks marks s) ≡ sum_by count s.drawn + sum_by count (lanes_marks marks 0 s.lanes)
+unfolding all_marks
+all_counted count marks s = sum_by-append count s.drawn (lanes_marks marks 0 s.lanes)
+
+-- lanes whose marks come to the same
+pub lanes_alike : (v w : ℕ → Lane → List EventMark) (k : ℕ) (lanes : List Lane)
+    → ((q : ℕ) → q < length lanes → v (k + q) (get_or lanes q new_lane) ≡ w (k + q) (get_or lanes q new_lane))
+    → lanes_marks v k lanes ≡ lanes_marks w k lanes
+lanes_alike v w k [] same = refl
+lanes_alike v w k (lane ∷ lanes) same =
+    let at : k + 0 ≡ k = omega arith in
+    let here : v k lane ≡ w k lane = subst (λ (n : ℕ). v n lane ≡ w n lane) at (same 0 (omega arith)) in
+    ap (λ (l : List EventMark). l ++ lanes_marks v (suc k) lanes) here
+    ∙ ap (λ (l : List EventMark). w k lane ++ l) (lanes_alike v w (suc k) lanes (λ (q : ℕ) (below : q < length lanes).
+    let next : k + suc q ≡ suc k + q = omega arith in
+    subst (λ (n : ℕ). v n (get_or lanes q new_lane) ≡ w n (get_or lanes q new_lane)) next (same (suc q) (omega arith))))
+
+-- a lane that is another, where the marks of the others come to the same
+lanes_set : (count : EventMark → ℕ) (v w : ℕ → Lane → List EventMark) (k : ℕ) (lanes : List Lane) (p : ℕ) (b : Lane) → p < length lanes
+    → ((q : ℕ) → q ≢ k + p → (lane : Lane) → v q lane ≡ w q lane)
+    → sum_by count (lanes_marks w k (set lanes p b)) + sum_by count (v (k + p) (get_or lanes p new_lane))
+    ≡ sum_by count (lanes_marks v k lanes) + sum_by count (w (k + p) b)
+lanes_set count v w k [] p b within others = absurd (omega arith)
+lanes_set count v w k (lane ∷ lanes) zero b within others =
+    let rest = lanes_alike v w (suc k) lanes (λ (q : ℕ) (below : q < length lanes).
+    let away : suc k + q ≢ k + zero = omega arith in others (suc k + q) away (get_or lanes q new_lane)) in
+    let at : k + zero ≡ k = omega arith in
+    let x = sum_by-append count (w k b) (lanes_marks w (suc k) lanes) in
+    let y = sum_by-append count (v k lane) (lanes_marks v (suc k) lanes) in
+    let z : sum_by count (lanes_marks v (suc k) lanes) ≡ sum_by count (lanes_marks w (suc k) lanes) =
+    ap (λ (l : List EventMark). sum_by count l) rest in
+    let s : sum_by count (v (k + zero) lane) ≡ sum_by count (v k lane) = ap (λ (n : ℕ). sum_by count (v n lane)) at in
+    let t : sum_by count (w (k + zero) b) ≡ sum_by count (w k b) = ap (λ (n : ℕ). sum_by count (w n b)) at in
+    omega arith
+lanes_set count v w k (lane ∷ lanes) (suc p) b within others =
+    let at : k + suc p ≡ suc k + p = omega arith in
+    let before = lanes_set count v w (suc k) lanes p b (omega arith) (λ (q : ℕ) (away : q ≢ suc k + p) (l : Lane).
+    let off : q ≢ k + suc p = omega arith in others q off l) in
+    let first : k ≢ k + suc p = omega arith in
+    let here : sum_by count (v k lane) ≡ sum_by count (w k lane) = ap (λ (l : List EventMark). sum_by count l) (others k first lane) in
+    let x = sum_by-append count (w k lane) (lanes_marks w (suc k) (set lanes p b)) in
+    let y = sum_by-append count (v k lane) (lanes_marks v (suc k) lanes) in
+    let s : sum_by count (v (k + suc p) (get_or lanes p new_lane)) ≡ sum_by count (v (suc k + p) (get_or lanes p new_lane)) =
+    ap (λ (n : ℕ). sum_by count (v n (get_or lanes p new_lane))) at in
+    let t : sum_by count (w (k + suc p) b) ≡ sum_by count (w (suc k + p) b) = ap (λ (n : ℕ). sum_by count (w n b)) at in
+    omega arith
+
+pub lane_counted : (count : EventMark → ℕ) (v w : ℕ → Lane → List EventMark) (lanes : List Lane) (p : ℕ) (b : Lane) → p < length lanes
+    → ((q : ℕ) → q ≢ p → (lane : Lane) → v q lane ≡ w q lane)
+    → sum_by count (lanes_marks w 0 (set lanes p b)) + sum_by count (v p (get_or lanes p new_lane))
+    ≡ sum_by count (lanes_marks v 0 lanes) + sum_by count (w p b)
+lane_counted count v w lanes p b within others =
+    let at : 0 + p ≡ p = omega arith in
+    let all = lanes_set count v w 0 lanes p b within (λ (q : ℕ) (away : q ≢ 0 + p) (l : Lane).
+    let off : q ≢ p = omega arith in others q off l) in
+    let s : sum_by count (v (0 + p) (get_or lanes p new_lane)) ≡ sum_by count (v p (get_or lanes p new_lane)) =
+    ap (λ (n : ℕ). sum_by count (v n (get_or lanes p new_lane))) at in
+    let t : sum_by count (w (0 + p) b) ≡ sum_by count (w p b) = ap (λ (n : ℕ). sum_by count (w n b)) at in
+    omega arith
+
+-- ---- steps
+turn_counted : (count : EventMark → ℕ) (v : ℕ → Lane → List EventMark) (Turn : Lane → Lane → Type 0) (a b : Sketch) (p : ℕ)
+    → Turns Turn a b p
+    → sum_by count (all_marks v b) + sum_by count (v p (lane_of a p)) ≡ sum_by count (all_marks v a) + sum_by count (v p (lane_of b p))
+turn_counted count v Turn a b p t =
+    let x = all_counted count v a in
+    let y = all_counted count v b in
+    let drawn : sum_by count b.drawn ≡ sum_by count a.drawn = ap (λ (l : List EventMark). sum_by count l) t.drawn in
+    let lanes : sum_by count (lanes_marks v 0 b.lanes) ≡ sum_by count (lanes_marks v 0 (set a.lanes p (lane_of b p))) =
+    ap (λ (ls : List Lane). sum_by count (lanes_marks v 0 ls)) t.lanes in
+    let one = lane_counted count v v a.lanes p (lane_of b p) t.within (λ (q : ℕ) (away : q ≢ p) (l : Lane). refl) in
+    omega arith
+
+settle_counted : (count : EventMark → ℕ) (v : ℕ → Lane → List EventMark) (a b : Sketch) (more : List EventMark) → Settles a b more
+    → sum_by count (all_marks v b) ≡ sum_by count (all_marks v a) + sum_by count more
+settle_counted count v a b more s =
+    let x = all_counted count v a in
+    let y = all_counted count v b in
+    let drawn : sum_by count b.drawn ≡ sum_by count a.drawn + sum_by count more =
+    ap (λ (l : List EventMark). sum_by count l) s.drawn ∙ sum_by-append count a.drawn more in
+    let lanes : sum_by count (lanes_marks v 0 b.lanes) ≡ sum_by count (lanes_marks v 0 a.lanes) =
+    ap (λ (ls : List Lane). sum_by count (lanes_marks v 0 ls)) s.lanes in
+    omega arith
+
+pub turned_count : (Turn : Lane → Lane → Type 0) (a b : Sketch) (p : ℕ) → Turns Turn a b p → length b.lanes ≡ length a.lanes
+turned_count Turn a b p t = ap (λ (ls : List Lane). length ls) t.lanes ∙ length-set a.lanes p (lane_of b p)
+
+pub turned_other : (Turn : Lane → Lane → Type 0) (a b : Sketch) (p : ℕ) → Turns Turn a b p → (q : ℕ) → q ≢ p → lane_of b q ≡ lane_of a q
+turned_other Turn a b p t q away =
+    ap (λ (ls : List Lane). get_or ls q new_lane) t.lanes ∙ get_or-set_other a.lanes p q (lane_of b p) new_lane away
+
+pub settled_lane : (a b : Sketch) (more : List EventMark) → Settles a b more → (q : ℕ) → lane_of b q ≡ lane_of a q
+settled_lane a b more s q = ap (λ (ls : List Lane). get_or ls q new_lane) s.lanes
+
+-- ---- what is kept
+pub keeps_none : (v : ℕ → Lane → List EventMark) (s : Sketch) → Keeps v s s
+keeps_none v s = record { on = refl; first = refl; count = refl; marks = λ (c : EventMark → ℕ). refl }
+
+pub keeps_then : (v : ℕ → Lane → List EventMark) (a b c : Sketch) → Keeps v a b → Keeps v b c → Keeps v a c
+keeps_then v a b c p q = record {
+  on = q.on ∙ p.on;
+  first = q.first ∙ p.first;
+  count = q.count ∙ p.count;
+  marks = λ (x : EventMark → ℕ). q.marks x ∙ p.marks x;
+}
+
+settles_keeps : (v : ℕ → Lane → List EventMark) (a b : Sketch) → Settles a b [] → Keeps v a b
+settles_keeps v a b s = record {
+  on = s.on;
+  first = s.first;
+  count = ap (λ (ls : List Lane). length ls) s.lanes;
+  marks = λ (c : EventMark → ℕ).
+      let x = settle_counted c v a b [] s in
+      let none : sum_by c (let l : List EventMark = [] in l) ≡ 0 = refl in
+      omega arith;
+}
+
+turn_keeps : (v : ℕ → Lane → List EventMark) (Turn : Lane → Lane → Type 0) (a b : Sketch) (p : ℕ) → Turns Turn a b p
+    → v p (lane_of b p) ≡ v p (lane_of a p) → Keeps v a b
+turn_keeps v Turn a b p t same = record {
+  on = t.on;
+  first = t.first;
+  count = turned_count Turn a b p t;
+  marks = λ (c : EventMark → ℕ).
+      let x = turn_counted c v Turn a b p t in
+      let y : sum_by c (v p (lane_of b p)) ≡ sum_by c (v p (lane_of a p)) = ap (λ (l : List EventMark). sum_by c l) same in
+      omega arith;
+}
+
+-- a mark that is taken and drawn
+taken_keeps : (v : ℕ → Lane → List EventMark) (Turn : Lane → Lane → Type 0) (a b c : Sketch) (p : ℕ) (more : List EventMark)
+    → Turns Turn a b p → Settles b c more → v p (lane_of a p) ≡ more ++ v p (lane_of b p) → Keeps v a c
+taken_keeps v Turn a b c p more t s was = record {
+  on = s.on ∙ t.on;
+  first = s.first ∙ t.first;
+  count = ap (λ (ls : List Lane). length ls) s.lanes ∙ turned_count Turn a b p t;
+  marks = λ (x : EventMark → ℕ).
+      let i = turn_counted x v Turn a b p t in
+      let j = settle_counted x v b c more s in
+      let k : sum_by x (v p (lane_of a p)) ≡ sum_by x more + sum_by x (v p (lane_of b p)) =
+      ap (λ (l : List EventMark). sum_by x l) was ∙ sum_by-append x more (v p (lane_of b p)) in
+      omega arith;
+}
+
+-- what waits on a lane comes to its first mark and the rest
+takes_marks : (f : ℕ → ℕ → Bool → Fate) (mark : Mark) (a b : Lane) → Takes mark a b
+    → waiting_marks (f a.reached) a.stored a.waiting
+    ≡ mark_marks mark (f a.reached mark.interval (nat_lt 0 a.stored)) ++ waiting_marks (f b.reached) b.stored b.waiting
+takes_marks f mark a b t =
+    let head : List EventMark = mark_marks mark (f a.reached mark.interval (nat_lt 0 a.stored)) in
+    ap (λ (l : List Mark). waiting_marks (f a.reached) a.stored l) t.was
+    ∙ ap (λ (n : ℕ). head ++ waiting_marks (f a.reached) n b.waiting) (sym (ap (λ (l : Lane). l.stored) t.lane))
+    ∙ ap (λ (n : ℕ). head ++ waiting_marks (f n) b.stored b.waiting) (sym (ap (λ (l : Lane). l.reached) t.lane))
+
+takes_stays : (mark : Mark) (a b : Lane) → Takes mark a b → Stays a b
+takes_stays mark a b t = record {
+  interval = ap (λ (l : Lane). l.interval) t.lane;
+  ended = ap (λ (l : Lane). l.ended) t.lane;
+  reached = ap (λ (l : Lane). l.reached) t.lane;
+}
+
+-- ---- a recovery state is told
+raised_marks : (row : Row) (later : List Row) (p place : ℕ) (a b : Lane) → place ≡ slice_index row.recovery p → Raises place a b
+    → amid_marks row later p b ≡ amid_marks row later p a
+raised_marks row later p place a b is raised =
+    ap (λ (l : Lane). amid_marks row later p l) raised
+    ∙ waiting_alike (λ i stored. fate_amid row later p i stored (max a.reached place))
+    (λ i stored. fate_amid row later p i stored a.reached)
+    (λ (i : ℕ) (stored : Bool).
+    ap (λ (n : ℕ). fate_amid row later p i stored (max a.reached n)) is ∙ amid_again row later p i a.reached stored) a.stored a.waiting
+
+pub learn_first : (row : Row) (a b : Sketch) (p place : ℕ) → place ≡ slice_index row.recovery p → Turns (Raises place) a b p
+    → LearnsAt row a b p
+learn_first row a b p place is t = record {
+  keeps = λ (later : List Row). turn_keeps (amid_marks row later) (Raises place) a b p t
+      (raised_marks row later p place (lane_of a p) (lane_of b p) is t.turn);
+  here = record {
+    interval = ap (λ (l : Lane). l.interval) t.turn;
+    ended = ap (λ (l : Lane). l.ended) t.turn;
+    reached = ap (λ (l : Lane). l.reached) t.turn ∙ ap (λ (n : ℕ). max (lane_of a p).reached n) is;
+  };
+  others = turned_other (Raises place) a b p t;
+}
+
+-- a mark that it covers is kept
+covered_marks : (row : Row) (later : List Row) (p : ℕ) (mark : Mark) (a b : Lane) → TakesCovered mark a b
+    → amid_marks row later p a ≡ mark_marks mark kept ++ amid_marks row later p b
+covered_marks row later p mark a b t =
+    takes_marks (λ was i stored. fate_amid row later p i stored was) mark a b t.takes
+    ∙ ap (λ (f : Fate). mark_marks mark f ++ amid_marks row later p b)
+    (kept_amid row later p mark.interval a.reached (nat_lt 0 a.stored) t.covered)
+
+learned_still : (place : ℕ) (a b c : Lane) → Learns place a b → Stays b c → Learns place a c
+learned_still place a b c p q = record { interval = q.interval ∙ p.interval; ended = q.ended ∙ p.ended; reached = q.reached ∙ p.reached }
+
+pub learn_kept : (row : Row) (a b c d : Sketch) (p : ℕ) (mark : Mark) → LearnsAt row a b p → Turns (TakesCovered mark) b c p
+    → Settles c d (mark_marks mark kept) → LearnsAt row a d p
+learn_kept row a b c d p mark before t s = record {
+  keeps = λ (later : List Row). keeps_then (amid_marks row later) a b d (before.keeps later)
+      (taken_keeps (amid_marks row later) (TakesCovered mark) b c d p (mark_marks mark kept) t s
+      (covered_marks row later p mark (lane_of b p) (lane_of c p) t.turn));
+  here = learned_still (slice_index row.recovery p) (lane_of a p) (lane_of b p) (lane_of d p) before.here
+      (subst (λ (l : Lane). Stays (lane_of b p) l) (sym (settled_lane c d (mark_marks mark kept) s p))
+      (takes_stays mark (lane_of b p) (lane_of c p) t.turn.takes));
+  others = λ (q : ℕ) (away : q ≢ p).
+      settled_lane c d (mark_marks mark kept) s q ∙ turned_other (TakesCovered mark) b c p t q away ∙ before.others q away;
+}
+
+-- a lane whose first mark is taken has fewer
+fewer : (mark : Mark) (a b : Lane) → Takes mark a b → length b.waiting < length a.waiting
+fewer mark a b t = let was : length a.waiting ≡ suc (length b.waiting) = ap (λ (l : List Mark). length l) t.was in omega arith
+
+pub kept_fewer : (b c d : Sketch) (p : ℕ) (mark : Mark) (more : List EventMark) → Turns (TakesCovered mark) b c p → Settles c d more
+    → length (lane_of d p).waiting < length (lane_of b p).waiting
+kept_fewer b c d p mark more t s =
+    let less = fewer mark (lane_of b p) (lane_of c p) t.turn.takes in
+    let same : length (lane_of d p).waiting ≡ length (lane_of c p).waiting = ap (λ (l : Lane). length l.waiting)
+    (settled_lane c d more s p) in
+    omega arith
+
+pub learn_none : (row : Row) (a b c : Sketch) (p : ℕ) → LearnsAt row a b p → c ≡ b → LearnsAt row a c p
+learn_none row a b c p before same = subst (λ (s : Sketch). LearnsAt row a s p) (sym same) before
+
+pub learns_start : (row : Row) (a : Sketch) → LearnsBelow row a a 0
+learns_start row a = record {
+  keeps = λ (later : List Row). keeps_none (amid_marks row later) a;
+  learned = λ (q : ℕ) (below : q < 0). absurd (omega arith);
+  others = λ (q : ℕ) (past : 0 ≤ q). refl;
+}
+
+pub learns_next : (row : Row) (a b c d : Sketch) (p : ℕ) → LearnsBelow row a b p → LearnsAt row b c p → Settles c d []
+    → LearnsBelow row a d (p + 1)
+learns_next row a b c d p before at s = record {
+  keeps = λ (later : List Row). keeps_then (amid_marks row later) a b d (before.keeps later)
+      (keeps_then (amid_marks row later) b c d (at.keeps later) (settles_keeps (amid_marks row later) c d s));
+  learned = λ (q : ℕ) (below : q < p + 1). elim (eqb_tells q p) [
+    | inl here ↦
+        let le : p ≤ q = (let e = here.1 in omega arith) in
+        let one : Learns (slice_index row.recovery q) (lane_of b q) (lane_of c q) =
+        subst (λ (n : ℕ). Learns (slice_index row.recovery n) (lane_of b n) (lane_of c n)) (sym here.1) at.here in
+        subst (λ (l : Lane). Learns (slice_index row.recovery q) (lane_of a q) l) (sym (settled_lane c d [] s q))
+        (subst (λ (l : Lane). Learns (slice_index row.recovery q) l (lane_of c q)) (before.others q le) one)
+    | inr away ↦
+        let less : q < p = (let e = away.1 in omega arith) in
+        subst (λ (l : Lane). Learns (slice_index row.recovery q) (lane_of a q) l)
+        (sym (settled_lane c d [] s q ∙ at.others q away.1)) (before.learned q less)
+  ];
+  others = λ (q : ℕ) (past : p + 1 ≤ q).
+      let away : q ≢ p = omega arith in
+      let le : p ≤ q = omega arith in
+      settled_lane c d [] s q ∙ at.others q away ∙ before.others q le;
+}
+
+pub learns_all : (row : Row) (a b : Sketch) (p : ℕ) → p ≡ length a.lanes → LearnsBelow row a b p → LearnsAll row a b
+learns_all row a b p count below = record {
+  keeps = below.keeps;
+  lanes = λ (q : ℕ) (within : q < length a.lanes). let less : q < p = omega arith in below.learned q less;
+}
+
+-- ---- what waits is settled
+first_marks : (finished : Bool) (p : ℕ) (next : Next) (a b : Lane) → TakesFirst next a b
+    → now_marks finished p a ≡ mark_marks next.mark (fate_now finished next.covered next.stored) ++ now_marks finished p b
+first_marks finished p next a b t =
+    takes_marks (λ reached i stored. fate_now finished (nat_le i reached) stored) next.mark a b t.takes
+    ∙ ap (λ (x : Bool). mark_marks next.mark (fate_now finished x (nat_lt 0 a.stored)) ++ now_marks finished p b) (sym t.covered)
+    ∙ ap (λ (x : Bool). mark_marks next.mark (fate_now finished next.covered x) ++ now_marks finished p b) (sym t.stored)
+
+stays_then : (a b c : Lane) → Stays a b → Stays b c → Stays a c
+stays_then a b c p q = record { interval = q.interval ∙ p.interval; ended = q.ended ∙ p.ended; reached = q.reached ∙ p.reached }
+
+stays : (a : Lane) → Stays a a
+stays a = record { interval = refl; ended = refl; reached = refl }
+
+pub settles_start : (finished : Bool) (a : Sketch) (p : ℕ) → SettlesSome finished a a p
+settles_start finished a p = record { keeps = keeps_none (now_marks finished) a; here = stays (lane_of a p); others = λ q away. refl }
+
+pub settles_next : (finished : Bool) (a b c d : Sketch) (p : ℕ) (next : Next) → SettlesSome finished a b p → Turns (TakesFirst next) b c p
+    → Settles c d (mark_marks next.mark (fate_now finished next.covered next.stored)) → SettlesSome finished a d p
+settles_next finished a b c d p next before t s =
+    let more : List EventMark = mark_marks next.mark (fate_now finished next.covered next.stored) in
+    record {
+      keeps = keeps_then (now_marks finished) a b d before.keeps
+          (taken_keeps (now_marks finished) (TakesFirst next) b c d p more t s
+          (first_marks finished p next (lane_of b p) (lane_of c p) t.turn));
+      here = stays_then (lane_of a p) (lane_of b p) (lane_of d p) before.here
+          (subst (λ (l : Lane). Stays (lane_of b p) l) (sym (settled_lane c d more s p))
+          (takes_stays next.mark (lane_of b p) (lane_of c p) t.turn.takes));
+      others = λ (q : ℕ) (away : q ≢ p).
+          settled_lane c d more s q ∙ turned_other (TakesFirst next) b c p t q away ∙ before.others q away;
+    }
+
+pub settles_fewer : (b c d : Sketch) (p : ℕ) (next : Next) (more : List EventMark) → Turns (TakesFirst next) b c p → Settles c d more
+    → length (lane_of d p).waiting < length (lane_of b p).waiting
+settles_fewer b c d p next more t s =
+    let less = fewer next.mark (lane_of b p) (lane_of c p) t.turn.takes in
+    let same : length (lane_of d p).waiting ≡ length (lane_of c p).waiting = ap (λ (l : Lane). length l.waiting)
+    (settled_lane c d more s p) in
+    omega arith
+
+pub settles_lane : (finished : Bool) (a b c : Sketch) (p : ℕ) → SettlesSome finished a b p → (c ≡ b) × ((lane_of b p).waiting ≡ [])
+    → SettlesLane finished a c p
+settles_lane finished a b c p some last =
+    subst (λ (s : Sketch). SettlesLane finished a s p) (sym last.0) (record { some = some; empty = last.1 })
+
+pub below_start : (finished : Bool) (a : Sketch) → SettlesBelow finished a a 0
+below_start finished a = record {
+  keeps = keeps_none (now_marks finished) a;
+  lanes = λ (q : ℕ). stays (lane_of a q);
+  empty = λ (q : ℕ) (below : q < 0). absurd (omega arith);
+}
+
+pub below_next : (finished : Bool) (a b c : Sketch) (p : ℕ) → SettlesBelow finished a b p → SettlesLane finished b c p
+    → SettlesBelow finished a c (p + 1)
+below_next finished a b c p before lane = record {
+  keeps = keeps_then (now_marks finished) a b c before.keeps lane.some.keeps;
+  lanes = λ (q : ℕ). elim (eqb_tells q p) [
+    | inl here ↦
+        stays_then (lane_of a q) (lane_of b q) (lane_of c q) (before.lanes q)
+        (subst (λ (n : ℕ). Stays (lane_of b n) (lane_of c n)) (sym here.1) lane.some.here)
+    | inr away ↦ subst (λ (l : Lane). Stays (lane_of a q) l) (sym (lane.some.others q away.1)) (before.lanes q)
+  ];
+  empty = λ (q : ℕ) (below : q < p + 1). elim (eqb_tells q p) [
+    | inl here ↦ subst (λ (n : ℕ). (lane_of c n).waiting ≡ []) (sym here.1) lane.empty
+    | inr away ↦
+        let less : q < p = (let e = away.1 in omega arith) in
+        ap (λ (l : Lane). l.waiting) (lane.some.others q away.1) ∙ before.empty q less
+  ];
+}
+
+pub settles_all : (finished : Bool) (a b : Sketch) (p : ℕ) → p ≡ length a.lanes → SettlesBelow finished a b p → SettlesAll finished a b
+settles_all finished a b p count below = record {
+  keeps = below.keeps;
+  lanes = below.lanes;
+  empty = λ (q : ℕ) (within : q < length a.lanes). let less : q < p = omega arith in below.empty q less;
+}
+
+-- ---- lanes of histories
+lane_at : (hs : List History) (p : ℕ) (h : History) → p < length hs → h ≡ get_or hs p h → get_or (map lane_in hs) p new_lane ≡ lane_in h
+lane_at hs p h within is = get_or-map lane_in hs p h new_lane within ∙ ap lane_in (sym is)
+
+-- a history that changes
+pub turned : (Turn : Lane → Lane → Type 0) (on : Bool) (first : ℕ) (drawn : List EventMark) (hs : List History) (p : ℕ) (old new : History)
+    → p < length hs → old ≡ get_or hs p old → Turn (lane_in old) (lane_in new)
+    → Turns Turn (record { on = on; first = first; drawn = drawn; lanes = map lane_in hs })
+    (record { on = on; first = first; drawn = drawn; lanes = map lane_in (set hs p new) }) p
+turned Turn on first drawn hs p old new within is turn =
+    let long = length-map hs lane_in in
+    let there : p < length (map lane_in hs) = omega arith in
+    let now : get_or (map lane_in (set hs p new)) p new_lane ≡ lane_in new =
+    ap (λ (ls : List Lane). get_or ls p new_lane) (map-set lane_in hs p new)
+    ∙ get_or-set_same (map lane_in hs) p (lane_in new) new_lane there in
+    record {
+      on = refl;
+      first = refl;
+      drawn = refl;
+      within = there;
+      lanes = map-set lane_in hs p new ∙ ap (λ (l : Lane). set (map lane_in hs) p l) (sym now);
+      turn = subst (λ (l : Lane). Turn (get_or (map lane_in hs) p new_lane) l) (sym now)
+          (subst (λ (l : Lane). Turn l (lane_in new)) (sym (lane_at hs p old within is)) turn);
+    }
+
+pub turned_if : (r : Result (Unit {0}) AllocError) (Turn : Lane → Lane → Type 0) (on : Bool) (first : ℕ) (drawn : List EventMark)
+    (hs : List History) (p : ℕ) (old new : History)
+    → p < length hs → old ≡ get_or hs p old → OnOk r (Turn (lane_in old) (lane_in new))
+    → OnOk r (Turns Turn (record { on = on; first = first; drawn = drawn; lanes = map lane_in hs })
+    (record { on = on; first = first; drawn = drawn; lanes = map lane_in (set hs p new) }) p)
+turned_if r Turn on first drawn hs p old new within is turn =
+    on_ok_weaker r (λ (t : Turn (lane_in old) (lane_in new)). turned Turn on first drawn hs p old new within is t) turn
+
+-- one that does not
+same_lanes : (on : Bool) (first : ℕ) (drawn : List EventMark) (hs : List History) (p : ℕ) (old new : History) → p < length hs
+    → old ≡ get_or hs p old → lane_in new ≡ lane_in old
+    → (let s : Sketch = record { on = on; first = first; drawn = drawn; lanes = map lane_in (set hs p new) } in s)
+    ≡ record { on = on; first = first; drawn = drawn; lanes = map lane_in hs }
+same_lanes on first drawn hs p old new within is same =
+    ap (λ (ls : List Lane). let s : Sketch = record { on = on; first = first; drawn = drawn; lanes = ls } in s)
+    (map-set lane_in hs p new
+    ∙ ap (λ (l : Lane). set (map lane_in hs) p l) (same ∙ sym (lane_at hs p old within is))
+    ∙ set-get_or (map lane_in hs) p new_lane)
+
+pub first_taken : (r : Option Next) (on : Bool) (first : ℕ) (drawn : List EventMark) (hs : List History) (p : ℕ) (old new : History)
+    → p < length hs → old ≡ get_or hs p old
+    → MatchOption r (((lane_in old).waiting ≡ []) × (lane_in new ≡ lane_in old)) (λ next. TakesFirst next (lane_in old) (lane_in new))
+    → (let before : Sketch = record { on = on; first = first; drawn = drawn; lanes = map lane_in hs } in
+    let after : Sketch = record { on = on; first = first; drawn = drawn; lanes = map lane_in (set hs p new) } in
+    MatchOption r ((after ≡ before) × ((lane_of before p).waiting ≡ [])) (λ next. Turns (TakesFirst next) before after p))
+first_taken (Some next) on first drawn hs p old new within is taken =
+    turned (TakesFirst next) on first drawn hs p old new within is taken
+first_taken None on first drawn hs p old new within is none =
+    (same_lanes on first drawn hs p old new within is none.1, ap (λ (l : Lane). l.waiting) (lane_at hs p old within is) ∙ none.0)
+
+pub covered_taken : (r : Option Mark) (on : Bool) (first : ℕ) (drawn : List EventMark) (hs : List History) (p : ℕ) (old new : History)
+    → p < length hs → old ≡ get_or hs p old
+    → MatchOption r (lane_in new ≡ lane_in old) (λ mark. TakesCovered mark (lane_in old) (lane_in new))
+    → (let before : Sketch = record { on = on; first = first; drawn = drawn; lanes = map lane_in hs } in
+    let after : Sketch = record { on = on; first = first; drawn = drawn; lanes = map lane_in (set hs p new) } in
+    MatchOption r (after ≡ before) (λ mark. Turns (TakesCovered mark) before after p))
+covered_taken (Some mark) on first drawn hs p old new within is taken =
+    turned (TakesCovered mark) on first drawn hs p old new within is taken
+covered_taken None on first drawn hs p old new within is none = same_lanes on first drawn hs p old new within is none
+
+pub past_lane : (hs : List History) (p : ℕ) → length hs ≤ p → (get_or (map lane_in hs) p new_lane).waiting ≡ []
+past_lane hs p past =
+    let there : length (map lane_in hs) ≤ p = omega (arith, length-map hs lane_in) in
+    ap (λ (l : Lane). l.waiting) (get_or_past (map lane_in hs) p new_lane there)
+
+-- what a history adds and takes
+pub lane_more : (r : Result (Unit {0}) AllocError) (interval : ℕ) (ended : Bool) (reached : ℕ) (items more one : List Mark)
+    (stored settled : ℕ) (mark : Mark) → settled ≤ length items → stored ≤ length items → one ≡ mark ∷ []
+    → more ≡ (if is_ok r then items ++ one else items)
+    → OnOk r (IsMore mark
+    (record { interval = interval; ended = ended; reached = reached; stored = stored - settled; waiting = drop settled items })
+    (record { interval = interval; ended = ended; reached = reached; stored = stored - settled; waiting = drop settled more }))
+lane_more (Ok x) interval ended reached items more one stored settled mark there few is added =
+    let long = length-drop settled items in
+    record {
+      few = omega arith;
+      lane = ap (λ (l : List Mark). let lane : Lane =
+          record { interval = interval; ended = ended; reached = reached; stored = stored - settled; waiting = l } in lane)
+          (ap (drop settled) (added ∙ ap (λ (l : List Mark). items ++ l) is) ∙ drop-append-le settled items (mark ∷ []) there);
+    }
+lane_more (Err e) interval ended reached items more one stored settled mark there few is added = tt
+
+pub lane_takes : (interval : ℕ) (ended : Bool) (reached : ℕ) (items : List Mark) (stored settled : ℕ) (mark : Mark)
+    → settled < length items → mark ≡ get_or items settled mark
+    → Takes mark
+    (record { interval = interval; ended = ended; reached = reached; stored = stored - settled; waiting = drop settled items })
+    (record { interval = interval; ended = ended; reached = reached; stored = stored - (settled + 1); waiting = drop (settled + 1) items })
+lane_takes interval ended reached items stored settled mark there is = record {
+  was = drop_more items settled mark there ∙ ap (λ (m : Mark). m ∷ drop (settled + 1) items) (sym is);
+  lane = ap (λ (n : ℕ). let lane : Lane =
+      record { interval = interval; ended = ended; reached = reached; stored = n; waiting = drop (settled + 1) items } in lane)
+      (let less : stored - (settled + 1) ≡ (stored - settled) - 1 = omega arith in less);
+}
+
+pub lane_empty : (items : List Mark) (settled : ℕ) → length items ≤ settled → drop settled items ≡ []
+lane_empty items settled past = drop_all settled items past
+
+-- ---- forms that are drawn
+pub settles_none : (s : Sketch) → Settles s s []
+settles_none s = record { on = refl; first = refl; lanes = refl; drawn = sym (append-nil s.drawn) }
+
+pub settles_then : (a b c : Sketch) (f g : List EventMark) → Settles a b f → Settles b c g → Settles a c (f ++ g)
+settles_then a b c f g p q = record {
+  on = q.on ∙ p.on;
+  first = q.first ∙ p.first;
+  lanes = q.lanes ∙ p.lanes;
+  drawn = q.drawn ∙ ap (λ (l : List EventMark). l ++ g) p.drawn ∙ append_assoc a.drawn f g;
+}
+
+pub settles_then_if : (r : Result (Unit {0}) AllocError) (a b c : Sketch) (f g : List EventMark) → Settles a b f → OnOk r (Settles b c g)
+    → OnOk r (Settles a c (f ++ g))
+settles_then_if r a b c f g p q = on_ok_weaker r (settles_then a b c f g p) q
+
+-- one shape more
+pub shape_added : (r : Result (Unit {0}) AllocError) (on : Bool) (first : ℕ) (shapes more : List Shape) (lanes : List Lane) (shape : Shape)
+    (one : List Shape) → one ≡ shape ∷ [] → more ≡ (if is_ok r then shapes ++ one else shapes)
+    → OnOk r (Settles (record { on = on; first = first; drawn = flat_map shape_marks shapes; lanes = lanes })
+    (record { on = on; first = first; drawn = flat_map shape_marks more; lanes = lanes }) (shape_marks shape))
+shape_added (Ok x) on first shapes more lanes shape one is added = record {
+  on = refl;
+  first = refl;
+  lanes = refl;
+  drawn = ap (λ (l : List Shape). flat_map shape_marks l) (added ∙ ap (λ (l : List Shape). shapes ++ l) is)
+      ∙ sym (flat_map_more shape_marks [] shapes shape);
+}
+shape_added (Err e) on first shapes more lanes shape one is added = tt
+
+pub form_settles : (r : Result (Unit {0}) AllocError) (a b : Sketch) (shape : Shape) (form : Form) (cut : Bool) (title : Title)
+    → shape.form ≡ form → shape.cut ≡ cut → shape.title ≡ title → OnOk r (Settles a b (shape_marks shape))
+    → OnOk r (Settles a b (mark_of (kind_drawn form) cut (title_entry title)))
+form_settles r a b shape form cut title form_is cut_is title_is settled =
+    subst (λ (f : Form). OnOk r (Settles a b (mark_of (kind_drawn f) cut (title_entry title)))) form_is
+    (subst (λ (x : Bool). OnOk r (Settles a b (mark_of (kind_drawn shape.form) x (title_entry title)))) cut_is
+    (subst (λ (t : Title). OnOk r (Settles a b (mark_of (kind_drawn shape.form) shape.cut (title_entry t)))) title_is settled))
+
+-- the marks of a mark that waited: of its outputs, and its own
+late_both : (s : Shown) (fresh : ℕ) (fate : Fate) (entry : Entry)
+    → output_marks (made_by s) fresh fate entry ++ mark_of (Some (kind_late s fate)) fate.cut entry ≡ late_marks s fresh fate entry
+late_both shows.Nothing fresh fate entry = refl
+late_both (shows.Run sent made ends) fresh fate entry = refl
+late_both (shows.Resend sent) fresh fate entry = refl
+late_both (shows.Receipt frame interval) fresh fate entry = refl
+late_both (shows.Refused frame) fresh fate entry = refl
+late_both shows.Flush fresh fate entry = refl
+late_both shows.Checkpoint fresh fate entry = refl
+late_both (shows.Failure declared) fresh fate entry = refl
+late_both shows.Join fresh fate entry = refl
+late_both (shows.Back interval inc) fresh fate entry = refl
+late_both shows.GoesOn fresh fate entry = refl
+
+pub settles_mark : (r : Result (Unit {0}) AllocError) (a b c : Sketch) (mark : Mark) (fate : Fate) (kind : Option Kind)
+    → (mark.x == 0) ≡ false → kind ≡ Some (kind_late mark.shown fate)
+    → Settles a b (output_marks (made_by mark.shown) mark.fresh fate (title_entry mark.title))
+    → OnOk r (Settles b c (mark_of kind fate.cut (title_entry mark.title))) → OnOk r (Settles a c (mark_marks mark fate))
+settles_mark r a b c mark fate kind there is p q =
+    let entry : Entry = title_entry mark.title in
+    let outputs : List EventMark = output_marks (made_by mark.shown) mark.fresh fate entry in
+    let same : outputs ++ mark_of kind fate.cut entry ≡ mark_marks mark fate =
+    ap (λ (k : Option Kind). outputs ++ mark_of k fate.cut entry) is ∙ late_both mark.shown mark.fresh fate entry
+    ∙ sym (ap (λ (b : Bool). if b then [] else late_marks mark.shown mark.fresh fate entry) there) in
+    subst (λ (l : List EventMark). OnOk r (Settles a c l)) same (settles_then_if r a b c outputs (mark_of kind fate.cut entry) p q)
+
+pub settles_past : (s : Sketch) (mark : Mark) (fate : Fate) → (mark.x == 0) ≡ true → Settles s s (mark_marks mark fate)
+settles_past s mark fate past =
+    let none : mark_marks mark fate ≡ [] =
+    ap (λ (b : Bool). if b then [] else late_marks mark.shown mark.fresh fate (title_entry mark.title)) past in
+    subst (λ (l : List EventMark). Settles s s l) (sym none) (settles_none s)
+
+pub not_zero : (x : ℕ) → (x ≡ 0 → ⊥) → (x == 0) ≡ false
+not_zero zero h = absurd (h refl)
+not_zero (suc x) h = eqb-suc-zero x
+
+-- ---- the lanes that there are
+pub lane_there : (hs : List History) (p : ℕ) → p < length hs → p < length (map lane_in hs)
+lane_there hs p within = omega (arith, length-map hs lane_in)
+
+pub shown_past : (on : Bool) (first : ℕ) (drawn : List EventMark) (hs : List History) (p : ℕ) (row : Row) → length hs ≤ p
+    → (let s : Sketch = record { on = on; first = first; drawn = drawn; lanes = map lane_in hs } in ShowsAt p s s row)
+shown_past on first drawn hs p row past = record {
+  shows = λ (within : p < length (map lane_in hs)). absurd (omega (arith, length-map hs lane_in));
+  past = λ (beyond : length (map lane_in hs) ≤ p). refl;
+}
+
+pub shown_at : (r : Result (Unit {0}) AllocError) (on : Bool) (first : ℕ) (drawn : List EventMark) (hs : List History) (new : Sketch)
+    (p : ℕ) (row : Row) (h : History) (s : Shown) → p < length hs → h ≡ get_or hs p h
+    → s ≡ shown h.ended row.entry.event row.entry.answer
+    → (let old : Sketch = record { on = on; first = first; drawn = drawn; lanes = map lane_in hs } in
+    OnOk r (Shows old new p s row.fresh row.entry) → OnOk r (ShowsAt p old new row))
+shown_at r on first drawn hs new p row h s within is shows_it drawn_it =
+    let old : Sketch = record { on = on; first = first; drawn = drawn; lanes = map lane_in hs } in
+    let ended : h.ended ≡ (lane_of old p).ended = sym (ap (λ (l : Lane). l.ended) (lane_at hs p h within is)) in
+    let same : s ≡ shown (lane_of old p).ended row.entry.event row.entry.answer =
+    shows_it ∙ ap (λ (b : Bool). shown b row.entry.event row.entry.answer) ended in
+    on_ok_weaker r (λ (x : Shows old new p s row.fresh row.entry). record {
+      shows = λ (there : p < length (map lane_in hs)).
+          subst (λ (t : Shown). Shows old new p t row.fresh row.entry) same x;
+      past = λ (beyond : length (map lane_in hs) ≤ p). absurd (omega (arith, length-map hs lane_in, within));
+    }) drawn_it
+
+-- a lane that changes, and nothing that is drawn of an event
+pub turn_settled : (r : Result (Unit {0}) AllocError) (Turn : Lane → Lane → Type 0) (a b c : Sketch) (p : ℕ) → Turns Turn a b p
+    → OnOk r (Settles b c (if b.on then [] else [])) → OnOk r (Turns Turn a c p)
+turn_settled r Turn a b c p t settles =
+    on_ok_weaker r (λ (s : Settles b c (if b.on then [] else [])). record {
+      on = s.on ∙ t.on;
+      first = s.first ∙ t.first;
+      drawn = s.drawn ∙ ap (λ (l : List EventMark). b.drawn ++ l) (nothing b.on) ∙ append-nil b.drawn ∙ t.drawn;
+      within = t.within;
+      lanes = s.lanes ∙ t.lanes
+          ∙ ap (λ (l : Lane). set a.lanes p l) (sym (settled_lane b c (if b.on then [] else []) s p));
+      turn = subst (λ (l : Lane). Turn (lane_of a p) l) (sym (settled_lane b c (if b.on then [] else []) s p)) t.turn;
+    }) settles
+  where
+    nothing : (on : Bool) → (let l : List EventMark = if on then [] else [] in l) ≡ []
+    nothing true = refl
+    nothing false = refl
+
+-- a mark that waits
+pub wait_turned : (r : Result (Unit {0}) AllocError) (on : Bool) (first : ℕ) (drawn : List EventMark) (hs : List History) (p : ℕ)
+    (old new : History) (mark : Mark) (x : ℕ) (s : Shown) (fresh : ℕ) (entry : Entry)
+    → p < length hs → old ≡ get_or hs p old → mark.x ≡ x → mark.interval ≡ old.interval → mark.shown ≡ s → mark.fresh ≡ fresh
+    → title_entry mark.title ≡ entry → OnOk r (IsMore mark (lane_in old) (lane_in new))
+    → OnOk r (Turns (Waits x s fresh entry) (record { on = on; first = first; drawn = drawn; lanes = map lane_in hs })
+    (record { on = on; first = first; drawn = drawn; lanes = map lane_in (set hs p new) }) p)
+wait_turned r on first drawn hs p old new mark x s fresh entry within is at interval shows_it news title more =
+    turned_if r (Waits x s fresh entry) on first drawn hs p old new within is
+    (on_ok_weaker r (λ (m : IsMore mark (lane_in old) (lane_in new)). (mark, m, at, interval, shows_it, news, title)) more)
+
+pub still_there : (hs ks : List History) (p : ℕ) → length (map lane_in ks) ≡ length (map lane_in hs) → p < length hs → p < length ks
+still_there hs ks p same within = let a = length-map hs lane_in in let b = length-map ks lane_in in omega arith
+
+-- ---- the outputs of a mark
+pub outputs_none : (s : Sketch) (made fresh : ℕ) (fate : Fate) (entry : Entry) → false ≡ nat_lt 0 made
+    → Settles s s (output_marks made fresh fate entry)
+outputs_none s made fresh fate entry none =
+    let few : made ≤ 0 = ltb-false 0 made (sym none) in
+    let zero : made ≡ 0 = omega arith in
+    let same : output_marks made fresh fate entry ≡ [] =
+    ap (λ (x : Bool). if x || (fresh == 0) then [] else mark_of (Some (Made fate.covered)) fate.cut entry) (eq-eqb made 0 zero) in
+    subst (λ (l : List EventMark). Settles s s l) (sym same) (settles_none s)
+
+pub outputs_again : (a b : Sketch) (made fresh : ℕ) (fate : Fate) (entry : Entry) → fresh ≡ 0 → Settles a b []
+    → Settles a b (output_marks made fresh fate entry)
+outputs_again a b made fresh fate entry none settled =
+    let same : output_marks made fresh fate entry ≡ [] =
+    ap (λ (x : Bool). if (made == 0) || x then [] else mark_of (Some (Made fate.covered)) fate.cut entry) (eq-eqb fresh 0 none)
+    ∙ ap (λ (x : Bool). if x then [] else mark_of (Some (Made fate.covered)) fate.cut entry) (or-true (made == 0)) in
+    subst (λ (l : List EventMark). Settles a b l) (sym same) settled
+
+pub outputs_new : (r : Result (Unit {0}) AllocError) (a b c : Sketch) (made fresh : ℕ) (fate : Fate) (entry : Entry)
+    → true ≡ nat_lt 0 made → (fresh ≡ 0 → ⊥) → Settles a b []
+    → OnOk r (Settles b c (mark_of (Some (Made fate.covered)) fate.cut entry))
+    → OnOk r (Settles a c (output_marks made fresh fate entry))
+outputs_new r a b c made fresh fate entry some news p q =
+    let one : List EventMark = mark_of (Some (Made fate.covered)) fate.cut entry in
+    let same : output_marks made fresh fate entry ≡ one =
+    ap (λ (x : Bool). if x || (fresh == 0) then [] else one) (not_zero made (λ (zero : made ≡ 0).
+    let there = ltb-true 0 made (sym some) in omega arith))
+    ∙ ap (λ (x : Bool). if x then [] else one) (not_zero fresh news) in
+    subst (λ (l : List EventMark). OnOk r (Settles a c l)) (sym same) (settles_then_if r a b c [] one p q)

@@ -1,0 +1,157 @@
+-- Events of a script, and what becomes of what they did: what a round cuts, what is stored, what is released.
+use Rattle.std.specs.Prelude.{◌≡◌, ℕ, ◌<◌, ◌==◌, Bool, true, false, not, ◌&&◌, ◌||◌, if◌then◌else◌, is_some, max, nat_le, List, [], ◌∷◌, ◌++◌, Option, None, Some, slice_index}
+use Rattle.om_process.specs.declared.accept.Accept.TheVariants as accepts
+use Rattle.om_world.specs.declared.event.Answer.{Answer}
+use Rattle.om_world.specs.declared.event.Answer.TheVariants as answers
+use Rattle.om_world.specs.declared.event.Event.{Event}
+use Rattle.om_world.specs.declared.event.Event.TheVariants as events
+use Rattle.om_picture.specs.Shows.{end_of, is_finished}
+use Rattle.om_picture.specs.declared.step.Step.{Step}
+
+-- an event of a script, the number of its line, and its answer
+pub record Entry : Type 0 where
+  pub line : ℕ
+  pub event : Event
+  pub answer : Answer
+
+-- the same, how many new outputs it handed in, and the recovery state behind it
+pub record Row : Type 0 where
+  pub entry : Entry
+  pub fresh : ℕ
+  pub recovery : List ℕ
+
+abbrev pub step_entry : Step → Entry
+step_entry step = record { line = step.line; event = step.event; answer = step.answer }
+
+abbrev pub step_row : Step → Row
+step_row step = record { entry = step_entry step; fresh = step.fresh; recovery = step.recovery }
+
+-- the process of an event
+abbrev pub process_of : Event → Option ℕ
+process_of (events.Run process fuel) = Some process
+process_of (events.Give process frame) = Some process
+process_of (events.Flush process) = Some process
+process_of (events.Checkpoint process) = Some process
+process_of (events.Resend process) = Some process
+process_of (events.Trim process) = Some process
+process_of (events.Fail process) = Some process
+process_of (events.Join process) = Some process
+process_of (events.Resume process) = Some process
+process_of events.Prune = None
+
+abbrev pub is_process : ℕ → Option ℕ → Bool
+is_process p None = false
+is_process p (Some q) = q == p
+
+-- the event is one of this process
+abbrev pub is_of : ℕ → Row → Bool
+is_of p row = is_process p (process_of row.entry.event)
+
+-- ---- a process
+-- the interval in which an event leaves its process
+abbrev pub interval_after : Event → Answer → ℕ → ℕ
+interval_after (events.Give process frame) (answers.Given (accepts.Taken interval)) was = interval
+interval_after (events.Resume process) (answers.Back interval inc) was = interval
+interval_after _ _ was = was
+
+abbrev pub next_interval : ℕ → ℕ → Row → ℕ
+next_interval p was row = if is_of p row then interval_after row.entry.event row.entry.answer was else was
+
+abbrev pub interval_from : ℕ → ℕ → List Row → ℕ
+interval_from p was [] = was
+interval_from p was (row ∷ rows) = interval_from p (next_interval p was row) rows
+
+-- the interval of a process behind these events
+abbrev pub interval_behind : ℕ → List Row → ℕ
+interval_behind p rows = interval_from p 0 rows
+
+-- whether it is known behind an event that the program of its process came to its end
+abbrev pub ended_after : Event → Answer → Bool → Bool
+ended_after (events.Run process fuel) (answers.Ran steps status sent made) was = was || is_some (end_of status)
+ended_after (events.Resume process) (answers.Back interval inc) was = false
+ended_after _ _ was = was
+
+abbrev pub next_ended : ℕ → Bool → Row → Bool
+next_ended p was row = if is_of p row then ended_after row.entry.event row.entry.answer was else was
+
+abbrev pub ended_from : ℕ → Bool → List Row → Bool
+ended_from p was [] = was
+ended_from p was (row ∷ rows) = ended_from p (next_ended p was row) rows
+
+-- the program of a process came to its end in these events, and the process did not go back since
+abbrev pub has_ended : ℕ → List Row → Bool
+has_ended p rows = ended_from p false rows
+
+-- ---- what becomes of an interval
+-- the place of a process in the recovery state behind an event, or a higher one that was there before
+abbrev pub next_place : ℕ → ℕ → Row → ℕ
+next_place p was row = max was (slice_index row.recovery p)
+
+-- the highest place of a process in the recovery states behind these events, from one on
+abbrev pub highest : ℕ → ℕ → List Row → ℕ
+highest p was [] = was
+highest p was (row ∷ rows) = highest p (next_place p was row) rows
+
+-- a round that is finished with this event cuts the interval: no recovery state has covered it, up to this place
+abbrev pub cuts : ℕ → ℕ → Row → Bool
+cuts interval place row = is_finished row.entry.answer && not (nat_le interval place)
+
+-- one of these events does
+abbrev pub is_cut : ℕ → ℕ → ℕ → List Row → Bool
+is_cut p interval was [] = false
+is_cut p interval was (row ∷ rows) =
+    cuts interval (next_place p was row) row || is_cut p interval (next_place p was row) rows
+
+-- with this answer, the process has stored all that it received
+abbrev pub is_store : Event → Answer → Bool
+is_store (events.Flush process) (answers.Noted count) = not (count == 0)
+is_store (events.Join process) (answers.Gathered gathered) = true
+is_store _ _ = false
+
+abbrev pub stores : ℕ → Row → Bool
+stores p row = is_of p row && is_store row.entry.event row.entry.answer
+
+-- one of these events stores what a process received, and no round cut that before
+abbrev pub is_stored : ℕ → ℕ → ℕ → List Row → Bool
+is_stored p interval was [] = false
+is_stored p interval was (row ∷ rows) =
+    stores p row || (not (cuts interval (next_place p was row) row) && is_stored p interval (next_place p was row) rows)
+
+-- what became of an interval of a process
+pub record Fate : Type 0 where
+  -- a round cut it
+  pub cut : Bool
+  -- it was not cut, and a recovery state covers it: its outputs are released
+  pub covered : Bool
+  -- that is so, or its process had stored it
+  pub stored : Bool
+
+-- of what is stored or not before these events, where no place was higher than one
+abbrev pub fate_behind : ℕ → ℕ → Bool → ℕ → List Row → Fate
+fate_behind p interval stored was rows =
+    let cut = is_cut p interval was rows in
+    let covered = not cut && nat_le interval (highest p was rows) in
+    record { cut = cut; covered = covered; stored = covered || (stored || is_stored p interval was rows) }
+
+-- what these events make of an interval that began or went on with the first of them, behind others
+abbrev pub fate_of : ℕ → ℕ → List Row → List Row → Fate
+fate_of p interval before rows = fate_behind p interval false (highest p 0 before) rows
+
+-- ---- the same, told by the event that did it
+-- a round is finished with one of these events, and no recovery state up to it had the process as high
+pub record IsCutBy (p interval was : ℕ) (rows : List Row) : Type 0 where
+  pub before : List Row
+  pub row : Row
+  pub after : List Row
+  pub split : rows ≡ before ++ row ∷ after
+  pub finished : is_finished row.entry.answer ≡ true
+  pub beyond : highest p was (before ++ row ∷ []) < interval
+
+-- with one of these events the process stores what it received, and no round before it cuts the interval
+pub record IsStoredBy (p interval was : ℕ) (rows : List Row) : Type 0 where
+  pub before : List Row
+  pub row : Row
+  pub after : List Row
+  pub split : rows ≡ before ++ row ∷ after
+  pub stores_it : stores p row ≡ true
+  pub not_cut : is_cut p interval was before ≡ false

@@ -1,0 +1,28 @@
+-- What is read of a world, before and behind an event.
+use Rattle.std.specs.Prelude.{ℕ, ◌-◌, Bool, false, if◌then◌else◌, length, nat_lt}
+use Rattle.om_manager.specs.State.{ManagerState, held_by, size_of}
+use Rattle.om_world.specs.declared.event.Answer.{Answer}
+use Rattle.om_world.specs.declared.event.Answer.TheVariants as answers
+use Rattle.om_world.specs.declared.event.Event.{Event}
+use Rattle.om_world.specs.declared.event.Event.TheVariants as events
+
+-- how many outputs a process has handed in, if there is the process
+abbrev pub handed_by : ManagerState → ℕ → ℕ
+handed_by m p = if nat_lt p (size_of m) then length (held_by m p) else 0
+
+-- a run with this answer made outputs
+abbrev pub has_made : Answer → Bool
+has_made (answers.Ran steps status sent made) = nat_lt 0 made
+has_made _ = false
+
+-- an event with this answer made outputs
+abbrev pub makes : Event → Answer → Bool
+makes (events.Run process fuel) answer = has_made answer
+makes _ answer = false
+
+-- how many outputs an event handed in with this answer, between these managers: of those that a run made, some may have been
+-- handed in before
+abbrev pub newly_handed : Event → Answer → ManagerState → ManagerState → ℕ
+newly_handed (events.Run process fuel) answer old new =
+    if has_made answer then handed_by new process - handed_by old process else 0
+newly_handed _ answer old new = 0

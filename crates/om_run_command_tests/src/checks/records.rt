@@ -1,0 +1,114 @@
+//! Records of runs, played event by event.
+
+use super::rings::{ring, ring_ends};
+use crate::rows::How::Writes;
+use crate::rows::check_answer;
+use om_commands::sim::sim;
+use om_run_commands::InMemory;
+use om_run_commands::recorded::run_recorded;
+use std::alloc::Global;
+use std::process::Abort;
+use std::sync::Wait;
+use std::thread::Threads;
+use std::time::Clock;
+
+// The turns of a worker.
+const TURNS: u64 = 50_000_000;
+
+// Rings, how they are run, and what the record says of their failures.
+static RINGS: [(u32, &str, &[&str]); 2] = [
+    (
+        8,
+        "kill p3 3\nkill p5 5\nflush 2\ncheckpoint 3\n",
+        &[
+            "# p3 fails as interval 3 begins\nfail 3\n",
+            "# p3 goes back to 2, incarnation 1\nresume 3\n",
+            "# p5 fails as interval 5 begins\nfail 5\n",
+            "# p5 goes back to 4, incarnation 1\nresume 5\n",
+        ],
+    ),
+    (
+        16,
+        "kill p15 6\nflush 4\ncheckpoint 5\nfuel 10\n",
+        &[
+            "# p15 fails as interval 6 begins\nfail 15\n",
+            "# p15 goes back to 5, incarnation 1\nresume 15\n",
+        ],
+    ),
+];
+
+#[test]
+fn records_are_played(rt: HostRuntime) {
+    for (n, more, comments) in &RINGS {
+        let input = ring(&rt, rt.alloc(), *n, more);
+        let script = recorded(&rt, rt.alloc(), &input, *n);
+        for comment in *comments {
+            assert!(rt; script.contains(comment), "{comment}");
+        }
+        let told = played(&rt, rt.alloc(), &script);
+        check_end(&rt, rt.alloc(), &told, *n);
+    }
+}
+
+// The record of a ring of n processes that is run with this cluster file, whose text is that of any run.
+fn recorded<R: Threads + Wait + Clock + Abort + Sync>(
+    rt: &R,
+    alloc: Global,
+    input: &str,
+    n: u32,
+) -> String {
+    let mut text = Vec::new(alloc);
+    let mut script = Vec::new(alloc);
+    let answer = run_recorded(
+        rt,
+        alloc,
+        TURNS,
+        &InMemory,
+        &mut input.as_bytes(),
+        &mut text,
+        &mut script,
+    );
+    let ends = ring_ends(rt, alloc, n);
+    check_answer(rt, alloc, input, (answer, &text), (Writes, &ends));
+    text_of(rt, script)
+}
+
+// What `sim` tells of a record.
+fn played(rt: &impl Abort, alloc: Global, script: &str) -> String {
+    let mut told = Vec::new(alloc);
+    let answer = sim(alloc, &mut script.as_bytes(), &mut told);
+    assert!(rt; answer.is_ok(), "{script}");
+    text_of(rt, told)
+}
+
+fn text_of(rt: &impl Abort, bytes: Vec<u8>) -> String {
+    String::from_utf8(bytes).ok().expect(rt, "text")
+}
+
+// In the end of a record of a ring all processes have ended in interval 6, that is recoverable, and all outputs are released.
+fn check_end(rt: &impl Abort, alloc: Global, told: &str, n: u32) {
+    let ends = ring_ends(rt, alloc, n);
+    let sixes = " 6".repeat(alloc, n as usize).expect(rt, "memory");
+    let recovery = format!(in alloc; "\nrecovery{sixes}\n").expect(rt, "memory");
+    assert!(rt; told.contains(recovery.as_str()), "{told}");
+    for line in ends.lines() {
+        if let Some(end) = line.strip_prefix("end ") {
+            check_process(rt, alloc, told, end);
+        } else {
+            let output = format!(in alloc; "\n{line}\n").expect(rt, "memory");
+            assert!(rt; told.contains(output.as_str()), "{line}");
+        }
+    }
+}
+
+// A line of what was told says that the process has ended so.
+fn check_process(rt: &impl Abort, alloc: Global, told: &str, end: &str) {
+    let Some((name, status)) = end.split_once(' ') else {
+        return;
+    };
+    let head = format!(in alloc; "proc {name} inc ").expect(rt, "memory");
+    let tail = format!(in alloc; " interval 6 {status}").expect(rt, "memory");
+    let found = told.lines().any(|line| line.starts_with(head.as_str())
+        && line.ends_with(tail.as_str()));
+    assert!(rt; found, "{end}");
+}

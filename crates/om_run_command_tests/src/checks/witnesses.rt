@@ -1,0 +1,84 @@
+//! The scripts of runs without failures that clusters come to, played by `sim`.
+
+use super::plays::GATHER;
+use super::rings::ring;
+use crate::streams::Failing;
+use om_commands::CommandError;
+use om_commands::sim::sim;
+use om_run_commands::InMemory;
+use om_run_commands::check::run_with_witness;
+use std::alloc::Global;
+use std::process::Abort;
+use std::sync::Wait;
+use std::thread::Threads;
+use std::time::Clock;
+
+// The turns of a worker.
+const TURNS: u64 = 50_000_000;
+
+// The lines of outputs of a text.
+fn outputs_of(rt: &impl Abort, alloc: Global, text: &[u8]) -> String {
+    let text = String::from_utf8(text.to_vec(alloc).expect(rt, "memory")).expect(rt, "a text");
+    let mut outputs = String::new(alloc);
+    for line in text.lines() {
+        if line.starts_with("out ") {
+            outputs.push_str(line).expect(rt, "memory");
+            outputs.push('\n').expect(rt, "memory");
+        }
+    }
+    outputs
+}
+
+// Runs a cluster and plays its witness, which comes to the same outputs; and how many lines they have.
+fn check_witness<R: Threads + Wait + Clock + Abort + Sync>(rt: &R, alloc: Global, input: &str) {
+    let mut written = Vec::new(alloc);
+    let mut script = Vec::new(alloc);
+    let mut played = Vec::new(alloc);
+    let ran = run_with_witness(
+        rt,
+        alloc,
+        TURNS,
+        &InMemory,
+        &mut input.as_bytes(),
+        &mut written,
+        &mut script,
+    );
+    assert!(rt; ran == Ok(()), "{input}");
+    let simulated = sim(alloc, &mut script.as_slice(), &mut played);
+    assert!(rt; simulated == Ok(()), "{input}");
+    let outputs = outputs_of(rt, alloc, &written);
+    assert!(rt;
+        !outputs.is_empty() && outputs.as_str() == outputs_of(rt, alloc, &played).as_str(),
+        "{input}"
+    );
+}
+
+#[test]
+fn witnesses_that_are_played(rt: HostRuntime) {
+    let more = format!(in rt.alloc(); "{GATHER}kill p0 1\nkill p0 2\nflush 1\n").expect(
+        &rt, "memory",
+    );
+    check_witness(&rt, rt.alloc(), GATHER);
+    check_witness(&rt, rt.alloc(), &more);
+    let ring = ring(&rt, rt.alloc(), 16, "kill p3 3\nkill p15 5\nfuel 100\n");
+    check_witness(&rt, rt.alloc(), &ring);
+}
+
+// Nothing is written of a run whose witness cannot be.
+#[test]
+fn witnesses_that_are_not_written(rt: HostRuntime) {
+    let mut written = Vec::new(rt.alloc());
+    let told = run_with_witness(
+        &rt,
+        rt.alloc(),
+        TURNS,
+        &InMemory,
+        &mut GATHER.as_bytes(),
+        &mut written,
+        &mut Failing { calls: 3 },
+    );
+    assert!(&rt;
+        told == Err(CommandError::CannotWrite) && written.is_empty(),
+        "{told:?}"
+    );
+}

@@ -1,0 +1,96 @@
+//! Rows of the commands that run a cluster: what a command is given, and what it must write or be refused with.
+
+use om_commands::CommandError;
+use om_run_commands::InMemory;
+use om_run_commands::check::run_checked;
+use om_run_commands::run::run;
+use std::alloc::Global;
+use std::io::{Read, Write};
+use std::process::Abort;
+use std::sync::Wait;
+use std::thread::Threads;
+use std::time::Clock;
+
+/// A command that runs a cluster over stores in memory. A worker takes so many turns.
+#[derive(Clone, Copy)]
+pub enum Command {
+    Run(u64),
+    /// The same, checked.
+    Check(u64),
+}
+
+/// How the text of a row is meant.
+#[derive(Clone, Copy)]
+pub enum How {
+    /// It is all that is written.
+    Writes,
+    /// The command is refused, nothing is written, and this is the line of the error.
+    Refused,
+}
+
+/// The end of an input, and what must come of it. Tables of rows are static: one in a function's body would be built there, and
+/// each of its rows proved.
+pub type Row = (&'static str, How, &'static str);
+
+/// Compares what the command makes of each row's input, behind the head that all have.
+pub fn check<R: Threads + Wait + Clock + Abort + Sync>(
+    rt: &R,
+    alloc: Global,
+    command: Command,
+    head: &str,
+    rows: &[Row],
+) {
+    for (end, how, wanted) in rows {
+        let input = format!(in alloc; "{head}{end}").expect(rt, "memory");
+        check_input(rt, alloc, command, &input, *how, wanted);
+    }
+}
+
+/// Compares what the command makes of an input.
+pub fn check_input<R: Threads + Wait + Clock + Abort + Sync>(
+    rt: &R,
+    alloc: Global,
+    command: Command,
+    input: &str,
+    how: How,
+    wanted: &str,
+) {
+    let mut written = Vec::new(alloc);
+    let mut reader = input.as_bytes();
+    let answer = carry_out(rt, alloc, command, &mut reader, &mut written);
+    check_answer(rt, alloc, input, (answer, &written), (how, wanted));
+}
+
+/// What the command answers over these streams.
+pub fn carry_out<R: Threads + Wait + Clock + Sync, I: Read, W: Write>(
+    rt: &R,
+    alloc: Global,
+    command: Command,
+    reader: &mut I,
+    writer: &mut W,
+) -> Result<(), CommandError> {
+    match command {
+        Command::Run(turns) => run(rt, alloc, turns, &InMemory, reader, writer),
+        Command::Check(turns) => run_checked(rt, alloc, turns, &InMemory, reader, writer),
+    }
+}
+
+/// Compares what a command answered to this input, and what it wrote.
+pub fn check_answer(
+    rt: &impl Abort,
+    alloc: Global,
+    input: &str,
+    (answer, written): (Result<(), CommandError>, &[u8]),
+    (how, wanted): (How, &str),
+) {
+    let line = match answer {
+        Ok(()) => String::new(alloc),
+        Err(error) => format!(in alloc; "{error}").expect(rt, "memory"),
+    };
+    let (refusal, text) = match how {
+        How::Writes => ("", wanted),
+        How::Refused => (wanted, ""),
+    };
+    assert_eq!(rt; line.as_str(), refusal, "{input}");
+    assert_eq!(rt; written, text.as_bytes(), "{input}");
+}

@@ -1,0 +1,70 @@
+//! Streams that fail in the midst of the commands that run a cluster.
+
+use crate::rows::{Command, carry_out};
+use om_commands::CommandError;
+use std::alloc::Global;
+use std::io;
+use std::io::{Read, Write};
+use std::process::Abort;
+use std::sync::Wait;
+use std::thread::Threads;
+use std::time::Clock;
+
+/// A stream that refuses after a number of calls.
+#[derive(Drop)]
+pub struct Failing {
+    pub calls: u32,
+}
+
+impl Read for Failing {
+    fn read(&mut self, buf: &mut [u8]) -> io::Result<usize> {
+        if self.calls == 0 || buf.is_empty() {
+            return Err(io::Error::from(io::ErrorKind::Other));
+        }
+        self.calls -= 1;
+        buf[0] = b'#';
+        Ok(1)
+    }
+}
+
+impl Write for Failing {
+    fn write(&mut self, buf: &[u8]) -> io::Result<usize> {
+        if self.calls == 0 || buf.is_empty() {
+            return Err(io::Error::from(io::ErrorKind::Other));
+        }
+        self.calls -= 1;
+        Ok(1)
+    }
+
+    fn flush(&mut self) -> io::Result<()> {
+        Ok(())
+    }
+}
+
+const ONE: &[u8] = b"program a 16 00000893 00000073\nproc p a\n";
+
+static COMMANDS: [Command; 2] = [Command::Run(1_000), Command::Check(1_000)];
+
+// Compares what a command answers where its input cannot be read to the end, and where its text cannot be written to the end.
+fn check_streams<R: Threads + Wait + Clock + Abort + Sync>(
+    rt: &R,
+    alloc: Global,
+    command: Command,
+) {
+    let mut written = Vec::new(alloc);
+    let mut failing = Failing { calls: 3 };
+    let unread = carry_out(rt, alloc, command, &mut failing, &mut written);
+    assert_eq!(rt; unread, Err(CommandError::CannotRead));
+    assert_eq!(rt; written.len(), 0);
+    let mut reader = ONE;
+    let mut failing = Failing { calls: 3 };
+    let unwritten = carry_out(rt, alloc, command, &mut reader, &mut failing);
+    assert_eq!(rt; unwritten, Err(CommandError::CannotWrite));
+}
+
+#[test]
+fn streams_that_fail(rt: HostRuntime) {
+    for command in &COMMANDS {
+        check_streams(&rt, rt.alloc(), *command);
+    }
+}

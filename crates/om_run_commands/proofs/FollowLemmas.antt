@@ -1,0 +1,194 @@
+-- What is written of a run that is followed.
+use Rattle.std.proofs.Common.{◌≡◌, ◌≢◌, ◌⊎◌, inl, inr, ℕ, ◌≤◌, Option, None, Some, Result, Ok, Err, List, [], ◌∷◌, ◌++◌, length, map, refl, sym, ap, subst, ◌∙◌, append-nil}
+use Rattle.std.specs.Prelude.{All, IfErr, IfOk, IfSome, OnOk}
+use Rattle.std.specs.Io.KnownBytes.{Appends, Keeps}
+use Rattle.std.proofs.lemmas.Grind.{flat_map-append}
+use Rattle.std.proofs.lemmas.List.{length-map}
+use Rattle.std.proofs.KnownBytes.{Appends-trans, Keeps-refl}
+use Rattle.om_process.specs.Images.{program_of}
+use Rattle.om_process.specs.declared.image.Image.{Image}
+use Rattle.om_process.specs.declared.status.Status.{Status}
+use Rattle.om_scripts.specs.Programs.{Cluster, programs_of}
+use Rattle.om_board.specs.Released.{AreAllReleased}
+use Rattle.om_board.specs.declared.report.Report.{Report}
+use Rattle.om_runner.specs.Reports.{AreOutputsOf, AreStatusesAlong, IsEnd}
+use Rattle.om_runner.specs.Telling.{AreInOrder, AreToldMade, Told, TellsAll}
+use Rattle.om_runner.specs.declared.follower.FollowFault.{FollowFault}
+use Rattle.om_runner.specs.declared.follower.FollowFault.TheVariants.{Run, Unwanted}
+use Rattle.om_runner.specs.declared.fault.RunFault.{RunFault}
+use Rattle.om_runner.specs.declared.fault.RunFault.TheVariants as running
+use Rattle.om_run_commands.proofs.RunLemmas.{is_report, ok_at}
+use Rattle.om_run_commands.specs.ClusterScript.{Script, meaning_of, no_lines}
+use Rattle.om_commands.specs.Command.{IsErrorOf, IsScript}
+use Rattle.om_run_commands.specs.Errors.{error_of_run}
+use Rattle.om_run_commands.specs.Follow.{AreMadeBy, IsFollowedAnswer, IsFollowedRun, IsPart, IsPartOf, IsPartly, told_line, told_text}
+use Rattle.om_run_commands.specs.Run.{IsErrorOfFollowed}
+use Rattle.om_run_commands.specs.RunText.{ends_text}
+use Rattle.om_commands.specs.declared.error.CommandError.{CommandError}
+use Rattle.om_commands.specs.declared.error.CommandError.TheVariants as errors
+
+-- one line more was written
+pub line_more : (cluster : Cluster) (a b c : Option (List ℕ)) (told : List Told) (t : Told) (line : List ℕ) → Appends a b (told_text cluster told) → Appends b c line
+    → line ≡ told_line cluster t → Appends a c (told_text cluster (told ++ t ∷ []))
+line_more cluster a b c told t line before more is =
+    let text : told_text cluster (told ++ t ∷ []) ≡ told_text cluster told ++ told_line cluster t =
+    flat_map-append (told_line cluster) told (t ∷ []) ∙ ap (λ l. told_text cluster told ++ l) (append-nil (told_line cluster t))
+    in subst (Appends a c) (sym text) (Appends-trans a b c _ _ before (subst (Appends b c) is more))
+
+-- a script is answered by the lines of what its run told, and then by how it ended
+pub is_followed : (over_clean : Type 0) (script : Script) (images : List Image) (report : Report) (statuses : List Status) (a b c : Option (List ℕ))
+    → map program_of images ≡ programs_of script.cluster
+    → AreAllReleased report.front.vec report.released.items → (over_clean → AreOutputsOf images report.released.items)
+    → length report.released.items ≡ length images
+    → length report.statuses.items ≡ length images → All IsEnd report.statuses.items
+    → (over_clean → AreStatusesAlong images report.statuses.items)
+    → statuses ≡ report.statuses.items
+    → (told : List Told) × Appends a b (told_text script.cluster told) × TellsAll told report.released.items
+    → Appends b c (ends_text script.cluster statuses)
+    → (text : List ℕ) × IsFollowedAnswer over_clean script text × Appends a c text
+is_followed over_clean script images report statuses a b c same_programs are_released made processes number ended along same_statuses lines ends = (
+  told_text script.cluster lines.0 ++ ends_text script.cluster report.statuses.items,
+  record {
+    report = report;
+    is_report = is_report over_clean (programs_of script.cluster) images report same_programs are_released made processes number ended along;
+    told = lines.0;
+    tells_all = lines.2;
+    is_text = refl;
+  },
+  Appends-trans a b c _ _ lines.1 (subst (λ ss. Appends b c (ends_text script.cluster ss)) same_statuses ends),
+)
+
+-- so where the report is what a run answered, and the ends are written
+pub text_of_report : {A E : Type 0} (over_clean : Type 0) (script : Script) (cluster : Cluster) (images : List Image) (r : Result Report E) (report : Report)
+    (statuses : List Status) (w : Result A CommandError) (a b c : Option (List ℕ)) (same_after : Type 0)
+    → r ≡ Ok report → cluster ≡ script.cluster → map program_of images ≡ programs_of script.cluster
+    → IfOk r (λ report. AreAllReleased report.front.vec report.released.items)
+    → (over_clean → IfOk r (λ report. AreOutputsOf images report.released.items)) → IfOk r (λ report. length report.released.items ≡ length images)
+    → IfOk r (λ report. length report.statuses.items ≡ length images) → IfOk r (λ report. All IsEnd report.statuses.items)
+    → (over_clean → IfOk r (λ report. AreStatusesAlong images report.statuses.items))
+    → IfOk r (λ report. (told : List Told) × (same_after × Appends a b (told_text cluster told)) × TellsAll told report.released.items)
+    → statuses ≡ report.statuses.items → OnOk w (Appends b c (ends_text cluster statuses))
+    → OnOk w ((text : List ℕ) × IsFollowedAnswer over_clean script text × Appends a c text)
+text_of_report over_clean script cluster images r report statuses (Err e) a b c same_after is same programs released made processes number ended along told same_statuses ends = tt
+text_of_report over_clean script cluster images r report statuses (Ok x) a b c same_after is same programs released made processes number ended along told same_statuses ends =
+    let all = ok_at (λ report. (told : List Told) × (same_after × Appends a b (told_text cluster told)) × TellsAll told report.released.items) r report is told in
+    is_followed over_clean script images report statuses a b c programs
+    (ok_at (λ report. AreAllReleased report.front.vec report.released.items) r report is released)
+    (λ clean. ok_at (λ report. AreOutputsOf images report.released.items) r report is (made clean))
+    (ok_at (λ report. length report.released.items ≡ length images) r report is processes)
+    (ok_at (λ report. length report.statuses.items ≡ length images) r report is number)
+    (ok_at (λ report. All IsEnd report.statuses.items) r report is ended)
+    (λ clean. ok_at (λ report. AreStatusesAlong images report.statuses.items) r report is (along clean))
+    same_statuses (all.0, subst (λ k. Appends a b (told_text k all.0)) same all.1.1, all.2)
+    (subst (λ k. Appends b c (ends_text k statuses)) same ends)
+
+-- of a run that comes to no end a part is written
+pub partly_run : (fault : RunFault) (part none : Type 0) → part → IsPartly (error_of_run fault) part none
+partly_run (running.Turns p) part none is = is
+partly_run (running.GateShut p) part none is = is
+partly_run running.Memory part none is = tt
+partly_run (running.Fault p) part none is = is
+partly_run (running.Load p) part none is = is
+partly_run running.NoThread part none is = is
+
+-- of the other two errors no more is known
+pub partly_refused : (error : CommandError) (part none : Type 0) → (error ≡ errors.NoMemory) ⊎ (error ≡ errors.CannotWrite) → IsPartly error part none
+partly_refused error part none (inl is) = subst (λ e. IsPartly e part none) (sym is) tt
+partly_refused error part none (inr is) = subst (λ e. IsPartly e part none) (sym is) tt
+
+pub partly_of_fault : (fault : FollowFault) (error : CommandError) (part none : Type 0) → (fault ≡ Unwanted → (error ≡ errors.NoMemory) ⊎ (error ≡ errors.CannotWrite))
+    → ((f : RunFault) → fault ≡ Run f → error ≡ error_of_run f) → (fault ≢ Unwanted → part) → IsPartly error part none
+partly_of_fault Unwanted error part none unwanted run is = partly_refused error part none (unwanted refl)
+partly_of_fault (Run f) error part none unwanted run is = subst (λ e. IsPartly e part none) (sym (run f refl)) (partly_run f part none (is (λ same. cc)))
+
+-- what was told of a cluster's run is a part of the answer to its script
+pub part_told : (over_clean : Type 0) (script : Script) (cluster : Cluster) (images : List Image) (same_after : Type 0) (a b : Option (List ℕ)) → cluster ≡ script.cluster
+    → map program_of images ≡ programs_of script.cluster
+    → (told : List Told) × (same_after × Appends a b (told_text cluster told)) × AreInOrder told × (over_clean → AreToldMade (map program_of images) (length images) told)
+    → IsPartOf over_clean script a b
+part_told over_clean script cluster images same_after a b same programs is = (
+  is.0,
+  is.2,
+  λ clean. subst (λ ps. AreMadeBy ps is.0) programs (subst (λ n. AreToldMade (map program_of images) n is.0) (sym (length-map images program_of)) (is.3 clean)),
+  subst (λ c. Appends a b (told_text c is.0)) same is.1.1,
+)
+
+-- of a run that comes to no end what was told is written
+pub part_of_run : (over_clean : Type 0) (script : Script) (cluster : Cluster) (images : List Image) (r : Result Report FollowFault) (fault : FollowFault)
+    (error : CommandError) (same_after : Type 0) (a b : Option (List ℕ)) (none : Type 0)
+    → r ≡ Err fault → cluster ≡ script.cluster → map program_of images ≡ programs_of script.cluster
+    → (fault ≡ Unwanted → (error ≡ errors.NoMemory) ⊎ (error ≡ errors.CannotWrite)) → ((f : RunFault) → fault ≡ Run f → error ≡ error_of_run f)
+    → IfErr r (λ fault. fault ≢ Unwanted → (told : List Told) × (same_after × Appends a b (told_text cluster told)) × AreInOrder told
+    × (over_clean → AreToldMade (map program_of images) (length images) told))
+    → IsPartly error (IsPartOf over_clean script a b) none
+part_of_run over_clean script cluster images r fault error same_after a b none is same programs unwanted run partly =
+    let told = subst (λ x. IfErr x (λ fault. fault ≢ Unwanted → (told : List Told) × (same_after × Appends a b (told_text cluster told)) × AreInOrder told
+    × (over_clean → AreToldMade (map program_of images) (length images) told))) is partly in
+    partly_of_fault fault error (IsPartOf over_clean script a b) none unwanted run
+    (λ wanted. part_told over_clean script cluster images same_after a b same programs (told wanted))
+
+-- the other two errors may come of any script
+pub refused_is_error : (script : Script) (error : CommandError) → (error ≡ errors.NoMemory) ⊎ (error ≡ errors.CannotWrite) → IsErrorOfFollowed script error
+refused_is_error script error (inl is) = subst (IsErrorOfFollowed script) (sym is) tt
+refused_is_error script error (inr is) = subst (IsErrorOfFollowed script) (sym is) tt
+
+-- nothing is written where the script could not be read
+partly_unread : (bytes : List ℕ) (error : CommandError) (part none : Type 0) → IsErrorOf meaning_of no_lines (λ _. ⊥) bytes error → none → IsPartly error part none
+partly_unread bytes errors.CannotWrite part none is kept = tt
+partly_unread bytes errors.NoMemory part none is kept = tt
+partly_unread bytes errors.OutOfTurns part none never kept = absurd never
+partly_unread bytes errors.GateShut part none never kept = absurd never
+partly_unread bytes errors.StoreFault part none never kept = absurd never
+partly_unread bytes errors.NoThread part none never kept = absurd never
+partly_unread bytes errors.TooLong part none is kept = kept
+partly_unread bytes errors.CannotRead part none is kept = kept
+partly_unread bytes errors.EmptyScript part none is kept = kept
+partly_unread bytes (errors.Script error) part none is kept = kept
+partly_unread bytes errors.NoCheckpoint part none is kept = kept
+partly_unread bytes (errors.Damaged y) part none is kept = kept
+partly_unread bytes (errors.MissingReceipt y) part none is kept = kept
+partly_unread bytes (errors.Mismatch y) part none is kept = kept
+partly_unread bytes errors.Unlike part none is kept = kept
+
+pub partly_of_reading : (over_clean : Type 0) (remaining : Option (List ℕ)) (start : Script) (error : CommandError) (contents : Option (List ℕ)) → start ≡ no_lines
+    → IfSome remaining (λ bytes. IsErrorOf meaning_of start (λ _. ⊥) bytes error)
+    → IfSome remaining (λ bytes. IsPartly error (IsPart over_clean bytes contents contents) (Keeps contents contents))
+partly_of_reading over_clean None start error contents is wrong = tt
+partly_of_reading over_clean (Some bytes) start error contents is wrong =
+    partly_unread bytes error _ _ (subst (λ s. IsErrorOf meaning_of s (λ _. ⊥) bytes error) is wrong) (Keeps-refl contents)
+
+-- a part of the answer to a script is one of the answer to its bytes
+part_of : (over_clean : Type 0) (bytes : List ℕ) (script : Script) (error : CommandError) (a b : Option (List ℕ)) → IsScript meaning_of no_lines bytes script
+    → IsPartly error (IsPartOf over_clean script a b) (Keeps a b) → IsPartly error (IsPart over_clean bytes a b) (Keeps a b)
+part_of over_clean bytes script errors.CannotWrite a b read is = tt
+part_of over_clean bytes script errors.NoMemory a b read is = tt
+part_of over_clean bytes script errors.OutOfTurns a b read is = record { script = script; is_script = read; part = is }
+part_of over_clean bytes script errors.GateShut a b read is = record { script = script; is_script = read; part = is }
+part_of over_clean bytes script errors.StoreFault a b read is = record { script = script; is_script = read; part = is }
+part_of over_clean bytes script errors.NoThread a b read is = record { script = script; is_script = read; part = is }
+part_of over_clean bytes script errors.TooLong a b read is = is
+part_of over_clean bytes script errors.CannotRead a b read is = is
+part_of over_clean bytes script errors.EmptyScript a b read is = is
+part_of over_clean bytes script (errors.Script error) a b read is = is
+part_of over_clean bytes script errors.NoCheckpoint a b read is = is
+part_of over_clean bytes script (errors.Damaged y) a b read is = is
+part_of over_clean bytes script (errors.MissingReceipt y) a b read is = is
+part_of over_clean bytes script (errors.Mismatch y) a b read is = is
+part_of over_clean bytes script errors.Unlike a b read is = is
+
+pub partly_of_answer : {A : Type 0} (over_clean : Type 0) (remaining : Option (List ℕ)) (start script : Script) (r : Result A CommandError) (a b : Option (List ℕ)) → start ≡ no_lines
+    → IfSome remaining (λ bytes. IsScript meaning_of start bytes script) → IfErr r (λ error. IsPartly error (IsPartOf over_clean script a b) (Keeps a b))
+    → IfSome remaining (λ bytes. IfErr r (λ error. IsPartly error (IsPart over_clean bytes a b) (Keeps a b)))
+partly_of_answer over_clean None start script r a b is read part = tt
+partly_of_answer over_clean (Some bytes) start script (Ok x) a b is read part = tt
+partly_of_answer over_clean (Some bytes) start script (Err e) a b is read part =
+    part_of over_clean bytes script e a b (subst (λ s. IsScript meaning_of s bytes script) is read) part
+
+pub text_of_answer : {A : Type 0} (over_clean : Type 0) (remaining : Option (List ℕ)) (start script : Script) (r : Result A CommandError) (a b : Option (List ℕ)) → start ≡ no_lines
+    → IfSome remaining (λ bytes. IsScript meaning_of start bytes script)
+    → OnOk r ((text : List ℕ) × IsFollowedAnswer over_clean script text × Appends a b text)
+    → IfSome remaining (λ bytes. OnOk r ((text : List ℕ) × IsFollowedRun over_clean bytes text × Appends a b text))
+text_of_answer over_clean None start script r a b is read answer = tt
+text_of_answer over_clean (Some bytes) start script (Ok x) a b is read answer =
+    (answer.0, record { script = script; is_script = subst (λ s. IsScript meaning_of s bytes script) is read; answer = answer.1 }, answer.2)
+text_of_answer over_clean (Some bytes) start script (Err e) a b is read answer = tt

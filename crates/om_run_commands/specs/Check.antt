@@ -1,0 +1,45 @@
+-- What the command `run --check` answers to the bytes of its input.
+use Rattle.std.specs.Prelude.{◌≡◌, ℕ, ◌≤◌, List, length}
+use Rattle.om_check.specs.FailureFree.{IsRunBy}
+use Rattle.om_manager.specs.Outputs.{HeldOutput}
+use Rattle.om_process.specs.declared.status.Status.{Status}
+use Rattle.om_scripts.specs.Programs.{Cluster, programs_of}
+use Rattle.om_world.specs.declared.entry.Entry.{Entry}
+use Rattle.om_commands.specs.Command.{IsScript}
+use Rattle.om_run_commands.specs.ClusterScript.{Script, meaning_of, no_lines}
+use Rattle.om_run_commands.specs.Run.{IsClusterFile, IsErrorOfRun, IsErrorOfScript}
+use Rattle.om_run_commands.specs.RunText.{run_text}
+use Rattle.om_commands.specs.declared.error.CommandError.{CommandError}
+use Rattle.om_commands.specs.declared.error.CommandError.TheVariants as errors
+
+-- the text of the run without failures of these programs in which this was received
+pub record IsTextBy (cluster : Cluster) (live : List Entry) (text : List ℕ) : Type 0 where
+  pub outputs : List (List HeldOutput)
+  pub statuses : List Status
+  pub run : IsRunBy (programs_of cluster) live outputs statuses
+  pub written : text ≡ run_text cluster outputs statuses
+
+-- the text of some run without failures of these programs
+abbrev pub IsFailureFreeText : Cluster → List ℕ → Type 0
+IsFailureFreeText cluster text = (live : List Entry) × IsTextBy cluster live text
+
+-- the answer to the cluster file that these bytes are
+pub record IsCheckedRun (bytes text : List ℕ) : Type 0 where
+  pub script : Script
+  pub is_script : IsScript meaning_of no_lines bytes script
+  pub failure_free : IsFailureFreeText script.cluster text
+
+-- the errors are those of a run, and that it is unlike its check
+abbrev pub IsErrorOfCheckedScript : Script → CommandError → Type 0
+IsErrorOfCheckedScript script errors.Unlike = 1 ≤ length script.cluster.processes
+IsErrorOfCheckedScript script error = IsErrorOfScript script error
+
+abbrev pub IsErrorOfCheckedRun : List ℕ → CommandError → Type 0
+IsErrorOfCheckedRun bytes errors.Unlike = IsClusterFile bytes
+IsErrorOfCheckedRun bytes error = IsErrorOfRun bytes error
+
+-- two texts are not the same, or memory ran out
+abbrev pub IsErrorOfPlay : CommandError → Type 0
+IsErrorOfPlay errors.Unlike = Unit {0}
+IsErrorOfPlay errors.NoMemory = Unit {0}
+IsErrorOfPlay error = ⊥

@@ -1,0 +1,215 @@
+//! Cluster files: the programs and processes of a cluster, and how it is run.
+
+ghost use Rattle.std.specs.Prelude.{◌≡◌, map};
+ghost use Rattle.om_text.specs.Reading.{Gives};
+ghost use Rattle.om_run_commands.specs.ClusterScript.{Script, checkpoint_line, closed, flush_line, fuel_line, instructions_in, kill_line, meaning_of, no_lines, receipts_in, setting_line};
+
+use om_interval::Pid;
+use om_isa::Ext;
+use om_scripts::{Programs, name_of};
+use om_text::{BuildError, Builder, LineError, long_number_of, number_of};
+use std::alloc::Global;
+use std::marker::Model;
+
+/// The most lines `kill`.
+pub const MAX_KILLS: usize = 64;
+
+/// After so many receipts a process stores its volatile log, where no line `flush` says otherwise.
+pub const DEFAULT_FLUSH: u32 = 4;
+
+/// After so many receipts a process stores a checkpoint, where no line `checkpoint` says otherwise.
+pub const DEFAULT_CHECKPOINT: u32 = 16;
+
+/// A process runs at most so many instructions in a turn, where no line `fuel` says otherwise.
+pub const DEFAULT_FUEL: u64 = 1_000;
+
+/// What has been read of a cluster file.
+#[derive(Drop)]
+pub struct ClusterScript {
+    programs: Programs,
+    kills: Vec<(Pid, u32)>,
+    flush: u32,
+    checkpoint: u32,
+    fuel: u64,
+}
+
+impl Model for ClusterScript {
+    ghost Value = { Script };
+
+    ghost view = { λ s. record {
+      cluster = s.programs;
+      kills = s.kills.items;
+      flush = s.flush;
+      checkpoint = s.checkpoint;
+      fuel = s.fuel;
+    } };
+}
+
+impl ClusterScript {
+    pub fn new(alloc: Global) -> ClusterScript
+        ensures { result ≡ no_lines }
+    {
+        ClusterScript {
+            programs: Programs::new(alloc),
+            kills: Vec::new(alloc),
+            flush: DEFAULT_FLUSH,
+            checkpoint: DEFAULT_CHECKPOINT,
+            fuel: DEFAULT_FUEL,
+        }
+    }
+
+    /// The programs and processes.
+    pub fn programs(&self) -> &Programs
+        ensures { result.now ≡ self.now.cluster }
+    {
+        &self.programs
+    }
+
+    /// Which processes are to fail, and each in which interval, in the order of the lines.
+    pub fn kills(&self) -> &[(Pid, u32)]
+        ensures { result.now ≡ self.now.kills }
+    {
+        &self.kills
+    }
+
+    /// After how many receipts a process stores its volatile log.
+    pub fn flush(&self) -> u32
+        ensures { result ≡ self.now.flush }
+    {
+        self.flush
+    }
+
+    /// After how many receipts a process stores a checkpoint.
+    pub fn checkpoint(&self) -> u32
+        ensures { result ≡ self.now.checkpoint }
+    {
+        self.checkpoint
+    }
+
+    /// The most instructions of a turn.
+    pub fn fuel(&self) -> u64
+        ensures { result ≡ self.now.fuel }
+    {
+        self.fuel
+    }
+
+    // Takes in a line `kill NAME INTERVAL`, by the words behind its first, as do the others.
+    fn add_kill(&mut self, words: &[&[u8]]) -> Result<(), BuildError<LineError>>
+        ensures { Gives (λ _. self.new) result (kill_line self.old (map (λ word. word.now) words.now)) }
+    {
+        let [name, interval] = words else {
+            return Err(LineError::WrongCount.into());
+        };
+        let Some(interval) = number_of(interval) else {
+            return Err(LineError::BadNumber.into());
+        };
+        let Some(name) = name_of(name) else {
+            return Err(LineError::BadName.into());
+        };
+        let Some(process) = self.programs.place(name) else {
+            return Err(LineError::NoSuchName.into());
+        };
+        if self.kills.len() >= MAX_KILLS {
+            return Err(LineError::TooMany.into());
+        }
+        self.kills.push((Pid::at(process), interval))?;
+        self.programs.close();
+        Ok(())
+    }
+
+    // `flush K`.
+    fn set_flush(&mut self, words: &[&[u8]]) -> Result<(), BuildError<LineError>>
+        ensures { Gives (λ _. self.new) result (flush_line self.old (map (λ word. word.now) words.now)) }
+    {
+        self.flush = receipts_in(words)?;
+        self.programs.close();
+        Ok(())
+    }
+
+    // `checkpoint K`.
+    fn set_checkpoint(&mut self, words: &[&[u8]]) -> Result<(), BuildError<LineError>>
+        ensures { Gives (λ _. self.new) result (checkpoint_line self.old (map (λ word. word.now) words.now)) }
+    {
+        self.checkpoint = receipts_in(words)?;
+        self.programs.close();
+        Ok(())
+    }
+
+    // `fuel K`.
+    fn set_fuel(&mut self, words: &[&[u8]]) -> Result<(), BuildError<LineError>>
+        ensures { Gives (λ _. self.new) result (fuel_line self.old (map (λ word. word.now) words.now)) }
+    {
+        self.fuel = instructions_in(words)?;
+        self.programs.close();
+        Ok(())
+    }
+
+    // A line that says how the cluster is run, by its first word and those behind it.
+    fn add_setting(&mut self, first: &[u8], words: &[&[u8]]) -> Result<(), BuildError<LineError>>
+        ensures { Gives (λ _. self.new) result (setting_line self.old first.now (map (λ word. word.now) words.now)) }
+    {
+        if first == b"kill".as_slice() {
+            return self.add_kill(words);
+        }
+        if first == b"flush".as_slice() {
+            return self.set_flush(words);
+        }
+        if first == b"checkpoint".as_slice() {
+            return self.set_checkpoint(words);
+        }
+        if first == b"fuel".as_slice() {
+            return self.set_fuel(words);
+        }
+        Err(LineError::UnknownLine.into())
+    }
+}
+
+impl Builder for ClusterScript {
+    ghost State = { Script };
+
+    ghost state = { λ script. script };
+
+    ghost meaning = { meaning_of };
+
+    fn add_line(&mut self, alloc: Global, words: &[&[u8]]) -> Result<(), BuildError<LineError>> {
+        let [first, words @ ..] = words else {
+            return Err(LineError::UnknownLine.into());
+        };
+        if *first == b"program".as_slice() {
+            return self.programs.add_program(alloc, Ext::I, words);
+        }
+        if *first == b"program-m".as_slice() {
+            return self.programs.add_program(alloc, Ext::Im, words);
+        }
+        if *first == b"proc".as_slice() {
+            return self.programs.add_process(alloc, words);
+        }
+        self.add_setting(first, words)
+    }
+}
+
+// The number of receipts that the one word stands for.
+fn receipts_in(words: &[&[u8]]) -> Result<u32, LineError>
+    ensures { result ≡ receipts_in (map (λ word. word.now) words.now) }
+{
+    let [word] = words else {
+        return Err(LineError::WrongCount);
+    };
+    match number_of(word) {
+        None | Some(0) => Err(LineError::BadNumber),
+        Some(number) => Ok(number),
+    }
+}
+
+// The number of instructions that the one word stands for.
+fn instructions_in(words: &[&[u8]]) -> Result<u64, LineError>
+    ensures { result ≡ instructions_in (map (λ word. word.now) words.now) }
+{
+    let [word] = words else {
+        return Err(LineError::WrongCount);
+    };
+    match long_number_of(word) {
+        None | Some(0) => Err(LineError::BadNumber),
+        Some(number) => Ok(number),
+    }
+}

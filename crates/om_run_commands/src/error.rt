@@ -1,0 +1,34 @@
+//! The errors of a run, as a command tells them.
+
+ghost use Rattle.std.specs.Prelude.{◌≡◌};
+ghost use Rattle.om_run_commands.specs.Errors.{error_of_play, error_of_run};
+
+use om_check::PlayFault;
+use om_commands::CommandError;
+use om_runner::RunFault;
+
+// Why the run of a cluster came to no end.
+pub(crate) fn error_of_run(fault: RunFault) -> CommandError
+    ensures { result ≡ error_of_run fault }
+{
+    match fault {
+        RunFault::Turns(_) => CommandError::OutOfTurns,
+        RunFault::GateShut(_) => CommandError::GateShut,
+        RunFault::Memory => CommandError::NoMemory,
+        RunFault::Fault(_) | RunFault::Load(_) => CommandError::StoreFault,
+        RunFault::NoThread => CommandError::NoThread,
+    }
+}
+
+// Why the run without failures was not played.
+pub(crate) fn error_of_play(fault: PlayFault) -> CommandError
+    ensures { result ≡ error_of_play fault }
+{
+    match fault {
+        PlayFault::Memory => CommandError::NoMemory,
+        PlayFault::NotSent(_)
+        | PlayFault::NotWaiting(_)
+        | PlayFault::Spent(_)
+        | PlayFault::NotEnded(_) => CommandError::Unlike,
+    }
+}

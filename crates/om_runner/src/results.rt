@@ -1,0 +1,156 @@
+//! What workers bring back, and which fault is told of all.
+
+ghost use Rattle.std.specs.Prelude.{◌≡◌, ◌≤◌, ◌↔◌, ◌⊎◌, All, IfErr, IfNone, IfOk, IfSome, IsTrue, OnOk, length, map, vec_len};
+ghost use Rattle.om_runner.specs.Reports.{AreAlong, IsEnd, IsFaultOf};
+ghost use Rattle.om_runner.specs.declared.fault.RunFault.TheVariants.{Memory};
+ghost use Rattle.om_runner.specs.steps.Ends.{AreBelow, AreEndsOf, AreOwnEnds, IsGiven, IsLeastFault, IsOut, IsWell};
+ghost use Rattle.om_runner.specs.steps.Network.{IsNetwork};
+ghost use Rattle.om_runner.specs.steps.Settling.{ArePasses};
+
+use crate::fault::RunFault;
+use crate::ground::Cluster;
+use crate::network::Ends;
+use crate::opener::Opener;
+use om_board::{Naming, PutPass, TakePass};
+use om_process::{Status, Witness};
+use om_stable::Stable;
+use std::alloc::{AllocError, Global};
+use std::sync::Wait;
+
+// What a worker brings back.
+#[derive(Drop)]
+pub(crate) struct Finished<S: Stable> {
+    pub(crate) status: Status,
+    pub(crate) store: S,
+    pub(crate) ends: Ends,
+    pub(crate) witness: Witness,
+}
+
+// What all workers brought back, by process.
+#[derive(Drop)]
+pub(crate) struct Parts<S: Stable> {
+    pub(crate) statuses: Vec<Status>,
+    pub(crate) stores: Vec<S>,
+    // By sender, and there by receiver.
+    pub(crate) puts: Vec<Vec<PutPass>>,
+    // By receiver, and there by sender.
+    pub(crate) takes: Vec<Vec<TakePass>>,
+    pub(crate) witnesses: Vec<Witness>,
+}
+
+// Whether the worker's turns were out.
+fn is_out(fault: RunFault) -> bool
+    ensures { IsTrue result ↔ IsOut fault }
+{
+    match fault {
+        RunFault::Turns(_) => true,
+        RunFault::GateShut(_)
+        | RunFault::Memory
+        | RunFault::Fault(_)
+        | RunFault::Load(_)
+        | RunFault::NoThread => false,
+    }
+}
+
+// The fault that is told, of those that workers ended with.
+fn fault_of<S: Stable>(results: &[Result<Finished<S>, RunFault>]) -> Option<RunFault>
+    ensures none { IfNone result (AreBelow IsWell (length results.now) results.now) }
+    ensures least { IfSome result (IsLeastFault results.now) }
+{
+    let mut last = None;
+    for i in 0..results.len() {
+        match &results[i] {
+            Ok(_) => {}
+            Err(fault) => {
+                if !is_out(*fault) {
+                    return Some(*fault);
+                }
+                last = last.or(Some(*fault));
+            }
+        }
+    }
+    last
+}
+
+// What all workers brought back.
+fn all_of<S: Stable>(
+    alloc: Global,
+    results: Vec<Result<Finished<S>, RunFault>>,
+) -> Result<Vec<Finished<S>>, RunFault>
+    ensures all { IfOk result (λ all. map Ok all.items ≡ results.items) }
+    ensures fault { IfErr result (λ f. IsLeastFault results.items f ⊎ (f ≡ Memory)) }
+{
+    if let Some(fault) = fault_of(&results) {
+        return Err(fault);
+    }
+    let Ok(mut all) = Vec::with_capacity(alloc, results.len()) else {
+        return Err(RunFault::Memory);
+    };
+    for result in results {
+        all.push_reserved(result?);
+    }
+    Ok(all)
+}
+
+// Each kind of what was brought back, by process.
+fn parted<S: Stable>(alloc: Global, all: Vec<Finished<S>>) -> Result<Parts<S>, AllocError>
+    ensures statuses { IfOk result (λ parts. parts.statuses.items ≡ map (λ f. f.status) all.items) }
+    ensures stores { IfOk result (λ parts. parts.stores.items ≡ map (λ f. f.store) all.items) }
+    ensures puts { IfOk result (λ parts. parts.puts.items ≡ map (λ f. f.ends.puts) all.items) }
+    ensures takes { IfOk result (λ parts. parts.takes.items ≡ map (λ f. f.ends.takes) all.items) }
+{
+    let mut statuses = Vec::with_capacity(alloc, all.len())?;
+    let mut stores = Vec::with_capacity(alloc, all.len())?;
+    let mut puts = Vec::with_capacity(alloc, all.len())?;
+    let mut takes = Vec::with_capacity(alloc, all.len())?;
+    let mut witnesses = Vec::with_capacity(alloc, all.len())?;
+    for one in all {
+        let Finished {
+            status,
+            store,
+            ends,
+            witness,
+        } = one;
+        statuses.push_reserved(status);
+        stores.push_reserved(store);
+        puts.push_reserved(ends.puts);
+        takes.push_reserved(ends.takes);
+        witnesses.push_reserved(witness);
+    }
+    Ok(Parts {
+        statuses,
+        stores,
+        puts,
+        takes,
+        witnesses,
+    })
+}
+
+// What workers brought back, where each ended well.
+pub(crate) fn gathered<K: Naming, R: Wait, G, O: Opener<R>>(
+    cluster: &Cluster<'_, K, R, G, O>,
+    results: Vec<Result<Finished<O::Store>, RunFault>>,
+) -> Result<Parts<O::Store>, RunFault>
+    requires images { length cluster.now.plan.now.images.items ≡ K.cell.n }
+    requires network { IsNetwork K.cell.n cluster.now.inboxes.now }
+    requires long { vec_len results ≡ K.cell.n }
+    requires each { AreEndsOf O.Store.is_clean cluster.now.plan.now.images.items cluster.now.inboxes.now K.cell.n results.items }
+    requires own { AreOwnEnds cluster.now.plan.now K.cell.n results.items }
+    requires some { 1 ≤ K.cell.n }
+    ensures passes { IfOk result (λ parts. ArePasses (length cluster.now.inboxes.now) cluster.now.inboxes.now
+        parts.puts.items parts.takes.items) }
+    ensures statuses { IfOk result (λ parts. length parts.statuses.items ≡ length cluster.now.plan.now.images.items) }
+    ensures stores { IfOk result (λ parts. length parts.stores.items ≡ length cluster.now.plan.now.images.items) }
+    ensures ended { IfOk result (λ parts. All IsEnd parts.statuses.items) }
+    ensures along { IfOk result (λ parts. AreAlong O.Store.is_clean cluster.now.plan.now.images.items
+        parts.statuses.items parts.stores.items) }
+    ensures given { OnOk result (IsGiven cluster.now.plan.now) }
+    ensures fault { IfErr result (λ f. IsLeastFault results.items f ⊎ (f ≡ Memory)) }
+    ensures own { IfErr result (IsFaultOf K.cell.n) }
+{
+    let all = all_of(cluster.alloc, results)?;
+    match parted(cluster.alloc, all) {
+        Ok(parts) => Ok(parts),
+        Err(_) => Err(RunFault::Memory),
+    }
+}
