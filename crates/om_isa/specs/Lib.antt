@@ -1,5 +1,5 @@
 pub mod Fields
 pub mod Words
 pub mod Rows
-pub mod Decoded
 pub mod Text
+pub mod derived

@@ -2,7 +2,7 @@
 
 ghost use Rattle.std.specs.Prelude.{◌≡◌, ◌↔◌, Some};
 ghost use Rattle.om_isa.specs.declared.inst.Inst.{Inst};
-ghost use Rattle.om_isa.specs.Decoded.{decoded};
+ghost use Rattle.om_isa.specs.derived.Decoded.{decoded};
 ghost use Rattle.om_isa.specs.Rows.{Decodes, Fits, extension_of};
 
 use crate::ext::Ext;

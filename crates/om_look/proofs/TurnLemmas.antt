@@ -2,11 +2,11 @@
 use Rattle.std.proofs.Common.{◌≡◌, ℕ, zero, suc, ◌+◌, ◌<◌, List, [], ◌++◌, length, refl, sym, ap, ◌∙◌, subst, append_assoc, append-nil, add-one, cond, arith}
 use Rattle.std.specs.Prelude.{Some, None, Result, Err, Bool, true, false, nat_le}
 use Rattle.std.proofs.lemmas.Bool.Decides.{nat_tests}
-use Rattle.om_isa.specs.Decoded.{decoded}
+use Rattle.om_isa.specs.derived.Decoded.{decoded}
 use Rattle.om_isa.specs.Rows.{Decodes}
 use Rattle.om_isa.specs.declared.inst.Inst.{Inst}
 use Rattle.om_machine.specs.State.{State, word_at}
-use Rattle.om_machine.specs.Step.{after_fetch, fetched, next_of}
+use Rattle.om_machine.specs.derived.NextStep.{after_fetch, fetched, next_of}
 use Rattle.om_machine.specs.declared.event.Event.{Event}
 use Rattle.om_machine.specs.declared.event.Event.TheVariants.{Trap}
 use Rattle.om_machine.specs.declared.event.Cause.{Cause}

@@ -6,7 +6,7 @@ use Rattle.om_isa.specs.Rows.{Decodes}
 use Rattle.om_isa.specs.Text.{text_of}
 use Rattle.om_isa.specs.declared.inst.Inst.{Inst}
 use Rattle.om_machine.specs.State.{State, reg, word_at}
-use Rattle.om_machine.specs.Step.{next_of}
+use Rattle.om_machine.specs.derived.NextStep.{next_of}
 use Rattle.om_machine.specs.declared.event.Event.{Event}
 use Rattle.om_machine.specs.declared.event.Event.TheVariants.{Call}
 use Rattle.om_machine.specs.declared.event.EnvCall.TheVariants.{Send, Output, Who}

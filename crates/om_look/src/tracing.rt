@@ -4,7 +4,7 @@ ghost use Rattle.std.specs.Prelude.{◌≡◌, ◌+◌, ◌++◌, ◌<◌, ◌�
 ghost use Rattle.om_look.specs.Trace.{IsTrace};
 ghost use Rattle.om_look.specs.steps.Before.{IsBefore};
 ghost use Rattle.om_machine.specs.State.{word_at};
-ghost use Rattle.om_machine.specs.Step.{next_of};
+ghost use Rattle.om_machine.specs.derived.NextStep.{next_of};
 ghost use Rattle.om_machine.specs.declared.event.Cause.{Cause};
 ghost use Rattle.om_machine.specs.declared.event.Event.{Event};
 ghost use Rattle.om_process.specs.Core.{CoreTurns, core_turn, move_of, size_of, status_of, with_now};

@@ -4,4 +4,5 @@ pub mod Values
 pub mod Effects
 pub mod Step
 pub mod Finishing
+pub mod derived
 pub mod steps

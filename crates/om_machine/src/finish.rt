@@ -1,7 +1,7 @@
 //! The results of environment calls. Each counts as one finished instruction, and the next one follows it.
 
 ghost use Rattle.std.specs.Prelude.{◌≡◌, ◌+◌, ◌≤◌, length};
-ghost use Rattle.om_machine.specs.Step.{next_of};
+ghost use Rattle.om_machine.specs.derived.NextStep.{next_of};
 ghost use Rattle.om_machine.specs.State.{written};
 ghost use Rattle.om_machine.specs.Finishing.{TakesWord, TakesBody, finished_word, finished_who, finished_receive};
 

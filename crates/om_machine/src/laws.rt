@@ -3,7 +3,8 @@
 ghost use Rattle.std.specs.Prelude.{◌≡◌, ◌≢◌, ◌↔◌, ◌∷◌, ◌+◌, ◌<◌, ◌≤◌, ◌^◌, All, List, drop, length, ℕ};
 ghost use Rattle.om_isa.specs.declared.ext.Ext.{Ext};
 ghost use Rattle.om_machine.specs.State.{State, IsSize, IsMachine, IsMachineAfter, loaded, restored};
-ghost use Rattle.om_machine.specs.Step.{Goes, Steps, next_of};
+ghost use Rattle.om_machine.specs.Step.{Goes, Steps};
+ghost use Rattle.om_machine.specs.derived.NextStep.{next_of};
 ghost use Rattle.om_machine.specs.Finishing.{TakesBody, finished_word, finished_who, finished_receive};
 ghost use Rattle.om_machine.specs.declared.event.EnvCall.{EnvCall};
 ghost use Rattle.om_machine.specs.declared.event.Event.{Event};

@@ -7,7 +7,7 @@ use Rattle.std.proofs.lemmas.List.{get_or-set_same, length-append, length-map, m
 use Rattle.std.proofs.lemmas.List.FromFn.{map-range_with_len_more}
 use Rattle.std.proofs.lemmas.List.Sums.{sum_by-set, get_or-le-sum_by}
 use Rattle.om_machine.specs.State.{State}
-use Rattle.om_machine.specs.Step.{next_of}
+use Rattle.om_machine.specs.derived.NextStep.{next_of}
 use Rattle.om_machine.specs.declared.event.Event.{Event}
 use Rattle.om_machine.specs.declared.event.Event.TheVariants.{Went, Call, Trap}
 use Rattle.om_machine.specs.declared.event.EnvCall.TheVariants.{Exit, Send, Receive, Output, Who}

@@ -4,7 +4,8 @@ use Rattle.std.specs.Prelude.{if◌then◌else◌}
 use Rattle.om_machine.specs.State as machine
 use Rattle.om_machine.specs.State.{State, put, written}
 use Rattle.om_machine.specs.Step as runs
-use Rattle.om_machine.specs.Step.{Steps, next_of}
+use Rattle.om_machine.specs.Step.{Steps}
+use Rattle.om_machine.specs.derived.NextStep.{next_of}
 use Rattle.om_machine.specs.Finishing.{finished_word, finished_who, finished_receive}
 use Rattle.om_machine.specs.declared.event.Event.{Event}
 use Rattle.om_machine.specs.declared.event.Event.TheVariants.{Went, Call, Trap}

@@ -1,7 +1,7 @@
 -- Turns of a process, and what receipts lead to.
 use Rattle.std.specs.Prelude.{◌≡◌, ℕ, zero, suc, ◌+◌, List, [], ◌∷◌, length, slice_index, slice_range, Option, Some, if◌then◌else◌, nat_lt, nat_le, ◌||◌}
 use Rattle.om_machine.specs.State.{State}
-use Rattle.om_machine.specs.Step.{next_of}
+use Rattle.om_machine.specs.derived.NextStep.{next_of}
 use Rattle.om_machine.specs.Finishing.{finished_word, finished_who}
 use Rattle.om_machine.specs.declared.event.Event.{Event}
 use Rattle.om_machine.specs.declared.event.Event.TheVariants.{Went, Call, Trap}

@@ -1,7 +1,7 @@
 //! Turns of a process.
 
 ghost use Rattle.std.specs.Prelude.{ℕ, ◌≡◌, ◌≢◌, ◌+◌, ◌<◌, ◌≤◌, length, slice_index, slice_range, Option, None, Some, IfOk, OnOk, OnErr, IfSome};
-ghost use Rattle.om_machine.specs.Step.{next_of};
+ghost use Rattle.om_machine.specs.derived.NextStep.{next_of};
 ghost use Rattle.om_machine.specs.Finishing.{TakesWord, finished_who, finished_word};
 ghost use Rattle.om_process.specs.Core.{CoreTurns, core_turn, move_of, size_of, status_of, with_now};
 ghost use Rattle.om_process.specs.steps.Planned.{IsBuffer, with_bytes_emitted};

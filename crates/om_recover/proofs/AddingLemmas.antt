@@ -6,11 +6,11 @@ use Rattle.om_recover.specs.steps.Nearest.{at, IsNearestTo}
 use Rattle.om_recover.specs.steps.Bases.{AreBases, AreSameBases, IsStored, base_entries}
 use Rattle.om_recover.specs.steps.Logs.{AreLogs, AreSame, IsLaid, log_entries}
 use Rattle.om_recover.specs.steps.Held.{held, row_of, AreTrees, AreIndexed, Hold, IsFree, Reaches, IsRun}
-use Rattle.om_recover.specs.declared.trees.Vectors.{Vectors}
-use Rattle.om_recover.specs.declared.trees.Base.{Base}
-use Rattle.om_recover.specs.declared.trees.Bases.{Bases}
-use Rattle.om_recover.specs.declared.trees.Logs.{Logs}
-use Rattle.om_recover.specs.declared.trees.Trees.{Trees}
+use Rattle.om_recover.specs.declared.rows.trees.Vectors.{Vectors}
+use Rattle.om_recover.specs.declared.rows.trees.Base.{Base}
+use Rattle.om_recover.specs.declared.rows.trees.Bases.{Bases}
+use Rattle.om_recover.specs.declared.rows.trees.Logs.{Logs}
+use Rattle.om_recover.specs.declared.rows.trees.Trees.{Trees}
 use Rattle.om_recover.specs.declared.row.RowKind.{RowKind}
 use Rattle.om_recover.specs.declared.row.RowKind.TheVariants.{Checkpoint, Log}
 use Rattle.om_recover.specs.declared.row.Row.{Row}

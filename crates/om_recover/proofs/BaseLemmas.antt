@@ -6,9 +6,9 @@ use Rattle.om_recover.specs.Rows.{HasRow, row_cmp}
 use Rattle.om_recover.specs.steps.Nearest.{at, IsNearestTo, IsNearestFrom, HasNoneTo, HasNoneFrom}
 use Rattle.om_recover.specs.steps.Bases.{newest_of, newest_entries, base_entries, IsNewest, HasNoNewest, AreBases}
 use Rattle.om_recover.specs.steps.Held.{base_row}
-use Rattle.om_recover.specs.declared.trees.Base.{Base}
-use Rattle.om_recover.specs.declared.trees.Newest.{Newest}
-use Rattle.om_recover.specs.declared.trees.Bases.{Bases}
+use Rattle.om_recover.specs.declared.rows.trees.Base.{Base}
+use Rattle.om_recover.specs.declared.rows.trees.Newest.{Newest}
+use Rattle.om_recover.specs.declared.rows.trees.Bases.{Bases}
 use Rattle.om_recover.specs.declared.row.Row.{Row}
 use Rattle.om_recover.proofs.PlaceLemmas.{apart_places}
 use Rattle.om_recover.proofs.RowsLemmas.{of_inserted}

@@ -4,9 +4,9 @@ use Rattle.std.proofs.lemmas.Bool.{cases_eq, cases_lt}
 use Rattle.std.proofs.lemmas.Option.{slice_get_read, slice_get_past, slice_get_cases, get_or_from_slice_get}
 use Rattle.om_recover.specs.steps.Nearest.{at, AreSorted, IsPut, IsNearestFrom, HasNoneFrom}
 use Rattle.om_recover.specs.steps.Bases.{newest_of, base_entries, newest_part, IsNewest, HasNoNewest, AreBases, IsStored, AreSameBases, AreBasesPart, AreNewestPart, IsShelved, IsTop, HaveNoBases}
-use Rattle.om_recover.specs.declared.trees.Base.{Base}
-use Rattle.om_recover.specs.declared.trees.Newest.{Newest}
-use Rattle.om_recover.specs.declared.trees.Bases.{Bases}
+use Rattle.om_recover.specs.declared.rows.trees.Base.{Base}
+use Rattle.om_recover.specs.declared.rows.trees.Newest.{Newest}
+use Rattle.om_recover.specs.declared.rows.trees.Bases.{Bases}
 use Rattle.om_recover.proofs.BaseLemmas.{newest_at, no_newest_at, newest_cases, one_newest, beside_newest, to_newest}
 use Rattle.om_recover.proofs.RunLemmas.{get_set_same, get_set_other}
 

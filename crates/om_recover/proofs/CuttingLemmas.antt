@@ -14,7 +14,7 @@ use Rattle.om_recover.proofs.LawfulLemmas.{lawful_part}
 use Rattle.om_recover.proofs.ClimbLemmas.{at_most_or_more}
 use Rattle.om_recover.proofs.MemoryLemmas.{all_alike, none_remembered}
 use Rattle.om_recover.specs.steps.Memory.{AreRemembered}
-use Rattle.om_recover.specs.declared.memory.Memory.{Memory}
+use Rattle.om_recover.specs.declared.search.memory.Memory.{Memory}
 
 kept_one : (e c t : Bool) → (e ≡ true → t ≡ true) → (e || (c && t)) ≡ ((e || c) && t)
 kept_one true c t tested = sym (tested refl)

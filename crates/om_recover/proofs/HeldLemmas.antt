@@ -5,9 +5,9 @@ use Rattle.om_recover.specs.steps.Nearest.{at}
 use Rattle.om_recover.specs.steps.Bases.{base_entries}
 use Rattle.om_recover.specs.steps.Logs.{log_entries}
 use Rattle.om_recover.specs.steps.Held.{row_of, log_row, base_row, held, AreTrees}
-use Rattle.om_recover.specs.declared.trees.Vectors.{Vectors}
-use Rattle.om_recover.specs.declared.trees.Base.{Base}
-use Rattle.om_recover.specs.declared.trees.Trees.{Trees}
+use Rattle.om_recover.specs.declared.rows.trees.Vectors.{Vectors}
+use Rattle.om_recover.specs.declared.rows.trees.Base.{Base}
+use Rattle.om_recover.specs.declared.rows.trees.Trees.{Trees}
 use Rattle.om_recover.specs.declared.row.RowKind.TheVariants.{Checkpoint, Log}
 use Rattle.om_recover.specs.declared.row.Row.{Row}
 use Rattle.om_recover.proofs.RowsLemmas.{rows_total}

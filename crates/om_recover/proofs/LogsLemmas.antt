@@ -7,9 +7,9 @@ use Rattle.om_recover.specs.Rows.{HasRow, row_cmp}
 use Rattle.om_recover.specs.steps.Nearest.{place_cmp, at}
 use Rattle.om_recover.specs.steps.Logs.{entries_from, run_entries, log_entries, IsInRun, IsOutside, IsInRuns, IsOutsideRuns, AreLogs}
 use Rattle.om_recover.specs.steps.Held.{log_row}
-use Rattle.om_recover.specs.declared.trees.Vectors.{Vectors}
-use Rattle.om_recover.specs.declared.trees.Run.{Run}
-use Rattle.om_recover.specs.declared.trees.Logs.{Logs}
+use Rattle.om_recover.specs.declared.rows.trees.Vectors.{Vectors}
+use Rattle.om_recover.specs.declared.rows.trees.Run.{Run}
+use Rattle.om_recover.specs.declared.rows.trees.Logs.{Logs}
 use Rattle.om_recover.specs.declared.row.Row.{Row}
 use Rattle.om_recover.proofs.PlaceLemmas.{apart_places}
 use Rattle.om_recover.proofs.RowsLemmas.{of_inserted, inserted, kept}

@@ -9,7 +9,7 @@ use Rattle.om_recover.specs.Rows.{Rows, HasRow, Has, IsLawful}
 use Rattle.om_recover.specs.declared.row.RowKind.{RowKind}
 use Rattle.om_recover.specs.declared.row.RowKind.TheVariants.{Checkpoint, Log}
 use Rattle.om_recover.specs.declared.row.Row.{Row}
-use Rattle.om_recover.specs.declared.memory.Memory.{Memory}
+use Rattle.om_recover.specs.declared.search.memory.Memory.{Memory}
 use Rattle.om_recover.specs.Recoverable.{IsStable, IsRecoverable, maximum_of}
 use Rattle.om_recover.specs.Climb.{IsOutOfReach}
 use Rattle.om_recover.specs.steps.Climbing.{IsNeededWithin, begins, leads, IsClimbing, IsPassing}

@@ -11,9 +11,9 @@ use Rattle.om_recover.specs.steps.Nearest.{place_cmp, at}
 use Rattle.om_recover.specs.steps.Bases.{AreBasesPart, base_entries}
 use Rattle.om_recover.specs.steps.Logs.{ArePart, log_entries}
 use Rattle.om_recover.specs.steps.Held.{row_of, held, AreTrees, Reaches}
-use Rattle.om_recover.specs.declared.trees.Base.{Base}
-use Rattle.om_recover.specs.declared.trees.Bases.{Bases}
-use Rattle.om_recover.specs.declared.trees.Trees.{Trees}
+use Rattle.om_recover.specs.declared.rows.trees.Base.{Base}
+use Rattle.om_recover.specs.declared.rows.trees.Bases.{Bases}
+use Rattle.om_recover.specs.declared.rows.trees.Trees.{Trees}
 use Rattle.om_recover.specs.declared.row.RowKind.TheVariants.{Checkpoint, Log}
 use Rattle.om_recover.proofs.PlaceLemmas.{exact_places}
 use Rattle.om_recover.proofs.HeldLemmas.{as_log, as_base, held_at, held_log, held_base}

@@ -6,8 +6,8 @@ use Rattle.om_recover.specs.Climb.{IsLeastStable}
 use Rattle.om_recover.specs.steps.Nearest.{at, IsNearestTo, IsNearestFrom, HasNoneFrom}
 use Rattle.om_recover.specs.steps.Bases.{base_entries}
 use Rattle.om_recover.specs.steps.Held.{held, AreTrees, AreIndexed, Reaches, IsRun}
-use Rattle.om_recover.specs.declared.trees.Base.{Base}
-use Rattle.om_recover.specs.declared.trees.Trees.{Trees}
+use Rattle.om_recover.specs.declared.rows.trees.Base.{Base}
+use Rattle.om_recover.specs.declared.rows.trees.Trees.{Trees}
 use Rattle.om_recover.specs.declared.row.RowKind.TheVariants.{Checkpoint, Log}
 use Rattle.om_recover.specs.declared.row.Row.{Row}
 use Rattle.om_recover.proofs.HeldLemmas.{some_base, has_base}

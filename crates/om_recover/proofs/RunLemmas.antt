@@ -3,9 +3,9 @@ use Rattle.std.proofs.lemmas.Bool.{cases_order, cases_eq, cases_lt, ltb-true}
 use Rattle.std.proofs.lemmas.Option.{slice_get_read, slice_get_within, get_or_from_slice_get}
 use Rattle.om_recover.specs.steps.Nearest.{at, AreSorted, IsNearestTo, IsNearestFrom, HasNoneTo, HasNoneFrom, IsPut}
 use Rattle.om_recover.specs.steps.Logs.{log_entries, IsInRun, IsOutside, IsInRuns, IsOutsideRuns, AreLogs, IsRunTo, IsRunFrom, HasNoRunTo, HasNoRunFrom, IsLaid, AreSame, IsLonger, IsSameRun, ArePushed, AreSameRuns}
-use Rattle.om_recover.specs.declared.trees.Vectors.{Vectors}
-use Rattle.om_recover.specs.declared.trees.Run.{Run}
-use Rattle.om_recover.specs.declared.trees.Logs.{Logs}
+use Rattle.om_recover.specs.declared.rows.trees.Vectors.{Vectors}
+use Rattle.om_recover.specs.declared.rows.trees.Run.{Run}
+use Rattle.om_recover.specs.declared.rows.trees.Logs.{Logs}
 use Rattle.om_recover.proofs.LogsLemmas.{in_runs_at, outside_at, runs_cases, outside_runs}
 
 -- what was read of a list

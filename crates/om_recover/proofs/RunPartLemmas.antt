@@ -6,9 +6,9 @@ use Rattle.std.proofs.Math.Seq.{take-append_seam}
 use Rattle.std.proofs.lemmas.Option.{slice_get_read, slice_get_within}
 use Rattle.om_recover.specs.steps.Nearest.{at, AreSorted}
 use Rattle.om_recover.specs.steps.Logs.{log_entries, IsOutside, IsInRuns, IsOutsideRuns, AreLogs, ArePart, IsRunPart, AreRunsPart, AreEmpty, HaveNone}
-use Rattle.om_recover.specs.declared.trees.Vectors.{Vectors}
-use Rattle.om_recover.specs.declared.trees.Run.{Run}
-use Rattle.om_recover.specs.declared.trees.Logs.{Logs}
+use Rattle.om_recover.specs.declared.rows.trees.Vectors.{Vectors}
+use Rattle.om_recover.specs.declared.rows.trees.Run.{Run}
+use Rattle.om_recover.specs.declared.rows.trees.Logs.{Logs}
 use Rattle.om_recover.proofs.LogsLemmas.{in_runs_at, outside_at, runs_cases, outside_runs}
 use Rattle.om_recover.proofs.RunLemmas.{get_set_same, set_kept, set_apart}
 use Rattle.om_recover.proofs.PartLemmas.{changed, at_changed}

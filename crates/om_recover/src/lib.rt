@@ -7,36 +7,18 @@
 //! In an order of reading:
 //!
 //! - what is noted: `row`, `note` (the answers), `records` (the calls), `laws` (theorems over the definitions)
-//! - the search: `raise` (whether one is wanted), `search` (attempts in passes), `climb` (one attempt, over rows that it is
-//!   lent as a `Shelf`), `memory` (climbs that failed), `work` and `step` (what is counted)
-//! - the rows: `index` (all of them, a `Shelf`), `trees` (by process), `logs` and `bases` (the logs, the checkpoints),
-//!   `answer` (whether a row is new), `lookup`, `nearest` and `stable` (what is read), `adding`, `laying` and `storing` (what
-//!   is added), `cutting` and `dropping` (what is dropped), `first` (no rows)
+//! - the search: `search`, over rows that it is lent as a `Shelf` (`shelf`); `work` and `step` (what is counted)
+//! - the rows: `rows`, whose index is a `Shelf`
 #![tactic(auto)]
 
-mod adding;
-mod answer;
-mod bases;
-mod climb;
-mod cutting;
-mod dropping;
-mod first;
-mod index;
 pub mod laws;
-mod laying;
-mod logs;
-mod lookup;
-mod memory;
-mod nearest;
 mod note;
-mod raise;
 mod records;
 mod row;
+mod rows;
 mod search;
-mod stable;
+mod shelf;
 mod step;
-mod storing;
-mod trees;
 mod work;
 
 pub use note::{Note, NoteError};

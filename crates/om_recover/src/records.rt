@@ -7,11 +7,11 @@ ghost use Rattle.om_recover.specs.Offered.{offered, TellsChange};
 ghost use Rattle.om_recover.specs.Counted.{IsCountedNote};
 ghost use Rattle.om_recover.specs.Records.{first_row, log_of, checkpoint_of, IsSound};
 
-use crate::index::Index;
-use crate::memory::Memories;
 use crate::note::{Note, NoteError};
-use crate::raise::raised_by;
 use crate::row::{Row, RowKind};
+use crate::rows::index::Index;
+use crate::search::memory::Memories;
+use crate::search::raise::raised_by;
 use crate::work::Work;
 use om_interval::{DepVec, Pid};
 use std::alloc::{AllocError, Global};

@@ -8,7 +8,7 @@
 
 ghost use Rattle.std.specs.Prelude.{◌≡◌, ◌↔◌, length, IfSome, true};
 ghost use Rattle.om_machine.specs.State.{IsSize};
-ghost use Rattle.om_machine.specs.Step.{next_of};
+ghost use Rattle.om_machine.specs.derived.NextStep.{next_of};
 
 use om_isa::{Ext, WRITABLE_REGISTERS};
 use om_machine::{Cause, Event, Machine};

@@ -2,7 +2,7 @@
 use Rattle.std.specs.Prelude.{◌≡◌}
 use Rattle.om_isa.specs.Rows.{Decodes}
 use Rattle.om_machine.specs.State.{State, word_at}
-use Rattle.om_machine.specs.Step.{next_of}
+use Rattle.om_machine.specs.derived.NextStep.{next_of}
 use Rattle.om_look.specs.Writes.{address_in, writes_of}
 use Rattle.om_look.specs.declared.tracing.Before.{Before}
 

@@ -2,7 +2,7 @@ use Rattle.std.specs.Prelude.{ℕ, List, Option, length}
 use Rattle.om_recover.specs.Rows.{Rows, IsLawful}
 use Rattle.om_recover.specs.Recoverable.{IsGreatest}
 use Rattle.om_recover.specs.steps.Memory.{AreRemembered}
-use Rattle.om_recover.specs.declared.memory.Memory.{Memory}
+use Rattle.om_recover.specs.declared.search.memory.Memory.{Memory}
 
 -- what records keep: lawful rows, the greatest state that they allow, and the failed climbs that are remembered
 pub record AreKept (rows : Rows) (state : List ℕ) (places : List (Option Memory)) : Type 0 where

@@ -2,9 +2,9 @@
 use Rattle.std.specs.Prelude.{◌≡◌, ℕ, ◌+◌, ◌<◌, Bool, cond, List, [], ◌∷◌, ◌++◌, slice_get, Option, Some, None, IsSome}
 use Rattle.std.specs.Option.{option_map}
 use Rattle.om_recover.specs.steps.Nearest.{at, AreSorted, IsPut}
-use Rattle.om_recover.specs.declared.trees.Base.{Base}
-use Rattle.om_recover.specs.declared.trees.Newest.{Newest}
-use Rattle.om_recover.specs.declared.trees.Bases.{Bases}
+use Rattle.om_recover.specs.declared.rows.trees.Base.{Base}
+use Rattle.om_recover.specs.declared.rows.trees.Newest.{Newest}
+use Rattle.om_recover.specs.declared.rows.trees.Bases.{Bases}
 
 abbrev pub newest_of : ℕ → Base → Newest
 newest_of x base = record { interval = x; base = base }

@@ -7,9 +7,9 @@ use Rattle.om_recover.specs.Recoverable.{IsStable}
 use Rattle.om_recover.specs.steps.Nearest.{at}
 use Rattle.om_recover.specs.steps.Bases.{AreBases, base_entries}
 use Rattle.om_recover.specs.steps.Logs.{AreLogs, log_entries}
-use Rattle.om_recover.specs.declared.trees.Vectors.{Vectors}
-use Rattle.om_recover.specs.declared.trees.Base.{Base}
-use Rattle.om_recover.specs.declared.trees.Trees.{Trees}
+use Rattle.om_recover.specs.declared.rows.trees.Vectors.{Vectors}
+use Rattle.om_recover.specs.declared.rows.trees.Base.{Base}
+use Rattle.om_recover.specs.declared.rows.trees.Trees.{Trees}
 use Rattle.om_recover.specs.declared.row.RowKind.{RowKind}
 use Rattle.om_recover.specs.declared.row.RowKind.TheVariants.{Checkpoint, Log}
 use Rattle.om_recover.specs.declared.row.Row.{Row}

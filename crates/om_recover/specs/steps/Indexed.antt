@@ -5,7 +5,7 @@ use Rattle.om_recover.specs.Recoverable.{IsStable, IsRecoverable, IsGreatest}
 use Rattle.om_recover.specs.Attempts.{Attempt}
 use Rattle.om_recover.specs.Counted.{IsCounted}
 use Rattle.om_recover.specs.steps.Memory.{AreRemembered}
-use Rattle.om_recover.specs.declared.memory.Memory.{Memory}
+use Rattle.om_recover.specs.declared.search.memory.Memory.{Memory}
 use Rattle.om_recover.specs.declared.row.Row.{Row}
 
 -- the row's interval is not stable, and is once the row is added

@@ -2,9 +2,9 @@
 use Rattle.std.specs.Prelude.{◌≡◌, ℕ, ◌+◌, ◌<◌, ◌≤◌, ◌⊎◌, Bool, true, false, cond, List, [], ◌∷◌, ◌++◌, length}
 use Rattle.std.specs.Prelude.{slice_get, Some, None, IsSome}
 use Rattle.om_recover.specs.steps.Nearest.{at, AreSorted}
-use Rattle.om_recover.specs.declared.trees.Vectors.{Vectors}
-use Rattle.om_recover.specs.declared.trees.Run.{Run}
-use Rattle.om_recover.specs.declared.trees.Logs.{Logs}
+use Rattle.om_recover.specs.declared.rows.trees.Vectors.{Vectors}
+use Rattle.om_recover.specs.declared.rows.trees.Run.{Run}
+use Rattle.om_recover.specs.declared.rows.trees.Logs.{Logs}
 
 -- logs of a process that follow on one another, from an interval on
 abbrev pub entries_from : ℕ → ℕ → List Vectors → List ((ℕ × ℕ) × Vectors)

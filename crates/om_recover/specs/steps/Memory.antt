@@ -3,7 +3,7 @@ use Rattle.om_recover.specs.Rows.{Rows, HasRow}
 use Rattle.om_recover.specs.Recoverable.{IsStable}
 use Rattle.om_recover.specs.steps.Climbing.{IsNeededWithin}
 use Rattle.om_recover.specs.declared.row.Row.{Row}
-use Rattle.om_recover.specs.declared.memory.Memory.{Memory}
+use Rattle.om_recover.specs.declared.search.memory.Memory.{Memory}
 
 -- why the climb waits: a row that it needs names that interval
 pub record IsReason (rows : Rows) (state : List ℕ) (p : ℕ) (memory : Memory) : Type 0 where

@@ -2,7 +2,7 @@ use Rattle.std.proofs.Common.{◌≡◌, Bool, true, false, Some, refl, ap, ◌�
 use Rattle.std.specs.Bool.{then_some}
 use Rattle.om_isa.specs.declared.inst.Inst.{Inst}
 use Rattle.om_isa.specs.Rows.{has}
-use Rattle.om_isa.specs.Decoded.{allowed}
+use Rattle.om_isa.specs.derived.Decoded.{allowed}
 use Rattle.om_isa.proofs.DecodedLemmas.{decoded-row}
 use Rattle.std.specs.Prelude.{if◌then◌else◌, None}
 use Rattle.om_isa.proofs.decoding.decode.Goals as goal

@@ -1,6 +1,6 @@
 use Rattle.std.proofs.Common.{◌≡◌, ◌∙◌, ap, sym}
 use Rattle.std.specs.Prelude.{None}
-use Rattle.om_isa.specs.Decoded.{decoded}
+use Rattle.om_isa.specs.derived.Decoded.{decoded}
 use Rattle.om_machine.specs.State.{word_at}
 use Rattle.om_look.proofs.TurnLemmas.{traps_illegal, traps_outside}
 use Rattle.om_look.proofs.tracing.about_to_do.Goals as goal

@@ -1,6 +1,6 @@
 use Rattle.std.proofs.Common.{◌≤◌, ◌<◌, ◌≡◌, arith, ap, sym, refl, subst}
 use Rattle.om_machine.specs.Finishing.{TakesWord}
-use Rattle.om_machine.specs.Step.{next_of}
+use Rattle.om_machine.specs.derived.NextStep.{next_of}
 use Rattle.om_machine.specs.declared.limits.TheConstants.{LAST_COUNT}
 use Rattle.om_machine.proofs.Stops.{room_at_word}
 use Rattle.om_format.specs.declared.queue.Entry.{Entry}

@@ -1,5 +1,5 @@
 use Rattle.std.proofs.Common.{sym, ap, ◌∙◌}
-use Rattle.om_machine.specs.Step.{next_of}
+use Rattle.om_machine.specs.derived.NextStep.{next_of}
 use Rattle.om_process.specs.Core.{status_of}
 use Rattle.om_process.proofs.CoreLemmas.{made_by, planned_move}
 use Rattle.om_process.proofs.proc_core.ProcCore.status.Goals as goal

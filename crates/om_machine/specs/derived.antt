@@ -1,0 +1,2 @@
+-- Functions that a clause pins to a relation. Nobody has to believe them.
+pub mod NextStep

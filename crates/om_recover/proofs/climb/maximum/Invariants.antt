@@ -1,5 +1,0 @@
-use Rattle.om_recover.proofs.MemoryLemmas.{IsMaximumTo}
-use Rattle.om_recover.proofs.climb.maximum.Given as goal
-
-abbrev pub invariant-loop-p : goal.invariant-loop-p
-invariant-loop-p l = IsMaximumTo l.one l.other l.greater l.p

@@ -1,5 +1,0 @@
-use Rattle.om_recover.proofs.StableLemmas.{record_of_stable}
-use Rattle.om_recover.proofs.lookup.got_at.Goals as goal
-
-pub vectors_at-requires-clause-there : goal.vectors_at-requires-clause-there
-vectors_at-requires-clause-there c = record_of_stable _ _ _ c.requires.stable

@@ -1,0 +1,63 @@
+use Rattle.std.proofs.Common.{◌≡◌, ℕ, ◌+◌, List, sym, ◌∙◌, refl, subst, arith, length, slice_index}
+use Rattle.std.proofs.lemmas.Slice.Eq.{bytes_eq-Decides}
+use Rattle.om_recover.specs.Recoverable.{IsRecoverable}
+use Rattle.om_recover.specs.Climb.{IsOutOfReach}
+use Rattle.om_recover.specs.steps.Memory.{AreRemembered}
+use Rattle.om_recover.proofs.MemoryLemmas.{all_raised}
+use Rattle.om_recover.specs.steps.Climbing.{ArePassed}
+use Rattle.om_interval.proofs.VectorLemmas.{apart_of_eq}
+use Rattle.om_recover.proofs.SearchLemmas.{searching_start, searching_step, searching_ends, searched_at_once, state_rises, greatest_at_rest}
+use Rattle.om_recover.proofs.search.passes.greatest_from.Goals as goal
+
+pub returns-in_default-clause-counted : goal.returns-in_default-clause-counted
+returns-in_default-clause-counted g c = searched_at_once _ _ _ _ _ _ _ c.climb.ensures.counted c.in_default.ensures.climbed
+
+pub loop-higher-init : goal.loop-higher-init
+loop-higher-init g c = record {
+  searching = searching_start _ _ _ _ _ _ _ _ c.requires.process refl c.requires.above c.in-Some.ensures.climbed c.climb.ensures.counted;
+  remembered = all_raised _ _ _ _ _ c.requires.lawful c.in-Some.ensures.climbed.recoverable c.in-Some.ensures.climbed.above c.climb.ensures.remembered;
+}
+
+pub returns-then-eq-clause-greatest : goal.returns-then-eq-clause-greatest
+returns-then-eq-clause-greatest g c =
+    let places : length c.loop-higher.raised ≡ length c.args.state.now = c.loop-higher.invariant.searching.recoverable.places in
+    let rest : c.pass-higher.result ≡ c.loop-higher.raised = (bytes_eq-Decides _ _).0 (sym c.eq.ensures ∙ c.if-eq.true) in
+    greatest_at_rest _ _ _ c.loop-higher.invariant.searching.recoverable (λ p within.
+    subst (λ n. IsOutOfReach n (g.S.Shelf.rows c.args.shelf.now) p (slice_index c.loop-higher.raised p + 1)) places
+    (c.pass-higher.ensures.at_rest rest p (omega (arith, within, places))))
+
+pub returns-then-eq-clause-counted : goal.returns-then-eq-clause-counted
+returns-then-eq-clause-counted g c =
+    let places : length c.loop-higher.raised ≡ length c.args.state.now = c.loop-higher.invariant.searching.recoverable.places in
+    let rest : c.pass-higher.result ≡ c.loop-higher.raised = (bytes_eq-Decides _ _).0 (sym c.eq.ensures ∙ c.if-eq.true) in
+    searching_ends _ _ _ _ _ _ _ _ _ c.loop-higher.invariant.searching
+    (subst (λ n. ArePassed n (g.S.Shelf.rows c.args.shelf.now) c.loop-higher.raised c.loop-higher.raised n c.loop-higher.work.attempts c.pass-higher.new.work.attempts) places
+    (subst (λ (higher : List ℕ). ArePassed (length c.loop-higher.raised) (g.S.Shelf.rows c.args.shelf.now) c.loop-higher.raised higher (length c.loop-higher.raised) c.loop-higher.work.attempts c.pass-higher.new.work.attempts) rest c.pass-higher.ensures.counted))
+
+pub loop-higher-smaller : goal.loop-higher-smaller
+loop-higher-smaller g c =
+    let places : length c.loop-higher.raised ≡ length c.args.state.now = c.loop-higher.invariant.searching.recoverable.places in
+    state_rises _ _ _ _ c.requires.lawful (subst (λ n. IsRecoverable n (g.S.Shelf.rows c.args.shelf.now) c.pass-higher.result) places c.pass-higher.ensures.recoverable) c.pass-higher.ensures.above
+    (apart_of_eq _ _ (sym c.eq.ensures ∙ c.if-eq.false))
+
+pub loop-higher-preserved : goal.loop-higher-preserved
+loop-higher-preserved g c =
+    let places : length c.loop-higher.raised ≡ length c.args.state.now = c.loop-higher.invariant.searching.recoverable.places in
+    record {
+      searching = searching_step _ _ _ _ _ _ _ _ _ _ c.loop-higher.invariant.searching
+          (subst (λ n. IsRecoverable n (g.S.Shelf.rows c.args.shelf.now) c.pass-higher.result) places c.pass-higher.ensures.recoverable) c.pass-higher.ensures.above
+          (apart_of_eq _ _ (sym c.eq.ensures ∙ c.if-eq.false))
+          (subst (λ n. ArePassed n (g.S.Shelf.rows c.args.shelf.now) c.loop-higher.raised c.pass-higher.result n c.loop-higher.work.attempts c.pass-higher.new.work.attempts) places c.pass-higher.ensures.counted);
+      remembered = subst (λ n. AreRemembered n (g.S.Shelf.rows c.args.shelf.now) c.pass-higher.result c.pass-higher.new.memories.places) places c.pass-higher.ensures.remembered;
+    }
+
+pub pass-higher-requires-clause-remembered : goal.pass-higher-requires-clause-remembered
+pass-higher-requires-clause-remembered g c =
+    subst (λ n. AreRemembered n (g.S.Shelf.rows c.args.shelf.now) c.loop-higher.raised c.loop-higher.memories.places) (sym c.loop-higher.invariant.searching.recoverable.places) c.loop-higher.invariant.remembered
+
+pub returns-then-eq-clause-remembered : goal.returns-then-eq-clause-remembered
+returns-then-eq-clause-remembered g c =
+    let places : length c.loop-higher.raised ≡ length c.args.state.now = c.loop-higher.invariant.searching.recoverable.places in
+    let rest : c.pass-higher.result ≡ c.loop-higher.raised = (bytes_eq-Decides _ _).0 (sym c.eq.ensures ∙ c.if-eq.true) in
+    subst (λ (higher : List ℕ). AreRemembered (length c.args.state.now) (g.S.Shelf.rows c.args.shelf.now) higher c.pass-higher.new.memories.places) rest
+    (subst (λ n. AreRemembered n (g.S.Shelf.rows c.args.shelf.now) c.pass-higher.result c.pass-higher.new.memories.places) places c.pass-higher.ensures.remembered)

@@ -1,0 +1,20 @@
+//! The rows, as they are kept.
+//!
+//! In an order of reading: `index` (all of them, a `Shelf`), `trees` (by process), `logs` and `bases` (the logs, the
+//! checkpoints), `answer` (whether a row is new), `lookup`, `nearest` and `stable` (what is read), `adding`, `laying` and
+//! `storing` (what is added), `cutting` and `dropping` (what is dropped), `first` (no rows).
+
+mod adding;
+mod answer;
+mod bases;
+mod cutting;
+mod dropping;
+mod first;
+pub mod index;
+mod laying;
+mod logs;
+mod lookup;
+mod nearest;
+mod stable;
+mod storing;
+mod trees;

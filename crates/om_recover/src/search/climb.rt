@@ -1,0 +1,164 @@
+ghost use Rattle.std.specs.Prelude.{◌≡◌, ◌<◌, ◌≤◌, length, slice_index, slice_set, MatchResult};
+ghost use Rattle.om_interval.specs.Vectors.{IsBelow};
+ghost use Rattle.om_recover.specs.Rows.{IsLawful};
+ghost use Rattle.om_recover.specs.Recoverable.{IsStable, IsRecoverable, maximum_of};
+ghost use Rattle.om_recover.specs.steps.Climbing.{TellsClimb, TellsBegin, TellsBehind, IsAttempted, IsForced, IsBlocked};
+ghost use Rattle.om_recover.specs.steps.Memory.{IsRemembered, AreRemembered};
+
+use crate::search::memory::{Memories, Memory};
+use crate::shelf::Shelf;
+use crate::work::Work;
+use om_interval::{DepVec, Pid};
+
+/// Climbs from the state, with a process raised to an interval, to the least recoverable state there, if there is one.
+pub fn climb<S: Shelf>(
+    shelf: &S,
+    state: &DepVec,
+    pid: Pid,
+    x: u32,
+    memories: &mut Memories,
+    work: &mut Work,
+) -> Option<DepVec>
+    requires lawful { IsLawful (length state.now) (S.rows shelf.now) }
+    requires state { IsRecoverable (length state.now) (S.rows shelf.now) state.now }
+    requires process { pid < length state.now }
+    requires start { IsStable (S.rows shelf.now) pid x }
+    requires above { slice_index state.now pid < x }
+    requires remembered { AreRemembered (length state.now) (S.rows shelf.now) state.now memories.old.places }
+    ensures climbed { TellsClimb (length state.now) (S.rows shelf.now) state.now pid x result }
+    ensures counted { IsAttempted (S.rows shelf.now) state.now pid x work.old.attempts work.new.attempts }
+    ensures remembered { AreRemembered (length state.now) (S.rows shelf.now) state.now memories.new.places }
+{
+    work.attempt(pid, x, state);
+    let Some(begun) = begin(shelf, state, pid, x, memories) else {
+        return None;
+    };
+    let mut reached = begun;
+    let mut passed = begun;
+    let mut looked = *state;
+    while let Some(q) = first_behind(&looked, &reached) {
+        let y = reached.get(q);
+        looked.set(q, y);
+        let vec = shelf.look(q, y, work);
+        match forced(shelf, &reached, &vec) {
+            Err(lacking) => {
+                let memory = Memory {
+                    start: x,
+                    reached,
+                    passed,
+                    waits: lacking,
+                    from: vec.get(lacking),
+                };
+                memories.keep(pid, state.get(pid), memory);
+                return None;
+            }
+            Ok(higher) => {
+                reached = higher;
+                passed.set(q, y);
+            }
+        }
+    }
+    Some(reached)
+}
+
+// Where a climb begins: at what is remembered of one from the same start, or at the start. None where it is known to fail.
+fn begin<S: Shelf>(
+    shelf: &S,
+    state: &DepVec,
+    pid: Pid,
+    x: u32,
+    memories: &Memories,
+) -> Option<DepVec>
+    requires lawful { IsLawful (length state.now) (S.rows shelf.now) }
+    requires state { IsRecoverable (length state.now) (S.rows shelf.now) state.now }
+    requires process { pid < length state.now }
+    requires start { IsStable (S.rows shelf.now) pid x }
+    requires above { slice_index state.now pid < x }
+    requires remembered { AreRemembered (length state.now) (S.rows shelf.now) state.now memories.now.places }
+    ensures { TellsBegin (length state.now) (S.rows shelf.now) state.now pid x result }
+{
+    match memories.get(pid) {
+        Some(memory) if memory.start <= x => begin_known(shelf, state, pid, x, &memory),
+        _ => Some(raised_to(state, pid, x)),
+    }
+}
+
+// Where a climb begins that is remembered from its start or a lower one.
+fn begin_known<S: Shelf>(
+    shelf: &S,
+    state: &DepVec,
+    pid: Pid,
+    x: u32,
+    memory: &Memory,
+) -> Option<DepVec>
+    requires lawful { IsLawful (length state.now) (S.rows shelf.now) }
+    requires state { IsRecoverable (length state.now) (S.rows shelf.now) state.now }
+    requires process { pid < length state.now }
+    requires start { IsStable (S.rows shelf.now) pid x }
+    requires above { slice_index state.now pid < x }
+    requires known { memory.now.start ≤ x }
+    requires remembered { IsRemembered (length state.now) (S.rows shelf.now) state.now pid memory.now }
+    ensures { TellsBegin (length state.now) (S.rows shelf.now) state.now pid x result }
+{
+    let Some(_) = shelf.least_stable(memory.waits, memory.from) else {
+        return None;
+    };
+    if memory.start == x {
+        return Some(maximum(&memory.reached, state));
+    }
+    Some(raised_to(state, pid, x))
+}
+
+fn raised_to(state: &DepVec, pid: Pid, x: u32) -> DepVec
+    requires { pid < length state.now }
+    ensures { result ≡ slice_set state.now pid x }
+{
+    let mut raised = *state;
+    raised.set(pid, x);
+    raised
+}
+
+// The greater of two vectors, place by place.
+fn maximum(one: &DepVec, other: &DepVec) -> DepVec
+    requires { length one.now ≡ length other.now }
+    ensures { result ≡ maximum_of one.now other.now }
+{
+    let mut greater = *one;
+    for p in 0..one.n() {
+        let q = Pid::at(p);
+        greater.join_tag(q, other.get(q));
+    }
+    greater
+}
+
+// A process whose interval is below in the first vector.
+fn first_behind(looked: &DepVec, reached: &DepVec) -> Option<Pid>
+    requires { IsBelow looked.now reached.now }
+    ensures { TellsBehind looked.now reached.now result }
+{
+    for p in 0..looked.n() {
+        let q = Pid::at(p);
+        if looked.get(q) < reached.get(q) {
+            return Some(q);
+        }
+    }
+    None
+}
+
+// The state with each process that the vector names beyond it raised to its least stable interval there, or a process that has none.
+fn forced<S: Shelf>(shelf: &S, state: &DepVec, vec: &DepVec) -> Result<DepVec, Pid>
+    requires { length vec.now ≡ length state.now }
+    ensures { MatchResult result (IsForced (S.rows shelf.now) state.now vec.now) (IsBlocked (S.rows shelf.now) state.now vec.now) }
+{
+    let mut higher = *state;
+    for p in 0..state.n() {
+        let q = Pid::at(p);
+        if state.get(q) < vec.get(q) {
+            match shelf.least_stable(q, vec.get(q)) {
+                None => return Err(q),
+                Some(y) => higher.set(q, y),
+            }
+        }
+    }
+    Ok(higher)
+}

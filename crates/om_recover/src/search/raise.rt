@@ -1,0 +1,37 @@
+ghost use Rattle.std.specs.Prelude.{◌≡◌, ℕ, ◌<◌, ◌≤◌, length};
+ghost use Rattle.om_recover.specs.Recoverable.{IsGreatest};
+ghost use Rattle.om_recover.specs.steps.Indexed.{IsRaisable, IsCountedFrom};
+ghost use Rattle.om_recover.specs.steps.Memory.{AreRemembered};
+
+
+use crate::row::Row;
+use crate::search::memory::Memories;
+use crate::search::passes::greatest_from;
+use crate::shelf::Shelf;
+use crate::work::Work;
+use om_interval::DepVec;
+
+/// The greatest recoverable state after a row was added, of which is known whether it made its interval stable.
+pub fn raised_by<S: Shelf>(
+    after: &S,
+    row: &Row,
+    state: &DepVec,
+    is_new: bool,
+    memories: &mut Memories,
+    work: &mut Work,
+) -> DepVec
+    requires { IsRaisable (length state.now) (S.rows after.now) row.now state.now is_new memories.old.places }
+    ensures greatest { IsGreatest (length state.now) (S.rows after.now) result }
+    ensures remembered { AreRemembered (length state.now) (S.rows after.now) result memories.new.places }
+    ensures counted { IsCountedFrom (length state.now) (S.rows after.now) row.now state.now is_new result
+        work.old.attempts work.new.attempts }
+{
+    if !is_new {
+        return *state;
+    }
+    if row.interval <= state.get(row.pid) {
+        return *state;
+    }
+    memories.forget(state.n(), row.pid, row.interval);
+    greatest_from(after, state, row.pid, row.interval, memories, work)
+}
