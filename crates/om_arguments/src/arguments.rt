@@ -215,7 +215,7 @@ Refused, on standard error, status 1:
 A faulty file is refused whole: 'line N: ..' on standard error, status 1.
 
 Example: the programs and processes of the example of sim. That a message was
-lost with what a had not stored is not to be seen in what comes out.
+lost with what a had not stored is not seen in the output.
   program pc 64 ..
   program pa 128 ..
   proc c pc
@@ -330,7 +330,7 @@ pub struct Asked<'a> {
 }
 
 /// What the words of a command line ask for, of which the first is the program. Refused, the error has its text: a mistake, a
-/// help text or the version that was asked for, or want of memory.
+/// help text or the version that was asked for, or out of memory.
 pub fn parse<'a, S: AsStr>(alloc: Global, words: &'a [S]) -> Result<Asked<'a>, Error> {
     let mut command = command(alloc)?;
     let matches = command.try_get_matches_from_mut(words)?;
@@ -356,7 +356,7 @@ fn no_subcommand(command: &mut Command<'_>) -> Error {
     }
 }
 
-// The error of a mistake in the arguments of a subcommand, or of want of memory for it.
+// The error of a mistake in the arguments of a subcommand, or of memory that ran out for it.
 fn refusal_of(alloc: Global, subcommand: Subcommand, mistake: Mistake<'_>) -> Error {
     match told(alloc, subcommand, mistake) {
         Ok(error) => error,

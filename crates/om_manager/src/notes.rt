@@ -103,7 +103,7 @@ impl Manager {
     ///
     /// Refused, the first that holds, are a process that the cluster has not (`Stranger`), another round than the manager's
     /// (`Stale`), and a number that has another output (`Differs`). An output that is there is `Known`. Then a number above
-    /// the next one (`Gap`), an interval below that of the output before (`Differs`), and last want of memory (`Memory`).
+    /// the next one (`Gap`), an interval below that of the output before (`Differs`), and last, memory that ran out (`Memory`).
     pub fn note_output(
         &mut self,
         alloc: Global,

@@ -27,7 +27,7 @@ impl Manager {
     /// it is in as failed. The round is finished where all are in then. A process that failed already waits.
     ///
     /// Refused, the first that holds, are a process that the cluster has not (`Stranger`), another round than the manager's
-    /// (`Stale`), a gathering that would open after the last round (`Spent`), and want of memory as the round is finished
+    /// (`Stale`), a gathering that would open after the last round (`Spent`), and memory that ran out as the round is finished
     /// (`Memory`).
     pub fn fail(&mut self, alloc: Global, pid: Pid, round: u32) -> Result<Gathered, FailError>
         ensures answer { Failing self.old pid round result self.new }
@@ -70,7 +70,7 @@ impl Manager {
     /// are in then.
     ///
     /// Refused, the first that holds, are a process that the cluster has not (`Stranger`), another round than the manager's
-    /// (`Stale`), a gathering that is not open (`NoRound`), a process that is in (`Joined`), and want of memory as the round is
+    /// (`Stale`), a gathering that is not open (`NoRound`), a process that is in (`Joined`), and memory that ran out as the round is
     /// finished (`Memory`).
     pub fn join(
         &mut self,

@@ -16,7 +16,7 @@ pub struct Image {
 }
 
 impl Image {
-    /// The same image, in memory of its own. Refused for want of memory alone.
+    /// The same image, in memory of its own. Refused only where memory ran out.
     pub fn copy(&self, alloc: Global) -> Result<Image, AllocError>
         ensures { IfOk result (λ copy. program_of copy ≡ program_of self.now) }
     {

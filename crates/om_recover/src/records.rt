@@ -70,7 +70,7 @@ impl Records {
     /// Refused, the first that holds, are a process that the cluster has not (`Stranger`), vectors that are not those of
     /// an interval of the process (`BadVector`), and other vectors than a record of that interval has (`Differs`). A row
     /// that is there is `Known`. Then, the rows being in order by interval, one that is not above the nearest below it, or
-    /// else not below the nearest above it (`Disorder`), and last want of memory (`Memory`).
+    /// else not below the nearest above it (`Disorder`), and last, memory that ran out (`Memory`).
     pub fn note_logged(
         &mut self,
         alloc: Global,

@@ -136,7 +136,7 @@ fn play(rt: &impl Abort, alloc: Global, n: usize, steps: &[Step]) -> Result<(), 
     Ok(())
 }
 
-// The answers of a cluster of two processes, one row of each kind of answer but want of memory.
+// The answers of a cluster of two processes, one row of each kind of answer but out of memory.
 #[test]
 fn answers_and_recovery_states(rt: HostRuntime) -> Result<(), Fail> {
     let steps = [

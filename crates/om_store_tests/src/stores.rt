@@ -192,14 +192,14 @@ fn answer<S: Stable>(
     Ok(found)
 }
 
-// At which row a Fault came, and whether a call was refused for want of memory.
+// At which row a Fault came, and whether a call was refused as memory ran out.
 #[derive(Clone, Copy)]
 struct Refused {
     fault: Option<usize>,
     memory: bool,
 }
 
-// Plays the rows. A call that is refused for a Fault, or for want of memory where a run refuses an
+// Plays the rows. A call that is refused for a Fault, or out of memory where a run refuses an
 // allocation, is played once more: it has left all as it was.
 fn play<S: Stable>(rt: &impl Abort, alloc: Global, store: &mut S, rows: &[Row]) -> Refused {
     let mut fault = None;

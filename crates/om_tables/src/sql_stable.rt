@@ -130,7 +130,7 @@ fn refusal_of(error: Error) -> TablesError
     }
 }
 
-// Counts an error of `sqlite`, except want of memory.
+// Counts an error of `sqlite`, except out of memory.
 fn told<T>(failures: &mut u64, outcome: Result<T, Error>) -> Result<T, StoreError>
     ensures ok { IfOk result (λ x. outcome ≡ Ok x) }
     ensures err { is_ok result ≡ is_ok outcome }

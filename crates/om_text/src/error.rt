@@ -64,7 +64,7 @@ impl fmt::Display for ScriptError {
 
 impl Error for ScriptError {}
 
-/// Why a script, or a line of it, was not read: its error, or want of memory.
+/// Why a script, or a line of it, was not read: its error, or out of memory.
 #[derive(Clone, Copy, Debug, PartialEq, Eq, Drop)]
 pub enum BuildError<F> {
     Invalid(F),

@@ -48,7 +48,7 @@ pub enum Answer {
         /// How many outputs it made.
         made: usize,
     },
-    /// The process answered to a frame, with anything but want of memory.
+    /// The process answered to a frame, with anything but out of memory.
     Given(Accept),
     /// Its record is stored, and so many rows were noted.
     Noted(usize),

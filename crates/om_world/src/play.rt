@@ -60,7 +60,7 @@ impl<S: Stable> World<S> {
         answer
     }
 
-    /// Plays events in order, and answers each. An event that is refused, for want of memory too, is answered so, and the
+    /// Plays events in order, and answers each. An event that is refused, out of memory too, is answered so, and the
     /// next is played. Only where there is no room for the answers is the call refused, and then no event is played.
     ///
     /// Where the stores held nothing before the start and are clean as the call ends, each event did what its answer says,

@@ -21,7 +21,7 @@ fn started(rt: &impl Abort, alloc: Global) -> World<MemStable> {
     }
 }
 
-// The answer to an event; where there is no room for it either, want of memory.
+// The answer to an event; where there is no room for it either, out of memory.
 fn answer_to<S: Stable>(alloc: Global, world: &mut World<S>, event: Event) -> Answer {
     match world.play(alloc, &[event]) {
         Ok(answers) => answers.first().copied().unwrap_or(MEMORY),
