@@ -1,5 +1,5 @@
 -- True records are replayed to their end, from a part too.
-use Rattle.std.proofs.Common.{◌≡◌, ℕ, zero, suc, ◌+◌, List, [], ◌∷◌, ◌++◌, length, drop, take, Some, refl, sym, ap, ◌∙◌, subst, arith}
+use Rattle.std.proofs.Common.{◌≡◌, ℕ, zero, suc, ◌+◌, List, [], ◌∷◌, ◌++◌, ◌<◌, ◌≤◌, ◌⊎◌, inl, inr, length, drop, take, Some, refl, sym, ap, ◌∙◌, subst, arith}
 use Rattle.std.specs.Prelude.{min, ◌-◌, slice_index}
 use Rattle.std.proofs.lemmas.List.{append_assoc, append-nil, take-append-drop, length-take-le, length-append}
 use Rattle.std.proofs.Math.Seq.{append_snoc}
@@ -14,7 +14,9 @@ use Rattle.om_process.specs.Trims.{trimmed_queue, trimmed_queues, trimmed}
 use Rattle.om_process.specs.Claims.{CheckpointOf, RecordsAlong}
 use Rattle.om_process.proofs.Runs.{leads_once, leads_more, one_turn, no_turn, turns_then}
 use Rattle.om_process.proofs.Parts.{keep_emitted, with_queues, same_move, keeps_turns, keeps_waits, keeps_delivered}
+use Rattle.om_process.specs.Stored.{DoesNotFit, WaitsAt}
 use Rattle.om_process.proofs.Basics.{some_once, some_none}
+use Rattle.om_process.proofs.Going.{stays_turns}
 
 -- each state on the way to a wait goes on to it
 pub turns_to_wait : (own n j k : ℕ) (a w c : Process) → Turns own n j a w → IsWaiting own n w → Turns own n k a c → (i : ℕ) × Turns own n i c w
@@ -101,3 +103,24 @@ keep_trimmed (b ∷ bounds) (f ∷ fs) (q ∷ qs) k = (keeps_trimmed b f q k.0, 
 
 pub keeps_trim : (bounds : List ℕ) (whole part : Process) → Keeps whole part → Keeps whole (trimmed bounds part)
 keeps_trim bounds whole part keeps = record { same = ap (λ (p : Process). with_queues p (trimmed_queues bounds part.queues)) keeps.same; queues = keep_trimmed bounds whole.queues part.queues keeps.queues }
+
+-- ---- a receipt fits or does not
+pub fits_not_both : (own n k : ℕ) (s w : Process) (r : ReceiptRecord) → Turns own n k s w → FitsReceipt own n w r → DoesNotFit own n s r → ⊥
+fits_not_both own n k s w r turns f (inl other) = other f.to
+fits_not_both own n k s w r turns f (inr (inl stranger)) = omega (stranger, f.from)
+fits_not_both own n k s w r turns f (inr (inr (inl number))) = number (f.number ∙ ap (λ (p : Process). slice_index p.got r.from) (stays_turns own n k s w turns))
+fits_not_both own n k s w r turns f (inr (inr (inr waits))) = waits (k, w, turns, f.waits, sym f.count)
+
+pub fits_at_wait : (own n : ℕ) (s : Process) (r : ReceiptRecord)
+    → r.to ≡ own → r.from < n → r.ssn ≡ slice_index s.got r.from → r.interval ≡ s.interval + 1 → WaitsAt own n s r.count
+    → (k : ℕ) × (w : Process) × Turns own n k s w × FitsReceipt own n w r
+fits_at_wait own n s r to from number interval waits =
+    let stays = stays_turns own n waits.0 s waits.1 waits.2 in
+    (waits.0, waits.1, waits.2, record {
+      to = to;
+      from = from;
+      interval = interval ∙ ap (λ (p : Process). p.interval + 1) (sym stays);
+      number = number ∙ ap (λ (p : Process). slice_index p.got r.from) (sym stays);
+      count = sym waits.4;
+      waits = waits.3;
+    })

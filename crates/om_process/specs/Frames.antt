@@ -14,11 +14,14 @@ messages_to c to = queue_at c.now.queues to
 abbrev pub outputs_of : CoreState → QueueRecord
 outputs_of c = queue_at c.now.queues (size_of c.now)
 
--- an entry on its way, with the process's present incarnation and the interval in which it was sent
+-- an entry as a message on its way, with the process's present incarnation and the interval in which it was sent
+abbrev pub message_of : CoreState → ℕ → ℕ → Entry → Message
+message_of c to ssn e = record { from = c.own; to = to; tag = record { inc = c.inc; interval = e.interval }; ssn = ssn; body = e.body }
+
+-- so is an entry, if there is one
 abbrev pub frame_of : CoreState → ℕ → ℕ → Option Entry → Option Message
 frame_of c to ssn None = None
-frame_of c to ssn (Some e) =
-    Some (record { from = c.own; to = to; tag = record { inc = c.inc; interval = e.interval }; ssn = ssn; body = e.body })
+frame_of c to ssn (Some e) = Some (message_of c to ssn e)
 
 -- the message is one of the process's kept ones, with its present incarnation and the interval in which it was sent
 pub record IsFrameOf (c : CoreState) (m : Message) : Type 0 where

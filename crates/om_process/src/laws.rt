@@ -1,12 +1,13 @@
 //! What holds of every process, as theorems over the definitions alone: each function stands for one.
 
-ghost use Rattle.std.specs.Prelude.{◌≡◌, ◌↔◌, ◌++◌, ◌+◌, ◌<◌, ◌≤◌, ◌∷◌, [], List, ℕ, Some, length, take};
+ghost use Rattle.std.specs.Prelude.{◌≡◌, ◌↔◌, ◌++◌, ◌+◌, ◌<◌, ◌≤◌, ◌∷◌, [], List, ℕ, Some, length, slice_index, take};
 ghost use Rattle.om_format.specs.declared.queue.Entry.{Entry};
 ghost use Rattle.om_format.specs.Receipts.{ReceiptRecord};
 ghost use Rattle.om_process.specs.Claims.{AtInterval, CheckpointOf, HasEntry, Makes, RecordsAlong, RowOf};
 ghost use Rattle.om_process.specs.Parts.{Grow, Keeps};
 ghost use Rattle.om_process.specs.Process.{Process, Program, Received, delivered, started};
-ghost use Rattle.om_process.specs.Replays.{Replayed, receipts_of};
+ghost use Rattle.om_process.specs.Replays.{FitsReceipt, Replayed, receipts_of};
+ghost use Rattle.om_process.specs.Stored.{DoesNotFit, WaitsAt};
 ghost use Rattle.om_process.specs.Trims.{trimmed};
 ghost use Rattle.om_process.specs.Turns.{Along, IsWaiting, Leads, Reaches, Turns, next_turn};
 
@@ -127,4 +128,14 @@ pub fn turns_count()
 pub fn row_along()
     ensures { (program : Program) (own n : ℕ) (h : List Received) (t : Process)
         → Reaches program own n h t → RowOf own n t.vec t.got h }
+{}
+
+/// A receipt that fits where turns lead to its wait is none that does not fit; and one that is of this process, of a sender
+/// that is there, the next of that sender and of this process, fits where the process waits at its count.
+pub fn fits_or_not()
+    ensures not_both { (own n k : ℕ) (s w : Process) (r : ReceiptRecord)
+        → Turns own n k s w → FitsReceipt own n w r → DoesNotFit own n s r → ⊥ }
+    ensures fits { (own n : ℕ) (s : Process) (r : ReceiptRecord)
+        → r.to ≡ own → r.from < n → r.ssn ≡ slice_index s.got r.from → r.interval ≡ s.interval + 1 → WaitsAt own n s r.count
+        → (k : ℕ) × (w : Process) × Turns own n k s w × FitsReceipt own n w r }
 {}

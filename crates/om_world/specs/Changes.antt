@@ -1,11 +1,11 @@
 -- What is said of several events: who changes, what is sent, handed in and stored.
 use Rattle.std.specs.Prelude.{◌≡◌, ◌⊎◌, ℕ, zero, suc, ◌<◌, ◌≤◌, List, [], ◌∷◌, ◌++◌, length, take, drop, slice_get, slice_set, None, Some, Ok}
 use Rattle.std.specs.FinMap.{get}
-use Rattle.om_format.specs.declared.queue.Entry as kept
 use Rattle.om_format.specs.declared.message.Message.{Message}
 use Rattle.om_format.specs.Queues.{queue_end}
 use Rattle.om_stable.specs.Content.{Content}
 use Rattle.om_stable.specs.Count.{Rose}
+pub use Rattle.om_process.specs.Frames.{message_of}
 use Rattle.om_process.specs.declared.row.Row as pending
 use Rattle.om_process.specs.Core.{CoreState, size_of, with_pending}
 use Rattle.om_process.specs.Frames.{messages_to, outputs_of}
@@ -61,10 +61,6 @@ pub record Changes (old : WorldState) (p : ℕ) (c d : CoreState) (new : WorldSt
   pub stays : Stays old new
 
 -- ---- messages and outputs
--- an entry as a message on its way
-abbrev pub message_of : CoreState → ℕ → ℕ → kept.Entry → Message
-message_of c to ssn e = record { from = c.own; to = to; tag = record { inc = c.inc; interval = e.interval }; ssn = ssn; body = e.body }
-
 -- the messages to a process that are kept, on their way
 abbrev pub messages_in : CoreState → ℕ → List Message
 messages_in c to = numbered (message_of c to) (messages_to c to).first (messages_to c to).entries

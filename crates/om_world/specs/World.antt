@@ -5,9 +5,9 @@ use Rattle.std.specs.List.{list_all}
 use Rattle.om_format.specs.declared.message.Message.{Message}
 use Rattle.om_format.specs.declared.queue.Entry as kept
 use Rattle.om_stable.specs.Content.{Content}
+pub use Rattle.om_process.specs.Images.{program_of}
 use Rattle.om_process.specs.Process.{Program, Received}
 use Rattle.om_process.specs.Core.{CoreState}
-use Rattle.om_process.specs.declared.image.Image.{Image}
 use Rattle.om_manager.specs.Outputs.{HeldOutput}
 use Rattle.om_manager.specs.State.{ManagerState}
 use Rattle.om_world.specs.declared.entry.Entry.{Entry}
@@ -30,10 +30,6 @@ pub record WorldState : Type 0 where
   pub contents : List Content  -- by process, what its store holds
   pub health : List Health  -- by process, how its store stands
   pub origins : List Content  -- by process, what its store held before the start
-
--- an image as a program
-abbrev pub program_of : Image → Program
-program_of image = record { image = image.bytes.items; size = image.size; ext = image.ext }
 
 -- how a store of some type stands
 abbrev pub health_of : {S : Type 0} → (S → Bool) → (S → ℕ) → S → Health
