@@ -1,8 +1,7 @@
 -- What a run of a cluster ends with.
 use Rattle.std.specs.Prelude.{◌≡◌, ℕ, ◌<◌, List, Option, None, Some, IfSome, Bool, IsTrue, Vec, slice_get, length, map}
 use Rattle.std.specs.declared.alloc.Global.{Global}
-use Rattle.std.specs.FinMap.{empty}
-use Rattle.om_stable.specs.Content.{Content}
+pub use Rattle.om_stable.specs.Content.{nothing}
 use Rattle.om_manager.specs.declared.output_log.Output.{Output}
 use Rattle.om_board.specs.Made.{AreAllMade}
 use Rattle.om_process.specs.Core.{status_of}
@@ -14,10 +13,6 @@ use Rattle.om_process.specs.declared.status.Status.{Status}
 use Rattle.om_process.specs.declared.status.Status.TheVariants.{Ready, Waiting, Ended, Trapped}
 use Rattle.om_runner.specs.declared.fault.RunFault.{RunFault}
 use Rattle.om_runner.specs.declared.fault.RunFault.TheVariants.{Turns, GateShut, Memory, Fault, Load, NoThread}
-
--- a store without a record
-abbrev pub nothing : Content
-nothing = record { receipts = empty; checkpoints = empty }
 
 -- the process has come to an end
 abbrev pub IsEnd : Status → Type 0

@@ -2,7 +2,7 @@
 use Rattle.std.specs.Prelude.{◌≡◌, ℕ, ◌+◌, ◌<◌, ◌≤◌, ◌&&◌, nat_lt, nat_le, List, [], ◌∷◌, filter, map, IsSome, None, Vec, refl}
 use Rattle.std.specs.declared.alloc.Global.{Global}
 use Rattle.std.specs.Ordering.{nat_cmp}
-use Rattle.std.specs.FinMap.{FinMap, get, insert, retain_keys, entries, code}
+use Rattle.std.specs.FinMap.{FinMap, empty, get, insert, retain_keys, entries, code}
 use Rattle.std.specs.Coded.{Coded, code_by, coded×, coded_ℕ, coded_list}
 
 -- records of one kind: to each interval that has one, its bytes
@@ -21,6 +21,10 @@ rows_of found = map (λ e. (e.0, e.1.items)) found
 pub record Content : Type 0 where
   pub receipts : Records
   pub checkpoints : Records
+
+-- a store without a record
+abbrev pub nothing : Content
+nothing = record { receipts = empty; checkpoints = empty }
 
 -- the code of a content, as of the pair of its parts
 abbrev pub content_code : Coded Content

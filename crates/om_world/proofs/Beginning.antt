@@ -8,7 +8,7 @@ use Rattle.om_interval.specs.declared.pid.TheConstants.{MAX_PROCESSES}
 use Rattle.om_interval.specs.Starts.{newest_of}
 use Rattle.om_format.specs.Queues.{QueueRecord}
 use Rattle.om_format.specs.declared.message.Message.{Message}
-use Rattle.om_stable.specs.Content.{Content}
+use Rattle.om_stable.specs.Content.{Content, nothing}
 use Rattle.om_stable.proofs.RecordLemmas.{get-insert_here, get-insert_apart}
 use Rattle.om_process.specs.Process.{Process, Program, empty_queue, started}
 use Rattle.om_process.specs.Turns.{Reaches}
@@ -104,9 +104,6 @@ stands_still program own n = (0, (started program n, refl, refl))
 
 zeros_row : (own n : ℕ) → RowOf own n (replicate n 0) (replicate n 0) []
 zeros_row own n = let program = program_at [] 0 in row_along program own n [] (started program n) (stands_still program own n)
-
-abbrev pub nothing : Content
-nothing = record { receipts = empty; checkpoints = empty }
 
 none_some : {A : Type 0} (o : Option A) (x : A) → o ≡ None → o ≡ Some x → ⊥
 none_some o x e f = cc

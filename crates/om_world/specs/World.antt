@@ -1,10 +1,9 @@
 -- What is seen of a world.
 use Rattle.std.specs.Prelude.{◌≡◌, ℕ, List, All, slice_index, Bool, true, Option}
-use Rattle.std.specs.FinMap.{empty}
 use Rattle.std.specs.List.{list_all}
 use Rattle.om_format.specs.declared.message.Message.{Message}
 use Rattle.om_format.specs.declared.queue.Entry as kept
-use Rattle.om_stable.specs.Content.{Content}
+use Rattle.om_stable.specs.Content.{Content, nothing}
 pub use Rattle.om_process.specs.Images.{program_of}
 use Rattle.om_process.specs.Process.{Program, Received}
 use Rattle.om_process.specs.Core.{CoreState}
@@ -41,7 +40,7 @@ all_clean = list_all (λ (store : Health). store.clean)
 
 -- a store holds nothing
 abbrev pub IsEmpty : Content → Type 0
-IsEmpty held = held ≡ record { receipts = empty; checkpoints = empty }
+IsEmpty held = held ≡ nothing
 
 -- the stores held nothing before the start, and what each holds now is known
 abbrev pub IsKnown : WorldState → Type 0
