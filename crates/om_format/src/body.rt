@@ -3,15 +3,17 @@ ghost use Rattle.std.specs.Cmp.Lexicographic.{pointwise};
 ghost use Rattle.std.specs.Cmp.Rules.{comparing};
 ghost use Rattle.std.proofs.Common.{rules};
 ghost use Rattle.om_format.specs.declared.limits.TheConstants.{MAX_BODY};
+ghost use Rattle.smallvec.specs.SmallVec.{small_vec_len};
 
 use crate::limits::MAX_BODY;
+use smallvec::SmallVec;
 use std::alloc::{AllocError, Global};
 use std::marker::Model;
 
-/// The bytes of a message or of an output: at most `MAX_BODY`.
+/// The bytes of a message or of an output: at most `MAX_BODY`. Up to 16 stand in place, and take no memory of their own.
 #[derive(Debug, Drop)]
 pub struct Body {
-    bytes: Vec<u8>,
+    bytes: SmallVec<u8, 16>,
 }
 
 impl Model for Body {
@@ -19,7 +21,7 @@ impl Model for Body {
 
     ghost view = { λ b. b.bytes.items };
 
-    ghost invariant = { λ b. vec_len b.bytes ≤ MAX_BODY };
+    ghost invariant = { λ b. small_vec_len b.bytes ≤ MAX_BODY };
 }
 
 impl Body {
@@ -28,15 +30,18 @@ impl Body {
         requires { vec_len bytes ≤ MAX_BODY }
         ensures { result ≡ bytes.items }
     {
-        Body { bytes }
+        Body {
+            bytes: SmallVec::from_vec(bytes),
+        }
     }
 
-    /// The bytes, given back.
-    pub fn into_vec(self) -> Vec<u8>
-        ensures bytes { result.items ≡ self }
-        ensures within { vec_len result ≤ MAX_BODY }
+    /// The body of a copy of these bytes.
+    pub fn from_slice(alloc: Global, bytes: &[u8]) -> Result<Body, AllocError>
+        requires { length bytes.now ≤ MAX_BODY }
+        ensures { IfOk result (λ body. body ≡ bytes.now) }
     {
-        self.bytes
+        let bytes = SmallVec::from_slice(alloc, bytes)?;
+        Ok(Body { bytes })
     }
 
     /// The bytes.
@@ -44,15 +49,14 @@ impl Body {
         ensures bytes { result.now ≡ self.now }
         ensures within { length self.now ≤ MAX_BODY }
     {
-        &self.bytes
+        self.bytes.as_slice()
     }
 
     /// The same body, in memory of its own.
     pub fn copy(&self, alloc: Global) -> Result<Body, AllocError>
         ensures { IfOk result (λ copy. copy ≡ self.now) }
     {
-        let bytes = Vec::from_slice(alloc, &self.bytes)?;
-        Ok(Body { bytes })
+        Body::from_slice(alloc, self.as_slice())
     }
 }
 

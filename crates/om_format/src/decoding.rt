@@ -73,7 +73,7 @@ fn receipt_at(alloc: Global, bytes: &[u8]) -> Result<Receipt, DecodeError>
     let (interval, sender_interval, ssn, rest) = order_at(rest)?;
     let (count, rest) = u64_at(rest)?;
     let (body, rest) = body_at(24, rest)?;
-    let body = Body::from_vec(Vec::from_slice(alloc, body)?);
+    let body = Body::from_slice(alloc, body)?;
     end_at(rest)?;
     Ok(Receipt {
         to: Pid::at(to),

@@ -30,7 +30,7 @@ fn entry_at<'a>(
         return Err(DecodeError::Field(offset));
     }
     let (content, rest) = body_at(offset + 4, rest)?;
-    let body = Body::from_vec(Vec::from_slice(alloc, content)?);
+    let body = Body::from_slice(alloc, content)?;
     Ok(Taken {
         value: Entry { interval, body },
         offset: offset + 6 + content.len(),

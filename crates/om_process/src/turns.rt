@@ -37,7 +37,7 @@ fn copied(alloc: Global, machine: &Machine, addr: u32, len: u32) -> Result<Body,
     let Some(bytes) = machine.bytes(addr, len) else {
         unreachable!()
     };
-    Ok(Body::from_vec(Vec::from_slice(alloc, bytes)?))
+    Body::from_slice(alloc, bytes)
 }
 
 // Adds a message to the queue at a place.

@@ -20,7 +20,7 @@ fn bodies_are_copied_and_give_their_bytes_back(rt: HostRuntime) {
     let body = body(&rt, alloc, &[1, 2]);
     let copy = body.copy(alloc).expect(&rt, "memory");
     assert_same(&rt, &copy, &body);
-    assert_bytes(&rt, &body.into_vec(), &[1, 2]);
+    assert_bytes(&rt, body.as_slice(), &[1, 2]);
 }
 
 const WORD: [u8; 4] = [1, 2, 3, 4];
