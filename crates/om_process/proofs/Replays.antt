@@ -115,12 +115,16 @@ pub fits_at_wait : (own n : ℕ) (s : Process) (r : ReceiptRecord)
     → r.to ≡ own → r.from < n → r.ssn ≡ slice_index s.got r.from → r.interval ≡ s.interval + 1 → WaitsAt own n s r.count
     → (k : ℕ) × (w : Process) × Turns own n k s w × FitsReceipt own n w r
 fits_at_wait own n s r to from number interval waits =
-    let stays = stays_turns own n waits.0 s waits.1 waits.2 in
-    (waits.0, waits.1, waits.2, record {
-      to = to;
-      from = from;
-      interval = interval ∙ ap (λ (p : Process). p.interval + 1) (sym stays);
-      number = number ∙ ap (λ (p : Process). slice_index p.got r.from) (sym stays);
-      count = sym waits.4;
-      waits = waits.3;
-    })
+    let stays = stays_turns own n waits.0 s waits.1 waits.2 in (
+      waits.0,
+      waits.1,
+      waits.2,
+      record {
+        to = to;
+        from = from;
+        interval = interval ∙ ap (λ (p : Process). p.interval + 1) (sym stays);
+        number = number ∙ ap (λ (p : Process). slice_index p.got r.from) (sym stays);
+        count = sym waits.4;
+        waits = waits.3;
+      },
+    )

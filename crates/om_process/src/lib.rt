@@ -6,7 +6,7 @@
 //! In an order of reading:
 //!
 //! - a process: `proc_core` (its parts, and the reads), `image`, `status`, `row`, `limits`, `laws` (theorems over the definitions)
-//! - what it does: `start`, `plan` (at an event of the machine) and `turns`, `accept` (a message), `queues` and `outbox` (what it
+//! - what it does: `start`, `plan` (at an event of the machine) and `turns`, `accept` (a message), `fifo`, `queues` and `outbox` (what it
 //!   made), `trim`
 //! - what it stores: `log` (receipts that are not stored yet), `storing`
 //! - how it comes back: `replay`, `restoring` (from a checkpoint), `repeating` (one receipt after another), `down` (after a round)
@@ -30,6 +30,7 @@ pub use witness::Witness;
 
 mod accept;
 mod down;
+mod fifo;
 mod image;
 pub mod laws;
 mod limits;

@@ -7,6 +7,7 @@ ghost use Rattle.om_process.specs.Process.{empty_queue, with_entry};
 ghost use Rattle.om_process.specs.Trims.{trimmed_queue};
 ghost use Rattle.om_process.specs.declared.limits.TheConstants.{LAST_NUMBER, LAST_OUTPUT};
 
+use crate::fifo::Fifo;
 use om_format::{Body, Entry, Queue};
 use std::alloc::{AllocError, Global};
 use std::marker::Model;
@@ -35,7 +36,7 @@ pub struct Made {
 #[derive(Debug, Drop)]
 pub struct Messages {
     first: u32,
-    kept: Vec<Sent>,
+    kept: Fifo<Sent>,
 }
 
 impl Model for Messages {
@@ -46,10 +47,10 @@ impl Model for Messages {
 
     ghost Value = { QueueRecord };
 
-    ghost view = { λ q. record { first = q.first; entries = map sent_entry q.kept.items } };
+    ghost view = { λ q. record { first = q.first; entries = map sent_entry q.kept } };
 
     ghost invariant = { λ q. AreNumbered sent_as LAST_NUMBER
-        (record { first = q.first; entries = map sent_entry q.kept.items }) q.kept.items };
+        (record { first = q.first; entries = map sent_entry q.kept }) q.kept };
 }
 
 impl Messages {
@@ -59,7 +60,7 @@ impl Messages {
     {
         Messages {
             first: 0,
-            kept: Vec::new(alloc),
+            kept: Fifo::new(alloc),
         }
     }
 
@@ -79,14 +80,17 @@ impl Messages {
             })?;
             ssn += 1;
         }
-        Ok(Messages { first, kept })
+        Ok(Messages {
+            first,
+            kept: Fifo::of(kept),
+        })
     }
 
     /// The messages, with their numbers.
     pub fn as_slice(&self) -> &[Sent]
         ensures { result.now ≡ numbered sent_as self.now.first self.now.entries }
     {
-        &self.kept
+        self.kept.as_slice()
     }
 
     /// Adds a message, which gets the next number.
@@ -100,8 +104,7 @@ impl Messages {
             ssn,
             interval,
             body,
-        })?;
-        Ok(())
+        })
     }
 
     /// Drops the messages numbered below the bound.
@@ -109,7 +112,7 @@ impl Messages {
         ensures { self.new ≡ trimmed_queue bound self.old }
     {
         let gone = (bound.saturating_sub(self.first) as usize).min(self.kept.len());
-        self.kept.drain(..gone);
+        self.kept.drop_front(gone);
         self.first += gone as u32;
     }
 
@@ -118,7 +121,7 @@ impl Messages {
         ensures { IfOk result (λ queue. queue_record queue ≡ self.now) }
     {
         let mut entries = Vec::with_capacity(alloc, self.kept.len())?;
-        for sent in &self.kept {
+        for sent in self.kept.as_slice() {
             entries.push(Entry {
                 interval: sent.interval,
                 body: sent.body.copy(alloc)?,
@@ -135,7 +138,7 @@ impl Messages {
 #[derive(Debug, Drop)]
 pub struct Outputs {
     first: u64,
-    kept: Vec<Made>,
+    kept: Fifo<Made>,
 }
 
 impl Model for Outputs {
@@ -146,10 +149,10 @@ impl Model for Outputs {
 
     ghost Value = { QueueRecord };
 
-    ghost view = { λ q. record { first = q.first; entries = map made_entry q.kept.items } };
+    ghost view = { λ q. record { first = q.first; entries = map made_entry q.kept } };
 
     ghost invariant = { λ q. AreNumbered made_as LAST_OUTPUT
-        (record { first = q.first; entries = map made_entry q.kept.items }) q.kept.items };
+        (record { first = q.first; entries = map made_entry q.kept }) q.kept };
 }
 
 impl Outputs {
@@ -159,7 +162,7 @@ impl Outputs {
     {
         Outputs {
             first: 0,
-            kept: Vec::new(alloc),
+            kept: Fifo::new(alloc),
         }
     }
 
@@ -179,7 +182,10 @@ impl Outputs {
             })?;
             seq += 1;
         }
-        Ok(Outputs { first, kept })
+        Ok(Outputs {
+            first,
+            kept: Fifo::of(kept),
+        })
     }
 
     /// The outputs numbered `seq` and above, with their numbers.
@@ -187,7 +193,7 @@ impl Outputs {
         ensures { result.now ≡ numbered made_as (max self.now.first seq) (drop (seq - self.now.first) self.now.entries) }
     {
         let before = seq.saturating_sub(self.first).min(self.kept.len() as u64);
-        &self.kept[before as usize..]
+        &self.kept.as_slice()[before as usize..]
     }
 
     /// Adds an output, which gets the next number.
@@ -201,8 +207,7 @@ impl Outputs {
             seq,
             interval,
             bytes,
-        })?;
-        Ok(())
+        })
     }
 
     /// Drops the outputs numbered below the bound.
@@ -210,7 +215,7 @@ impl Outputs {
         ensures { self.new ≡ trimmed_queue bound self.old }
     {
         let gone = bound.saturating_sub(self.first).min(self.kept.len() as u64);
-        self.kept.drain(..gone as usize);
+        self.kept.drop_front(gone as usize);
         self.first += gone;
     }
 
@@ -219,7 +224,7 @@ impl Outputs {
         ensures { IfOk result (λ queue. queue_record queue ≡ self.now) }
     {
         let mut entries = Vec::with_capacity(alloc, self.kept.len())?;
-        for made in &self.kept {
+        for made in self.kept.as_slice() {
             entries.push(Entry {
                 interval: made.interval,
                 body: made.bytes.copy(alloc)?,

@@ -3,7 +3,6 @@ ghost use Rattle.om_recover.specs.Recoverable.{IsGreatest};
 ghost use Rattle.om_recover.specs.steps.Indexed.{IsRaisable, IsCountedFrom};
 ghost use Rattle.om_recover.specs.steps.Memory.{AreRemembered};
 
-
 use crate::row::Row;
 use crate::search::memory::Memories;
 use crate::search::passes::greatest_from;

@@ -3,4 +3,4 @@ use Rattle.om_process.specs.Kept.{sent_entry}
 use Rattle.om_process.proofs.queues.Messages.queue.Given as goal
 
 abbrev pub invariant-loop-sent : goal.invariant-loop-sent
-invariant-loop-sent l = l.entries.items ≡ map sent_entry (take l.sent-index l.self-inside.kept.items)
+invariant-loop-sent l = l.entries.items ≡ map sent_entry (take l.sent-index l.self-inside.kept)

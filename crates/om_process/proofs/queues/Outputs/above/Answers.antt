@@ -9,11 +9,11 @@ use Rattle.om_process.proofs.queues.Outputs.above.Goals as goal
 pub returns : goal.returns
 returns c =
     let before = c.min-before.result in
-    let is : before ≡ min (c.args.seq - c.self.inside.first) (length c.self.inside.kept.items) = search rules in
+    let is : before ≡ min (c.args.seq - c.self.inside.first) (length c.self.inside.kept) = search rules in
     let all = c.deref.result.now in
-    let same : all ≡ c.self.inside.kept.items = search rules in
+    let same : all ≡ c.self.inside.kept = search rules in
     let left : length (drop before all) ≡ length all - before = length-drop before all in
     take_all (length all - before) (drop before all) (omega arith)
     ∙ ap (drop before) same
-    ∙ numbered_from made_as c.self.inside.first c.args.seq before c.self.inside.kept.items _ c.self.invariant.numbers is
+    ∙ numbered_from made_as c.self.inside.first c.args.seq before c.self.inside.kept _ c.self.invariant.numbers is
     ∙ ap (λ (q : QueueRecord). numbered made_as (max q.first c.args.seq) (drop (c.args.seq - q.first) q.entries)) c.self.view_is

@@ -3,4 +3,4 @@ use Rattle.om_process.specs.Kept.{made_entry}
 use Rattle.om_process.proofs.queues.Outputs.queue.Given as goal
 
 abbrev pub invariant-loop-made : goal.invariant-loop-made
-invariant-loop-made l = l.entries.items ≡ map made_entry (take l.made-index l.self-inside.kept.items)
+invariant-loop-made l = l.entries.items ≡ map made_entry (take l.made-index l.self-inside.kept)
