@@ -1,4 +1,4 @@
-//! Tests of programs and the commands but those that run a cluster, also over stores in tables.
+//! Tests of programs and of the commands, but for those over stores and those that run a cluster.
 #![tactic(auto)]
 
 #[cfg(test)]
@@ -9,8 +9,6 @@ mod ending;
 mod image;
 #[cfg(test)]
 mod programs;
-#[cfg(test)]
-mod replay;
 #[cfg(test)]
 mod rows;
 #[cfg(test)]
