@@ -107,7 +107,9 @@ keeps_trim bounds whole part keeps = record { same = ap (λ (p : Process). with_
 -- ---- a receipt fits or does not
 pub fits_not_both : (own n k : ℕ) (s w : Process) (r : ReceiptRecord) → Turns own n k s w → FitsReceipt own n w r → DoesNotFit own n s r → ⊥
 fits_not_both own n k s w r turns f (inl other) = other f.to
-fits_not_both own n k s w r turns f (inr (inl stranger)) = omega (stranger, f.from)
+fits_not_both own n k s w r turns f (inr (inl stranger)) =
+    let there : r.from < n = f.from in
+    absurd (omega arith)
 fits_not_both own n k s w r turns f (inr (inr (inl number))) = number (f.number ∙ ap (λ (p : Process). slice_index p.got r.from) (stays_turns own n k s w turns))
 fits_not_both own n k s w r turns f (inr (inr (inr waits))) = waits (k, w, turns, f.waits, sym f.count)
 

@@ -104,7 +104,8 @@ impl Messages {
             ssn,
             interval,
             body,
-        })
+        })?;
+        Ok(())
     }
 
     /// Drops the messages numbered below the bound.
@@ -207,7 +208,8 @@ impl Outputs {
             seq,
             interval,
             bytes,
-        })
+        })?;
+        Ok(())
     }
 
     /// Drops the outputs numbered below the bound.

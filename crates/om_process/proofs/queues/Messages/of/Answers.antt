@@ -23,13 +23,13 @@ invariant_of-result c =
     let all : c.args.queue.entries.items ≡ c.loop-entry.yielded = c.loop-entry.invariant.rest ∙ ap (λ es. c.loop-entry.yielded ++ es) none ∙ append-nil c.loop-entry.yielded in
     let long : length c.args.queue.entries.items ≡ length c.loop-entry.yielded = ap length all in
     let counted : c.len.result ≡ length c.args.queue.entries.items = search rules in
-    are_numbered sent_as sent_entry LAST_NUMBER (c.args.stop - c.len.result) c.loop-entry.yielded c.loop-entry.kept.items (λ k e. refl) c.loop-entry.invariant.kept (omega arith)
+    are_numbered sent_as sent_entry LAST_NUMBER (c.args.stop - c.len.result) c.loop-entry.yielded c.of.result (λ k e. refl) (c.of.ensures ∙ c.loop-entry.invariant.kept) (omega arith)
 
 pub returns : goal.returns
 returns c =
     let none : c.loop-entry.entry-iterator.rest.items ≡ [] = nil_from_length _ (sym c.loop-entry.entry-iterator.rest.ok.0 ∙ c.in-None.ensures.steps.0) in
     let all : c.args.queue.entries.items ≡ c.loop-entry.yielded = c.loop-entry.invariant.rest ∙ ap (λ es. c.loop-entry.yielded ++ es) none ∙ append-nil c.loop-entry.yielded in
-    let entries = ap (λ ks. map sent_entry ks) c.loop-entry.invariant.kept ∙ numbered_entries sent_as sent_entry (c.args.stop - c.len.result) c.loop-entry.yielded (λ k e. refl) ∙ sym all in
+    let entries = ap (λ ks. map sent_entry ks) (c.of.ensures ∙ c.loop-entry.invariant.kept) ∙ numbered_entries sent_as sent_entry (c.args.stop - c.len.result) c.loop-entry.yielded (λ k e. refl) ∙ sym all in
     let counted : c.len.result ≡ length c.args.queue.entries.items = search rules in
     let first : c.args.stop - c.len.result ≡ c.args.queue.first = omega arith in
     ap (λ (es : List Entry). let q : QueueRecord = record { first = c.args.stop - c.len.result; entries = es } in q) entries

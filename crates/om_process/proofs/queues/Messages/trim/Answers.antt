@@ -9,11 +9,11 @@ use Rattle.om_process.proofs.queues.Messages.trim.Goals as goal
 pub invariant_of-self : goal.invariant_of-self
 invariant_of-self c =
     let gone : c.min-gone.result ≡ min (c.args.bound - c.self.inside.first) (length c.self.inside.kept) = search rules in
-    let left : c.drop-drain.new.self.0.items ≡ drop c.min-gone.result c.self.inside.kept = search rules in
+    let left : c.drop_front.new.self ≡ drop c.min-gone.result c.self.inside.kept = c.drop_front.ensures in
     are_numbered-drop sent_as sent_entry LAST_NUMBER c.self.inside.first _ c.min-gone.result c.self.inside.kept _ (omega arith) refl left c.self.invariant
 
 pub returns : goal.returns
 returns c =
     let gone : c.min-gone.result ≡ min (c.args.bound - c.self.inside.first) (length c.self.inside.kept) = search rules in
-    let left : c.drop-drain.new.self.0.items ≡ drop c.min-gone.result c.self.inside.kept = search rules in
+    let left : c.drop_front.new.self ≡ drop c.min-gone.result c.self.inside.kept = c.drop_front.ensures in
     is_trimmed sent_entry c.args.bound c.self.inside.first _ c.min-gone.result c.self.inside.kept _ gone refl left ∙ ap (trimmed_queue c.args.bound) c.self.view_is

@@ -10,8 +10,8 @@ pub returns : goal.returns
 returns c =
     let before = c.min-before.result in
     let is : before ≡ min (c.args.seq - c.self.inside.first) (length c.self.inside.kept) = search rules in
-    let all = c.deref.result.now in
-    let same : all ≡ c.self.inside.kept = search rules in
+    let all = c.as_slice.result.now in
+    let same : all ≡ c.self.inside.kept = c.as_slice.ensures in
     let left : length (drop before all) ≡ length all - before = length-drop before all in
     take_all (length all - before) (drop before all) (omega arith)
     ∙ ap (drop before) same

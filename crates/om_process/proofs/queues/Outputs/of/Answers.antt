@@ -22,13 +22,13 @@ invariant_of-result c =
     let none : c.loop-entry.entry-iterator.rest.items ≡ [] = nil_from_length _ (sym c.loop-entry.entry-iterator.rest.ok.0 ∙ c.in-None.ensures.steps.0) in
     let all : c.args.queue.entries.items ≡ c.loop-entry.yielded = c.loop-entry.invariant.rest ∙ ap (λ es. c.loop-entry.yielded ++ es) none ∙ append-nil c.loop-entry.yielded in
     let long : length c.args.queue.entries.items ≡ length c.loop-entry.yielded = ap length all in
-    are_numbered made_as made_entry LAST_OUTPUT c.args.queue.first c.loop-entry.yielded c.loop-entry.kept.items (λ k e. refl) c.loop-entry.invariant.kept (omega arith)
+    are_numbered made_as made_entry LAST_OUTPUT c.args.queue.first c.loop-entry.yielded c.of.result (λ k e. refl) (c.of.ensures ∙ c.loop-entry.invariant.kept) (omega arith)
 
 pub returns : goal.returns
 returns c =
     let none : c.loop-entry.entry-iterator.rest.items ≡ [] = nil_from_length _ (sym c.loop-entry.entry-iterator.rest.ok.0 ∙ c.in-None.ensures.steps.0) in
     let all : c.args.queue.entries.items ≡ c.loop-entry.yielded = c.loop-entry.invariant.rest ∙ ap (λ es. c.loop-entry.yielded ++ es) none ∙ append-nil c.loop-entry.yielded in
-    let entries = ap (λ ks. map made_entry ks) c.loop-entry.invariant.kept ∙ numbered_entries made_as made_entry c.args.queue.first c.loop-entry.yielded (λ k e. refl) ∙ sym all in
+    let entries = ap (λ ks. map made_entry ks) (c.of.ensures ∙ c.loop-entry.invariant.kept) ∙ numbered_entries made_as made_entry c.args.queue.first c.loop-entry.yielded (λ k e. refl) ∙ sym all in
     ap (λ (es : List Entry). let q : QueueRecord = record { first = c.args.queue.first; entries = es } in q) entries
 
 pub overflow_add-seq : goal.overflow_add-seq

@@ -8,5 +8,5 @@ use Rattle.om_process.proofs.queues.Outputs.push.Goals as goal
 pub invariant_of-self-2 : goal.invariant_of-self-2
 invariant_of-self-2 c =
     let long : c.len.result ≡ length c.self.inside.kept = search rules in
-    are_numbered-push made_as made_entry LAST_OUTPUT c.self.inside.first (c.self.inside.first + c.len.result) c.self.inside.kept c.push.new.self.items _ _ (omega arith)
-    (subst (λ q. queue_end q < LAST_OUTPUT) (sym c.self.view_is) c.requires) refl refl c.in_ok-push.ensures.items c.self.invariant
+    are_numbered-push made_as made_entry LAST_OUTPUT c.self.inside.first (c.self.inside.first + c.len.result) c.self.inside.kept c.push.new.self _ _ (omega arith)
+    (subst (λ q. queue_end q < LAST_OUTPUT) (sym c.self.view_is) c.requires) refl refl c.in_ok-push.ensures.ok c.self.invariant
