@@ -6,7 +6,7 @@ use Rattle.om_format.specs.declared.message.Message.{Message}
 use Rattle.om_stable.specs.Content.{Content}
 use Rattle.om_stable.specs.declared.error.StoreError.{StoreError}
 use Rattle.om_stable.specs.declared.error.StoreError.TheVariants as store_errors
-use Rattle.om_process.specs.Core.{CoreState, with_pending}
+use Rattle.om_process.specs.Core.{CoreState, size_of, with_pending}
 use Rattle.om_process.specs.Process.{Program}
 use Rattle.om_process.specs.declared.accept.Accept.{Accept}
 use Rattle.om_process.specs.declared.turns.Ran.{Ran}
@@ -208,6 +208,11 @@ module _ {S : Type 0} (content : S → Content) (is_clean : S → Bool) (failed 
               ∙ ap (λ l. record (seen content (health_of is_clean failed) P L F ms M O) { cores = l }) (cores_set content (health_of is_clean failed) IsSound P L F ms M O p m at n (Some (trimmed_core h.core got released)) (ap core_in h.others))
               ∙ ap (λ (x : WorldState). record x { cores = set x.cores p (Some (trimmed_core h.core got released)) }) e,
         )
+
+-- bounds by the manager's rows have a place for each process
+pub bounds_fit : {S : Type 0} (content : S → Content) (health : S → Health) (IsSound : S → Type 0) (P : List Program) (L : List Entry) (F : List Message) (ms : List (Member S)) (M : ManagerState) (O : List Content) (p : ℕ) (m : Member S) → slice_get ms p ≡ Some m → IsWorld (sound_in IsSound) ms (seen content health P L F ms M O)
+    → (core : CoreState) → m.standing ≡ stands.Up core → {q : ℕ} (got : List ℕ) → AreGotFrom M.rows M.recovery q got → length got ≡ size_of core.now
+bounds_fit content health IsSound P L F ms M O p m at i core up got g = g.places ∙ i.shape.size ∙ sym (i.shape.own p core (core_was content health IsSound P L F ms M O p m at m core up)).size
 
 -- ---- its outputs were handed in
 module _ {S : Type 0} (content : S → Content) (health : S → Health) (IsSound : S → Type 0) (P : List Program) (L : List Entry) (F : List Message) (ms : List (Member S)) (M : ManagerState) (O : List Content) (p : ℕ) (m : Member S) (at : slice_get ms p ≡ Some m) (v : WorldState) (i : IsWorld (sound_in IsSound) ms (seen content health P L F ms M O)) (e : seen content health P L F ms M O ≡ v)

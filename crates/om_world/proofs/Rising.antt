@@ -38,13 +38,13 @@ use Rattle.om_world.specs.Live.{cut_list}
 use Rattle.om_world.specs.World.{Health, WorldState, health_of}
 use Rattle.om_world.specs.steps.Gathering.{HasDeclared, HasEntered, HasGathered, StandsIn}
 use Rattle.om_world.specs.steps.Members.{content_in, core_in, health_in, place_in, place_of, round_in, seen, sound_in}
-use Rattle.om_world.specs.steps.Moves.{IsCalled}
+use Rattle.om_world.specs.steps.Moves.{IsCalled, refusal_of_join, told_of}
 use Rattle.om_world.specs.steps.Returning.{HasGoneOn, IsBackIn, IsRolledBack, KnowsRound, Returns}
 use Rattle.om_world.specs.steps.Sound.{IsWorld}
 use Rattle.om_world.proofs.Declaring.{after_declare, after_join, has_declared, has_entered, not_declared, not_entered, placed_with}
 use Rattle.om_world.proofs.Lists.{map_at, once, once_err}
 use Rattle.om_world.proofs.Returned.{after_back, after_fault, after_on, has_come_back, stays_down, up_as}
-use Rattle.om_world.proofs.Seats.{called_in, core_was, is_up, placed_as, restored, risen, round_is, set_core, set_round, still, unchanged, unmoved}
+use Rattle.om_world.proofs.Seats.{called_in, core_was, is_up, placed_as, restored, risen, round_is, set_core, set_round, still, told_err, told_ok, unchanged, unmoved, was_up}
 use Rattle.om_world.proofs.TakenDown.{after_down}
 
 -- ---- a cut by the manager after a round, and by the one before it
@@ -168,6 +168,31 @@ module _ {S : Type 0} (content : S → Content) (health : S → Health) (IsSound
       pub was_not_joined : HasEntered v p (Err fault) (seen content health P L F (set ms p n) k O)
       was_not_joined = subst (λ (x : WorldState). HasEntered x p (Err fault) (seen content health P L F (set ms p n) k O)) e (subst (HasEntered (seen content health P L F ms M O) p (Err fault)) (unchanged content health IsSound P L F ms M O p m at n h.refused k) not_joined)
 
+    -- by its answer
+    module _ (r : Result (Result Gathered JoinError) NotUp) (did : IfOk r (λ a. member.HasJoined M q m a k n)) (not : OnErr r (IsNotUp m.standing)) where
+      asked : (a : Result Gathered JoinError) × (r ≡ Ok a) × member.HasJoined M q m a k n
+      asked = was_up r (λ a. member.HasJoined M q m a k n) m.standing (is_up content health IsSound P L F ms M O p m at v e up) did not
+
+      took : (t : Result Gathered Refusal) (told : Gathered) → t ≡ told_of refusal_of_join r → t ≡ Ok told → member.HasJoined M q m (Ok told) k n
+      took t told is was = subst (λ a. member.HasJoined M q m a k n) (told_ok refusal_of_join asked.0 t told (is ∙ ap (told_of refusal_of_join) asked.1) was) asked.2
+
+      pub after_enter : (t : Result Gathered Refusal) (told : Gathered) → t ≡ told_of refusal_of_join r → t ≡ Ok told → (live : List Entry) → live ≡ live_after told k L → IsWorld (sound_in IsSound) (set ms p n) (seen content health P live F (set ms p n) k O)
+      after_enter t told is was live cut = after_joined told (took t told is was) live cut
+
+      pub entered : (t : Result Gathered Refusal) (told : Gathered) → t ≡ told_of refusal_of_join r → t ≡ Ok told → (live : List Entry) → live ≡ live_after told k L → (a : Result Gathered JoinError) × HasEntered v p a (seen content health P live F (set ms p n) k O) × (Ok told ≡ told_of refusal_of_join (Ok a))
+      entered t told is was live cut = (Ok told, was_joined told (took t told is was) live cut, refl)
+
+      refused_by : (t : Result Gathered Refusal) (reason : Refusal) → t ≡ told_of refusal_of_join r → t ≡ Err reason → (fault : JoinError) × member.HasJoined M q m (Err fault) k n × (reason ≡ refusal_of_join fault)
+      refused_by t reason is was =
+          let f = told_err refusal_of_join asked.0 t reason (is ∙ ap (told_of refusal_of_join) asked.1) was in
+          (f.0, subst (λ a. member.HasJoined M q m a k n) f.1 asked.2, f.2)
+
+      pub after_no_entry : (t : Result Gathered Refusal) (reason : Refusal) → t ≡ told_of refusal_of_join r → t ≡ Err reason → IsWorld (sound_in IsSound) (set ms p n) (seen content health P L F (set ms p n) k O)
+      after_no_entry t reason is was = let f = refused_by t reason is was in after_not_joined f.0 f.1
+
+      pub no_entry : (t : Result Gathered Refusal) (reason : Refusal) → t ≡ told_of refusal_of_join r → t ≡ Err reason → (a : Result Gathered JoinError) × HasEntered v p a (seen content health P L F (set ms p n) k O) × (Err reason ≡ told_of refusal_of_join (Ok a))
+      no_entry t reason is was = let f = refused_by t reason is was in (Err f.0, was_not_joined f.0 f.1, ap Err f.2)
+
   -- ---- it goes on as it was
   module _ (due : IsToGoOn v p) (core : CoreState) (stood : m.standing ≡ stands.In core) (round : ℕ) (starts : List (List ℕ)) (same_round : round ≡ M.round) (same_starts : starts ≡ M.starts)
       (others : n ≡ record m { standing = stands.Up (resumed core round starts); round = round }) where
@@ -225,6 +250,12 @@ module _ {S : Type 0} (content : S → Content) (health : S → Health) (IsSound
         by (Ok (Ok done)) on not stays did stopped = subst Told (sym did) (went_on due on.0 on.1 round starts same_round same_starts on.2, tt, tt)
         by (Ok (Err fault)) on not stays did stopped = subst Told (sym stopped) (tt, sym (unchanged content health IsSound P L F ms M O p m at n stays M) ∙ e, refl)
         by (Err out) on not stays did stopped = absurd (not_out not)
+
+-- the starts have a place for each process
+pub starts_fit : {S : Type 0} (content : S → Content) (health : S → Health) (IsSound : S → Type 0) (P : List Program) (L : List Entry) (F : List Message) (ms : List (Member S)) (M : ManagerState) (O : List Content) (p : ℕ) (m : Member S) → slice_get ms p ≡ Some m → IsWorld (sound_in IsSound) ms (seen content health P L F ms M O)
+    → (core : CoreState) → m.standing ≡ stands.In core → (starts : List (List ℕ)) → starts ≡ M.starts → length starts ≡ size_of core.now
+starts_fit content health IsSound P L F ms M O p m at i core joined starts is =
+    ap length is ∙ i.shape.manager.begun.places ∙ i.shape.size ∙ sym (i.shape.own p core (map_at core_in ms p m at ∙ ap (λ s. Some (core_of s)) joined)).size
 
 -- ---- it is rolled back
 module _ {S : Type 0} (content : S → Content) (is_clean : S → Bool) (failed : S → ℕ) (IsSound : S → Type 0) (P : List Program) (L : List Entry) (F : List Message) (ms : List (Member S)) (M : ManagerState) (O : List Content) (p : ℕ) (m : Member S) (at : slice_get ms p ≡ Some m) (n : Member S) (v : WorldState)

@@ -1,6 +1,8 @@
 -- Members that are started one after another.
-use Rattle.std.proofs.Common.{◌≡◌, ℕ, zero, suc, ◌+◌, ◌<◌, ◌≤◌, List, [], ◌∷◌, ◌++◌, length, map, set, drop, replicate, Option, Some, Bool, Ok, Err, Result, refl, sym, ap, ◌∙◌, subst, arith}
-use Rattle.std.specs.List.{AllByRecursion}
+use Rattle.std.proofs.Common.{◌≡◌, ℕ, zero, suc, ◌+◌, ◌<◌, ◌≤◌, List, [], ◌∷◌, ◌++◌, length, map, set, drop, get_or, replicate, Option, Some, Bool, Ok, Err, Result, refl, sym, ap, ◌∙◌, subst, arith}
+use Rattle.std.proofs.lemmas.List.FromFn.{get_or-enumerate_from, length-enumerate_from}
+use Rattle.std.proofs.lemmas.Option.{slice_get_read}
+use Rattle.std.specs.List.{AllByRecursion, enumerate_from}
 use Rattle.std.specs.Prelude.{slice_get}
 use Rattle.om_format.specs.declared.message.Message.{Message}
 use Rattle.om_stable.specs.Content.{Content}
@@ -56,6 +58,15 @@ more k = omega arith
 map_in : {S X : Type 0} (f : S → X) (ms : List (Member S)) → map f (map store_in ms) ≡ map (λ m. f m.store) ms
 map_in f [] = refl
 map_in f (m ∷ ms) = ap (λ l. f m.store ∷ l) (map_in f ms)
+
+-- the turn of a loop over a list with numbers
+pub turn_at : {X : Type 0} (xs : List X) (k i : ℕ) (x : X) → (k < length (enumerate_from 0 xs)) × ((i, x) ≡ get_or (enumerate_from 0 xs) k (i, x)) → (i ≡ k) × (slice_get xs i ≡ Some x)
+turn_at {X = X} xs k i x turn =
+    let lt : k < length xs = subst (λ n. k < n) (length-enumerate_from 0 xs) turn.0 in
+    let number : i ≡ 0 + k = ap (λ (p : ℕ × X). p.0) (turn.1 ∙ get_or-enumerate_from 0 xs k (i, x) lt) in
+    let item : x ≡ get_or xs k x = ap (λ (p : ℕ × X). p.1) (turn.1 ∙ get_or-enumerate_from 0 xs k (i, x) lt) in
+    let here : i ≡ k = omega (arith, number) in
+    (here, subst (λ j. slice_get xs j ≡ Some x) (sym here) (slice_get_read xs (length xs) k x refl lt item))
 
 -- ---- one more
 pub none_seated : {S : Type 0} (content : S → Content) (is_clean : S → Bool) (IsSound : S → Type 0) (programs : List Program) (n : ℕ) (stores : List S) → AreSeated content is_clean IsSound programs n 0 stores []

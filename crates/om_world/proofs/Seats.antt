@@ -9,6 +9,7 @@ use Rattle.om_stable.specs.declared.error.StoreError.TheVariants as store_errors
 use Rattle.om_process.specs.Core.{CoreState}
 use Rattle.om_process.specs.Process.{Program}
 use Rattle.om_manager.specs.State.{ManagerState}
+use Rattle.om_manager.specs.declared.answers.RecordError.{RecordError}
 use Rattle.om_member.specs.Members.{IsNotUp, WasCalled, core_of}
 use Rattle.om_member.specs.declared.member.Member.{Member}
 use Rattle.om_member.specs.declared.member.NotUp.{NotUp}
@@ -21,7 +22,7 @@ use Rattle.om_world.specs.declared.place.Place.{Place}
 use Rattle.om_world.specs.Changes.{IsUp}
 use Rattle.om_world.specs.World.{Health, WorldState, health_of}
 use Rattle.om_world.specs.steps.Members.{content_in, core_in, health_in, place_in, place_of, round_in, seen, sound_in}
-use Rattle.om_world.specs.steps.Moves.{IsCalled, refusal_of_store, told_of}
+use Rattle.om_world.specs.steps.Moves.{IsCalled, count_of, refusal_of_record, refusal_of_store, told_of}
 use Rattle.om_world.specs.steps.Sound.{IsWorld}
 use Rattle.om_world.proofs.Kept.{remade}
 use Rattle.om_world.proofs.Lists.{inside, length-map, map_at, map_set, none_in, once, same_map, sound_at, sound_set}
@@ -77,6 +78,27 @@ told_err refusal (Err fault) r why is was = (fault, refl, once_why why (refusal 
   where
     once_why : {T E : Type 0} (a b : E) → Err {T = T} a ≡ Err b → a ≡ b
     once_why a b e = cc
+
+-- the same of rows that were noted
+pub noted_ok : (count : ℕ) (end : Result (Unit {0}) RecordError) (r : Result ℕ Refusal) (value : ℕ) → r ≡ told_of refusal_of_record (Ok (count_of count end)) → r ≡ Ok value → (count ≡ value) × (end ≡ Ok tt)
+noted_ok count (Ok done) r value is was = (once_value count value (sym is ∙ was), refl)
+  where
+    once_value : (a b : ℕ) → Ok {E = Refusal} a ≡ Ok b → a ≡ b
+    once_value a b e = cc
+noted_ok count (Err fault) r value is was = absurd (apart (refusal_of_record fault) value (sym is ∙ was))
+  where
+    apart : (e : Refusal) (a : ℕ) → Err e ≡ Ok a → ⊥
+    apart e a is = cc
+
+pub noted_err : (count : ℕ) (end : Result (Unit {0}) RecordError) (r : Result ℕ Refusal) (reason : Refusal) → r ≡ told_of refusal_of_record (Ok (count_of count end)) → r ≡ Err reason → (fault : RecordError) × (end ≡ Err fault) × (reason ≡ refusal_of_record fault)
+noted_err count (Ok done) r reason is was = absurd (apart count reason (sym is ∙ was))
+  where
+    apart : (a : ℕ) (e : Refusal) → Ok a ≡ Err e → ⊥
+    apart a e is = cc
+noted_err count (Err fault) r reason is was = (fault, refl, once_reason reason (refusal_of_record fault) (sym was ∙ is))
+  where
+    once_reason : (a b : Refusal) → Err {T = ℕ} a ≡ Err b → a ≡ b
+    once_reason a b e = cc
 
 pub faultless_stored : (r : Result (Result (Unit {0}) StoreError) NotUp) (told : Result (Unit {0}) Refusal) → told ≡ told_of refusal_of_store r → r ≢ Ok (Err store_errors.Fault) → told ≢ Err why.Fault
 faultless_stored r told is apart = λ fault. by r apart (sym is ∙ fault)

@@ -1,19 +1,29 @@
 use Rattle.std.proofs.Common.{◌≡◌, ◌<◌, length, subst, sym, Err, refl, rules}
 use Rattle.om_manager.specs.Bounds.{AreGotFrom}
 use Rattle.om_manager.specs.State.{released_by, size_of}
-use Rattle.om_world.specs.World.{WorldState}
-use Rattle.om_world.proofs.Trimming.{after_trim}
+use Rattle.om_world.specs.World.{health_of}
+use Rattle.om_world.proofs.Acting.{after_trimmed, bounds_fit, has_trimmed}
+use Rattle.om_world.proofs.Lists.{lent_at}
+use Rattle.om_world.proofs.Seats.{here}
 use Rattle.om_world.specs.declared.event.Event.{Event}
 use Rattle.om_world.proofs.Keeping.{keeps_by, keeps_seen}
 use Rattle.om_world.proofs.NotRunning.{told_not_running}
 use Rattle.om_world.proofs.Standing.{few, known}
 use Rattle.om_world.proofs.world.World.trim.Goals as goal
 
-pub invariant_of-self : goal.invariant_of-self
-invariant_of-self g c =
-    let m = c.self.inside.manager in let b = c.bounds-bounds.result in
-    after_trim _ _ _ c.args.p b.got b.released c.trim_at.new.cores.items c.self.invariant (subst (λ (v : WorldState). c.args.p < length v.programs) (sym c.self.view_is) c.in_ok-is_up.ensures.there)
-    (subst (λ p. AreGotFrom m.rows m.recovery p b.got) c.at.ensures c.bounds-bounds.ensures.got) (subst (λ p. b.released ≡ length (released_by m p)) c.at.ensures c.bounds-bounds.ensures.released) c.trim_at.ensures
+pub index_mut-member-requires : goal.index_mut-member-requires
+index_mut-member-requires g c = subst (λ n. c.args.p < n) (sym c.self.inside.members.ok.0) (here g.S.Stable.content (health_of g.S.Stable.is_clean g.S.Stable.failed) g.S.Stable.IsSound _ _ _ _ _ _ c.args.p _ c.self.invariant c.self.view_is c.in_ok-is_up.ensures.there)
+
+pub trim-requires : goal.trim-requires
+trim-requires g c = λ core up.
+    let at = lent_at _ c.args.p _ (here g.S.Stable.content (health_of g.S.Stable.is_clean g.S.Stable.failed) g.S.Stable.IsSound _ _ _ _ _ _ c.args.p _ c.self.invariant c.self.view_is c.in_ok-is_up.ensures.there) c.index_mut-member.ensures.value in
+    bounds_fit g.S.Stable.content (health_of g.S.Stable.is_clean g.S.Stable.failed) g.S.Stable.IsSound _ _ _ _ _ _ c.args.p _ at c.self.invariant core up c.bounds-bounds.result.got c.bounds-bounds.ensures.got
+
+pub invariant_of-self-2 : goal.invariant_of-self-2
+invariant_of-self-2 g c =
+    let at = lent_at _ c.args.p _ (here g.S.Stable.content (health_of g.S.Stable.is_clean g.S.Stable.failed) g.S.Stable.IsSound _ _ _ _ _ _ c.args.p _ c.self.invariant c.self.view_is c.in_ok-is_up.ensures.there) c.index_mut-member.ensures.value in
+    let b = c.bounds-bounds.result in let m = c.self.inside.manager in
+    after_trimmed g.S.Stable.content g.S.Stable.is_clean g.S.Stable.failed g.S.Stable.IsSound _ _ _ _ _ _ c.args.p _ at _ _ c.self.invariant c.self.view_is b.got b.released c.trim.result c.in_ok-is_up.ensures.up c.trim.ensures.trimmed c.trim.ensures.not_up c.in_ok-is_up.ensures.there (subst (λ p. AreGotFrom m.rows m.recovery p b.got) c.at.ensures c.bounds-bounds.ensures.got) (subst (λ p. b.released ≡ length (released_by m p)) c.at.ensures c.bounds-bounds.ensures.released)
 
 pub returns-in_err-is_up-clause-happened : goal.returns-in_err-is_up-clause-happened
 returns-in_err-is_up-clause-happened g c =
