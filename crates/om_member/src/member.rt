@@ -307,11 +307,13 @@ impl<S: Stable> Member<S> {
         let Standing::Up(core) = &self.standing else {
             return Err(NotUp);
         };
-        let answer = office.join(alloc, pid, core.round(), core.interval());
-        if answer.is_ok() {
-            self.go_in();
+        match office.join(alloc, pid, core.round(), core.interval()) {
+            Ok(told) => {
+                self.go_in();
+                Ok(Ok(told))
+            }
+            Err(fault) => Ok(Err(fault)),
         }
-        Ok(answer)
     }
 
     // A process that is up is in.

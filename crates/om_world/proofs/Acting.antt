@@ -178,11 +178,14 @@ module _ {S : Type 0} (content : S → Content) (is_clean : S → Bool) (failed 
         subst (IsOffered (map core_in ms) p msg answer) (sym (cores_set content (health_of is_clean failed) IsSound P L F ms M O p m at n (Some h.after) (ap core_in h.others)))
         (offered (map core_in ms) p h.before h.after msg answer at_core (given_at (map core_in ms) p h.before at_core) h.answers h.took h.refused)
 
-    pub offered_seen : (live : List Entry) → remade (seen content (health_of is_clean failed) P L F ms M O) live F (map core_in (set ms p n)) M (map (content_in content) ms) (map (health_in (health_of is_clean failed)) ms) ≡ seen content (health_of is_clean failed) P live F (set ms p n) M O
+    offered_seen : (live : List Entry) → remade (seen content (health_of is_clean failed) P L F ms M O) live F (map core_in (set ms p n)) M (map (content_in content) ms) (map (health_in (health_of is_clean failed)) ms) ≡ seen content (health_of is_clean failed) P live F (set ms p n) M O
     offered_seen live = kept content (health_of is_clean failed) IsSound P L F ms M O p m at n (ap place_in h.others ∙ sym (ap place_of h.up)) (ap round_in h.others) (ap (λ (x : Member S). x.store) h.others) live F M
 
-    pub offered_still : (w : WorldState) → IsWorld (sound_in IsSound) ms w → IsWorld (sound_in IsSound) (set ms p n) w
-    offered_still = still content (health_of is_clean failed) IsSound P L F ms M O p m at n (ap (λ (x : Member S). x.store) h.others)
+    pub offered_world : (live : List Entry) → IsWorld (sound_in IsSound) ms (remade (seen content (health_of is_clean failed) P L F ms M O) live F (map core_in (set ms p n)) M (map (content_in content) ms) (map (health_in (health_of is_clean failed)) ms)) → IsWorld (sound_in IsSound) (set ms p n) (seen content (health_of is_clean failed) P live F (set ms p n) M O)
+    offered_world live x = still content (health_of is_clean failed) IsSound P L F ms M O p m at n (ap (λ (y : Member S). y.store) h.others) (seen content (health_of is_clean failed) P live F (set ms p n) M O) (subst (IsWorld (sound_in IsSound) ms) (offered_seen live) x)
+
+    pub offered_as_seen : (live : List Entry) (Did : WorldState → WorldState → Type 0) → Did (seen content (health_of is_clean failed) P L F ms M O) (remade (seen content (health_of is_clean failed) P L F ms M O) live F (map core_in (set ms p n)) M (map (content_in content) ms) (map (health_in (health_of is_clean failed)) ms)) → Did v (seen content (health_of is_clean failed) P live F (set ms p n) M O)
+    offered_as_seen live Did x = subst (λ (y : WorldState). Did y (seen content (health_of is_clean failed) P live F (set ms p n) M O)) e (subst (Did (seen content (health_of is_clean failed) P L F ms M O)) (offered_seen live) x)
 
   -- ---- it was trimmed
   module _ (got : List ℕ) (released : ℕ) (r : Result (Unit {0}) NotUp) (up : IsUp v p) (did : OnOk r (HasTrimmed m got released n)) (not : OnErr r (IsNotUp m.standing)) where

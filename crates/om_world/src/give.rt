@@ -43,7 +43,8 @@ impl<S: Stable> World<S> {
         let entry = entry_for(alloc, message)?;
         self.live.make_room()?;
         let member = &mut self.members[p];
-        match member.accept(alloc, message)? {
+        let told = member.accept(alloc, message)?;
+        match told {
             Accept::Taken(x) => {
                 self.live.add(entry);
                 Ok(Answer::Given(Accept::Taken(x)))
