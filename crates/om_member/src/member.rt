@@ -12,9 +12,8 @@ ghost use Rattle.om_member.specs.Keeps.{Keeps};
 ghost use Rattle.om_member.specs.Members.{GoesOn, HasComeBack, HasDeclared, HasJoined, HasNoted, HasRun, HasStored, HasTrimmed, IsNotIn, IsNotUp, IsOffered, StaysDown, WasCalled, WasPruned, core_of};
 ghost use Rattle.om_member.specs.declared.member.Standing.TheVariants as stands;
 
-use crate::handing;
 use crate::office::Office;
-use crate::telling;
+use crate::{handing, telling};
 use om_format::Message;
 use om_interval::{Bounds, Pid, Starts, Verdict};
 use om_manager::{FailError, Gathered, JoinError, OutputError, RecordError};

@@ -172,11 +172,11 @@ module _ {S : Type 0} (content : S → Content) (is_clean : S → Bool) (failed 
 
   -- ---- it was offered a message
   module _ (msg : Message) (answer : Accept) (h : member.IsOffered m msg answer n) where
-    pub offered_in : IsOffered (map core_in ms) p msg answer (map core_in (set ms p n))
-    offered_in =
+    pub offered_in : (a : Accept) → answer ≡ a → IsOffered (map core_in ms) p msg a (map core_in (set ms p n))
+    offered_in a is =
         let at_core = core_was content (health_of is_clean failed) IsSound P L F ms M O p m at n h.before h.up in
-        subst (IsOffered (map core_in ms) p msg answer) (sym (cores_set content (health_of is_clean failed) IsSound P L F ms M O p m at n (Some h.after) (ap core_in h.others)))
-        (offered (map core_in ms) p h.before h.after msg answer at_core (given_at (map core_in ms) p h.before at_core) h.answers h.took h.refused)
+        subst (λ b. IsOffered (map core_in ms) p msg b (map core_in (set ms p n))) is (subst (IsOffered (map core_in ms) p msg answer) (sym (cores_set content (health_of is_clean failed) IsSound P L F ms M O p m at n (Some h.after) (ap core_in h.others)))
+        (offered (map core_in ms) p h.before h.after msg answer at_core (given_at (map core_in ms) p h.before at_core) h.answers h.took h.refused))
 
     offered_seen : (live : List Entry) → remade (seen content (health_of is_clean failed) P L F ms M O) live F (map core_in (set ms p n)) M (map (content_in content) ms) (map (health_in (health_of is_clean failed)) ms) ≡ seen content (health_of is_clean failed) P live F (set ms p n) M O
     offered_seen live = kept content (health_of is_clean failed) IsSound P L F ms M O p m at n (ap place_in h.others ∙ sym (ap place_of h.up)) (ap round_in h.others) (ap (λ (x : Member S). x.store) h.others) live F M
@@ -220,14 +220,14 @@ bounds_fit content health IsSound P L F ms M O p m at i core up got g = g.places
 -- ---- its outputs were handed in
 module _ {S : Type 0} (content : S → Content) (health : S → Health) (IsSound : S → Type 0) (P : List Program) (L : List Entry) (F : List Message) (ms : List (Member S)) (M : ManagerState) (O : List Content) (p : ℕ) (m : Member S) (at : slice_get ms p ≡ Some m) (v : WorldState) (i : IsWorld (sound_in IsSound) ms (seen content health P L F ms M O)) (e : seen content health P L F ms M O ≡ v)
     (q : ℕ) (is : q ≡ p) (k : ManagerState) (r : Result (Result (Unit {0}) OutputError) NotUp) (up : IsUp v p) (did : IfOk r (λ end. (core : CoreState) × (m.standing ≡ stands.Up core) × AreHandedUpTo M core.round q (outputs_from core (length (held_by M q))) end k)) (not : OnErr r (IsNotUp m.standing)) where
-  handed : (end : Result (Unit {0}) OutputError) × (r ≡ Ok end) × (core : CoreState) × (m.standing ≡ stands.Up core) × AreHandedUpTo M core.round q (outputs_from core (length (held_by M q))) end k
+  handed : (end : Result (Unit {0}) OutputError) × (r ≡ Ok end) × ((core : CoreState) × (m.standing ≡ stands.Up core) × AreHandedUpTo M core.round q (outputs_from core (length (held_by M q))) end k)
   handed = was_up r (λ end. (core : CoreState) × (m.standing ≡ stands.Up core) × AreHandedUpTo M core.round q (outputs_from core (length (held_by M q))) end k) m.standing (is_up content health IsSound P L F ms M O p m at v e up) did not
 
   handed_in : IsHandedIn (seen content health P L F ms M O) p handed.0 k
   handed_in = (
-    handed.2,
-    core_was content health IsSound P L F ms M O p m at m handed.2 handed.3,
-    subst (λ (x : ℕ). AreHandedUpTo M handed.2.round x (outputs_from handed.2 (length (held_by M x))) handed.0 k) is handed.4,
+    handed.2.0,
+    core_was content health IsSound P L F ms M O p m at m handed.2.0 handed.2.1,
+    subst (λ (x : ℕ). AreHandedUpTo M handed.2.0.round x (outputs_from handed.2.0 (length (held_by M x))) handed.0 k) is handed.2.2,
   )
 
   pub after_hand : IsWorld (sound_in IsSound) ms (seen content health P L F ms k O)

@@ -43,7 +43,7 @@ use Rattle.om_world.specs.steps.Returning.{HasGoneOn, IsBackIn, IsRolledBack, Kn
 use Rattle.om_world.specs.steps.Sound.{IsWorld}
 use Rattle.om_world.proofs.Declaring.{after_declare, after_join, has_declared, has_entered, not_declared, not_entered, placed_with}
 use Rattle.om_world.proofs.Lists.{map_at, once, once_err}
-use Rattle.om_world.proofs.Returned.{after_back, after_fault, after_on, has_come_back, stays_down, up_as}
+use Rattle.om_world.proofs.Returned.{IsFault, after_back, after_fault, after_on, has_come_back, stays_down, up_as}
 use Rattle.om_world.proofs.Seats.{called_in, core_was, is_up, placed_as, restored, risen, round_is, set_core, set_round, still, told_err, told_ok, unchanged, unmoved, was_up}
 use Rattle.om_world.proofs.TakenDown.{after_down}
 
@@ -121,8 +121,8 @@ module _ {S : Type 0} (content : S → Content) (health : S → Health) (IsSound
           still content health IsSound P L F ms M O p m at n (ap (λ (x : Member S). x.store) h.refused) (seen content health P L F (set ms p n) k O)
           (subst (IsWorld (sound_in IsSound) ms) (sym refused.refused ∙ unchanged content health IsSound P L F ms M O p m at n h.refused k) i)
 
-      pub was_refused : HasDeclared v p (Err fault) (seen content health P L F (set ms p n) k O)
-      was_refused = subst (λ (x : WorldState). HasDeclared x p (Err fault) (seen content health P L F (set ms p n) k O)) e (subst (HasDeclared (seen content health P L F ms M O) p (Err fault)) (unchanged content health IsSound P L F ms M O p m at n h.refused k) refused)
+      pub was_refused : (r : Result Gathered FailError) → r ≡ Err fault → HasDeclared v p r (seen content health P L F (set ms p n) k O)
+      was_refused r told = subst (λ a. HasDeclared v p a (seen content health P L F (set ms p n) k O)) (sym told) (subst (λ (x : WorldState). HasDeclared x p (Err fault) (seen content health P L F (set ms p n) k O)) e (subst (HasDeclared (seen content health P L F ms M O) p (Err fault)) (unchanged content health IsSound P L F ms M O p m at n h.refused k) refused))
 
   -- ---- it joined
   module _ (q : ℕ) (is : q ≡ p) (k : ManagerState) (up : IsUp v p) where
@@ -213,6 +213,7 @@ module _ {S : Type 0} (content : S → Content) (health : S → Health) (IsSound
         (after_on (sound_in IsSound) ms (seen content health P L F ms M O) p round (set (map core_in ms) p (Some (resumed core round starts))) i (subst (λ (x : WorldState). p < length x.programs) (sym e) lt) (subst (λ (x : WorldState). IsToGoOn x p) (sym e) due) knows same_round))
 
     pub went_on : HasGoneOn v p (seen content health P L F (set ms p n) M O)
+    unfolding knows
     went_on = (
       core,
       subst (λ (x : WorldState). slice_get x.cores p ≡ Some (Some core)) e knows.1,
@@ -279,8 +280,8 @@ module _ {S : Type 0} (content : S → Content) (is_clean : S → Bool) (failed 
       starts = h.starts_are ∙ same_starts;
     }
 
-    back_called : IsCalled (content_in content) (health_in (health_of is_clean failed)) (sound_in IsSound) (Ok h.core ≡ Err replays.Fault) ms (set ms p n) p (IsRolledBack M p (Ok h.core))
-    back_called = called_in content is_clean failed IsSound (Ok h.core ≡ Err replays.Fault) (IsRolledBack M p (Ok h.core)) ms p m n at (record {
+    back_called : IsCalled (content_in content) (health_in (health_of is_clean failed)) (sound_in IsSound) (IsFault (Ok h.core)) ms (set ms p n) p (IsRolledBack M p (Ok h.core))
+    back_called = called_in content is_clean failed IsSound (IsFault (Ok h.core)) (IsRolledBack M p (Ok h.core)) ms p m n at (record {
       counted = λ fault. absurd (apart h.core fault);
       count = h.called.count;
       clean = h.called.clean;
@@ -305,9 +306,9 @@ module _ {S : Type 0} (content : S → Content) (is_clean : S → Bool) (failed 
         (has_come_back (content_in content) (health_in (health_of is_clean failed)) (sound_in IsSound) (seen content (health_of is_clean failed) P L F ms M O) p verdict.round told.0 told.1 h.core ms (set ms p n) i there new_there back_in back_called same_round h.interval_told h.inc_told))
 
   module _ (fault : ReplayFault) (h : member.StaysDown content failed is_clean IsSound who verdict m fault n) where
-    fault_called : IsCalled (content_in content) (health_in (health_of is_clean failed)) (sound_in IsSound) (Err fault ≡ Err replays.Fault) ms (set ms p n) p (IsRolledBack M p (Err fault))
-    fault_called = called_in content is_clean failed IsSound (Err fault ≡ Err replays.Fault) (IsRolledBack M p (Err fault)) ms p m n at (record {
-      counted = λ f. h.called.counted (once_fault fault replays.Fault f);
+    fault_called : IsCalled (content_in content) (health_in (health_of is_clean failed)) (sound_in IsSound) (IsFault (Err fault)) ms (set ms p n) p (IsRolledBack M p (Err fault))
+    fault_called = called_in content is_clean failed IsSound (IsFault (Err fault)) (IsRolledBack M p (Err fault)) ms p m n at (record {
+      counted = λ f. h.called.counted (once_err _ fault replays.Fault refl f);
       count = h.called.count;
       clean = h.called.clean;
       sound = h.called.sound;
@@ -318,9 +319,6 @@ module _ {S : Type 0} (content : S → Content) (is_clean : S → Bool) (failed 
             (subst (λ x. CanReplay (TheProcess x (managers.size_of M)) (content m.store) (slice_index M.last p)) (sym pid) can))),
       );
     })
-      where
-        once_fault : (a b : ReplayFault) → Err {T = CoreState} a ≡ Err b → a ≡ b
-        once_fault a b f = cc
 
     pub after_stayed : IsWorld (sound_in IsSound) (set ms p n) (seen content (health_of is_clean failed) P L F (set ms p n) M O)
     after_stayed = subst (IsWorld (sound_in IsSound) (set ms p n)) (restored content (health_of is_clean failed) IsSound P L F ms M O p m at n (ap core_in h.others) (ap place_in h.others) (ap round_in h.others))

@@ -25,7 +25,7 @@ use Rattle.om_world.specs.steps.Members.{content_in, core_in, health_in, place_i
 use Rattle.om_world.specs.steps.Moves.{IsCalled, count_of, refusal_of_record, refusal_of_store, told_of}
 use Rattle.om_world.specs.steps.Sound.{IsWorld}
 use Rattle.om_world.proofs.Kept.{remade}
-use Rattle.om_world.proofs.Lists.{inside, length-map, map_at, map_set, none_in, once, same_map, sound_at, sound_set}
+use Rattle.om_world.proofs.Lists.{inside, length-map, map_at, map_set, none_in, once, once_err, once_ok, same_map, sound_at, sound_set}
 use Rattle.om_world.proofs.Recording.{set_back}
 
 -- worlds of the same parts are one
@@ -60,10 +60,7 @@ was_up (Err e) Did s up did not = absurd (stands_up s up not)
 
 -- ---- what is told of an act
 pub told_ok : {T E : Type 0} (refusal : E → Refusal) (answer : Result T E) (r : Result T Refusal) (value : T) → r ≡ told_of refusal (Ok answer) → r ≡ Ok value → answer ≡ Ok value
-told_ok refusal (Ok a) r value is was = ap Ok (once_ok a value (sym is ∙ was))
-  where
-    once_ok : {T E : Type 0} (a b : T) → Ok {E = E} a ≡ Ok b → a ≡ b
-    once_ok a b e = cc
+told_ok refusal (Ok a) r value is was = ap Ok (once_ok r a value is was)
 told_ok refusal (Err fault) r value is was = absurd (apart (refusal fault) value (sym is ∙ was))
   where
     apart : {T E : Type 0} (e : E) (a : T) → Err e ≡ Ok a → ⊥
@@ -74,17 +71,11 @@ told_err refusal (Ok a) r why is was = absurd (apart a why (sym is ∙ was))
   where
     apart : {T E : Type 0} (a : T) (e : E) → Ok a ≡ Err e → ⊥
     apart a e is = cc
-told_err refusal (Err fault) r why is was = (fault, refl, once_why why (refusal fault) (sym was ∙ is))
-  where
-    once_why : {T E : Type 0} (a b : E) → Err {T = T} a ≡ Err b → a ≡ b
-    once_why a b e = cc
+told_err refusal (Err fault) r why is was = (fault, refl, once_err r why (refusal fault) was is)
 
 -- the same of rows that were noted
 pub noted_ok : (count : ℕ) (end : Result (Unit {0}) RecordError) (r : Result ℕ Refusal) (value : ℕ) → r ≡ told_of refusal_of_record (Ok (count_of count end)) → r ≡ Ok value → (count ≡ value) × (end ≡ Ok tt)
-noted_ok count (Ok done) r value is was = (once_value count value (sym is ∙ was), refl)
-  where
-    once_value : (a b : ℕ) → Ok {E = Refusal} a ≡ Ok b → a ≡ b
-    once_value a b e = cc
+noted_ok count (Ok done) r value is was = (once_ok r count value is was, refl)
 noted_ok count (Err fault) r value is was = absurd (apart (refusal_of_record fault) value (sym is ∙ was))
   where
     apart : (e : Refusal) (a : ℕ) → Err e ≡ Ok a → ⊥
@@ -95,10 +86,7 @@ noted_err count (Ok done) r reason is was = absurd (apart count reason (sym is �
   where
     apart : (a : ℕ) (e : Refusal) → Ok a ≡ Err e → ⊥
     apart a e is = cc
-noted_err count (Err fault) r reason is was = (fault, refl, once_reason reason (refusal_of_record fault) (sym was ∙ is))
-  where
-    once_reason : (a b : Refusal) → Err {T = ℕ} a ≡ Err b → a ≡ b
-    once_reason a b e = cc
+noted_err count (Err fault) r reason is was = (fault, refl, once_err r reason (refusal_of_record fault) was is)
 
 pub faultless_stored : (r : Result (Result (Unit {0}) StoreError) NotUp) (told : Result (Unit {0}) Refusal) → told ≡ told_of refusal_of_store r → r ≢ Ok (Err store_errors.Fault) → told ≢ Err why.Fault
 faultless_stored r told is apart = λ fault. by r apart (sym is ∙ fault)

@@ -1,6 +1,6 @@
 //! Processes that are taken down, and that are up again after a finished round.
 
-ghost use Rattle.std.specs.Prelude.{◌≡◌, ◌≢◌, ◌<◌, ◌↔◌, length, slice_get, true, Err, IfErr, IfOk, IsTrue, Ok, OnErr, OnOk, Some};
+ghost use Rattle.std.specs.Prelude.{◌≡◌, ◌≢◌, ◌<◌, ◌↔◌, length, slice_get, false, true, Err, IfErr, IfOk, IsTrue, Ok, OnErr, OnOk, Some};
 ghost use Rattle.om_process.specs.declared.replay.ReplayFault.{ReplayFault};
 ghost use Rattle.om_world.specs.Failures.{HasNews, IsToGoOn, taken_down};
 ghost use Rattle.om_world.specs.Happened.{Happened, Refused};
@@ -82,11 +82,11 @@ impl<S: Stable> World<S> {
         ensures back { Returns self.old p result self.new }
         ensures faultless { ((store : S) → S.failed store ≡ 0) → result ≢ Err ReplayFault.Fault }
     {
+        let verdict = self.manager.verdict(Pid::at(p));
         let down = Down {
             pid: Pid::at(p),
             n: self.manager.recovery().n(),
         };
-        let verdict = self.manager.verdict(Pid::at(p));
         let member = &mut self.members[p];
         member.come_back(alloc, down, self.manager.starts(), &verdict)
     }

@@ -19,7 +19,8 @@ start_at-requires-clause-place g c =
     subst (λ n. c.in-Some.p < n) c.requires.stores (slice_get_within c.args.stores.items c.in-Some.p c.in-Some.store at.1)
 
 pub loop-p-init : goal.loop-p-init
-loop-p-init g c = none_seated g.S.Stable.content g.S.Stable.is_clean g.S.Stable.IsSound (map program_of c.args.images.now) (length c.args.images.now) c.args.stores.items
+loop-p-init g c = subst (AreSeated g.S.Stable.content g.S.Stable.is_clean g.S.Stable.IsSound (map program_of c.args.images.now) (length c.args.images.now) 0 c.args.stores.items) (sym c.new-members.ensures.items)
+    (none_seated g.S.Stable.content g.S.Stable.is_clean g.S.Stable.IsSound (map program_of c.args.images.now) (length c.args.images.now) c.args.stores.items)
 
 pub returns-in_err-core-clause-refused : goal.returns-in_err-core-clause-refused
 returns-in_err-core-clause-refused g c =
@@ -51,5 +52,5 @@ loop-p-preserved g c =
     let did = subst (IsStart s.content s.failed s.is_clean s.IsSound (program_of image) c.in-Some.p n c.in-Some.store c.start_at.new.store) c.in_ok-core.was c.start_at.ensures.2 in
     let more : c.in-Some.p + 1 ≡ length (c.loop-p.yielded ++ (c.in-Some.p, c.in-Some.store) ∷ []) = ap (λ k. k + 1) at.0 ∙ sym (length-append c.loop-p.yielded ((c.in-Some.p, c.in-Some.store) ∷ [])) in
     subst (λ k. AreSeated s.content s.is_clean s.IsSound programs n k c.args.stores.items c.push_reserved.new.self.items) more
-    (subst (AreSeated s.content s.is_clean s.IsSound programs n (c.in-Some.p + 1) c.args.stores.items) (sym (c.push_reserved.ensures.items ∙ ap (λ l. l ++ c.new-2.result ∷ []) c.in_ok-try_reserve.ensures.items))
-    (one_seated s.content s.failed s.is_clean s.IsSound programs n c.in-Some.p c.args.stores.items c.loop-p.members.items was (program_of image) (map_at program_of c.args.images.now c.in-Some.p image c.start_at.ensures.1) c.in-Some.store c.start_at.new.store at.1 core did c.new-2.result c.new-2.ensures.standing c.new-2.ensures.round c.new-2.ensures.store))
+    (subst (AreSeated s.content s.is_clean s.IsSound programs n (c.in-Some.p + 1) c.args.stores.items) (sym (c.push_reserved.ensures.items ∙ ap (λ l. l ++ c.new.result ∷ []) c.in_ok-try_reserve.ensures.items))
+    (one_seated s.content s.failed s.is_clean s.IsSound programs n c.in-Some.p c.args.stores.items c.loop-p.members.items was (program_of image) (map_at program_of c.args.images.now c.in-Some.p image c.start_at.ensures.1) c.in-Some.store c.start_at.new.store at.1 core did c.new.result c.new.ensures.standing c.new.ensures.round c.new.ensures.store))

@@ -32,3 +32,6 @@ returns-in-Some-clause-none g c =
     let read = c.in-Some.ensures.lookup in
     let at = subst (λ q. slice_get c.self.inside.members.items q ≡ Some c.in-Some.member.now) c.index.ensures.place (subst (λ l. slice_get l c.index.result ≡ Some c.in-Some.member.now) c.deref.ensures.value (lent_at c.deref.result.now c.index.result c.in-Some.member.now read.3.0 read.1)) in
     if_none c.core.result _ _ (λ is core there. no_core_at g.S.Stable.content (health_of g.S.Stable.is_clean g.S.Stable.failed) g.S.Stable.IsSound _ _ _ _ _ _ c.args.pid _ at _ core c.self.view_is is there) c.core.ensures.none
+
+pub returns-in-None-clause-none : goal.returns-in-None-clause-none
+returns-in-None-clause-none g c = λ core there. search rules

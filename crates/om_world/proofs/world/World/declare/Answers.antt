@@ -1,6 +1,5 @@
 use Rattle.std.proofs.Common.{◌≡◌, ◌<◌, Err, rules, subst, sym}
 use Rattle.om_world.specs.World.{health_of}
-use Rattle.om_world.specs.steps.Gathering.{HasDeclared}
 use Rattle.om_world.proofs.Lists.{lent_at}
 use Rattle.om_world.proofs.Rising.{after_declared, after_refused, was_declared, was_refused}
 use Rattle.om_world.proofs.Seats.{here}
@@ -22,7 +21,7 @@ pub returns-in_err-told : goal.returns-in_err-told
 returns-in_err-told g c =
     let at = lent_at _ c.args.p _ (here g.S.Stable.content (health_of g.S.Stable.is_clean g.S.Stable.failed) g.S.Stable.IsSound _ _ _ _ _ _ c.args.p _ c.self.invariant c.self.view_is (there_at _ _ _ _ c.args.p c.self.invariant c.self.view_is _ c.requires)) c.index_mut-member.ensures.value in
     let is : c.from_residual.result ≡ Err c.in_err-told.field-0.0 = search rules in
-    subst (λ r. HasDeclared c.args.self.now c.args.p r _) (sym is) (was_refused g.S.Stable.content (health_of g.S.Stable.is_clean g.S.Stable.failed) g.S.Stable.IsSound _ _ _ _ _ _ c.args.p _ at _ _ c.self.invariant c.self.view_is c.at.result c.at.ensures c.declare.new.office c.requires c.in_err-told.field-0.0 c.in_err-told.ensures)
+    was_refused g.S.Stable.content (health_of g.S.Stable.is_clean g.S.Stable.failed) g.S.Stable.IsSound _ _ _ _ _ _ c.args.p _ at _ _ c.self.invariant c.self.view_is c.at.result c.at.ensures c.declare.new.office c.requires c.in_err-told.field-0.0 c.in_err-told.ensures c.from_residual.result is
 
 pub invariant_of-self-2 : goal.invariant_of-self-2
 invariant_of-self-2 g c =

@@ -1,15 +1,15 @@
-use Rattle.std.proofs.Common.{◌++◌, ◌∙◌, List, Some, ap, arith, replicate, subst, sym, ◌≡◌, Err, refl, rules}
+use Rattle.std.proofs.Common.{◌++◌, ◌∙◌, List, Some, ap, arith, length, replicate, subst, sym, ◌≡◌, Err, refl, rules}
 use Rattle.std.specs.Prelude.{slice_get, slice_index}
 use Rattle.om_format.specs.declared.message.Message.{Message}
 use Rattle.om_process.specs.Core.{size_of}
 use Rattle.om_world.specs.Changes.{IsUp}
 use Rattle.om_world.specs.World.{WorldState}
-use Rattle.om_world.proofs.Resending.{after_frames, frames_stay}
+use Rattle.om_world.proofs.Resending.{after_frames, frames_stay, resent}
 use Rattle.om_world.specs.declared.event.Event.{Event}
 use Rattle.om_world.specs.declared.event.Refusal.TheVariants as refusals
 use Rattle.om_world.specs.Happened.{Happened}
 use Rattle.om_world.specs.steps.Moves.{answered}
-use Rattle.om_world.proofs.Framing.{zero_at}
+use Rattle.om_world.proofs.Framing.{messages_same, zero_at}
 use Rattle.om_world.proofs.Keeping.{keeps_by, keeps_seen}
 use Rattle.om_world.proofs.NotRunning.{told_not_running}
 use Rattle.om_world.proofs.Standing.{core_up}
@@ -50,3 +50,9 @@ returns-in_err-append-clause-keeps g c = keeps_seen _ _ _ c.self.view_is refl re
 
 pub returns-clause-keeps : goal.returns-clause-keeps
 returns-clause-keeps g c = keeps_seen _ _ _ c.self.view_is refl refl refl
+
+pub returns-clause-happened : goal.returns-clause-happened
+returns-clause-happened g c =
+    let f = c.in_ok-frames.ensures in
+    let is = f.2 ∙ messages_same f.0 (λ to. slice_index (replicate 16 0) to) (λ to. 0) (size_of f.0.now) (zero_at 16) in
+    (c.in_ok-is_up.ensures.up, f.0, f.1, c.len-count.ensures ∙ c.in_ok-frames.frames.ok.0 ∙ ap length is, resent _ _ _ _ _ c.self.view_is c.in_ok-append.ensures.items is)
