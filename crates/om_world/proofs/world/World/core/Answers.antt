@@ -1,8 +1,8 @@
-use Rattle.std.proofs.Common.{◌≡◌, Some, refl, subst}
+use Rattle.std.proofs.Common.{◌≡◌, Some, arith, refl, rules, subst}
 use Rattle.std.specs.Prelude.{slice_get}
 use Rattle.om_world.specs.World.{health_of}
 use Rattle.om_world.proofs.Lists.{if_none, if_some, lent_at}
-use Rattle.om_world.proofs.Seats.{core_at, no_core_at}
+use Rattle.om_world.proofs.Seats.{core_at, core_here, no_core_at}
 use Rattle.om_world.proofs.Standing.{core_of}
 use Rattle.om_world.proofs.world.World.core.Goals as goal
 
@@ -34,4 +34,6 @@ returns-in-Some-clause-none g c =
     if_none c.core.result _ _ (λ is core there. no_core_at g.S.Stable.content (health_of g.S.Stable.is_clean g.S.Stable.failed) g.S.Stable.IsSound _ _ _ _ _ _ c.args.pid _ at _ core c.self.view_is is there) c.core.ensures.none
 
 pub returns-in-None-clause-none : goal.returns-in-None-clause-none
-returns-in-None-clause-none g c = λ core there. search rules
+returns-in-None-clause-none g c = λ core there.
+    let lt = core_here g.S.Stable.content (health_of g.S.Stable.is_clean g.S.Stable.failed) g.S.Stable.IsSound _ _ _ _ _ _ c.args.pid _ _ c.self.view_is there in
+    search (rules, arith)
