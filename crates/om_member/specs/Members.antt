@@ -1,5 +1,5 @@
 -- One process with its store, and what its acts do to it.
-use Rattle.std.specs.Prelude.{◌≡◌, ◌≢◌, ℕ, ◌≤◌, ◌<◌, List, [], ◌∷◌, ◌++◌, length, drop, Bool, IsTrue, IsSome, true, false, Option, None, Some, Result, Ok, Err, OnErr, IfOk}
+use Rattle.std.specs.Prelude.{◌≡◌, ◌≢◌, ℕ, ◌≤◌, ◌<◌, List, [], ◌∷◌, ◌++◌, length, drop, Bool, IsTrue, IsSome, true, Option, None, Some, Result, Ok, Err, OnErr, IfOk}
 use Rattle.std.specs.FinMap.{get}
 use Rattle.om_interval.specs.declared.verdict.Verdict.{Verdict}
 use Rattle.om_format.specs.declared.message.Message.{Message}

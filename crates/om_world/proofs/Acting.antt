@@ -1,5 +1,5 @@
 -- What the acts of a member do to its world.
-use Rattle.std.proofs.Common.{◌≡◌, ◌≢◌, ℕ, ◌<◌, List, [], ◌∷◌, ◌++◌, length, map, set, Option, None, Some, Result, Ok, Err, refl, sym, ap, ◌∙◌, subst, arith}
+use Rattle.std.proofs.Common.{◌≡◌, ◌≢◌, ℕ, ◌<◌, List, length, map, set, Some, Result, Ok, Err, refl, sym, ap, ◌∙◌, subst}
 use Rattle.std.specs.Prelude.{slice_get, drop, Bool, IfErr, IfOk, OnErr, OnOk}
 use Rattle.std.specs.declared.alloc.AllocError.{AllocError}
 use Rattle.om_format.specs.declared.message.Message.{Message}
@@ -28,13 +28,12 @@ use Rattle.om_world.specs.declared.event.Refusal.TheVariants as why
 use Rattle.om_world.specs.Changes.{IsUp}
 use Rattle.om_world.specs.World.{Health, WorldState, health_of, recovered}
 use Rattle.om_world.specs.steps.Members.{content_in, core_in, health_in, place_in, place_of, round_in, seen, sound_in}
-use Rattle.om_world.specs.steps.Moves.{GoesOn, HasCalled, HasRunAt, HasTold, IsCalled, IsOffered, IsToldUpTo, told_of}
+use Rattle.om_world.specs.steps.Moves.{GoesOn, HasCalled, HasRunAt, HasTold, IsOffered, IsToldUpTo, told_of}
 use Rattle.om_world.specs.steps.Pruning.{HasPruned}
 use Rattle.om_world.specs.steps.Running.{HasHandedIn}
 use Rattle.om_world.specs.steps.Sound.{IsWorld}
 use Rattle.om_world.proofs.Giving.{given_at, offered}
 use Rattle.om_world.proofs.Handing.{IsHandedIn, after_handed, has_handed}
-use Rattle.om_world.proofs.Lists.{map_at, map_set}
 use Rattle.om_world.proofs.Moved.{after_turns}
 use Rattle.om_world.proofs.Noting.{IsCalledIn, IsNotedIn, after_called, after_note, has_called, has_told}
 use Rattle.om_world.proofs.Pruning.{IsPrunedIn, after_store as after_pruned, has_pruned}

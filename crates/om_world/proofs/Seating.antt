@@ -1,5 +1,5 @@
 -- Members that are started one after another.
-use Rattle.std.proofs.Common.{◌≡◌, ℕ, zero, suc, ◌+◌, ◌<◌, ◌≤◌, List, [], ◌∷◌, ◌++◌, length, map, set, drop, get_or, replicate, Option, Some, Bool, Ok, Err, Result, refl, sym, ap, ◌∙◌, subst, arith}
+use Rattle.std.proofs.Common.{◌≡◌, ℕ, zero, suc, ◌+◌, ◌<◌, List, [], ◌∷◌, ◌++◌, length, map, set, drop, get_or, replicate, Some, Bool, Ok, Err, refl, sym, ap, ◌∙◌, subst, arith}
 use Rattle.std.proofs.lemmas.List.FromFn.{get_or-enumerate_from, length-enumerate_from}
 use Rattle.std.proofs.lemmas.Option.{slice_get_read}
 use Rattle.std.specs.List.{AllByRecursion, enumerate_from}
@@ -17,7 +17,7 @@ use Rattle.om_world.specs.declared.entry.Entry.{Entry}
 use Rattle.om_world.specs.declared.place.Place.{Place}
 use Rattle.om_world.specs.Started.{IsRefusedAt}
 use Rattle.om_world.specs.World.{Health, WorldState}
-use Rattle.om_world.specs.steps.Members.{content_in, core_in, health_in, place_in, place_of, round_in, seen, sound_in, store_in}
+use Rattle.om_world.specs.steps.Members.{core_in, place_in, place_of, round_in, seen, sound_in, store_in}
 use Rattle.om_world.specs.steps.Sound.{IsWorld}
 use Rattle.om_world.specs.steps.Starting.{AreSeated, AreStarted, IsStart}
 use Rattle.om_world.proofs.Lists.{length-map, none_in}

@@ -1,7 +1,6 @@
 -- A world over its members, of which one changes.
-use Rattle.std.proofs.Common.{◌≡◌, ◌≢◌, ℕ, zero, suc, ◌<◌, ◌≤◌, List, [], ◌∷◌, length, map, set, Option, None, Some, Result, Ok, Err, refl, sym, ap, ◌∙◌, subst, arith}
-use Rattle.std.specs.Prelude.{slice_get, slice_index, Bool, true, IfErr, IfOk, OnErr, OnOk}
-use Rattle.std.specs.List.{AllByRecursion}
+use Rattle.std.proofs.Common.{◌≡◌, ◌≢◌, ℕ, zero, suc, ◌<◌, List, [], ◌∷◌, length, map, set, Option, None, Some, Result, Ok, Err, refl, sym, ap, ◌∙◌, subst}
+use Rattle.std.specs.Prelude.{slice_get, slice_index, Bool, IfOk, OnErr}
 use Rattle.om_format.specs.declared.message.Message.{Message}
 use Rattle.om_stable.specs.Content.{Content}
 use Rattle.om_stable.specs.declared.error.StoreError.{StoreError}

@@ -1,13 +1,10 @@
 -- What a call makes of the cores.
-use Rattle.std.specs.Prelude.{◌≡◌, ℕ, ◌≤◌, List, [], ◌∷◌, ◌++◌, length, drop, slice_get, slice_set, true, IsTrue, IsSome, Option, Some, Result, Ok, Err, IfErr}
-use Rattle.std.specs.FinMap.{get}
-use Rattle.om_stable.specs.Content.{Content, IsTaken}
+use Rattle.std.specs.Prelude.{◌≡◌, ℕ, ◌≤◌, List, length, drop, slice_get, slice_set, true, IsTrue, Option, Some, Result, Ok, Err, IfErr}
+use Rattle.om_stable.specs.Content.{Content}
 use Rattle.om_stable.specs.Count.{Rose}
 use Rattle.om_stable.specs.declared.error.StoreError.{StoreError}
 use Rattle.om_stable.specs.declared.error.StoreError.TheVariants.{Present}
 use Rattle.om_stable.specs.declared.error.StoreError.TheVariants as store_errors
-use Rattle.om_process.specs.Stores.{first_logged}
-use Rattle.om_process.specs.Trims.{trimmed}
 use Rattle.om_recover.specs.declared.row.RowKind.{RowKind}
 use Rattle.om_recover.specs.declared.row.RowKind.TheVariants.{Checkpoint, Log}
 use Rattle.om_manager.specs.Sound.{KeepsReleased}
@@ -33,7 +30,7 @@ use Rattle.om_world.specs.declared.event.Event.{Event}
 use Rattle.om_world.specs.declared.event.Refusal.{Refusal}
 use Rattle.om_world.specs.declared.event.Refusal.TheVariants as why
 use Rattle.om_process.specs.Core.{CoreState, CoreTurns, with_now, with_pending}
-use Rattle.om_world.specs.Changes.{HasFailed, HasGained, NoneFell, stored}
+use Rattle.om_world.specs.Changes.{HasFailed, NoneFell}
 use Rattle.om_world.specs.Happened.{HasRun}
 use Rattle.om_member.specs.declared.member.NotUp.{NotUp}
 pub use Rattle.om_member.specs.Members.{Gained, after_store, trimmed_core}

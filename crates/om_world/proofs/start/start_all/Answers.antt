@@ -1,4 +1,4 @@
-use Rattle.std.proofs.Common.{◌≡◌, ◌<◌, ◌⊎◌, inr, ◌∙◌, ◌+◌, ◌++◌, ◌∷◌, [], Some, Ok, Err, IfErr, ap, length, length-append, map, rules, subst, sym}
+use Rattle.std.proofs.Common.{◌≡◌, ◌<◌, ◌⊎◌, inr, ◌∙◌, ◌+◌, ◌++◌, ◌∷◌, [], Err, IfErr, ap, length, length-append, map, rules, subst, sym}
 use Rattle.std.proofs.lemmas.Iterator.Adapters.{YieldsList-from_vec}
 use Rattle.std.proofs.lemmas.Iterator.Consumers.{YieldsList-from_enumerate, YieldsList-turn}
 use Rattle.std.proofs.lemmas.Option.{slice_get_within}

@@ -1,4 +1,4 @@
-use Rattle.std.proofs.Common.{◌≡◌, ◌<◌, ◌≤◌, ◌∙◌, ℕ, Option, Some, length, subst, sym}
+use Rattle.std.proofs.Common.{◌<◌, ◌≤◌, ◌∙◌, ℕ, length, subst, sym}
 use Rattle.std.specs.Prelude.{slice_index}
 use Rattle.om_process.specs.Core.{CoreState, size_of}
 use Rattle.om_process.specs.Frames.{messages_to}

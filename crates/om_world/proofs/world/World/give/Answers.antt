@@ -7,7 +7,7 @@ use Rattle.om_world.specs.Happened.{GiveHappened, Happened}
 use Rattle.om_world.specs.World.{WorldState, health_of}
 use Rattle.om_world.specs.steps.Moves.{Keeps, answered}
 use Rattle.om_world.proofs.Acting.{offered_as_seen, offered_in, offered_world}
-use Rattle.om_world.proofs.Giving.{after_give, after_none, given_taken, none_taken, not_given, no_room, none_given, given_none, room_none}
+use Rattle.om_world.proofs.Giving.{after_give, after_none, given_taken, none_taken, no_room, none_given, given_none, room_none}
 use Rattle.om_world.proofs.Keeping.{keeps_by, keeps_seen}
 use Rattle.om_world.proofs.Lists.{lent_at}
 use Rattle.om_world.proofs.NotRunning.{told_not_running}

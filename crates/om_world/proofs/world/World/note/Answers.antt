@@ -1,4 +1,4 @@
-use Rattle.std.proofs.Common.{◌≡◌, ◌<◌, ◌∙◌, Ok, ap, subst, sym}
+use Rattle.std.proofs.Common.{◌≡◌, ◌<◌, Ok, subst, sym}
 use Rattle.std.specs.Prelude.{IfOk}
 use Rattle.om_world.specs.World.{health_of}
 use Rattle.om_world.specs.steps.Moves.{count_of, refusal_of_record, told_of}
