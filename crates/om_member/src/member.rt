@@ -1,11 +1,10 @@
 //! One process with its store.
 
-ghost use Rattle.std.specs.Prelude.{ℕ, ◌≡◌, ◌≢◌, ◌<◌, length, IfErr, IfNone, IfOk, IfSome, IsTrue, OnErr, OnOk, Err, None, Ok, Some, false};
+ghost use Rattle.std.specs.Prelude.{◌≡◌, ◌≢◌, ◌<◌, length, IfErr, IfNone, IfOk, IfSome, OnErr, OnOk, Err, None, Ok, Some, false};
 ghost use Rattle.om_manager.specs.State.{held_by, size_of as processes_of};
 ghost use Rattle.om_process.specs.Core.{CoreState, size_of};
 ghost use Rattle.om_process.specs.Resumes.{resumed};
 ghost use Rattle.om_process.specs.declared.replay.ReplayFault.{ReplayFault};
-ghost use Rattle.om_stable.specs.Content.{Content, kept_by_prune};
 ghost use Rattle.om_stable.specs.declared.error.StoreError.{StoreError};
 ghost use Rattle.om_member.specs.Handed.{AreHandedUpTo, MayHandIn, outputs_from};
 ghost use Rattle.om_member.specs.Keeps.{Keeps};

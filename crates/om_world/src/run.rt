@@ -5,7 +5,7 @@ ghost use Rattle.om_manager.specs.declared.answers.OutputError.{OutputError};
 ghost use Rattle.om_process.specs.Core.{CoreState};
 ghost use Rattle.om_process.specs.Frames.{outputs_of};
 ghost use Rattle.om_world.specs.Changes.{IsUp};
-ghost use Rattle.om_world.specs.Happened.{Happened, HasRun};
+ghost use Rattle.om_world.specs.Happened.{Happened};
 ghost use Rattle.om_world.specs.Played.{IsFaultless};
 ghost use Rattle.om_world.specs.World.{IsKnown};
 ghost use Rattle.om_world.specs.declared.event.Event.{Event};

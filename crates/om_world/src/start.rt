@@ -1,6 +1,6 @@
 //! Worlds at their start.
 
-ghost use Rattle.std.specs.Prelude.{ℕ, ◌≡◌, ◌⊎◌, ◌≤◌, ◌<◌, All, IfOk, IfErr, IsTrue, OnOk, Some, length, map, slice_get, true};
+ghost use Rattle.std.specs.Prelude.{◌≡◌, ◌⊎◌, ◌≤◌, ◌<◌, All, IfOk, IfErr, IsTrue, OnOk, Some, length, map, slice_get, true};
 ghost use Rattle.om_interval.specs.declared.pid.TheConstants.{MAX_PROCESSES};
 ghost use Rattle.om_process.specs.declared.start.StartFault.{StartFault};
 ghost use Rattle.om_world.specs.World.{IsKnown, all_clean, program_of};
