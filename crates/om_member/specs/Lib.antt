@@ -1,3 +1,4 @@
 pub mod Told
 pub mod Handed
 pub mod Keeps
+pub mod Members

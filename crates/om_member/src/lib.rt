@@ -1,14 +1,19 @@
-//! What a process tells the manager: each act once, for a world of one thread and for a worker under the board's lock.
+//! What a process does with its store, and what it tells the manager: each act once, for a world of one thread and for a worker
+//! under the board's lock.
 //!
-//! An act costs what the manager's calls cost. Nothing is trusted here.
+//! An act costs what the calls of the process, of its store and of the manager cost. A store is trusted as far as it says that it is
+//! clean.
 //!
-//! In an order of reading: `office` (the manager as a process reaches it), `telling` (rows), `handing` (outputs).
+//! In an order of reading: `office` (the manager as a process reaches it), `telling` (rows), `handing` (outputs), `member` (a
+//! process with its store, and all that it does).
 #![tactic(auto)]
 
 pub use handing::hand_in;
+pub use member::{Member, NotIn, NotUp, Standing};
 pub use office::Office;
 pub use telling::note;
 
 mod handing;
+mod member;
 mod office;
 mod telling;

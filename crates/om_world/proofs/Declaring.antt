@@ -3,7 +3,6 @@ use Rattle.std.proofs.Common.{◌≡◌, ◌≢◌, ◌⊎◌, inl, inr, ℕ, ze
 use Rattle.std.specs.Prelude.{slice_get, slice_index}
 use Rattle.std.proofs.lemmas.List.{get_or_default}
 use Rattle.om_interval.specs.Starts.{newest_of}
-use Rattle.om_interval.specs.declared.pid.TheConstants.{MAX_PROCESSES}
 use Rattle.om_process.specs.Core.{CoreState}
 use Rattle.om_manager.specs.Gatherings.{presence_of, presences_of}
 use Rattle.om_manager.specs.Rounds.{Failing, Fails, Gathers, Joining, MayJoin, with_failed, with_joined}
@@ -307,6 +306,3 @@ not_entered IsSound xs w p at fault m live i up stands j g = record {
   refused = ap (λ l. record w { live = l; manager = m }) g.refused ∙ ap (λ (k : ManagerState). record w { manager = k }) (same_joining w.manager m p at.0 at.1 fault j);
   memory = λ known opened. for_memory w m p at.0 at.1 stands.0 fault i.shape (i.clean known).1 up stands.1 stands.2 opened j;
 }
-
-pub is_few : (w : WorldState) (p : ℕ) (place : Place) → HasShape w → slice_get w.places p ≡ Some place → p < MAX_PROCESSES
-is_few w p place h at = let lt = inside w.places p place at in let long = h.places in let few = h.few in omega arith

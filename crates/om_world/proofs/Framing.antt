@@ -10,7 +10,8 @@ use Rattle.om_process.specs.Core.{CoreState, size_of}
 use Rattle.om_process.specs.Frames.{frame_at, frame_of, messages_to}
 use Rattle.om_process.specs.Kept.{numbered}
 use Rattle.om_process.proofs.Numbering.{length-numbered}
-use Rattle.om_world.specs.Changes.{all_messages, message_of, messages_behind, messages_in}
+use Rattle.om_world.specs.Changes.{message_of, messages_behind, messages_in}
+use Rattle.om_world.specs.steps.Running.{messages_past}
 use Rattle.om_world.proofs.Lists.{none_in, none_some, once, there}
 
 numbered_get : (c : CoreState) (to first k : ℕ) (es : List Entry) → slice_get (numbered (message_of c to) first es) k ≡ frame_of c to (first + k) (slice_get es k)
@@ -115,7 +116,7 @@ zero_at zero to = refl
 zero_at (suc n) zero = refl
 zero_at (suc n) (suc to) = zero_at n to
 
-pub frames_all : (cs : List (Option CoreState)) (p : ℕ) (c : CoreState) (few : List ℕ) (r : Result (Vec Message) AllocError) → slice_get cs p ≡ Some (Some c) → ((to : ℕ) → slice_index few to ≡ 0)
-    → IfOk r (λ frames. frames.items ≡ messages_behind c (λ to. slice_index few to) (size_of c.now)) → IfOk r (λ frames. (x : CoreState) × (slice_get cs p ≡ Some (Some x)) × (frames.items ≡ all_messages x))
-frames_all cs p c few (Ok frames) at none is = (c, at, is ∙ messages_same c (λ to. slice_index few to) (λ to. 0) (size_of c.now) none)
-frames_all cs p c few (Err e) at none is = tt
+pub frames_here : (cs : List (Option CoreState)) (p : ℕ) (c : CoreState) (few : List ℕ) (r : Result (Vec Message) AllocError) → slice_get cs p ≡ Some (Some c)
+    → IfOk r (λ frames. frames.items ≡ messages_behind c (λ to. slice_index few to) (size_of c.now)) → IfOk r (λ frames. (x : CoreState) × (slice_get cs p ≡ Some (Some x)) × (frames.items ≡ messages_past x few))
+frames_here cs p c few (Ok frames) at is = (c, at, is)
+frames_here cs p c few (Err e) at is = tt

@@ -37,3 +37,7 @@ pub mod Declaring
 pub mod Declared
 pub mod Entering
 pub mod Faultless
+pub mod Seats
+pub mod Acting
+pub mod Rising
+pub mod Seating

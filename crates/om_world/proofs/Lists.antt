@@ -1,7 +1,7 @@
 -- Lists of which one element changes.
-use Rattle.std.proofs.Common.{◌≡◌, ◌≢◌, ◌⊎◌, inl, inr, ℕ, zero, suc, ◌<◌, List, [], ◌∷◌, length, map, set, get_or, Option, Some, None, Result, Err, Bool, true, false, refl, sym, ap, ◌∙◌, subst, arith}
+use Rattle.std.proofs.Common.{◌≡◌, ◌≢◌, ◌⊎◌, inl, inr, ℕ, zero, suc, ◌<◌, List, [], ◌∷◌, length, map, set, get_or, Option, Some, None, Result, Err, Ok, Bool, true, false, refl, sym, ap, ◌∙◌, subst, arith}
 use Rattle.std.specs.List.{AllByRecursion}
-use Rattle.std.specs.Prelude.{◌&&◌, nat_eq, slice_get}
+use Rattle.std.specs.Prelude.{◌&&◌, IfNone, IfSome, nat_eq, slice_get}
 use Rattle.std.proofs.lemmas.Bool.Decides.{nat_tests}
 use Rattle.om_world.specs.World.{Health, all_clean}
 
@@ -10,6 +10,9 @@ none_in i s h = cc
 
 pub once : {A : Type 0} (a b : A) → Some a ≡ Some b → a ≡ b
 once a b e = cc
+
+pub once_ok : {T E : Type 0} (r : Result T E) (a b : T) → r ≡ Ok a → r ≡ Ok b → a ≡ b
+once_ok r a b e f = cc
 
 pub once_err : {T E : Type 0} (r : Result T E) (a b : E) → r ≡ Err a → r ≡ Err b → a ≡ b
 once_err r a b e f = cc
@@ -103,3 +106,12 @@ pub set_there : {A : Type 0} (xs : List A) (p : ℕ) (x y : A) → slice_get xs 
 set_there [] p x y at = absurd (none_in p x at)
 set_there (z ∷ xs) zero x y at = refl
 set_there (z ∷ xs) (suc p) x y at = set_there xs p x y at
+
+-- ---- what is said of an option
+pub if_some : {A : Type 0} (o : Option A) (P Q : A → Type 0) → ((a : A) → P a → Q a) → IfSome o P → IfSome o Q
+if_some (Some a) P Q goes is = goes a is
+if_some None P Q goes is = tt
+
+pub if_none : {A : Type 0} (o : Option A) (P Q : Type 0) → (P → Q) → IfNone o P → IfNone o Q
+if_none (Some a) P Q goes is = tt
+if_none None P Q goes is = goes is

@@ -1,5 +1,5 @@
 -- Frames that are made of what processes keep.
-use Rattle.std.proofs.Common.{◌≡◌, ◌⊎◌, inl, inr, ℕ, zero, suc, ◌+◌, ◌≤◌, ◌<◌, List, [], ◌∷◌, ◌++◌, length, drop, Option, Some, None, refl, sym, ◌∙◌, subst, arith}
+use Rattle.std.proofs.Common.{◌≡◌, ◌⊎◌, inl, inr, ℕ, zero, suc, ◌+◌, ◌≤◌, ◌<◌, List, [], ◌∷◌, ◌++◌, length, drop, Option, Some, None, refl, sym, ◌∙◌, subst, arith, ap}
 use Rattle.std.specs.Prelude.{slice_get}
 use Rattle.om_interval.specs.Starts.{newest_of}
 use Rattle.om_format.specs.declared.message.Message.{Message}
@@ -90,3 +90,6 @@ after_frames IsSound xs w p c few n fs i up at is = subst (λ l. IsWorld IsSound
 -- no message became a frame
 pub frames_stay : {S : Type 0} (IsSound : S → Type 0) (xs : List S) (w : WorldState) (frames : List Message) → IsWorld IsSound xs w → frames ≡ w.frames → IsWorld IsSound xs (remade w w.live frames w.cores w.manager w.contents w.health)
 frames_stay IsSound xs w frames i same = subst (λ l. IsWorld IsSound xs (remade w w.live l w.cores w.manager w.contents w.health)) (sym same) i
+
+pub resent : (w v : WorldState) (frames more all : List Message) → w ≡ v → frames ≡ w.frames ++ more → more ≡ all → record w { frames = frames } ≡ record v { frames = v.frames ++ all }
+resent w v frames more all e is same = ap (λ l. record w { frames = l }) (is ∙ ap (λ l. w.frames ++ l) same) ∙ ap (λ (x : WorldState). record x { frames = x.frames ++ all }) e

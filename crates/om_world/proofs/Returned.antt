@@ -52,7 +52,7 @@ after_on IsSound xs w p round cores i lt due knows is =
 
 -- ---- its store was called
 -- a replay failed with its store
-abbrev IsFault : Result CoreState ReplayFault → Type 0
+abbrev pub IsFault : Result CoreState ReplayFault → Type 0
 IsFault answer = answer ≡ Err Fault
 
 -- what is known where all stores are clean after the call

@@ -64,23 +64,15 @@ why_not content failed is_clean IsSound program p n before after Present place s
 why_not content failed is_clean IsSound program p n before after Fault place s = s.fault refl
 why_not content failed is_clean IsSound program p n before after Memory place s = tt
 
-pub is_start : {S : Type 0} (content : S → Content) (failed : S → ℕ) (is_clean : S → Bool) (IsSound : S → Type 0) (program : Program) (p n : ℕ) (xs : List S) (before after : S) (result : Result CoreState StartFault) → p < n → n ≤ MAX_PROCESSES → slice_get xs p ≡ Some before
-    → Says content failed is_clean IsSound program p n before after result → IsStart content failed is_clean IsSound program p n xs (set xs p after) result
-is_start content failed is_clean IsSound program p n xs before after (Ok core) lt few at s = record {
-  before = before;
-  after = after;
-  there = at;
-  stores = refl;
+pub is_start : {S : Type 0} (content : S → Content) (failed : S → ℕ) (is_clean : S → Bool) (IsSound : S → Type 0) (program : Program) (p n : ℕ) (before after : S) (result : Result CoreState StartFault) → p < n → n ≤ MAX_PROCESSES
+    → Says content failed is_clean IsSound program p n before after result → IsStart content failed is_clean IsSound program p n before after result
+is_start content failed is_clean IsSound program p n before after (Ok core) lt few s = record {
   core = s.started;
   loadable = loadable content failed is_clean IsSound program p n before after core (record { within = few; place = lt }) s;
   over = record { stored = s.stored; free = s.free; clean = s.clean; sound = s.sound };
   why = tt;
 }
-is_start content failed is_clean IsSound program p n xs before after (Err fault) lt few at s = record {
-  before = before;
-  after = after;
-  there = at;
-  stores = refl;
+is_start content failed is_clean IsSound program p n before after (Err fault) lt few s = record {
   core = tt;
   loadable = tt;
   over = tt;
@@ -118,11 +110,11 @@ none_started content is_clean IsSound programs n xs = record {
     below : (p : ℕ) → p < 0 → ⊥
     below p lt = omega arith
 
-pub one_started : {S : Type 0} (content : S → Content) (failed : S → ℕ) (is_clean : S → Bool) (IsSound : S → Type 0) (programs : List Program) (n k : ℕ) (cores : List (Option CoreState)) (xs ys zs : List S) (program : Program) (core : CoreState)
-    → slice_get programs k ≡ Some program → AreStarted content is_clean IsSound programs n k cores xs ys → IsStart content failed is_clean IsSound program k n ys zs (Ok core) → AreStarted content is_clean IsSound programs n (k + 1) (cores ++ Some core ∷ []) xs zs
-one_started content failed is_clean IsSound programs n k cores xs ys zs program core at a s = subst (AreStarted content is_clean IsSound programs n (k + 1) (cores ++ Some core ∷ []) xs) (sym s.stores) (record {
+pub one_started : {S : Type 0} (content : S → Content) (failed : S → ℕ) (is_clean : S → Bool) (IsSound : S → Type 0) (programs : List Program) (n k : ℕ) (cores : List (Option CoreState)) (xs ys : List S) (before after : S) (program : Program) (core : CoreState)
+    → slice_get programs k ≡ Some program → AreStarted content is_clean IsSound programs n k cores xs ys → slice_get ys k ≡ Some before → IsStart content failed is_clean IsSound program k n before after (Ok core) → AreStarted content is_clean IsSound programs n (k + 1) (cores ++ Some core ∷ []) xs (set ys k after)
+one_started content failed is_clean IsSound programs n k cores xs ys start after program core at a begun s = record {
   many = length-append cores (Some core ∷ []) ∙ ap (λ x. x + 1) a.many;
-  size = length-set ys k s.after ∙ a.size;
+  size = length-set ys k after ∙ a.size;
   cores = λ p other lt f. elim (next_of p k lt) [
     | inl old ↦ at_front cores (Some core ∷ []) p (Some (started_core other p n)) (a.cores p other old f)
     | inr same ↦
@@ -134,28 +126,28 @@ one_started content failed is_clean IsSound programs n k cores xs ys zs program 
     | inr same ↦ subst IsLoadable (sym (once other program (sym f ∙ ap (slice_get programs) same ∙ at))) s.loadable
   ];
   done = λ p other before lt f was. elim (next_of p k lt) [
-    | inl old ↦ let d = a.done p other before old f was in (d.0, set_apart ys k p s.after (apart p k old) ∙ d.1, d.2)
+    | inl old ↦ let d = a.done p other before old f was in (d.0, set_apart ys k p after (apart p k old) ∙ d.1, d.2)
     | inr same ↦
         let is : other ≡ program = once other program (sym f ∙ ap (slice_get programs) same ∙ at) in
-        let first : s.before ≡ before = once s.before before (sym s.there ∙ a.left k (omega arith) ∙ ap (slice_get xs) (sym same) ∙ was) in
+        let first : start ≡ before = once start before (sym begun ∙ a.left k (omega arith) ∙ ap (slice_get xs) (sym same) ∙ was) in
         let core_is : core ≡ started_core other p n = s.core ∙ ap (λ x. started_core x k n) (sym is) ∙ ap (λ x. started_core other x n) (sym same) in
-        (s.after, ap (slice_get (set ys k s.after)) same ∙ set_here ys k s.before s.after s.there, subst (λ c. IsStartedOver content is_clean IsSound c before s.after) core_is (subst (λ b. IsStartedOver content is_clean IsSound core b s.after) first s.over))
+        (after, ap (slice_get (set ys k after)) same ∙ set_here ys k start after begun, subst (λ c. IsStartedOver content is_clean IsSound c before after) core_is (subst (λ b. IsStartedOver content is_clean IsSound core b after) first s.over))
   ];
-  left = λ p le. set_apart ys k p s.after (omega arith) ∙ a.left p (omega arith);
-})
+  left = λ p le. set_apart ys k p after (omega arith) ∙ a.left p (omega arith);
+}
   where
     apart : (p k : ℕ) → p < k → p ≢ k
     apart p k lt = omega arith
 
-pub refused_at : {S : Type 0} (content : S → Content) (failed : S → ℕ) (is_clean : S → Bool) (IsSound : S → Type 0) (programs : List Program) (n k : ℕ) (cores : List (Option CoreState)) (xs ys zs : List S) (program : Program) (why : StartFault)
-    → slice_get programs k ≡ Some program → AreStarted content is_clean IsSound programs n k cores xs ys → IsStart content failed is_clean IsSound program k n ys zs (Err why) → IsRefusedAt content failed is_clean IsSound programs xs why
-refused_at content failed is_clean IsSound programs n k cores xs ys zs program why at a s = record {
+pub refused_at : {S : Type 0} (content : S → Content) (failed : S → ℕ) (is_clean : S → Bool) (IsSound : S → Type 0) (programs : List Program) (n k : ℕ) (cores : List (Option CoreState)) (xs ys : List S) (before after : S) (program : Program) (why : StartFault)
+    → slice_get programs k ≡ Some program → AreStarted content is_clean IsSound programs n k cores xs ys → slice_get ys k ≡ Some before → IsStart content failed is_clean IsSound program k n before after (Err why) → IsRefusedAt content failed is_clean IsSound programs xs why
+refused_at content failed is_clean IsSound programs n k cores xs ys start end program why at a begun s = record {
   place = k;
   program = program;
   is_program = at;
-  store = s.before;
-  is_store = sym (a.left k (omega arith)) ∙ s.there;
-  after = s.after;
+  store = start;
+  is_store = sym (a.left k (omega arith)) ∙ begun;
+  after = end;
   why = s.why;
   earlier = a.loadable;
   free = λ always q other before lt f was sound. let d = a.done q other before lt f was in d.2.free (always d.0, sound);

@@ -9,8 +9,6 @@ use Rattle.om_process.proofs.Replays.{keeps_trim}
 use Rattle.om_process.proofs.Vectors.{places_at}
 use Rattle.om_manager.specs.Bounds.{AreGotFrom}
 use Rattle.om_manager.specs.State.{released_by}
-use Rattle.om_world.specs.Changes.{IsUp}
-use Rattle.om_world.specs.Happened.{TrimHappened}
 use Rattle.om_world.specs.World.{WorldState, past_of, history, recovered}
 use Rattle.om_world.specs.steps.Moves.{trimmed_core}
 use Rattle.om_world.specs.steps.Sound.{HasShape, IsWorld, KeptWithin, Sound}
@@ -95,8 +93,3 @@ after_trim IsSound xs w p got released cs i lt g is t =
                 (λ u. record { round = u.round; starts = u.starts; inc = u.inc; away = u.away }) refl refl,
           );
     })
-
-pub trim_happened : (w : WorldState) (p : ℕ) (got : List ℕ) (released : ℕ) (cs : List (Option CoreState)) → IsUp w p → AreGotFrom w.manager.rows w.manager.recovery p got → released ≡ length (released_by w.manager p) → IsTrimmedIn w p got released cs
-    → TrimHappened w p (remade w w.live w.frames cs w.manager w.contents w.health)
-trim_happened w p got released cs up g is t =
-    (up, t.0, t.1, got, g, ap (λ l. remade w w.live w.frames l w.manager w.contents w.health) (t.2 ∙ ap (λ k. set w.cores p (Some (trimmed_core t.0 got k))) is))

@@ -1,6 +1,5 @@
 -- What is said of several events: who changes, what is sent, handed in and stored.
-use Rattle.std.specs.Prelude.{◌≡◌, ◌⊎◌, ℕ, zero, suc, ◌<◌, ◌≤◌, List, [], ◌∷◌, ◌++◌, length, take, drop, slice_get, slice_set, None, Some, Ok}
-use Rattle.std.specs.FinMap.{get}
+use Rattle.std.specs.Prelude.{◌≡◌, ◌⊎◌, ℕ, zero, suc, ◌<◌, ◌≤◌, List, [], ◌∷◌, ◌++◌, length, take, drop, slice_get, slice_set, Some, Ok}
 use Rattle.om_format.specs.declared.message.Message.{Message}
 use Rattle.om_format.specs.Queues.{queue_end}
 use Rattle.om_stable.specs.Content.{Content}
@@ -10,15 +9,14 @@ use Rattle.om_process.specs.declared.row.Row as pending
 use Rattle.om_process.specs.Core.{CoreState, size_of, with_pending}
 use Rattle.om_process.specs.Frames.{messages_to, outputs_of}
 use Rattle.om_process.specs.Kept.{numbered}
-use Rattle.om_process.specs.Stores.{HasGainedLog, HasGainedCheckpoint, flushed, checkpointed}
 use Rattle.om_recover.specs.declared.note.Note.{Note}
 use Rattle.om_recover.specs.declared.row.RowKind.{RowKind}
-use Rattle.om_recover.specs.declared.row.RowKind.TheVariants.{Checkpoint, Log}
 use Rattle.om_manager.specs.Notes.{Notes}
 use Rattle.om_manager.specs.Outputs.{HeldOutput}
 use Rattle.om_manager.specs.State.{ManagerState, held_by}
 use Rattle.om_world.specs.declared.place.Place.{Place}
 use Rattle.om_world.specs.World.{Health, WorldState}
+pub use Rattle.om_member.specs.Members.{HasGained, stored}
 pub use Rattle.om_member.specs.Told.{row_for}
 
 -- what was received stays, and who is up
@@ -91,16 +89,6 @@ abbrev pub NotesAll : ManagerState → ℕ → List pending.Row → ManagerState
 NotesAll old p [] new = new ≡ old
 NotesAll old p (row ∷ rows) new =
     (mid : ManagerState) × (note : Note) × Notes old old.round (row_for p row) (Ok note) mid × NotesAll mid p rows new
-
--- the store has gained what the core keeps of its kind: the receipts of its log, or a checkpoint of now, where none was
-abbrev pub HasGained : RowKind → CoreState → Content → Content → Type 0
-HasGained Log c before after = HasGainedLog c before after
-HasGained Checkpoint c before after = (get before.checkpoints c.now.interval ≡ None) × HasGainedCheckpoint c before after
-
--- the core once that is stored
-abbrev pub stored : RowKind → CoreState → CoreState
-stored Log c = flushed c
-stored Checkpoint c = checkpointed c
 
 -- the store of process p gained it
 abbrev pub HasStored : RowKind → WorldState → ℕ → CoreState → WorldState → Type 0

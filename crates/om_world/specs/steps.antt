@@ -5,6 +5,7 @@ pub mod Starting
 pub mod Running
 pub mod Pruning
 pub mod Counts
+pub mod Members
 pub mod Gathering
 pub mod Returning
 pub mod Codes

@@ -1,6 +1,7 @@
 ghost use Rattle.std.specs.Prelude.{◌≡◌};
 
 use om_manager::{FailError, Gathered, JoinError, OutputError, RecordError};
+use om_member::{NotIn, NotUp};
 use om_process::{Accept, ReplayFault, Status};
 use om_recover::NoteError;
 use om_stable::StoreError;
@@ -94,6 +95,26 @@ pub enum Refusal {
     Damaged,
     /// Memory ran out.
     Memory,
+}
+
+impl From<NotUp> for Refusal {
+    ghost use Rattle.om_world.specs.declared.event.Refusal.TheVariants as why;
+
+    ghost from_gives = { λ _ refusal. refusal ≡ why.NotUp };
+
+    fn from(_e: NotUp) -> Refusal {
+        Refusal::NotUp
+    }
+}
+
+impl From<NotIn> for Refusal {
+    ghost use Rattle.om_world.specs.declared.event.Refusal.TheVariants as why;
+
+    ghost from_gives = { λ _ refusal. refusal ≡ why.NotIn };
+
+    fn from(_e: NotIn) -> Refusal {
+        Refusal::NotIn
+    }
 }
 
 impl From<AllocError> for Refusal {

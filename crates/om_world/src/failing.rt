@@ -1,15 +1,13 @@
 //! Processes that fail.
 
 ghost use Rattle.std.specs.Prelude.{◌≡◌, ◌<◌, length, slice_get, Some, false};
-ghost use Rattle.om_interval.specs.declared.pid.TheConstants.{MAX_PROCESSES};
-ghost use Rattle.om_manager.specs.Rounds.{Failing};
 ghost use Rattle.om_world.specs.Failures.{live_after};
 ghost use Rattle.om_world.specs.Happened.{Happened};
 ghost use Rattle.om_world.specs.Played.{IsFaultless};
 ghost use Rattle.om_world.specs.World.{IsKnown};
 ghost use Rattle.om_world.specs.declared.event.Event.{Event};
 ghost use Rattle.om_world.specs.declared.place.Place.{Place};
-ghost use Rattle.om_world.specs.steps.Gathering.{HasDeclared, HasGathered, IsFailure};
+ghost use Rattle.om_world.specs.steps.Gathering.{HasDeclared, IsFailure};
 ghost use Rattle.om_world.specs.steps.Moves.{Keeps, answered};
 
 use crate::event::{Answer, Refusal};
@@ -41,30 +39,13 @@ pub(crate) fn cut_where_finished(live: &mut Live, manager: &Manager, told: Gathe
     }
 }
 
-// Declares a failure to the manager, and cuts what was received where that finishes the round.
-fn declare_to(
-    manager: &mut Manager,
-    live: &mut Live,
-    alloc: Global,
-    p: usize,
-    round: u32,
-) -> Result<Gathered, FailError>
-    requires { p < MAX_PROCESSES }
-    ensures answer { Failing manager.old p round result manager.new }
-    ensures gathered { HasGathered manager.old live.old.entries result manager.new live.new.entries }
-{
-    let told = manager.fail(alloc, Pid::at(p), round)?;
-    cut_where_finished(live, manager, told);
-    Ok(told)
-}
-
 impl<S: Stable> World<S> {
     // What a failure of the process comes to.
     fn failure(&self, p: usize) -> Failure
         requires { p < length self.now.programs }
         ensures { IsFailure self.now p result }
     {
-        match self.places[p] {
+        match self.place(p) {
             Place::Up => Failure::New,
             Place::In => {
                 if self.has_news(p) {
@@ -88,9 +69,9 @@ impl<S: Stable> World<S> {
         requires { slice_get self.old.places p ≡ Some (Place.Down false) }
         ensures { HasDeclared self.old p result self.new }
     {
-        let round = self.rounds[p];
-        let told = declare_to(&mut self.manager, &mut self.live, alloc, p, round)?;
-        self.places[p] = Place::Down { declared: true };
+        let member = &mut self.members[p];
+        let told = member.declare(&mut self.manager, alloc, Pid::at(p))?;
+        cut_where_finished(&mut self.live, &self.manager, told);
         Ok(told)
     }
 }

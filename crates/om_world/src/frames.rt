@@ -3,11 +3,11 @@
 ghost use Rattle.std.specs.Prelude.{ℕ, ◌≡◌, ◌≤◌, ◌<◌, ◌++◌, drop, length, slice_get, slice_index, Some, IfOk, OnErr, OnOk};
 ghost use Rattle.om_world.specs.declared.event.Event.{Event};
 ghost use Rattle.om_world.specs.Played.{IsFaultless};
-ghost use Rattle.om_world.specs.steps.Moves.{HasCore, Keeps, answered};
+ghost use Rattle.om_world.specs.steps.Moves.{Keeps, answered};
 ghost use Rattle.om_world.specs.steps.Running.{HasSent, KeepsMore, messages_past};
 ghost use Rattle.om_process.specs.Core.{CoreState, size_of};
 ghost use Rattle.om_process.specs.Frames.{messages_to};
-ghost use Rattle.om_world.specs.Changes.{IsUp, all_messages, messages_behind, messages_in};
+ghost use Rattle.om_world.specs.Changes.{IsUp, messages_behind, messages_in};
 ghost use Rattle.om_world.specs.Happened.{Happened};
 
 use crate::event::{Answer, Refusal};
@@ -55,40 +55,25 @@ fn frames_behind(
     Ok(frames)
 }
 
-// The messages that the process at a place keeps, on their way.
-fn frames_at(
-    cores: &Vec<Option<ProcCore>>,
-    p: usize,
-    alloc: Global,
-) -> Result<Vec<Message>, AllocError>
-    requires { HasCore cores.now.items p }
-    ensures { IfOk result (λ frames. (c : CoreState) × (slice_get cores.now.items p ≡ Some (Some c))
-        × (frames.items ≡ all_messages c)) }
-{
-    match &cores[p] {
-        Some(core) => frames_behind(alloc, core, &[0; MAX_PROCESSES]),
-        None => unreachable!(),
-    }
-}
-
-// Of the messages that the process at a place keeps, those behind the first few to each process, on their way.
-fn new_frames_at(
-    cores: &Vec<Option<ProcCore>>,
-    p: usize,
-    alloc: Global,
-    few: &[usize; MAX_PROCESSES],
-) -> Result<Vec<Message>, AllocError>
-    requires { KeepsMore cores.now.items p few.now }
-    ensures { IfOk result (λ frames. (c : CoreState) × (slice_get cores.now.items p ≡ Some (Some c))
-        × (frames.items ≡ messages_past c few.now)) }
-{
-    match &cores[p] {
-        Some(core) => frames_behind(alloc, core, few),
-        None => unreachable!(),
-    }
-}
-
 impl<S: Stable> World<S> {
+    // Of the messages that a process keeps, those behind the first few to each process, on their way: none where it is down.
+    fn frames_past(
+        &self,
+        alloc: Global,
+        p: usize,
+        few: &[usize; MAX_PROCESSES],
+    ) -> Result<Vec<Message>, AllocError>
+        requires { KeepsMore self.now.cores p few.now }
+        ensures { IfOk result (λ frames. (c : CoreState) × (slice_get self.now.cores p ≡ Some (Some c))
+            × (frames.items ≡ messages_past c few.now)) }
+    {
+        let member = &self.members[p];
+        match member.core() {
+            Some(core) => frames_behind(alloc, core, few),
+            None => Ok(Vec::new(alloc)),
+        }
+    }
+
     // Makes the messages of a process behind the first few to each process new frames, and says how many they are.
     pub(crate) fn send(
         &mut self,
@@ -101,7 +86,7 @@ impl<S: Stable> World<S> {
         ensures sent { IfOk result (λ sent. HasSent self.old p few.now sent self.new) }
         ensures refused { OnErr result (self.new ≡ self.old) }
     {
-        let mut frames = new_frames_at(&self.cores, p, alloc, few)?;
+        let mut frames = self.frames_past(alloc, p, few)?;
         let sent = frames.len();
         self.frames.append(&mut frames)?;
         Ok(sent)
@@ -114,7 +99,7 @@ impl<S: Stable> World<S> {
         ensures faultless { IsFaultless (answered result) }
     {
         self.is_up(p)?;
-        let mut frames = frames_at(&self.cores, p, alloc)?;
+        let mut frames = self.frames_past(alloc, p, &[0; MAX_PROCESSES])?;
         let count = frames.len();
         self.frames.append(&mut frames)?;
         Ok(Answer::Resent(count))

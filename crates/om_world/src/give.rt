@@ -5,13 +5,13 @@ ghost use Rattle.om_world.specs.Happened.{Happened};
 ghost use Rattle.om_world.specs.Played.{IsFaultless};
 ghost use Rattle.om_world.specs.World.{entry_of};
 ghost use Rattle.om_world.specs.declared.event.Event.{Event};
-ghost use Rattle.om_world.specs.steps.Moves.{HasCore, IsOffered, Keeps, answered};
+ghost use Rattle.om_world.specs.steps.Moves.{Keeps, answered};
 
 use crate::entry::Entry;
 use crate::event::{Answer, Refusal};
 use crate::world::World;
 use om_format::Message;
-use om_process::{Accept, ProcCore};
+use om_process::Accept;
 use om_stable::Stable;
 use std::alloc::{AllocError, Global};
 
@@ -28,17 +28,6 @@ fn entry_for(alloc: Global, message: &Message) -> Result<Entry, AllocError>
     })
 }
 
-// Offers a message to the process at a place.
-fn offer_at(cores: &mut Vec<Option<ProcCore>>, p: usize, alloc: Global, message: &Message) -> Accept
-    requires { HasCore cores.old.items p }
-    ensures { IsOffered cores.old.items p message.now result cores.new.items }
-{
-    match &mut cores[p] {
-        Some(core) => core.accept(alloc, message),
-        None => unreachable!(),
-    }
-}
-
 impl<S: Stable> World<S> {
     // Offers a frame to a process.
     pub(crate) fn give(&mut self, alloc: Global, p: usize, f: usize) -> Result<Answer, Refusal>
@@ -53,7 +42,9 @@ impl<S: Stable> World<S> {
         let message = &self.frames[f];
         let entry = entry_for(alloc, message)?;
         self.live.make_room()?;
-        match offer_at(&mut self.cores, p, alloc, message) {
+        let member = &mut self.members[p];
+        let told = member.accept(alloc, message)?;
+        match told {
             Accept::Taken(x) => {
                 self.live.add(entry);
                 Ok(Answer::Given(Accept::Taken(x)))

@@ -1,55 +1,32 @@
 //! Processes that join a gathering.
 
-ghost use Rattle.std.specs.Prelude.{◌≡◌, ◌≢◌, ◌<◌, IfErr, IfOk, None};
-ghost use Rattle.om_interval.specs.declared.pid.TheConstants.{MAX_PROCESSES};
-ghost use Rattle.om_manager.specs.Rounds.{Joining};
+ghost use Rattle.std.specs.Prelude.{◌≡◌, ◌≢◌, IfErr, IfOk, None, Ok, Result};
+ghost use Rattle.om_manager.specs.declared.answers.Gathered.{Gathered};
+ghost use Rattle.om_manager.specs.declared.answers.JoinError.{JoinError};
 ghost use Rattle.om_world.specs.Changes.{IsUp};
 ghost use Rattle.om_world.specs.Happened.{Happened};
 ghost use Rattle.om_world.specs.Played.{IsCounted, IsFaultless};
 ghost use Rattle.om_world.specs.World.{IsKnown};
 ghost use Rattle.om_world.specs.declared.event.Event.{Event};
 ghost use Rattle.om_world.specs.declared.event.Refusal.{Refusal};
-ghost use Rattle.om_world.specs.steps.Gathering.{HasEntered, HasGathered, StandsIn};
-ghost use Rattle.om_world.specs.steps.Moves.{HasCore, Keeps, answered};
+ghost use Rattle.om_world.specs.steps.Gathering.{HasEntered};
+ghost use Rattle.om_world.specs.steps.Moves.{Keeps, answered, refusal_of_join, told_of};
 
 use crate::event::{Answer, Refusal};
 use crate::failing::cut_where_finished;
-use crate::live::Live;
-use crate::place::Place;
 use crate::world::World;
 use om_interval::Pid;
-use om_manager::{Gathered, JoinError, Manager};
-use om_process::ProcCore;
+use om_manager::{Gathered, JoinError};
+use om_member::NotUp;
 use om_recover::RowKind;
 use om_stable::Stable;
 use std::alloc::Global;
 
-// The round and the interval of the process at a place.
-fn standing_at(cores: &Vec<Option<ProcCore>>, p: usize) -> (u32, u32)
-    requires { HasCore cores.now.items p }
-    ensures { StandsIn cores.now.items p result }
+// What is told of a process that joins.
+fn told_joined(answer: Result<Result<Gathered, JoinError>, NotUp>) -> Result<Gathered, Refusal>
+    ensures { result ≡ told_of refusal_of_join answer }
 {
-    match &cores[p] {
-        Some(core) => (core.round(), core.interval()),
-        None => unreachable!(),
-    }
-}
-
-// Tells the manager that a process joins, and cuts what was received where that finishes the round.
-fn join_to(
-    manager: &mut Manager,
-    live: &mut Live,
-    alloc: Global,
-    p: usize,
-    at: (u32, u32),
-) -> Result<Gathered, JoinError>
-    requires { p < MAX_PROCESSES }
-    ensures answer { Joining manager.old p at.0 at.1 result manager.new }
-    ensures gathered { HasGathered manager.old live.old.entries result manager.new live.new.entries }
-{
-    let told = manager.join(alloc, Pid::at(p), at.0, at.1)?;
-    cut_where_finished(live, manager, told);
-    Ok(told)
+    Ok(answer??)
 }
 
 impl<S: Stable> World<S> {
@@ -66,13 +43,14 @@ impl<S: Stable> World<S> {
     }
 
     // Takes a process that is up into the gathering.
-    fn enter(&mut self, alloc: Global, p: usize) -> Result<Gathered, JoinError>
+    fn enter(&mut self, alloc: Global, p: usize) -> Result<Gathered, Refusal>
         requires { IsUp self.old p }
-        ensures { HasEntered self.old p result self.new }
+        ensures { (answer : Result Gathered JoinError) × HasEntered self.old p answer self.new
+            × (result ≡ told_of refusal_of_join (Ok answer)) }
     {
-        let at = standing_at(&self.cores, p);
-        let told = join_to(&mut self.manager, &mut self.live, alloc, p, at)?;
-        self.places[p] = Place::In;
+        let member = &mut self.members[p];
+        let told = told_joined(member.join(&mut self.manager, alloc, Pid::at(p)))?;
+        cut_where_finished(&mut self.live, &self.manager, told);
         Ok(told)
     }
 }
@@ -89,8 +67,7 @@ impl<S: Stable> World<S> {
         self.is_up(p)?;
         self.is_gathering()?;
         self.store(alloc, p, RowKind::Log)?;
-        let (_, end) = self.note(alloc, p);
-        end?;
+        self.note(alloc, p)?;
         self.hand_in(alloc, p)?;
         let told = self.enter(alloc, p)?;
         Ok(Answer::Gathered(told))

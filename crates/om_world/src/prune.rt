@@ -1,43 +1,19 @@
 //! What the manager and the stores need not keep.
 
-ghost use Rattle.std.specs.Prelude.{ℕ, ◌≡◌, ◌≢◌, ◌<◌, length, Err};
-ghost use Rattle.om_interval.specs.declared.pid.TheConstants.{MAX_PROCESSES};
-ghost use Rattle.om_manager.specs.State as managers;
+ghost use Rattle.std.specs.Prelude.{◌≡◌, ◌≢◌, ◌<◌, length, Err};
 ghost use Rattle.om_stable.specs.declared.error.StoreError.{StoreError};
 ghost use Rattle.om_world.specs.Happened.{Happened, ManagerPruned};
-ghost use Rattle.om_recover.specs.Cutting.{IsEffective};
 ghost use Rattle.om_world.specs.Played.{IsCounted, IsFaultless};
-ghost use Rattle.om_world.specs.World.{IsKnown, health_of, recovered};
+ghost use Rattle.om_world.specs.World.{IsKnown};
 ghost use Rattle.om_world.specs.declared.event.Event.{Event};
-ghost use Rattle.om_world.specs.steps.Moves.{IsCalled, Keeps, answered};
-ghost use Rattle.om_world.specs.steps.Pruning.{AllPruned, HasPruned, WasPruned};
+ghost use Rattle.om_world.specs.steps.Moves.{Keeps, answered};
+ghost use Rattle.om_world.specs.steps.Pruning.{AllPruned, HasPruned};
 
 use crate::event::{Answer, Refusal};
 use crate::world::World;
 use om_interval::Pid;
-use om_manager::Manager;
 use om_stable::{Stable, StoreError};
 use std::alloc::Global;
-
-// Removes from the store at a place what stands before the effective checkpoint of its process.
-fn prune_at<S: Stable>(
-    stores: &mut Vec<S>,
-    manager: &Manager,
-    p: usize,
-    alloc: Global,
-) -> Result<(), StoreError>
-    requires store { p < length stores.old.items }
-    requires few { p < MAX_PROCESSES }
-    requires known { p < managers.size_of manager.now }
-    ensures called { (c : ℕ) × IsEffective manager.now.rows p (recovered manager.now p) c
-        × IsCalled S.content (health_of S.is_clean S.failed) S.IsSound (result ≡ Err StoreError.Fault)
-        stores.old.items stores.new.items p (WasPruned c result) }
-    ensures never_present { result ≢ Err StoreError.Present }
-    ensures faultless { ((store : S) → S.failed store ≡ 0) → result ≢ Err StoreError.Fault }
-{
-    let store = &mut stores[p];
-    store.prune(alloc, manager.effective(Pid::at(p)))
-}
 
 impl<S: Stable> World<S> {
     // How many processes there are, each with its store.
@@ -62,7 +38,8 @@ impl<S: Stable> World<S> {
         ensures pruned { HasPruned self.old p result self.new }
         ensures faultless { ((store : S) → S.failed store ≡ 0) → result ≢ Err StoreError.Fault }
     {
-        prune_at(&mut self.stores, &self.manager, p, alloc)
+        let member = &mut self.members[p];
+        member.prune(alloc, self.manager.effective(Pid::at(p)))
     }
 
     // Prunes the stores in order, up to the first that refuses.

@@ -1,73 +1,34 @@
 //! Processes that are taken down, and that are up again after a finished round.
 
-ghost use Rattle.std.specs.Prelude.{◌≡◌, ◌≢◌, ◌<◌, ◌↔◌, length, slice_get, false, true, Err, IfErr, IfOk, IsTrue, OnErr, OnOk, Some};
-ghost use Rattle.om_interval.specs.declared.pid.TheConstants.{MAX_PROCESSES};
-ghost use Rattle.om_manager.specs.State as managers;
+ghost use Rattle.std.specs.Prelude.{◌≡◌, ◌≢◌, ◌<◌, ◌↔◌, length, slice_get, false, true, Err, IfErr, IfOk, IsTrue, Ok, OnErr, OnOk, Some};
 ghost use Rattle.om_process.specs.declared.replay.ReplayFault.{ReplayFault};
 ghost use Rattle.om_world.specs.Failures.{HasNews, IsToGoOn, taken_down};
 ghost use Rattle.om_world.specs.Happened.{Happened, Refused};
 ghost use Rattle.om_world.specs.Played.{IsCounted, IsFaultless};
-ghost use Rattle.om_world.specs.World.{IsKnown, health_of};
+ghost use Rattle.om_world.specs.World.{IsKnown};
 ghost use Rattle.om_world.specs.declared.event.Event.{Event};
 ghost use Rattle.om_world.specs.declared.event.Refusal.{Refusal};
 ghost use Rattle.om_world.specs.declared.place.Place.TheVariants as places;
-ghost use Rattle.om_world.specs.steps.Moves.{IsCalled, Keeps, answered};
-ghost use Rattle.om_world.specs.steps.Returning.{FitsStarts, HasGoneOn, HasLeft, IsBackIn, IsBeyond, IsDue, IsRolledBack, KnowsRound, Returns};
+ghost use Rattle.om_world.specs.steps.Moves.{Keeps, answered};
+ghost use Rattle.om_world.specs.steps.Returning.{HasGoneOn, HasLeft, IsBeyond, IsDue, Returns};
 
 use crate::event::{Answer, Refusal};
 use crate::place::Place;
 use crate::world::World;
 use om_interval::Pid;
-use om_manager::Manager;
-use om_process::{Down, ProcCore, ReplayFault};
+use om_member::NotIn;
+use om_process::{Down, ReplayFault};
 use om_stable::Stable;
 use std::alloc::{AllocError, Global};
 
-// The process at a place goes on as it was, with what the last round says.
-fn go_on_at(
-    cores: &mut Vec<Option<ProcCore>>,
-    manager: &Manager,
-    p: usize,
-    alloc: Global,
-) -> Result<(), AllocError>
-    requires core { FitsStarts cores.old.items p manager.now.starts }
-    requires few { p < MAX_PROCESSES }
-    requires known { p < managers.size_of manager.now }
-    ensures on { OnOk result (KnowsRound cores.old.items p manager.now cores.new.items) }
-    ensures refused { OnErr result (cores.new.items ≡ cores.old.items) }
+// What is told of a process that goes on.
+fn told_on(answer: Result<Result<(), AllocError>, NotIn>) -> Result<(), Refusal>
+    ensures on { IfOk answer (λ answer. IfOk answer (λ done. result ≡ Ok done)) }
+    ensures stopped { IfOk answer (λ answer. OnErr answer (result ≡ Err Refusal.Memory)) }
+    ensures not_in { OnErr answer (result ≡ Err Refusal.NotIn) }
 {
-    let verdict = manager.verdict(Pid::at(p));
-    match &mut cores[p] {
-        Some(core) => core.resume(alloc, manager.starts(), &verdict),
-        None => unreachable!(),
-    }
-}
-
-// Replays the process at a place to where the last round cut it, and cuts its store to there.
-fn roll_back_at<S: Stable>(
-    stores: &mut Vec<S>,
-    manager: &Manager,
-    p: usize,
-    alloc: Global,
-) -> Result<ProcCore, ReplayFault>
-    requires store { p < length stores.old.items }
-    requires few { p < MAX_PROCESSES }
-    requires known { p < managers.size_of manager.now }
-    ensures back { IfOk result (λ core. IsBackIn manager.now p core) }
-    ensures called { IsCalled S.content (health_of S.is_clean S.failed) S.IsSound (result ≡ Err ReplayFault.Fault)
-        stores.old.items stores.new.items p (IsRolledBack manager.now p result) }
-    ensures faultless { ((store : S) → S.failed store ≡ 0) → result ≢ Err ReplayFault.Fault }
-{
-    let down = Down {
-        pid: Pid::at(p),
-        n: manager.recovery().n(),
-    };
-    let verdict = manager.verdict(Pid::at(p));
-    let store = &mut stores[p];
-    match down.roll_back(alloc, store, manager.starts(), &verdict) {
-        Ok(core) => Ok(core),
-        Err((_, fault)) => Err(fault),
-    }
+    answer??;
+    Ok(())
 }
 
 impl<S: Stable> World<S> {
@@ -76,7 +37,8 @@ impl<S: Stable> World<S> {
         requires { p < length self.now.programs }
         ensures { IsTrue result ↔ HasNews self.now p }
     {
-        self.rounds[p] < self.manager.round()
+        let member = &self.members[p];
+        member.round < self.manager.round()
     }
 
     // Takes a process down, with nothing declared.
@@ -85,8 +47,8 @@ impl<S: Stable> World<S> {
         requires undeclared { slice_get self.old.places p ≢ Some (places.Down true) }
         ensures { self.new ≡ taken_down self.old p false }
     {
-        self.cores[p] = None;
-        self.places[p] = Place::Down { declared: false };
+        let member = &mut self.members[p];
+        member.fail();
     }
 
     // Takes a process down that is in.
@@ -94,23 +56,23 @@ impl<S: Stable> World<S> {
         requires { p < length self.old.programs }
         ensures { HasLeft self.old p self.new }
     {
-        match self.places[p] {
+        match self.place(p) {
             Place::In => self.take_down(p),
             _ => {}
         }
     }
 
     // A process that is in and not rolled back goes on as it was.
-    fn go_on(&mut self, alloc: Global, p: usize) -> Result<(), AllocError>
+    fn go_on(&mut self, alloc: Global, p: usize) -> Result<(), Refusal>
         requires there { p < length self.old.programs }
         requires due { IsToGoOn self.old p }
         ensures on { OnOk result (HasGoneOn self.old p self.new) }
         ensures refused { OnErr result (self.new ≡ self.old) }
+        ensures stopped { IfErr result (λ why. why ≡ Refusal.Memory) }
     {
-        go_on_at(&mut self.cores, &self.manager, p, alloc)?;
-        self.places[p] = Place::Up;
-        self.rounds[p] = self.manager.round();
-        Ok(())
+        let verdict = self.manager.verdict(Pid::at(p));
+        let member = &mut self.members[p];
+        told_on(member.go_on(alloc, self.manager.starts(), &verdict))
     }
 
     // Brings a process back that a round found, and says in which interval and incarnation it is.
@@ -120,12 +82,13 @@ impl<S: Stable> World<S> {
         ensures back { Returns self.old p result self.new }
         ensures faultless { ((store : S) → S.failed store ≡ 0) → result ≢ Err ReplayFault.Fault }
     {
-        let core = roll_back_at(&mut self.stores, &self.manager, p, alloc)?;
-        let place = (core.interval(), core.inc());
-        self.cores[p] = Some(core);
-        self.places[p] = Place::Up;
-        self.rounds[p] = self.manager.round();
-        Ok(place)
+        let verdict = self.manager.verdict(Pid::at(p));
+        let down = Down {
+            pid: Pid::at(p),
+            n: self.manager.recovery().n(),
+        };
+        let member = &mut self.members[p];
+        member.come_back(alloc, down, self.manager.starts(), &verdict)
     }
 
     // Whether a process is rolled back as it comes up again: it is down, or the last round says so.
@@ -142,7 +105,7 @@ impl<S: Stable> World<S> {
         if !self.has_news(p) {
             return Err(Refusal::NotIn);
         }
-        match self.places[p] {
+        match self.place(p) {
             // Who is up knows the last round, where what the stores hold is known.
             Place::Up => Err(Refusal::NotIn),
             Place::In => Ok(self.manager.verdict(Pid::at(p)).back),

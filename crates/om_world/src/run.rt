@@ -1,42 +1,40 @@
 //! Runs of the processes.
 
-ghost use Rattle.std.specs.Prelude.{◌≡◌, ◌<◌, length, IfOk, slice_get, slice_set, Some};
-ghost use Rattle.om_interval.specs.declared.pid.TheConstants.{MAX_PROCESSES};
-ghost use Rattle.om_manager.specs.State as managers;
-ghost use Rattle.om_manager.specs.State.{held_by};
+ghost use Rattle.std.specs.Prelude.{◌≡◌, length, IfErr, IfOk, Result, Ok, slice_get, Some};
+ghost use Rattle.om_manager.specs.declared.answers.OutputError.{OutputError};
 ghost use Rattle.om_process.specs.Core.{CoreState};
 ghost use Rattle.om_process.specs.Frames.{outputs_of};
 ghost use Rattle.om_world.specs.Changes.{IsUp};
-ghost use Rattle.om_world.specs.Happened.{Happened, HasRun};
+ghost use Rattle.om_world.specs.Happened.{Happened};
 ghost use Rattle.om_world.specs.Played.{IsFaultless};
 ghost use Rattle.om_world.specs.World.{IsKnown};
 ghost use Rattle.om_world.specs.declared.event.Event.{Event};
-ghost use Rattle.om_world.specs.steps.Moves.{GoesOn, HasCore, HasRunAt, Keeps, answered};
-ghost use Rattle.om_world.specs.steps.Running.{AreHandedUpTo, AreKept, HasHandedIn, IsHanded, outputs_from};
+ghost use Rattle.om_world.specs.declared.event.Refusal.{Refusal};
+ghost use Rattle.om_world.specs.steps.Moves.{GoesOn, HasRunAt, Keeps, answered, told_of};
+ghost use Rattle.om_world.specs.steps.Running.{AreKept, HasHandedIn, refusal_of_output};
 
 use crate::event::{Answer, Refusal};
 use crate::world::World;
 use om_interval::{MAX_PROCESSES, Pid};
-use om_manager::{Manager, OutputError};
+use om_manager::OutputError;
+use om_member::NotUp;
 use om_process::{ProcCore, Ran};
 use om_stable::Stable;
 use std::alloc::{AllocError, Global};
 
-// Runs the process at a place.
-fn run_at(
-    cores: &mut Vec<Option<ProcCore>>,
-    p: usize,
-    alloc: Global,
-    fuel: u64,
-) -> Result<Ran, AllocError>
-    requires { HasCore cores.old.items p }
-    ensures goes_on { GoesOn cores.old.items p fuel cores.new.items }
-    ensures ran { IfOk result (λ ran. HasRunAt cores.old.items p fuel ran cores.new.items) }
+// What is told of a run.
+fn told_ran(answer: Result<Result<Ran, AllocError>, NotUp>) -> Result<Ran, Refusal>
+    ensures { result ≡ told_of (λ _. Refusal.Memory) answer }
 {
-    match &mut cores[p] {
-        Some(core) => core.run(alloc, fuel),
-        None => unreachable!(),
-    }
+    Ok(answer??)
+}
+
+// What is told of outputs that a process handed in.
+fn told_handed(answer: Result<Result<(), OutputError>, NotUp>) -> Result<(), Refusal>
+    ensures { result ≡ told_of refusal_of_output answer }
+{
+    answer??;
+    Ok(())
 }
 
 // How many messages to each process a process keeps.
@@ -50,80 +48,51 @@ pub(crate) fn messages_kept(core: &ProcCore) -> [usize; MAX_PROCESSES]
     counts
 }
 
-// How many messages to each process the process at a place keeps.
-fn messages_at(cores: &Vec<Option<ProcCore>>, p: usize) -> [usize; MAX_PROCESSES]
-    requires { HasCore cores.now.items p }
-    ensures { (c : CoreState) × (slice_get cores.now.items p ≡ Some (Some c)) × AreKept c result }
-{
-    match &cores[p] {
-        Some(core) => messages_kept(core),
-        None => unreachable!(),
-    }
-}
-
-// How many outputs the process at a place keeps.
-fn outputs_at(cores: &Vec<Option<ProcCore>>, p: usize) -> usize
-    requires { HasCore cores.now.items p }
-    ensures { (c : CoreState) × (slice_get cores.now.items p ≡ Some (Some c)) × (result ≡ length (outputs_of c).entries) }
-{
-    match &cores[p] {
-        Some(core) => core.outputs_from(0).len(),
-        None => unreachable!(),
-    }
-}
-
-// Hands in the outputs of the process at a place from the manager's next one on.
-fn hand_at(
-    cores: &Vec<Option<ProcCore>>,
-    manager: &mut Manager,
-    p: usize,
-    alloc: Global,
-) -> Result<(), OutputError>
-    requires core { HasCore cores.now.items p }
-    requires few { p < MAX_PROCESSES }
-    requires known { p < managers.size_of manager.old }
-    ensures { (c : CoreState) × (slice_get cores.now.items p ≡ Some (Some c))
-        × AreHandedUpTo manager.old c.round p (outputs_from c (length (held_by manager.old p))) result manager.new }
-{
-    match &cores[p] {
-        Some(core) => om_member::hand_in(core, manager, alloc, Pid::at(p)),
-        None => unreachable!(),
-    }
-}
-
 impl<S: Stable> World<S> {
     // Runs a process that is up.
-    pub(crate) fn turns(&mut self, alloc: Global, p: usize, fuel: u64) -> Result<Ran, AllocError>
+    pub(crate) fn turns(&mut self, alloc: Global, p: usize, fuel: u64) -> Result<Ran, Refusal>
         requires { IsUp self.old p }
         ensures goes_on { GoesOn self.old.cores p fuel self.new.cores }
         ensures rest { self.new ≡ record self.old { cores = self.new.cores } }
         ensures ran { IfOk result (λ ran. HasRunAt self.old.cores p fuel ran self.new.cores) }
+        ensures stopped { IfErr result (λ why. why ≡ Refusal.Memory) }
     {
-        run_at(&mut self.cores, p, alloc, fuel)
+        let member = &mut self.members[p];
+        told_ran(member.run(alloc, fuel))
     }
 
-    // How many messages to each process a process that is up keeps.
+    // How many messages to each process a process keeps: none where it is down.
     fn messages(&self, p: usize) -> [usize; MAX_PROCESSES]
         requires { IsUp self.now p }
         ensures { (c : CoreState) × (slice_get self.now.cores p ≡ Some (Some c)) × AreKept c result }
     {
-        messages_at(&self.cores, p)
+        let member = &self.members[p];
+        match member.core() {
+            Some(core) => messages_kept(core),
+            None => [0; MAX_PROCESSES],
+        }
     }
 
-    // How many outputs a process that is up keeps.
+    // How many outputs a process keeps: none where it is down.
     fn outputs(&self, p: usize) -> usize
         requires { IsUp self.now p }
         ensures { (c : CoreState) × (slice_get self.now.cores p ≡ Some (Some c)) × (result ≡ length (outputs_of c).entries) }
     {
-        outputs_at(&self.cores, p)
+        let member = &self.members[p];
+        match member.core() {
+            Some(core) => core.outputs_from(0).len(),
+            None => 0,
+        }
     }
 
     // Hands in what a process that is up made and the manager has not.
-    pub(crate) fn hand_in(&mut self, alloc: Global, p: usize) -> Result<(), OutputError>
+    pub(crate) fn hand_in(&mut self, alloc: Global, p: usize) -> Result<(), Refusal>
         requires { IsUp self.old p }
-        ensures { HasHandedIn self.old p result self.new }
+        ensures { (end : Result (Unit {0}) OutputError) × HasHandedIn self.old p end self.new
+            × (result ≡ told_of refusal_of_output (Ok end)) }
     {
-        hand_at(&self.cores, &mut self.manager, p, alloc)
+        let member = &self.members[p];
+        told_handed(member.hand_in(&mut self.manager, alloc, Pid::at(p)))
     }
 }
 

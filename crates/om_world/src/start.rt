@@ -1,20 +1,19 @@
 //! Worlds at their start.
 
-ghost use Rattle.std.specs.Prelude.{ℕ, ◌≡◌, ◌⊎◌, ◌≤◌, ◌<◌, All, IfOk, IfErr, IsTrue, OnOk, Some, length, map, replicate, slice_get, true};
+ghost use Rattle.std.specs.Prelude.{◌≡◌, ◌⊎◌, ◌≤◌, ◌<◌, All, IfOk, IfErr, IsTrue, OnOk, Some, length, map, slice_get, true};
 ghost use Rattle.om_interval.specs.declared.pid.TheConstants.{MAX_PROCESSES};
 ghost use Rattle.om_process.specs.declared.start.StartFault.{StartFault};
-ghost use Rattle.om_world.specs.declared.place.Place.{Place};
 ghost use Rattle.om_world.specs.World.{IsKnown, all_clean, program_of};
 ghost use Rattle.om_world.specs.Holds.{Holds};
 ghost use Rattle.om_manager.specs.Sound.{IsManager};
 ghost use Rattle.om_world.specs.Started.{HaveFirst, IsLoadable, IsNew, IsRefusedAt, IsStarted};
-ghost use Rattle.om_world.specs.steps.Starting.{AreStarted, IsStart};
+ghost use Rattle.om_world.specs.steps.Starting.{AreSeated, IsStart};
 
 use crate::live::Live;
-use crate::place::Place;
 use crate::world::World;
 use om_interval::Pid;
 use om_manager::Manager;
+use om_member::Member;
 use om_process::{Image, ProcCore, StartFault};
 use om_stable::Stable;
 use std::alloc::{AllocError, Global};
@@ -40,21 +39,19 @@ fn copies_of(alloc: Global, images: &[Image]) -> Result<Vec<Image>, AllocError>
     Ok(copies)
 }
 
-// Starts the process at a place.
+// Starts the process at a place over its store.
 fn start_at<S: Stable>(
     alloc: Global,
     images: &[Image],
-    stores: &mut Vec<S>,
+    store: &mut S,
     p: usize,
 ) -> Result<ProcCore, StartFault>
     requires place { p < length images.now }
     requires few { length images.now ≤ MAX_PROCESSES }
-    requires stores { length stores.old.items ≡ length images.now }
     ensures { (image : _) × (slice_get images.now p ≡ Some image) × IsStart S.content S.failed S.is_clean S.IsSound
-        (program_of image) p (length images.now) stores.old.items stores.new.items result }
+        (program_of image) p (length images.now) store.old store.new result }
 {
     let image = &images[p];
-    let store = &mut stores[p];
     ProcCore::start(
         alloc,
         &image.bytes,
@@ -70,22 +67,23 @@ fn start_at<S: Stable>(
 fn start_all<S: Stable>(
     alloc: Global,
     images: &[Image],
-    stores: &mut Vec<S>,
-) -> Result<Vec<Option<ProcCore>>, StartFault>
+    stores: Vec<S>,
+) -> Result<Vec<Member<S>>, StartFault>
     requires few { length images.now ≤ MAX_PROCESSES }
-    requires stores { length stores.old.items ≡ length images.now }
-    ensures started { IfOk result (λ cores. AreStarted S.content S.is_clean S.IsSound (map program_of images.now)
-        (length images.now) (length images.now) cores.items stores.old.items stores.new.items) }
+    requires stores { length stores.items ≡ length images.now }
+    ensures started { IfOk result (λ members. AreSeated S.content S.is_clean S.IsSound (map program_of images.now)
+        (length images.now) (length images.now) stores.items members.items) }
     ensures refused { IfErr result (λ fault. (fault ≡ StartFault.Memory)
-        ⊎ IsRefusedAt S.content S.failed S.is_clean S.IsSound (map program_of images.now) stores.old.items fault) }
+        ⊎ IsRefusedAt S.content S.failed S.is_clean S.IsSound (map program_of images.now) stores.items fault) }
 {
-    let mut cores = Vec::new(alloc);
-    for p in 0..images.len() {
-        cores.try_reserve(1)?;
-        let core = start_at(alloc, images, stores, p)?;
-        cores.push_reserved(Some(core));
+    let mut members = Vec::new(alloc);
+    for (p, store) in stores.into_iter().enumerate() {
+        members.try_reserve(1)?;
+        let mut store = store;
+        let core = start_at(alloc, images, &mut store, p)?;
+        members.push_reserved(Member::new(core, store));
     }
-    Ok(cores)
+    Ok(members)
 }
 
 // The manager of so many processes at their start.
@@ -99,20 +97,6 @@ fn new_manager(alloc: Global, n: usize) -> Result<Manager, AllocError>
     // Reading the recovery state says what holds of every manager.
     let _ = manager.recovery();
     Ok(manager)
-}
-
-// So many places of processes that are up.
-fn all_up(alloc: Global, n: usize) -> Result<Vec<Place>, AllocError>
-    ensures { IfOk result (λ places. places.items ≡ replicate n Place.Up) }
-{
-    vec![in alloc; Place::Up; n]
-}
-
-// So many zeros.
-fn no_rounds(alloc: Global, n: usize) -> Result<Vec<u32>, AllocError>
-    ensures { IfOk result (λ rounds. rounds.items ≡ replicate n 0) }
-{
-    vec![in alloc; 0; n]
 }
 
 impl<S: Stable> World<S> {
@@ -142,18 +126,12 @@ impl<S: Stable> World<S> {
         let origins = Snapshot::of(&stores);
         let copies = copies_of(alloc, images)?;
         let manager = new_manager(alloc, n)?;
-        let places = all_up(alloc, n)?;
-        let rounds = no_rounds(alloc, n)?;
-        let mut stores = stores;
-        let cores = start_all(alloc, images, &mut stores)?;
+        let members = start_all(alloc, images, stores)?;
         Ok(World {
             images: copies,
             live: Live::new(alloc),
             frames: Vec::new(alloc),
-            cores,
-            places,
-            rounds,
-            stores,
+            members,
             manager,
             origins,
         })

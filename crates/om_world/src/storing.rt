@@ -1,85 +1,62 @@
 //! Records that are stored, and rows that are noted.
 
-ghost use Rattle.std.specs.Prelude.{◌≡◌, ◌≢◌, ◌<◌, drop, length, slice_get, slice_set, true, Err, Some};
-ghost use Rattle.om_interval.specs.declared.pid.TheConstants.{MAX_PROCESSES};
+ghost use Rattle.std.specs.Prelude.{ℕ, ◌≡◌, ◌≢◌, IfOk, OnErr, Result, Err, Ok};
 ghost use Rattle.om_world.specs.Changes.{IsUp};
 ghost use Rattle.om_stable.specs.declared.error.StoreError.{StoreError};
 ghost use Rattle.om_world.specs.Happened.{Happened};
 ghost use Rattle.om_world.specs.Played.{IsCounted, IsFaultless};
-ghost use Rattle.om_world.specs.World.{IsKnown, health_of};
-ghost use Rattle.om_process.specs.Core.{CoreState, with_pending};
-ghost use Rattle.om_world.specs.steps.Moves.{Gained, HasCalled, HasCore, HasTold, IsCalled, IsTold, IsToldUpTo, Keeps, after_store, answered, event_of};
+ghost use Rattle.om_world.specs.World.{IsKnown};
+ghost use Rattle.om_manager.specs.declared.answers.RecordError.{RecordError};
+ghost use Rattle.om_world.specs.declared.event.Refusal.{Refusal};
+ghost use Rattle.om_world.specs.steps.Moves.{HasCalled, HasTold, Keeps, answered, count_of, event_of, refusal_of_record, refusal_of_store, told_of};
 
 use crate::event::{Answer, Refusal};
 use crate::world::World;
 use om_interval::Pid;
-use om_manager::{Manager, RecordError};
-use om_process::ProcCore;
+use om_manager::RecordError;
+use om_member::NotUp;
 use om_recover::RowKind;
 use om_stable::{Stable, StoreError};
 use std::alloc::Global;
 
-// Stores what the process at a place keeps of a kind: its log, or a checkpoint of now.
-fn store_at<S: Stable>(
-    cores: &mut Vec<Option<ProcCore>>,
-    stores: &mut Vec<S>,
-    p: usize,
-    alloc: Global,
-    kind: RowKind,
-) -> Result<(), StoreError>
-    requires core { HasCore cores.old.items p }
-    requires store { p < length stores.old.items }
-    ensures called { (c : CoreState) × (slice_get cores.old.items p ≡ Some (Some c))
-        × (cores.new.items ≡ slice_set cores.old.items p (Some (after_store kind c result)))
-        × IsCalled S.content (health_of S.is_clean S.failed) S.IsSound (result ≡ Err StoreError.Fault)
-        stores.old.items stores.new.items p (Gained kind c result) }
-    ensures faultless { ((store : S) → S.failed store ≡ 0) → result ≢ Err StoreError.Fault }
+// What is told of records that a process stored.
+fn told_stored(answer: Result<Result<(), StoreError>, NotUp>) -> Result<(), Refusal>
+    ensures { result ≡ told_of refusal_of_store answer }
 {
-    let store = &mut stores[p];
-    match &mut cores[p] {
-        Some(core) => match kind {
-            RowKind::Log => core.flush(alloc, store),
-            RowKind::Checkpoint => core.checkpoint(alloc, store),
-        },
-        None => unreachable!(),
-    }
+    answer??;
+    Ok(())
 }
 
-// Offers the pending rows of the process at a place, and drops those that were not refused.
-fn note_at(
-    cores: &mut Vec<Option<ProcCore>>,
-    manager: &mut Manager,
-    p: usize,
-    alloc: Global,
-) -> (usize, Result<(), RecordError>)
-    requires core { HasCore cores.old.items p }
-    requires few { p < MAX_PROCESSES }
-    ensures { (c : CoreState) × (slice_get cores.old.items p ≡ Some (Some c))
-        × IsToldUpTo manager.old c.round p c.pending result.0 result.1 manager.new
-        × (cores.new.items ≡ slice_set cores.old.items p (Some (with_pending c (drop result.0 c.pending)))) }
+// What is told of rows that a process had noted.
+fn told_noted(answer: Result<(usize, Result<(), RecordError>), NotUp>) -> Result<usize, Refusal>
+    ensures noted { IfOk answer (λ told. result ≡ told_of refusal_of_record (Ok (count_of told.0 told.1))) }
+    ensures not_up { OnErr answer (result ≡ Err Refusal.NotUp) }
 {
-    match &mut cores[p] {
-        Some(core) => om_member::note(core, manager, alloc, Pid::at(p)),
-        None => unreachable!(),
-    }
+    let (count, end) = answer?;
+    end?;
+    Ok(count)
 }
 
 impl<S: Stable> World<S> {
     // Stores what a process that is up keeps of a kind.
-    pub(crate) fn store(&mut self, alloc: Global, p: usize, kind: RowKind) -> Result<(), StoreError>
+    pub(crate) fn store(&mut self, alloc: Global, p: usize, kind: RowKind) -> Result<(), Refusal>
         requires { IsUp self.old p }
-        ensures called { HasCalled kind self.old p result self.new }
-        ensures faultless { ((store : S) → S.failed store ≡ 0) → result ≢ Err StoreError.Fault }
+        ensures called { (answer : Result (Unit {0}) StoreError) × HasCalled kind self.old p answer self.new
+            × (result ≡ told_of refusal_of_store (Ok answer)) }
+        ensures faultless { ((store : S) → S.failed store ≡ 0) → result ≢ Err Refusal.Fault }
     {
-        store_at(&mut self.cores, &mut self.stores, p, alloc, kind)
+        let member = &mut self.members[p];
+        told_stored(member.store(alloc, kind))
     }
 
-    // Notes the pending rows of a process that is up.
-    pub(crate) fn note(&mut self, alloc: Global, p: usize) -> (usize, Result<(), RecordError>)
+    // Notes the pending rows of a process that is up, and says how many they are.
+    pub(crate) fn note(&mut self, alloc: Global, p: usize) -> Result<usize, Refusal>
         requires { IsUp self.old p }
-        ensures { HasTold self.old p result.0 result.1 self.new }
+        ensures { (count : ℕ) × (end : Result (Unit {0}) RecordError) × HasTold self.old p count end self.new
+            × (result ≡ told_of refusal_of_record (Ok (count_of count end))) }
     {
-        note_at(&mut self.cores, &mut self.manager, p, alloc)
+        let member = &mut self.members[p];
+        told_noted(member.note(&mut self.manager, alloc, Pid::at(p)))
     }
 }
 
@@ -98,8 +75,7 @@ impl<S: Stable> World<S> {
     {
         self.is_up(p)?;
         self.store(alloc, p, kind)?;
-        let (count, end) = self.note(alloc, p);
-        end?;
+        let count = self.note(alloc, p)?;
         Ok(Answer::Noted(count))
     }
 }

@@ -1,6 +1,6 @@
 //! The world.
 
-ghost use Rattle.std.specs.Prelude.{◌≡◌, ◌<◌, ◌≤◌, length, map, slice_get, IfOk, IfErr, IfNone, IfSome, IsTrue, Some, true};
+ghost use Rattle.std.specs.Prelude.{◌≡◌, ◌<◌, length, map, slice_get, IfOk, IfErr, IfNone, IfSome, IsTrue, Some, true};
 ghost use Rattle.om_process.specs.Core.{CoreState, size_of};
 ghost use Rattle.om_world.specs.Changes.{IsUp};
 ghost use Rattle.om_world.specs.Happened.{NotRunning};
@@ -14,6 +14,7 @@ use crate::place::Place;
 use om_format::Message;
 use om_interval::Pid;
 use om_manager::Manager;
+use om_member::Member;
 use om_process::{Image, ProcCore};
 use om_stable::Stable;
 use std::marker::Model;
@@ -25,11 +26,8 @@ pub struct World<S: Stable> {
     pub(crate) images: Vec<Image>,
     pub(crate) live: Live,
     pub(crate) frames: Vec<Message>,
-    // By process, as are the next three.
-    pub(crate) cores: Vec<Option<ProcCore>>,
-    pub(crate) places: Vec<Place>,
-    pub(crate) rounds: Vec<u32>,
-    pub(crate) stores: Vec<S>,
+    // By process.
+    pub(crate) members: Vec<Member<S>>,
     pub(crate) manager: Manager,
     // What the stores were before the start.
     pub(crate) origins: Snapshot<Vec<S>>,
@@ -39,6 +37,7 @@ impl<S: Stable> Model for World<S> {
     ghost use Rattle.std.specs.Prelude.{map, ◌≡◌, true};
     ghost use Rattle.om_world.specs.World.{WorldState, health_of, program_of};
     ghost use Rattle.om_world.specs.steps.Codes.{coded_health};
+    ghost use Rattle.om_world.specs.steps.Members.{seen, sound_in};
     ghost use Rattle.om_world.specs.steps.Sound.{IsWorld};
     ghost use Rattle.om_stable.specs.Content.{content_code};
     ghost use Rattle.om_manager.specs.steps.Codes.{coded_manager};
@@ -48,31 +47,12 @@ impl<S: Stable> Model for World<S> {
 
     ghost coded = { Prim.hlevel (codes, coded_health, content_code, coded_manager) };
 
-    ghost view = { λ w. record {
-      programs = map program_of w.images.items;
-      live = w.live.entries;
-      frames = w.frames.items;
-      cores = w.cores.items;
-      places = w.places.items;
-      rounds = w.rounds.items;
-      manager = w.manager;
-      contents = map S.content w.stores.items;
-      health = map (health_of S.is_clean S.failed) w.stores.items;
-      origins = map S.content w.origins.value.items;
-    } };
+    ghost view = { λ w. seen S.content (health_of S.is_clean S.failed) (map program_of w.images.items) w.live.entries
+        w.frames.items w.members.items w.manager (map S.content w.origins.value.items) };
 
-    ghost invariant = { λ w. IsWorld S.IsSound w.stores.items (record {
-      programs = map program_of w.images.items;
-      live = w.live.entries;
-      frames = w.frames.items;
-      cores = w.cores.items;
-      places = w.places.items;
-      rounds = w.rounds.items;
-      manager = w.manager;
-      contents = map S.content w.stores.items;
-      health = map (health_of S.is_clean S.failed) w.stores.items;
-      origins = map S.content w.origins.value.items;
-    }) };
+    ghost invariant = { λ w. IsWorld (sound_in S.IsSound) w.members.items
+        (seen S.content (health_of S.is_clean S.failed) (map program_of w.images.items) w.live.entries w.frames.items
+        w.members.items w.manager (map S.content w.origins.value.items)) };
 }
 
 impl<S: Stable> World<S> {
@@ -97,9 +77,9 @@ impl<S: Stable> World<S> {
         ensures size { IfSome result (λ core. size_of core.now.now ≡ length self.now.programs) }
         ensures none { IfNone result ((core : CoreState) → slice_get self.now.cores pid ≡ Some (Some core) → ⊥) }
     {
-        match self.cores.get(pid.index()) {
-            Some(Some(core)) => Some(core),
-            _ => None,
+        match self.members.get(pid.index()) {
+            Some(member) => member.core(),
+            None => None,
         }
     }
 }
@@ -114,6 +94,15 @@ impl<S: Stable> World<S> {
         let _ = &self.live;
     }
 
+    // Where a process stands.
+    pub(crate) fn place(&self, p: usize) -> Place
+        requires { p < length self.now.programs }
+        ensures { slice_get self.now.places p ≡ Some result }
+    {
+        let member = &self.members[p];
+        Place::of(&member.standing)
+    }
+
     // Whether the process is there and up.
     pub(crate) fn is_up(&self, p: usize) -> Result<(), Refusal>
         ensures up { IfOk result (λ _. IsUp self.now p) }
@@ -123,7 +112,7 @@ impl<S: Stable> World<S> {
         if p >= self.images.len() {
             return Err(Refusal::NoProcess);
         }
-        if self.places[p] != Place::Up {
+        if self.place(p) != Place::Up {
             return Err(Refusal::NotUp);
         }
         Ok(())

@@ -1,13 +1,10 @@
 -- What a call makes of the cores.
-use Rattle.std.specs.Prelude.{◌≡◌, ℕ, ◌≤◌, List, [], ◌∷◌, ◌++◌, length, drop, slice_get, slice_set, true, IsTrue, IsSome, Option, Some, Result, Ok, Err, IfErr}
-use Rattle.std.specs.FinMap.{get}
-use Rattle.om_stable.specs.Content.{Content, IsTaken}
+use Rattle.std.specs.Prelude.{◌≡◌, ℕ, ◌≤◌, List, length, drop, slice_get, slice_set, true, IsTrue, Option, Some, Result, Ok, Err, IfErr}
+use Rattle.om_stable.specs.Content.{Content}
 use Rattle.om_stable.specs.Count.{Rose}
 use Rattle.om_stable.specs.declared.error.StoreError.{StoreError}
 use Rattle.om_stable.specs.declared.error.StoreError.TheVariants.{Present}
 use Rattle.om_stable.specs.declared.error.StoreError.TheVariants as store_errors
-use Rattle.om_process.specs.Stores.{first_logged}
-use Rattle.om_process.specs.Trims.{trimmed}
 use Rattle.om_recover.specs.declared.row.RowKind.{RowKind}
 use Rattle.om_recover.specs.declared.row.RowKind.TheVariants.{Checkpoint, Log}
 use Rattle.om_manager.specs.Sound.{KeepsReleased}
@@ -33,8 +30,10 @@ use Rattle.om_world.specs.declared.event.Event.{Event}
 use Rattle.om_world.specs.declared.event.Refusal.{Refusal}
 use Rattle.om_world.specs.declared.event.Refusal.TheVariants as why
 use Rattle.om_process.specs.Core.{CoreState, CoreTurns, with_now, with_pending}
-use Rattle.om_world.specs.Changes.{HasFailed, HasGained, NoneFell, stored}
+use Rattle.om_world.specs.Changes.{HasFailed, NoneFell}
 use Rattle.om_world.specs.Happened.{HasRun}
+use Rattle.om_member.specs.declared.member.NotUp.{NotUp}
+pub use Rattle.om_member.specs.Members.{Gained, after_store, trimmed_core}
 pub use Rattle.om_member.specs.Told.{AreTold, IsTold, IsToldUpTo}
 
 -- there is a core at this place
@@ -74,18 +73,18 @@ abbrev pub answered : Result Answer Refusal → Answer
 answered (Ok answer) = answer
 answered (Err why) = answers.Refused why
 
+-- what is told of an act of a process, by what came of it: of a process that is not up, just that
+abbrev pub told_of : {T E : Type 0} → (E → Refusal) → Result (Result T E) NotUp → Result T Refusal
+told_of refusal (Ok (Ok value)) = Ok value
+told_of refusal (Ok (Err fault)) = Err (refusal fault)
+told_of refusal (Err not_up) = Err why.NotUp
+
+-- how many rows were noted, where none was refused
+abbrev pub count_of : ℕ → Result (Unit {0}) RecordError → Result ℕ RecordError
+count_of count (Ok done) = Ok count
+count_of count (Err fault) = Err fault
+
 -- ---- stores
--- what a store answered: it gained what was put there, or nothing, and then it was present only where one was there
-abbrev pub Gained : RowKind → CoreState → Result (Unit {0}) StoreError → Content → Content → Type 0
-Gained kind c (Ok done) before after = HasGained kind c before after
-Gained Log c (Err fault) before after =
-    (after ≡ before) × (fault ≡ Present → IsTaken before.receipts (first_logged c) (length c.log))
-Gained Checkpoint c (Err fault) before after = (after ≡ before) × (fault ≡ Present → IsSome (get before.checkpoints c.now.interval))
-
-abbrev pub after_store : RowKind → CoreState → Result (Unit {0}) StoreError → CoreState
-after_store kind c (Ok done) = stored kind c
-after_store kind c (Err why) = c
-
 -- one of the stores took a call, which did this to its content; where the call failed, the store counts it
 pub record IsCalled {S : Type 0} (content : S → Content) (health : S → Health) (IsSound : S → Type 0) (Failed : Type 0)
     (old new : List S) (p : ℕ) (Did : Content → Content → Type 0) : Type 0 where
@@ -164,7 +163,3 @@ abbrev pub refusal_of_replay : ReplayFault → Refusal
 refusal_of_replay replays.Fault = why.Fault
 refusal_of_replay replays.Memory = why.Memory
 refusal_of_replay other = why.Damaged
-
--- a core that keeps nothing below these numbers
-abbrev pub trimmed_core : CoreState → List ℕ → ℕ → CoreState
-trimmed_core c got released = with_now c (trimmed (got ++ released ∷ []) c.now)

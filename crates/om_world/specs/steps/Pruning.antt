@@ -1,17 +1,13 @@
 -- What the calls of a prune do.
-use Rattle.std.specs.Prelude.{◌≡◌, ◌≢◌, ℕ, ◌<◌, ◌≤◌, length, slice_get, slice_set, true, Some, Result, Ok, Err, OnOk, IfErr}
-use Rattle.om_stable.specs.Content.{Content, kept_by_prune}
+use Rattle.std.specs.Prelude.{◌≡◌, ◌≢◌, ℕ, ◌<◌, ◌≤◌, length, slice_get, slice_set, true, Some, Result, Err, OnOk, IfErr}
+use Rattle.om_stable.specs.Content.{Content}
 use Rattle.om_stable.specs.declared.error.StoreError.{StoreError}
 use Rattle.om_stable.specs.declared.error.StoreError.TheVariants.{Fault, Present}
 use Rattle.om_recover.specs.Cutting.{IsEffective}
 use Rattle.om_world.specs.Changes.{HasFailed, NoneFell}
+pub use Rattle.om_member.specs.Members.{WasPruned}
 use Rattle.om_world.specs.Happened.{StorePruned}
 use Rattle.om_world.specs.World.{WorldState, IsKnown, all_clean, recovered}
-
--- a store was pruned to this checkpoint, or refused
-abbrev pub WasPruned : ℕ → Result (Unit {0}) StoreError → Content → Content → Type 0
-WasPruned c (Ok done) before after = after ≡ kept_by_prune before c
-WasPruned c (Err refusal) before after = after ≡ before
 
 -- the store of a process was pruned to its effective checkpoint, or refused
 pub record HasPruned (old : WorldState) (p : ℕ) (answer : Result (Unit {0}) StoreError) (new : WorldState) : Type 0 where

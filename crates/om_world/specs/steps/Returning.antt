@@ -1,5 +1,5 @@
 -- What the calls of a return do.
-use Rattle.std.specs.Prelude.{◌≡◌, ℕ, ◌<◌, List, [], length, slice_get, slice_index, slice_set, Bool, true, false, Option, Some, Result, Ok, Err}
+use Rattle.std.specs.Prelude.{◌≡◌, ℕ, ◌<◌, List, [], slice_get, slice_index, slice_set, Bool, true, false, Option, Some, Result, Ok, Err}
 use Rattle.om_interval.specs.Starts.{is_named, newest_of}
 use Rattle.om_stable.specs.Content.{Content, kept_by_cut}
 use Rattle.om_process.specs.declared.replay.ReplayFault.{ReplayFault}
@@ -61,10 +61,6 @@ abbrev pub HasLeft : WorldState → ℕ → WorldState → Type 0
 HasLeft old p new =
     (slice_get old.places p ≡ Some Place.In → new ≡ taken_down old p false)
     × ((slice_get old.places p ≡ Some Place.In → ⊥) → new ≡ old)
-
--- the core at this place has a place for the starts of each process
-abbrev pub FitsStarts : List (Option CoreState) → ℕ → List (List ℕ) → Type 0
-FitsStarts cores p starts = (c : CoreState) × (slice_get cores p ≡ Some (Some c)) × (length starts ≡ size_of c.now)
 
 -- the core at this place knows the manager's round and starts, and no other core changes
 abbrev pub KnowsRound : List (Option CoreState) → ℕ → ManagerState → List (Option CoreState) → Type 0

@@ -9,11 +9,10 @@ pub returns : goal.returns
 returns g c =
     let s = g.S.Stable in
     let image = c.index-images-p.result in
-    let store = c.index_mut-store.result.now in
+    let store = c.args.store.now in
     let n = length c.args.images.now in
     let e = c.start.ensures in
     let at : slice_get c.args.images.now c.args.p ≡ Some image = search (rules, lent_at) in
-    let held : slice_get c.args.stores.now.items c.args.p ≡ Some store = search (rules, lent_at) in
     let says : Says s.content s.failed s.is_clean s.IsSound (record { image = c.deref.result.now; size = image.size; ext = image.ext }) c.at.result n store c.start.new.store c.start.result = record {
       started = e.started;
       stored = e.stored;
@@ -28,7 +27,7 @@ returns g c =
     } in (
       image,
       at,
-      is_start s.content s.failed s.is_clean s.IsSound (program_of image) c.args.p n c.args.stores.now.items store c.start.new.store c.start.result c.requires.place c.requires.few held
+      is_start s.content s.failed s.is_clean s.IsSound (program_of image) c.args.p n store c.start.new.store c.start.result c.requires.place c.requires.few
           (subst (λ p. Says s.content s.failed s.is_clean s.IsSound (program_of image) p n store c.start.new.store c.start.result) c.at.ensures
           (subst (λ bytes. Says s.content s.failed s.is_clean s.IsSound (record { image = bytes; size = image.size; ext = image.ext }) c.at.result n store c.start.new.store c.start.result) c.deref.ensures.value says)),
     )

@@ -1,38 +1,34 @@
-use Rattle.std.proofs.Common.{◌≡◌, Some, false, true, Ok, Err, map, rules, sym, subst}
-use Rattle.std.specs.Prelude.{slice_get}
-use Rattle.om_world.specs.declared.place.Place.{Place}
-use Rattle.om_world.specs.World.{WorldState, health_of, program_of}
-use Rattle.om_world.specs.steps.Gathering.{HasDeclared}
-use Rattle.om_world.proofs.Declaring.{after_declare, has_declared, not_declared, placed_with, round_at}
-use Rattle.om_world.proofs.Standing.{few, in_rounds, there_at}
+use Rattle.std.proofs.Common.{◌≡◌, ◌<◌, Err, rules, subst, sym}
+use Rattle.om_world.specs.World.{health_of}
+use Rattle.om_world.proofs.Lists.{lent_at}
+use Rattle.om_world.proofs.Rising.{after_declared, after_refused, was_declared, was_refused}
+use Rattle.om_world.proofs.Seats.{here}
+use Rattle.om_world.proofs.Standing.{few, there_at}
 use Rattle.om_world.proofs.world.World.declare.Goals as goal
 
-pub index-round-requires : goal.index-round-requires
-index-round-requires g c = in_rounds _ _ _ _ c.args.p c.self.invariant c.self.view_is (there_at _ _ _ _ c.args.p c.self.invariant c.self.view_is _ c.requires) _ c.self.inside.rounds.ok.0
+pub at-requires : goal.at-requires
+at-requires g c = few _ _ _ _ c.args.p c.self.invariant c.self.view_is (there_at _ _ _ _ c.args.p c.self.invariant c.self.view_is _ c.requires)
 
-pub declare_to-requires : goal.declare_to-requires
-declare_to-requires g c = few _ _ _ _ c.args.p c.self.invariant c.self.view_is (there_at _ _ _ _ c.args.p c.self.invariant c.self.view_is _ c.requires)
+pub index_mut-member-requires : goal.index_mut-member-requires
+index_mut-member-requires g c = subst (λ n. c.args.p < n) (sym c.self.inside.members.ok.0) (here g.S.Stable.content (health_of g.S.Stable.is_clean g.S.Stable.failed) g.S.Stable.IsSound _ _ _ _ _ _ c.args.p _ c.self.invariant c.self.view_is (there_at _ _ _ _ c.args.p c.self.invariant c.self.view_is _ c.requires))
+
+pub invariant_of-self : goal.invariant_of-self
+invariant_of-self g c =
+    let at = lent_at _ c.args.p _ (here g.S.Stable.content (health_of g.S.Stable.is_clean g.S.Stable.failed) g.S.Stable.IsSound _ _ _ _ _ _ c.args.p _ c.self.invariant c.self.view_is (there_at _ _ _ _ c.args.p c.self.invariant c.self.view_is _ c.requires)) c.index_mut-member.ensures.value in
+    after_refused g.S.Stable.content (health_of g.S.Stable.is_clean g.S.Stable.failed) g.S.Stable.IsSound _ _ _ _ _ _ c.args.p _ at _ _ c.self.invariant c.self.view_is c.at.result c.at.ensures c.declare.new.office c.requires c.in_err-told.field-0.0 c.in_err-told.ensures
 
 pub returns-in_err-told : goal.returns-in_err-told
 returns-in_err-told g c =
-    let s = c.self.inside in
-    let w : WorldState = record { programs = map program_of s.images.items; live = s.live.entries; frames = s.frames.items; cores = s.cores.items; places = s.places.items; rounds = s.rounds.items; manager = s.manager; contents = map g.S.Stable.content s.stores.items; health = map (health_of g.S.Stable.is_clean g.S.Stable.failed) s.stores.items; origins = map g.S.Stable.content s.origins.value.items } in
-    let down = subst (λ (v : WorldState). slice_get v.places c.args.p ≡ Some (Place.Down false)) (sym c.self.view_is) c.requires in
+    let at = lent_at _ c.args.p _ (here g.S.Stable.content (health_of g.S.Stable.is_clean g.S.Stable.failed) g.S.Stable.IsSound _ _ _ _ _ _ c.args.p _ c.self.invariant c.self.view_is (there_at _ _ _ _ c.args.p c.self.invariant c.self.view_is _ c.requires)) c.index_mut-member.ensures.value in
     let is : c.from_residual.result ≡ Err c.in_err-told.field-0.0 = search rules in
-    subst (λ (v : WorldState). HasDeclared v c.args.p c.from_residual.result (record w { live = c.declare_to.new.live.entries; manager = c.declare_to.new.manager })) c.self.view_is
-    (subst (λ r. HasDeclared w c.args.p r (record w { live = c.declare_to.new.live.entries; manager = c.declare_to.new.manager })) (sym is)
-    (not_declared g.S.Stable.IsSound s.stores.items w c.args.p c.index-round.result.now c.in_err-told.field-0.0 c.declare_to.new.manager c.declare_to.new.live.entries c.self.invariant down (round_at w c.args.p c.index-round.result.now (Place.Down false) c.self.invariant.shape down c.index-round.ensures) c.in_err-told.ensures.answer c.in_err-told.ensures.gathered))
+    was_refused g.S.Stable.content (health_of g.S.Stable.is_clean g.S.Stable.failed) g.S.Stable.IsSound _ _ _ _ _ _ c.args.p _ at _ _ c.self.invariant c.self.view_is c.at.result c.at.ensures c.declare.new.office c.requires c.in_err-told.field-0.0 c.in_err-told.ensures c.from_residual.result is
 
 pub invariant_of-self-2 : goal.invariant_of-self-2
 invariant_of-self-2 g c =
-    let s = c.self.inside in
-    let down = subst (λ (v : WorldState). slice_get v.places c.args.p ≡ Some (Place.Down false)) (sym c.self.view_is) c.requires in
-    after_declare _ _ _ c.args.p c.index-round.result.now c.in_ok-told.told c.declare_to.new.manager c.declare_to.new.live.entries c.self.invariant down (round_at _ c.args.p c.index-round.result.now _ c.self.invariant.shape down c.index-round.ensures) c.in_ok-told.ensures.answer c.in_ok-told.ensures.gathered
+    let at = lent_at _ c.args.p _ (here g.S.Stable.content (health_of g.S.Stable.is_clean g.S.Stable.failed) g.S.Stable.IsSound _ _ _ _ _ _ c.args.p _ c.self.invariant c.self.view_is (there_at _ _ _ _ c.args.p c.self.invariant c.self.view_is _ c.requires)) c.index_mut-member.ensures.value in
+    after_declared g.S.Stable.content (health_of g.S.Stable.is_clean g.S.Stable.failed) g.S.Stable.IsSound _ _ _ _ _ _ c.args.p _ at _ _ c.self.invariant c.self.view_is c.at.result c.at.ensures c.declare.new.office c.requires c.in_ok-told.told c.in_ok-told.ensures c.cut_where_finished.new.live.entries c.cut_where_finished.ensures
 
 pub returns : goal.returns
 returns g c =
-    let s = c.self.inside in
-    let w : WorldState = record { programs = map program_of s.images.items; live = s.live.entries; frames = s.frames.items; cores = s.cores.items; places = s.places.items; rounds = s.rounds.items; manager = s.manager; contents = map g.S.Stable.content s.stores.items; health = map (health_of g.S.Stable.is_clean g.S.Stable.failed) s.stores.items; origins = map g.S.Stable.content s.origins.value.items } in
-    let down = subst (λ (v : WorldState). slice_get v.places c.args.p ≡ Some (Place.Down false)) (sym c.self.view_is) c.requires in
-    subst (λ (v : WorldState). HasDeclared v c.args.p (Ok c.in_ok-told.told) (placed_with w c.args.p (Place.Down true) c.declare_to.new.live.entries c.declare_to.new.manager)) c.self.view_is
-    (has_declared g.S.Stable.IsSound s.stores.items w c.args.p c.index-round.result.now c.in_ok-told.told c.declare_to.new.manager c.declare_to.new.live.entries c.self.invariant down c.in_ok-told.ensures.answer c.in_ok-told.ensures.gathered)
+    let at = lent_at _ c.args.p _ (here g.S.Stable.content (health_of g.S.Stable.is_clean g.S.Stable.failed) g.S.Stable.IsSound _ _ _ _ _ _ c.args.p _ c.self.invariant c.self.view_is (there_at _ _ _ _ c.args.p c.self.invariant c.self.view_is _ c.requires)) c.index_mut-member.ensures.value in
+    was_declared g.S.Stable.content (health_of g.S.Stable.is_clean g.S.Stable.failed) g.S.Stable.IsSound _ _ _ _ _ _ c.args.p _ at _ _ c.self.invariant c.self.view_is c.at.result c.at.ensures c.declare.new.office c.requires c.in_ok-told.told c.in_ok-told.ensures c.cut_where_finished.new.live.entries c.cut_where_finished.ensures

@@ -1,22 +1,42 @@
-use Rattle.std.proofs.Common.{◌<◌, length, subst, sym}
-use Rattle.om_world.specs.Failures.{IsToGoOn}
-use Rattle.om_world.specs.World.{WorldState}
-use Rattle.om_world.proofs.Returned.{after_on}
-use Rattle.om_world.proofs.Standing.{few, known, in_places, in_rounds}
+use Rattle.std.proofs.Common.{◌<◌, subst, sym}
+use Rattle.om_manager.specs.State.{size_of}
+use Rattle.om_world.specs.World.{health_of}
+use Rattle.om_world.proofs.Lists.{lent_at}
+use Rattle.om_world.proofs.Rising.{after_go_on, gone_on, starts_fit}
+use Rattle.om_world.proofs.Seats.{here}
+use Rattle.om_world.proofs.Standing.{few, known}
 use Rattle.om_world.proofs.world.World.go_on.Goals as goal
 
-pub invariant_of-self-2 : goal.invariant_of-self-2
-invariant_of-self-2 g c = after_on _ _ _ c.args.p c.round.result c.go_on_at.new.cores.items c.self.invariant (subst (λ (v : WorldState). c.args.p < length v.programs) (sym c.self.view_is) c.requires.there)
-    (subst (λ (v : WorldState). IsToGoOn v c.args.p) (sym c.self.view_is) c.requires.due) c.in_ok-go_on_at.ensures.on c.round.ensures
+pub at-requires : goal.at-requires
+at-requires g c = few _ _ _ _ c.args.p c.self.invariant c.self.view_is c.requires.there
 
-pub go_on_at-requires-clause-few : goal.go_on_at-requires-clause-few
-go_on_at-requires-clause-few g c = few _ _ _ _ c.args.p c.self.invariant c.self.view_is c.requires.there
+pub verdict-verdict-requires : goal.verdict-verdict-requires
+verdict-verdict-requires g c = subst (λ q. q < size_of c.self.inside.manager) (sym c.at.ensures) (known _ _ _ _ c.args.p c.self.invariant c.self.view_is c.requires.there)
 
-pub go_on_at-requires-clause-known : goal.go_on_at-requires-clause-known
-go_on_at-requires-clause-known g c = known _ _ _ _ c.args.p c.self.invariant c.self.view_is c.requires.there
+pub index_mut-member-requires : goal.index_mut-member-requires
+index_mut-member-requires g c = subst (λ n. c.args.p < n) (sym c.self.inside.members.ok.0) (here g.S.Stable.content (health_of g.S.Stable.is_clean g.S.Stable.failed) g.S.Stable.IsSound _ _ _ _ _ _ c.args.p _ c.self.invariant c.self.view_is c.requires.there)
 
-pub index_mut-requires : goal.index_mut-requires
-index_mut-requires g c = in_places _ _ _ _ c.args.p c.self.invariant c.self.view_is c.requires.there _ c.self.inside.places.ok.0
+pub go_on-requires : goal.go_on-requires
+go_on-requires g c = λ core joined.
+    let at = lent_at _ c.args.p _ (here g.S.Stable.content (health_of g.S.Stable.is_clean g.S.Stable.failed) g.S.Stable.IsSound _ _ _ _ _ _ c.args.p _ c.self.invariant c.self.view_is c.requires.there) c.index_mut-member.ensures.value in
+    starts_fit g.S.Stable.content (health_of g.S.Stable.is_clean g.S.Stable.failed) g.S.Stable.IsSound _ _ _ _ _ _ c.args.p _ at c.self.invariant core joined c.starts.result.now c.starts.ensures
 
-pub index_mut-requires-2 : goal.index_mut-requires-2
-index_mut-requires-2 g c = in_rounds _ _ _ _ c.args.p c.self.invariant c.self.view_is c.requires.there _ c.self.inside.rounds.ok.0
+pub invariant_of-self : goal.invariant_of-self
+invariant_of-self g c =
+    let at = lent_at _ c.args.p _ (here g.S.Stable.content (health_of g.S.Stable.is_clean g.S.Stable.failed) g.S.Stable.IsSound _ _ _ _ _ _ c.args.p _ c.self.invariant c.self.view_is c.requires.there) c.index_mut-member.ensures.value in
+    after_go_on g.S.Stable.content (health_of g.S.Stable.is_clean g.S.Stable.failed) g.S.Stable.IsSound _ _ _ _ _ _ c.args.p _ at _ _ c.self.invariant c.self.view_is c.requires.due c.verdict-verdict.result.round c.starts.result.now c.verdict-verdict.ensures.round c.starts.ensures c.requires.there c.go_on.result c.go_on.ensures.on c.go_on.ensures.not_in c.go_on.ensures.no_memory
+
+pub returns-clause-on : goal.returns-clause-on
+returns-clause-on g c =
+    let at = lent_at _ c.args.p _ (here g.S.Stable.content (health_of g.S.Stable.is_clean g.S.Stable.failed) g.S.Stable.IsSound _ _ _ _ _ _ c.args.p _ c.self.invariant c.self.view_is c.requires.there) c.index_mut-member.ensures.value in
+    (gone_on g.S.Stable.content (health_of g.S.Stable.is_clean g.S.Stable.failed) g.S.Stable.IsSound _ _ _ _ _ _ c.args.p _ at _ _ c.self.invariant c.self.view_is c.requires.due c.verdict-verdict.result.round c.starts.result.now c.verdict-verdict.ensures.round c.starts.ensures c.requires.there c.go_on.result c.go_on.ensures.on c.go_on.ensures.not_in c.go_on.ensures.no_memory c.told_on.result c.told_on.ensures.on c.told_on.ensures.stopped).0
+
+pub returns-clause-refused : goal.returns-clause-refused
+returns-clause-refused g c =
+    let at = lent_at _ c.args.p _ (here g.S.Stable.content (health_of g.S.Stable.is_clean g.S.Stable.failed) g.S.Stable.IsSound _ _ _ _ _ _ c.args.p _ c.self.invariant c.self.view_is c.requires.there) c.index_mut-member.ensures.value in
+    (gone_on g.S.Stable.content (health_of g.S.Stable.is_clean g.S.Stable.failed) g.S.Stable.IsSound _ _ _ _ _ _ c.args.p _ at _ _ c.self.invariant c.self.view_is c.requires.due c.verdict-verdict.result.round c.starts.result.now c.verdict-verdict.ensures.round c.starts.ensures c.requires.there c.go_on.result c.go_on.ensures.on c.go_on.ensures.not_in c.go_on.ensures.no_memory c.told_on.result c.told_on.ensures.on c.told_on.ensures.stopped).1
+
+pub returns-clause-stopped : goal.returns-clause-stopped
+returns-clause-stopped g c =
+    let at = lent_at _ c.args.p _ (here g.S.Stable.content (health_of g.S.Stable.is_clean g.S.Stable.failed) g.S.Stable.IsSound _ _ _ _ _ _ c.args.p _ c.self.invariant c.self.view_is c.requires.there) c.index_mut-member.ensures.value in
+    (gone_on g.S.Stable.content (health_of g.S.Stable.is_clean g.S.Stable.failed) g.S.Stable.IsSound _ _ _ _ _ _ c.args.p _ at _ _ c.self.invariant c.self.view_is c.requires.due c.verdict-verdict.result.round c.starts.result.now c.verdict-verdict.ensures.round c.starts.ensures c.requires.there c.go_on.result c.go_on.ensures.on c.go_on.ensures.not_in c.go_on.ensures.no_memory c.told_on.result c.told_on.ensures.on c.told_on.ensures.stopped).2

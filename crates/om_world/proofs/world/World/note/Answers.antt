@@ -1,20 +1,26 @@
-use Rattle.std.proofs.Common.{sym, subst, map}
-use Rattle.om_world.specs.Changes.{IsUp}
-use Rattle.om_world.specs.World.{WorldState, health_of, program_of}
-use Rattle.om_world.proofs.Noting.{after_note, has_told}
-use Rattle.om_world.specs.steps.Moves.{HasTold}
-use Rattle.om_world.proofs.Standing.{core_up, few, there_at}
+use Rattle.std.proofs.Common.{◌≡◌, ◌<◌, Ok, subst, sym}
+use Rattle.std.specs.Prelude.{IfOk}
+use Rattle.om_world.specs.World.{health_of}
+use Rattle.om_world.specs.steps.Moves.{count_of, refusal_of_record, told_of}
+use Rattle.om_world.proofs.Acting.{after_noted, has_noted}
+use Rattle.om_world.proofs.Lists.{lent_at}
+use Rattle.om_world.proofs.Seats.{up_here}
+use Rattle.om_world.proofs.Standing.{few, there_at}
 use Rattle.om_world.proofs.world.World.note.Goals as goal
 
-pub note_at-requires-clause-core : goal.note_at-requires-clause-core
-note_at-requires-clause-core g c = core_up _ _ _ _ c.args.p c.self.invariant c.self.view_is c.requires
+pub at-requires : goal.at-requires
+at-requires g c = few _ _ _ _ c.args.p c.self.invariant c.self.view_is (there_at _ _ _ _ c.args.p c.self.invariant c.self.view_is _ c.requires)
 
-pub note_at-requires-clause-few : goal.note_at-requires-clause-few
-note_at-requires-clause-few g c = few _ _ _ _ c.args.p c.self.invariant c.self.view_is (there_at _ _ _ _ c.args.p c.self.invariant c.self.view_is _ c.requires)
+pub index_mut-member-requires : goal.index_mut-member-requires
+index_mut-member-requires g c = subst (λ n. c.args.p < n) (sym c.self.inside.members.ok.0) (up_here g.S.Stable.content (health_of g.S.Stable.is_clean g.S.Stable.failed) g.S.Stable.IsSound _ _ _ _ _ _ c.args.p _ c.self.view_is c.requires)
 
 pub invariant_of-self : goal.invariant_of-self
-invariant_of-self g c = after_note _ _ _ c.args.p c.note_at.result.0 c.note_at.result.1 c.note_at.new.manager c.note_at.new.cores.items c.self.invariant (subst (λ (v : WorldState). IsUp v c.args.p) (sym c.self.view_is) c.requires) c.note_at.ensures
+invariant_of-self g c =
+    let at = lent_at _ c.args.p _ (up_here g.S.Stable.content (health_of g.S.Stable.is_clean g.S.Stable.failed) g.S.Stable.IsSound _ _ _ _ _ _ c.args.p _ c.self.view_is c.requires) c.index_mut-member.ensures.value in
+    after_noted g.S.Stable.content g.S.Stable.is_clean g.S.Stable.failed g.S.Stable.IsSound _ _ _ _ _ _ c.args.p _ at _ _ c.self.invariant c.self.view_is c.at.result c.at.ensures c.note.new.office c.note.result c.requires c.note.ensures.noted c.note.ensures.not_up
 
 pub returns : goal.returns
-returns g c = subst (λ (v : WorldState). HasTold v c.args.p c.note_at.result.0 c.note_at.result.1 (record { programs = map program_of c.self.inside.images.items; live = c.self.inside.live.entries; frames = c.self.inside.frames.items; cores = c.note_at.new.cores.items; places = c.self.inside.places.items; rounds = c.self.inside.rounds.items; manager = c.note_at.new.manager; contents = map g.S.Stable.content c.self.inside.stores.items; health = map (health_of g.S.Stable.is_clean g.S.Stable.failed) c.self.inside.stores.items; origins = map g.S.Stable.content c.self.inside.origins.value.items })) c.self.view_is
-    (has_told _ _ _ c.args.p c.note_at.result.0 c.note_at.result.1 c.note_at.new.manager c.note_at.new.cores.items c.self.invariant (subst (λ (v : WorldState). IsUp v c.args.p) (sym c.self.view_is) c.requires) c.note_at.ensures)
+returns g c =
+    let at = lent_at _ c.args.p _ (up_here g.S.Stable.content (health_of g.S.Stable.is_clean g.S.Stable.failed) g.S.Stable.IsSound _ _ _ _ _ _ c.args.p _ c.self.view_is c.requires) c.index_mut-member.ensures.value in
+    let h = has_noted g.S.Stable.content g.S.Stable.is_clean g.S.Stable.failed g.S.Stable.IsSound _ _ _ _ _ _ c.args.p _ at _ _ c.self.invariant c.self.view_is c.at.result c.at.ensures c.note.new.office c.note.result c.requires c.note.ensures.noted c.note.ensures.not_up in
+    (h.0, h.1, h.2, subst (λ r. IfOk r (λ told. c.told_noted.result ≡ told_of refusal_of_record (Ok (count_of told.0 told.1)))) h.3 c.told_noted.ensures.noted)

@@ -1,13 +1,15 @@
-use Rattle.std.proofs.Common.{◌++◌, ◌∙◌, List, ap, subst, sym, ◌≡◌, Err, refl, rules}
+use Rattle.std.proofs.Common.{◌++◌, ◌∙◌, List, Some, ap, arith, length, replicate, subst, sym, ◌≡◌, Err, refl, rules}
+use Rattle.std.specs.Prelude.{slice_get, slice_index}
 use Rattle.om_format.specs.declared.message.Message.{Message}
 use Rattle.om_process.specs.Core.{size_of}
 use Rattle.om_world.specs.Changes.{IsUp}
 use Rattle.om_world.specs.World.{WorldState}
-use Rattle.om_world.proofs.Resending.{after_frames, frames_stay}
+use Rattle.om_world.proofs.Resending.{after_frames, frames_stay, resent}
 use Rattle.om_world.specs.declared.event.Event.{Event}
 use Rattle.om_world.specs.declared.event.Refusal.TheVariants as refusals
 use Rattle.om_world.specs.Happened.{Happened}
 use Rattle.om_world.specs.steps.Moves.{answered}
+use Rattle.om_world.proofs.Framing.{messages_same, zero_at}
 use Rattle.om_world.proofs.Keeping.{keeps_by, keeps_seen}
 use Rattle.om_world.proofs.NotRunning.{told_not_running}
 use Rattle.om_world.proofs.Standing.{core_up}
@@ -19,7 +21,7 @@ invariant_of-self g c = frames_stay _ _ _ _ c.self.invariant c.in_err-append.ens
 pub invariant_of-self-2 : goal.invariant_of-self-2
 invariant_of-self-2 g c =
     let core = c.in_ok-frames.ensures in
-    after_frames _ _ _ c.args.p core.0 (λ to. 0) (size_of core.0.now) c.append.new.self.items c.self.invariant (subst (λ (v : WorldState). IsUp v c.args.p) (sym c.self.view_is) c.in_ok-is_up.ensures.up) core.1
+    after_frames _ _ _ c.args.p core.0 (λ to. slice_index (replicate 16 0) to) (size_of core.0.now) c.append.new.self.items c.self.invariant (subst (λ (v : WorldState). IsUp v c.args.p) (sym c.self.view_is) c.in_ok-is_up.ensures.up) (subst (λ (v : WorldState). slice_get v.cores c.args.p ≡ Some (Some core.0)) (sym c.self.view_is) core.1)
     (c.in_ok-append.ensures.items ∙ ap (λ (l : List Message). c.self.inside.frames.items ++ l) core.2)
 
 pub returns-in_err-is_up-clause-happened : goal.returns-in_err-is_up-clause-happened
@@ -30,8 +32,10 @@ returns-in_err-is_up-clause-happened g c =
 pub returns-in_err-is_up-clause-keeps : goal.returns-in_err-is_up-clause-keeps
 returns-in_err-is_up-clause-keeps g c = keeps_by _ _ refl refl refl
 
-pub frames_at-requires : goal.frames_at-requires
-frames_at-requires g c = core_up _ _ _ _ c.args.p c.self.invariant c.self.view_is c.in_ok-is_up.ensures.up
+pub frames_past-requires : goal.frames_past-requires
+frames_past-requires g c =
+    let core = core_up _ _ _ _ c.args.p c.self.invariant c.self.view_is c.in_ok-is_up.ensures.up in
+    (core.0, subst (λ (v : WorldState). slice_get v.cores c.args.p ≡ Some (Some core.0)) c.self.view_is core.1, λ to lt. let none = zero_at 16 to in omega arith)
 
 pub returns-in_err-frames-clause-happened : goal.returns-in_err-frames-clause-happened
 returns-in_err-frames-clause-happened g c =
@@ -46,3 +50,9 @@ returns-in_err-append-clause-keeps g c = keeps_seen _ _ _ c.self.view_is refl re
 
 pub returns-clause-keeps : goal.returns-clause-keeps
 returns-clause-keeps g c = keeps_seen _ _ _ c.self.view_is refl refl refl
+
+pub returns-clause-happened : goal.returns-clause-happened
+returns-clause-happened g c =
+    let f = c.in_ok-frames.ensures in
+    let is = f.2 ∙ messages_same f.0 (λ to. slice_index (replicate 16 0) to) (λ to. 0) (size_of f.0.now) (zero_at 16) in
+    (c.in_ok-is_up.ensures.up, f.0, f.1, c.len-count.ensures ∙ c.in_ok-frames.frames.ok.0 ∙ ap length is, resent _ _ _ _ _ c.self.view_is c.in_ok-append.ensures.items is)

@@ -1,15 +1,19 @@
-use Rattle.std.proofs.Common.{◌≢◌, slice_get, subst, sym, Some, true}
-use Rattle.om_world.specs.declared.place.Place.TheVariants as places
-use Rattle.om_world.specs.World.{WorldState}
-use Rattle.om_world.proofs.TakenDown.{after_down}
-use Rattle.om_world.proofs.Standing.{in_cores, in_places}
+use Rattle.std.proofs.Common.{◌<◌, subst, sym}
+use Rattle.om_world.specs.World.{health_of}
+use Rattle.om_world.proofs.Lists.{lent_at}
+use Rattle.om_world.proofs.Rising.{after_taken, was_taken}
+use Rattle.om_world.proofs.Seats.{here}
 use Rattle.om_world.proofs.world.World.take_down.Goals as goal
 
+pub index_mut-member-requires : goal.index_mut-member-requires
+index_mut-member-requires g c = subst (λ n. c.args.p < n) (sym c.self.inside.members.ok.0) (here g.S.Stable.content (health_of g.S.Stable.is_clean g.S.Stable.failed) g.S.Stable.IsSound _ _ _ _ _ _ c.args.p _ c.self.invariant c.self.view_is c.requires.there)
+
 pub invariant_of-self : goal.invariant_of-self
-invariant_of-self g c = after_down _ _ _ c.args.p c.self.invariant (subst (λ (w : WorldState). slice_get w.places c.args.p ≢ Some (places.Down true)) (sym c.self.view_is) c.requires.undeclared)
+invariant_of-self g c =
+    let at = lent_at _ c.args.p _ (here g.S.Stable.content (health_of g.S.Stable.is_clean g.S.Stable.failed) g.S.Stable.IsSound _ _ _ _ _ _ c.args.p _ c.self.invariant c.self.view_is c.requires.there) c.index_mut-member.ensures.value in
+    after_taken g.S.Stable.content (health_of g.S.Stable.is_clean g.S.Stable.failed) g.S.Stable.IsSound _ _ _ _ _ _ c.args.p _ at _ _ c.self.invariant c.self.view_is c.fail.ensures c.requires.undeclared
 
-pub index_mut-requires : goal.index_mut-requires
-index_mut-requires g c = in_cores _ _ _ _ c.args.p c.self.invariant c.self.view_is c.requires.there _ c.self.inside.cores.ok.0
-
-pub index_mut-requires-2 : goal.index_mut-requires-2
-index_mut-requires-2 g c = in_places _ _ _ _ c.args.p c.self.invariant c.self.view_is c.requires.there _ c.self.inside.places.ok.0
+pub returns : goal.returns
+returns g c =
+    let at = lent_at _ c.args.p _ (here g.S.Stable.content (health_of g.S.Stable.is_clean g.S.Stable.failed) g.S.Stable.IsSound _ _ _ _ _ _ c.args.p _ c.self.invariant c.self.view_is c.requires.there) c.index_mut-member.ensures.value in
+    was_taken g.S.Stable.content (health_of g.S.Stable.is_clean g.S.Stable.failed) g.S.Stable.IsSound _ _ _ _ _ _ c.args.p _ at _ _ c.self.invariant c.self.view_is c.fail.ensures

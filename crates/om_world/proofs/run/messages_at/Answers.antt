@@ -1,8 +1,0 @@
-use Rattle.om_world.proofs.Standing.{core_read, core_within}
-use Rattle.om_world.proofs.run.messages_at.Goals as goal
-
-pub index-requires : goal.index-requires
-index-requires c = core_within _ c.args.p _ c.requires c.args.cores.now.ok.0
-
-pub unreachable-requires : goal.unreachable-requires
-unreachable-requires c = core_read _ c.args.p _ c.requires c.index.ensures c.in-None.is

@@ -1,0 +1,57 @@
+-- A world's members, as they are seen.
+use Rattle.std.specs.Prelude.{ℕ, List, Option, map}
+use Rattle.om_format.specs.declared.message.Message.{Message}
+use Rattle.om_stable.specs.Content.{Content}
+use Rattle.om_process.specs.Core.{CoreState}
+use Rattle.om_process.specs.Process.{Program}
+use Rattle.om_manager.specs.State.{ManagerState}
+use Rattle.om_member.specs.Members.{core_of}
+use Rattle.om_member.specs.declared.member.Member.{Member}
+use Rattle.om_member.specs.declared.member.Standing.{Standing}
+use Rattle.om_member.specs.declared.member.Standing.TheVariants as stands
+use Rattle.om_world.specs.declared.entry.Entry.{Entry}
+use Rattle.om_world.specs.declared.place.Place.{Place}
+use Rattle.om_world.specs.World.{Health, WorldState}
+
+abbrev pub place_of : Standing → Place
+place_of (stands.Up core) = Place.Up
+place_of (stands.In core) = Place.In
+place_of (stands.Down declared) = Place.Down declared
+
+abbrev pub core_in : {S : Type 0} → Member S → Option CoreState
+core_in m = core_of m.standing
+
+abbrev pub place_in : {S : Type 0} → Member S → Place
+place_in m = place_of m.standing
+
+abbrev pub round_in : {S : Type 0} → Member S → ℕ
+round_in m = m.round
+
+abbrev pub store_in : {S : Type 0} → Member S → S
+store_in m = m.store
+
+-- a store's content, health and soundness, as those of its member
+abbrev pub content_in : {S : Type 0} → (S → Content) → Member S → Content
+content_in content m = content m.store
+
+abbrev pub health_in : {S : Type 0} → (S → Health) → Member S → Health
+health_in health m = health m.store
+
+abbrev pub sound_in : {S : Type 0} → (S → Type 0) → Member S → Type 0
+sound_in IsSound m = IsSound m.store
+
+-- what is seen of a world's parts
+abbrev pub seen : {S : Type 0} → (S → Content) → (S → Health) → List Program → List Entry → List Message → List (Member S)
+    → ManagerState → List Content → WorldState
+seen content health programs live frames members manager origins = record {
+  programs = programs;
+  live = live;
+  frames = frames;
+  cores = map core_in members;
+  places = map place_in members;
+  rounds = map round_in members;
+  manager = manager;
+  contents = map (content_in content) members;
+  health = map (health_in health) members;
+  origins = origins;
+}
