@@ -1,13 +1,17 @@
 -- Events that are played one by one, and the picture of a script.
-use Rattle.std.proofs.Common.{◌≡◌, ◌⊎◌, ◌+◌, ℕ, suc, List, [], ◌∷◌, ◌++◌, Option, Some, None, Result, Ok, Err, drop, length, take, slice_index, refl, ap, sym, subst, ◌∙◌, arith}
-use Rattle.std.specs.Prelude.{IfOk, IfErr, IfSome}
-use Rattle.std.proofs.lemmas.List.{get_or-drop}
+use Rattle.std.proofs.Common.{◌≡◌, ◌⊎◌, ◌+◌, ◌≤◌, ℕ, suc, List, [], ◌∷◌, ◌++◌, Option, Some, None, Result, Ok, Err, drop, length, take, slice_index, refl, ap, sym, subst, ◌∙◌, arith}
+use Rattle.std.specs.Prelude.{IfOk, IfErr, IfSome, nat_le}
+use Rattle.std.proofs.lemmas.List.{get_or-drop, length-take}
+use Rattle.std.proofs.lemmas.List.Sums.{count_by-le-length}
 use Rattle.om_scripts.specs.Programs.{Cluster, programs_of}
 use Rattle.om_manager.specs.State.{size_of}
+use Rattle.om_text.specs.declared.text.TheConstants.{MAX_BYTES}
 use Rattle.om_picture.specs.Drawing.{IsSketchOf, Sketch}
 use Rattle.om_picture.specs.Fates.{Row}
 use Rattle.om_picture.specs.Marks.{IsDrawingOf}
 use Rattle.om_picture.specs.PictureText.{picture_text}
+use Rattle.om_picture.specs.Places.{ArePlaced}
+use Rattle.om_picture.specs.declared.column.TheConstants.{MOST_COLUMNS}
 use Rattle.om_picture.specs.declared.ending.Drawn.{Drawn}
 use Rattle.om_world.specs.World.{WorldState, IsKnown}
 use Rattle.om_world.specs.declared.event.Event.{Event}
@@ -16,6 +20,7 @@ use Rattle.om_commands.specs.Draw.{AreDrawn, ArePlayed, IsDrawn, IsPictureOf, Is
 use Rattle.om_commands.specs.Sim.{IsBegun, LacksProcesses}
 use Rattle.om_commands.specs.declared.error.CommandError.{CommandError}
 use Rattle.om_commands.specs.declared.error.CommandError.TheVariants.{EmptyScript, NoMemory}
+use Rattle.om_commands.proofs.LineLemmas.{lines_few}
 use Rattle.om_commands.proofs.PlainNames.{names_are_plain}
 use Rattle.om_commands.proofs.SimLemmas.{error_of_answer}
 use Rattle.om_commands.specs.SimScript.{Script, meaning_of, no_lines}
@@ -60,14 +65,31 @@ drawn_then lines es more k n first old mid new before after e line row same coun
     } in
     subst (λ (l : List Event). AreDrawn lines l n first old new after) (sym same) whole
 
+-- the lines of an input are few enough to have room
+pub few_within : (bytes lines : List ℕ) (last count events : ℕ) → lines ≡ event_lines bytes events → length bytes ≤ MAX_BYTES
+    → count ≡ count_within lines last → count ≤ MOST_COLUMNS
+few_within bytes lines last count events same within is =
+    let few = count_by-le-length (λ (line : ℕ). nat_le line last) lines in
+    let long : length lines ≡ length (event_lines bytes events) = ap (λ (ls : List ℕ). length ls) same in
+    let most = lines_few bytes events in
+    omega arith
+
+-- there is a row for each event
+played_count : (lines : List ℕ) (es : List Event) (rows : List Row) (old new : WorldState) → ArePlayed lines es old rows new
+    → length rows ≡ length es
+played_count lines [] [] old new p = refl
+played_count lines [] (row ∷ rows) old new p = absurd p
+played_count lines (e ∷ es) [] old new p = absurd p
+played_count lines (e ∷ es) (row ∷ rows) old new p = ap suc (played_count (drop 1 lines) es rows p.0 new p.2)
+
 -- a picture of what was played
 pub is_played_picture : {A E : Type 0} (spelled : A → List ℕ) (script : Script) (cluster : Cluster) (events : List Event) (lines : List ℕ)
     (first count n : ℕ) (begun end : WorldState) (sketch : Sketch) (drawn : Drawn) (r : Result A E) → cluster ≡ script.cluster
-    → events ≡ take count script.events → n ≡ size_of begun.manager → AreDrawn lines events n first begun end sketch → IsKnown end
+    → count ≤ MOST_COLUMNS → events ≡ take count script.events → n ≡ size_of begun.manager → AreDrawn lines events n first begun end sketch → IsKnown end
     → ((n first : ℕ) (rows : List Row) → IsSketchOf n first rows sketch → IsDrawingOf n first rows drawn)
     → IfOk r (λ text. spelled text ≡ picture_text cluster drawn)
     → IfOk r (λ text. IsPlayedPicture script lines first count begun (spelled text))
-is_played_picture spelled script cluster events lines first count n begun end sketch drawn (Ok text) same_cluster same_events same_size
+is_played_picture spelled script cluster events lines first count n begun end sketch drawn (Ok text) same_cluster room same_events same_size
     played known whole
     written =
     record {
@@ -77,9 +99,15 @@ is_played_picture spelled script cluster events lines first count n begun end sk
       known = known;
       drawn = drawn;
       marks = subst (λ (m : ℕ). IsDrawingOf m first played.rows drawn) same_size (whole n first played.rows played.marks);
+      placed = subst (λ (m : ℕ). ArePlaced m first [] played.rows) same_size played.marks.placed;
+      few =
+          let many : length played.rows ≡ length events = played_count lines events played.rows begun end played.played in
+          let taken : length events ≡ length (take count script.events) = ap (λ (es : List Event). length es) same_events in
+          let most = length-take count script.events in
+          omega arith;
       written = written ∙ ap (λ c. picture_text c drawn) same_cluster;
     }
-is_played_picture spelled script cluster events lines first count n begun end sketch drawn (Err e) same_cluster same_events same_size
+is_played_picture spelled script cluster events lines first count n begun end sketch drawn (Err e) same_cluster room same_events same_size
     played known whole
     written = tt
 

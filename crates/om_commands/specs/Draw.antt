@@ -1,5 +1,5 @@
 -- What the command `draw` answers to the bytes of its input.
-use Rattle.std.specs.Prelude.{◌≡◌, ℕ, ◌-◌, List, [], ◌∷◌, drop, length, map, nat_le, slice_index, take}
+use Rattle.std.specs.Prelude.{◌≡◌, ◌≤◌, ℕ, ◌-◌, List, [], ◌∷◌, drop, length, map, nat_le, slice_index, take}
 use Rattle.std.specs.List.{count_by}
 use Rattle.om_manager.specs.State.{size_of}
 use Rattle.om_scripts.specs.Programs.{programs_of}
@@ -13,8 +13,10 @@ use Rattle.om_picture.specs.Drawing.{IsSketchOf, Sketch}
 use Rattle.om_picture.specs.Fates.{Row}
 use Rattle.om_picture.specs.Marks.{IsDrawingOf}
 use Rattle.om_picture.specs.PictureText.{picture_text}
+use Rattle.om_picture.specs.Places.{ArePlaced}
 use Rattle.om_picture.specs.Plain.{HasPlainNames}
 use Rattle.om_picture.specs.Reading.{newly_handed}
+use Rattle.om_picture.specs.declared.column.TheConstants.{MOST_COLUMNS}
 use Rattle.om_picture.specs.declared.ending.Drawn.{Drawn}
 use Rattle.om_commands.specs.Command.{IsScript}
 use Rattle.om_commands.specs.Sim.{IsBegun}
@@ -52,8 +54,8 @@ pub record AreDrawn (lines : List ℕ) (events : List Event) (n first : ℕ) (ol
   pub played : ArePlayed lines events old rows new
   pub marks : IsSketchOf n first rows sketch
 
--- a picture of the first events of a script, so many, played from this world on: it has the marks of those from a line on, each as
--- it was in the end
+-- a picture of the first events of a script, so many, played from this world on: it has the marks of those from a line on, each where
+-- its event stands and as it was in the end; the events stand in their order, and all have room
 pub record IsPlayedPicture (script : Script) (lines : List ℕ) (first count : ℕ) (begun : WorldState) (text : List ℕ) : Type 0 where
   pub rows : List Row
   pub end : WorldState
@@ -61,6 +63,8 @@ pub record IsPlayedPicture (script : Script) (lines : List ℕ) (first count : �
   pub known : IsKnown end
   pub drawn : Drawn
   pub marks : IsDrawingOf (size_of begun.manager) first rows drawn
+  pub placed : ArePlaced (size_of begun.manager) first [] rows
+  pub few : length rows ≤ MOST_COLUMNS
   pub written : text ≡ picture_text script.cluster drawn
 
 -- the same, from the start of its world

@@ -1,12 +1,14 @@
 //! The command `draw`: the picture of a world that is played.
 
-ghost use Rattle.std.specs.Prelude.{◌≡◌, ◌⊎◌, ◌∷◌, [], ℕ, List, length, slice_index, take, IfSome, IfOk, IfErr, OnOk, string_bytes};
+ghost use Rattle.std.specs.Prelude.{◌≡◌, ◌≤◌, ◌⊎◌, ◌∷◌, [], ℕ, List, length, slice_index, take, IfSome, IfOk, IfErr, OnOk, string_bytes};
 ghost use Rattle.std.specs.Io.KnownBytes.{Appends, Keeps};
 ghost use Rattle.om_world.specs.Played.{Played};
 ghost use Rattle.om_world.specs.World.{IsKnown};
 ghost use Rattle.om_commands.specs.Command.{IsErrorOf, IsScript, IsSilent};
 ghost use Rattle.om_picture.specs.Drawing.{IsSketchOf, sketch_of};
 ghost use Rattle.om_picture.specs.Reading.{newly_handed};
+ghost use Rattle.om_picture.specs.declared.column.TheConstants.{MOST_COLUMNS};
+ghost use Rattle.om_text.specs.declared.text.TheConstants.{MAX_BYTES};
 ghost use Rattle.om_commands.specs.Draw.{AreDrawn, IsDrawn, IsPictureOf, IsPlayedPicture, count_within, event_lines};
 ghost use Rattle.om_commands.specs.Sim.{LacksProcesses};
 ghost use Rattle.om_commands.specs.SimScript.{meaning_of, no_lines};
@@ -80,6 +82,7 @@ fn read_events<R: Read>(alloc: Global, reader: &mut R) -> Result<Input, CommandE
         IfOk result (λ input. (input.bytes.items ≡ bytes) × IsScript meaning_of no_lines bytes input.script)) }
     ensures error { IfSome (R.remaining reader.old) (λ bytes.
         IfErr result (IsErrorOf meaning_of no_lines (λ _. ⊥) bytes)) }
+    ensures within { IfOk result (λ input. length input.bytes.items ≤ MAX_BYTES) }
 {
     let bytes = read_text(alloc, reader)?;
     let script = read_script(alloc, &bytes, SimScript::new(alloc))?;
@@ -110,6 +113,7 @@ fn draw_script(
     count: usize,
     from: usize,
 ) -> Result<String, CommandError>
+    requires { count ≤ MOST_COLUMNS }
     ensures text { IfOk result (λ text. IsPictureOf script.now lines.now from count (string_bytes text)) }
     ensures error { IfErr result (λ error. (error ≡ CommandError.NoMemory)
         ⊎ ((error ≡ CommandError.EmptyScript) × LacksProcesses script.now)) }
@@ -132,6 +136,7 @@ fn played_picture(
     world: &mut World<MemStable>,
 ) -> Result<String, AllocError>
     requires known { IsKnown world.old }
+    requires few { count ≤ MOST_COLUMNS }
     ensures { IfOk result (λ text. IsPlayedPicture script.now lines.now from count world.old (string_bytes text)) }
 {
     let programs = script.programs();

@@ -1,26 +1,33 @@
 -- What is drawn of an event, and of all events of a window.
-use Rattle.std.proofs.Common.{◌≡◌, ◌≢◌, ◌∙◌, ◌+◌, ◌<◌, ◌≤◌, ◌||◌, ◌&&◌, ◌⊎◌, ℕ, zero, suc, Bool, true, false, if◌then◌else◌, max, List, [], ◌∷◌, ◌++◌, Option, Some, None, Result, OnOk, length, map, get_or, set, refl, ap, sym, subst, inl, inr, arith, append_assoc, get_or-set_other, length-set}
-use Rattle.std.specs.Prelude.{nat_le, slice_index}
+use Rattle.std.proofs.Common.{◌≡◌, ◌≢◌, ◌∙◌, ◌+◌, ◌*◌, ◌^◌, ◌<◌, ◌≤◌, ◌||◌, ◌&&◌, ◌⊎◌, ℕ, zero, suc, Bool, true, false, if◌then◌else◌, max, List, [], ◌∷◌, ◌++◌, Option, Some, None, Result, OnOk, length, map, get_or, set, refl, ap, sym, subst, inl, inr, arith, append_assoc, get_or-set_other, length-set}
+use Rattle.std.specs.Prelude.{nat_le, nat_lt, slice_index}
 use Rattle.std.specs.List.{flat_map, sum_by}
 use Rattle.std.specs.declared.alloc.AllocError.{AllocError}
 use Rattle.std.proofs.Math.Bool.{or-false, or_assoc}
-use Rattle.std.proofs.lemmas.Bool.{eq-eqb, lt-ltb, le-ltb}
+use Rattle.std.proofs.lemmas.Bool.{eq-eqb, lt-ltb, le-ltb, ltb-true}
 use Rattle.std.proofs.lemmas.Bool.Decides.{eqb_tells}
-use Rattle.std.proofs.lemmas.List.{append-nil, length-map}
+use Rattle.std.proofs.lemmas.List.{append-nil, length-map, length_push}
 use Rattle.std.proofs.lemmas.List.Sums.{sum_by-append}
 use Rattle.std.proofs.lemmas.Result.{on_ok_weaker}
 use Rattle.om_world.specs.declared.event.Answer.{Answer}
 use Rattle.om_world.specs.declared.event.Event.{Event}
-use Rattle.om_picture.specs.Drawing.{IsLaneOf, IsSketchOf, Lane, Sketch, all_marks, lane_in, lane_marks, lane_of, lanes_marks, new_lane, waiting_marks}
-use Rattle.om_picture.specs.Fates.{Fate, Row, ended_after, fate_behind, fate_of, has_ended, highest, interval_after, interval_behind, is_of, is_process, is_store, next_ended, next_interval, next_place, process_of, stores}
-use Rattle.om_picture.specs.Marks.{AreTheSame, EventMark, event_marks, fated_marks, is_reached, marks_among, marks_on, row_marks, shape_marks, sure_marks}
+use Rattle.om_interval.specs.declared.pid.TheConstants.{MAX_PROCESSES}
+use Rattle.om_picture.specs.Drawing.{Edge, IsLaneOf, IsSketchOf, Lane, Sketch, all_marks, held_in, held_of, lane_in, lane_marks, lane_of, lanes_marks, new_lane, waiting_marks}
+use Rattle.om_picture.specs.Fates.{Fate, Row, ended_after, fate_behind, fate_of, has_ended, highest, interval_after, interval_behind, is_loose, is_of, is_process, is_store, loose_after, next_ended, next_interval, next_loose, next_place, process_of, step_row, stores}
+use Rattle.om_picture.specs.Held.{Held, covered_by, held_behind, is_any_elsewhere, left_by, may_wait, releases, left_behind}
+use Rattle.om_picture.specs.Marks.{AreTheSame, EventMark, event_marks, fated_marks, is_reached, marks_among, marks_on, released_at, released_below, row_marks, shape_marks, sure_marks}
+use Rattle.om_picture.specs.Places.{ArePlaced, IsPlacedBehind, has_column, is_shown, rightmost, shows_on}
 use Rattle.om_picture.specs.Shows.{is_finished, shown}
+use Rattle.om_picture.specs.declared.column.TheConstants.{MOST_COLUMNS, MOST_LEFT, WIDEST}
 use Rattle.om_picture.specs.declared.history.History.{History}
 use Rattle.om_picture.specs.declared.history.Mark.{Mark}
 use Rattle.om_picture.specs.declared.sheet.Shape.{Shape}
+use Rattle.om_picture.specs.declared.sheet.Spot.{Spot}
 use Rattle.om_picture.specs.declared.shown.Shown.{Shown}
-use Rattle.om_picture.specs.steps.Adding.{AreNew, IsAmid, LaneShows, LearnsAll, Reaches, SettlesAll, SettlesIf, Shows, ShowsEvent, ShowsOn, Stays, amid_marks, fate_amid, fate_now, is_stored_by, now_marks}
-use Rattle.om_picture.proofs.FateLemmas.{end_fate, ended_more, ended_told, fated_same, first_fate, highest_more, interval_more, interval_told, open_fate, place_again, round_fate, store_shown, waiting_alike, waiting_all}
+use Rattle.om_picture.specs.declared.step.Step.{Step}
+use Rattle.om_picture.specs.steps.Adding.{AreNew, IsAmid, LaneShows, LearnsAll, PlacesEvent, Reaches, SettlesAll, SettlesIf, Shows, ShowsEvent, ShowsOn, Stays, amid_marks, fate_amid, fate_now, freed_below, frees, is_stored_by, lane_number, now_marks, shows_at}
+use Rattle.om_picture.proofs.FateLemmas.{end_fate, ended_more, ended_told, fated_same, first_fate, highest_more, interval_more, interval_told, loose_more, loose_told, open_fate, place_again, round_fate, store_shown, waiting_alike, waiting_all}
+use Rattle.om_picture.proofs.HeldLemmas.{held_more, left_none, left_own}
 use Rattle.om_picture.proofs.LaneLemmas.{all_counted, lane_counted, lanes_alike}
 
 -- ---- whose event it is
@@ -52,11 +59,17 @@ other_interval q was row other = ap (λ (b : Bool). if b then interval_after row
 other_ended : (q : ℕ) (was : Bool) (row : Row) → is_of q row ≡ false → next_ended q was row ≡ was
 other_ended q was row other = ap (λ (b : Bool). if b then ended_after row.entry.event row.entry.answer was else was) other
 
+other_loose : (q : ℕ) (was : Bool) (row : Row) → is_of q row ≡ false → next_loose q was row ≡ was
+other_loose q was row other = ap (λ (b : Bool). if b then loose_after row.entry.event row.entry.answer was else was) other
+
 own_interval : (p was : ℕ) (row : Row) → is_of p row ≡ true → next_interval p was row ≡ interval_after row.entry.event row.entry.answer was
 own_interval p was row own = ap (λ (b : Bool). if b then interval_after row.entry.event row.entry.answer was else was) own
 
 own_ended : (p : ℕ) (was : Bool) (row : Row) → is_of p row ≡ true → next_ended p was row ≡ ended_after row.entry.event row.entry.answer was
 own_ended p was row own = ap (λ (b : Bool). if b then ended_after row.entry.event row.entry.answer was else was) own
+
+own_loose : (p : ℕ) (was : Bool) (row : Row) → is_of p row ≡ true → next_loose p was row ≡ loose_after row.entry.event row.entry.answer was
+own_loose p was row own = ap (λ (b : Bool). if b then loose_after row.entry.event row.entry.answer was else was) own
 
 -- ---- the lane of its process
 stored_marks : (b : Bool) (row : Row) (later : List Row) (p : ℕ) (lane : Lane) (stored : ℕ) → stores p row ≡ b
@@ -116,12 +129,17 @@ amid_none : (n : ℕ) (before : List Row) (row : Row) (s : Sketch) → length s.
     → ((later : List Row) → marks_on n (process_of row.entry.event) before row later ≡ []) → IsAmid n before row s s
 amid_none n before row s count lanes others none = record {
   on = refl;
-  first = refl;
+  edge = refl;
   count = count;
   interval = λ (p : ℕ) (below : p < n).
       (lanes p below).interval ∙ sym (interval_more p 0 before row ∙ other_interval p (interval_behind p before) row (others p below));
   ended = λ (p : ℕ) (below : p < n).
       (lanes p below).ended ∙ sym (ended_more p false before row ∙ other_ended p (has_ended p before) row (others p below));
+  loose = λ (p : ℕ) (below : p < n).
+      (lanes p below).loose ∙ sym (loose_more p false before row ∙ other_loose p (is_loose p before) row (others p below));
+  held = λ (p : ℕ) (below : p < n).
+      (lanes p below).held ∙ sym (append-nil (held_behind p before))
+      ∙ ap (λ (l : List Held). held_behind p before ++ l) (sym (left_none p before row (others p below)));
   reached = λ (p : ℕ) (below : p < n). (lanes p below).reached;
   marks = λ (later : List Row) (c : EventMark → ℕ).
       let same = ap (λ (l : List EventMark). sum_by c l) (alike (amid_marks row later) (lane_marks (row ∷ later)) s
@@ -151,6 +169,13 @@ stored_own p ended row is =
     ap (λ (b : Bool). b && is_store row.entry.event row.entry.answer) (of_own p row is)
     ∙ sym (store_shown ended row.entry.event row.entry.answer)
 
+held_alike : (s : Shown) (fresh x i j : ℕ) (a b : List Held) → a ≡ b → i ≡ j
+    → a ++ (if may_wait s then record { interval = i; fresh = fresh; x = x } ∷ [] else [])
+    ≡ b ++ (if may_wait s then record { interval = j; fresh = fresh; x = x } ∷ [] else [])
+held_alike s fresh x i j a b same interval =
+    ap (λ (l : List Held). l ++ (if may_wait s then record { interval = i; fresh = fresh; x = x } ∷ [] else [])) same
+    ∙ ap (λ (n : ℕ). b ++ (if may_wait s then record { interval = n; fresh = fresh; x = x } ∷ [] else [])) interval
+
 amid_shown : (n p : ℕ) (before : List Row) (row : Row) (a b : Sketch) → length a.lanes ≡ n → process_of row.entry.event ≡ Some p → p < n
     → ((q : ℕ) → q < n → IsLaneOf q before (lane_of a q))
     → Shows a b p (shown (lane_of a p).ended row.entry.event row.entry.answer) row.fresh row.entry → IsAmid n before row a b
@@ -169,12 +194,21 @@ amid_shown n p before row a b count is within lanes s =
     let ended_here : (lane_of b p).ended ≡ has_ended p (before ++ row ∷ []) =
     s.lane.ended ∙ ended_told e event answer ∙ sym (own_ended p e row own)
     ∙ ap (λ (x : Bool). next_ended p x row) mine.ended ∙ sym (ended_more p false before row) in
+    let loose_here : (lane_of b p).loose ≡ is_loose p (before ++ row ∷ []) =
+    s.lane.loose ∙ loose_told e event answer (lane_of a p).loose ∙ sym (own_loose p (lane_of a p).loose row own)
+    ∙ ap (λ (x : Bool). next_loose p x row) mine.loose ∙ sym (loose_more p false before row) in
+    let held_here : held_in (lane_of b p) ≡ held_behind p before ++ left_by p before row =
+    s.lane.held ∙ held_alike sh row.fresh row.entry.at.x (lane_of b p).interval (interval_behind p (before ++ row ∷ []))
+    (held_in (lane_of a p)) (held_behind p before) mine.held interval_here
+    ∙ ap (λ (x : Bool). held_behind p before ++ (if may_wait (shown x event answer)
+    then record { interval = interval_behind p (before ++ row ∷ []); fresh = row.fresh; x = row.entry.at.x } ∷ [] else [])) mine.ended
+    ∙ ap (λ (l : List Held). held_behind p before ++ l) (sym (left_own p before row own)) in
     let away : (q : ℕ) → q ≢ p → lane_of b q ≡ lane_of a q =
     (λ (q : ℕ) (off : q ≢ p).
     ap (λ (ls : List Lane). get_or ls q new_lane) s.lanes ∙ get_or-set_other a.lanes p q (lane_of b p) new_lane off) in
     record {
       on = s.on;
-      first = s.first;
+      edge = s.edge;
       count = ap (λ (ls : List Lane). length ls) s.lanes ∙ length-set a.lanes p (lane_of b p) ∙ count;
       interval = λ (q : ℕ) (below : q < n). elim (eqb_tells q p) [
         | inl here ↦
@@ -189,13 +223,26 @@ amid_shown n p before row a b count is within lanes s =
             ap (λ (l : Lane). l.ended) (away q off.1) ∙ (lanes q below).ended
             ∙ sym (ended_more q false before row ∙ other_ended q (has_ended q before) row (of_other p q row is off.1))
       ];
+      loose = λ (q : ℕ) (below : q < n). elim (eqb_tells q p) [
+        | inl here ↦ subst (λ (k : ℕ). (lane_of b k).loose ≡ is_loose k (before ++ row ∷ [])) (sym here.1) loose_here
+        | inr off ↦
+            ap (λ (l : Lane). l.loose) (away q off.1) ∙ (lanes q below).loose
+            ∙ sym (loose_more q false before row ∙ other_loose q (is_loose q before) row (of_other p q row is off.1))
+      ];
+      held = λ (q : ℕ) (below : q < n). elim (eqb_tells q p) [
+        | inl here ↦
+            subst (λ (k : ℕ). held_in (lane_of b k) ≡ held_behind k before ++ left_by k before row) (sym here.1) held_here
+        | inr off ↦
+            ap (λ (l : Lane). held_in l) (away q off.1) ∙ (lanes q below).held ∙ sym (append-nil (held_behind q before))
+            ∙ ap (λ (l : List Held). held_behind q before ++ l) (sym (left_none q before row (of_other p q row is off.1)))
+      ];
       reached = λ (q : ℕ) (below : q < n). elim (eqb_tells q p) [
         | inl here ↦
             subst (λ (k : ℕ). (lane_of b k).reached ≡ highest k 0 before) (sym here.1) (s.lane.reached ∙ mine.reached)
         | inr off ↦ ap (λ (l : Lane). l.reached) (away q off.1) ∙ (lanes q below).reached
       ];
       marks = λ (later : List Row) (c : EventMark → ℕ).
-          let sure : List EventMark = sure_marks sh row.entry in
+          let sure : List EventMark = sure_marks (lane_of a p).loose sh row.entry in
           let fate : Fate = fate_of p (interval_behind p (before ++ row ∷ [])) before (row ∷ later) in
           let fated : List EventMark = fated_marks sh row.fresh fate row.entry in
           let amid : List EventMark = fated_marks sh row.fresh (fate_amid row later p (lane_of b p).interval false (lane_of a p).reached)
@@ -207,8 +254,9 @@ amid_shown n p before row a b count is within lanes s =
           (fate_behind p (interval_behind p (before ++ row ∷ [])) false r (row ∷ later)) row.entry) mine.reached in
           let events : marks_on n (process_of event) before row later ≡ sure ++ fated =
           event_here n p before row later is within
-          ∙ ap (λ (x : Bool). sure_marks (shown x event answer) row.entry ++ fated_marks (shown x event answer) row.fresh fate row.entry)
-          (sym mine.ended) in
+          ∙ ap (λ (x : Bool). sure_marks (is_loose p before) (shown x event answer) row.entry
+          ++ fated_marks (shown x event answer) row.fresh fate row.entry) (sym mine.ended)
+          ∙ ap (λ (x : Bool). sure_marks x sh row.entry ++ fated) (sym mine.loose) in
           let new = all_counted c (amid_marks row later) b in
           let old = all_counted c (lane_marks (row ∷ later)) a in
           let drawn : sum_by c b.drawn ≡ sum_by c a.drawn + sum_by c (if a.on then sure else []) =
@@ -294,15 +342,55 @@ round_told true row later c d is again settled =
     (lane_of c q).stored (lane_of c q).waiting)))
 
 settled_facts : (finished : Bool) (c d : Sketch) → SettlesIf finished c d
-    → (d.on ≡ c.on) × (d.first ≡ c.first) × (length d.lanes ≡ length c.lanes) × ((q : ℕ) → Stays (lane_of c q) (lane_of d q))
+    → (d.on ≡ c.on) × (d.edge ≡ c.edge) × (length d.lanes ≡ length c.lanes) × ((q : ℕ) → Stays (lane_of c q) (lane_of d q))
 settled_facts false c d same = (
   ap (λ (s : Sketch). s.on) same,
-  ap (λ (s : Sketch). s.first) same,
+  ap (λ (s : Sketch). s.edge) same,
   ap (λ (s : Sketch). length s.lanes) same,
   λ (q : ℕ). subst (λ (s : Sketch). Stays (lane_of c q) (lane_of s q)) (sym same)
-      (record { interval = refl; ended = refl; reached = refl }),
+      (record { interval = refl; ended = refl; loose = refl; reached = refl }),
 )
-settled_facts true c d settled = (settled.keeps.on, settled.keeps.first, settled.keeps.count, settled.lanes)
+settled_facts true c d settled = (settled.keeps.on, settled.keeps.edge, settled.keeps.count, settled.lanes)
+
+settled_held : (finished : Bool) (c d : Sketch) → SettlesIf finished c d → (q : ℕ) → q < length c.lanes
+    → held_in (lane_of d q) ≡ (if finished then [] else held_in (lane_of c q))
+settled_held false c d same q within = ap (λ (s : Sketch). held_in (lane_of s q)) same
+settled_held true c d settled q within = ap (λ (l : List Mark). map held_of l) (settled.empty q within)
+
+lane_small : (p n : ℕ) → p < n → n ≤ MAX_PROCESSES → lane_number p ≡ p
+lane_small p n below few =
+    let small : p < 2 ^ 32 = omega arith in
+    ap (λ (b : Bool). if b then p else 0) (lt-ltb p (2 ^ 32) small)
+
+-- what an event frees
+freed_told : (p : ℕ) (rows : List Row) (row : Row) (lane : Lane) → lane.reached ≡ highest p 0 rows
+    → held_in lane ≡ held_behind p rows ++ left_by p rows row → frees row p lane ≡ releases p rows row
+freed_told p rows row lane reached held =
+    ap (λ (n : ℕ). is_any_elsewhere row.entry.at.x (covered_by (next_place p n row) (held_in lane))) reached
+    ∙ ap (λ (n : ℕ). is_any_elsewhere row.entry.at.x (covered_by n (held_in lane))) (sym (highest_more p 0 rows row))
+    ∙ ap (λ (l : List Held). is_any_elsewhere row.entry.at.x (covered_by (highest p 0 (rows ++ row ∷ [])) l)) held
+
+freed_same : (x : EventMark → ℕ) (n : ℕ) (rows : List Row) (row : Row) (c : Sketch) → n ≤ MAX_PROCESSES
+    → ((p : ℕ) → p < n → frees row p (lane_of c p) ≡ releases p rows row) → (k : ℕ) → k ≤ n
+    → sum_by x (freed_below row c k) ≡ sum_by x (if c.on then released_below k rows row else [])
+freed_same x n rows row c few same zero within = none_freed c.on
+  where
+    none_freed : (on : Bool) → sum_by x (let l : List EventMark = [] in l) ≡ sum_by x (if on then released_below zero rows row else [])
+    none_freed true = refl
+    none_freed false = refl
+freed_same x n rows row c few same (suc k) within =
+    let below : k < n = omega arith in
+    let le : k ≤ n = omega arith in
+    let one : List EventMark = released_at (releases k rows row) k row.entry in
+    let is : (if c.on then released_at (frees row k (lane_of c k)) (lane_number k) row.entry else []) ≡ (if c.on then one else []) =
+    ap (λ (b : Bool). if c.on then released_at b (lane_number k) row.entry else []) (same k below)
+    ∙ ap (λ (q : ℕ). if c.on then released_at (releases k rows row) q row.entry else []) (lane_small k n below few) in
+    let i = freed_same x n rows row c few same k le in
+    let j = sum_by-append x (freed_below row c k) (if c.on then released_at (frees row k (lane_of c k)) (lane_number k) row.entry else []) in
+    let l : sum_by x (if c.on then released_at (frees row k (lane_of c k)) (lane_number k) row.entry else [])
+    ≡ sum_by x (if c.on then one else []) = ap (λ (ms : List EventMark). sum_by x ms) is in
+    let m = if_both x c.on (released_below k rows row) one in
+    omega arith
 
 -- ---- the window
 reached_more : (first : ℕ) (rows : List Row) (row : Row)
@@ -328,6 +416,72 @@ among_more n first before (x ∷ rows) row later =
     ∙ ap (λ (l : List Row). (row_marks n first before x (rows ++ row ∷ later) ++ marks_among n first (before ++ x ∷ []) rows (row ∷ later))
     ++ row_marks n first l row later) (append_assoc before (x ∷ []) rows)
 
+-- ---- where it stands
+edge_x : (a b : Edge) → a ≡ b → a.x ≡ b.x
+edge_x a b same = ap (λ (e : Edge). e.x) same
+
+edge_right : (a b : Edge) → a ≡ b → a.right ≡ b.right
+edge_right a b same = ap (λ (e : Edge). e.right) same
+
+rightmost_more : (rows : List Row) (row : Row) → rightmost (rows ++ row ∷ []) ≡ max (rightmost rows) row.entry.at.x
+rightmost_more [] row = zeros row.entry.at.x
+  where
+    zeros : (x : ℕ) → max x 0 ≡ max 0 x
+    zeros x = omega arith
+rightmost_more (r ∷ rows) row =
+    ap (λ (x : ℕ). max r.entry.at.x x) (rightmost_more rows row) ∙ regrouped r.entry.at.x (rightmost rows) row.entry.at.x
+  where
+    regrouped : (x y z : ℕ) → max x (max y z) ≡ max (max x y) z
+    regrouped x y z = omega arith
+
+placed_more : (n first : ℕ) (before rows : List Row) (row : Row) → ArePlaced n first before rows
+    → IsPlacedBehind n first (before ++ rows) row → ArePlaced n first before (rows ++ row ∷ [])
+placed_more n first before [] row were here =
+    (subst (λ (l : List Row). IsPlacedBehind n first l row) (append-nil before) here, tt)
+placed_more n first before (r ∷ rows) row were here = (
+  were.0,
+  placed_more n first (before ++ r ∷ []) rows row were.1
+      (subst (λ (l : List Row). IsPlacedBehind n first l row) (sym (append_assoc before (r ∷ []) rows)) here),
+)
+
+both_true : (a b : Bool) → (a && b) ≡ true → (a ≡ true) × (b ≡ true)
+both_true true b h = (refl, h)
+both_true false b h = absurd (cc)
+
+-- an event that has a column is one that the lanes show
+column_shown : (n : ℕ) (o : Option ℕ) (rows : List Row) (row : Row) (a : Sketch) → length a.lanes ≡ n
+    → ((q : ℕ) → q < n → IsLaneOf q rows (lane_of a q)) → shows_on n o rows row ≡ true → shows_at o a row ≡ true
+column_shown n None rows row a count lanes h = h
+column_shown n (Some p) rows row a count lanes h =
+    let parts = both_true (nat_lt p n) (is_shown (shown (has_ended p rows) row.entry.event row.entry.answer)) h in
+    let below : p < n = ltb-true p n parts.0 in
+    let there : p < length a.lanes = omega arith in
+    ap (λ (b : Bool). b && is_shown (shown (lane_of a p).ended row.entry.event row.entry.answer)) (lt-ltb p (length a.lanes) there)
+    ∙ ap (λ (b : Bool). is_shown (shown b row.entry.event row.entry.answer)) (lanes p below).ended ∙ parts.1
+
+-- where an event stands, behind those that are drawn
+placed_behind : (n first : ℕ) (rows : List Row) (row : Row) (a b m : Sketch) → IsSketchOf n first rows a → Reaches a b row.entry.line
+    → PlacesEvent b m row → b.on ≡ is_reached first (rows ++ row ∷ []) → IsPlacedBehind n first rows row
+placed_behind n first rows row a b m before reached placed on = record {
+  lane = λ (p : ℕ) (is : process_of row.entry.event ≡ Some p) (below : p < n).
+      placed.lane p is ∙ lane_small p n below before.few;
+  column = λ (few : length rows < MOST_COLUMNS) (has : has_column n first rows row ≡ true).
+      let parts = both_true (is_reached first (rows ++ row ∷ [])) (shows_on n (process_of row.entry.event) rows row) has in
+      let count : length b.lanes ≡ n = ap (λ (ls : List Lane). length ls) reached.lanes ∙ before.count in
+      let lanes : (q : ℕ) → q < n → IsLaneOf q rows (lane_of b q) =
+      (λ (q : ℕ) (below : q < n).
+      subst (λ (l : Lane). IsLaneOf q rows l) (sym (ap (λ (ls : List Lane). get_or ls q new_lane) reached.lanes)) (before.lanes q below)) in
+      let it_shows = column_shown n (process_of row.entry.event) rows row b count lanes parts.1 in
+      let is_on : b.on ≡ true = on ∙ parts.0 in
+      let x = edge_x b.edge a.edge reached.edge in
+      let right = edge_right b.edge a.edge reached.edge in
+      let room : a.edge.right ≤ MOST_LEFT + WIDEST * length rows = before.room in
+      let behind : rightmost rows ≤ a.edge.x = before.behind in
+      let free : b.edge.right + WIDEST < 2 ^ 32 = omega arith in
+      let less : b.edge.x < row.entry.at.x = placed.places.column is_on it_shows free in
+      omega arith;
+}
+
 -- ---- one event more
 same_all : (v : ℕ → Lane → List EventMark) (a b : Sketch) → b.drawn ≡ a.drawn → b.lanes ≡ a.lanes → all_marks v b ≡ all_marks v a
 unfolding all_marks
@@ -335,63 +489,111 @@ same_all v a b drawn lanes =
     ap (λ (l : List EventMark). l ++ lanes_marks v 0 b.lanes) drawn
     ∙ ap (λ (ls : List Lane). a.drawn ++ lanes_marks v 0 ls) lanes
 
-sketch_more : (a b c d e : Sketch) (row : Row) → Reaches a b row.entry.line → ShowsEvent b c row → LearnsAll row c d
-    → SettlesIf (is_finished row.entry.answer) d e
+sketch_more : (a b m c d e : Sketch) (row : Row) → Reaches a b row.entry.line → PlacesEvent b m row → ShowsEvent m c row
+    → LearnsAll row c d → SettlesIf (is_finished row.entry.answer) d e
     → (n first : ℕ) (rows : List Row) → IsSketchOf n first rows a → IsSketchOf n first (rows ++ row ∷ []) e
-sketch_more a b c d e row reached shows learns settles n first rows before =
-    let count : length b.lanes ≡ n = ap (λ (ls : List Lane). length ls) reached.lanes ∙ before.count in
-    let lanes : (p : ℕ) → p < n → IsLaneOf p rows (lane_of b p) =
+sketch_more a b m c d e row reached placed shows learns settles n first rows before =
+    let same_lanes : m.lanes ≡ a.lanes = placed.places.lanes ∙ reached.lanes in
+    let same_drawn : m.drawn ≡ a.drawn = placed.places.drawn ∙ reached.drawn in
+    let count : length m.lanes ≡ n = ap (λ (ls : List Lane). length ls) same_lanes ∙ before.count in
+    let lanes : (p : ℕ) → p < n → IsLaneOf p rows (lane_of m p) =
     (λ (p : ℕ) (below : p < n).
-    subst (λ (l : Lane). IsLaneOf p rows l) (sym (ap (λ (ls : List Lane). get_or ls p new_lane) reached.lanes)) (before.lanes p below)) in
-    let amid : IsAmid n rows row b c = amid_by (process_of row.entry.event) n rows row b c refl count lanes shows in
+    subst (λ (l : Lane). IsLaneOf p rows l) (sym (ap (λ (ls : List Lane). get_or ls p new_lane) same_lanes)) (before.lanes p below)) in
+    let amid : IsAmid n rows row m c = amid_by (process_of row.entry.event) n rows row m c refl count lanes shows in
     let facts = settled_facts (is_finished row.entry.answer) d e settles in
     let keeps = (learns.keeps []).count in
     let long : length d.lanes ≡ n = keeps ∙ amid.count in
     let learned : (p : ℕ) → p < n → _ = (λ (p : ℕ) (below : p < n).
     let there : p < length c.lanes = (let h = amid.count in omega arith) in learns.lanes p there) in
-    let on : b.on ≡ is_reached first (rows ++ row ∷ []) =
-    reached.on ∙ ap (λ (x : Bool). x || nat_le a.first row.entry.line) before.on
+    let b_on : b.on ≡ is_reached first (rows ++ row ∷ []) =
+    reached.on ∙ ap (λ (x : Bool). x || nat_le a.edge.first row.entry.line) before.on
     ∙ ap (λ (k : ℕ). is_reached first rows || nat_le k row.entry.line) before.first_line ∙ sym (reached_more first rows row) in
+    let on : m.on ≡ is_reached first (rows ++ row ∷ []) = placed.places.on ∙ b_on in
+    let edge : e.edge ≡ m.edge = facts.1 ∙ (learns.keeps []).edge ∙ amid.edge in
+    let e_x = edge_x e.edge m.edge edge in
+    let e_right = edge_right e.edge m.edge edge in
+    let b_x = edge_x b.edge a.edge reached.edge in
+    let b_right = edge_right b.edge a.edge reached.edge in
     record {
       on = facts.0 ∙ (learns.keeps []).on ∙ amid.on ∙ on;
-      first_line = facts.1 ∙ (learns.keeps []).first ∙ amid.first ∙ reached.first ∙ before.first_line;
+      first_line = ap (λ (g : Edge). g.first) edge ∙ placed.places.first ∙ ap (λ (g : Edge). g.first) reached.edge ∙ before.first_line;
       count = facts.2 ∙ long;
+      few = before.few;
+      placed = placed_more n first [] rows row before.placed (placed_behind n first rows row a b m before reached placed b_on);
+      behind =
+          let more = rightmost_more rows row in
+          let was : rightmost rows ≤ a.edge.x = before.behind in
+          let within : row.entry.at.x ≤ m.edge.x = placed.places.within in
+          let further : b.edge.x ≤ m.edge.x = placed.places.behind in
+          omega arith;
+      inside = let h : m.edge.x ≤ m.edge.right = placed.places.inside in omega arith;
+      room =
+          let was : a.edge.right ≤ MOST_LEFT + WIDEST * length rows = before.room in
+          let step : m.edge.right ≤ b.edge.right + WIDEST = placed.places.room in
+          let more = length_push rows row in
+          omega arith;
       lanes = λ (p : ℕ) (below : p < n).
           let l = learned p below in
           record {
-            interval = (facts.3 p).interval ∙ l.interval ∙ amid.interval p below;
-            ended = (facts.3 p).ended ∙ l.ended ∙ amid.ended p below;
-            reached = (facts.3 p).reached ∙ told_lane p rows row (lane_of c p) (lane_of d p) (amid.reached p below) l.reached;
+            interval = (facts.3 p).interval ∙ l.told.interval ∙ amid.interval p below;
+            ended = (facts.3 p).ended ∙ l.told.ended ∙ amid.ended p below;
+            loose = (facts.3 p).loose ∙ l.told.loose ∙ amid.loose p below;
+            held =
+                let within : p < length d.lanes = omega arith in
+                settled_held (is_finished row.entry.answer) d e settles p within
+                ∙ ap (λ (hs : List Held). if is_finished row.entry.answer then [] else hs)
+                (l.held ∙ ap (λ (k : ℕ). left_behind k (held_in (lane_of c p)))
+                (told_lane p rows row (lane_of c p) (lane_of d p) (amid.reached p below) l.told.reached)
+                ∙ ap (λ (hs : List Held). left_behind (highest p 0 (rows ++ row ∷ [])) hs) (amid.held p below))
+                ∙ sym (held_more p [] [] rows row);
+            reached = (facts.3 p).reached ∙ told_lane p rows row (lane_of c p) (lane_of d p) (amid.reached p below) l.told.reached;
           };
       marks = λ (later : List Row) (x : EventMark → ℕ).
-          let own : List EventMark = if b.on then marks_on n (process_of row.entry.event) rows row later else [] in
+          let own : List EventMark = if m.on then marks_on n (process_of row.entry.event) rows row later else [] in
           let z = round_told (is_finished row.entry.answer) row later d e refl
           (λ (q : ℕ) (below : q < length d.lanes). let within : q < n = omega arith in
-          told_again q row (lane_of c q) (lane_of d q) (learned q within).reached) settles x in
-          let y : sum_by x (all_marks (amid_marks row later) d) ≡ sum_by x (all_marks (amid_marks row later) c) =
-          (learns.keeps later).marks x in
-          let w : sum_by x (all_marks (amid_marks row later) c) ≡ sum_by x (all_marks (lane_marks (row ∷ later)) b ++ own) =
+          told_again q row (lane_of c q) (lane_of d q) (learned q within).told.reached) settles x in
+          let freed : List EventMark = if c.on then released_below n rows row else [] in
+          let y : sum_by x (all_marks (amid_marks row later) d)
+          ≡ sum_by x (all_marks (amid_marks row later) c ++ freed_below row c (length c.lanes)) = (learns.keeps later).marks x in
+          let y_both = sum_by-append x (all_marks (amid_marks row later) c) (freed_below row c (length c.lanes)) in
+          let y_count : sum_by x (freed_below row c (length c.lanes)) ≡ sum_by x (freed_below row c n) =
+          ap (λ (k : ℕ). sum_by x (freed_below row c k)) amid.count in
+          let all : n ≤ n = omega arith in
+          let y_freed : sum_by x (freed_below row c n) ≡ sum_by x freed =
+          freed_same x n rows row c before.few
+          (λ (p : ℕ) (below : p < n). freed_told p rows row (lane_of c p) (amid.reached p below) (amid.held p below)) n all in
+          let w : sum_by x (all_marks (amid_marks row later) c) ≡ sum_by x (all_marks (lane_marks (row ∷ later)) m ++ own) =
           amid.marks later x in
-          let v = sum_by-append x (all_marks (lane_marks (row ∷ later)) b) own in
-          let u : sum_by x (all_marks (lane_marks (row ∷ later)) b) ≡ sum_by x (all_marks (lane_marks (row ∷ later)) a) =
-          ap (λ (l : List EventMark). sum_by x l) (same_all (lane_marks (row ∷ later)) a b reached.drawn reached.lanes) in
+          let v = sum_by-append x (all_marks (lane_marks (row ∷ later)) m) own in
+          let u : sum_by x (all_marks (lane_marks (row ∷ later)) m) ≡ sum_by x (all_marks (lane_marks (row ∷ later)) a) =
+          ap (λ (l : List EventMark). sum_by x l) (same_all (lane_marks (row ∷ later)) a m same_drawn same_lanes) in
           let t : sum_by x (all_marks (lane_marks (row ∷ later)) a) ≡ sum_by x (marks_among n first [] rows (row ∷ later)) =
           before.marks (row ∷ later) x in
           let s : sum_by x (marks_among n first [] (rows ++ row ∷ []) later)
           ≡ sum_by x (marks_among n first [] rows (row ∷ later)) + sum_by x (row_marks n first rows row later) =
           ap (λ (l : List EventMark). sum_by x l) (among_more n first [] rows row later)
           ∙ sum_by-append x (marks_among n first [] rows (row ∷ later)) (row_marks n first rows row later) in
-          let r : sum_by x own ≡ sum_by x (row_marks n first rows row later) =
-          ap (λ (o : Bool). sum_by x (if o then marks_on n (process_of row.entry.event) rows row later else [])) on in
+          let r_on : c.on ≡ m.on = amid.on in
+          let r_freed : sum_by x freed ≡ sum_by x (if m.on then released_below n rows row else []) =
+          ap (λ (o : Bool). sum_by x (if o then released_below n rows row else [])) r_on in
+          let r_both = if_both x m.on (marks_on n (process_of row.entry.event) rows row later) (released_below n rows row) in
+          let r : sum_by x (if m.on then marks_on n (process_of row.entry.event) rows row later ++ released_below n rows row else [])
+          ≡ sum_by x (row_marks n first rows row later) =
+          ap (λ (o : Bool). sum_by x (if o then marks_on n (process_of row.entry.event) rows row later ++ released_below n rows row else [])) on in
           omega arith;
     }
 
-pub step_drawn : (r : Result (Unit {0}) AllocError) (a b c d e f : Sketch) (row : Row) → Reaches a b row.entry.line → ShowsEvent b c row
-    → d ≡ c → LearnsAll row d e → OnOk r (SettlesIf (is_finished row.entry.answer) e f)
-    → OnOk r ((n first : ℕ) (rows : List Row) → IsSketchOf n first rows a → IsSketchOf n first (rows ++ row ∷ []) f)
-step_drawn r a b c d e f row reached shows same learns settles =
-    on_ok_weaker r (λ (s : SettlesIf (is_finished row.entry.answer) e f).
-    sketch_more a b c e f row reached shows (subst (λ (x : Sketch). LearnsAll row x e) same learns) s) settles
+pub step_drawn : (r : Result (Unit {0}) AllocError) (a b m c d e f : Sketch) (step : Step) (at : Spot) → Reaches a b step.line
+    → PlacesEvent b m (step_row step at) → ShowsEvent m c (step_row step at) → d ≡ c → LearnsAll (step_row step at) d e
+    → OnOk r (SettlesIf (is_finished step.answer) e f)
+    → OnOk r ((at : Spot) × ((n first : ℕ) (rows : List Row) → IsSketchOf n first rows a
+    → IsSketchOf n first (rows ++ step_row step at ∷ []) f))
+step_drawn r a b m c d e f step at reached placed shows same learns settles =
+    on_ok_weaker r (λ (s : SettlesIf (is_finished step.answer) e f). (
+      at,
+      sketch_more a b m c e f (step_row step at) reached placed shows (subst (λ (x : Sketch). LearnsAll (step_row step at) x e) same learns) s,
+    )) settles
 
 -- ---- the end
 no_lanes : (v : ℕ → Lane → List EventMark) (s : Sketch) → ((q : ℕ) → q < length s.lanes → v q (lane_of s q) ≡ [])
@@ -433,16 +635,22 @@ new_at [] p before = refl
 new_at (h ∷ hs) zero before = before.0
 new_at (h ∷ hs) (suc p) before = new_at hs p before.1
 
-pub new_sketch : (n first : ℕ) (shapes : List Shape) (hs : List History) → shapes ≡ [] → length hs ≡ n → AreNew hs
-    → IsSketchOf n first [] (record { on = false; first = first; drawn = flat_map shape_marks shapes; lanes = map lane_in hs })
-new_sketch n first shapes hs none count new =
-    let s : Sketch = record { on = false; first = first; drawn = flat_map shape_marks shapes; lanes = map lane_in hs } in
+pub new_sketch : (n first : ℕ) (shapes : List Shape) (hs : List History) (edge : Edge) → shapes ≡ [] → length hs ≡ n → AreNew hs
+    → n ≤ MAX_PROCESSES → edge.first ≡ first → edge.x ≤ edge.right → edge.right ≤ MOST_LEFT
+    → IsSketchOf n first [] (record { on = false; edge = edge; drawn = flat_map shape_marks shapes; lanes = map lane_in hs })
+new_sketch n first shapes hs edge none count new few is inside most =
+    let s : Sketch = record { on = false; edge = edge; drawn = flat_map shape_marks shapes; lanes = map lane_in hs } in
     record {
       on = refl;
-      first_line = refl;
+      first_line = is;
       count = length-map hs lane_in ∙ count;
+      few = few;
+      placed = tt;
+      behind = omega arith;
+      inside = inside;
+      room = omega arith;
       lanes = λ (p : ℕ) (below : p < n). subst (λ (l : Lane). IsLaneOf p [] l) (sym (new_at hs p new))
-          (record { interval = refl; ended = refl; reached = refl });
+          (record { interval = refl; ended = refl; loose = refl; held = refl; reached = refl });
       marks = λ (later : List Row) (x : EventMark → ℕ).
           ap (λ (l : List EventMark). sum_by x l) (no_lanes (lane_marks later) s (λ (q : ℕ) (below : q < length s.lanes).
           ap (λ (l : Lane). lane_marks later q l) (new_at hs q new))

@@ -13,13 +13,13 @@ use Rattle.om_world.specs.declared.event.Event.{Event}
 use Rattle.om_world.specs.declared.event.Event.TheVariants as events
 use Rattle.om_world.specs.declared.event.Refusal.TheVariants as refusals
 use Rattle.om_picture.specs.Drawing.{mark_marks, waiting_marks}
-use Rattle.om_picture.specs.Fates.{Entry, Fate, Row, cuts, ended_after, ended_from, fate_behind, highest, interval_after, interval_from, is_cut, is_store, is_stored, next_ended, next_interval, next_place, stores}
+use Rattle.om_picture.specs.Fates.{Entry, Fate, Row, cuts, ended_after, ended_from, fate_behind, highest, interval_after, interval_from, is_cut, is_store, is_stored, loose_after, loose_from, next_ended, next_interval, next_loose, next_place, stores}
 use Rattle.om_picture.specs.Marks.{EventMark, fated_marks}
 use Rattle.om_picture.specs.Shows.{end_of, is_finished, new_end, shown}
 use Rattle.om_picture.specs.declared.history.Mark.{Mark}
 use Rattle.om_picture.specs.declared.shown.Shown.{Shown}
 use Rattle.om_picture.specs.declared.shown.Shown.TheVariants as shows
-use Rattle.om_picture.specs.steps.Adding.{ended_shown, fate_amid, fate_now, interval_shown, is_stored_by, kept}
+use Rattle.om_picture.specs.steps.Adding.{ended_shown, fate_amid, fate_now, interval_shown, is_stored_by, kept, loose_shown}
 
 -- ---- places
 further : (a b c : ℕ) → a ≤ b → b ≤ c → a ≤ c
@@ -300,6 +300,47 @@ ended_told ended (events.Resume process) answers.GoesOn = refl
 ended_told ended (events.Resume process) answer = refl
 ended_told ended events.Prune answer = refl
 
+run_loose : (b was : Bool) (sent made : ℕ) (ends : Option Status)
+    → loose_shown was (if b then shows.Nothing else shows.Run sent made ends) ≡ was
+run_loose true was sent made ends = refl
+run_loose false was sent made ends = refl
+
+flush_loose : (b was : Bool) → loose_shown was (if b then shows.Nothing else shows.Flush) ≡ (if b then was else false)
+flush_loose true was = refl
+flush_loose false was = refl
+
+resend_loose : (b was : Bool) (sent : ℕ) → loose_shown was (if b then shows.Nothing else shows.Resend sent) ≡ was
+resend_loose true was sent = refl
+resend_loose false was sent = refl
+
+pub loose_told : (ended : Bool) (event : Event) (answer : Answer) (was : Bool)
+    → loose_shown was (shown ended event answer) ≡ loose_after event answer was
+loose_told ended (events.Run process fuel) (answers.Ran steps status sent made) was =
+    run_loose ((sent == 0) && ((made == 0) && is_none (new_end ended status))) was sent made (new_end ended status)
+loose_told ended (events.Run process fuel) answer was = refl
+loose_told ended (events.Give process frame) (answers.Given (accepts.Taken interval)) was = refl
+loose_told ended (events.Give process frame) (answers.Given accept) was = refl
+loose_told ended (events.Give process frame) (answers.Refused refusals.NoFrame) was = refl
+loose_told ended (events.Give process frame) (answers.Refused refusals.NoProcess) was = refl
+loose_told ended (events.Give process frame) (answers.Refused why) was = refl
+loose_told ended (events.Give process frame) answer was = refl
+loose_told ended (events.Flush process) (answers.Noted count) was = flush_loose (count == 0) was
+loose_told ended (events.Flush process) answer was = refl
+loose_told ended (events.Checkpoint process) (answers.Noted count) was = refl
+loose_told ended (events.Checkpoint process) answer was = refl
+loose_told ended (events.Resend process) (answers.Resent sent) was = resend_loose (sent == 0) was sent
+loose_told ended (events.Resend process) answer was = refl
+loose_told ended (events.Trim process) answer was = refl
+loose_told ended (events.Fail process) (answers.Gathered gathered) was = refl
+loose_told ended (events.Fail process) answers.Down was = refl
+loose_told ended (events.Fail process) answer was = refl
+loose_told ended (events.Join process) (answers.Gathered gathered) was = refl
+loose_told ended (events.Join process) answer was = refl
+loose_told ended (events.Resume process) (answers.Back interval inc) was = refl
+loose_told ended (events.Resume process) answers.GoesOn was = refl
+loose_told ended (events.Resume process) answer was = refl
+loose_told ended events.Prune answer was = refl
+
 -- ---- one event more
 pub interval_more : (p was : ℕ) (rows : List Row) (row : Row)
     → interval_from p was (rows ++ row ∷ []) ≡ next_interval p (interval_from p was rows) row
@@ -310,6 +351,11 @@ pub ended_more : (p : ℕ) (was : Bool) (rows : List Row) (row : Row)
     → ended_from p was (rows ++ row ∷ []) ≡ next_ended p (ended_from p was rows) row
 ended_more p was [] row = refl
 ended_more p was (x ∷ rows) row = ended_more p (next_ended p was x) rows row
+
+pub loose_more : (p : ℕ) (was : Bool) (rows : List Row) (row : Row)
+    → loose_from p was (rows ++ row ∷ []) ≡ next_loose p (loose_from p was rows) row
+loose_more p was [] row = refl
+loose_more p was (x ∷ rows) row = loose_more p (next_loose p was x) rows row
 
 pub highest_more : (p was : ℕ) (rows : List Row) (row : Row) → highest p was (rows ++ row ∷ []) ≡ next_place p (highest p was rows) row
 highest_more p was [] row = refl

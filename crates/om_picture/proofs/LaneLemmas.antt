@@ -4,26 +4,29 @@ use Rattle.std.specs.Prelude.{nat_le, nat_lt, slice_index}
 use Rattle.std.specs.List.{flat_map, sum_by}
 use Rattle.std.specs.declared.alloc.AllocError.{AllocError}
 use Rattle.std.proofs.Math.Dec.{eqb-suc-zero}
-use Rattle.std.proofs.Math.Bool.{or-true}
+use Rattle.std.proofs.Math.Bool.{or-false, or_assoc}
 use Rattle.std.proofs.lemmas.Bool.{eq-eqb, ltb-false, ltb-true}
 use Rattle.std.proofs.lemmas.Bool.Decides.{eqb_tells}
 use Rattle.std.proofs.lemmas.List.{append-nil, drop-append-le, drop_all, drop_more, flat_map_more, get_or_past, get_or-map, length-drop, length-map, map-set, set-get_or}
 use Rattle.std.proofs.lemmas.List.Sums.{sum_by-append}
 use Rattle.std.proofs.lemmas.Result.{on_ok_weaker}
-use Rattle.om_picture.specs.Drawing.{Lane, Sketch, all_marks, lane_in, lane_of, lanes_marks, late_marks, mark_marks, new_lane, waiting_marks}
+use Rattle.om_picture.specs.Drawing.{Edge, Lane, Sketch, all_marks, held_in, held_of, lane_in, lane_of, lanes_marks, late_marks, mark_marks, new_lane, waiting_marks}
 use Rattle.om_picture.specs.Fates.{Entry, Fate, Row}
-use Rattle.om_picture.specs.Marks.{EventMark, Kind, Made, kind_drawn, mark_of, output_marks, shape_marks, title_entry}
+use Rattle.om_picture.specs.Held.{Held, covered_by, is_any_elsewhere, is_elsewhere, left_behind}
+use Rattle.om_picture.specs.Marks.{EventMark, Kind, Made, Stands, kind_drawn, mark_of, output_marks, released_at, shape_marks, title_entry}
 use Rattle.om_picture.specs.Shows.{shown}
 use Rattle.om_picture.specs.declared.history.History.{History}
 use Rattle.om_picture.specs.declared.history.Mark.{Mark}
 use Rattle.om_picture.specs.declared.history.Next.{Next}
 use Rattle.om_picture.specs.declared.sheet.Form.{Form}
 use Rattle.om_picture.specs.declared.sheet.Shape.{Shape}
+use Rattle.om_picture.specs.declared.sheet.Spot.{Spot}
 use Rattle.om_picture.specs.declared.sheet.Title.{Title}
 use Rattle.om_picture.specs.declared.shown.Shown.{Shown}
 use Rattle.om_picture.specs.declared.shown.Shown.TheVariants as shows
-use Rattle.om_picture.specs.steps.Adding.{IsMore, Keeps, Learns, LearnsAll, LearnsAt, LearnsBelow, Raises, Settles, SettlesAll, SettlesBelow, SettlesLane, SettlesSome, Shows, ShowsAt, Stays, Takes, TakesCovered, TakesFirst, Turns, Waits, amid_marks, fate_amid, fate_now, kept, kind_late, made_by, now_marks}
+use Rattle.om_picture.specs.steps.Adding.{IsMore, Keeps, KeepsWith, Learning, Learns, LearnsAll, LearnsAt, LearnsBelow, Raises, Settles, SettlesAll, SettlesBelow, SettlesLane, SettlesSome, Shows, ShowsAt, Stays, Takes, TakesCovered, TakesFirst, Told, Turns, Waits, amid_marks, fate_amid, fate_now, freed_below, frees, kept, kind_late, lane_number, made_by, now_marks}
 use Rattle.om_picture.proofs.FateLemmas.{amid_again, kept_amid, waiting_alike}
+use Rattle.om_picture.proofs.HeldLemmas.{covered_first, covered_none, uncovered_all, uncovered_first}
 
 -- ---- counts
 pub all_counted : (count : EventMark → ℕ) (marks : ℕ → Lane → List EventMark) (s : Sketch)
@@ -123,32 +126,21 @@ settled_lane a b more s q = ap (λ (ls : List Lane). get_or ls q new_lane) s.lan
 
 -- ---- what is kept
 pub keeps_none : (v : ℕ → Lane → List EventMark) (s : Sketch) → Keeps v s s
-keeps_none v s = record { on = refl; first = refl; count = refl; marks = λ (c : EventMark → ℕ). refl }
+keeps_none v s = record { on = refl; edge = refl; count = refl; marks = λ (c : EventMark → ℕ). refl }
 
 pub keeps_then : (v : ℕ → Lane → List EventMark) (a b c : Sketch) → Keeps v a b → Keeps v b c → Keeps v a c
 keeps_then v a b c p q = record {
   on = q.on ∙ p.on;
-  first = q.first ∙ p.first;
+  edge = q.edge ∙ p.edge;
   count = q.count ∙ p.count;
   marks = λ (x : EventMark → ℕ). q.marks x ∙ p.marks x;
-}
-
-settles_keeps : (v : ℕ → Lane → List EventMark) (a b : Sketch) → Settles a b [] → Keeps v a b
-settles_keeps v a b s = record {
-  on = s.on;
-  first = s.first;
-  count = ap (λ (ls : List Lane). length ls) s.lanes;
-  marks = λ (c : EventMark → ℕ).
-      let x = settle_counted c v a b [] s in
-      let none : sum_by c (let l : List EventMark = [] in l) ≡ 0 = refl in
-      omega arith;
 }
 
 turn_keeps : (v : ℕ → Lane → List EventMark) (Turn : Lane → Lane → Type 0) (a b : Sketch) (p : ℕ) → Turns Turn a b p
     → v p (lane_of b p) ≡ v p (lane_of a p) → Keeps v a b
 turn_keeps v Turn a b p t same = record {
   on = t.on;
-  first = t.first;
+  edge = t.edge;
   count = turned_count Turn a b p t;
   marks = λ (c : EventMark → ℕ).
       let x = turn_counted c v Turn a b p t in
@@ -161,7 +153,7 @@ taken_keeps : (v : ℕ → Lane → List EventMark) (Turn : Lane → Lane → Ty
     → Turns Turn a b p → Settles b c more → v p (lane_of a p) ≡ more ++ v p (lane_of b p) → Keeps v a c
 taken_keeps v Turn a b c p more t s was = record {
   on = s.on ∙ t.on;
-  first = s.first ∙ t.first;
+  edge = s.edge ∙ t.edge;
   count = ap (λ (ls : List Lane). length ls) s.lanes ∙ turned_count Turn a b p t;
   marks = λ (x : EventMark → ℕ).
       let i = turn_counted x v Turn a b p t in
@@ -185,6 +177,7 @@ takes_stays : (mark : Mark) (a b : Lane) → Takes mark a b → Stays a b
 takes_stays mark a b t = record {
   interval = ap (λ (l : Lane). l.interval) t.lane;
   ended = ap (λ (l : Lane). l.ended) t.lane;
+  loose = ap (λ (l : Lane). l.loose) t.lane;
   reached = ap (λ (l : Lane). l.reached) t.lane;
 }
 
@@ -199,17 +192,22 @@ raised_marks row later p place a b is raised =
     ap (λ (n : ℕ). fate_amid row later p i stored (max a.reached n)) is ∙ amid_again row later p i a.reached stored) a.stored a.waiting
 
 pub learn_first : (row : Row) (a b : Sketch) (p place : ℕ) → place ≡ slice_index row.recovery p → Turns (Raises place) a b p
-    → LearnsAt row a b p
-learn_first row a b p place is t = record {
-  keeps = λ (later : List Row). turn_keeps (amid_marks row later) (Raises place) a b p t
-      (raised_marks row later p place (lane_of a p) (lane_of b p) is t.turn);
-  here = record {
-    interval = ap (λ (l : Lane). l.interval) t.turn;
-    ended = ap (λ (l : Lane). l.ended) t.turn;
-    reached = ap (λ (l : Lane). l.reached) t.turn ∙ ap (λ (n : ℕ). max (lane_of a p).reached n) is;
-  };
-  others = turned_other (Raises place) a b p t;
-}
+    → Learning row false a b p
+learn_first row a b p place is t =
+    let same : held_in (lane_of b p) ≡ held_in (lane_of a p) = ap (λ (l : Lane). held_in l) t.turn in
+    record {
+      keeps = λ (later : List Row). turn_keeps (amid_marks row later) (Raises place) a b p t
+          (raised_marks row later p place (lane_of a p) (lane_of b p) is t.turn);
+      here = record {
+        interval = ap (λ (l : Lane). l.interval) t.turn;
+        ended = ap (λ (l : Lane). l.ended) t.turn;
+        loose = ap (λ (l : Lane). l.loose) t.turn;
+        reached = ap (λ (l : Lane). l.reached) t.turn ∙ ap (λ (n : ℕ). max (lane_of a p).reached n) is;
+      };
+      left = ap (λ (l : List Held). left_behind (lane_of b p).reached l) (sym same);
+      freed = ap (λ (l : List Held). is_any_elsewhere row.entry.at.x (covered_by (lane_of b p).reached l)) (sym same);
+      others = turned_other (Raises place) a b p t;
+    }
 
 -- a mark that it covers is kept
 covered_marks : (row : Row) (later : List Row) (p : ℕ) (mark : Mark) (a b : Lane) → TakesCovered mark a b
@@ -219,21 +217,57 @@ covered_marks row later p mark a b t =
     ∙ ap (λ (f : Fate). mark_marks mark f ++ amid_marks row later p b)
     (kept_amid row later p mark.interval a.reached (nat_lt 0 a.stored) t.covered)
 
-learned_still : (place : ℕ) (a b c : Lane) → Learns place a b → Stays b c → Learns place a c
-learned_still place a b c p q = record { interval = q.interval ∙ p.interval; ended = q.ended ∙ p.ended; reached = q.reached ∙ p.reached }
-
-pub learn_kept : (row : Row) (a b c d : Sketch) (p : ℕ) (mark : Mark) → LearnsAt row a b p → Turns (TakesCovered mark) b c p
-    → Settles c d (mark_marks mark kept) → LearnsAt row a d p
-learn_kept row a b c d p mark before t s = record {
-  keeps = λ (later : List Row). keeps_then (amid_marks row later) a b d (before.keeps later)
-      (taken_keeps (amid_marks row later) (TakesCovered mark) b c d p (mark_marks mark kept) t s
-      (covered_marks row later p mark (lane_of b p) (lane_of c p) t.turn));
-  here = learned_still (slice_index row.recovery p) (lane_of a p) (lane_of b p) (lane_of d p) before.here
-      (subst (λ (l : Lane). Stays (lane_of b p) l) (sym (settled_lane c d (mark_marks mark kept) s p))
-      (takes_stays mark (lane_of b p) (lane_of c p) t.turn.takes));
-  others = λ (q : ℕ) (away : q ≢ p).
-      settled_lane c d (mark_marks mark kept) s q ∙ turned_other (TakesCovered mark) b c p t q away ∙ before.others q away;
+told_still : (place : ℕ) (a b c : Lane) → Told place a b → Stays b c → Told place a c
+told_still place a b c p q = record {
+  interval = q.interval ∙ p.interval;
+  ended = q.ended ∙ p.ended;
+  loose = q.loose ∙ p.loose;
+  reached = q.reached ∙ p.reached;
 }
+
+-- what was left, and what was found, behind one more that goes
+left_next : (place : ℕ) (mark : Mark) (all was rest : List Held) → mark.interval ≤ place → was ≡ held_of mark ∷ rest
+    → left_behind place all ≡ left_behind place was → left_behind place all ≡ left_behind place rest
+left_next place mark all was rest within is left =
+    left ∙ ap (λ (l : List Held). left_behind place l) is ∙ uncovered_first place (held_of mark) rest within
+
+freed_next : (x place : ℕ) (mark : Mark) (found more : Bool) (all was rest : List Held) → mark.interval ≤ place
+    → was ≡ held_of mark ∷ rest → more ≡ is_elsewhere x (held_of mark)
+    → is_any_elsewhere x (covered_by place all) ≡ (found || is_any_elsewhere x (covered_by place was))
+    → is_any_elsewhere x (covered_by place all) ≡ ((found || more) || is_any_elsewhere x (covered_by place rest))
+freed_next x place mark found more all was rest within is here freed =
+    freed ∙ ap (λ (l : List Held). found || is_any_elsewhere x (covered_by place l)) is
+    ∙ ap (λ (l : List Held). found || is_any_elsewhere x l) (covered_first place (held_of mark) rest within)
+    ∙ sym (or_assoc found (is_elsewhere x (held_of mark)) (is_any_elsewhere x (covered_by place rest)))
+    ∙ ap (λ (b : Bool). (found || b) || is_any_elsewhere x (covered_by place rest)) (sym here)
+
+pub learn_kept : (row : Row) (found more : Bool) (a b c d : Sketch) (p : ℕ) (mark : Mark) → Learning row found a b p
+    → Turns (TakesCovered mark) b c p → Settles c d (mark_marks mark kept) → more ≡ is_elsewhere row.entry.at.x (held_of mark)
+    → Learning row (found || more) a d p
+learn_kept row found more a b c d p mark before t s is =
+    let settled = settled_lane c d (mark_marks mark kept) s p in
+    let reached : (lane_of d p).reached ≡ (lane_of b p).reached =
+    ap (λ (l : Lane). l.reached) settled ∙ ap (λ (l : Lane). l.reached) t.turn.takes.lane in
+    let was : held_in (lane_of b p) ≡ held_of mark ∷ held_in (lane_of d p) =
+    ap (λ (l : List Mark). map held_of l) t.turn.takes.was ∙ ap (λ (l : Lane). held_of mark ∷ held_in l) (sym settled) in
+    record {
+      keeps = λ (later : List Row). keeps_then (amid_marks row later) a b d (before.keeps later)
+          (taken_keeps (amid_marks row later) (TakesCovered mark) b c d p (mark_marks mark kept) t s
+          (covered_marks row later p mark (lane_of b p) (lane_of c p) t.turn));
+      here = told_still (slice_index row.recovery p) (lane_of a p) (lane_of b p) (lane_of d p) before.here
+          (subst (λ (l : Lane). Stays (lane_of b p) l) (sym settled) (takes_stays mark (lane_of b p) (lane_of c p) t.turn.takes));
+      left =
+          subst (λ (n : ℕ). left_behind n (held_in (lane_of a p)) ≡ left_behind n (held_in (lane_of d p))) (sym reached)
+          (left_next (lane_of b p).reached mark (held_in (lane_of a p)) (held_in (lane_of b p)) (held_in (lane_of d p)) t.turn.covered was
+          before.left);
+      freed =
+          subst (λ (n : ℕ). is_any_elsewhere row.entry.at.x (covered_by n (held_in (lane_of a p)))
+          ≡ ((found || more) || is_any_elsewhere row.entry.at.x (covered_by n (held_in (lane_of d p))))) (sym reached)
+          (freed_next row.entry.at.x (lane_of b p).reached mark found more (held_in (lane_of a p)) (held_in (lane_of b p))
+          (held_in (lane_of d p)) t.turn.covered was is before.freed);
+      others = λ (q : ℕ) (away : q ≢ p).
+          settled_lane c d (mark_marks mark kept) s q ∙ turned_other (TakesCovered mark) b c p t q away ∙ before.others q away;
+    }
 
 -- a lane whose first mark is taken has fewer
 fewer : (mark : Mark) (a b : Lane) → Takes mark a b → length b.waiting < length a.waiting
@@ -247,42 +281,108 @@ kept_fewer b c d p mark more t s =
     (settled_lane c d more s p) in
     omega arith
 
-pub learn_none : (row : Row) (a b c : Sketch) (p : ℕ) → LearnsAt row a b p → c ≡ b → LearnsAt row a c p
-learn_none row a b c p before same = subst (λ (s : Sketch). LearnsAt row a s p) (sym same) before
+-- no more is covered
+learned : (row : Row) (found : Bool) (a b : Sketch) (p : ℕ) → Learning row found a b p
+    → covered_by (lane_of b p).reached (held_in (lane_of b p)) ≡ [] → LearnsAt row a b p
+learned row found a b p before none = record {
+  keeps = before.keeps;
+  here = record {
+    told = before.here;
+    held = sym (before.left ∙ uncovered_all (lane_of b p).reached (held_in (lane_of b p)) none);
+  };
+  others = before.others;
+}
+
+pub learn_none : (row : Row) (found : Bool) (a b c : Sketch) (p : ℕ) → Learning row found a b p
+    → (c ≡ b) × (covered_by (lane_of b p).reached (held_in (lane_of b p)) ≡ []) → LearnsAt row a c p
+learn_none row found a b c p before last =
+    subst (λ (s : Sketch). LearnsAt row a s p) (sym last.0) (learned row found a b p before last.1)
+
+pub learn_freed : (row : Row) (found : Bool) (a b c : Sketch) (p : ℕ) → Learning row found a b p
+    → (c ≡ b) × (covered_by (lane_of b p).reached (held_in (lane_of b p)) ≡ []) → found ≡ frees row p (lane_of a p)
+learn_freed row found a b c p before last =
+    sym (ap (λ (n : ℕ). is_any_elsewhere row.entry.at.x (covered_by n (held_in (lane_of a p)))) (sym before.here.reached)
+    ∙ before.freed ∙ ap (λ (l : List Held). found || is_any_elsewhere row.entry.at.x l) last.1 ∙ or-false found)
 
 pub learns_start : (row : Row) (a : Sketch) → LearnsBelow row a a 0
 learns_start row a = record {
-  keeps = λ (later : List Row). keeps_none (amid_marks row later) a;
+  keeps = λ (later : List Row). record {
+    on = refl;
+    edge = refl;
+    count = refl;
+    marks = λ (c : EventMark → ℕ). ap (λ (l : List EventMark). sum_by c l) (sym (append-nil (all_marks (amid_marks row later) a)));
+  };
   learned = λ (q : ℕ) (below : q < 0). absurd (omega arith);
   others = λ (q : ℕ) (past : 0 ≤ q). refl;
 }
 
-pub learns_next : (row : Row) (a b c d : Sketch) (p : ℕ) → LearnsBelow row a b p → LearnsAt row b c p → Settles c d []
+-- what one lane more frees
+freed_one : (row : Row) (found : Bool) (a b c : Sketch) (p : ℕ) → c.on ≡ a.on → lane_of b p ≡ lane_of a p
+    → found ≡ frees row p (lane_of b p)
+    → (if c.on then released_at found (lane_number p) row.entry else [])
+    ≡ (if a.on then released_at (frees row p (lane_of a p)) (lane_number p) row.entry else [])
+freed_one row found a b c p on lane is =
+    ap (λ (x : Bool). if x then released_at found (lane_number p) row.entry else []) on
+    ∙ ap (λ (x : Bool). if a.on then released_at x (lane_number p) row.entry else []) is
+    ∙ ap (λ (l : Lane). if a.on then released_at (frees row p l) (lane_number p) row.entry else []) lane
+
+freed_more : (v : ℕ → Lane → List EventMark) (row : Row) (a b c d : Sketch) (p : ℕ) (more : List EventMark)
+    → KeepsWith (freed_below row a p) v a b → Keeps v b c → Settles c d more
+    → more ≡ (if a.on then released_at (frees row p (lane_of a p)) (lane_number p) row.entry else [])
+    → KeepsWith (freed_below row a (p + 1)) v a d
+freed_more v row a b c d p more before at s is =
+    let next : p + 1 ≡ suc p = omega arith in
+    record {
+      on = s.on ∙ at.on ∙ before.on;
+      edge = s.edge ∙ at.edge ∙ before.edge;
+      count = ap (λ (ls : List Lane). length ls) s.lanes ∙ at.count ∙ before.count;
+      marks = λ (x : EventMark → ℕ).
+          let one : List EventMark = if a.on then released_at (frees row p (lane_of a p)) (lane_number p) row.entry else [] in
+          let i : sum_by x (all_marks v b) ≡ sum_by x (all_marks v a ++ freed_below row a p) = before.marks x in
+          let j = sum_by-append x (all_marks v a) (freed_below row a p) in
+          let k : sum_by x (all_marks v c) ≡ sum_by x (all_marks v b) = at.marks x in
+          let l = settle_counted x v c d more s in
+          let m : sum_by x more ≡ sum_by x one = ap (λ (ms : List EventMark). sum_by x ms) is in
+          let n : sum_by x (freed_below row a (p + 1)) ≡ sum_by x (freed_below row a p ++ one) =
+          ap (λ (q : ℕ). sum_by x (freed_below row a q)) next in
+          let o = sum_by-append x (freed_below row a p) one in
+          let q = sum_by-append x (all_marks v a) (freed_below row a (p + 1)) in
+          omega arith;
+    }
+
+pub learns_next : (row : Row) (found : Bool) (a b c d : Sketch) (p : ℕ) → LearnsBelow row a b p → LearnsAt row b c p
+    → found ≡ frees row p (lane_of b p) → Settles c d (if c.on then released_at found (lane_number p) row.entry else [])
     → LearnsBelow row a d (p + 1)
-learns_next row a b c d p before at s = record {
-  keeps = λ (later : List Row). keeps_then (amid_marks row later) a b d (before.keeps later)
-      (keeps_then (amid_marks row later) b c d (at.keeps later) (settles_keeps (amid_marks row later) c d s));
-  learned = λ (q : ℕ) (below : q < p + 1). elim (eqb_tells q p) [
-    | inl here ↦
-        let le : p ≤ q = (let e = here.1 in omega arith) in
-        let one : Learns (slice_index row.recovery q) (lane_of b q) (lane_of c q) =
-        subst (λ (n : ℕ). Learns (slice_index row.recovery n) (lane_of b n) (lane_of c n)) (sym here.1) at.here in
-        subst (λ (l : Lane). Learns (slice_index row.recovery q) (lane_of a q) l) (sym (settled_lane c d [] s q))
-        (subst (λ (l : Lane). Learns (slice_index row.recovery q) l (lane_of c q)) (before.others q le) one)
-    | inr away ↦
-        let less : q < p = (let e = away.1 in omega arith) in
-        subst (λ (l : Lane). Learns (slice_index row.recovery q) (lane_of a q) l)
-        (sym (settled_lane c d [] s q ∙ at.others q away.1)) (before.learned q less)
-  ];
-  others = λ (q : ℕ) (past : p + 1 ≤ q).
-      let away : q ≢ p = omega arith in
-      let le : p ≤ q = omega arith in
-      settled_lane c d [] s q ∙ at.others q away ∙ before.others q le;
-}
+learns_next row found a b c d p before at is s =
+    let more : List EventMark = if c.on then released_at found (lane_number p) row.entry else [] in
+    let here : p ≤ p = omega arith in
+    record {
+      keeps = λ (later : List Row).
+          let on : c.on ≡ a.on = (at.keeps later).on ∙ (before.keeps later).on in
+          freed_more (amid_marks row later) row a b c d p more (before.keeps later) (at.keeps later) s
+          (freed_one row found a b c p on (before.others p here) is);
+      learned = λ (q : ℕ) (below : q < p + 1). elim (eqb_tells q p) [
+        | inl same ↦
+            let le : p ≤ q = (let e = same.1 in omega arith) in
+            let one : Learns (slice_index row.recovery q) (lane_of b q) (lane_of c q) =
+            subst (λ (n : ℕ). Learns (slice_index row.recovery n) (lane_of b n) (lane_of c n)) (sym same.1) at.here in
+            subst (λ (l : Lane). Learns (slice_index row.recovery q) (lane_of a q) l) (sym (settled_lane c d more s q))
+            (subst (λ (l : Lane). Learns (slice_index row.recovery q) l (lane_of c q)) (before.others q le) one)
+        | inr away ↦
+            let less : q < p = (let e = away.1 in omega arith) in
+            subst (λ (l : Lane). Learns (slice_index row.recovery q) (lane_of a q) l)
+            (sym (settled_lane c d more s q ∙ at.others q away.1)) (before.learned q less)
+      ];
+      others = λ (q : ℕ) (past : p + 1 ≤ q).
+          let away : q ≢ p = omega arith in
+          let le : p ≤ q = omega arith in
+          settled_lane c d more s q ∙ at.others q away ∙ before.others q le;
+    }
 
 pub learns_all : (row : Row) (a b : Sketch) (p : ℕ) → p ≡ length a.lanes → LearnsBelow row a b p → LearnsAll row a b
 learns_all row a b p count below = record {
-  keeps = below.keeps;
+  keeps = λ (later : List Row).
+      subst (λ (k : ℕ). KeepsWith (freed_below row a k) (amid_marks row later) a b) count (below.keeps later);
   lanes = λ (q : ℕ) (within : q < length a.lanes). let less : q < p = omega arith in below.learned q less;
 }
 
@@ -295,10 +395,15 @@ first_marks finished p next a b t =
     ∙ ap (λ (x : Bool). mark_marks next.mark (fate_now finished next.covered x) ++ now_marks finished p b) (sym t.stored)
 
 stays_then : (a b c : Lane) → Stays a b → Stays b c → Stays a c
-stays_then a b c p q = record { interval = q.interval ∙ p.interval; ended = q.ended ∙ p.ended; reached = q.reached ∙ p.reached }
+stays_then a b c p q = record {
+  interval = q.interval ∙ p.interval;
+  ended = q.ended ∙ p.ended;
+  loose = q.loose ∙ p.loose;
+  reached = q.reached ∙ p.reached;
+}
 
 stays : (a : Lane) → Stays a a
-stays a = record { interval = refl; ended = refl; reached = refl }
+stays a = record { interval = refl; ended = refl; loose = refl; reached = refl }
 
 pub settles_start : (finished : Bool) (a : Sketch) (p : ℕ) → SettlesSome finished a a p
 settles_start finished a p = record { keeps = keeps_none (now_marks finished) a; here = stays (lane_of a p); others = λ q away. refl }
@@ -364,15 +469,15 @@ settles_all finished a b p count below = record {
 }
 
 -- ---- lanes of histories
-lane_at : (hs : List History) (p : ℕ) (h : History) → p < length hs → h ≡ get_or hs p h → get_or (map lane_in hs) p new_lane ≡ lane_in h
+pub lane_at : (hs : List History) (p : ℕ) (h : History) → p < length hs → h ≡ get_or hs p h → get_or (map lane_in hs) p new_lane ≡ lane_in h
 lane_at hs p h within is = get_or-map lane_in hs p h new_lane within ∙ ap lane_in (sym is)
 
 -- a history that changes
-pub turned : (Turn : Lane → Lane → Type 0) (on : Bool) (first : ℕ) (drawn : List EventMark) (hs : List History) (p : ℕ) (old new : History)
+pub turned : (Turn : Lane → Lane → Type 0) (on : Bool) (edge : Edge) (drawn : List EventMark) (hs : List History) (p : ℕ) (old new : History)
     → p < length hs → old ≡ get_or hs p old → Turn (lane_in old) (lane_in new)
-    → Turns Turn (record { on = on; first = first; drawn = drawn; lanes = map lane_in hs })
-    (record { on = on; first = first; drawn = drawn; lanes = map lane_in (set hs p new) }) p
-turned Turn on first drawn hs p old new within is turn =
+    → Turns Turn (record { on = on; edge = edge; drawn = drawn; lanes = map lane_in hs })
+    (record { on = on; edge = edge; drawn = drawn; lanes = map lane_in (set hs p new) }) p
+turned Turn on edge drawn hs p old new within is turn =
     let long = length-map hs lane_in in
     let there : p < length (map lane_in hs) = omega arith in
     let now : get_or (map lane_in (set hs p new)) p new_lane ≡ lane_in new =
@@ -380,7 +485,7 @@ turned Turn on first drawn hs p old new within is turn =
     ∙ get_or-set_same (map lane_in hs) p (lane_in new) new_lane there in
     record {
       on = refl;
-      first = refl;
+      edge = refl;
       drawn = refl;
       within = there;
       lanes = map-set lane_in hs p new ∙ ap (λ (l : Lane). set (map lane_in hs) p l) (sym now);
@@ -388,91 +493,108 @@ turned Turn on first drawn hs p old new within is turn =
           (subst (λ (l : Lane). Turn l (lane_in new)) (sym (lane_at hs p old within is)) turn);
     }
 
-pub turned_if : (r : Result (Unit {0}) AllocError) (Turn : Lane → Lane → Type 0) (on : Bool) (first : ℕ) (drawn : List EventMark)
+pub turned_if : (r : Result (Unit {0}) AllocError) (Turn : Lane → Lane → Type 0) (on : Bool) (edge : Edge) (drawn : List EventMark)
     (hs : List History) (p : ℕ) (old new : History)
     → p < length hs → old ≡ get_or hs p old → OnOk r (Turn (lane_in old) (lane_in new))
-    → OnOk r (Turns Turn (record { on = on; first = first; drawn = drawn; lanes = map lane_in hs })
-    (record { on = on; first = first; drawn = drawn; lanes = map lane_in (set hs p new) }) p)
-turned_if r Turn on first drawn hs p old new within is turn =
-    on_ok_weaker r (λ (t : Turn (lane_in old) (lane_in new)). turned Turn on first drawn hs p old new within is t) turn
+    → OnOk r (Turns Turn (record { on = on; edge = edge; drawn = drawn; lanes = map lane_in hs })
+    (record { on = on; edge = edge; drawn = drawn; lanes = map lane_in (set hs p new) }) p)
+turned_if r Turn on edge drawn hs p old new within is turn =
+    on_ok_weaker r (λ (t : Turn (lane_in old) (lane_in new)). turned Turn on edge drawn hs p old new within is t) turn
 
 -- one that does not
-same_lanes : (on : Bool) (first : ℕ) (drawn : List EventMark) (hs : List History) (p : ℕ) (old new : History) → p < length hs
+same_lanes : (on : Bool) (edge : Edge) (drawn : List EventMark) (hs : List History) (p : ℕ) (old new : History) → p < length hs
     → old ≡ get_or hs p old → lane_in new ≡ lane_in old
-    → (let s : Sketch = record { on = on; first = first; drawn = drawn; lanes = map lane_in (set hs p new) } in s)
-    ≡ record { on = on; first = first; drawn = drawn; lanes = map lane_in hs }
-same_lanes on first drawn hs p old new within is same =
-    ap (λ (ls : List Lane). let s : Sketch = record { on = on; first = first; drawn = drawn; lanes = ls } in s)
+    → (let s : Sketch = record { on = on; edge = edge; drawn = drawn; lanes = map lane_in (set hs p new) } in s)
+    ≡ record { on = on; edge = edge; drawn = drawn; lanes = map lane_in hs }
+same_lanes on edge drawn hs p old new within is same =
+    ap (λ (ls : List Lane). let s : Sketch = record { on = on; edge = edge; drawn = drawn; lanes = ls } in s)
     (map-set lane_in hs p new
     ∙ ap (λ (l : Lane). set (map lane_in hs) p l) (same ∙ sym (lane_at hs p old within is))
     ∙ set-get_or (map lane_in hs) p new_lane)
 
-pub first_taken : (r : Option Next) (on : Bool) (first : ℕ) (drawn : List EventMark) (hs : List History) (p : ℕ) (old new : History)
+pub first_taken : (r : Option Next) (on : Bool) (edge : Edge) (drawn : List EventMark) (hs : List History) (p : ℕ) (old new : History)
     → p < length hs → old ≡ get_or hs p old
     → MatchOption r (((lane_in old).waiting ≡ []) × (lane_in new ≡ lane_in old)) (λ next. TakesFirst next (lane_in old) (lane_in new))
-    → (let before : Sketch = record { on = on; first = first; drawn = drawn; lanes = map lane_in hs } in
-    let after : Sketch = record { on = on; first = first; drawn = drawn; lanes = map lane_in (set hs p new) } in
+    → (let before : Sketch = record { on = on; edge = edge; drawn = drawn; lanes = map lane_in hs } in
+    let after : Sketch = record { on = on; edge = edge; drawn = drawn; lanes = map lane_in (set hs p new) } in
     MatchOption r ((after ≡ before) × ((lane_of before p).waiting ≡ [])) (λ next. Turns (TakesFirst next) before after p))
-first_taken (Some next) on first drawn hs p old new within is taken =
-    turned (TakesFirst next) on first drawn hs p old new within is taken
-first_taken None on first drawn hs p old new within is none =
-    (same_lanes on first drawn hs p old new within is none.1, ap (λ (l : Lane). l.waiting) (lane_at hs p old within is) ∙ none.0)
+first_taken (Some next) on edge drawn hs p old new within is taken =
+    turned (TakesFirst next) on edge drawn hs p old new within is taken
+first_taken None on edge drawn hs p old new within is none =
+    (same_lanes on edge drawn hs p old new within is none.1, ap (λ (l : Lane). l.waiting) (lane_at hs p old within is) ∙ none.0)
 
-pub covered_taken : (r : Option Mark) (on : Bool) (first : ℕ) (drawn : List EventMark) (hs : List History) (p : ℕ) (old new : History)
+pub covered_taken : (r : Option Mark) (on : Bool) (edge : Edge) (drawn : List EventMark) (hs : List History) (p : ℕ) (old new : History)
     → p < length hs → old ≡ get_or hs p old
-    → MatchOption r (lane_in new ≡ lane_in old) (λ mark. TakesCovered mark (lane_in old) (lane_in new))
-    → (let before : Sketch = record { on = on; first = first; drawn = drawn; lanes = map lane_in hs } in
-    let after : Sketch = record { on = on; first = first; drawn = drawn; lanes = map lane_in (set hs p new) } in
-    MatchOption r (after ≡ before) (λ mark. Turns (TakesCovered mark) before after p))
-covered_taken (Some mark) on first drawn hs p old new within is taken =
-    turned (TakesCovered mark) on first drawn hs p old new within is taken
-covered_taken None on first drawn hs p old new within is none = same_lanes on first drawn hs p old new within is none
+    → MatchOption r ((lane_in new ≡ lane_in old) × (covered_by (lane_in old).reached (held_in (lane_in old)) ≡ []))
+    (λ mark. TakesCovered mark (lane_in old) (lane_in new))
+    → (let before : Sketch = record { on = on; edge = edge; drawn = drawn; lanes = map lane_in hs } in
+    let after : Sketch = record { on = on; edge = edge; drawn = drawn; lanes = map lane_in (set hs p new) } in
+    MatchOption r ((after ≡ before) × (covered_by (lane_of before p).reached (held_in (lane_of before p)) ≡ []))
+    (λ mark. Turns (TakesCovered mark) before after p))
+covered_taken (Some mark) on edge drawn hs p old new within is taken =
+    turned (TakesCovered mark) on edge drawn hs p old new within is taken
+covered_taken None on edge drawn hs p old new within is none = (
+  same_lanes on edge drawn hs p old new within is none.0,
+  ap (λ (l : Lane). covered_by l.reached (held_in l)) (lane_at hs p old within is) ∙ none.1,
+)
 
 pub past_lane : (hs : List History) (p : ℕ) → length hs ≤ p → (get_or (map lane_in hs) p new_lane).waiting ≡ []
 past_lane hs p past =
     let there : length (map lane_in hs) ≤ p = omega (arith, length-map hs lane_in) in
     ap (λ (l : Lane). l.waiting) (get_or_past (map lane_in hs) p new_lane there)
 
+pub past_covered : (hs : List History) (p : ℕ) → length hs ≤ p
+    → (let l : Lane = get_or (map lane_in hs) p new_lane in covered_by l.reached (held_in l)) ≡ []
+past_covered hs p past =
+    ap (λ (ms : List Mark). covered_by (get_or (map lane_in hs) p new_lane).reached (map held_of ms)) (past_lane hs p past)
+
 -- what a history adds and takes
-pub lane_more : (r : Result (Unit {0}) AllocError) (interval : ℕ) (ended : Bool) (reached : ℕ) (items more one : List Mark)
+pub lane_more : (r : Result (Unit {0}) AllocError) (interval : ℕ) (ended loose : Bool) (reached : ℕ) (items more one : List Mark)
     (stored settled : ℕ) (mark : Mark) → settled ≤ length items → stored ≤ length items → one ≡ mark ∷ []
     → more ≡ (if is_ok r then items ++ one else items)
     → OnOk r (IsMore mark
-    (record { interval = interval; ended = ended; reached = reached; stored = stored - settled; waiting = drop settled items })
-    (record { interval = interval; ended = ended; reached = reached; stored = stored - settled; waiting = drop settled more }))
-lane_more (Ok x) interval ended reached items more one stored settled mark there few is added =
+    (record { interval = interval; ended = ended; loose = loose; reached = reached; stored = stored - settled; waiting = drop settled items })
+    (record { interval = interval; ended = ended; loose = loose; reached = reached; stored = stored - settled; waiting = drop settled more }))
+lane_more (Ok x) interval ended loose reached items more one stored settled mark there few is added =
     let long = length-drop settled items in
     record {
       few = omega arith;
       lane = ap (λ (l : List Mark). let lane : Lane =
-          record { interval = interval; ended = ended; reached = reached; stored = stored - settled; waiting = l } in lane)
+          record { interval = interval; ended = ended; loose = loose; reached = reached; stored = stored - settled; waiting = l } in lane)
           (ap (drop settled) (added ∙ ap (λ (l : List Mark). items ++ l) is) ∙ drop-append-le settled items (mark ∷ []) there);
     }
-lane_more (Err e) interval ended reached items more one stored settled mark there few is added = tt
+lane_more (Err e) interval ended loose reached items more one stored settled mark there few is added = tt
 
-pub lane_takes : (interval : ℕ) (ended : Bool) (reached : ℕ) (items : List Mark) (stored settled : ℕ) (mark : Mark)
+pub lane_takes : (interval : ℕ) (ended loose : Bool) (reached : ℕ) (items : List Mark) (stored settled : ℕ) (mark : Mark)
     → settled < length items → mark ≡ get_or items settled mark
     → Takes mark
-    (record { interval = interval; ended = ended; reached = reached; stored = stored - settled; waiting = drop settled items })
-    (record { interval = interval; ended = ended; reached = reached; stored = stored - (settled + 1); waiting = drop (settled + 1) items })
-lane_takes interval ended reached items stored settled mark there is = record {
+    (record { interval = interval; ended = ended; loose = loose; reached = reached; stored = stored - settled; waiting = drop settled items })
+    (record { interval = interval; ended = ended; loose = loose; reached = reached; stored = stored - (settled + 1); waiting = drop (settled + 1) items })
+lane_takes interval ended loose reached items stored settled mark there is = record {
   was = drop_more items settled mark there ∙ ap (λ (m : Mark). m ∷ drop (settled + 1) items) (sym is);
   lane = ap (λ (n : ℕ). let lane : Lane =
-      record { interval = interval; ended = ended; reached = reached; stored = n; waiting = drop (settled + 1) items } in lane)
+      record { interval = interval; ended = ended; loose = loose; reached = reached; stored = n; waiting = drop (settled + 1) items } in lane)
       (let less : stored - (settled + 1) ≡ (stored - settled) - 1 = omega arith in less);
 }
+
+pub first_beyond : (reached : ℕ) (items : List Mark) (settled : ℕ) (mark : Mark) → settled < length items → mark ≡ get_or items settled mark
+    → reached < mark.interval → covered_by reached (map held_of (drop settled items)) ≡ []
+first_beyond reached items settled mark there is beyond =
+    ap (λ (l : List Mark). covered_by reached (map held_of l)) (drop_more items settled mark there)
+    ∙ ap (λ (m : Mark). covered_by reached (held_of m ∷ map held_of (drop (settled + 1) items))) (sym is)
+    ∙ covered_none reached (held_of mark) (map held_of (drop (settled + 1) items)) beyond
 
 pub lane_empty : (items : List Mark) (settled : ℕ) → length items ≤ settled → drop settled items ≡ []
 lane_empty items settled past = drop_all settled items past
 
 -- ---- forms that are drawn
 pub settles_none : (s : Sketch) → Settles s s []
-settles_none s = record { on = refl; first = refl; lanes = refl; drawn = sym (append-nil s.drawn) }
+settles_none s = record { on = refl; edge = refl; lanes = refl; drawn = sym (append-nil s.drawn) }
 
 pub settles_then : (a b c : Sketch) (f g : List EventMark) → Settles a b f → Settles b c g → Settles a c (f ++ g)
 settles_then a b c f g p q = record {
   on = q.on ∙ p.on;
-  first = q.first ∙ p.first;
+  edge = q.edge ∙ p.edge;
   lanes = q.lanes ∙ p.lanes;
   drawn = q.drawn ∙ ap (λ (l : List EventMark). l ++ g) p.drawn ∙ append_assoc a.drawn f g;
 }
@@ -482,26 +604,27 @@ pub settles_then_if : (r : Result (Unit {0}) AllocError) (a b c : Sketch) (f g :
 settles_then_if r a b c f g p q = on_ok_weaker r (settles_then a b c f g p) q
 
 -- one shape more
-pub shape_added : (r : Result (Unit {0}) AllocError) (on : Bool) (first : ℕ) (shapes more : List Shape) (lanes : List Lane) (shape : Shape)
+pub shape_added : (r : Result (Unit {0}) AllocError) (on : Bool) (edge : Edge) (shapes more : List Shape) (lanes : List Lane) (shape : Shape)
     (one : List Shape) → one ≡ shape ∷ [] → more ≡ (if is_ok r then shapes ++ one else shapes)
-    → OnOk r (Settles (record { on = on; first = first; drawn = flat_map shape_marks shapes; lanes = lanes })
-    (record { on = on; first = first; drawn = flat_map shape_marks more; lanes = lanes }) (shape_marks shape))
-shape_added (Ok x) on first shapes more lanes shape one is added = record {
+    → OnOk r (Settles (record { on = on; edge = edge; drawn = flat_map shape_marks shapes; lanes = lanes })
+    (record { on = on; edge = edge; drawn = flat_map shape_marks more; lanes = lanes }) (shape_marks shape))
+shape_added (Ok x) on edge shapes more lanes shape one is added = record {
   on = refl;
-  first = refl;
+  edge = refl;
   lanes = refl;
   drawn = ap (λ (l : List Shape). flat_map shape_marks l) (added ∙ ap (λ (l : List Shape). shapes ++ l) is)
       ∙ sym (flat_map_more shape_marks [] shapes shape);
 }
-shape_added (Err e) on first shapes more lanes shape one is added = tt
+shape_added (Err e) on edge shapes more lanes shape one is added = tt
 
-pub form_settles : (r : Result (Unit {0}) AllocError) (a b : Sketch) (shape : Shape) (form : Form) (cut : Bool) (title : Title)
-    → shape.form ≡ form → shape.cut ≡ cut → shape.title ≡ title → OnOk r (Settles a b (shape_marks shape))
-    → OnOk r (Settles a b (mark_of (kind_drawn form) cut (title_entry title)))
-form_settles r a b shape form cut title form_is cut_is title_is settled =
-    subst (λ (f : Form). OnOk r (Settles a b (mark_of (kind_drawn f) cut (title_entry title)))) form_is
-    (subst (λ (x : Bool). OnOk r (Settles a b (mark_of (kind_drawn shape.form) x (title_entry title)))) cut_is
-    (subst (λ (t : Title). OnOk r (Settles a b (mark_of (kind_drawn shape.form) shape.cut (title_entry t)))) title_is settled))
+pub form_settles : (r : Result (Unit {0}) AllocError) (a b : Sketch) (shape : Shape) (form : Form) (cut : Bool) (title : Title) (at : Spot)
+    → shape.form ≡ form → shape.cut ≡ cut → shape.title ≡ title → shape.at ≡ at → OnOk r (Settles a b (shape_marks shape))
+    → OnOk r (Settles a b (mark_of (kind_drawn form) cut (title_entry title at)))
+form_settles r a b shape form cut title at form_is cut_is title_is at_is settled =
+    subst (λ (f : Form). OnOk r (Settles a b (mark_of (kind_drawn f) cut (title_entry title at)))) form_is
+    (subst (λ (x : Bool). OnOk r (Settles a b (mark_of (kind_drawn shape.form) x (title_entry title at)))) cut_is
+    (subst (λ (t : Title). OnOk r (Settles a b (mark_of (kind_drawn shape.form) shape.cut (title_entry t at)))) title_is
+    (subst (λ (x : Spot). OnOk r (Settles a b (mark_of (kind_drawn shape.form) shape.cut (title_entry shape.title x)))) at_is settled)))
 
 -- the marks of a mark that waited: of its outputs, and its own
 late_both : (s : Shown) (fresh : ℕ) (fate : Fate) (entry : Entry)
@@ -519,21 +642,21 @@ late_both (shows.Back interval inc) fresh fate entry = refl
 late_both shows.GoesOn fresh fate entry = refl
 
 pub settles_mark : (r : Result (Unit {0}) AllocError) (a b c : Sketch) (mark : Mark) (fate : Fate) (kind : Option Kind)
-    → (mark.x == 0) ≡ false → kind ≡ Some (kind_late mark.shown fate)
-    → Settles a b (output_marks (made_by mark.shown) mark.fresh fate (title_entry mark.title))
-    → OnOk r (Settles b c (mark_of kind fate.cut (title_entry mark.title))) → OnOk r (Settles a c (mark_marks mark fate))
+    → (mark.at.x == 0) ≡ false → kind ≡ Some (kind_late mark.shown fate)
+    → Settles a b (output_marks (made_by mark.shown) mark.fresh fate (title_entry mark.title mark.at))
+    → OnOk r (Settles b c (mark_of kind fate.cut (title_entry mark.title mark.at))) → OnOk r (Settles a c (mark_marks mark fate))
 settles_mark r a b c mark fate kind there is p q =
-    let entry : Entry = title_entry mark.title in
+    let entry : Entry = title_entry mark.title mark.at in
     let outputs : List EventMark = output_marks (made_by mark.shown) mark.fresh fate entry in
     let same : outputs ++ mark_of kind fate.cut entry ≡ mark_marks mark fate =
     ap (λ (k : Option Kind). outputs ++ mark_of k fate.cut entry) is ∙ late_both mark.shown mark.fresh fate entry
     ∙ sym (ap (λ (b : Bool). if b then [] else late_marks mark.shown mark.fresh fate entry) there) in
     subst (λ (l : List EventMark). OnOk r (Settles a c l)) same (settles_then_if r a b c outputs (mark_of kind fate.cut entry) p q)
 
-pub settles_past : (s : Sketch) (mark : Mark) (fate : Fate) → (mark.x == 0) ≡ true → Settles s s (mark_marks mark fate)
+pub settles_past : (s : Sketch) (mark : Mark) (fate : Fate) → (mark.at.x == 0) ≡ true → Settles s s (mark_marks mark fate)
 settles_past s mark fate past =
     let none : mark_marks mark fate ≡ [] =
-    ap (λ (b : Bool). if b then [] else late_marks mark.shown mark.fresh fate (title_entry mark.title)) past in
+    ap (λ (b : Bool). if b then [] else late_marks mark.shown mark.fresh fate (title_entry mark.title mark.at)) past in
     subst (λ (l : List EventMark). Settles s s l) (sym none) (settles_none s)
 
 pub not_zero : (x : ℕ) → (x ≡ 0 → ⊥) → (x == 0) ≡ false
@@ -544,20 +667,20 @@ not_zero (suc x) h = eqb-suc-zero x
 pub lane_there : (hs : List History) (p : ℕ) → p < length hs → p < length (map lane_in hs)
 lane_there hs p within = omega (arith, length-map hs lane_in)
 
-pub shown_past : (on : Bool) (first : ℕ) (drawn : List EventMark) (hs : List History) (p : ℕ) (row : Row) → length hs ≤ p
-    → (let s : Sketch = record { on = on; first = first; drawn = drawn; lanes = map lane_in hs } in ShowsAt p s s row)
-shown_past on first drawn hs p row past = record {
+pub shown_past : (on : Bool) (edge : Edge) (drawn : List EventMark) (hs : List History) (p : ℕ) (row : Row) → length hs ≤ p
+    → (let s : Sketch = record { on = on; edge = edge; drawn = drawn; lanes = map lane_in hs } in ShowsAt p s s row)
+shown_past on edge drawn hs p row past = record {
   shows = λ (within : p < length (map lane_in hs)). absurd (omega (arith, length-map hs lane_in));
   past = λ (beyond : length (map lane_in hs) ≤ p). refl;
 }
 
-pub shown_at : (r : Result (Unit {0}) AllocError) (on : Bool) (first : ℕ) (drawn : List EventMark) (hs : List History) (new : Sketch)
+pub shown_at : (r : Result (Unit {0}) AllocError) (on : Bool) (edge : Edge) (drawn : List EventMark) (hs : List History) (new : Sketch)
     (p : ℕ) (row : Row) (h : History) (s : Shown) → p < length hs → h ≡ get_or hs p h
     → s ≡ shown h.ended row.entry.event row.entry.answer
-    → (let old : Sketch = record { on = on; first = first; drawn = drawn; lanes = map lane_in hs } in
+    → (let old : Sketch = record { on = on; edge = edge; drawn = drawn; lanes = map lane_in hs } in
     OnOk r (Shows old new p s row.fresh row.entry) → OnOk r (ShowsAt p old new row))
-shown_at r on first drawn hs new p row h s within is shows_it drawn_it =
-    let old : Sketch = record { on = on; first = first; drawn = drawn; lanes = map lane_in hs } in
+shown_at r on edge drawn hs new p row h s within is shows_it drawn_it =
+    let old : Sketch = record { on = on; edge = edge; drawn = drawn; lanes = map lane_in hs } in
     let ended : h.ended ≡ (lane_of old p).ended = sym (ap (λ (l : Lane). l.ended) (lane_at hs p h within is)) in
     let same : s ≡ shown (lane_of old p).ended row.entry.event row.entry.answer =
     shows_it ∙ ap (λ (b : Bool). shown b row.entry.event row.entry.answer) ended in
@@ -567,64 +690,59 @@ shown_at r on first drawn hs new p row h s within is shows_it drawn_it =
       past = λ (beyond : length (map lane_in hs) ≤ p). absurd (omega (arith, length-map hs lane_in, within));
     }) drawn_it
 
--- a lane that changes, and nothing that is drawn of an event
-pub turn_settled : (r : Result (Unit {0}) AllocError) (Turn : Lane → Lane → Type 0) (a b c : Sketch) (p : ℕ) → Turns Turn a b p
-    → OnOk r (Settles b c (if b.on then [] else [])) → OnOk r (Turns Turn a c p)
-turn_settled r Turn a b c p t settles =
-    on_ok_weaker r (λ (s : Settles b c (if b.on then [] else [])). record {
-      on = s.on ∙ t.on;
-      first = s.first ∙ t.first;
-      drawn = s.drawn ∙ ap (λ (l : List EventMark). b.drawn ++ l) (nothing b.on) ∙ append-nil b.drawn ∙ t.drawn;
-      within = t.within;
-      lanes = s.lanes ∙ t.lanes
-          ∙ ap (λ (l : Lane). set a.lanes p l) (sym (settled_lane b c (if b.on then [] else []) s p));
-      turn = subst (λ (l : Lane). Turn (lane_of a p) l) (sym (settled_lane b c (if b.on then [] else []) s p)) t.turn;
-    }) settles
-  where
-    nothing : (on : Bool) → (let l : List EventMark = if on then [] else [] in l) ≡ []
-    nothing true = refl
-    nothing false = refl
-
 -- a mark that waits
-pub wait_turned : (r : Result (Unit {0}) AllocError) (on : Bool) (first : ℕ) (drawn : List EventMark) (hs : List History) (p : ℕ)
+pub wait_turned : (r : Result (Unit {0}) AllocError) (on : Bool) (edge : Edge) (drawn : List EventMark) (hs : List History) (p : ℕ)
     (old new : History) (mark : Mark) (x : ℕ) (s : Shown) (fresh : ℕ) (entry : Entry)
-    → p < length hs → old ≡ get_or hs p old → mark.x ≡ x → mark.interval ≡ old.interval → mark.shown ≡ s → mark.fresh ≡ fresh
-    → title_entry mark.title ≡ entry → OnOk r (IsMore mark (lane_in old) (lane_in new))
-    → OnOk r (Turns (Waits x s fresh entry) (record { on = on; first = first; drawn = drawn; lanes = map lane_in hs })
-    (record { on = on; first = first; drawn = drawn; lanes = map lane_in (set hs p new) }) p)
-wait_turned r on first drawn hs p old new mark x s fresh entry within is at interval shows_it news title more =
-    turned_if r (Waits x s fresh entry) on first drawn hs p old new within is
+    → p < length hs → old ≡ get_or hs p old → mark.at.x ≡ x → mark.interval ≡ old.interval → mark.shown ≡ s → mark.fresh ≡ fresh
+    → title_entry mark.title mark.at ≡ entry → OnOk r (IsMore mark (lane_in old) (lane_in new))
+    → OnOk r (Turns (Waits x s fresh entry) (record { on = on; edge = edge; drawn = drawn; lanes = map lane_in hs })
+    (record { on = on; edge = edge; drawn = drawn; lanes = map lane_in (set hs p new) }) p)
+wait_turned r on edge drawn hs p old new mark x s fresh entry within is at interval shows_it news title more =
+    turned_if r (Waits x s fresh entry) on edge drawn hs p old new within is
     (on_ok_weaker r (λ (m : IsMore mark (lane_in old) (lane_in new)). (mark, m, at, interval, shows_it, news, title)) more)
 
 pub still_there : (hs ks : List History) (p : ℕ) → length (map lane_in ks) ≡ length (map lane_in hs) → p < length hs → p < length ks
 still_there hs ks p same within = let a = length-map hs lane_in in let b = length-map ks lane_in in omega arith
 
 -- ---- the outputs of a mark
+outputs_made : (made fresh : ℕ) (fate : Fate) (entry : Entry) → true ≡ nat_lt 0 made
+    → output_marks made fresh fate entry
+    ≡ mark_of (Some (Stands (fresh == 0))) fate.cut entry ++ (if fresh == 0 then [] else mark_of (Some (Made fate.covered)) fate.cut entry)
+outputs_made made fresh fate entry some =
+    ap (λ (x : Bool). if x then [] else mark_of (Some (Stands (fresh == 0))) fate.cut entry
+    ++ (if fresh == 0 then [] else mark_of (Some (Made fate.covered)) fate.cut entry))
+    (not_zero made (λ (zero : made ≡ 0). let there = ltb-true 0 made (sym some) in omega arith))
+
 pub outputs_none : (s : Sketch) (made fresh : ℕ) (fate : Fate) (entry : Entry) → false ≡ nat_lt 0 made
     → Settles s s (output_marks made fresh fate entry)
 outputs_none s made fresh fate entry none =
     let few : made ≤ 0 = ltb-false 0 made (sym none) in
     let zero : made ≡ 0 = omega arith in
     let same : output_marks made fresh fate entry ≡ [] =
-    ap (λ (x : Bool). if x || (fresh == 0) then [] else mark_of (Some (Made fate.covered)) fate.cut entry) (eq-eqb made 0 zero) in
+    ap (λ (x : Bool). if x then [] else mark_of (Some (Stands (fresh == 0))) fate.cut entry
+    ++ (if fresh == 0 then [] else mark_of (Some (Made fate.covered)) fate.cut entry)) (eq-eqb made 0 zero) in
     subst (λ (l : List EventMark). Settles s s l) (sym same) (settles_none s)
 
-pub outputs_again : (a b : Sketch) (made fresh : ℕ) (fate : Fate) (entry : Entry) → fresh ≡ 0 → Settles a b []
+pub outputs_again : (a b : Sketch) (made fresh : ℕ) (fate : Fate) (entry : Entry) (again : Bool) → true ≡ nat_lt 0 made
+    → (fresh == 0) ≡ again → (fresh == 0) ≡ true → Settles a b (mark_of (Some (Stands again)) fate.cut entry)
     → Settles a b (output_marks made fresh fate entry)
-outputs_again a b made fresh fate entry none settled =
-    let same : output_marks made fresh fate entry ≡ [] =
-    ap (λ (x : Bool). if (made == 0) || x then [] else mark_of (Some (Made fate.covered)) fate.cut entry) (eq-eqb fresh 0 none)
-    ∙ ap (λ (x : Bool). if x then [] else mark_of (Some (Made fate.covered)) fate.cut entry) (or-true (made == 0)) in
+outputs_again a b made fresh fate entry again some is none settled =
+    let same : output_marks made fresh fate entry ≡ mark_of (Some (Stands again)) fate.cut entry =
+    outputs_made made fresh fate entry some
+    ∙ ap (λ (x : Bool). mark_of (Some (Stands (fresh == 0))) fate.cut entry
+    ++ (if x then [] else mark_of (Some (Made fate.covered)) fate.cut entry)) none
+    ∙ ap (λ (x : Bool). mark_of (Some (Stands x)) fate.cut entry) is in
     subst (λ (l : List EventMark). Settles a b l) (sym same) settled
 
-pub outputs_new : (r : Result (Unit {0}) AllocError) (a b c : Sketch) (made fresh : ℕ) (fate : Fate) (entry : Entry)
-    → true ≡ nat_lt 0 made → (fresh ≡ 0 → ⊥) → Settles a b []
+pub outputs_new : (r : Result (Unit {0}) AllocError) (a b c : Sketch) (made fresh : ℕ) (fate : Fate) (entry : Entry) (again : Bool)
+    → true ≡ nat_lt 0 made → (fresh == 0) ≡ again → (fresh == 0) ≡ false → Settles a b (mark_of (Some (Stands again)) fate.cut entry)
     → OnOk r (Settles b c (mark_of (Some (Made fate.covered)) fate.cut entry))
     → OnOk r (Settles a c (output_marks made fresh fate entry))
-outputs_new r a b c made fresh fate entry some news p q =
-    let one : List EventMark = mark_of (Some (Made fate.covered)) fate.cut entry in
-    let same : output_marks made fresh fate entry ≡ one =
-    ap (λ (x : Bool). if x || (fresh == 0) then [] else one) (not_zero made (λ (zero : made ≡ 0).
-    let there = ltb-true 0 made (sym some) in omega arith))
-    ∙ ap (λ (x : Bool). if x then [] else one) (not_zero fresh news) in
-    subst (λ (l : List EventMark). OnOk r (Settles a c l)) (sym same) (settles_then_if r a b c [] one p q)
+outputs_new r a b c made fresh fate entry again some is news p q =
+    let head : List EventMark = mark_of (Some (Made fate.covered)) fate.cut entry in
+    let same : output_marks made fresh fate entry ≡ mark_of (Some (Stands again)) fate.cut entry ++ head =
+    outputs_made made fresh fate entry some
+    ∙ ap (λ (x : Bool). mark_of (Some (Stands (fresh == 0))) fate.cut entry ++ (if x then [] else head)) news
+    ∙ ap (λ (x : Bool). mark_of (Some (Stands x)) fate.cut entry ++ head) is in
+    subst (λ (l : List EventMark). OnOk r (Settles a c l)) (sym same)
+    (settles_then_if r a b c (mark_of (Some (Stands again)) fate.cut entry) head p q)

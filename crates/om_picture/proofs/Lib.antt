@@ -1,6 +1,9 @@
 pub mod DrawLemmas
 pub mod FateLaws
 pub mod FateLemmas
+pub mod HeldLemmas
 pub mod LaneLemmas
+pub mod PlaceLaws
+pub mod PlaceLemmas
 pub mod PlainLemmas
 pub mod ShowLemmas

@@ -1,18 +1,22 @@
 -- What an event shows on the lane of its process.
-use Rattle.std.proofs.Common.{◌≡◌, ◌∙◌, ◌<◌, ◌≤◌, ◌==◌, ◌||◌, ℕ, Bool, true, false, not, if◌then◌else◌, is_some, List, [], ◌++◌, Option, Result, OnOk, length, set, refl, ap, sym, subst, arith}
+use Rattle.std.proofs.Common.{◌≡◌, ◌∙◌, ◌<◌, ◌≤◌, ◌==◌, ◌||◌, ℕ, Bool, true, false, not, if◌then◌else◌, is_some, List, [], ◌∷◌, ◌++◌, Option, Some, Result, OnOk, length, map, set, refl, ap, sym, subst, arith}
 use Rattle.std.specs.declared.alloc.AllocError.{AllocError}
-use Rattle.std.proofs.lemmas.List.{append-nil, set-get_or, set-set}
+use Rattle.std.proofs.lemmas.List.{append-nil, map-append, set-get_or, set-set}
 use Rattle.std.proofs.lemmas.Result.{on_ok_weaker}
 use Rattle.om_process.specs.declared.status.Status.{Status}
-use Rattle.om_picture.specs.Drawing.{Lane, Sketch, lane_of, late_marks, mark_marks, new_lane, waiting_marks}
-use Rattle.om_picture.specs.Fates.{Entry, Fate}
-use Rattle.om_picture.specs.Marks.{EventMark, fated_marks, sure_marks, title_entry}
+use Rattle.om_picture.specs.Drawing.{Lane, Sketch, held_in, held_of, lane_of, late_marks, mark_marks, new_lane, waiting_marks}
+use Rattle.om_picture.specs.Fates.{Entry, Fate, step_entry}
+use Rattle.om_picture.specs.Held.{Held, may_wait}
+use Rattle.om_picture.specs.Marks.{CameBack, EventMark, Failed, Joined, Logged, Released, fated_marks, log_marks, mark_of, released_at, sure_marks, title_entry}
 use Rattle.om_picture.specs.declared.history.Mark.{Mark}
+use Rattle.om_picture.specs.declared.sheet.Spot.{Spot}
+use Rattle.om_picture.specs.declared.sheet.Title.{Title}
 use Rattle.om_picture.specs.declared.shown.Shown.{Shown}
 use Rattle.om_picture.specs.declared.shown.Shown.TheVariants as shows
-use Rattle.om_picture.specs.steps.Adding.{Ends, GoesBack, IsMore, LaneShows, Receives, Settles, Shows, Stores, Turns, Waits, ended_shown, interval_shown, is_stored_by}
+use Rattle.om_picture.specs.declared.step.Step.{Step}
+use Rattle.om_picture.specs.steps.Adding.{Ends, GoesBack, IsMore, LaneShows, Logs, Loses, Receives, Settles, Shows, Stores, Turns, Waits, ended_shown, interval_shown, is_stored_by, loose_shown}
 use Rattle.om_picture.proofs.FateLemmas.{waiting_more}
-use Rattle.om_picture.proofs.LaneLemmas.{settled_lane, settles_none}
+use Rattle.om_picture.proofs.LaneLemmas.{settled_lane, settles_none, settles_then}
 
 none_if : (on : Bool) → [] ≡ (let l : List EventMark = if on then [] else [] in l)
 none_if true = refl
@@ -38,10 +42,10 @@ late_waits on x s fresh entry a b there late waits fate =
     let few : b.stored ≤ length a.waiting = (let h = more.few in omega arith) in
     let interval : mark.interval ≡ b.interval = waits.3 ∙ sym (ap (λ (l : Lane). l.interval) more.lane) in
     let one : mark_marks mark (fate mark.interval false) ≡ (if on then fated_marks s fresh (fate b.interval false) entry else []) =
-    ap (λ (n : ℕ). if n == 0 then [] else late_marks mark.shown mark.fresh (fate mark.interval false) (title_entry mark.title)) waits.2
-    ∙ ap (λ (n : ℕ). if x == 0 then [] else late_marks mark.shown mark.fresh (fate n false) (title_entry mark.title)) interval
-    ∙ ap (λ (t : Shown). if x == 0 then [] else late_marks t mark.fresh (fate b.interval false) (title_entry mark.title)) waits.4
-    ∙ ap (λ (n : ℕ). if x == 0 then [] else late_marks s n (fate b.interval false) (title_entry mark.title)) waits.5
+    ap (λ (n : ℕ). if n == 0 then [] else late_marks mark.shown mark.fresh (fate mark.interval false) (title_entry mark.title mark.at)) waits.2
+    ∙ ap (λ (n : ℕ). if x == 0 then [] else late_marks mark.shown mark.fresh (fate n false) (title_entry mark.title mark.at)) interval
+    ∙ ap (λ (t : Shown). if x == 0 then [] else late_marks t mark.fresh (fate b.interval false) (title_entry mark.title mark.at)) waits.4
+    ∙ ap (λ (n : ℕ). if x == 0 then [] else late_marks s n (fate b.interval false) (title_entry mark.title mark.at)) waits.5
     ∙ ap (λ (e : Entry). if x == 0 then [] else late_marks s fresh (fate b.interval false) e) waits.6
     ∙ ap (λ (l : List EventMark). if x == 0 then [] else l) (late (fate b.interval false))
     ∙ placed on x (fated_marks s fresh (fate b.interval false) entry) there in
@@ -49,16 +53,36 @@ late_waits on x s fresh entry a b there late waits fate =
     ∙ waiting_more fate b.stored a.waiting mark few
     ∙ ap (λ (l : List EventMark). waiting_marks fate b.stored a.waiting ++ l) one
 
+late_held : (x : ℕ) (s : Shown) (fresh : ℕ) (entry : Entry) (a b c : Lane) → may_wait s ≡ true → b.waiting ≡ a.waiting
+    → Waits x s fresh entry b c
+    → held_in c ≡ held_in a ++ (if may_wait s then record { interval = c.interval; fresh = fresh; x = entry.at.x } ∷ [] else [])
+late_held x s fresh entry a b c some waiting waits =
+    let mark : Mark = waits.0 in
+    let more : IsMore mark b c = waits.1 in
+    let one : List Held = record { interval = c.interval; fresh = fresh; x = entry.at.x } ∷ [] in
+    let interval : mark.interval ≡ c.interval = waits.3 ∙ sym (ap (λ (l : Lane). l.interval) more.lane) in
+    let x_is : mark.at.x ≡ entry.at.x = ap (λ (e : Entry). e.at.x) waits.6 in
+    let added : held_of mark ∷ [] ≡ one =
+    ap (λ (n : ℕ). let h : List Held = record { interval = n; fresh = mark.fresh; x = mark.at.x } ∷ [] in h) interval
+    ∙ ap (λ (n : ℕ). let h : List Held = record { interval = c.interval; fresh = n; x = mark.at.x } ∷ [] in h) waits.5
+    ∙ ap (λ (n : ℕ). let h : List Held = record { interval = c.interval; fresh = fresh; x = n } ∷ [] in h) x_is in
+    ap (λ (l : Lane). held_in l) more.lane ∙ map-append held_of b.waiting (mark ∷ [])
+    ∙ ap (λ (l : List Mark). map held_of l ++ held_of mark ∷ []) waiting
+    ∙ ap (λ (l : List Held). held_in a ++ l) added
+    ∙ ap (λ (w : Bool). held_in a ++ (if w then one else [])) (sym some)
+
 late_lane : (on : Bool) (x : ℕ) (s : Shown) (fresh : ℕ) (entry : Entry) (a b c : Lane) → (x == 0) ≡ not on
-    → ((fate : Fate) → late_marks s fresh fate entry ≡ fated_marks s fresh fate entry) → is_stored_by s ≡ false
-    → b.interval ≡ interval_shown a.interval s → b.ended ≡ ended_shown a.ended s → b.reached ≡ a.reached → b.stored ≡ a.stored
-    → b.waiting ≡ a.waiting → Waits x s fresh entry b c → LaneShows on s fresh entry a c
-late_lane on x s fresh entry a b c there late not_stored interval ended reached stored waiting waits = record {
+    → ((fate : Fate) → late_marks s fresh fate entry ≡ fated_marks s fresh fate entry) → is_stored_by s ≡ false → may_wait s ≡ true
+    → b.interval ≡ interval_shown a.interval s → b.ended ≡ ended_shown a.ended s → b.loose ≡ loose_shown a.loose s
+    → b.reached ≡ a.reached → b.stored ≡ a.stored → b.waiting ≡ a.waiting → Waits x s fresh entry b c → LaneShows on s fresh entry a c
+late_lane on x s fresh entry a b c there late not_stored some interval ended loose reached stored waiting waits = record {
   interval = ap (λ (l : Lane). l.interval) waits.1.lane ∙ interval;
   ended = ap (λ (l : Lane). l.ended) waits.1.lane ∙ ended;
+  loose = ap (λ (l : Lane). l.loose) waits.1.lane ∙ loose;
   reached = ap (λ (l : Lane). l.reached) waits.1.lane ∙ reached;
   stored = ap (λ (l : Lane). l.stored) waits.1.lane ∙ stored
       ∙ sym (ap (λ (b : Bool). if b then length a.waiting else a.stored) not_stored);
+  held = late_held x s fresh entry a b c some waiting waits;
   waits = λ (fate : ℕ → Bool → Fate).
       late_waits on x s fresh entry b c there late waits fate
       ∙ ap (λ (l : List Mark). waiting_marks fate c.stored l ++ (if on then fated_marks s fresh (fate c.interval false) entry else []))
@@ -67,14 +91,19 @@ late_lane on x s fresh entry a b c there late not_stored interval ended reached 
 
 -- none that waits
 still_lane : (on : Bool) (s : Shown) (fresh : ℕ) (entry : Entry) (a b : Lane)
-    → ((fate : Fate) → [] ≡ fated_marks s fresh fate entry)
-    → b.interval ≡ interval_shown a.interval s → b.ended ≡ ended_shown a.ended s → b.reached ≡ a.reached
-    → b.stored ≡ (if is_stored_by s then length a.waiting else a.stored) → b.waiting ≡ a.waiting → LaneShows on s fresh entry a b
-still_lane on s fresh entry a b none interval ended reached stored waiting = record {
+    → ((fate : Fate) → [] ≡ fated_marks s fresh fate entry) → may_wait s ≡ false
+    → b.interval ≡ interval_shown a.interval s → b.ended ≡ ended_shown a.ended s → b.loose ≡ loose_shown a.loose s
+    → b.reached ≡ a.reached → b.stored ≡ (if is_stored_by s then length a.waiting else a.stored) → b.waiting ≡ a.waiting → LaneShows on s fresh entry a b
+still_lane on s fresh entry a b none not_held interval ended loose reached stored waiting = record {
   interval = interval;
   ended = ended;
+  loose = loose;
   reached = reached;
   stored = stored;
+  held =
+      ap (λ (l : List Mark). map held_of l) waiting ∙ sym (append-nil (held_in a))
+      ∙ ap (λ (w : Bool). held_in a
+      ++ (if w then record { interval = b.interval; fresh = fresh; x = entry.at.x } ∷ [] else [])) (sym not_held);
   waits = λ (fate : ℕ → Bool → Fate).
       ap (λ (l : List Mark). waiting_marks fate b.stored l) waiting
       ∙ none_more on (waiting_marks fate b.stored a.waiting)
@@ -85,7 +114,7 @@ still_lane on s fresh entry a b none interval ended reached stored waiting = rec
 turn_none : (s : Sketch) (p : ℕ) → p < length s.lanes → Turns (λ a b. b ≡ a) s s p
 turn_none s p within = record {
   on = refl;
-  first = refl;
+  edge = refl;
   drawn = refl;
   within = within;
   lanes = sym (set-get_or s.lanes p new_lane);
@@ -93,13 +122,13 @@ turn_none s p within = record {
 }
 
 shows_of : (s : Shown) (fresh : ℕ) (entry : Entry) (Turn : Lane → Lane → Type 0) (a b c : Sketch) (p : ℕ) (more : List EventMark)
-    → Turns Turn a b p → Settles b c more → more ≡ (if a.on then sure_marks s entry else [])
+    → Turns Turn a b p → Settles b c more → more ≡ (if a.on then sure_marks (lane_of a p).loose s entry else [])
     → LaneShows a.on s fresh entry (lane_of a p) (lane_of b p) → Shows a c p s fresh entry
 shows_of s fresh entry Turn a b c p more t settled is lane =
     let same : lane_of c p ≡ lane_of b p = settled_lane b c more settled p in
     record {
       on = settled.on ∙ t.on;
-      first = settled.first ∙ t.first;
+      edge = settled.edge ∙ t.edge;
       drawn = settled.drawn ∙ ap (λ (l : List EventMark). l ++ more) t.drawn ∙ ap (λ (l : List EventMark). a.drawn ++ l) is;
       within = t.within;
       lanes = settled.lanes ∙ t.lanes ∙ ap (λ (l : Lane). set a.lanes p l) (sym same);
@@ -108,12 +137,12 @@ shows_of s fresh entry Turn a b c p more t settled is lane =
 
 -- an event whose mark waits
 late_shows : (s : Shown) (fresh : ℕ) (entry : Entry) (Turn : Lane → Lane → Type 0) (a b c : Sketch) (p x : ℕ) → Turns Turn a b p
-    → Turns (Waits x s fresh entry) b c p → [] ≡ sure_marks s entry
+    → Turns (Waits x s fresh entry) b c p → [] ≡ sure_marks (lane_of a p).loose s entry
     → LaneShows a.on s fresh entry (lane_of a p) (lane_of c p) → Shows a c p s fresh entry
 late_shows s fresh entry Turn a b c p x t w none lane =
     record {
       on = w.on ∙ t.on;
-      first = w.first ∙ t.first;
+      edge = w.edge ∙ t.edge;
       drawn = w.drawn ∙ t.drawn ∙ none_more a.on a.drawn ∙ ap (λ (l : List EventMark). a.drawn ++ (if a.on then l else [])) none;
       within = t.within;
       lanes = w.lanes ∙ ap (λ (ls : List Lane). set ls p (lane_of c p)) t.lanes
@@ -124,7 +153,7 @@ late_shows s fresh entry Turn a b c p x t w none lane =
 pub nothing_shown : (s : Sketch) (p fresh : ℕ) (entry : Entry) → p < length s.lanes → Shows s s p shows.Nothing fresh entry
 nothing_shown s p fresh entry within =
     shows_of shows.Nothing fresh entry (λ a b. b ≡ a) s s s p [] (turn_none s p within) (settles_none s) (none_if s.on)
-    (still_lane s.on shows.Nothing fresh entry (lane_of s p) (lane_of s p) (λ fate. refl) refl refl refl refl refl)
+    (still_lane s.on shows.Nothing fresh entry (lane_of s p) (lane_of s p) (λ fate. refl) refl refl refl refl refl refl refl)
 
 pub run_shown : (r : Result (Unit {0}) AllocError) (a b c : Sketch) (p x sent made fresh : ℕ) (ends : Option Status) (ended : Bool)
     (entry : Entry)
@@ -134,9 +163,10 @@ pub run_shown : (r : Result (Unit {0}) AllocError) (a b c : Sketch) (p x sent ma
 run_shown r a b c p x sent made fresh ends ended entry is there t waits =
     let s : Shown = shows.Run sent made ends in
     on_ok_weaker r (λ (w : Turns (Waits x s fresh entry) b c p). late_shows s fresh entry (Ends ended) a b c p x t w refl
-    (late_lane a.on x s fresh entry (lane_of a p) (lane_of b p) (lane_of c p) there (λ fate. refl) refl
+    (late_lane a.on x s fresh entry (lane_of a p) (lane_of b p) (lane_of c p) there (λ fate. refl) refl refl
     (ap (λ (l : Lane). l.interval) t.turn)
     (ap (λ (l : Lane). l.ended) t.turn ∙ ap (λ (e : Bool). (lane_of a p).ended || e) is)
+    (ap (λ (l : Lane). l.loose) t.turn)
     (ap (λ (l : Lane). l.reached) t.turn) (ap (λ (l : Lane). l.stored) t.turn) (ap (λ (l : Lane). l.waiting) t.turn) w.turn)) waits
 
 pub resend_shown : (r : Result (Unit {0}) AllocError) (a c : Sketch) (p x sent fresh : ℕ) (entry : Entry) → p < length a.lanes
@@ -146,7 +176,7 @@ resend_shown r a c p x sent fresh entry within there waits =
     let s : Shown = shows.Resend sent in
     on_ok_weaker r (λ (w : Turns (Waits x s fresh entry) a c p). late_shows s fresh entry (λ x y. y ≡ x) a a c p x (turn_none a p within) w
     refl
-    (late_lane a.on x s fresh entry (lane_of a p) (lane_of a p) (lane_of c p) there (λ fate. refl) refl refl refl refl refl refl w.turn))
+    (late_lane a.on x s fresh entry (lane_of a p) (lane_of a p) (lane_of c p) there (λ fate. refl) refl refl refl refl refl refl refl refl w.turn))
     waits
 
 pub checkpoint_shown : (r : Result (Unit {0}) AllocError) (a c : Sketch) (p x fresh : ℕ) (entry : Entry) → p < length a.lanes
@@ -156,7 +186,7 @@ checkpoint_shown r a c p x fresh entry within there waits =
     let s : Shown = shows.Checkpoint in
     on_ok_weaker r (λ (w : Turns (Waits x s fresh entry) a c p). late_shows s fresh entry (λ x y. y ≡ x) a a c p x (turn_none a p within) w
     refl
-    (late_lane a.on x s fresh entry (lane_of a p) (lane_of a p) (lane_of c p) there (λ fate. refl) refl refl refl refl refl refl w.turn))
+    (late_lane a.on x s fresh entry (lane_of a p) (lane_of a p) (lane_of c p) there (λ fate. refl) refl refl refl refl refl refl refl refl w.turn))
     waits
 
 pub receipt_shown : (r : Result (Unit {0}) AllocError) (a b c : Sketch) (p x frame interval fresh : ℕ) (entry : Entry)
@@ -166,50 +196,106 @@ pub receipt_shown : (r : Result (Unit {0}) AllocError) (a b c : Sketch) (p x fra
 receipt_shown r a b c p x frame interval fresh entry there t waits =
     let s : Shown = shows.Receipt frame interval in
     on_ok_weaker r (λ (w : Turns (Waits x s fresh entry) b c p). late_shows s fresh entry (Receives interval) a b c p x t w refl
-    (late_lane a.on x s fresh entry (lane_of a p) (lane_of b p) (lane_of c p) there (λ fate. refl) refl
-    (ap (λ (l : Lane). l.interval) t.turn) (ap (λ (l : Lane). l.ended) t.turn)
+    (late_lane a.on x s fresh entry (lane_of a p) (lane_of b p) (lane_of c p) there (λ fate. refl) refl refl
+    (ap (λ (l : Lane). l.interval) t.turn) (ap (λ (l : Lane). l.ended) t.turn) (ap (λ (l : Lane). l.loose) t.turn)
     (ap (λ (l : Lane). l.reached) t.turn) (ap (λ (l : Lane). l.stored) t.turn) (ap (λ (l : Lane). l.waiting) t.turn) w.turn)) waits
 
 -- an event whose mark is drawn at once
 pub sure_shown : (r : Result (Unit {0}) AllocError) (s : Shown) (fresh : ℕ) (entry : Entry) (more : List EventMark) (a c : Sketch) (p : ℕ)
-    → p < length a.lanes → more ≡ sure_marks s entry → ((fate : Fate) → [] ≡ fated_marks s fresh fate entry)
-    → ((was : ℕ) → was ≡ interval_shown was s) → ((was : Bool) → was ≡ ended_shown was s) → is_stored_by s ≡ false
+    → p < length a.lanes → ((loose : Bool) → more ≡ sure_marks loose s entry) → ((fate : Fate) → [] ≡ fated_marks s fresh fate entry)
+    → ((was : ℕ) → was ≡ interval_shown was s) → ((was : Bool) → was ≡ ended_shown was s)
+    → ((was : Bool) → was ≡ loose_shown was s) → is_stored_by s ≡ false → may_wait s ≡ false
     → OnOk r (Settles a c (if a.on then more else [])) → OnOk r (Shows a c p s fresh entry)
-sure_shown r s fresh entry more a c p within is none interval ended not_stored settles =
+sure_shown r s fresh entry more a c p within is none interval ended loose not_stored not_held settles =
     on_ok_weaker r (λ (m : Settles a c (if a.on then more else [])).
     shows_of s fresh entry (λ x y. y ≡ x) a a c p (if a.on then more else []) (turn_none a p within) m
-    (ap (λ (l : List EventMark). if a.on then l else []) is)
-    (still_lane a.on s fresh entry (lane_of a p) (lane_of a p) none (interval (lane_of a p).interval) (ended (lane_of a p).ended) refl
+    (ap (λ (l : List EventMark). if a.on then l else []) (is (lane_of a p).loose))
+    (still_lane a.on s fresh entry (lane_of a p) (lane_of a p) none not_held (interval (lane_of a p).interval) (ended (lane_of a p).ended)
+    (loose (lane_of a p).loose) refl
     (sym (ap (λ (b : Bool). if b then length (lane_of a p).waiting else (lane_of a p).stored) not_stored)) refl)) settles
 
-pub flush_shown : (r : Result (Unit {0}) AllocError) (a b : Sketch) (p fresh : ℕ) (entry : Entry) → OnOk r (Turns Stores a b p)
-    → OnOk r (Shows a b p shows.Flush fresh entry)
-flush_shown r a b p fresh entry turns =
-    on_ok_weaker r (λ (t : Turns Stores a b p). shows_of shows.Flush fresh entry Stores a b b p [] t (settles_none b) (none_if a.on)
-    (still_lane a.on shows.Flush fresh entry (lane_of a p) (lane_of b p) (λ fate. refl)
-    (ap (λ (l : Lane). l.interval) t.turn) (ap (λ (l : Lane). l.ended) t.turn) (ap (λ (l : Lane). l.reached) t.turn)
-    (ap (λ (l : Lane). l.stored) t.turn) (ap (λ (l : Lane). l.waiting) t.turn))) turns
+-- receipts that are stored
+pub logged_some : (r : Result (Unit {0}) AllocError) (a b c : Sketch) (p : ℕ) (entry : Entry) → Turns Stores a b p
+    → true ≡ (lane_of a p).loose → OnOk r (Settles b c (if b.on then mark_of (Some Logged) false entry else []))
+    → OnOk r (Logs entry a c p)
+logged_some r a b c p entry t some settles =
+    let same : (if b.on then mark_of (Some Logged) false entry else []) ≡ (if a.on then log_marks (lane_of a p).loose entry else []) =
+    ap (λ (on : Bool). if on then mark_of (Some Logged) false entry else []) t.on
+    ∙ ap (λ (loose : Bool). if a.on then log_marks loose entry else []) some in
+    on_ok_weaker r (λ (s : Settles b c (if b.on then mark_of (Some Logged) false entry else [])). record {
+      stored = b;
+      turns = t;
+      settles = subst (λ (l : List EventMark). Settles b c l) same s;
+    }) settles
 
-pub join_shown : (r : Result (Unit {0}) AllocError) (a b c : Sketch) (p fresh : ℕ) (entry : Entry) → Turns Stores a b p
-    → OnOk r (Settles b c (if b.on then sure_marks shows.Join entry else [])) → OnOk r (Shows a c p shows.Join fresh entry)
-join_shown r a b c p fresh entry t settles =
-    on_ok_weaker r (λ (m : Settles b c (if b.on then sure_marks shows.Join entry else [])).
-    shows_of shows.Join fresh entry Stores a b c p (if b.on then sure_marks shows.Join entry else []) t m
-    (ap (λ (on : Bool). if on then sure_marks shows.Join entry else []) t.on)
-    (still_lane a.on shows.Join fresh entry (lane_of a p) (lane_of b p) (λ fate. refl)
-    (ap (λ (l : Lane). l.interval) t.turn) (ap (λ (l : Lane). l.ended) t.turn) (ap (λ (l : Lane). l.reached) t.turn)
+pub logged_none : (a b : Sketch) (p : ℕ) (entry : Entry) → Turns Stores a b p → false ≡ (lane_of a p).loose → Logs entry a b p
+logged_none a b p entry t none =
+    let same : [] ≡ (if a.on then log_marks (lane_of a p).loose entry else []) =
+    none_if a.on ∙ ap (λ (loose : Bool). if a.on then log_marks loose entry else []) none in
+    record { stored = b; turns = t; settles = subst (λ (l : List EventMark). Settles b b l) same (settles_none b) }
+
+log_lane : (s : Shown) (fresh : ℕ) (entry : Entry) (a b : Sketch) (p : ℕ) → Turns Stores a b p
+    → ((fate : Fate) → [] ≡ fated_marks s fresh fate entry) → ((was : ℕ) → was ≡ interval_shown was s)
+    → ((was : Bool) → was ≡ ended_shown was s) → ((was : Bool) → false ≡ loose_shown was s) → is_stored_by s ≡ true
+    → may_wait s ≡ false
+    → LaneShows a.on s fresh entry (lane_of a p) (lane_of b p)
+log_lane s fresh entry a b p t none interval ended loose stored not_held =
+    still_lane a.on s fresh entry (lane_of a p) (lane_of b p) none not_held
+    (ap (λ (l : Lane). l.interval) t.turn ∙ interval (lane_of a p).interval)
+    (ap (λ (l : Lane). l.ended) t.turn ∙ ended (lane_of a p).ended)
+    (ap (λ (l : Lane). l.loose) t.turn ∙ loose (lane_of a p).loose) (ap (λ (l : Lane). l.reached) t.turn)
+    (ap (λ (l : Lane). l.stored) t.turn
+    ∙ sym (ap (λ (x : Bool). if x then length (lane_of a p).waiting else (lane_of a p).stored) stored))
+    (ap (λ (l : Lane). l.waiting) t.turn)
+
+pub flush_shown : (r : Result (Unit {0}) AllocError) (a c : Sketch) (p fresh : ℕ) (entry : Entry) → OnOk r (Logs entry a c p)
+    → OnOk r (Shows a c p shows.Flush fresh entry)
+flush_shown r a c p fresh entry logs =
+    on_ok_weaker r (λ (g : Logs entry a c p).
+    shows_of shows.Flush fresh entry Stores a g.stored c p (if a.on then log_marks (lane_of a p).loose entry else []) g.turns g.settles refl
+    (log_lane shows.Flush fresh entry a g.stored p g.turns (λ fate. refl) (λ was. refl) (λ was. refl) (λ was. refl) refl refl)) logs
+
+both_if : (on : Bool) (x y : List EventMark) → (if on then x else []) ++ (if on then y else []) ≡ (if on then x ++ y else [])
+both_if true x y = refl
+both_if false x y = refl
+
+pub join_shown : (r : Result (Unit {0}) AllocError) (a b c : Sketch) (p fresh : ℕ) (entry : Entry) → Logs entry a b p
+    → OnOk r (Settles b c (if b.on then mark_of (Some Joined) false entry else [])) → OnOk r (Shows a c p shows.Join fresh entry)
+join_shown r a b c p fresh entry g settles =
+    let logs : List EventMark = log_marks (lane_of a p).loose entry in
+    let joins : List EventMark = mark_of (Some Joined) false entry in
+    let on : b.on ≡ a.on = g.settles.on ∙ g.turns.on in
+    on_ok_weaker r (λ (m : Settles b c (if b.on then joins else [])).
+    shows_of shows.Join fresh entry Stores a g.stored c p ((if a.on then logs else []) ++ (if b.on then joins else [])) g.turns
+    (settles_then g.stored b c (if a.on then logs else []) (if b.on then joins else []) g.settles m)
+    (ap (λ (x : Bool). (if a.on then logs else []) ++ (if x then joins else [])) on ∙ both_if a.on logs joins)
+    (log_lane shows.Join fresh entry a g.stored p g.turns (λ fate. refl) (λ was. refl) (λ was. refl) (λ was. refl) refl refl)) settles
+
+-- a failure, with which what is in memory only is lost
+pub failure_shown : (r : Result (Unit {0}) AllocError) (a b c : Sketch) (p fresh : ℕ) (declared : Bool) (entry : Entry) → Turns Loses a b p
+    → OnOk r (Settles b c (if b.on then mark_of (Some Failed) false entry else []))
+    → OnOk r (Shows a c p (shows.Failure declared) fresh entry)
+failure_shown r a b c p fresh declared entry t settles =
+    let s : Shown = shows.Failure declared in
+    let fails : List EventMark = mark_of (Some Failed) false entry in
+    on_ok_weaker r (λ (m : Settles b c (if b.on then fails else [])).
+    shows_of s fresh entry Loses a b c p (if b.on then fails else []) t m (ap (λ (on : Bool). if on then fails else []) t.on)
+    (still_lane a.on s fresh entry (lane_of a p) (lane_of b p) (λ fate. refl) refl
+    (ap (λ (l : Lane). l.interval) t.turn) (ap (λ (l : Lane). l.ended) t.turn) (ap (λ (l : Lane). l.loose) t.turn)
+    (ap (λ (l : Lane). l.reached) t.turn)
     (ap (λ (l : Lane). l.stored) t.turn) (ap (λ (l : Lane). l.waiting) t.turn))) settles
 
 pub back_shown : (r : Result (Unit {0}) AllocError) (a b c : Sketch) (p interval inc fresh : ℕ) (entry : Entry)
-    → Turns (GoesBack interval) a b p → OnOk r (Settles b c (if b.on then sure_marks (shows.Back interval inc) entry else []))
+    → Turns (GoesBack interval) a b p → OnOk r (Settles b c (if b.on then mark_of (Some CameBack) false entry else []))
     → OnOk r (Shows a c p (shows.Back interval inc) fresh entry)
 back_shown r a b c p interval inc fresh entry t settles =
     let s : Shown = shows.Back interval inc in
-    on_ok_weaker r (λ (m : Settles b c (if b.on then sure_marks s entry else [])).
-    shows_of s fresh entry (GoesBack interval) a b c p (if b.on then sure_marks s entry else []) t m
-    (ap (λ (on : Bool). if on then sure_marks s entry else []) t.on)
-    (still_lane a.on s fresh entry (lane_of a p) (lane_of b p) (λ fate. refl)
-    (ap (λ (l : Lane). l.interval) t.turn) (ap (λ (l : Lane). l.ended) t.turn) (ap (λ (l : Lane). l.reached) t.turn)
+    on_ok_weaker r (λ (m : Settles b c (if b.on then mark_of (Some CameBack) false entry else [])).
+    shows_of s fresh entry (GoesBack interval) a b c p (if b.on then mark_of (Some CameBack) false entry else []) t m
+    (ap (λ (on : Bool). if on then mark_of (Some CameBack) false entry else []) t.on)
+    (still_lane a.on s fresh entry (lane_of a p) (lane_of b p) (λ fate. refl) refl
+    (ap (λ (l : Lane). l.interval) t.turn) (ap (λ (l : Lane). l.ended) t.turn) (ap (λ (l : Lane). l.loose) t.turn)
+    (ap (λ (l : Lane). l.reached) t.turn)
     (ap (λ (l : Lane). l.stored) t.turn) (ap (λ (l : Lane). l.waiting) t.turn))) settles
 
 -- ---- a mark of its own
@@ -221,3 +307,20 @@ pub on_mark : (r : Result (Unit {0}) AllocError) (a b : Sketch) (more shapes : L
 on_mark r a b more shapes on is settles =
     subst (λ (x : Bool). OnOk r (Settles a b (if x then more else []))) (sym on)
     (subst (λ (l : List EventMark). OnOk r (Settles a b l)) is settles)
+
+-- ---- a release
+pub freed_none : (s : Sketch) (held : Bool) (p : ℕ) (entry : Entry) → held ≡ false
+    → Settles s s (if s.on then released_at held p entry else [])
+freed_none s held p entry none =
+    subst (λ (b : Bool). Settles s s (if s.on then released_at b p entry else [])) (sym none)
+    (subst (λ (l : List EventMark). Settles s s l) (none_if s.on) (settles_none s))
+
+pub freed_shown : (r : Result (Unit {0}) AllocError) (a b : Sketch) (held : Bool) (p : ℕ) (title : Title) (step : Step) (at to : Spot)
+    → a.on ≡ true → held ≡ true → to ≡ record { x = at.x; lane = p } → ((spot : Spot) → title_entry title spot ≡ step_entry step spot)
+    → OnOk r (Settles a b (mark_of (Some Released) false (title_entry title to)))
+    → OnOk r (Settles a b (if a.on then released_at held p (step_entry step at) else []))
+freed_shown r a b held p title step at to on some place told settles =
+    let there : Spot = record { x = at.x; lane = p } in
+    subst (λ (x : Bool). OnOk r (Settles a b (if x then released_at held p (step_entry step at) else []))) (sym on)
+    (subst (λ (x : Bool). OnOk r (Settles a b (released_at x p (step_entry step at)))) (sym some)
+    (subst (λ (e : Entry). OnOk r (Settles a b (mark_of (Some Released) false e))) (ap (title_entry title) place ∙ told there) settles))

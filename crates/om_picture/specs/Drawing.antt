@@ -1,8 +1,12 @@
 -- A picture that is being drawn: which marks it has, drawn or waiting.
-use Rattle.std.specs.Prelude.{◌≡◌, ℕ, suc, ◌<◌, ◌-◌, ◌==◌, Bool, false, if◌then◌else◌, nat_lt, List, [], ◌∷◌, ◌++◌, Some, drop, length, map, slice_index_or}
+use Rattle.std.specs.Prelude.{◌≡◌, ℕ, suc, ◌+◌, ◌*◌, ◌<◌, ◌≤◌, ◌-◌, ◌==◌, Bool, false, if◌then◌else◌, is_some, nat_lt, List, [], ◌∷◌, ◌++◌, Some, drop, length, map, slice_index_or}
 use Rattle.std.specs.List.{flat_map}
-use Rattle.om_picture.specs.Fates.{Entry, Fate, Row, fate_behind, has_ended, highest, interval_behind}
+use Rattle.om_picture.specs.Fates.{Entry, Fate, Row, fate_behind, has_ended, highest, interval_behind, is_loose}
+use Rattle.om_picture.specs.Held.{Held, held_behind}
 use Rattle.om_picture.specs.Marks.{AreTheSame, EventMark, Saved, Taken, Worked, is_reached, mark_of, marks_among, output_marks, shape_marks, title_entry}
+use Rattle.om_interval.specs.declared.pid.TheConstants.{MAX_PROCESSES}
+use Rattle.om_picture.specs.Places.{ArePlaced, rightmost}
+use Rattle.om_picture.specs.declared.column.TheConstants.{MOST_LEFT, WIDEST}
 use Rattle.om_picture.specs.declared.history.History.{History}
 use Rattle.om_picture.specs.declared.history.Mark.{Mark}
 use Rattle.om_picture.specs.declared.picture.Picture.{Picture}
@@ -18,7 +22,7 @@ late_marks _ fresh fate entry = mark_of (Some Worked) fate.cut entry
 
 -- a mark from before the window is not drawn
 abbrev pub mark_marks : Mark → Fate → List EventMark
-mark_marks mark fate = if mark.x == 0 then [] else late_marks mark.shown mark.fresh fate (title_entry mark.title)
+mark_marks mark fate = if mark.at.x == 0 then [] else late_marks mark.shown mark.fresh fate (title_entry mark.title mark.at)
 
 -- marks that wait, of which the first ones, so many, are stored, each with the fate of its interval
 abbrev pub waiting_marks : (ℕ → Bool → Fate) → ℕ → List Mark → List EventMark
@@ -26,38 +30,53 @@ waiting_marks fate stored [] = []
 waiting_marks fate stored (mark ∷ marks) =
     mark_marks mark (fate mark.interval (nat_lt 0 stored)) ++ waiting_marks fate (stored - 1) marks
 
--- what is known of a process: its interval, whether its program ended, the highest place that it had in a recovery state, and the
--- marks that wait, of which the first ones, so many, are stored
+-- what is known of a process: its interval, whether its program ended, whether it has received something that is in memory only, the
+-- highest place that it had in a recovery state, and the marks that wait, of which the first ones, so many, are stored
 pub record Lane : Type 0 where
   pub interval : ℕ
   pub ended : Bool
+  pub loose : Bool
   pub reached : ℕ
   pub stored : ℕ
   pub waiting : List Mark
 
 abbrev pub new_lane : Lane
-new_lane = record { interval = 0; ended = false; reached = 0; stored = 0; waiting = [] }
+new_lane = record { interval = 0; ended = false; loose = false; reached = 0; stored = 0; waiting = [] }
 
 abbrev pub lane_in : History → Lane
 lane_in history = record {
   interval = history.interval;
   ended = history.ended;
+  loose = is_some history.loose;
   reached = history.reached;
   stored = history.stored - history.settled;
   waiting = drop history.settled history.marks.items;
 }
 
--- whether the window is reached, its first line, the marks of events that are drawn, and the lanes
+-- the first line of the window, where the last column stands, and its right side
+pub record Edge : Type 0 where
+  pub first : ℕ
+  pub x : ℕ
+  pub right : ℕ
+
+-- what a mark that waits holds, and a lane
+abbrev pub held_of : Mark → Held
+held_of mark = record { interval = mark.interval; fresh = mark.fresh; x = mark.at.x }
+
+abbrev pub held_in : Lane → List Held
+held_in lane = map held_of lane.waiting
+
+-- whether the window is reached, its edges, the marks of events that are drawn, and the lanes
 pub record Sketch : Type 0 where
   pub on : Bool
-  pub first : ℕ
+  pub edge : Edge
   pub drawn : List EventMark
   pub lanes : List Lane
 
 abbrev pub sketch_of : Picture → Sketch
 sketch_of picture = record {
   on = picture.on;
-  first = picture.first;
+  edge = record { first = picture.first; x = picture.columns.x; right = picture.columns.right };
   drawn = flat_map shape_marks picture.marks.items;
   lanes = map lane_in picture.histories.items;
 }
@@ -82,13 +101,21 @@ lane_of sketch p = slice_index_or sketch.lanes p new_lane
 pub record IsLaneOf (p : ℕ) (rows : List Row) (lane : Lane) : Type 0 where
   pub interval : lane.interval ≡ interval_behind p rows
   pub ended : lane.ended ≡ has_ended p rows
+  pub loose : lane.loose ≡ is_loose p rows
+  pub held : held_in lane ≡ held_behind p rows
   pub reached : lane.reached ≡ highest p 0 rows
 
 -- a picture of so many processes and of these events, whose window begins at a line: whatever comes behind them, its marks come
 -- to those of the events
 pub record IsSketchOf (n first : ℕ) (rows : List Row) (sketch : Sketch) : Type 0 where
   pub on : sketch.on ≡ is_reached first rows
-  pub first_line : sketch.first ≡ first
+  pub first_line : sketch.edge.first ≡ first
   pub count : length sketch.lanes ≡ n
   pub lanes : (p : ℕ) → p < n → IsLaneOf p rows (lane_of sketch p)
   pub marks : (later : List Row) → AreTheSame (all_marks (lane_marks later) sketch) (marks_among n first [] rows later)
+  -- where they stand, and how far right that is
+  pub few : n ≤ MAX_PROCESSES
+  pub placed : ArePlaced n first [] rows
+  pub behind : rightmost rows ≤ sketch.edge.x
+  pub inside : sketch.edge.x ≤ sketch.edge.right
+  pub room : sketch.edge.right ≤ MOST_LEFT + WIDEST * length rows

@@ -6,13 +6,15 @@ use Rattle.om_world.specs.declared.event.Answer.TheVariants as answers
 use Rattle.om_world.specs.declared.event.Event.{Event}
 use Rattle.om_world.specs.declared.event.Event.TheVariants as events
 use Rattle.om_picture.specs.Shows.{end_of, is_finished}
+use Rattle.om_picture.specs.declared.sheet.Spot.{Spot}
 use Rattle.om_picture.specs.declared.step.Step.{Step}
 
--- an event of a script, the number of its line, and its answer
+-- an event of a script, the number of its line, its answer, and where it stands in a picture
 pub record Entry : Type 0 where
   pub line : ℕ
   pub event : Event
   pub answer : Answer
+  pub at : Spot
 
 -- the same, how many new outputs it handed in, and the recovery state behind it
 pub record Row : Type 0 where
@@ -20,11 +22,11 @@ pub record Row : Type 0 where
   pub fresh : ℕ
   pub recovery : List ℕ
 
-abbrev pub step_entry : Step → Entry
-step_entry step = record { line = step.line; event = step.event; answer = step.answer }
+abbrev pub step_entry : Step → Spot → Entry
+step_entry step at = record { line = step.line; event = step.event; answer = step.answer; at = at }
 
-abbrev pub step_row : Step → Row
-step_row step = record { entry = step_entry step; fresh = step.fresh; recovery = step.recovery }
+abbrev pub step_row : Step → Spot → Row
+step_row step at = record { entry = step_entry step at; fresh = step.fresh; recovery = step.recovery }
 
 -- the process of an event
 abbrev pub process_of : Event → Option ℕ
@@ -81,6 +83,26 @@ ended_from p was (row ∷ rows) = ended_from p (next_ended p was row) rows
 -- the program of a process came to its end in these events, and the process did not go back since
 abbrev pub has_ended : ℕ → List Row → Bool
 has_ended p rows = ended_from p false rows
+
+-- whether a process has received something behind an event that it has in memory only
+abbrev pub loose_after : Event → Answer → Bool → Bool
+loose_after (events.Give process frame) (answers.Given (accepts.Taken interval)) was = true
+loose_after (events.Flush process) (answers.Noted count) was = if count == 0 then was else false
+loose_after (events.Join process) (answers.Gathered gathered) was = false
+loose_after (events.Fail process) (answers.Gathered gathered) was = false
+loose_after (events.Fail process) answers.Down was = false
+loose_after _ _ was = was
+
+abbrev pub next_loose : ℕ → Bool → Row → Bool
+next_loose p was row = if is_of p row then loose_after row.entry.event row.entry.answer was else was
+
+abbrev pub loose_from : ℕ → Bool → List Row → Bool
+loose_from p was [] = was
+loose_from p was (row ∷ rows) = loose_from p (next_loose p was row) rows
+
+-- a process received something in these events, and since then it did not store what it received, nor fail
+abbrev pub is_loose : ℕ → List Row → Bool
+is_loose p rows = loose_from p false rows
 
 -- ---- what becomes of an interval
 -- the place of a process in the recovery state behind an event, or a higher one that was there before

@@ -1,8 +1,10 @@
 pub mod AnswerText
 pub mod Drawing
 pub mod Fates
+pub mod Held
 pub mod Marks
 pub mod PictureText
+pub mod Places
 pub mod Plain
 pub mod Reading
 pub mod ShapeText

@@ -1,27 +1,35 @@
 -- Which marks stand for which events.
-use Rattle.std.specs.Prelude.{◌≡◌, ℕ, ◌==◌, Bool, false, ◌||◌, if◌then◌else◌, nat_le, nat_lt, List, [], ◌∷◌, ◌++◌, Option, None, Some}
+use Rattle.std.specs.Prelude.{◌≡◌, ℕ, zero, suc, ◌==◌, Bool, false, ◌||◌, if◌then◌else◌, nat_le, nat_lt, List, [], ◌∷◌, ◌++◌, Option, None, Some}
 use Rattle.std.specs.List.{flat_map, sum_by}
-use Rattle.om_picture.specs.Fates.{Entry, Fate, Row, fate_of, has_ended, interval_behind, process_of}
+use Rattle.om_picture.specs.Fates.{Entry, Fate, Row, fate_of, has_ended, interval_behind, is_loose, process_of}
+use Rattle.om_picture.specs.Held.{releases}
 use Rattle.om_picture.specs.Shows.{shown}
 use Rattle.om_picture.specs.declared.ending.Drawn.{Drawn}
 use Rattle.om_picture.specs.declared.sheet.Form.{Form}
 use Rattle.om_picture.specs.declared.sheet.Form.TheVariants as forms
 use Rattle.om_picture.specs.declared.sheet.Shape.{Shape}
+use Rattle.om_picture.specs.declared.sheet.Spot.{Spot}
 use Rattle.om_picture.specs.declared.sheet.Title.{Title}
 use Rattle.om_picture.specs.declared.shown.Shown.{Shown}
 use Rattle.om_picture.specs.declared.shown.Shown.TheVariants as shows
 
-abbrev pub title_entry : Title → Entry
-title_entry title = record { line = title.line; event = title.event; answer = title.answer }
+abbrev pub title_entry : Title → Spot → Entry
+title_entry title at = record { line = title.line; event = title.event; answer = title.answer; at = at }
 
 -- what the mark of an event says
 pub data Kind : Type 0 where
   -- a receipt: filled, if it is stored
   Taken : Bool → Kind
   NotTaken : Kind
+  -- the receipts since the process last stored some are stored
+  Logged : Kind
   Saved : Kind
   -- outputs that were made: filled, if they are released
   Made : Bool → Kind
+  -- outputs that were held are released
+  Released : Kind
+  -- the stem below them; again, they were all made before
+  Stands : Bool → Kind
   -- a run, or messages that were sent again
   Worked : Kind
   Failed : Kind
@@ -39,42 +47,49 @@ abbrev pub mark_of : Option Kind → Bool → Entry → List EventMark
 mark_of None cut entry = []
 mark_of (Some kind) cut entry = record { kind = kind; cut = cut; entry = entry } ∷ []
 
--- what a form that is drawn says of its event; stems, flushes and releases stand beside other marks
+-- what a form that is drawn says of its event
 abbrev pub kind_drawn : Form → Option Kind
 kind_drawn (forms.Receipt stored) = Some (Taken stored)
 kind_drawn forms.Checkpoint = Some Saved
-kind_drawn (forms.Stem again) = None
+kind_drawn (forms.Stem again) = Some (Stands again)
 kind_drawn (forms.Head released) = Some (Made released)
 kind_drawn forms.End = Some Worked
 kind_drawn forms.Dot = Some Worked
 kind_drawn forms.Refused = Some NotTaken
-kind_drawn (forms.Flush from) = None
+kind_drawn (forms.Flush from) = Some Logged
 kind_drawn forms.Failure = Some Failed
 kind_drawn forms.Join = Some Joined
 kind_drawn forms.Back = Some CameBack
 kind_drawn forms.GoesOn = Some WentOn
-kind_drawn forms.Released = None
+kind_drawn forms.Released = Some Released
 
 -- the marks of events among those that are drawn
 abbrev pub shape_marks : Shape → List EventMark
-shape_marks shape = mark_of (kind_drawn shape.form) shape.cut (title_entry shape.title)
+shape_marks shape = mark_of (kind_drawn shape.form) shape.cut (title_entry shape.title shape.at)
 
 abbrev pub drawn_marks : Drawn → List EventMark
 drawn_marks drawn = flat_map shape_marks drawn.marks.items
 
--- of an event that no round cuts
-abbrev pub sure_marks : Shown → Entry → List EventMark
-sure_marks (shows.Refused frame) entry = mark_of (Some NotTaken) false entry
-sure_marks (shows.Failure declared) entry = mark_of (Some Failed) false entry
-sure_marks shows.Join entry = mark_of (Some Joined) false entry
-sure_marks (shows.Back interval inc) entry = mark_of (Some CameBack) false entry
-sure_marks shows.GoesOn entry = mark_of (Some WentOn) false entry
-sure_marks _ entry = []
+-- what was received and is in memory only is stored, if there is such a thing
+abbrev pub log_marks : Bool → Entry → List EventMark
+log_marks loose entry = if loose then mark_of (Some Logged) false entry else []
 
--- outputs that a run made, if it handed in new ones
+-- of an event that no round cuts; loose: its process has received something that is in memory only
+abbrev pub sure_marks : Bool → Shown → Entry → List EventMark
+sure_marks loose (shows.Refused frame) entry = mark_of (Some NotTaken) false entry
+sure_marks loose shows.Flush entry = log_marks loose entry
+sure_marks loose (shows.Failure declared) entry = mark_of (Some Failed) false entry
+sure_marks loose shows.Join entry = log_marks loose entry ++ mark_of (Some Joined) false entry
+sure_marks loose (shows.Back interval inc) entry = mark_of (Some CameBack) false entry
+sure_marks loose shows.GoesOn entry = mark_of (Some WentOn) false entry
+sure_marks loose _ entry = []
+
+-- outputs that a run made: their stem, and their head if it handed in new ones
 abbrev pub output_marks : ℕ → ℕ → Fate → Entry → List EventMark
 output_marks made fresh fate entry =
-    if (made == 0) || (fresh == 0) then [] else mark_of (Some (Made fate.covered)) fate.cut entry
+    if made == 0 then []
+    else mark_of (Some (Stands (fresh == 0))) fate.cut entry
+    ++ (if fresh == 0 then [] else mark_of (Some (Made fate.covered)) fate.cut entry)
 
 -- of an event that a round may cut
 abbrev pub fated_marks : Shown → ℕ → Fate → Entry → List EventMark
@@ -88,7 +103,7 @@ fated_marks _ fresh fate entry = []
 abbrev pub event_marks : ℕ → List Row → Row → List Row → List EventMark
 event_marks p before row later =
     let shows = shown (has_ended p before) row.entry.event row.entry.answer in
-    sure_marks shows row.entry
+    sure_marks (is_loose p before) shows row.entry
     ++ fated_marks shows row.fresh (fate_of p (interval_behind p (before ++ row ∷ [])) before (row ∷ later)) row.entry
 
 -- if its process is one of so many
@@ -101,10 +116,19 @@ abbrev pub is_reached : ℕ → List Row → Bool
 is_reached first [] = false
 is_reached first (row ∷ rows) = nat_le first row.entry.line || is_reached first rows
 
+-- on the lane of a process, in the column of an event, it is told that outputs are released with it
+abbrev pub released_at : Bool → ℕ → Entry → List EventMark
+released_at told p entry = mark_of (if told then Some Released else None) false (record entry { at = record { x = entry.at.x; lane = p } })
+
+-- on the lanes below one
+abbrev pub released_below : ℕ → List Row → Row → List EventMark
+released_below zero before row = []
+released_below (suc p) before row = released_below p before row ++ released_at (releases p before row) p row.entry
+
 -- the marks of an event, if the window is reached
 abbrev pub row_marks : ℕ → ℕ → List Row → Row → List Row → List EventMark
 row_marks n first before row later =
-    if is_reached first (before ++ row ∷ []) then marks_on n (process_of row.entry.event) before row later else []
+    if is_reached first (before ++ row ∷ []) then marks_on n (process_of row.entry.event) before row later ++ released_below n before row else []
 
 -- those of all these events, between others
 abbrev pub marks_among : ℕ → ℕ → List Row → List Row → List Row → List EventMark
@@ -116,6 +140,7 @@ marks_among n first before (row ∷ rows) later =
 abbrev pub AreTheSame : List EventMark → List EventMark → Type 0
 AreTheSame xs ys = (count : EventMark → ℕ) → sum_by count xs ≡ sum_by count ys
 
--- a picture of so many processes has the marks of the events of its window, each as it was in the end, and no others
+-- a picture of so many processes has the marks of the events of its window, each where its event stands and as it was in the end,
+-- and no others
 abbrev pub IsDrawingOf : ℕ → ℕ → List Row → Drawn → Type 0
 IsDrawingOf n first rows drawn = AreTheSame (drawn_marks drawn) (marks_among n first [] rows [])

@@ -1,6 +1,7 @@
-//! Columns: each event that shows something has one.
+//! Columns: each event that shows something has one, right of those before it.
 
-use crate::lane::Wanted;
+ghost use Rattle.std.specs.Prelude.{◌≡◌, ◌+◌, ◌-◌, ◌^◌, ◌<◌, ◌≤◌, min};
+
 use crate::measure::digits;
 use crate::page::{AGAIN, Page};
 use crate::sheet::{Road, Style, What};
@@ -9,26 +10,78 @@ use std::alloc::AllocError;
 /// The height of the numbers of lines.
 pub(crate) const AXIS: u32 = 54;
 
-impl Page {
-    /// The middle of the next column, with room for the words of an event of a process.
-    pub(crate) fn column(
-        &mut self,
-        width: u32,
-        line: usize,
-        p: usize,
-        wanted: Wanted,
-    ) -> Result<u32, AllocError> {
-        let middle = self.cur.saturating_add(width / 2);
-        let x = match self.lanes.get_mut(p) {
-            Some(lane) => lane.take_room(middle, wanted),
-            None => middle,
-        };
-        self.cur = x.saturating_add(width / 2);
+/// The most that a column may widen a picture. No words need more.
+pub const WIDEST: u32 = 200;
+
+/// The furthest that the left side may be.
+pub const MOST_LEFT: u32 = 248;
+
+/// So many columns have room in a picture. A script within its limits has fewer events.
+pub const MOST_COLUMNS: usize = 20_000_000;
+
+// The widest half of a column.
+pub(crate) const MOST_HALF: u32 = 14;
+
+/// Where the last column stands.
+#[derive(Drop)]
+pub(crate) struct Columns {
+    // Its right side and its middle; the left side of the picture, where there is none.
+    pub right: u32,
+    pub x: u32,
+    ghost there: { 0 < x },
+    ghost inside: { x ≤ right },
+}
+
+impl Columns {
+    /// No columns, behind a left side.
+    pub(crate) fn new(left: u32) -> Columns
+        requires { 0 < left }
+        ensures x { result.x ≡ left }
+        ensures right { result.right ≡ left }
+    {
+        Columns {
+            right: left,
+            x: left,
+        }
+    }
+
+    /// The least place of the next column, of this half width.
+    pub(crate) fn least(&self, half: u32) -> u32
+        ensures { result ≡ min (self.now.right + half) (2 ^ 32 - 1) }
+    {
+        self.right.saturating_add(half)
+    }
+
+    /// The next column, of this half width, at a place or as near to it as may be. Answers where it stands.
+    pub(crate) fn add(&mut self, place: u32, half: u32) -> u32
+        requires some { 0 < half }
+        requires narrow { half ≤ MOST_HALF }
+        ensures x { self.new.x ≡ result }
+        ensures there { 0 < result }
+        ensures behind { self.old.x ≤ result }
+        ensures column { self.old.right + WIDEST < 2 ^ 32 → self.old.x < result }
+        ensures inside { result ≤ self.new.right }
+        ensures room { self.new.right ≤ self.old.right + WIDEST }
+    {
+        let most = self.right.saturating_add(WIDEST - MOST_HALF);
+        let x = place.max(self.least(half)).min(most);
         self.x = x;
+        self.right = x.saturating_add(half);
+        x
+    }
+}
+
+impl Page {
+    /// Tells of a column: the number of its line, and the names of the lanes again.
+    pub(crate) fn tell_column(
+        &mut self,
+        x: u32,
+        right: u32,
+        line: usize,
+    ) -> Result<(), AllocError> {
         self.counts.shown = self.counts.shown.saturating_add(1);
         self.tick(x, line)?;
-        self.name_again()?;
-        Ok(x)
+        self.name_again(right)
     }
 
     // Tells the number of a line, where there is room.
@@ -44,11 +97,11 @@ impl Page {
     }
 
     // Tells the names of the lanes again, as often as the picture is that wide.
-    fn name_again(&mut self) -> Result<(), AllocError> {
-        if self.again > self.cur {
+    fn name_again(&mut self, right: u32) -> Result<(), AllocError> {
+        if self.again > right {
             return Ok(());
         }
-        let times = (self.cur - self.again) / AGAIN + 1;
+        let times = (right - self.again) / AGAIN + 1;
         for _ in 0..times {
             self.names_at(self.again)?;
             self.again = self.again.saturating_add(AGAIN);

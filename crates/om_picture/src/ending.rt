@@ -72,9 +72,9 @@ fn longest(recovery: DepVec, standings: &[Option<Standing>], lengths: &[u32]) ->
 }
 
 impl Page {
-    // The right side of the lanes.
-    fn right(&self) -> u32 {
-        let mut right = self.cur;
+    // The right side of the lanes, whose last column ends there.
+    fn right(&self, last: u32) -> u32 {
+        let mut right = last;
         for lane in &self.lanes {
             right = right.max(lane.end());
         }
@@ -196,7 +196,7 @@ impl Picture {
             → IfOk result (IsDrawingOf n first rows) }
     {
         let mut picture = self;
-        let right = picture.page.right();
+        let right = picture.page.right(picture.columns.right);
         picture.page.end_band(picture.on, right)?;
         picture.end_lanes(alloc, right, standings)?;
         picture.page.stubs()?;
@@ -264,15 +264,15 @@ impl Picture {
         ensures { OnOk result (SettlesLane false (sketch_of self.old) (sketch_of self.new) p) }
     {
         while let Some(first) = self.next(p) {
-            self.end_mark(p, &first)?;
+            self.end_mark(&first)?;
         }
         Ok(())
     }
 
-    fn end_mark(&mut self, p: usize, next: &Next) -> Result<(), AllocError>
+    fn end_mark(&mut self, next: &Next) -> Result<(), AllocError>
         ensures { OnOk result (Settles (sketch_of self.old) (sketch_of self.new)
             (mark_marks next.now.mark (fate_now false next.now.covered next.now.stored))) }
     {
-        self.settle(p, &next.mark, fate_now(next, false))
+        self.settle(&next.mark, fate_now(next, false))
     }
 }

@@ -1,8 +1,8 @@
 //! The marks of a lane, in order, and how many of them are settled.
 
-ghost use Rattle.std.specs.Prelude.{◌≡◌, ◌≤◌, [], length, max, OnOk, MatchOption};
+ghost use Rattle.std.specs.Prelude.{◌≡◌, ◌≤◌, [], is_some, length, max, OnOk, MatchOption};
 
-use crate::sheet::Title;
+use crate::sheet::{Spot, Title};
 use crate::shown::Shown;
 use crate::step::Label;
 use std::alloc::{AllocError, Global};
@@ -11,8 +11,8 @@ use std::slice;
 /// What happened on a lane, kept or cut later.
 #[derive(Clone, Copy)]
 pub struct Mark {
-    /// Its place, and 0 before the window.
-    pub x: u32,
+    /// Its place, whose x is 0 before the window.
+    pub at: Spot,
     pub interval: u32,
     pub shown: Shown,
     /// How many outputs it handed in, and the label of the first.
@@ -38,6 +38,8 @@ pub struct History {
     pub interval: u32,
     /// Whether its program came to its end.
     pub ended: bool,
+    /// The place of the first receipt that is in memory only.
+    pub loose: Option<u32>,
     /// The highest place of the process in the recovery states so far.
     pub reached: u32,
     pub marks: Vec<Mark>,
@@ -50,8 +52,9 @@ pub struct History {
 }
 
 impl History {
-    ghost use Rattle.om_picture.specs.Drawing.{lane_in, new_lane};
-    ghost use Rattle.om_picture.specs.steps.Adding.{Ends, GoesBack, IsMore, Raises, Receives, Stores, TakesCovered, TakesFirst};
+    ghost use Rattle.om_picture.specs.Drawing.{held_in, lane_in, new_lane};
+    ghost use Rattle.om_picture.specs.Held.{covered_by};
+    ghost use Rattle.om_picture.specs.steps.Adding.{Ends, GoesBack, IsMore, Loses, Raises, Receives, Stores, TakesCovered, TakesFirst};
 
     pub(crate) fn new(alloc: Global) -> History
         ensures { lane_in result ≡ new_lane }
@@ -59,6 +62,7 @@ impl History {
         History {
             interval: 0,
             ended: false,
+            loose: None,
             reached: 0,
             marks: Vec::new(alloc),
             stored: 0,
@@ -94,7 +98,8 @@ impl History {
 
     /// Takes the first mark that is not settled, if a recovery state covers it.
     pub(crate) fn next_covered(&mut self) -> Option<Mark>
-        ensures { MatchOption result (lane_in self.new ≡ lane_in self.old)
+        ensures { MatchOption result ((lane_in self.new ≡ lane_in self.old)
+            × (covered_by (lane_in self.old).reached (held_in (lane_in self.old)) ≡ []))
             (λ mark. TakesCovered mark (lane_in self.old) (lane_in self.new)) }
     {
         if self.settled >= self.marks.len() {
@@ -115,18 +120,30 @@ impl History {
         self.ended |= ended;
     }
 
-    /// An interval began.
-    pub(crate) fn receive(&mut self, interval: u32)
+    /// An interval began, with a receipt at this place.
+    pub(crate) fn receive(&mut self, interval: u32, x: u32)
         ensures { Receives interval (lane_in self.old) (lane_in self.new) }
     {
         self.interval = interval;
+        self.loose = Some(self.loose.unwrap_or(x));
     }
 
-    /// All receipts are stored.
-    pub(crate) fn store(&mut self)
-        ensures { Stores (lane_in self.old) (lane_in self.new) }
+    /// All receipts are stored: the place of the first that was in memory only.
+    pub(crate) fn store(&mut self) -> Option<u32>
+        ensures stores { Stores (lane_in self.old) (lane_in self.new) }
+        ensures loose { is_some result ≡ (lane_in self.old).loose }
     {
+        let loose = self.loose;
         self.stored = self.marks.len();
+        self.loose = None;
+        loose
+    }
+
+    /// What is in memory only is lost.
+    pub(crate) fn lose(&mut self)
+        ensures { Loses (lane_in self.old) (lane_in self.new) }
+    {
+        self.loose = None;
     }
 
     /// The process is back in an interval.
@@ -146,6 +163,6 @@ impl History {
 
     /// The place of the first mark that is not settled.
     pub(crate) fn first(&self) -> Option<u32> {
-        Some(self.marks.get(self.settled)?.x)
+        Some(self.marks.get(self.settled)?.at.x)
     }
 }

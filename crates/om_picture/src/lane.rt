@@ -44,8 +44,6 @@ pub struct Lane {
     pub stop: u32,
     /// Where the stretch begins in which it is in or down.
     pub wait: u32,
-    /// The place of the first receipt that is in memory only.
-    pub loose: Option<u32>,
     /// Where the next word may begin above, beside and below it.
     pub above: u32,
     pub beside: u32,
@@ -79,7 +77,6 @@ impl Lane {
             live: Some(left),
             stop: left,
             wait: left,
-            loose: None,
             above: 0,
             beside: 0,
             below: 0,

@@ -1,13 +1,15 @@
 //! What holds of a picture and its texts: each function stands for a theorem over the definitions alone.
 
-ghost use Rattle.std.specs.Prelude.{◌≡◌, ◌↔◌, ℕ, List, true};
+ghost use Rattle.std.specs.Prelude.{◌≡◌, ◌<◌, ◌↔◌, [], ◌∷◌, ◌++◌, ℕ, List, length, true};
 ghost use Rattle.om_scripts.specs.Named.{is_name};
 ghost use Rattle.om_scripts.specs.Programs.{Cluster};
 ghost use Rattle.om_picture.specs.AnswerText.{recovery_text};
 ghost use Rattle.om_picture.specs.Fates.{IsCutBy, IsStoredBy, Row, is_cut, is_stored};
+ghost use Rattle.om_picture.specs.Places.{ArePlaced, has_column};
 ghost use Rattle.om_picture.specs.Plain.{HasPlainNames, is_plain_text};
 ghost use Rattle.om_picture.specs.ShapeText.{told_text};
 ghost use Rattle.om_picture.specs.WordText.{what_text};
+ghost use Rattle.om_picture.specs.declared.column.TheConstants.{MOST_COLUMNS};
 ghost use Rattle.om_picture.specs.declared.sheet.Title.{Title};
 ghost use Rattle.om_picture.specs.declared.sheet.What.{What};
 
@@ -39,4 +41,11 @@ pub fn cut_by_a_round()
 /// It is stored exactly where its process stores what it received, and no round before that cut it.
 pub fn stored_by_its_process()
     ensures { (p interval was : ℕ) (rows : List Row) → is_stored p interval was rows ≡ true ↔ IsStoredBy p interval was rows }
+{}
+
+/// Of two events the later one, if it has a column and there is room, stands right of the other.
+pub fn later_stands_right()
+    ensures { (n first : ℕ) (before between later : List Row) (one other : Row)
+        → ArePlaced n first [] ((before ++ one ∷ between) ++ other ∷ later) → length (before ++ one ∷ between) < MOST_COLUMNS
+        → has_column n first (before ++ one ∷ between) other ≡ true → one.entry.at.x < other.entry.at.x }
 {}

@@ -10,7 +10,8 @@
 //!   (playing an event)
 //! - the drawing: `picture` (what is drawn, event by event), `own` (an event on its lane), `history` (marks that wait for their
 //!   fate), `settle` (marks that are kept), `rounds` (marks that are cut), `ending` (the right side)
-//! - where it stands: `page` (all but the marks), `column`, `lane`, `frame` (messages), `measure` (how wide texts are), `counts`
+//! - where it stands: `placing` (the column of an event), `column`, `page` (all but the marks), `lane`, `frame` (messages),
+//!   `measure` (how wide texts are), `counts`
 //! - the pieces, and their text: `sheet`, `text` (the whole), `shape_text`, `word_text`, `answer_text`
 //! - `laws`: no byte of a name or a number needs an escape
 #![tactic(auto)]
@@ -33,6 +34,7 @@ mod measure;
 mod own;
 mod page;
 mod picture;
+mod placing;
 pub mod reading;
 mod rounds;
 mod settle;

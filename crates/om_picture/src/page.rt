@@ -1,4 +1,4 @@
-//! The page: where the next column may stand, and all pieces but the marks.
+//! The page: all pieces but the marks, and the room for words.
 
 use crate::counts::Counts;
 use crate::frame::{Frame, add_frames};
@@ -15,13 +15,10 @@ pub(crate) const AGAIN: u32 = 1200;
 // The height of the names of rounds.
 const ROUNDS: u32 = 68;
 
-/// What has been drawn beside the marks, and where the next column may stand.
+/// What has been drawn beside the marks, and where the next words may stand.
 #[derive(Drop)]
 pub(crate) struct Page {
-    // The left side, the right side of the last column, and its middle.
     pub left: u32,
-    pub cur: u32,
-    pub x: u32,
     // Where the next number of a line may begin, the next text of a state, and the next names.
     pub axis: u32,
     pub foot: u32,
@@ -45,9 +42,8 @@ pub(crate) fn numbers(first: u64, count: u64) -> Numbers {
 }
 
 impl Page {
-    /// The page of so many lanes. `longest`: the characters of the longest name.
-    pub(crate) fn new(alloc: Global, count: usize, longest: u32) -> Result<Page, AllocError> {
-        let left = longest.saturating_mul(7).saturating_add(24).max(56);
+    /// The page of so many lanes, which begin at the left side.
+    pub(crate) fn new(alloc: Global, count: usize, left: u32) -> Result<Page, AllocError> {
         let mut lanes = Vec::new(alloc);
         let mut number: u32 = 0;
         for _ in 0..count {
@@ -56,8 +52,6 @@ impl Page {
         }
         Ok(Page {
             left,
-            cur: left,
-            x: left,
             axis: 0,
             foot: 0,
             again: left.saturating_add(AGAIN),
@@ -103,7 +97,7 @@ impl Page {
 
     /// The outputs of a mark of the window are released, or cut.
     pub(crate) fn count_fate(&mut self, on: bool, mark: &Mark, cut: bool) {
-        if on && mark.x != 0 {
+        if on && mark.at.x != 0 {
             self.counts.add_fate(mark.fresh, cut);
         }
     }
@@ -177,23 +171,6 @@ impl Page {
         let frame = self.frames.get_mut(frame)?;
         frame.given = true;
         Some(*frame)
-    }
-
-    /// No receipt of a process is in memory only: the place of the first that was.
-    pub(crate) fn lose(&mut self, p: usize) -> Option<u32> {
-        let lane = self.lanes.get_mut(p)?;
-        let loose = lane.loose;
-        lane.loose = None;
-        loose
-    }
-
-    /// A receipt of a process is in memory only.
-    pub(crate) fn hold(&mut self, p: usize, x: u32) {
-        if let Some(lane) = self.lanes.get_mut(p)
-            && lane.loose.is_none()
-        {
-            lane.loose = Some(x);
-        }
     }
 
     /// The process is in or down from here on.

@@ -1,18 +1,22 @@
 //! A picture that is drawn event by event.
 
-ghost use Rattle.std.specs.Prelude.{◌≡◌, ◌<◌, false, [], ◌∷◌, ◌++◌, ℕ, List, Some, if◌then◌else◌, length, OnOk, IfOk, MatchOption};
-ghost use Rattle.om_picture.specs.Drawing.{IsSketchOf, lane_of, sketch_of};
+ghost use Rattle.std.specs.Prelude.{◌≡◌, ◌==◌, ◌<◌, ◌≤◌, not, false, [], ◌∷◌, ◌++◌, ℕ, List, Some, if◌then◌else◌, is_some, length, OnOk, IfOk, MatchOption};
+ghost use Rattle.om_picture.specs.Drawing.{IsSketchOf, held_in, lane_of, sketch_of};
 ghost use Rattle.om_picture.specs.Fates.{Row, step_entry, step_row};
+ghost use Rattle.om_picture.specs.Held.{covered_by};
 ghost use Rattle.om_picture.specs.Marks.{kind_drawn, mark_of, shape_marks, title_entry};
 ghost use Rattle.om_picture.specs.Shows.{is_finished};
-ghost use Rattle.om_picture.specs.steps.Adding.{AreNew, Ends, GoesBack, Raises, Reaches, Receives, Settles, SettlesIf, Shows, ShowsEvent, ShowsOn, Stores, TakesCovered, TakesFirst, Turns, Waits};
+ghost use Rattle.om_picture.specs.declared.sheet.Spot.{Spot};
+ghost use Rattle.om_picture.specs.steps.Adding.{AreNew, Ends, GoesBack, Loses, Raises, Reaches, Receives, Settles, SettlesIf, Shows, ShowsEvent, ShowsOn, Stores, TakesCovered, TakesFirst, Turns, Waits};
 
+use crate::column::{Columns, MOST_LEFT};
 use crate::history::{History, Mark, Next};
 use crate::page::Page;
-use crate::sheet::{Form, More, Shape, Title};
+use crate::sheet::{Form, More, Shape, Spot, Title};
 use crate::shown::{Shown, is_finished, shown_of};
 use crate::step::{Step, process_of};
 use om_interval::DepVec;
+use om_scripts::MAX_NAME;
 use std::alloc::{AllocError, Global};
 use std::slice;
 
@@ -23,11 +27,21 @@ pub struct Picture {
     pub(crate) first: usize,
     pub(crate) on: bool,
     pub(crate) recovery: DepVec,
+    pub(crate) columns: Columns,
     pub(crate) page: Page,
     // The marks whose fate is known.
     pub(crate) marks: Vec<Shape>,
     // Those of each lane that wait, in order.
     pub(crate) histories: Vec<History>,
+}
+
+// The left side, behind names of so many characters.
+fn left_side(longest: u32) -> u32
+    ensures some { 0 < result }
+    ensures most { result ≤ MOST_LEFT }
+{
+    let characters = longest.min(MAX_NAME as u32);
+    (24 + 7 * characters).max(56)
 }
 
 fn new_histories(alloc: Global, count: usize) -> Result<Vec<History>, AllocError>
@@ -42,7 +56,8 @@ fn new_histories(alloc: Global, count: usize) -> Result<Vec<History>, AllocError
 }
 
 impl Picture {
-    /// The picture of so many processes, whose window begins at a line. `longest`: the characters of the longest name.
+    /// The picture of so many processes, whose window begins at a line. `longest`: the characters of the longest name, of which at
+    /// most [`MAX_NAME`] have room.
     pub fn new(
         alloc: Global,
         recovery: DepVec,
@@ -52,11 +67,13 @@ impl Picture {
         ensures { IfOk result (λ picture. IsSketchOf (length recovery) first [] (sketch_of picture)) }
     {
         let histories = new_histories(alloc, recovery.n())?;
+        let left = left_side(longest);
         Ok(Picture {
             first,
             on: false,
             recovery,
-            page: Page::new(alloc, recovery.n(), longest)?,
+            columns: Columns::new(left),
+            page: Page::new(alloc, recovery.n(), left)?,
             marks: Vec::new(alloc),
             histories,
         })
@@ -64,13 +81,14 @@ impl Picture {
 
     /// Draws what an event showed.
     pub fn draw(&mut self, alloc: Global, step: &Step) -> Result<(), AllocError>
-        ensures { OnOk result ((n first : ℕ) (rows : List Row) → IsSketchOf n first rows (sketch_of self.old)
-            → IsSketchOf n first (rows ++ step_row step.now ∷ []) (sketch_of self.new)) }
+        ensures { OnOk result ((at : Spot) × ((n first : ℕ) (rows : List Row) → IsSketchOf n first rows (sketch_of self.old)
+            → IsSketchOf n first (rows ++ step_row step.now at ∷ []) (sketch_of self.new))) }
     {
         self.begin(step.line)?;
-        self.draw_event(step)?;
+        let at = self.place(step)?;
+        self.draw_event(step, at)?;
         let changed = self.change(step.recovery);
-        self.keep(step, changed)?;
+        self.keep(step, at, changed)?;
         self.end_round(alloc, step, changed)
     }
 
@@ -107,43 +125,53 @@ impl Picture {
         Ok(())
     }
 
-    fn draw_event(&mut self, step: &Step) -> Result<(), AllocError>
-        ensures { OnOk result (ShowsEvent (sketch_of self.old) (sketch_of self.new) (step_row step.now)) }
+    // What an event shows, which stands there.
+    fn draw_event(&mut self, step: &Step, at: Spot) -> Result<(), AllocError>
+        requires { (at.x == 0) ≡ not self.old.on }
+        ensures { OnOk result (ShowsEvent (sketch_of self.old) (sketch_of self.new) (step_row step.now at)) }
     {
         match process_of(step.event) {
-            Some(p) => self.draw_own(p, step),
+            Some(p) => self.draw_own(p, step, at),
             None => Ok(()),
         }
     }
 
     // What the event itself shows.
-    fn draw_own(&mut self, p: usize, step: &Step) -> Result<(), AllocError>
-        ensures { OnOk result (ShowsOn (Some p) (sketch_of self.old) (sketch_of self.new) (step_row step.now)) }
+    fn draw_own(&mut self, p: usize, step: &Step, at: Spot) -> Result<(), AllocError>
+        requires { (at.x == 0) ≡ not self.old.on }
+        ensures { OnOk result (ShowsOn (Some p) (sketch_of self.old) (sketch_of self.new) (step_row step.now at)) }
     {
         if p >= self.histories.len() {
             return Ok(());
         }
         let ended = self.histories[p].ended;
         let shown = shown_of(step, ended);
-        self.draw_shown(p, step, shown)
+        self.draw_shown(p, step, at, shown)
     }
 
-    fn draw_shown(&mut self, p: usize, step: &Step, shown: Shown) -> Result<(), AllocError>
-        requires { p < length self.old.histories.items }
-        ensures { OnOk result (Shows (sketch_of self.old) (sketch_of self.new) p shown step.now.fresh (step_entry step.now)) }
+    fn draw_shown(
+        &mut self,
+        p: usize,
+        step: &Step,
+        at: Spot,
+        shown: Shown,
+    ) -> Result<(), AllocError>
+        requires within { p < length self.old.histories.items }
+        requires there { (at.x == 0) ≡ not self.old.on }
+        ensures { OnOk result (Shows (sketch_of self.old) (sketch_of self.new) p shown step.now.fresh (step_entry step.now at)) }
     {
         match shown {
             Shown::Nothing => Ok(()),
-            Shown::Run { sent, made, ends } => self.draw_run(p, step, sent, made, ends),
-            Shown::Resend { sent } => self.draw_resend(p, step, sent),
-            Shown::Receipt { frame, interval } => self.draw_receipt(p, step, frame, interval),
-            Shown::Refused { frame } => self.draw_refused(p, step, frame),
-            Shown::Flush => self.draw_flush(p, step),
-            Shown::Checkpoint => self.draw_checkpoint(p, step),
-            Shown::Failure { declared } => self.draw_failure(p, step, declared),
-            Shown::Join => self.draw_join(p, step),
-            Shown::Back { interval, inc } => self.draw_back(p, step, interval, inc),
-            Shown::GoesOn => self.draw_goes_on(p, step),
+            Shown::Run { sent, made, ends } => self.draw_run(p, step, at, sent, made, ends),
+            Shown::Resend { sent } => self.draw_resend(p, step, at, sent),
+            Shown::Receipt { frame, interval } => self.draw_receipt(p, step, at, frame, interval),
+            Shown::Refused { frame } => self.draw_refused(p, step, at, frame),
+            Shown::Flush => self.draw_flush(p, step, at),
+            Shown::Checkpoint => self.draw_checkpoint(p, step, at),
+            Shown::Failure { declared } => self.draw_failure(p, step, at, declared),
+            Shown::Join => self.draw_join(p, step, at),
+            Shown::Back { interval, inc } => self.draw_back(p, step, at, interval, inc),
+            Shown::GoesOn => self.draw_goes_on(p, step, at),
         }
     }
 
@@ -180,20 +208,13 @@ impl Picture {
     }
 
     // Adds the mark of an event that is not settled later, within the window.
-    pub(crate) fn shape(
-        &mut self,
-        form: Form,
-        p: usize,
-        x: u32,
-        step: &Step,
-    ) -> Result<(), AllocError>
+    pub(crate) fn shape(&mut self, form: Form, step: &Step, at: Spot) -> Result<(), AllocError>
         ensures { OnOk result (Settles (sketch_of self.old) (sketch_of self.new)
-            (if self.old.on then mark_of (kind_drawn form) false (step_entry step.now) else [])) }
+            (if self.old.on then mark_of (kind_drawn form) false (step_entry step.now at) else [])) }
     {
         if !self.on {
             return Ok(());
         }
-        let at = self.page.spot(p, x);
         let title = title_of(step, More::Nothing);
         self.add_shape(&Shape {
             form,
@@ -215,17 +236,17 @@ impl Picture {
         &mut self,
         p: usize,
         step: &Step,
-        x: u32,
+        at: Spot,
         shown: Shown,
         more: More,
     ) -> Result<(), AllocError>
         requires { p < length self.old.histories.items }
-        ensures { OnOk result (Turns (Waits x shown step.now.fresh (step_entry step.now)) (sketch_of self.old) (sketch_of self.new) p) }
+        ensures { OnOk result (Turns (Waits at.x shown step.now.fresh (step_entry step.now at)) (sketch_of self.old) (sketch_of self.new) p) }
     {
         let title = title_of(step, more);
         let history = &mut self.histories[p];
         let mark = Mark {
-            x,
+            at,
             interval: history.interval,
             shown,
             fresh: step.fresh,
@@ -249,7 +270,8 @@ impl Picture {
 
     // Takes the first mark that waits on a lane, if a recovery state covers it.
     pub(crate) fn next_covered(&mut self, p: usize) -> Option<Mark>
-        ensures { MatchOption result (sketch_of self.new ≡ sketch_of self.old)
+        ensures { MatchOption result ((sketch_of self.new ≡ sketch_of self.old)
+            × (covered_by (lane_of (sketch_of self.old) p).reached (held_in (lane_of (sketch_of self.old) p)) ≡ []))
             (λ mark. Turns (TakesCovered mark) (sketch_of self.old) (sketch_of self.new) p) }
     {
         if p >= self.histories.len() {
@@ -269,23 +291,33 @@ impl Picture {
         history.end(ended);
     }
 
-    // An interval of a process began.
-    pub(crate) fn receive(&mut self, p: usize, interval: u32)
+    // An interval of a process began, with a receipt at this place.
+    pub(crate) fn receive(&mut self, p: usize, interval: u32, x: u32)
         requires { p < length self.old.histories.items }
         ensures turn { Turns (Receives interval) (sketch_of self.old) (sketch_of self.new) p }
         ensures lanes { length self.new.histories.items ≡ length self.old.histories.items }
     {
         let history = &mut self.histories[p];
-        history.receive(interval);
+        history.receive(interval, x);
     }
 
-    // All receipts of a process are stored.
-    pub(crate) fn store(&mut self, p: usize)
+    // All receipts of a process are stored: the place of the first that was in memory only.
+    pub(crate) fn store(&mut self, p: usize) -> Option<u32>
         requires { p < length self.old.histories.items }
-        ensures { Turns Stores (sketch_of self.old) (sketch_of self.new) p }
+        ensures turn { Turns Stores (sketch_of self.old) (sketch_of self.new) p }
+        ensures loose { is_some result ≡ (lane_of (sketch_of self.old) p).loose }
     {
         let history = &mut self.histories[p];
-        history.store();
+        history.store()
+    }
+
+    // What a process has in memory only is lost.
+    pub(crate) fn lose(&mut self, p: usize)
+        requires { p < length self.old.histories.items }
+        ensures { Turns Loses (sketch_of self.old) (sketch_of self.new) p }
+    {
+        let history = &mut self.histories[p];
+        history.lose();
     }
 
     // A process is back in an interval.
@@ -314,7 +346,7 @@ pub(crate) fn state_if(changed: bool, step: &Step) -> Option<DepVec> {
 
 // The title of an event.
 pub(crate) fn title_of(step: &Step, more: More) -> Title
-    ensures { title_entry result ≡ step_entry step.now }
+    ensures { (at : Spot) → title_entry result at ≡ step_entry step.now at }
 {
     Title {
         line: step.line,

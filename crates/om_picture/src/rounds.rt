@@ -45,16 +45,17 @@ impl Page {
         Ok(place)
     }
 
-    // No gathering is open any more; within the window, its round is told.
+    // No gathering is open any more; within the window, its round is told, up to the right side.
     fn close(
         &mut self,
         on: bool,
+        right: u32,
         step: &Step,
         changed: bool,
         places: Vec<Spot>,
     ) -> Result<(), AllocError> {
         if on {
-            self.tell_round(step, changed, places)?;
+            self.tell_round(right, step, changed, places)?;
         }
         self.opened = None;
         Ok(())
@@ -63,13 +64,14 @@ impl Page {
     // The band, the name, the recovery line and the recovery state of a round.
     fn tell_round(
         &mut self,
+        right: u32,
         step: &Step,
         changed: bool,
         places: Vec<Spot>,
     ) -> Result<(), AllocError> {
         self.counts.add_round();
         let opened = self.opened.unwrap_or(self.left);
-        self.band(opened, self.cur, What::Round(self.round))?;
+        self.band(opened, right, What::Round(self.round))?;
         let state = step.recovery;
         let more = More::Round {
             changed: state_if(changed, step),
@@ -106,7 +108,8 @@ impl Picture {
     {
         self.page.round = self.page.round.saturating_add(1);
         let places = self.cut_lanes(alloc)?;
-        self.page.close(self.on, step, changed, places)?;
+        let right = self.columns.right;
+        self.page.close(self.on, right, step, changed, places)?;
         Ok(())
     }
 
@@ -138,17 +141,17 @@ impl Picture {
         ensures { OnOk result (SettlesLane true (sketch_of self.old) (sketch_of self.new) p) }
     {
         while let Some(first) = self.next(p) {
-            self.cut_mark(p, &first)?;
+            self.cut_mark(&first)?;
         }
         Ok(())
     }
 
-    fn cut_mark(&mut self, p: usize, next: &Next) -> Result<(), AllocError>
+    fn cut_mark(&mut self, next: &Next) -> Result<(), AllocError>
         ensures { OnOk result (Settles (sketch_of self.old) (sketch_of self.new)
             (mark_marks next.now.mark (fate_now true next.now.covered next.now.stored))) }
     {
         let fate = fate_now(next, true);
         self.page.count_fate(self.on, &next.mark, fate.cut);
-        self.settle(p, &next.mark, fate)
+        self.settle(&next.mark, fate)
     }
 }

@@ -1,15 +1,17 @@
 //! Marks that are known to be kept or cut.
 
-ghost use Rattle.std.specs.Prelude.{◌≡◌, ◌<◌, nat_lt, [], length, slice_index, Some, OnOk};
-ghost use Rattle.om_picture.specs.Drawing.{mark_marks, sketch_of};
-ghost use Rattle.om_picture.specs.Fates.{step_row};
-ghost use Rattle.om_picture.specs.Marks.{kind_drawn, mark_of, output_marks, title_entry};
-ghost use Rattle.om_picture.specs.steps.Adding.{LearnsAll, LearnsAt, Settles, fate_in, fate_now, kept, kind_late, made_by};
+ghost use Rattle.std.specs.Prelude.{◌≡◌, ◌<◌, nat_lt, [], if◌then◌else◌, is_some, length, slice_index, Some, IfOk, OnOk};
+ghost use Rattle.om_picture.specs.Drawing.{held_of, lane_of, mark_marks, sketch_of};
+ghost use Rattle.om_picture.specs.Fates.{step_entry, step_row};
+ghost use Rattle.om_picture.specs.Held.{is_elsewhere};
+ghost use Rattle.om_picture.specs.Marks.{kind_drawn, mark_of, output_marks, released_at, title_entry};
+ghost use Rattle.om_picture.specs.steps.Adding.{LearnsAll, LearnsAt, Settles, fate_in, fate_now, frees, kept, kind_late, lane_number, made_by};
 
 use crate::history::{Mark, Next};
 use crate::lane::{lane_y, or_left};
 use crate::page::Page;
 use crate::picture::{Picture, state_if, title_of};
+use crate::placing::lane_number;
 use crate::sheet::{Form, More, Shape, Spot, Style, Way, What};
 use crate::shown::Shown;
 use crate::step::Step;
@@ -42,15 +44,16 @@ fn style(fate: Fate, style: Style) -> Style {
 }
 
 // A mark of a form, at the place of this one.
-fn shape_of(form: Form, lane: u32, mark: &Mark, fate: Fate) -> Shape
+fn shape_of(form: Form, mark: &Mark, fate: Fate) -> Shape
     ensures form { result.form ≡ form }
     ensures cut { result.cut ≡ fate.cut }
+    ensures at { result.at ≡ mark.now.at }
     ensures title { result.title ≡ mark.now.title }
 {
     Shape {
         form,
         cut: fate.cut,
-        at: Spot { x: mark.x, lane },
+        at: mark.at,
         title: mark.title,
     }
 }
@@ -80,25 +83,25 @@ fn has_outputs(shown: Shown) -> bool
 }
 
 impl Page {
-    // The place of a mark that is kept, where it has outputs that were held.
-    fn held_at(&self, mark: &Mark) -> Option<u32> {
-        if mark.fresh > 0 && mark.x != self.x {
-            return Some(or_left(mark.x, self.left));
+    // The place of a mark that is kept, where it has outputs that were held before the event that stands there.
+    fn held_at(&self, mark: &Mark, at: Spot) -> Option<u32>
+        ensures { is_some result ≡ is_elsewhere at.x (held_of mark.now) }
+    {
+        if mark.fresh > 0 && mark.at.x != at.x {
+            return Some(or_left(mark.at.x, self.left));
         }
         None
     }
 
     // The words of a mark whose fate is known, and the message of a receipt.
-    fn tell(&mut self, lane: u32, mark: &Mark, fate: Fate) -> Result<(), AllocError> {
+    fn tell(&mut self, mark: &Mark, fate: Fate) -> Result<(), AllocError> {
         match mark.shown {
-            Shown::Receipt { frame, interval } => {
-                self.tell_receipt(lane, mark, fate, frame, interval)
-            }
+            Shown::Receipt { frame, interval } => { self.tell_receipt(mark, fate, frame, interval) }
             Shown::Run { made, ends, .. } => {
                 if made > 0 && mark.fresh > 0 {
-                    self.tell_outputs(lane, mark, fate)?;
+                    self.tell_outputs(mark, fate)?;
                 }
-                self.tell_status(lane, mark, fate, ends)
+                self.tell_status(mark, fate, ends)
             }
             _ => Ok(()),
         }
@@ -106,7 +109,6 @@ impl Page {
 
     fn tell_receipt(
         &mut self,
-        lane: u32,
         mark: &Mark,
         fate: Fate,
         frame: usize,
@@ -120,17 +122,21 @@ impl Page {
                     x: or_left(frame.x, self.left),
                     lane: frame.from,
                 },
-                to: Spot { x: mark.x, lane },
+                to: mark.at,
             })?;
         }
-        let y = lane_y(lane).saturating_sub(5);
+        let y = lane_y(mark.at.lane).saturating_sub(5);
         let what = What::Number(u64::from(interval));
-        self.say(style(fate, Style::Plain), mark.x.saturating_add(5), y, what)
+        self.say(
+            style(fate, Style::Plain),
+            mark.at.x.saturating_add(5),
+            y,
+            what,
+        )
     }
 
     fn tell_status(
         &mut self,
-        lane: u32,
         mark: &Mark,
         fate: Fate,
         ends: Option<Status>,
@@ -138,14 +144,14 @@ impl Page {
         let Some(status) = ends else {
             return Ok(());
         };
-        let y = lane_y(lane).saturating_add(20);
-        let x = mark.x.saturating_add(3);
+        let y = lane_y(mark.at.lane).saturating_add(20);
+        let x = mark.at.x.saturating_add(3);
         self.say(style(fate, Style::Small), x, y, What::End(status))
     }
 
-    fn tell_outputs(&mut self, lane: u32, mark: &Mark, fate: Fate) -> Result<(), AllocError> {
-        let y = lane_y(lane).saturating_sub(24);
-        let x = mark.x.saturating_sub(4);
+    fn tell_outputs(&mut self, mark: &Mark, fate: Fate) -> Result<(), AllocError> {
+        let y = lane_y(mark.at.lane).saturating_sub(24);
+        let x = mark.at.x.saturating_sub(4);
         let what = What::Output {
             label: mark.label,
             more: mark.fresh.saturating_sub(1),
@@ -156,71 +162,72 @@ impl Page {
 
 impl Picture {
     // Draws a mark whose fate is known; one from before the window is passed over.
-    pub(crate) fn settle(&mut self, p: usize, mark: &Mark, fate: Fate) -> Result<(), AllocError>
+    pub(crate) fn settle(&mut self, mark: &Mark, fate: Fate) -> Result<(), AllocError>
         ensures { OnOk result (Settles (sketch_of self.old) (sketch_of self.new) (mark_marks mark.now (fate_in fate))) }
     {
-        if mark.x == 0 {
+        if mark.at.x == 0 {
             return Ok(());
         }
-        let lane = self.page.lane_at(p).number;
-        self.page.tell(lane, mark, fate)?;
-        self.add_outputs(lane, mark, fate)?;
-        self.add_form(form_of(mark.shown, fate), lane, mark, fate)
+        self.page.tell(mark, fate)?;
+        self.add_outputs(mark, fate)?;
+        self.add_form(form_of(mark.shown, fate), mark, fate)
     }
 
     // The stem of the outputs of a mark, and its head, if they were not all made before.
-    fn add_outputs(&mut self, lane: u32, mark: &Mark, fate: Fate) -> Result<(), AllocError>
+    fn add_outputs(&mut self, mark: &Mark, fate: Fate) -> Result<(), AllocError>
         ensures { OnOk result (Settles (sketch_of self.old) (sketch_of self.new)
-            (output_marks (made_by mark.now.shown) mark.now.fresh (fate_in fate) (title_entry mark.now.title))) }
+            (output_marks (made_by mark.now.shown) mark.now.fresh (fate_in fate) (title_entry mark.now.title mark.now.at))) }
     {
         if !has_outputs(mark.shown) {
             return Ok(());
         }
         let again = mark.fresh == 0;
-        self.add_form(Form::Stem { again }, lane, mark, fate)?;
+        self.add_form(Form::Stem { again }, mark, fate)?;
         if again {
             return Ok(());
         }
         let released = fate.covered;
-        self.add_form(Form::Head { released }, lane, mark, fate)
+        self.add_form(Form::Head { released }, mark, fate)
     }
 
     // A form at the place of a mark.
-    fn add_form(&mut self, form: Form, lane: u32, mark: &Mark, fate: Fate) -> Result<(), AllocError>
+    fn add_form(&mut self, form: Form, mark: &Mark, fate: Fate) -> Result<(), AllocError>
         ensures { OnOk result (Settles (sketch_of self.old) (sketch_of self.new)
-            (mark_of (kind_drawn form) fate.cut (title_entry mark.now.title))) }
+            (mark_of (kind_drawn form) fate.cut (title_entry mark.now.title mark.now.at))) }
     {
-        self.add_shape(&shape_of(form, lane, mark, fate))
+        self.add_shape(&shape_of(form, mark, fate))
     }
 
     // Settles what the recovery state now covers, and shows where outputs that were held are released.
-    pub(crate) fn keep(&mut self, step: &Step, changed: bool) -> Result<(), AllocError>
-        ensures { OnOk result (LearnsAll (step_row step.now) (sketch_of self.old) (sketch_of self.new)) }
+    pub(crate) fn keep(&mut self, step: &Step, at: Spot, changed: bool) -> Result<(), AllocError>
+        ensures { OnOk result (LearnsAll (step_row step.now at) (sketch_of self.old) (sketch_of self.new)) }
     {
         for p in 0..self.histories.len() {
-            let held = self.keep_lane(p, step)?;
-            self.release(p, held, step, changed)?;
+            let held = self.keep_lane(p, step, at)?;
+            self.release(p, held, step, at, changed)?;
         }
         Ok(())
     }
 
     // The same for a lane: the place of the first output that was held and is released.
-    fn keep_lane(&mut self, p: usize, step: &Step) -> Result<Option<u32>, AllocError>
+    fn keep_lane(&mut self, p: usize, step: &Step, at: Spot) -> Result<Option<u32>, AllocError>
         requires { p < length self.old.histories.items }
-        ensures { OnOk result (LearnsAt (step_row step.now) (sketch_of self.old) (sketch_of self.new) p) }
+        ensures learns { OnOk result (LearnsAt (step_row step.now at) (sketch_of self.old) (sketch_of self.new) p) }
+        ensures freed { IfOk result (λ held. is_some held ≡ frees (step_row step.now at) p (lane_of (sketch_of self.old) p)) }
     {
         self.learn(p, place_of(step.recovery, p));
         let mut held = None;
         while let Some(mark) = self.next_covered(p) {
-            let found = self.keep_mark(p, &mark)?;
+            let found = self.keep_mark(&mark, at)?;
             held = held.or(found);
         }
         Ok(held)
     }
 
     // Keeps a mark: its place, where it has outputs that were held.
-    fn keep_mark(&mut self, p: usize, mark: &Mark) -> Result<Option<u32>, AllocError>
-        ensures { OnOk result (Settles (sketch_of self.old) (sketch_of self.new) (mark_marks mark.now kept)) }
+    fn keep_mark(&mut self, mark: &Mark, at: Spot) -> Result<Option<u32>, AllocError>
+        ensures settles { OnOk result (Settles (sketch_of self.old) (sketch_of self.new) (mark_marks mark.now kept)) }
+        ensures found { IfOk result (λ found. is_some found ≡ is_elsewhere at.x (held_of mark.now)) }
     {
         self.page.count_fate(self.on, mark, false);
         let fate = Fate {
@@ -228,8 +235,8 @@ impl Picture {
             covered: true,
             stored: true,
         };
-        self.settle(p, mark, fate)?;
-        Ok(self.page.held_at(mark))
+        self.settle(mark, fate)?;
+        Ok(self.page.held_at(mark, at))
     }
 
     // Shows that outputs which were made at a place are released, if there are some.
@@ -238,9 +245,11 @@ impl Picture {
         p: usize,
         held: Option<u32>,
         step: &Step,
+        at: Spot,
         changed: bool,
     ) -> Result<(), AllocError>
-        ensures { OnOk result (Settles (sketch_of self.old) (sketch_of self.new) []) }
+        ensures { OnOk result (Settles (sketch_of self.old) (sketch_of self.new)
+            (if self.old.on then released_at (is_some held) (lane_number p) (step_entry step.now at) else [])) }
     {
         let Some(from) = held else {
             return Ok(());
@@ -248,7 +257,10 @@ impl Picture {
         if !self.on {
             return Ok(());
         }
-        let to = self.page.spot(p, self.page.x);
+        let to = Spot {
+            x: at.x,
+            lane: lane_number(p),
+        };
         self.page.sheet.send.push(Way::Held { from, to })?;
         let more = More::Released(state_if(changed, step));
         let title = title_of(step, more);

@@ -1,9 +1,12 @@
 -- Marks that are added to a picture, one step of its drawing at a time.
-use Rattle.std.specs.Prelude.{◌≡◌, ◌≢◌, ℕ, ◌<◌, ◌≤◌, ◌-◌, Bool, true, false, not, ◌&&◌, ◌||◌, if◌then◌else◌, is_some, max, nat_le, nat_lt, List, [], ◌∷◌, ◌++◌, Option, None, Some, length, slice_index, slice_set}
-use Rattle.om_picture.specs.Drawing.{Lane, Sketch, all_marks, lane_in, lane_marks, lane_of, new_lane, waiting_marks}
-use Rattle.om_picture.specs.Fates.{Entry, Fate, Row, cuts, has_ended, highest, interval_behind, is_cut, is_stored, next_place, process_of}
-use Rattle.om_picture.specs.Marks.{AreTheSame, EventMark, Kind, Saved, Taken, Worked, fated_marks, marks_on, sure_marks, title_entry}
+use Rattle.std.specs.Prelude.{◌≡◌, ◌≢◌, ℕ, zero, suc, ◌+◌, ◌^◌, ◌<◌, ◌≤◌, ◌-◌, ◌==◌, Bool, true, false, not, ◌&&◌, ◌||◌, if◌then◌else◌, is_some, max, nat_le, nat_lt, List, [], ◌∷◌, ◌++◌, Option, None, Some, length, slice_index, slice_set}
+use Rattle.om_picture.specs.Drawing.{Edge, Lane, Sketch, all_marks, held_in, lane_in, lane_marks, lane_of, new_lane, waiting_marks}
+use Rattle.om_picture.specs.Fates.{Entry, Fate, Row, cuts, has_ended, highest, interval_behind, is_cut, is_loose, is_stored, next_place, process_of}
+use Rattle.om_picture.specs.Marks.{AreTheSame, EventMark, Kind, Saved, Taken, Worked, fated_marks, log_marks, marks_on, released_at, sure_marks, title_entry}
+use Rattle.om_picture.specs.Held.{covered_by, held_behind, is_any_elsewhere, left_by, left_behind, may_wait}
+use Rattle.om_picture.specs.Places.{is_shown}
 use Rattle.om_picture.specs.Shows.{shown}
+use Rattle.om_picture.specs.declared.column.TheConstants.{WIDEST}
 use Rattle.om_picture.specs.declared.history.History.{History}
 use Rattle.om_picture.specs.declared.history.Mark.{Mark}
 use Rattle.om_picture.specs.declared.history.Next.{Next}
@@ -35,10 +38,13 @@ abbrev pub Ends : Bool → Lane → Lane → Type 0
 Ends ended old new = new ≡ record old { ended = old.ended || ended }
 
 abbrev pub Receives : ℕ → Lane → Lane → Type 0
-Receives interval old new = new ≡ record old { interval = interval }
+Receives interval old new = new ≡ record old { interval = interval; loose = true }
 
 abbrev pub Stores : Lane → Lane → Type 0
-Stores old new = new ≡ record old { stored = length old.waiting }
+Stores old new = new ≡ record old { stored = length old.waiting; loose = false }
+
+abbrev pub Loses : Lane → Lane → Type 0
+Loses old new = new ≡ record old { loose = false }
 
 abbrev pub GoesBack : ℕ → Lane → Lane → Type 0
 GoesBack interval old new = new ≡ record old { interval = interval; ended = false }
@@ -49,32 +55,81 @@ Raises place old new = new ≡ record old { reached = max old.reached place }
 -- a mark waits of an event that shows this, at a place
 abbrev pub Waits : ℕ → Shown → ℕ → Entry → Lane → Lane → Type 0
 Waits x shown fresh entry old new =
-    (mark : Mark) × IsMore mark old new × (mark.x ≡ x) × (mark.interval ≡ old.interval) × (mark.shown ≡ shown) × (mark.fresh ≡ fresh)
-    × (title_entry mark.title ≡ entry)
+    (mark : Mark) × IsMore mark old new × (mark.at.x ≡ x) × (mark.interval ≡ old.interval) × (mark.shown ≡ shown) × (mark.fresh ≡ fresh)
+    × (title_entry mark.title mark.at ≡ entry)
 
 -- ---- a picture
 -- these marks are drawn, and the lanes are as they were
 pub record Settles (old new : Sketch) (more : List EventMark) : Type 0 where
   pub on : new.on ≡ old.on
-  pub first : new.first ≡ old.first
+  pub edge : new.edge ≡ old.edge
   pub lanes : new.lanes ≡ old.lanes
   pub drawn : new.drawn ≡ old.drawn ++ more
 
 -- the lane of a process changes so, and nothing else
 pub record Turns (Turn : Lane → Lane → Type 0) (old new : Sketch) (p : ℕ) : Type 0 where
   pub on : new.on ≡ old.on
-  pub first : new.first ≡ old.first
+  pub edge : new.edge ≡ old.edge
   pub drawn : new.drawn ≡ old.drawn
   pub within : p < length old.lanes
   pub lanes : new.lanes ≡ slice_set old.lanes p (lane_of new p)
   pub turn : Turn (lane_of old p) (lane_of new p)
 
+-- the receipts of a process are stored, and the event that does so is drawn, if there are some in memory only
+pub record Logs (entry : Entry) (old new : Sketch) (p : ℕ) : Type 0 where
+  pub stored : Sketch
+  pub turns : Turns Stores old stored p
+  pub settles : Settles stored new (if old.on then log_marks (lane_of old p).loose entry else [])
+
 -- the window is reached, if this is a line of it
 pub record Reaches (old new : Sketch) (line : ℕ) : Type 0 where
-  pub on : new.on ≡ (old.on || nat_le old.first line)
-  pub first : new.first ≡ old.first
+  pub on : new.on ≡ (old.on || nat_le old.edge.first line)
+  pub edge : new.edge ≡ old.edge
   pub drawn : new.drawn ≡ old.drawn
   pub lanes : new.lanes ≡ old.lanes
+
+-- ---- where an event stands
+-- the number of a lane, in 32 bits
+abbrev pub lane_number : ℕ → ℕ
+lane_number p = if nat_lt p (2 ^ 32) then p else 0
+
+-- the next column stands at a place, right of the last one
+pub record Moves (x : ℕ) (old new : Edge) : Type 0 where
+  pub first : new.first ≡ old.first
+  pub here : new.x ≡ x
+  pub there : 0 < x
+  pub behind : old.x ≤ x
+  pub column : old.right + WIDEST < 2 ^ 32 → old.x < x
+  pub inside : x ≤ new.right
+  pub room : new.right ≤ old.right + WIDEST
+
+-- and nothing else changes
+abbrev pub MovesTo : ℕ → Sketch → Sketch → Type 0
+MovesTo x old new = (new ≡ record old { edge = new.edge }) × Moves x old.edge new.edge
+
+-- an event that shows something, or not, stands at a place, 0 before the window
+pub record Places (shows : Bool) (x : ℕ) (old new : Sketch) : Type 0 where
+  pub on : new.on ≡ old.on
+  pub drawn : new.drawn ≡ old.drawn
+  pub lanes : new.lanes ≡ old.lanes
+  pub first : new.edge.first ≡ old.edge.first
+  pub there : (x == 0) ≡ not old.on
+  pub within : x ≤ new.edge.x
+  pub behind : old.edge.x ≤ new.edge.x
+  pub column : old.on ≡ true → shows ≡ true → old.edge.right + WIDEST < 2 ^ 32 → old.edge.x < x
+  pub inside : new.edge.x ≤ new.edge.right
+  pub room : new.edge.right ≤ old.edge.right + WIDEST
+
+-- an event of this process shows something, if there is the process
+abbrev pub shows_at : Option ℕ → Sketch → Row → Bool
+shows_at None sketch row = false
+shows_at (Some p) sketch row =
+    nat_lt p (length sketch.lanes) && is_shown (shown (lane_of sketch p).ended row.entry.event row.entry.answer)
+
+-- an event stands where it says
+pub record PlacesEvent (old new : Sketch) (row : Row) : Type 0 where
+  pub places : Places (shows_at (process_of row.entry.event) old row) row.entry.at.x old new
+  pub lane : (p : ℕ) → process_of row.entry.event ≡ Some p → row.entry.at.lane ≡ lane_number p
 
 -- ---- what an event shows
 abbrev pub interval_shown : ℕ → Shown → ℕ
@@ -87,6 +142,13 @@ ended_shown was (shows.Run sent made ends) = was || is_some ends
 ended_shown was (shows.Back interval inc) = false
 ended_shown was _ = was
 
+abbrev pub loose_shown : Bool → Shown → Bool
+loose_shown was (shows.Receipt frame interval) = true
+loose_shown was shows.Flush = false
+loose_shown was shows.Join = false
+loose_shown was (shows.Failure declared) = false
+loose_shown was _ = was
+
 abbrev pub is_stored_by : Shown → Bool
 is_stored_by shows.Flush = true
 is_stored_by shows.Join = true
@@ -96,16 +158,19 @@ is_stored_by _ = false
 pub record LaneShows (on : Bool) (shown : Shown) (fresh : ℕ) (entry : Entry) (old new : Lane) : Type 0 where
   pub interval : new.interval ≡ interval_shown old.interval shown
   pub ended : new.ended ≡ ended_shown old.ended shown
+  pub loose : new.loose ≡ loose_shown old.loose shown
   pub reached : new.reached ≡ old.reached
   pub stored : new.stored ≡ (if is_stored_by shown then length old.waiting else old.stored)
+  pub held : held_in new
+      ≡ held_in old ++ (if may_wait shown then record { interval = new.interval; fresh = fresh; x = entry.at.x } ∷ [] else [])
   pub waits : (fate : ℕ → Bool → Fate) → waiting_marks fate new.stored new.waiting
       ≡ waiting_marks fate new.stored old.waiting ++ (if on then fated_marks shown fresh (fate new.interval false) entry else [])
 
 -- an event of a process shows this
 pub record Shows (old new : Sketch) (p : ℕ) (shown : Shown) (fresh : ℕ) (entry : Entry) : Type 0 where
   pub on : new.on ≡ old.on
-  pub first : new.first ≡ old.first
-  pub drawn : new.drawn ≡ old.drawn ++ (if old.on then sure_marks shown entry else [])
+  pub edge : new.edge ≡ old.edge
+  pub drawn : new.drawn ≡ old.drawn ++ (if old.on then sure_marks (lane_of old p).loose shown entry else [])
   pub within : p < length old.lanes
   pub lanes : new.lanes ≡ slice_set old.lanes p (lane_of new p)
   pub lane : LaneShows old.on shown fresh entry (lane_of old p) (lane_of new p)
@@ -168,20 +233,53 @@ made_by _ = 0
 pub record Stays (old new : Lane) : Type 0 where
   pub interval : new.interval ≡ old.interval
   pub ended : new.ended ≡ old.ended
+  pub loose : new.loose ≡ old.loose
   pub reached : new.reached ≡ old.reached
 
 -- the same, where its place in a recovery state is told
-pub record Learns (place : ℕ) (old new : Lane) : Type 0 where
+pub record Told (place : ℕ) (old new : Lane) : Type 0 where
   pub interval : new.interval ≡ old.interval
   pub ended : new.ended ≡ old.ended
+  pub loose : new.loose ≡ old.loose
   pub reached : new.reached ≡ max old.reached place
+
+-- and what that covers waits no more
+pub record Learns (place : ℕ) (old new : Lane) : Type 0 where
+  pub told : Told place old new
+  pub held : held_in new ≡ left_behind new.reached (held_in old)
 
 -- all marks come to the same
 pub record Keeps (value : ℕ → Lane → List EventMark) (old new : Sketch) : Type 0 where
   pub on : new.on ≡ old.on
-  pub first : new.first ≡ old.first
+  pub edge : new.edge ≡ old.edge
   pub count : length new.lanes ≡ length old.lanes
   pub marks : AreTheSame (all_marks value new) (all_marks value old)
+
+-- all marks come to the same, and to some more
+pub record KeepsWith (more : List EventMark) (value : ℕ → Lane → List EventMark) (old new : Sketch) : Type 0 where
+  pub on : new.on ≡ old.on
+  pub edge : new.edge ≡ old.edge
+  pub count : length new.lanes ≡ length old.lanes
+  pub marks : AreTheSame (all_marks value new) (all_marks value old ++ more)
+
+-- outputs are released that a lane holds, with this event
+abbrev pub frees : Row → ℕ → Lane → Bool
+frees row p lane = is_any_elsewhere row.entry.at.x (covered_by (next_place p lane.reached row) (held_in lane))
+
+-- so it is told on the lanes below one
+abbrev pub freed_below : Row → Sketch → ℕ → List EventMark
+freed_below row old zero = []
+freed_below row old (suc p) =
+    freed_below row old p ++ (if old.on then released_at (frees row p (lane_of old p)) (lane_number p) row.entry else [])
+
+-- a lane is learning its place: what waits first goes while that covers it; found: there were outputs among that from elsewhere
+pub record Learning (row : Row) (found : Bool) (old new : Sketch) (p : ℕ) : Type 0 where
+  pub keeps : (later : List Row) → Keeps (amid_marks row later) old new
+  pub here : Told (slice_index row.recovery p) (lane_of old p) (lane_of new p)
+  pub left : left_behind (lane_of new p).reached (held_in (lane_of old p)) ≡ left_behind (lane_of new p).reached (held_in (lane_of new p))
+  pub freed : is_any_elsewhere row.entry.at.x (covered_by (lane_of new p).reached (held_in (lane_of old p)))
+      ≡ (found || is_any_elsewhere row.entry.at.x (covered_by (lane_of new p).reached (held_in (lane_of new p))))
+  pub others : (q : ℕ) → q ≢ p → lane_of new q ≡ lane_of old q
 
 -- a lane learns its place in a recovery state
 pub record LearnsAt (row : Row) (old new : Sketch) (p : ℕ) : Type 0 where
@@ -191,13 +289,13 @@ pub record LearnsAt (row : Row) (old new : Sketch) (p : ℕ) : Type 0 where
 
 -- the lanes below one do, and the others are as they were
 pub record LearnsBelow (row : Row) (old new : Sketch) (p : ℕ) : Type 0 where
-  pub keeps : (later : List Row) → Keeps (amid_marks row later) old new
+  pub keeps : (later : List Row) → KeepsWith (freed_below row old p) (amid_marks row later) old new
   pub learned : (q : ℕ) → q < p → Learns (slice_index row.recovery q) (lane_of old q) (lane_of new q)
   pub others : (q : ℕ) → p ≤ q → lane_of new q ≡ lane_of old q
 
 -- all lanes do
 pub record LearnsAll (row : Row) (old new : Sketch) : Type 0 where
-  pub keeps : (later : List Row) → Keeps (amid_marks row later) old new
+  pub keeps : (later : List Row) → KeepsWith (freed_below row old (length old.lanes)) (amid_marks row later) old new
   pub lanes : (p : ℕ) → p < length old.lanes → Learns (slice_index row.recovery p) (lane_of old p) (lane_of new p)
 
 -- some of what waits on a lane is settled
@@ -231,10 +329,12 @@ SettlesIf true old new = SettlesAll true old new
 -- a picture of these events, once the next one is drawn, where its recovery state and its round are not told
 pub record IsAmid (n : ℕ) (before : List Row) (row : Row) (old new : Sketch) : Type 0 where
   pub on : new.on ≡ old.on
-  pub first : new.first ≡ old.first
+  pub edge : new.edge ≡ old.edge
   pub count : length new.lanes ≡ n
   pub interval : (p : ℕ) → p < n → (lane_of new p).interval ≡ interval_behind p (before ++ row ∷ [])
   pub ended : (p : ℕ) → p < n → (lane_of new p).ended ≡ has_ended p (before ++ row ∷ [])
+  pub loose : (p : ℕ) → p < n → (lane_of new p).loose ≡ is_loose p (before ++ row ∷ [])
+  pub held : (p : ℕ) → p < n → held_in (lane_of new p) ≡ held_behind p before ++ left_by p before row
   pub reached : (p : ℕ) → p < n → (lane_of new p).reached ≡ highest p 0 before
   pub marks : (later : List Row) → AreTheSame (all_marks (amid_marks row later) new)
       (all_marks (lane_marks (row ∷ later)) old

@@ -1,6 +1,6 @@
 use Rattle.std.proofs.Common.{ℕ, List, ◌∙◌, ap, sym, string_bytes}
 use Rattle.om_commands.specs.Draw.{count_within}
-use Rattle.om_commands.proofs.DrawLemmas.{error_of_drawing, is_drawn}
+use Rattle.om_commands.proofs.DrawLemmas.{error_of_drawing, few_within, is_drawn}
 use Rattle.om_commands.proofs.draw.picture_of.Goals as goal
 
 pub returns-clause-text : goal.returns-clause-text
@@ -15,3 +15,8 @@ pub returns-clause-error : goal.returns-clause-error
 returns-clause-error g c =
     error_of_drawing (g.R.Read.remaining c.args.reader.now) c.in_ok-input.input.bytes.items c.in_ok-input.input.script c.draw_script.result
     c.in_ok-input.ensures.script c.draw_script.ensures.error
+
+pub draw_script-requires : goal.draw_script-requires
+draw_script-requires g c =
+    few_within c.in_ok-input.input.bytes.items c.deref.result.now c.args.window.to c.count_within-count.result _
+    (c.deref.ensures.value ∙ c.in_ok-lines.ensures) c.in_ok-input.ensures.within c.count_within-count.ensures

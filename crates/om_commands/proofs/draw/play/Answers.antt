@@ -18,7 +18,7 @@ loop-k-preserved c =
           drawn_then c.args.lines.now (take c.loop-k.k c.args.events.now) (take (c.loop-k.k + 1) c.args.events.now) c.loop-k.k n first
           c.args.world.now
           c.loop-k.world c.play_line.new.world (sketch_of c.loop-k.picture) (sketch_of c.draw.new.self) _ c.line_of-line.result
-          (step_row c.in_ok-step.step) (take_more c.args.events.now c.loop-k.k _ c.loop-k-test.true) count
+          (step_row c.in_ok-step.step c.in_ok-draw.ensures.0) (take_more c.args.events.now c.loop-k.k _ c.loop-k-test.true) count
           (c.loop-k.invariant.drawn n first begun) c.line_of-line.ensures
           (record {
             line = c.in_ok-step.ensures.line;
@@ -27,7 +27,7 @@ loop-k-preserved c =
             fresh = c.in_ok-step.ensures.fresh;
             recovery = c.in_ok-step.ensures.recovery;
           })
-          c.in_ok-draw.ensures;
+          c.in_ok-draw.ensures.1;
       known = c.in_ok-step.ensures.known;
     }
 

@@ -12,5 +12,5 @@ returns c =
     is_played_picture string_bytes c.args.script.now c.programs-programs.result.now c.first_of-events.result.now c.args.lines.now
     c.args.from
     c.args.count (length c.recovery-recovery.result) c.args.world.now c.play.new.world (sketch_of c.play.new.picture) c.in_ok-drawn.drawn
-    c.picture_text.result c.programs-programs.ensures (c.first_of-events.ensures ∙ ap (take c.args.count) c.events.ensures) size
+    c.picture_text.result c.programs-programs.ensures c.requires.few (c.first_of-events.ensures ∙ ap (take c.args.count) c.events.ensures) size
     (c.in_ok-play.ensures.drawn _ _ c.in_ok-picture.ensures) c.play.ensures.known c.in_ok-drawn.ensures c.picture_text.ensures

@@ -6,4 +6,4 @@ use Rattle.om_picture.proofs.picture.Picture.draw_back.Goals as goal
 pub returns : goal.returns
 returns c =
     back_shown c.shape.result (sketch_of c.args.self.now) (sketch_of c.go_back.new.self) (sketch_of c.shape.new.self) c.args.p _ _ _
-    (step_entry c.args.step.now) c.go_back.ensures c.shape.ensures
+    (step_entry c.args.step.now c.args.at) c.go_back.ensures c.shape.ensures

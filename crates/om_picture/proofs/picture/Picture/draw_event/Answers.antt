@@ -7,9 +7,9 @@ use Rattle.om_picture.proofs.picture.Picture.draw_event.Goals as goal
 pub returns-in-Some : goal.returns-in-Some
 returns-in-Some c =
     subst (λ (o : Option ℕ). OnOk c.draw_own.result (ShowsOn o (sketch_of c.args.self.now) (sketch_of c.draw_own.new.self)
-    (step_row c.args.step.now))) c.in-Some.ensures c.draw_own.ensures
+    (step_row c.args.step.now c.args.at))) c.in-Some.ensures c.draw_own.ensures
 
 pub returns-in-None : goal.returns-in-None
 returns-in-None c =
-    subst (λ (o : Option ℕ). ShowsOn o (sketch_of c.args.self.now) (sketch_of c.args.self.now) (step_row c.args.step.now)) c.in-None.ensures
+    subst (λ (o : Option ℕ). ShowsOn o (sketch_of c.args.self.now) (sketch_of c.args.self.now) (step_row c.args.step.now c.args.at)) c.in-None.ensures
     refl

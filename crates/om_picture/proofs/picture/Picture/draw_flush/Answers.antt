@@ -5,4 +5,4 @@ use Rattle.om_picture.proofs.picture.Picture.draw_flush.Goals as goal
 
 pub returns : goal.returns
 returns c =
-    flush_shown c.log.result (sketch_of c.args.self.now) (sketch_of c.log.new.self) c.args.p _ (step_entry c.args.step.now) c.log.ensures
+    flush_shown c.log.result (sketch_of c.args.self.now) (sketch_of c.log.new.self) c.args.p _ (step_entry c.args.step.now c.args.at) c.log.ensures

@@ -8,6 +8,7 @@ use Rattle.om_picture.proofs.picture.Picture.draw_goes_on.Goals as goal
 
 pub returns : goal.returns
 returns c =
-    sure_shown c.shape.result shows.GoesOn _ (step_entry c.args.step.now) _
+    sure_shown c.shape.result shows.GoesOn _ (step_entry c.args.step.now c.args.at) _
     (sketch_of c.args.self.now) (sketch_of c.shape.new.self) c.args.p
-    (lane_there c.args.self.now.histories.items c.args.p c.requires) refl (λ fate. refl) (λ was. refl) (λ was. refl) refl c.shape.ensures
+    (lane_there c.args.self.now.histories.items c.args.p c.requires) (λ loose. refl) (λ fate. refl)
+    (λ was. refl) (λ was. refl) (λ was. refl) refl refl c.shape.ensures

@@ -1,0 +1,62 @@
+-- What waits on the lane of a process until a recovery state covers it or a round cuts it, and with which event its outputs are released.
+use Rattle.std.specs.Prelude.{ℕ, ◌==◌, Bool, true, false, not, ◌&&◌, ◌||◌, if◌then◌else◌, nat_le, nat_lt, List, [], ◌∷◌, ◌++◌}
+use Rattle.om_picture.specs.Fates.{Row, has_ended, highest, interval_behind, is_of}
+use Rattle.om_picture.specs.Shows.{is_finished, shown}
+use Rattle.om_picture.specs.declared.shown.Shown.{Shown}
+use Rattle.om_picture.specs.declared.shown.Shown.TheVariants as shows
+
+-- what an event left on its lane: its interval, how many new outputs it handed in, and where it stands
+pub record Held : Type 0 where
+  pub interval : ℕ
+  pub fresh : ℕ
+  pub x : ℕ
+
+-- what was done in an interval waits with it: runs, receipts, checkpoints and messages that were sent again
+abbrev pub may_wait : Shown → Bool
+may_wait (shows.Run sent made ends) = true
+may_wait (shows.Resend sent) = true
+may_wait (shows.Receipt frame interval) = true
+may_wait shows.Checkpoint = true
+may_wait _ = false
+
+-- what an event leaves on the lane of a process, behind others
+abbrev pub left_by : ℕ → List Row → Row → List Held
+left_by p before row =
+    if is_of p row && may_wait (shown (has_ended p before) row.entry.event row.entry.answer)
+    then record { interval = interval_behind p (before ++ row ∷ []); fresh = row.fresh; x = row.entry.at.x } ∷ [] else []
+
+-- the first of these that a place in a recovery state covers, and the rest from the first one on that it does not
+abbrev pub covered_by : ℕ → List Held → List Held
+covered_by place [] = []
+covered_by place (held ∷ more) = if nat_le held.interval place then held ∷ covered_by place more else []
+
+abbrev pub left_behind : ℕ → List Held → List Held
+left_behind place [] = []
+left_behind place (held ∷ more) = if nat_le held.interval place then left_behind place more else held ∷ more
+
+-- what waits behind an event: nothing, if a round is finished with it; else what the recovery state behind it does not cover
+abbrev pub next_held : ℕ → List Row → List Held → Row → List Held
+next_held p before was row =
+    if is_finished row.entry.answer then [] else left_behind (highest p 0 (before ++ row ∷ [])) (was ++ left_by p before row)
+
+abbrev pub held_from : ℕ → List Row → List Held → List Row → List Held
+held_from p before was [] = was
+held_from p before was (row ∷ rows) = held_from p (before ++ row ∷ []) (next_held p before was row) rows
+
+-- what waits on the lane of a process behind these events
+abbrev pub held_behind : ℕ → List Row → List Held
+held_behind p rows = held_from p [] [] rows
+
+-- there are outputs among these that were made elsewhere than at a place
+abbrev pub is_elsewhere : ℕ → Held → Bool
+is_elsewhere x held = nat_lt 0 held.fresh && not (held.x == x)
+
+abbrev pub is_any_elsewhere : ℕ → List Held → Bool
+is_any_elsewhere x [] = false
+is_any_elsewhere x (held ∷ more) = is_elsewhere x held || is_any_elsewhere x more
+
+-- with an event, behind others, outputs of a process are released that were held until then: its recovery state is the first that covers
+-- their interval, and all that waits before them
+abbrev pub releases : ℕ → List Row → Row → Bool
+releases p before row =
+    is_any_elsewhere row.entry.at.x (covered_by (highest p 0 (before ++ row ∷ [])) (held_behind p before ++ left_by p before row))
