@@ -1,6 +1,7 @@
 pub mod DrawLemmas
 pub mod FateLaws
 pub mod FateLemmas
+pub mod HeldLaws
 pub mod HeldLemmas
 pub mod LaneLemmas
 pub mod PlaceLaws

@@ -1,5 +1,5 @@
 -- What waits on the lane of a process until a recovery state covers it or a round cuts it, and with which event its outputs are released.
-use Rattle.std.specs.Prelude.{ℕ, ◌==◌, Bool, true, false, not, ◌&&◌, ◌||◌, if◌then◌else◌, nat_le, nat_lt, List, [], ◌∷◌, ◌++◌}
+use Rattle.std.specs.Prelude.{◌≡◌, ◌≢◌, ◌<◌, ◌≤◌, ℕ, ◌==◌, Bool, true, false, not, ◌&&◌, ◌||◌, if◌then◌else◌, nat_le, nat_lt, List, [], ◌∷◌, ◌++◌}
 use Rattle.om_picture.specs.Fates.{Row, has_ended, highest, interval_behind, is_of}
 use Rattle.om_picture.specs.Shows.{is_finished, shown}
 use Rattle.om_picture.specs.declared.shown.Shown.{Shown}
@@ -60,3 +60,15 @@ is_any_elsewhere x (held ∷ more) = is_elsewhere x held || is_any_elsewhere x m
 abbrev pub releases : ℕ → List Row → Row → Bool
 releases p before row =
     is_any_elsewhere row.entry.at.x (covered_by (highest p 0 (before ++ row ∷ [])) (held_behind p before ++ left_by p before row))
+
+-- with one of these events the process handed in outputs that stand elsewhere than at a place, in an interval that does not lie beyond
+-- a place of it in a recovery state
+pub record WereHeld (p : ℕ) (rows : List Row) (x place : ℕ) : Type 0 where
+  pub before : List Row
+  pub row : Row
+  pub after : List Row
+  pub split : rows ≡ before ++ row ∷ after
+  pub own : is_of p row ≡ true
+  pub handed : 0 < row.fresh
+  pub elsewhere : row.entry.at.x ≢ x
+  pub within : interval_behind p (before ++ row ∷ []) ≤ place

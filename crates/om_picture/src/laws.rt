@@ -4,7 +4,8 @@ ghost use Rattle.std.specs.Prelude.{◌≡◌, ◌<◌, ◌↔◌, [], ◌∷◌
 ghost use Rattle.om_scripts.specs.Named.{is_name};
 ghost use Rattle.om_scripts.specs.Programs.{Cluster};
 ghost use Rattle.om_picture.specs.AnswerText.{recovery_text};
-ghost use Rattle.om_picture.specs.Fates.{IsCutBy, IsStoredBy, Row, is_cut, is_stored};
+ghost use Rattle.om_picture.specs.Fates.{IsCutBy, IsStoredBy, Row, highest, is_cut, is_stored};
+ghost use Rattle.om_picture.specs.Held.{WereHeld, releases};
 ghost use Rattle.om_picture.specs.Places.{ArePlaced, has_column};
 ghost use Rattle.om_picture.specs.Plain.{HasPlainNames, is_plain_text};
 ghost use Rattle.om_picture.specs.ShapeText.{told_text};
@@ -48,4 +49,11 @@ pub fn later_stands_right()
     ensures { (n first : ℕ) (before between later : List Row) (one other : Row)
         → ArePlaced n first [] ((before ++ one ∷ between) ++ other ∷ later) → length (before ++ one ∷ between) < MOST_COLUMNS
         → has_column n first (before ++ one ∷ between) other ≡ true → one.entry.at.x < other.entry.at.x }
+{}
+
+/// Outputs that are released with an event were handed in by an event up to it, which stands elsewhere, in an interval that the
+/// recovery states up to it cover.
+pub fn released_were_held()
+    ensures { (p : ℕ) (before : List Row) (row : Row) → releases p before row ≡ true
+        → WereHeld p (before ++ row ∷ []) row.entry.at.x (highest p 0 (before ++ row ∷ [])) }
 {}
