@@ -1,6 +1,6 @@
 -- Which fault is told of a run.
 use Rattle.std.proofs.Common.{◌≡◌, inl, inr, ◌⊎◌, ℕ, zero, suc, ◌+◌, ◌<◌, ◌≤◌, List, [], ◌∷◌, ◌++◌, Option, Some, None, Bool, refl, sym, ap, ◌∙◌, subst, arith, get_or, length, map}
-use Rattle.std.specs.Prelude.{slice_get, Ok, Err, Result, IfOk, IfErr, IfSome}
+use Rattle.std.specs.Prelude.{slice_get, Ok, Err, Result, IfOk, IfSome}
 use Rattle.std.specs.Option.{option_or}
 use Rattle.std.proofs.lemmas.Option.{get_or_from_slice_get, same_Some, slice_get_within}
 use Rattle.om_process.specs.Images.{program_of}

@@ -1,14 +1,13 @@
 -- What a follower is told.
-use Rattle.std.proofs.Common.{◌≡◌, ◌≢◌, ◌⊎◌, inl, inr, ℕ, zero, suc, ◌+◌, ◌<◌, ◌≤◌, ◌==◌, List, [], ◌∷◌, ◌++◌, None, Some, cond, true, false, refl, sym, ap, ◌∙◌, subst, arith, append-nil, add-one, get_or, length, map, set, take}
-use Rattle.std.specs.Prelude.{Option, Vec, slice_get, slice_index, vec_len}
+use Rattle.std.proofs.Common.{◌≡◌, ◌≢◌, ◌⊎◌, inl, inr, ℕ, zero, suc, ◌+◌, ◌<◌, ◌≤◌, ◌==◌, List, [], ◌∷◌, ◌++◌, None, Some, cond, false, refl, sym, ap, ◌∙◌, subst, arith, append-nil, add-one, length, map, set, take}
+use Rattle.std.specs.Prelude.{Vec, slice_get, slice_index, vec_len}
 use Rattle.std.specs.declared.alloc.Global.{Global}
-use Rattle.std.specs.List.{filter}
 use Rattle.std.proofs.Math.Seq.{map-set_same, take-length, take-nil, take-suc}
 use Rattle.std.proofs.lemmas.Bool.{cases_eq, eq-eqb}
 use Rattle.std.proofs.lemmas.Bool.Decides.{nat_tests}
 use Rattle.std.proofs.lemmas.List.{map-append, take-append-le}
 use Rattle.std.proofs.lemmas.List.Elements.{filter-append}
-use Rattle.std.proofs.lemmas.Option.{get_or_from_slice_get, none-some, same_Some, slice_get_cases, slice_get_within}
+use Rattle.std.proofs.lemmas.Option.{get_or_from_slice_get, same_Some, slice_get_cases, slice_get_within}
 use Rattle.om_interval.specs.Vectors.{IsBelow}
 use Rattle.om_manager.specs.Outputs.{held_of}
 use Rattle.om_manager.specs.declared.output_log.Output.{Output}
@@ -26,7 +25,7 @@ use Rattle.om_runner.proofs.WireLemmas.{set_apart, set_here}
 use Rattle.om_runner.specs.Telling.{AreInOrder, AreToldMade, Told, TellsAll, of_process, outputs_in, told_of}
 use Rattle.om_runner.specs.declared.lane.Lane.{Lane}
 use Rattle.om_runner.specs.steps.Harvests.{AreNoFewer}
-use Rattle.om_runner.specs.steps.Following.{AreEmpty, AreKept, AreLanesMade, AreTold, HasTold, HaveTold, IsTold, IsToldOf, StayKept, told_in}
+use Rattle.om_runner.specs.steps.Following.{AreEmpty, AreKept, AreLanesMade, AreTold, HasTold, IsTold, StayKept, told_in}
 
 -- ---- lists
 -- one more of the first elements

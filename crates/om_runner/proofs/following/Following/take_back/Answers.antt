@@ -1,4 +1,4 @@
-use Rattle.std.proofs.Common.{◌≡◌, rules, subst, sym}
+use Rattle.std.proofs.Common.{rules, subst, sym}
 use Rattle.om_board.specs.Boards.{BoardState, IsBoard}
 use Rattle.om_runner.proofs.FollowLemmas.{kept_met}
 use Rattle.om_runner.specs.steps.Following.{AreKept, StayKept}
