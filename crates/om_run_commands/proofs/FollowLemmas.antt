@@ -11,7 +11,7 @@ use Rattle.om_process.specs.declared.status.Status.{Status}
 use Rattle.om_scripts.specs.Programs.{Cluster, programs_of}
 use Rattle.om_board.specs.Released.{AreAllReleased}
 use Rattle.om_board.specs.declared.report.Report.{Report}
-use Rattle.om_runner.specs.Reports.{AreOutputsOf, AreStatusesAlong, IsEnd}
+use Rattle.om_runner.specs.Reports.{AreOutputsOf, AreStatusesAlong, HaveAllOf, IsEnd}
 use Rattle.om_runner.specs.Telling.{AreInOrder, AreToldMade, Told, TellsAll}
 use Rattle.om_runner.specs.declared.follower.FollowFault.{FollowFault}
 use Rattle.om_runner.specs.declared.follower.FollowFault.TheVariants.{Run, Unwanted}
@@ -42,15 +42,16 @@ pub is_followed : (over_clean : Type 0) (script : Script) (images : List Image) 
     → length report.released.items ≡ length images
     → length report.statuses.items ≡ length images → All IsEnd report.statuses.items
     → (over_clean → AreStatusesAlong images report.statuses.items)
+    → (over_clean → HaveAllOf images report.statuses.items report.released.items)
     → statuses ≡ report.statuses.items
     → (told : List Told) × Appends a b (told_text script.cluster told) × TellsAll told report.released.items
     → Appends b c (ends_text script.cluster statuses)
     → (text : List ℕ) × IsFollowedAnswer over_clean script text × Appends a c text
-is_followed over_clean script images report statuses a b c same_programs are_released made processes number ended along same_statuses lines ends = (
+is_followed over_clean script images report statuses a b c same_programs are_released made processes number ended along all same_statuses lines ends = (
   told_text script.cluster lines.0 ++ ends_text script.cluster report.statuses.items,
   record {
     report = report;
-    is_report = is_report over_clean (programs_of script.cluster) images report same_programs are_released made processes number ended along;
+    is_report = is_report over_clean (programs_of script.cluster) images report same_programs are_released made processes number ended along all;
     told = lines.0;
     tells_all = lines.2;
     is_text = refl;
@@ -66,11 +67,12 @@ pub text_of_report : {A E : Type 0} (over_clean : Type 0) (script : Script) (clu
     → (over_clean → IfOk r (λ report. AreOutputsOf images report.released.items)) → IfOk r (λ report. length report.released.items ≡ length images)
     → IfOk r (λ report. length report.statuses.items ≡ length images) → IfOk r (λ report. All IsEnd report.statuses.items)
     → (over_clean → IfOk r (λ report. AreStatusesAlong images report.statuses.items))
+    → (over_clean → IfOk r (λ report. HaveAllOf images report.statuses.items report.released.items))
     → IfOk r (λ report. (told : List Told) × (same_after × Appends a b (told_text cluster told)) × TellsAll told report.released.items)
     → statuses ≡ report.statuses.items → OnOk w (Appends b c (ends_text cluster statuses))
     → OnOk w ((text : List ℕ) × IsFollowedAnswer over_clean script text × Appends a c text)
-text_of_report over_clean script cluster images r report statuses (Err e) a b c same_after is same programs released made processes number ended along told same_statuses ends = tt
-text_of_report over_clean script cluster images r report statuses (Ok x) a b c same_after is same programs released made processes number ended along told same_statuses ends =
+text_of_report over_clean script cluster images r report statuses (Err e) a b c same_after is same programs released made processes number ended along have told same_statuses ends = tt
+text_of_report over_clean script cluster images r report statuses (Ok x) a b c same_after is same programs released made processes number ended along have told same_statuses ends =
     let all = ok_at (λ report. (told : List Told) × (same_after × Appends a b (told_text cluster told)) × TellsAll told report.released.items) r report is told in
     is_followed over_clean script images report statuses a b c programs
     (ok_at (λ report. AreAllReleased report.front.vec report.released.items) r report is released)
@@ -79,6 +81,7 @@ text_of_report over_clean script cluster images r report statuses (Ok x) a b c s
     (ok_at (λ report. length report.statuses.items ≡ length images) r report is number)
     (ok_at (λ report. All IsEnd report.statuses.items) r report is ended)
     (λ clean. ok_at (λ report. AreStatusesAlong images report.statuses.items) r report is (along clean))
+    (λ clean. ok_at (λ report. HaveAllOf images report.statuses.items report.released.items) r report is (have clean))
     same_statuses (all.0, subst (λ k. Appends a b (told_text k all.0)) same all.1.1, all.2)
     (subst (λ k. Appends b c (ends_text k statuses)) same ends)
 

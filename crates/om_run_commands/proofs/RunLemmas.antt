@@ -1,5 +1,5 @@
 -- What is read of the report of a run, and why a run of a script is refused.
-use Rattle.std.proofs.Common.{◌≡◌, ℕ, ◌<◌, ◌≤◌, Option, None, Some, Result, Ok, Err, List, [], length, get_or, map, refl, sym, ap, subst, ◌∙◌}
+use Rattle.std.proofs.Common.{◌≡◌, ℕ, ◌<◌, ◌≤◌, Option, None, Some, Result, Ok, Err, List, [], length, get_or, map, refl, sym, ap, subst, ◌∙◌, arith}
 use Rattle.std.specs.Prelude.{All, Vec, IfErr, IfOk, IfSome, slice_get}
 use Rattle.std.specs.Option.{option_map}
 use Rattle.std.specs.declared.alloc.Global.{Global}
@@ -14,7 +14,7 @@ use Rattle.om_process.specs.declared.status.Status.{Status}
 use Rattle.om_scripts.specs.Programs.{Cluster, programs_of}
 use Rattle.om_board.specs.Made.{AreAllMade}
 use Rattle.om_board.specs.Released.{AreAllReleased}
-use Rattle.om_runner.specs.Reports.{AreOutputsOf, AreStatusesAlong, IsEnd, IsStatusAlong}
+use Rattle.om_runner.specs.Reports.{AreOutputsOf, AreStatusesAlong, AreWholeOf, HaveAll, HaveAllOf, IsEnd, IsStatusAlong}
 use Rattle.om_board.specs.declared.report.Report.{Report}
 use Rattle.om_runner.specs.declared.fault.RunFault.{RunFault}
 use Rattle.om_runner.specs.declared.fault.RunFault.TheVariants as running
@@ -56,14 +56,28 @@ made-by-programs programs images released same made =
     subst (λ ps. AreAllMade ps (length ps) released) same
     (subst (λ n. AreAllMade (map program_of images) n released) (sym (length-map images program_of)) made)
 
+-- where the outputs are as many as were made, none is left out
+all-of-whole : (images : List Image) (statuses : List Status) (released : List (Vec Output Global)) → AreWholeOf images statuses released
+    → HaveAllOf images statuses released
+all-of-whole images statuses released whole p program status outputs at_program at_status at_outputs =
+    (length outputs.items, whole p program status outputs at_program at_status at_outputs, omega arith)
+
+-- what images leave out is what their programs do
+all-by-programs : (programs : List Program) (images : List Image) (statuses : List Status) (released : List (Vec Output Global)) → map program_of images ≡ programs
+    → HaveAllOf images statuses released → HaveAll programs (length programs) statuses released
+all-by-programs programs images statuses released same all =
+    subst (λ ps. HaveAll ps (length ps) statuses released) same
+    (subst (λ n. HaveAll (map program_of images) n statuses released) (sym (length-map images program_of)) all)
+
 -- what a run of images ends with is what one of their programs does
 pub is_report : (over_clean : Type 0) (programs : List Program) (images : List Image) (report : Report) → map program_of images ≡ programs
     → AreAllReleased report.front.vec report.released.items → (over_clean → AreOutputsOf images report.released.items)
     → length report.released.items ≡ length images
     → length report.statuses.items ≡ length images → All IsEnd report.statuses.items
     → (over_clean → AreStatusesAlong images report.statuses.items)
+    → (over_clean → HaveAllOf images report.statuses.items report.released.items)
     → IsReport over_clean programs report
-is_report over_clean programs images report same_programs are_released made processes number ended along =
+is_report over_clean programs images report same_programs are_released made processes number ended along all =
     let long : length images ≡ length programs = sym (length-map images program_of) ∙ ap length same_programs in record {
       released = are_released;
       made = λ clean. made-by-programs programs images report.released.items same_programs (made clean);
@@ -72,6 +86,7 @@ is_report over_clean programs images report same_programs are_released made proc
       ended = ended;
       along = λ clean. subst (λ programs. AreAlong programs report.statuses.items) same_programs
           (along-programs images report.statuses.items (along clean));
+      all = λ clean. all-by-programs programs images report.statuses.items report.released.items same_programs (all clean);
     }
 
 -- a script is answered by what a run of its cluster ends with
@@ -82,12 +97,14 @@ pub is_answer : (over_clean : Type 0) (script : Script) (cluster : Cluster) (ima
     → length report.released.items ≡ length images
     → length report.statuses.items ≡ length images → All IsEnd report.statuses.items
     → (over_clean → AreStatusesAlong images report.statuses.items)
+    → (over_clean → AreWholeOf images report.statuses.items report.released.items)
     → released ≡ report.released.items → statuses ≡ report.statuses.items
     → text ≡ run_text cluster (map (λ os. map held_of os.items) released) statuses → IsAnswer over_clean script text
 is_answer over_clean script cluster images report released statuses text same_cluster same_programs are_released made processes number ended
-    along same_released same_statuses written = (
+    along whole same_released same_statuses written = (
       report,
-      is_report over_clean (programs_of script.cluster) images report same_programs are_released made processes number ended along,
+      is_report over_clean (programs_of script.cluster) images report same_programs are_released made processes number ended along
+          (λ clean. all-of-whole images report.statuses.items report.released.items (whole clean)),
       written
           ∙ ap (λ c. run_text c (map (λ os. map held_of os.items) released) statuses) same_cluster
           ∙ ap (λ os. run_text script.cluster (map (λ os. map held_of os.items) os) statuses) same_released
@@ -106,10 +123,11 @@ pub answer_of : {E : Type 0} (over_clean : Type 0) (script : Script) (cluster : 
     → (over_clean → IfOk r (λ report. AreOutputsOf images report.released.items)) → IfOk r (λ report. length report.released.items ≡ length images)
     → IfOk r (λ report. length report.statuses.items ≡ length images) → IfOk r (λ report. All IsEnd report.statuses.items)
     → (over_clean → IfOk r (λ report. AreStatusesAlong images report.statuses.items))
+    → (over_clean → IfOk r (λ report. AreWholeOf images report.statuses.items report.released.items))
     → released ≡ report.released.items → statuses ≡ report.statuses.items
     → text ≡ run_text cluster (map (λ os. map held_of os.items) released) statuses → IsAnswer over_clean script text
 answer_of over_clean script cluster images r report released statuses text is same_cluster same_programs are_released made processes number ended
-    along same_released same_statuses written =
+    along whole same_released same_statuses written =
     is_answer over_clean script cluster images report released statuses text same_cluster same_programs
     (ok_at (λ report. AreAllReleased report.front.vec report.released.items) r report is are_released)
     (λ clean. ok_at (λ report. AreOutputsOf images report.released.items) r report is (made clean))
@@ -117,6 +135,7 @@ answer_of over_clean script cluster images r report released statuses text is sa
     (ok_at (λ report. length report.statuses.items ≡ length images) r report is number)
     (ok_at (λ report. All IsEnd report.statuses.items) r report is ended)
     (λ clean. ok_at (λ report. AreStatusesAlong images report.statuses.items) r report is (along clean))
+    (λ clean. ok_at (λ report. AreWholeOf images report.statuses.items report.released.items) r report is (whole clean))
     same_released same_statuses written
 
 -- the error of a script is that of the bytes that it is read from

@@ -6,7 +6,7 @@ use Rattle.om_process.specs.declared.status.Status.{Status}
 use Rattle.om_scripts.specs.Programs.{programs_of}
 use Rattle.om_board.specs.Made.{AreAllMade}
 use Rattle.om_board.specs.Released.{AreAllReleased}
-use Rattle.om_runner.specs.Reports.{IsEnd, IsStatusAlong}
+use Rattle.om_runner.specs.Reports.{HaveAll, IsEnd, IsStatusAlong}
 use Rattle.om_board.specs.declared.report.Report.{Report}
 use Rattle.om_commands.specs.Command.{IsErrorOf, IsScript}
 use Rattle.om_run_commands.specs.ClusterScript.{Script, meaning_of, no_lines}
@@ -25,7 +25,7 @@ AreAlong programs statuses = (p : ℕ) (program : Program) (status : Status)
 
 -- What a run of these programs ends with: the outputs that are released of each process are numbered from 0 without a gap,
 -- each made within the front, and over clean stores each is the one of its number that its program makes; and each process
--- came to an end, over clean stores in a state along its program.
+-- came to an end, over clean stores in a state along its program, and none of the outputs that it has then made is left out.
 pub record IsReport (over_clean : Type 0) (programs : List Program) (report : Report) : Type 0 where
   pub released : AreAllReleased report.front.vec report.released.items
   pub made : over_clean → AreAllMade programs (length programs) report.released.items
@@ -33,6 +33,7 @@ pub record IsReport (over_clean : Type 0) (programs : List Program) (report : Re
   pub statuses : length report.statuses.items ≡ length programs
   pub ended : All IsEnd report.statuses.items
   pub along : over_clean → AreAlong programs report.statuses.items
+  pub all : over_clean → HaveAll programs (length programs) report.statuses.items report.released.items
 
 -- the outputs of each process, each at the place that is its number
 abbrev pub outputs_of : Report → List (List HeldOutput)

@@ -1,6 +1,6 @@
 -- Which fault is told of a run.
 use Rattle.std.proofs.Common.{◌≡◌, inl, inr, ◌⊎◌, ℕ, zero, suc, ◌+◌, ◌<◌, ◌≤◌, List, [], ◌∷◌, ◌++◌, Option, Some, None, Bool, refl, sym, ap, ◌∙◌, subst, arith, get_or, length, map}
-use Rattle.std.specs.Prelude.{slice_get, Ok, Err, Result, IfOk, IfErr, IfSome}
+use Rattle.std.specs.Prelude.{slice_get, Ok, Err, Result, IfOk, IfSome}
 use Rattle.std.specs.Option.{option_or}
 use Rattle.std.proofs.lemmas.Option.{get_or_from_slice_get, same_Some, slice_get_within}
 use Rattle.om_process.specs.Images.{program_of}
@@ -97,10 +97,10 @@ first_least results k None end each first = tt
 first_least results k (Some fault) end each first = IsLeastFault.out first.0 first.1 first.2 (λ j r lt at. each j r (omega arith) at)
 
 -- what a worker's promise says of how it ended, for what it is of
-abbrev pub Kept : {S : Type 0} → (S → Bool) → Config → Image → Lines → ℕ → ℕ → Result (Finished S) RunFault → Type 0
+abbrev pub Kept : {K S : Type 0} → (S → Bool) → Config → Image → Lines → ℕ → ℕ → Result (Finished K S) RunFault → Type 0
 Kept is_clean config image lines own n r = IfOk r (λ f. IsEndOf is_clean (program_of image) lines own n f) × IsOwnEnd config own r
 
-pub kept_end : {S : Type 0} (is_clean : S → Bool) (config : Config) (image : Image) (lines : Lines) (own n : ℕ) (p q : EndOf S) (r : Result (Finished S) RunFault)
+pub kept_end : {K S : Type 0} (is_clean : S → Bool) (config : Config) (image : Image) (lines : Lines) (own n : ℕ) (p q : EndOf S) (r : Result (Finished K S) RunFault)
     → p ≡ q → IsPromised config image lines own n q → Kept is_clean p.plan.now p.image.now p.inboxes.now p.own p.n r → Kept is_clean config image lines own n r
 kept_end is_clean config image lines own n p q r same promised kept =
     let is : IsPromised config image lines own n p = subst (IsPromised config image lines own n) (sym same) promised in

@@ -1,14 +1,13 @@
 -- What a follower is told.
-use Rattle.std.proofs.Common.{◌≡◌, ◌≢◌, ◌⊎◌, inl, inr, ℕ, zero, suc, ◌+◌, ◌<◌, ◌≤◌, ◌==◌, List, [], ◌∷◌, ◌++◌, None, Some, cond, true, false, refl, sym, ap, ◌∙◌, subst, arith, append-nil, add-one, get_or, length, map, set, take}
-use Rattle.std.specs.Prelude.{Option, Vec, slice_get, slice_index, vec_len}
+use Rattle.std.proofs.Common.{◌≡◌, ◌≢◌, ◌⊎◌, inl, inr, ℕ, zero, suc, ◌+◌, ◌<◌, ◌≤◌, ◌==◌, List, [], ◌∷◌, ◌++◌, None, Some, cond, false, refl, sym, ap, ◌∙◌, subst, arith, append-nil, add-one, length, map, set, take}
+use Rattle.std.specs.Prelude.{Vec, slice_get, slice_index, vec_len}
 use Rattle.std.specs.declared.alloc.Global.{Global}
-use Rattle.std.specs.List.{filter}
 use Rattle.std.proofs.Math.Seq.{map-set_same, take-length, take-nil, take-suc}
 use Rattle.std.proofs.lemmas.Bool.{cases_eq, eq-eqb}
 use Rattle.std.proofs.lemmas.Bool.Decides.{nat_tests}
-use Rattle.std.proofs.lemmas.List.{get_or_past, map-append, take-append-le}
+use Rattle.std.proofs.lemmas.List.{map-append, take-append-le}
 use Rattle.std.proofs.lemmas.List.Elements.{filter-append}
-use Rattle.std.proofs.lemmas.Option.{get_or_from_slice_get, none-some, same_Some, slice_get_cases, slice_get_within}
+use Rattle.std.proofs.lemmas.Option.{get_or_from_slice_get, same_Some, slice_get_cases, slice_get_within}
 use Rattle.om_interval.specs.Vectors.{IsBelow}
 use Rattle.om_manager.specs.Outputs.{held_of}
 use Rattle.om_manager.specs.declared.output_log.Output.{Output}
@@ -21,10 +20,12 @@ use Rattle.om_board.specs.Boards.{BoardState, IsBoard}
 use Rattle.om_board.specs.Fronts.{EndsWith, front_of}
 use Rattle.om_board.specs.declared.front.Front.{Front}
 use Rattle.om_board.specs.Released.{AreAllReleased, AreReleased}
+use Rattle.om_runner.proofs.HarvestLemmas.{within_above}
 use Rattle.om_runner.proofs.WireLemmas.{set_apart, set_here}
 use Rattle.om_runner.specs.Telling.{AreInOrder, AreToldMade, Told, TellsAll, of_process, outputs_in, told_of}
 use Rattle.om_runner.specs.declared.lane.Lane.{Lane}
-use Rattle.om_runner.specs.steps.Following.{AreEmpty, AreKept, AreLanesMade, AreTold, HasTold, HaveTold, IsTold, IsToldOf, StayKept, told_in}
+use Rattle.om_runner.specs.steps.Harvests.{AreNoFewer}
+use Rattle.om_runner.specs.steps.Following.{AreEmpty, AreKept, AreLanesMade, AreTold, HasTold, IsTold, StayKept, told_in}
 
 -- ---- lists
 -- one more of the first elements
@@ -179,18 +180,36 @@ ends_next lanes p old new at are ends q lane below there = elim (set_had lanes p
   | inr other ↦ are q lane (let ne = other.0 in omega arith) other.1
 ]
 
+-- the first lanes have as many outputs as were brought back or more, and so has one more
+pub fewer_next : (brought : List (Vec Output Global)) (lanes : List Lane) (p : ℕ) (outputs : Vec Output Global) (old new : Lane)
+    → slice_get brought p ≡ Some outputs → slice_get lanes p ≡ Some old → length outputs.items ≤ length new.outputs.items
+    → ((q : ℕ) (low : Vec Output Global) (lane : Lane) → q < p → slice_get brought q ≡ Some low → slice_get lanes q ≡ Some lane
+    → length low.items ≤ length lane.outputs.items)
+    → (q : ℕ) (low : Vec Output Global) (lane : Lane) → q < p + 1 → slice_get brought q ≡ Some low → slice_get (set lanes p new) q ≡ Some lane
+    → length low.items ≤ length lane.outputs.items
+fewer_next brought lanes p outputs old new at_brought at more are q low lane below here there =
+    elim (set_had lanes p new q lane (slice_get_within lanes p old at) there) [
+      | inl own ↦
+          let same : outputs ≡ low = same_Some outputs low (sym at_brought ∙ ap (slice_get brought) (sym own.0) ∙ here) in
+          subst (λ (v : Vec Output Global). length v.items ≤ length lane.outputs.items) same
+          (subst (λ (l : Lane). length outputs.items ≤ length l.outputs.items) (sym own.1) more)
+      | inr other ↦ are q low lane (let ne = other.0 in omega arith) here other.1
+    ]
+
+pub fewer_all : (brought : List (Vec Output Global)) (lanes : List Lane)
+    → ((q : ℕ) (low : Vec Output Global) (lane : Lane) → q < length brought → slice_get brought q ≡ Some low → slice_get lanes q ≡ Some lane
+    → length low.items ≤ length lane.outputs.items)
+    → AreNoFewer brought (map (λ (l : Lane). l.outputs) lanes)
+fewer_all brought lanes are p low high at there =
+    let had = map_had (λ (l : Lane). l.outputs) lanes p high there in
+    subst (λ (v : Vec Output Global). length low.items ≤ length v.items) had.2
+    (are p low had.0 (slice_get_within brought p low at) at had.1)
+
 -- what is within lower places is within higher ones
 pub kept_above : (low high : List ℕ) (lanes : List Lane) → IsBelow low high → AreKept low lanes → AreKept high lanes
 kept_above low high lanes below are p lane at i o there =
     let was = are p lane at i o there in
     (was.0, within_above low high p o.interval below was.1)
-  where
-    within_above : (low high : List ℕ) (p x : ℕ) → IsBelow low high → x ≤ slice_index low p → x ≤ slice_index high p
-    within_above low high p x below le = elim (slice_get_cases low p).1 [
-      | inl inside ↦ let at = below.each p inside.1 in omega arith
-      | inr past ↦
-          let none : slice_index low p ≡ 0 = get_or_past low p 0 past.0 in omega arith
-    ]
 
 -- what is within the last front that was seen is within each that comes after
 pub stay_kept : (seen : List Front) (last : Front) (lanes : List Lane) → EndsWith seen last → AreKept last.vec lanes → StayKept seen lanes

@@ -1,4 +1,5 @@
 mod OnWay
+mod HarvestLemmas
 mod LinkLemmas
 mod ReportLemmas
 mod WireLemmas

@@ -1,5 +1,6 @@
 -- What keeps a process and its store on their way.
-use Rattle.std.proofs.Common.{◌≡◌, ◌≢◌, inl, inr, ℕ, ◌+◌, ◌≤◌, List, [], ◌∷◌, ◌++◌, Option, Some, None, Bool, IsTrue, true, false, cond, refl, sym, ap, ◌∙◌, subst, arith, length, length-set}
+use Rattle.std.proofs.Common.{◌≡◌, ◌≢◌, inl, inr, ℕ, ◌+◌, ◌≤◌, List, [], ◌∷◌, ◌++◌, Option, Some, None, Bool, IsTrue, true, false, cond, refl, sym, ap, ◌∙◌, subst, arith, get_or, length, length-set}
+use Rattle.std.proofs.Math.ListN.{get_or-map}
 use Rattle.std.proofs.lemmas.List.{length-replicate}
 use Rattle.std.specs.FinMap.{get, get-empty}
 use Rattle.std.specs.Ordering.{nat_cmp}
@@ -8,7 +9,7 @@ use Rattle.std.proofs.lemmas.Option.{none-some, same_Some}
 use Rattle.om_format.specs.Checkpoints.{SpellsCheckpoint}
 use Rattle.om_format.specs.declared.message.Message.{Message}
 use Rattle.om_format.specs.declared.queue.Entry.{Entry}
-use Rattle.om_format.specs.Queues.{QueueRecord}
+use Rattle.om_format.specs.Queues.{QueueRecord, queue_end}
 use Rattle.om_format.specs.declared.version.Version.TheVariants.{V2}
 use Rattle.om_format.proofs.Checkpoints.{one_checkpoint}
 use Rattle.om_stable.specs.Calls.{IsKnown}
@@ -21,22 +22,23 @@ use Rattle.om_process.specs.declared.accept.Accept.{Accept}
 use Rattle.om_process.specs.declared.accept.Accept.TheVariants.{Taken, Stranger, Orphan, Repeat, Ahead, NotWaiting, Full, Memory}
 use Rattle.om_process.specs.Claims.{HasEntry}
 use Rattle.om_process.specs.declared.queues.Made.{Made}
-use Rattle.om_process.specs.Kept.{made_entry}
+use Rattle.om_process.specs.Frames.{outputs_of}
+use Rattle.om_process.specs.Kept.{made_entry, queue_at}
 use Rattle.om_process.proofs.Making.{part_has}
 use Rattle.om_process.specs.Core.{CoreState, CoreTurns, move_of, size_of, status_of, with_now}
 use Rattle.om_process.specs.declared.status.Status.{Status}
 use Rattle.om_process.specs.Parts.{Keeps, KeepQueues}
-use Rattle.om_process.specs.Process.{Process, Received, delivered, made, started}
+use Rattle.om_process.specs.Process.{Process, Received, delivered, empty_queue, made, started}
 use Rattle.om_process.specs.Replays.{process_of, receipts_of}
 use Rattle.om_process.specs.Starting.{started_core}
 use Rattle.om_process.specs.Stored.{StandsAfter, Anyone, IsReplay}
 use Rattle.om_process.specs.Stores.{HasGainedLog, HasGainedCheckpoint, checkpointed, flushed}
 use Rattle.om_process.specs.Trims.{trimmed}
 use Rattle.om_process.specs.Turns.{Turns, IsWaiting, Along, next_move}
-use Rattle.om_process.proofs.Parts.{keeps_turns, keeps_waits, keeps_delivered, same_move}
+use Rattle.om_process.proofs.Parts.{keeps_turns, keeps_waits, keeps_delivered, made_same, same_move}
 use Rattle.om_process.proofs.Replays.{keeps_trim, replayed_along}
 use Rattle.om_process.proofs.Runs.{turns_then, leads_more}
-use Rattle.om_runner.specs.Reports.{IsStatusAlong, nothing}
+use Rattle.om_runner.specs.Reports.{IsWholeRun, nothing, outputs_made}
 use Rattle.om_runner.specs.steps.Nodes.{Member, IsOnWay, AreOnWay, IsKept, IsNode}
 
 keep_themselves : (qs : List QueueRecord) → KeepQueues qs qs
@@ -72,8 +74,16 @@ way_replayed m x held t stored stands =
     let from = stored stands.checkpoint.head.interval at.bytes at.stands stands.checkpoint at.spelled in
     (from.0 ++ receipts_of stands.receipts, replayed_along m.program m.own m.n (process_of stands.checkpoint) t from.0 stands.receipts from.1 stands.replayed)
 
-pub way_status : (m : Member) (s : Process) → IsOnWay m s → IsStatusAlong m.program m.own m.n (status_of (next_move m.own m.n s.machine (made s.queues)))
-way_status m s on = (on.0, on.1.0, on.1.1, ap status_of (same_move m.own m.n on.1.0 s on.1.2))
+-- what keeps fewer entries has made as many
+same_count : (fs qs : List QueueRecord) (place : ℕ) → KeepQueues fs qs → queue_end (queue_at qs place) ≡ queue_end (queue_at fs place)
+same_count fs qs place keep =
+    sym (get_or-map queue_end qs place empty_queue) ∙ ap (λ counts. get_or counts place (queue_end empty_queue)) (made_same fs qs keep)
+    ∙ get_or-map queue_end fs place empty_queue
+
+pub way_whole : (m : Member) (s : Process) → IsOnWay m s
+    → IsWholeRun m.program m.own m.n (status_of (next_move m.own m.n s.machine (made s.queues))) (outputs_made m.n s)
+way_whole m s on =
+    (on.0, on.1.0, on.1.1, ap status_of (same_move m.own m.n on.1.0 s on.1.2), same_count on.1.0.queues s.queues m.n on.1.2.queues)
 
 -- ---- the store
 pub stored_nothing : (m : Member) → AreOnWay m nothing
@@ -282,13 +292,15 @@ node_back content is_clean IsSound m core old new r kept own size clean sound re
       way_replayed m r (content old) core.now (kept.stored (clean c)) (subst (λ n. StandsAfter Anyone (content old) r r m.own n core.now) size (subst (λ o. StandsAfter Anyone (content old) r r o (size_of core.now) core.now) own at));
 }
 
--- how it has ended
-pub node_status : {S : Type 0} (content : S → Content) (is_clean : S → Bool) (IsSound : S → Type 0) (m : Member) (core : CoreState) (store : S) (status : Status)
+-- how it has ended, and how many outputs it has made
+pub node_whole : {S : Type 0} (content : S → Content) (is_clean : S → Bool) (IsSound : S → Type 0) (m : Member) (core : CoreState) (store : S) (status : Status)
     → IsNode content is_clean IsSound (record { member = m; core = core }) store → IsTrue (is_clean store) → status ≡ status_of (move_of core)
-    → IsStatusAlong m.program m.own m.n status
-node_status content is_clean IsSound m core store status is clean at =
+    → IsWholeRun m.program m.own m.n status (queue_end (outputs_of core))
+node_whole content is_clean IsSound m core store status is clean at =
     let told : status ≡ status_of (next_move m.own m.n core.now.machine (made core.now.queues)) = subst (λ n. status ≡ status_of (next_move m.own n core.now.machine (made core.now.queues))) is.size (subst (λ o. status ≡ status_of (next_move o (size_of core.now) core.now.machine (made core.now.queues))) is.own at) in
-    subst (IsStatusAlong m.program m.own m.n) (sym told) (way_status m core.now (is.stands clean))
+    let count : queue_end (outputs_of core) ≡ outputs_made m.n core.now = ap (λ n. outputs_made n core.now) is.size in
+    subst (λ k. IsWholeRun m.program m.own m.n status k) (sym count)
+    (subst (λ s. IsWholeRun m.program m.own m.n s (outputs_made m.n core.now)) (sym told) (way_whole m core.now (is.stands clean)))
 
 -- what it keeps as an output is one that its program makes
 pub node_output : {S : Type 0} (content : S → Content) (is_clean : S → Bool) (IsSound : S → Type 0) (m : Member) (core : CoreState) (store : S) (output : Made)

@@ -12,11 +12,12 @@ use Rattle.om_manager.specs.declared.output_log.Output.{Output}
 use Rattle.om_process.specs.Process.{Program}
 use Rattle.om_board.specs.Made.{AreAllMade}
 use Rattle.std.proofs.lemmas.Result.{IfOk-weaker}
-use Rattle.om_runner.specs.Reports.{AreAlong, AreOutputsOf, AreStatusesAlong, IsEnd, IsStatusAlong}
+use Rattle.om_runner.specs.Reports.{AreAlong, AreOutputsOf, AreStatusesAlong, AreWholeOf, HaveAllOf, IsEnd, IsWholeRun}
 use Rattle.om_board.specs.Inboxes.{Traffic, Takings}
 use Rattle.om_runner.specs.declared.results.Finished.{Finished}
 use Rattle.om_runner.specs.declared.network.Ends.{Ends}
-use Rattle.om_runner.specs.steps.Ends.{AreEndsOf, IsEndOf}
+use Rattle.om_runner.specs.steps.Ends.{AreEndsOf, AreWholeOver, HaveAllOver, IsEndOf}
+use Rattle.om_runner.specs.steps.Harvests.{AreNoFewer, AreOwn, HarvestState, harvested}
 use Rattle.om_runner.specs.steps.Network.{ArePuts, AreTakes, IsNetwork, Lines}
 use Rattle.om_runner.specs.steps.Settling.{ArePasses}
 use Rattle.om_runner.specs.steps.Wiring.{HasEnds, IsWired}
@@ -44,46 +45,66 @@ moved f done more x rest old all next grown was =
 
 -- ---- ends
 -- where all ended well, each ended so
-pub ended_so : {S E : Type 0} (is_clean : S → Bool) (images : List Image) (lines : Lines) (n : ℕ) (results : List (Result (Finished S) E)) (fs : List (Finished S))
+pub ended_so : {K S E : Type 0} (is_clean : S → Bool) (images : List Image) (lines : Lines) (n : ℕ) (results : List (Result (Finished K S) E)) (fs : List (Finished K S))
     → length images ≡ n → map Ok fs ≡ results → length results ≡ n
     → AreEndsOf is_clean images lines n results
-    → (p : ℕ) (f : Finished S) → slice_get fs p ≡ Some f → (image : Image) × (slice_get images p ≡ Some image) × IsEndOf is_clean (program_of image) lines p n f
+    → (p : ℕ) (f : Finished K S) → slice_get fs p ≡ Some f → (image : Image) × (slice_get images p ≡ Some image) × IsEndOf is_clean (program_of image) lines p n f
 ended_so is_clean images lines n results fs many all long each p f at =
     let lt : p < n = subst (λ k. p < k) (sym (length-map fs Ok) ∙ ap length all ∙ long) (slice_get_within fs p f at) in
     let there : get_or results p (Ok f) ≡ Ok f = get_or_from_slice_get results p (Ok f) (Ok f) (subst (λ l. slice_get l p ≡ Some (Ok f)) all (map_get Ok fs p f at)) in
     elim (slice_get_cases images p).1 [
       | inl image ↦
           let is : IsEndOf is_clean (program_of (get_or images p image.0)) lines p n f =
-          subst (λ (r : Result (Finished _) _). IfOk r (IsEndOf is_clean (program_of (get_or images p image.0)) lines p n)) there (each p image.0 (Ok f) lt)
+          subst (λ (r : Result (Finished _ _) _). IfOk r (IsEndOf is_clean (program_of (get_or images p image.0)) lines p n)) there (each p image.0 (Ok f) lt)
           in
           (image.0, image.2, subst (λ i. IsEndOf is_clean (program_of i) lines p n f) image.3 is)
       | inr past ↦ let l = past.0 in absurd (omega arith)
     ]
 
 -- a part of each is as many
-pub as_many : {S E A : Type 0} (f : Finished S → A) (parts : List A) (n : ℕ) (results : List (Result (Finished S) E)) (fs : List (Finished S))
+pub as_many : {K S E A : Type 0} (f : Finished K S → A) (parts : List A) (n : ℕ) (results : List (Result (Finished K S) E)) (fs : List (Finished K S))
     → map Ok fs ≡ results → length results ≡ n → parts ≡ map f fs → length parts ≡ n
 as_many f parts n results fs all long are = ap length are ∙ length-map fs f ∙ sym (length-map fs Ok) ∙ ap length all ∙ long
 
--- where these are their statuses and stores, the statuses are those of states along the images
-pub all_along : {S E : Type 0} (is_clean : S → Bool) (images : List Image) (lines : Lines) (n : ℕ) (results : List (Result (Finished S) E)) (fs : List (Finished S))
-    (statuses : List Status) (stores : List S)
+-- where these are their statuses, outputs and stores, the outputs are all that was made
+pub all_whole : {K S E : Type 0} (is_clean : S → Bool) (images : List Image) (lines : Lines) (n : ℕ) (results : List (Result (Finished K S) E)) (fs : List (Finished K S))
+    (statuses : List Status) (harvests : List HarvestState) (stores : List S)
     → length images ≡ n → map Ok fs ≡ results → length results ≡ n
     → AreEndsOf is_clean images lines n results
-    → statuses ≡ map (λ f. f.status) fs → stores ≡ map (λ f. f.store) fs
-    → AreAlong is_clean images statuses stores
-all_along is_clean images lines n results fs statuses stores many all long each statuses_are stores_are p image status store at_image at_status at_store clean =
+    → statuses ≡ map (λ f. f.status) fs → harvests ≡ map (λ f. f.harvest) fs → stores ≡ map (λ f. f.store) fs
+    → AreWholeOver is_clean images statuses (harvested harvests) stores
+all_whole {K = K} {S = S} is_clean images lines n results fs statuses harvests stores many all long each statuses_are harvests_are stores_are
+    p image status outputs store at_image at_status at_outputs at_store clean =
     let found = map_had (λ f. f.status) fs p status (subst (λ l. slice_get l p ≡ Some status) statuses_are at_status) in
     let kept = map_had (λ f. f.store) fs p store (subst (λ l. slice_get l p ≡ Some store) stores_are at_store) in
+    let brought = map_had (λ (h : HarvestState). h.outputs) harvests p outputs at_outputs in
+    let of = map_had (λ f. f.harvest) fs p brought.0 (subst (λ l. slice_get l p ≡ Some brought.0) harvests_are brought.1) in
     let same : found.0 ≡ kept.0 = same_Some found.0 kept.0 (sym found.1 ∙ kept.1) in
+    let same_too : found.0 ≡ of.0 = same_Some found.0 of.0 (sym found.1 ∙ of.1) in
     let end = ended_so is_clean images lines n results fs many all long each p found.0 found.1 in
-    let mine : IsTrue (is_clean found.0.store) = subst (λ s. IsTrue (is_clean s)) (sym (ap (λ (f : Finished _). f.store) same ∙ kept.2)) clean in
-    subst (λ s. IsStatusAlong (program_of image) p (length images) s) found.2
-    (subst (λ k. IsStatusAlong (program_of image) p k found.0.status) (sym many)
-    (subst (λ i. IsStatusAlong (program_of i) p n found.0.status) (same_Some end.0 image (sym end.1 ∙ at_image)) (end.2.along mine)))
+    let mine : IsTrue (is_clean found.0.store) = subst (λ s. IsTrue (is_clean s)) (sym (ap (λ (f : Finished K S). f.store) same ∙ kept.2)) clean in
+    let own : found.0.harvest.outputs ≡ outputs =
+    ap (λ (f : Finished K S). f.harvest.outputs) same_too ∙ ap (λ (h : HarvestState). h.outputs) of.2 ∙ brought.2 in
+    let run : IsWholeRun (program_of image) p n found.0.status (length found.0.harvest.outputs.items) =
+    subst (λ i. IsWholeRun (program_of i) p n found.0.status (length found.0.harvest.outputs.items)) (same_Some end.0 image (sym end.1 ∙ at_image)) (end.2.whole mine) in
+    subst (λ (v : Vec Output Global). IsWholeRun (program_of image) p (length images) status (length v.items)) own
+    (subst (λ s. IsWholeRun (program_of image) p (length images) s (length found.0.harvest.outputs.items)) found.2
+    (subst (λ k. IsWholeRun (program_of image) p k found.0.status (length found.0.harvest.outputs.items)) (sym many) run))
+
+-- each is of the process at its place
+pub all_own : {K S E : Type 0} (is_clean : S → Bool) (images : List Image) (lines : Lines) (n : ℕ) (results : List (Result (Finished K S) E)) (fs : List (Finished K S))
+    (harvests : List HarvestState)
+    → length images ≡ n → map Ok fs ≡ results → length results ≡ n
+    → AreEndsOf is_clean images lines n results
+    → harvests ≡ map (λ f. f.harvest) fs
+    → AreOwn harvests
+all_own is_clean images lines n results fs harvests many all long each harvests_are p h at =
+    let of = map_had (λ f. f.harvest) fs p h (subst (λ l. slice_get l p ≡ Some h) harvests_are at) in
+    let end = ended_so is_clean images lines n results fs many all long each p of.0 of.1 in
+    subst (λ (x : HarvestState). x.own ≡ p) of.2 end.2.own_is
 
 -- and each is an end
-pub all_ended : {S E : Type 0} (is_clean : S → Bool) (images : List Image) (lines : Lines) (n : ℕ) (results : List (Result (Finished S) E)) (fs : List (Finished S)) (statuses : List Status)
+pub all_ended : {K S E : Type 0} (is_clean : S → Bool) (images : List Image) (lines : Lines) (n : ℕ) (results : List (Result (Finished K S) E)) (fs : List (Finished K S)) (statuses : List Status)
     → length images ≡ n → map Ok fs ≡ results → length results ≡ n
     → AreEndsOf is_clean images lines n results
     → statuses ≡ map (λ f. f.status) fs
@@ -94,16 +115,16 @@ all_ended is_clean images lines n results fs statuses many all long each statuse
     subst IsEnd found.2 end.2.ended
 
 -- and these are the passes of all
-pub all_leaves : {S E : Type 0} (is_clean : S → Bool) (images : List Image) (lines : Lines) (n : ℕ) (results : List (Result (Finished S) E)) (fs : List (Finished S))
+pub all_leaves : {K S E : Type 0} (is_clean : S → Bool) (images : List Image) (lines : Lines) (n : ℕ) (results : List (Result (Finished K S) E)) (fs : List (Finished K S))
     (puts : List (Vec Traffic Global)) (takes : List (Vec Takings Global))
     → IsNetwork n lines → length images ≡ n → map Ok fs ≡ results → length results ≡ n
     → AreEndsOf is_clean images lines n results
     → puts ≡ map (λ f. f.ends.puts) fs → takes ≡ map (λ f. f.ends.takes) fs
     → ArePasses n lines puts takes
-all_leaves {S = S} is_clean images lines n results fs puts takes network many all long each puts_are takes_are = record {
+all_leaves {K = K} {S = S} is_clean images lines n results fs puts takes network many all long each puts_are takes_are = record {
   network = network;
-  senders = ap length puts_are ∙ length-map fs (λ (f : Finished S). f.ends.puts) ∙ count;
-  receivers = ap length takes_are ∙ length-map fs (λ (f : Finished S). f.ends.takes) ∙ count;
+  senders = ap length puts_are ∙ length-map fs (λ (f : Finished K S). f.ends.puts) ∙ count;
+  receivers = ap length takes_are ∙ length-map fs (λ (f : Finished K S). f.ends.takes) ∙ count;
   put = λ from row at. let own = put_by from row at in ap (λ (v : Vec Traffic Global). length v.items) (sym own.1) ∙ own.2.put;
   take = λ to row at. let own = taken_by to row at in ap (λ (v : Vec Takings Global). length v.items) (sym own.1) ∙ own.2.take;
   putting = λ from row at. let own = put_by from row at in subst (λ (v : Vec Traffic Global). ArePuts lines from v.items) own.1 own.2.putting;
@@ -113,24 +134,73 @@ all_leaves {S = S} is_clean images lines n results fs puts takes network many al
     count : length fs ≡ n
     count = sym (length-map fs Ok) ∙ ap length all ∙ long
 
-    has : (p : ℕ) (f : Finished S) → slice_get fs p ≡ Some f → HasEnds n lines p f.ends
+    has : (p : ℕ) (f : Finished K S) → slice_get fs p ≡ Some f → HasEnds n lines p f.ends
     has p f at = let end = ended_so is_clean images lines n results fs many all long each p f at in end.2.ends
 
     put_by : (from : ℕ) (row : Vec Traffic Global) → slice_get puts from ≡ Some row → (e : Ends) × (e.puts ≡ row) × HasEnds n lines from e
     put_by from row at =
-        let found = map_had (λ (f : Finished S). f.ends.puts) fs from row (subst (λ l. slice_get l from ≡ Some row) puts_are at) in
+        let found = map_had (λ (f : Finished K S). f.ends.puts) fs from row (subst (λ l. slice_get l from ≡ Some row) puts_are at) in
         (found.0.ends, found.2, has from found.0 found.1)
 
     taken_by : (to : ℕ) (row : Vec Takings Global) → slice_get takes to ≡ Some row → (e : Ends) × (e.takes ≡ row) × HasEnds n lines to e
     taken_by to row at =
-        let found = map_had (λ (f : Finished S). f.ends.takes) fs to row (subst (λ l. slice_get l to ≡ Some row) takes_are at) in
+        let found = map_had (λ (f : Finished K S). f.ends.takes) fs to row (subst (λ l. slice_get l to ≡ Some row) takes_are at) in
         (found.0.ends, found.2, has to found.0 found.1)
 
 -- ---- the ends of inboxes
 pub ends_at : (n : ℕ) (lines : Lines) (ends : List Ends) → IsWired n lines ends → (k : ℕ) (e : Ends) → k < length ends → HasEnds n lines k (get_or ends k e)
 ends_at n lines ends is k e lt = is.have k (get_or ends k e) (slice_get-get_or ends k e lt)
 
+-- where the outputs are as many as were made, none is left out; so where there are more
+pub have_all : {S : Type 0} (is_clean : S → Bool) (images : List Image) (statuses : List Status) (released : List (Vec Output Global)) (stores : List S)
+    → AreWholeOver is_clean images statuses released stores → HaveAllOver is_clean images statuses released stores
+have_all is_clean images statuses released stores whole p image status outputs store at_image at_status at_outputs at_store clean =
+    (length outputs.items, whole p image status outputs store at_image at_status at_outputs at_store clean, omega arith)
+
+pub have_more : {S : Type 0} (is_clean : S → Bool) (images : List Image) (statuses : List Status) (few released : List (Vec Output Global)) (stores : List S)
+    → length few ≡ length images → AreNoFewer few released
+    → AreWholeOver is_clean images statuses few stores → HaveAllOver is_clean images statuses released stores
+have_more is_clean images statuses few released stores many less whole p image status outputs store at_image at_status at_outputs at_store clean =
+    elim (slice_get_cases few p).1 [
+      | inl low ↦
+          (length low.0.items, whole p image status low.0 store at_image at_status low.2 at_store clean, less p low.0 outputs low.2 at_outputs)
+      | inr past ↦ let l = past.0 in let lt = slice_get_within images p image at_image in absurd (omega arith)
+    ]
+
+-- and the statuses are those of states along the images
+pub all_along : {S : Type 0} (is_clean : S → Bool) (images : List Image) (statuses : List Status) (released : List (Vec Output Global)) (stores : List S)
+    → length released ≡ length images → HaveAllOver is_clean images statuses released stores → AreAlong is_clean images statuses stores
+all_along is_clean images statuses released stores many all p image status store at_image at_status at_store clean =
+    elim (slice_get_cases released p).1 [
+      | inl outputs ↦ let run = all p image status outputs.0 store at_image at_status outputs.2 at_store clean in (run.1.0, run.1.1, run.1.2, run.1.3)
+      | inr past ↦ let l = past.0 in let lt = slice_get_within images p image at_image in absurd (omega arith)
+    ]
+
 -- where every store is clean, all are
+pub whole_always : {S : Type 0} (is_clean : S → Bool) (images : List Image) (statuses : List Status) (released : List (Vec Output Global)) (stores : List S)
+    → length stores ≡ length images → AreWholeOver is_clean images statuses released stores → ((s : S) → IsTrue (is_clean s))
+    → AreWholeOf images statuses released
+whole_always is_clean images statuses released stores many whole always p program status outputs at_program at_status at_outputs =
+    let image = map_had program_of images p program at_program in
+    elim (slice_get_cases stores p).1 [
+      | inl store ↦
+          subst (λ q. IsWholeRun q p (length images) status (length outputs.items)) image.2
+          (whole p image.0 status outputs store.0 image.1 at_status at_outputs store.2 (always store.0))
+      | inr past ↦ let l = past.0 in let lt = slice_get_within images p image.0 image.1 in absurd (omega arith)
+    ]
+
+pub all_always : {S : Type 0} (is_clean : S → Bool) (images : List Image) (statuses : List Status) (released : List (Vec Output Global)) (stores : List S)
+    → length stores ≡ length images → HaveAllOver is_clean images statuses released stores → ((s : S) → IsTrue (is_clean s))
+    → HaveAllOf images statuses released
+all_always is_clean images statuses released stores many all always p program status outputs at_program at_status at_outputs =
+    let image = map_had program_of images p program at_program in
+    elim (slice_get_cases stores p).1 [
+      | inl store ↦
+          let run = all p image.0 status outputs store.0 image.1 at_status at_outputs store.2 (always store.0) in
+          (run.0, subst (λ q. IsWholeRun q p (length images) status run.0) image.2 run.1, run.2)
+      | inr past ↦ let l = past.0 in let lt = slice_get_within images p image.0 image.1 in absurd (omega arith)
+    ]
+
 pub along_always : {S : Type 0} (is_clean : S → Bool) (images : List Image) (statuses : List Status) (stores : List S) → length stores ≡ length images
     → AreAlong is_clean images statuses stores → ((s : S) → IsTrue (is_clean s)) → AreStatusesAlong images statuses
 along_always is_clean images statuses stores many along always p image status at_image at_status = elim (slice_get_cases stores p).1 [

@@ -1,11 +1,13 @@
 -- What a run of a cluster ends with.
-use Rattle.std.specs.Prelude.{◌≡◌, ℕ, ◌<◌, List, Option, None, Some, IfSome, Bool, IsTrue, Vec, slice_get, length, map}
+use Rattle.std.specs.Prelude.{◌≡◌, ℕ, ◌<◌, ◌≤◌, List, Option, None, Some, IfSome, Bool, IsTrue, Vec, slice_get, length, map}
 use Rattle.std.specs.declared.alloc.Global.{Global}
 pub use Rattle.om_stable.specs.Content.{nothing}
 use Rattle.om_manager.specs.declared.output_log.Output.{Output}
 use Rattle.om_board.specs.Made.{AreAllMade}
+use Rattle.om_format.specs.Queues.{queue_end}
 use Rattle.om_process.specs.Core.{status_of}
 use Rattle.om_process.specs.Images.{program_of}
+use Rattle.om_process.specs.Kept.{queue_at}
 use Rattle.om_process.specs.Process.{Process, Program, Received, made}
 use Rattle.om_process.specs.Turns.{Reaches, next_move}
 use Rattle.om_process.specs.declared.image.Image.{Image}
@@ -41,6 +43,34 @@ AreStatusesAlong images statuses = (p : ℕ) (image : Image) (status : Status)
 -- by process: each of its outputs is the one of its number that its image makes along some receipts
 abbrev pub AreOutputsOf : List Image → List (Vec Output Global) → Type 0
 AreOutputsOf images released = AreAllMade (map program_of images) (length images) released
+
+-- how many outputs a process of n has made
+abbrev pub outputs_made : ℕ → Process → ℕ
+outputs_made n s = queue_end (queue_at s.queues n)
+
+-- for some receipts and turns, process `own` of n comes along the program to this status, and has then made so many outputs
+abbrev pub IsWholeRun : Program → ℕ → ℕ → Status → ℕ → Type 0
+IsWholeRun program own n status count = (h : List Received) × (s : Process) × Reaches program own n h s
+    × (status ≡ status_of (next_move own n s.machine (made s.queues))) × (count ≡ outputs_made n s)
+
+-- by process: it comes to its status so, and its outputs are as many as it has then made
+abbrev pub AreWhole : List Program → ℕ → List Status → List (Vec Output Global) → Type 0
+AreWhole programs n statuses released = (p : ℕ) (program : Program) (status : Status) (outputs : Vec Output Global)
+    → slice_get programs p ≡ Some program → slice_get statuses p ≡ Some status → slice_get released p ≡ Some outputs
+    → IsWholeRun program p n status (length outputs.items)
+
+-- by process: it comes to its status so, and of the outputs that it has then made none is left out
+abbrev pub HaveAll : List Program → ℕ → List Status → List (Vec Output Global) → Type 0
+HaveAll programs n statuses released = (p : ℕ) (program : Program) (status : Status) (outputs : Vec Output Global)
+    → slice_get programs p ≡ Some program → slice_get statuses p ≡ Some status → slice_get released p ≡ Some outputs
+    → (count : ℕ) × IsWholeRun program p n status count × (count ≤ length outputs.items)
+
+-- the same of images
+abbrev pub AreWholeOf : List Image → List Status → List (Vec Output Global) → Type 0
+AreWholeOf images statuses released = AreWhole (map program_of images) (length images) statuses released
+
+abbrev pub HaveAllOf : List Image → List Status → List (Vec Output Global) → Type 0
+HaveAllOf images statuses released = HaveAll (map program_of images) (length images) statuses released
 
 -- the process that a fault names, if it names one
 abbrev pub process_of : RunFault → Option ℕ

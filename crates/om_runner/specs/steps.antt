@@ -1,6 +1,7 @@
 -- What only the crate's own parts rest on: no public clause cites these.
 pub mod Nodes
 pub mod Places
+pub mod Harvests
 pub mod Network
 pub mod Wiring
 pub mod Ends

@@ -1,15 +1,17 @@
 //! A cluster, a thread for each process.
 
 ghost use Rattle.std.specs.Prelude.{◌≡◌, ◌<◌, ◌≤◌, ℕ, All, IfErr, IfOk, IfSome, IsTrue, OnOk, Some, length, map, slice_get, slice_index_or, vec_capacity, vec_len};
+ghost use Rattle.om_board.specs.Fronts.{front_of};
 ghost use Rattle.om_board.specs.Made.{AreAllMade};
 ghost use Rattle.om_board.specs.Released.{AreAllReleased};
 ghost use Rattle.om_interval.specs.declared.pid.TheConstants.{MAX_PROCESSES};
 ghost use Rattle.om_process.specs.Images.{program_of};
 ghost use Rattle.om_process.specs.declared.image.Image.{Image};
-ghost use Rattle.om_runner.specs.Reports.{AreAlong, AreOutputsOf, AreStatusesAlong, IsEnd, IsFaultOf, IsStatusAlong};
+ghost use Rattle.om_runner.specs.Reports.{AreAlong, AreOutputsOf, AreStatusesAlong, AreWholeOf, IsEnd, IsFaultOf, IsWholeRun};
 ghost use Rattle.om_runner.specs.declared.fault.RunFault.TheVariants.{Memory};
-ghost use Rattle.om_runner.specs.steps.Acts.{IsReadFrom, UnderLock};
-ghost use Rattle.om_runner.specs.steps.Ends.{AreEndsOf, AreOwnEnds, IsEndOf, IsFaultBy, IsGiven, IsOwnEnd, IsPromised, IsTurned};
+ghost use Rattle.om_runner.specs.steps.Acts.{UnderLock};
+ghost use Rattle.om_runner.specs.steps.Ends.{AreEndsOf, AreOwnEnds, AreWholeOver, IsEndOf, IsFaultBy, IsGiven, IsOwnEnd, IsPromised, IsTurned};
+ghost use Rattle.om_runner.specs.steps.Harvests.{AreOwn, harvested};
 ghost use Rattle.om_runner.specs.steps.Nodes.{AreAlwaysClean};
 ghost use Rattle.om_runner.specs.steps.Places.{member_of};
 ghost use Rattle.om_runner.specs.steps.Settling.{ArePasses, AreSettled};
@@ -19,6 +21,7 @@ use crate::config::Config;
 use crate::diary::Listeners;
 use crate::fault::RunFault;
 use crate::ground::{Alone, Beside, Cluster, ground_of, stop_all};
+use crate::harvest::{Harvest, gathered_in};
 use crate::links::Links;
 use crate::network::Ends;
 use crate::node::Node;
@@ -103,8 +106,37 @@ fn kills_of(alloc: Global, kills: &[(Pid, u32)], pid: Pid) -> Result<Vec<u32>, A
 enum Turned<'a, K: Naming, S: Stable> {
     // There are more.
     On(Place<'a, S>, Pass<K>),
-    // All processes are quiet: how this one ended, and its store.
-    Over(Status, S),
+    // All processes are quiet: how this one ended, its outputs, and its store.
+    Over(Status, Harvest<K>, S),
+}
+
+// The end of a process of which as many outputs are released as it made. Until they are it goes on.
+#[inline(never)]
+fn leave<'a, K: Naming, S: Stable, R: Wait>(
+    rt: &R,
+    alloc: Global,
+    worker: &mut Worker<'a, K>,
+    node: Node<'a, S>,
+    pass: Pass<K>,
+) -> Result<Turned<'a, K, S>, RunFault>
+    requires { node.member.own ≡ worker.old.links.own }
+    ensures same { worker.new.links ≡ worker.old.links }
+    ensures turned { IfOk result (λ t. IsTurned S.is_clean node.entry.member t) }
+    ensures fault { IfErr result (IsFaultBy worker.old.links.own) }
+{
+    let harvest = match worker.harvest(rt, alloc, node.core().made()) {
+        Ok(Some(harvest)) => harvest,
+        Ok(None) => return Ok(Turned::On(Place::Up(node), pass)),
+        Err(worker_fault) => {
+            drop(node);
+            return Err(worker_fault.of(worker.pid()));
+        }
+    };
+    worker.end(node.core().machine().count());
+    match node.end() {
+        Ok((status, store)) => Ok(Turned::Over(status, harvest, store)),
+        Err(node) => Ok(Turned::On(Place::Up(node), pass)),
+    }
 }
 
 // One turn of a worker.
@@ -129,18 +161,12 @@ fn take_turn<'a, K: Naming, S: Stable, R: Wait + Clock>(
         Err(worker_fault) => return Err(worker_fault.of(worker.pid())),
     };
     match place {
-        Place::Over(node) => {
-            worker.end(node.core().machine().count());
-            match node.end() {
-                Ok((status, store)) => Ok(Turned::Over(status, store)),
-                Err(node) => Ok(Turned::On(Place::Up(node), pass)),
-            }
-        }
+        Place::Over(node) => leave(rt, alloc, worker, node, pass),
         place => Ok(Turned::On(place, pass)),
     }
 }
 
-// The turns of a worker until all are quiet: how its process ended, and its store.
+// The turns of a worker until all are quiet: how its process ended, its outputs, and its store.
 fn turns_until_over<'a, K: Naming, S: Stable, R: Wait + Clock>(
     rt: &R,
     alloc: Global,
@@ -149,15 +175,16 @@ fn turns_until_over<'a, K: Naming, S: Stable, R: Wait + Clock>(
     worker: &mut Worker<'a, K>,
     node: Node<'a, S>,
     pass: Pass<K>,
-) -> Result<(Status, S), RunFault>
+) -> Result<(Status, Harvest<K>, S), RunFault>
     requires own { node.member.own ≡ worker.old.links.own }
     requires program { slice_get K.programs node.member.own ≡ Some node.member.program }
     requires size { node.member.n ≡ K.cell.n }
     requires clean { K.OverClean → AreAlwaysClean S.is_clean }
     ensures same { worker.new.links ≡ worker.old.links }
     ensures ended { IfOk result (λ end. IsEnd end.0) }
-    ensures along { let m = node.entry.member in
-        IfOk result (λ end. IsTrue (S.is_clean end.1) → IsStatusAlong m.program m.own m.n end.0) }
+    ensures own { let m = node.entry.member in IfOk result (λ end. end.1.own ≡ m.own) }
+    ensures whole { let m = node.entry.member in IfOk result (λ end. IsTrue (S.is_clean end.2)
+        → IsWholeRun m.program m.own m.n end.0 (length end.1.outputs.items)) }
     ensures given { OnOk result (1 ≤ turns) }
     ensures fault { IfErr result (IsFaultBy worker.old.links.own) }
 {
@@ -175,7 +202,7 @@ fn turns_until_over<'a, K: Naming, S: Stable, R: Wait + Clock>(
                 place = next;
                 pass = met;
             }
-            Turned::Over(status, store) => return Ok((status, store)),
+            Turned::Over(status, harvest, store) => return Ok((status, harvest, store)),
         }
     }
     // Dropped by a call: at the end of the scope each part of each place would be dropped in turn.
@@ -192,7 +219,7 @@ fn take_turns<'a, K: Naming, S: Stable, R: Wait + Clock>(
     worker: Worker<'a, K>,
     node: Node<'a, S>,
     pass: Pass<K>,
-) -> Result<Finished<S>, RunFault>
+) -> Result<Finished<K, S>, RunFault>
     requires own { node.member.own ≡ worker.links.own }
     requires program { slice_get K.programs node.member.own ≡ Some node.member.program }
     requires size { node.member.n ≡ K.cell.n }
@@ -203,10 +230,19 @@ fn take_turns<'a, K: Naming, S: Stable, R: Wait + Clock>(
     ensures fault { IfErr result (IsFaultBy worker.entry.links.own) }
 {
     let mut worker = worker;
-    let (status, store) = turns_until_over(rt, alloc, turns, stop, &mut worker, node, pass)?;
+    let (status, harvest, store) = turns_until_over(
+        rt,
+        alloc,
+        turns,
+        stop,
+        &mut worker,
+        node,
+        pass,
+    )?;
     let (ends, witness) = worker.into_ends();
     Ok(Finished {
         status,
+        harvest,
         store,
         ends,
         witness,
@@ -243,7 +279,7 @@ fn work<'a, K: Naming, R: Wait + Clock, G: Gate, O: Opener<R>>(
     cluster: &Cluster<'a, K, R, G, O>,
     image: &'a Image,
     job: Job<'a, K>,
-) -> Result<Finished<O::Store>, RunFault>
+) -> Result<Finished<K, O::Store>, RunFault>
     requires program { slice_get K.programs job.links.own ≡ Some (program_of image.now) }
     requires clean { K.OverClean → AreAlwaysClean O.Store.is_clean }
     ensures end { let l = job.entry.links in
@@ -273,7 +309,7 @@ fn work_or_stop<'a, K: Naming, R: Wait + Clock, G: Gate, O: Opener<R>>(
     cluster: &Cluster<'a, K, R, G, O>,
     image: &'a Image,
     job: Job<'a, K>,
-) -> Result<Finished<O::Store>, RunFault>
+) -> Result<Finished<K, O::Store>, RunFault>
     requires program { slice_get K.programs job.links.own ≡ Some (program_of image.now) }
     requires clean { K.OverClean → AreAlwaysClean O.Store.is_clean }
     ensures end { let l = job.entry.links in
@@ -299,12 +335,12 @@ struct EndOf<'a, S: Stable> {
     store: PhantomData<S>,
 }
 
-impl<'a, S: Stable> Promise<Result<Finished<S>, RunFault>> for EndOf<'a, S> {
+impl<'a, K: Naming, S: Stable> Promise<Result<Finished<K, S>, RunFault>> for EndOf<'a, S> {
     ghost kept_by = { λ p r. IfOk r (λ f. IsEndOf S.is_clean (program_of p.image.now) p.inboxes.now p.own p.n f)
         × IsOwnEnd p.plan.now p.own r };
 }
 
-type Handle<'s, S> = PromisedHandle<Result<Finished<S>, RunFault>, EndOf<'s, S>>;
+type Handle<'s, K, S> = PromisedHandle<Result<Finished<K, S>, RunFault>, EndOf<'s, S>>;
 
 // One process on a thread of the scope.
 fn start<
@@ -319,7 +355,7 @@ fn start<
     cluster: &'s Cluster<'s, K, R, G, O>,
     image: &'s Image,
     job: Job<'s, K>,
-) -> Option<Handle<'s, O::Store>>
+) -> Option<Handle<'s, K, O::Store>>
     requires program { slice_get K.programs job.links.own ≡ Some (program_of image.now) }
     requires clean { K.OverClean → AreAlwaysClean O.Store.is_clean }
     ensures plan { IfSome result (λ h. h.promise.plan.now ≡ cluster.entry.now.plan.now) }
@@ -360,8 +396,8 @@ fn start_all<
     cluster: &'s Cluster<'s, K, R, G, O>,
     ends: Vec<Ends>,
     mut passes: Vec<Pass<K>>,
-    mut handles: Vec<Handle<'s, O::Store>>,
-) -> Option<Vec<Handle<'s, O::Store>>>
+    mut handles: Vec<Handle<'s, K, O::Store>>,
+) -> Option<Vec<Handle<'s, K, O::Store>>>
     requires few { K.cell.n ≤ MAX_PROCESSES }
     requires images { length cluster.now.plan.now.images.items ≡ K.cell.n }
     requires programs { K.programs ≡ map program_of cluster.now.plan.now.images.items }
@@ -414,7 +450,7 @@ fn run_scoped<
     passes: Vec<Pass<K>>,
     beside: B,
 ) -> (
-    Result<Vec<Result<Finished<O::Store>, RunFault>>, RunFault>,
+    Result<Vec<Result<Finished<K, O::Store>, RunFault>>, RunFault>,
     B,
 )
     requires few { K.cell.n ≤ MAX_PROCESSES }
@@ -435,7 +471,7 @@ fn run_scoped<
         thread::scope_env(),
         cluster.rt,
         |scope| -> (
-            Result<Vec<Result<Finished<O::Store>, RunFault>>, RunFault>,
+            Result<Vec<Result<Finished<K, O::Store>, RunFault>>, RunFault>,
             B,
         )
             requires few { K.cell.n ≤ MAX_PROCESSES }
@@ -479,7 +515,7 @@ pub(crate) fn run_workers<
     ends: Vec<Ends>,
     passes: Vec<Pass<K>>,
     beside: B,
-) -> (Result<Parts<O::Store>, RunFault>, B)
+) -> (Result<Parts<K, O::Store>, RunFault>, B)
     requires few { K.cell.n ≤ MAX_PROCESSES }
     requires images { length cluster.now.plan.now.images.items ≡ K.cell.n }
     requires programs { K.programs ≡ map program_of cluster.now.plan.now.images.items }
@@ -493,8 +529,10 @@ pub(crate) fn run_workers<
     ensures statuses { IfOk result.0 (λ parts. length parts.statuses.items ≡ length cluster.now.plan.now.images.items) }
     ensures stores { IfOk result.0 (λ parts. length parts.stores.items ≡ length cluster.now.plan.now.images.items) }
     ensures ended { IfOk result.0 (λ parts. All IsEnd parts.statuses.items) }
-    ensures along { IfOk result.0 (λ parts. AreAlong O.Store.is_clean cluster.now.plan.now.images.items
-        parts.statuses.items parts.stores.items) }
+    ensures harvests { IfOk result.0 (λ parts. length parts.harvests.items ≡ length cluster.now.plan.now.images.items) }
+    ensures of_each { IfOk result.0 (λ parts. AreOwn parts.harvests.items) }
+    ensures whole { IfOk result.0 (λ parts. AreWholeOver O.Store.is_clean cluster.now.plan.now.images.items
+        parts.statuses.items (harvested parts.harvests.items) parts.stores.items) }
     ensures given { OnOk result.0 (IsGiven cluster.now.plan.now) }
     ensures fault { IfErr result.0 (IsFaultOf K.cell.n) }
     ensures beside { B.Becomes beside result.1 }
@@ -506,52 +544,72 @@ pub(crate) fn run_workers<
     }
 }
 
-// How all ended and their stores, once the inboxes are settled; what each process did; and the ends by which each takes.
+// How all ended, their outputs and their stores, once the inboxes are settled; what each process did; and the ends by which
+// each takes.
 pub(crate) fn settled<K: Naming, R: Wait, G, O: Opener<R>>(
     cluster: &Cluster<'_, K, R, G, O>,
-    parts: Parts<O::Store>,
-) -> (Vec<Status>, Vec<O::Store>, Vec<Witness>, Vec<Vec<TakePass>>)
+    parts: Parts<K, O::Store>,
+) -> (
+    Vec<Status>,
+    Vec<Harvest<K>>,
+    Vec<O::Store>,
+    Vec<Witness>,
+    Vec<Vec<TakePass>>,
+)
     requires passes { ArePasses (length cluster.now.inboxes.now) cluster.now.inboxes.now parts.puts.items parts.takes.items }
     ensures statuses { result.0 ≡ parts.statuses }
-    ensures stores { result.1 ≡ parts.stores }
-    ensures settled { AreSettled (length parts.puts.items) parts.puts.items parts.takes.items result.3.items }
+    ensures harvests { result.1 ≡ parts.harvests }
+    ensures stores { result.2 ≡ parts.stores }
+    ensures settled { AreSettled (length parts.puts.items) parts.puts.items parts.takes.items result.4.items }
 {
     let Parts {
         statuses,
+        harvests,
         stores,
         puts,
         mut takes,
         witnesses,
     } = parts;
     settle_all(cluster.rt, cluster.inboxes, puts, &mut takes);
-    (statuses, stores, witnesses, takes)
+    (statuses, harvests, stores, witnesses, takes)
 }
 
-// Settles the inboxes, and reads the report from the board. The stores stand beside it, and what each process did.
+// Settles the inboxes, and makes the report of what the workers brought back and of the last front. The stores stand beside it,
+// and what each process did.
 fn close<K: Naming, R: Wait, G: Gate, O: Opener<R>>(
     cluster: &Cluster<'_, K, R, G, O>,
-    parts: Parts<O::Store>,
+    parts: Parts<K, O::Store>,
 ) -> Result<(Report, Vec<O::Store>, Vec<Witness>), RunFault>
     requires images { length cluster.now.plan.now.images.items ≡ K.cell.n }
     requires passes { ArePasses (length cluster.now.inboxes.now) cluster.now.inboxes.now parts.puts.items parts.takes.items }
     requires statuses { length parts.statuses.items ≡ length cluster.now.plan.now.images.items }
     requires stores { length parts.stores.items ≡ length cluster.now.plan.now.images.items }
     requires ended { All IsEnd parts.statuses.items }
-    requires along { AreAlong O.Store.is_clean cluster.now.plan.now.images.items parts.statuses.items parts.stores.items }
+    requires harvests { length parts.harvests.items ≡ length cluster.now.plan.now.images.items }
+    requires of_each { AreOwn parts.harvests.items }
+    requires whole { AreWholeOver O.Store.is_clean cluster.now.plan.now.images.items parts.statuses.items
+        (harvested parts.harvests.items) parts.stores.items }
+    ensures outputs { IfOk result (λ r. r.0.released.items ≡ harvested parts.harvests.items) }
     ensures released { IfOk result (λ r. AreAllReleased r.0.front.vec r.0.released.items) }
-    ensures read { IfOk result (λ r. UnderLock K.cell.n (λ before after. IsReadFrom before.manager r.0 × (after ≡ before))) }
+    ensures last { IfOk result (λ r. UnderLock K.cell.n (λ before after. (r.0.front ≡ front_of before.manager) × (after ≡ before))) }
     ensures made { K.OverClean → IfOk result (λ r. AreAllMade K.programs K.cell.n r.0.released.items) }
     ensures processes { IfOk result (λ r. length r.0.released.items ≡ length cluster.now.plan.now.images.items) }
     ensures statuses { IfOk result (λ r. length r.0.statuses.items ≡ length cluster.now.plan.now.images.items) }
     ensures stores { IfOk result (λ r. length r.1.items ≡ length cluster.now.plan.now.images.items) }
     ensures ended { IfOk result (λ r. All IsEnd r.0.statuses.items) }
-    ensures along { IfOk result (λ r. AreAlong O.Store.is_clean cluster.now.plan.now.images.items r.0.statuses.items r.1.items) }
+    ensures whole { IfOk result (λ r. AreWholeOver O.Store.is_clean cluster.now.plan.now.images.items r.0.statuses.items
+        r.0.released.items r.1.items) }
     ensures fault { IfErr result (λ f. f ≡ Memory) }
 {
-    let (statuses, stores, witnesses, _) = settled(cluster, parts);
-    let board = cluster.shared.board.lock(cluster.rt);
-    let Ok(report) = Report::of(cluster.alloc, board.manager(), statuses) else {
+    let (statuses, harvests, stores, witnesses, _) = settled(cluster, parts);
+    let Ok((released, front)) = gathered_in(cluster.rt, cluster.alloc, cluster.shared, harvests)
+    else {
         return Err(RunFault::Memory);
+    };
+    let report = Report {
+        released,
+        statuses,
+        front,
     };
     Ok((report, stores, witnesses))
 }
@@ -583,7 +641,8 @@ fn run_named<
     ensures statuses { IfOk result (λ r. length r.0.statuses.items ≡ length plan.now.images.items) }
     ensures stores { IfOk result (λ r. length r.1.items ≡ length plan.now.images.items) }
     ensures ended { IfOk result (λ r. All IsEnd r.0.statuses.items) }
-    ensures along { IfOk result (λ r. AreAlong O.Store.is_clean plan.now.images.items r.0.statuses.items r.1.items) }
+    ensures whole { IfOk result (λ r. AreWholeOver O.Store.is_clean plan.now.images.items r.0.statuses.items
+        r.0.released.items r.1.items) }
     ensures given { OnOk result (IsGiven plan.now) }
     ensures fault { IfErr result (IsFaultOf (length plan.now.images.items)) }
 {
@@ -627,6 +686,8 @@ pub fn run_and_keep_stores<R: Threads + Wait + Clock + Sync, G: Gate + Sync, O: 
     ensures stores { IfOk result (λ r. length r.1.items ≡ length config.now.images.items) }
     ensures ended { IfOk result (λ r. All IsEnd r.0.statuses.items) }
     ensures along { IfOk result (λ r. AreAlong O.Store.is_clean config.now.images.items r.0.statuses.items r.1.items) }
+    ensures whole { ((store : O.Store) → IsTrue (O.Store.is_clean store))
+        → IfOk result (λ r. AreWholeOf config.now.images.items r.0.statuses.items r.0.released.items) }
     ensures turns { OnOk result (1 ≤ config.now.turns) }
     ensures gate { OnOk result (1 ≤ config.now.gate_turns) }
     ensures fault { IfErr result (IsFaultOf (length config.now.images.items)) }
@@ -669,6 +730,8 @@ pub fn run_and_keep_witnesses<
     ensures ended { IfOk result (λ r. All IsEnd r.0.statuses.items) }
     ensures along { ((store : O.Store) → IsTrue (O.Store.is_clean store))
         → IfOk result (λ r. AreStatusesAlong config.now.images.items r.0.statuses.items) }
+    ensures whole { ((store : O.Store) → IsTrue (O.Store.is_clean store))
+        → IfOk result (λ r. AreWholeOf config.now.images.items r.0.statuses.items r.0.released.items) }
     ensures turns { OnOk result (1 ≤ config.now.turns) }
     ensures gate { OnOk result (1 ≤ config.now.gate_turns) }
     ensures fault { IfErr result (IsFaultOf (length config.now.images.items)) }
@@ -709,6 +772,8 @@ pub fn run_and_record<R: Threads + Wait + Clock + Sync, G: Gate + Sync, O: Opene
     ensures ended { IfOk result (λ report. All IsEnd report.statuses.items) }
     ensures along { ((store : O.Store) → IsTrue (O.Store.is_clean store))
         → IfOk result (λ report. AreStatusesAlong config.now.images.items report.statuses.items) }
+    ensures whole { ((store : O.Store) → IsTrue (O.Store.is_clean store))
+        → IfOk result (λ report. AreWholeOf config.now.images.items report.statuses.items report.released.items) }
     ensures turns { OnOk result (1 ≤ config.now.turns) }
     ensures gate { OnOk result (1 ≤ config.now.gate_turns) }
     ensures fault { IfErr result (IsFaultOf (length config.now.images.items)) }
@@ -729,9 +794,8 @@ pub fn run_and_record<R: Threads + Wait + Clock + Sync, G: Gate + Sync, O: Opene
     Ok(report)
 }
 
-/// Runs a cluster, a thread for each process, until all have ended or trapped and all that they did is recoverable: that
-/// output is released. Each process has a store of its own, which is made in its thread. When all workers have ended well, the
-/// inboxes are settled.
+/// Runs a cluster, a thread for each process, until all have ended or trapped and all output that they made is released. Each
+/// process has a store of its own, which is made in its thread. When all workers have ended well, the inboxes are settled.
 ///
 /// A worker asks the gate before it makes its process. Then it runs it turn by turn: instructions, messages to and from the
 /// inboxes, rows and outputs to the manager, and rounds of recovery as processes fail. A fault of one stops the others.
@@ -756,6 +820,8 @@ pub fn run_cluster<R: Threads + Wait + Clock + Sync, G: Gate + Sync, O: Opener<R
     ensures ended { IfOk result (λ report. All IsEnd report.statuses.items) }
     ensures along { ((store : O.Store) → IsTrue (O.Store.is_clean store))
         → IfOk result (λ report. AreStatusesAlong config.now.images.items report.statuses.items) }
+    ensures whole { ((store : O.Store) → IsTrue (O.Store.is_clean store))
+        → IfOk result (λ report. AreWholeOf config.now.images.items report.statuses.items report.released.items) }
     ensures turns { OnOk result (1 ≤ config.now.turns) }
     ensures gate { OnOk result (1 ≤ config.now.gate_turns) }
     ensures fault { IfErr result (IsFaultOf (length config.now.images.items)) }

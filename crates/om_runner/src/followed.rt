@@ -5,10 +5,12 @@ ghost use Rattle.om_board.specs.Made.{AreAllMade};
 ghost use Rattle.om_board.specs.Released.{AreAllReleased};
 ghost use Rattle.om_interval.specs.declared.pid.TheConstants.{MAX_PROCESSES};
 ghost use Rattle.om_process.specs.Images.{program_of};
-ghost use Rattle.om_runner.specs.Reports.{AreAlong, AreOutputsOf, AreStatusesAlong, IsEnd};
+ghost use Rattle.om_runner.specs.Reports.{AreOutputsOf, AreStatusesAlong, HaveAllOf, IsEnd};
 ghost use Rattle.om_runner.specs.Telling.{AreInOrder, AreToldMade, TellsAll, Told};
 ghost use Rattle.om_runner.specs.declared.follower.FollowFault.TheVariants.{Unwanted};
+ghost use Rattle.om_runner.specs.steps.Ends.{AreWholeOver, HaveAllOver};
 ghost use Rattle.om_runner.specs.steps.Following.{IsFollowed};
+ghost use Rattle.om_runner.specs.steps.Harvests.{AreOwn, harvested};
 ghost use Rattle.om_runner.specs.steps.Nodes.{AreAlwaysClean};
 ghost use Rattle.om_runner.specs.steps.Settling.{ArePasses};
 
@@ -45,10 +47,11 @@ impl<'h, K: Naming, R: Wait, F: Follower> Beside<K, R> for Following<'h, K, F> {
     }
 }
 
-// All workers have ended: the follower is told of the rest. With the report of what it was told, and the stores.
+// All workers have ended: the follower is told of the rest, which they brought back. With the report of what it was told, and the
+// stores.
 fn close<K: Naming, R: Wait, G, O: Opener<R>, F: Follower>(
     cluster: &Cluster<'_, K, R, G, O>,
-    parts: Result<Parts<O::Store>, RunFault>,
+    parts: Result<Parts<K, O::Store>, RunFault>,
     following: Following<'_, K, F>,
 ) -> (Result<(Report, Vec<O::Store>), FollowFault>, F)
     requires images { length cluster.now.plan.now.images.items ≡ K.cell.n }
@@ -56,29 +59,34 @@ fn close<K: Naming, R: Wait, G, O: Opener<R>, F: Follower>(
     requires statuses { IfOk parts (λ p. length p.statuses.items ≡ length cluster.now.plan.now.images.items) }
     requires stores { IfOk parts (λ p. length p.stores.items ≡ length cluster.now.plan.now.images.items) }
     requires ended { IfOk parts (λ p. All IsEnd p.statuses.items) }
-    requires along { IfOk parts (λ p. AreAlong O.Store.is_clean cluster.now.plan.now.images.items p.statuses.items p.stores.items) }
+    requires harvests { IfOk parts (λ p. length p.harvests.items ≡ length cluster.now.plan.now.images.items) }
+    requires of_each { IfOk parts (λ p. AreOwn p.harvests.items) }
+    requires whole { IfOk parts (λ p. AreWholeOver O.Store.is_clean cluster.now.plan.now.images.items p.statuses.items
+        (harvested p.harvests.items) p.stores.items) }
     ensures released { IfOk result.0 (λ r. AreAllReleased r.0.front.vec r.0.released.items) }
     ensures made { K.OverClean → IfOk result.0 (λ r. AreAllMade K.programs K.cell.n r.0.released.items) }
     ensures processes { IfOk result.0 (λ r. length r.0.released.items ≡ length cluster.now.plan.now.images.items) }
     ensures statuses { IfOk result.0 (λ r. length r.0.statuses.items ≡ length cluster.now.plan.now.images.items) }
     ensures stores { IfOk result.0 (λ r. length r.1.items ≡ length cluster.now.plan.now.images.items) }
     ensures ended { IfOk result.0 (λ r. All IsEnd r.0.statuses.items) }
-    ensures along { IfOk result.0 (λ r. AreAlong O.Store.is_clean cluster.now.plan.now.images.items r.0.statuses.items r.1.items) }
+    ensures all { IfOk result.0 (λ r. HaveAllOver O.Store.is_clean cluster.now.plan.now.images.items r.0.statuses.items
+        r.0.released.items r.1.items) }
     ensures told { (start : F) → IsFollowed F.Tells start following.entry.lanes.items following.entry.fault following.entry.follower
         → IfOk result.0 (λ r. (told : List Told) × F.Tells start result.1 told × TellsAll told r.0.released.items) }
     ensures partly { (start : F) → IsFollowed F.Tells start following.entry.lanes.items following.entry.fault following.entry.follower
         → IfErr result.0 (λ fault. fault ≢ Unwanted → (told : List Told) × F.Tells start result.1 told × AreInOrder told
         × (K.OverClean → AreToldMade K.programs K.cell.n told)) }
 {
-    let following = following.look(cluster.rt, cluster.alloc, cluster.shared);
     let parts = match parts {
         Ok(parts) => parts,
         Err(fault) => {
+            let following = following.look(cluster.rt, cluster.alloc, cluster.shared);
             let (fault, follower) = following.into_fault(fault);
             return (Err(fault), follower);
         }
     };
-    let (statuses, stores, _, _) = settled(cluster, parts);
+    let (statuses, harvests, stores, _, _) = settled(cluster, parts);
+    let following = following.complete(cluster.rt, cluster.alloc, cluster.shared, harvests);
     let (report, follower) = following.into_report(cluster.alloc, statuses);
     match report {
         Ok(report) => (Ok((report, stores)), follower),
@@ -115,7 +123,8 @@ fn run_named<
     ensures statuses { IfOk result.0 (λ r. length r.0.statuses.items ≡ length plan.now.images.items) }
     ensures stores { IfOk result.0 (λ r. length r.1.items ≡ length plan.now.images.items) }
     ensures ended { IfOk result.0 (λ r. All IsEnd r.0.statuses.items) }
-    ensures along { IfOk result.0 (λ r. AreAlong O.Store.is_clean plan.now.images.items r.0.statuses.items r.1.items) }
+    ensures all { IfOk result.0 (λ r. HaveAllOver O.Store.is_clean plan.now.images.items r.0.statuses.items
+        r.0.released.items r.1.items) }
     ensures told { IfOk result.0 (λ r. (told : List Told) × F.Tells follower result.1 told × TellsAll told r.0.released.items) }
     ensures partly { IfErr result.0 (λ fault. fault ≢ Unwanted → (told : List Told) × F.Tells follower result.1 told × AreInOrder told
         × (K.OverClean → AreToldMade (map program_of plan.now.images.items) (length plan.now.images.items) told)) }
@@ -177,6 +186,8 @@ pub fn run_and_follow<
     ensures ended { IfOk result.0 (λ report. All IsEnd report.statuses.items) }
     ensures along { ((store : O.Store) → IsTrue (O.Store.is_clean store))
         → IfOk result.0 (λ report. AreStatusesAlong config.now.images.items report.statuses.items) }
+    ensures all { ((store : O.Store) → IsTrue (O.Store.is_clean store))
+        → IfOk result.0 (λ report. HaveAllOf config.now.images.items report.statuses.items report.released.items) }
     ensures told { IfOk result.0 (λ report. (told : List Told) × F.Tells follower result.1 told × TellsAll told report.released.items) }
     ensures partly { IfErr result.0 (λ fault. fault ≢ Unwanted → (told : List Told) × F.Tells follower result.1 told × AreInOrder told
         × (((store : O.Store) → IsTrue (O.Store.is_clean store))

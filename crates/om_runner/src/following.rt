@@ -1,20 +1,25 @@
 //! A follower while the cluster runs.
 
-ghost use Rattle.std.specs.Prelude.{◌≡◌, ◌≢◌, ◌≤◌, ℕ, List, [], None, Some, IfErr, IfOk, IsTrue, map, slice_get, vec_len};
+ghost use Rattle.std.specs.Prelude.{◌≡◌, ◌≢◌, ◌≤◌, ℕ, List, [], None, Some, Vec, IfErr, IfOk, IsTrue, OnOk, length, map, slice_get, vec_len};
+ghost use Rattle.std.specs.declared.alloc.Global.{Global};
+ghost use Rattle.om_board.specs.Boards.{IsBoard};
 ghost use Rattle.om_board.specs.Made.{AreAllMade, AreMade, HoldsMade};
 ghost use Rattle.om_board.specs.Released.{AreAllReleased, AreReleased};
 ghost use Rattle.om_interval.specs.declared.pid.TheConstants.{MAX_PROCESSES};
 ghost use Rattle.om_manager.specs.State.{size_of};
+ghost use Rattle.om_manager.specs.declared.output_log.Output.{Output};
 ghost use Rattle.om_process.specs.Process.{Program};
 ghost use Rattle.om_runner.specs.Telling.{AreInOrder, AreToldMade, TellsAll, Told};
 ghost use Rattle.om_runner.specs.declared.follower.FollowFault.TheVariants.{Unwanted};
 ghost use Rattle.om_runner.specs.steps.Following.{AreEmpty, AreKept, AreLanesMade, AreTold, HasTold, HaveTold, IsFollowed, StayKept, told_in};
+ghost use Rattle.om_runner.specs.steps.Harvests.{AreNoFewer, AreOwn, harvested};
 
 use crate::fault::RunFault;
 use crate::follower::{FollowFault, Follower};
+use crate::harvest::{Harvest, all_met};
 use crate::herald::{Herald, Release};
 use crate::lane::Lane;
-use om_board::{Front, Naming, Pass, Report, Shared, copy_of};
+use om_board::{Board, Front, Frontier, Naming, Pass, Report, Shared, copy_of};
 use om_interval::{MAX_PROCESSES, Pid};
 use om_manager::{Manager, Output};
 use om_process::Status;
@@ -69,6 +74,7 @@ fn add_new(alloc: Global, lane: &mut Lane, released: &[Output]) -> Result<(), Al
         → AreReleased limit lane.new.outputs.items }
     ensures made { (programs : List Program) (n p : ℕ) → AreMade programs n p lane.old.outputs.items → AreMade programs n p released.now
         → AreMade programs n p lane.new.outputs.items }
+    ensures all { OnOk result (length released.now ≤ length lane.new.outputs.items) }
 {
     for i in lane.outputs.len()..released.len() {
         lane.outputs.push(copy_of(alloc, &released[i])?)?;
@@ -89,6 +95,49 @@ fn add_all(alloc: Global, lanes: &mut Vec<Lane>, manager: &Manager) -> Result<()
         add_new(alloc, &mut lanes[p], manager.released(Pid::at(p)))?;
     }
     Ok(())
+}
+
+// Adds these outputs beyond what is there.
+fn add_brought(
+    alloc: Global,
+    lanes: &mut Vec<Lane>,
+    brought: &[Vec<Output>],
+) -> Result<(), AllocError>
+    requires { length brought.now ≡ vec_len lanes.old }
+    ensures many { vec_len lanes.new ≡ vec_len lanes.old }
+    ensures same { (p : ℕ) → told_in p (slice_get lanes.new.items p) ≡ told_in p (slice_get lanes.old.items p) }
+    ensures kept { (vec : List ℕ) → AreAllReleased vec brought.now → AreKept vec lanes.old.items → AreKept vec lanes.new.items }
+    ensures made { (programs : List Program) (n : ℕ) → AreAllMade programs n brought.now → AreLanesMade programs n lanes.old.items
+        → AreLanesMade programs n lanes.new.items }
+    ensures all { OnOk result (AreNoFewer brought.now (map (λ lane. lane.outputs) lanes.new.items)) }
+{
+    for p in 0..brought.len() {
+        add_new(alloc, &mut lanes[p], &brought[p])?;
+    }
+    Ok(())
+}
+
+// Adds what the workers brought back beyond what is there.
+fn add_harvests<K: Naming, R: Wait>(
+    rt: &R,
+    alloc: Global,
+    frontier: &Frontier<K>,
+    board: &mut Board<K>,
+    harvests: Vec<Harvest<K>>,
+    lanes: &mut Vec<Lane>,
+) -> Result<(), AllocError>
+    requires own { AreOwn harvests.items }
+    requires sound { IsBoard K.cell.n board.old }
+    requires each { length harvests.items ≡ vec_len lanes.old }
+    ensures board { board.new ≡ board.old }
+    ensures many { vec_len lanes.new ≡ vec_len lanes.old }
+    ensures same { (p : ℕ) → told_in p (slice_get lanes.new.items p) ≡ told_in p (slice_get lanes.old.items p) }
+    ensures kept { AreKept board.old.manager.recovery lanes.old.items → AreKept board.old.manager.recovery lanes.new.items }
+    ensures made { K.OverClean → AreLanesMade K.programs K.cell.n lanes.old.items → AreLanesMade K.programs K.cell.n lanes.new.items }
+    ensures all { OnOk result (AreNoFewer (harvested harvests.items) (map (λ lane. lane.outputs) lanes.new.items)) }
+{
+    let brought = all_met(rt, alloc, frontier, board, harvests)?;
+    add_brought(alloc, lanes, &brought)
 }
 
 // Tells of the outputs of a process below a number, those that are there.
@@ -257,6 +306,8 @@ impl<'a, K: Naming, F: Follower> Following<'a, K, F> {
         ensures followed { (start : F) → IsFollowed F.Tells start self.entry.lanes.items self.entry.fault self.entry.follower
             → IsFollowed F.Tells start result.lanes.items result.fault result.follower }
         ensures all { result.fault ≡ None → AreTold result.lanes.items }
+        ensures outputs { map (λ lane. lane.outputs) result.lanes.items ≡ map (λ lane. lane.outputs) self.entry.lanes.items }
+        ensures fault { result.fault ≡ None → self.entry.fault ≡ None }
     {
         let Following {
             herald,
@@ -295,6 +346,70 @@ impl<'a, K: Naming, F: Follower> Following<'a, K, F> {
             return self;
         }
         let (following, releases) = self.take_in(rt, alloc, shared);
+        following.tell(&releases)
+    }
+
+    // Adds what the workers brought back, and gives the order in which it was released, as far as that is known.
+    fn take_back<R: Wait>(
+        self,
+        rt: &R,
+        alloc: Global,
+        shared: &Shared<K>,
+        harvests: Vec<Harvest<K>>,
+    ) -> (Following<'a, K, F>, Vec<Release>)
+        requires own { AreOwn harvests.items }
+        requires each { length harvests.items ≡ K.cell.n }
+        ensures followed { (start : F) → IsFollowed F.Tells start self.entry.lanes.items self.entry.fault self.entry.follower
+            → IsFollowed F.Tells start result.0.lanes.items result.0.fault result.0.follower }
+        ensures all { result.0.fault ≡ None → AreNoFewer (harvested harvests.items) (map (λ lane. lane.outputs) result.0.lanes.items) }
+    {
+        let Following {
+            herald,
+            follower,
+            mut lanes,
+            mut fault,
+            pass,
+            ..
+        } = self;
+        let mut guard = shared.board.lock(rt);
+        let board = &mut *guard;
+        let (front, pass) = shared.frontier.meet(rt, board, pass);
+        let releases = herald.releases(rt);
+        // The look tells what holds of every board.
+        let _ = board.manager();
+        if add_harvests(rt, alloc, &shared.frontier, board, harvests, &mut lanes).is_err() {
+            fault = fault.or(Some(FollowFault::Run(RunFault::Memory)));
+        }
+        let following = Following {
+            herald,
+            follower,
+            lanes,
+            fault,
+            front,
+            pass,
+        };
+        (following, releases)
+    }
+
+    // Tells of all that the workers brought back when each had ended well, in the order in which it was released.
+    pub(crate) fn complete<R: Wait>(
+        self,
+        rt: &R,
+        alloc: Global,
+        shared: &Shared<K>,
+        harvests: Vec<Harvest<K>>,
+    ) -> Following<'a, K, F>
+        requires own { AreOwn harvests.items }
+        requires each { length harvests.items ≡ K.cell.n }
+        ensures followed { (start : F) → IsFollowed F.Tells start self.entry.lanes.items self.entry.fault self.entry.follower
+            → IsFollowed F.Tells start result.lanes.items result.fault result.follower }
+        ensures all { result.fault ≡ None → AreTold result.lanes.items }
+        ensures brought { result.fault ≡ None → AreNoFewer (harvested harvests.items) (map (λ lane. lane.outputs) result.lanes.items) }
+    {
+        if self.fault == Some(FollowFault::Unwanted) {
+            return self;
+        }
+        let (following, releases) = self.take_back(rt, alloc, shared, harvests);
         following.tell(&releases)
     }
 
@@ -349,6 +464,8 @@ impl<'a, K: Naming, F: Follower> Following<'a, K, F> {
         requires { self.fault ≡ None → AreTold self.lanes.items }
         ensures released { IfOk result.0 (λ r. AreAllReleased r.front.vec r.released.items) }
         ensures made { K.OverClean → IfOk result.0 (λ r. AreAllMade K.programs K.cell.n r.released.items) }
+        ensures brought { (few : List (Vec Output Global)) → (self.entry.fault ≡ None → AreNoFewer few (map (λ lane. lane.outputs) self.entry.lanes.items))
+            → IfOk result.0 (λ r. AreNoFewer few r.released.items) }
         ensures processes { IfOk result.0 (λ r. vec_len r.released ≡ K.cell.n) }
         ensures statuses { IfOk result.0 (λ r. r.statuses ≡ statuses) }
         ensures told { (start : F) → IsFollowed F.Tells start self.entry.lanes.items self.entry.fault self.entry.follower

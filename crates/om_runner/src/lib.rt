@@ -9,7 +9,7 @@
 //! - what a run is given and what it answers: `config`, `opener` (who makes the stores), `fault`, `witness` (what each process
 //!   did)
 //! - `cluster`: the threads, from the first store to the report; `network` (the inboxes of all), `settle` (what is left in
-//!   them), `results` (what the workers bring back)
+//!   them), `results` (what the workers bring back), `harvest` (the outputs among it)
 //! - `worker`: what a thread does, turn by turn; `idle`, `patience` and `bell` (how it yields, sleeps and is woken),
 //!   `worker_fault` (why it stops)
 //! - what a worker has: `node` (a process over its store), `links` (its ends of inboxes), `received` (what a resend may leave
@@ -30,6 +30,7 @@ mod followed;
 mod follower;
 mod following;
 mod ground;
+mod harvest;
 mod herald;
 mod idle;
 mod lane;

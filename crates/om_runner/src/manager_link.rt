@@ -4,10 +4,11 @@ ghost use Rattle.std.specs.Prelude.{◌≡◌, ◌<◌, ◌↔◌, [], Any, IfNo
 ghost use Rattle.om_board.specs.Boards.{IsBoard};
 ghost use Rattle.om_member.specs.Handed.{outputs_from};
 ghost use Rattle.om_runner.specs.steps.Nodes.{AreAlwaysClean};
-ghost use Rattle.om_runner.specs.steps.Acts.{AreLimits, HasDeclared, HasHandedOver, HasJoined, HasMet, HasOffered, HasPruned, HasRefused, HasWaited, HasWithdrawn, IsStanding, IsVerdictOf, UnderLock};
+ghost use Rattle.om_runner.specs.steps.Acts.{AreAllOf, AreLimits, HasDeclared, HasHandedOver, HasJoined, HasMet, HasOffered, HasPruned, HasRefused, HasWaited, HasWithdrawn, IsStanding, IsVerdictOf, UnderLock};
 
 use crate::desk::Desk;
 use crate::diary::Diary;
+use crate::harvest::Harvest;
 use crate::node::Node;
 use crate::worker_fault::WorkerFault;
 use om_board::{Front, Naming, Pass, Shared};
@@ -100,6 +101,8 @@ impl<'a, K: Naming> ManagerLink<'a, K> {
         ensures running { result ≡ false → ended ≡ false }
         ensures told { result ≡ false → core.now.pending ≡ [] }
         ensures handed { result ≡ false → outputs_from core.now self.now.handed ≡ [] }
+        ensures nothing { (IsTrue ended → ⊥) → front.now.version ≡ self.now.seen → core.now.pending ≡ []
+            → outputs_from core.now self.now.handed ≡ [] → result ≡ false }
     {
         ended
             || front.version != self.seen
@@ -310,6 +313,31 @@ impl<'a, K: Naming> ManagerLink<'a, K> {
         diary.failed(rt, &front, front.round > self.round)?;
         diary.announce(rt, board.manager())?;
         Ok(pass)
+    }
+
+    // The outputs of the process, where as many are released as it made.
+    pub(crate) fn harvest<R: Wait>(
+        &self,
+        rt: &R,
+        alloc: Global,
+        made: u64,
+    ) -> Result<Option<Harvest<K>>, WorkerFault>
+        ensures own { IfOk result (λ r. IfSome r (λ h. h.own ≡ self.now.pid)) }
+        ensures many { IfOk result (λ r. IfSome r (λ h. length h.outputs.items ≡ made)) }
+        ensures all { IfOk result (λ r. IfSome r (λ h. UnderLock K.cell.n (λ before after.
+            AreAllOf before.manager self.now.pid h.outputs.items × (after ≡ before)))) }
+    {
+        let mut guard = self.shared.board.lock(rt);
+        let board = &mut *guard;
+        let pass = board.pass(&self.shared.frontier);
+        let manager = board.manager();
+        if manager.released(self.pid).len() as u64 != made {
+            return Ok(None);
+        }
+        match Harvest::of(alloc, manager, self.pid, pass) {
+            Ok(harvest) => Ok(Some(harvest)),
+            Err(_) => Err(WorkerFault::Memory),
+        }
     }
 
     // What the manager says of the last finished round, which the process is in from now on.

@@ -5,10 +5,12 @@ ghost use Rattle.om_manager.specs.State as managers;
 ghost use Rattle.om_member.specs.Handed.{AreHandedUpTo, outputs_from};
 ghost use Rattle.om_member.specs.Keeps.{Keeps};
 ghost use Rattle.om_member.specs.Told.{IsToldUpTo};
+ghost use Rattle.om_format.specs.Queues.{queue_end};
 ghost use Rattle.om_process.specs.Core.{move_of, size_of, status_of, with_pending};
+ghost use Rattle.om_process.specs.Frames.{outputs_of};
 ghost use Rattle.om_process.specs.Images.{program_of};
 ghost use Rattle.om_process.specs.Stores.{flushed};
-ghost use Rattle.om_runner.specs.Reports.{IsEnd, IsStatusAlong, nothing};
+ghost use Rattle.om_runner.specs.Reports.{IsEnd, IsWholeRun, nothing};
 ghost use Rattle.om_runner.specs.steps.Nodes.{TakesFrom};
 
 use crate::worker_fault::WorkerFault;
@@ -261,8 +263,8 @@ impl<'a, S: Stable> Node<'a, S> {
     #[inline(never)]
     pub(crate) fn end(self) -> Result<(Status, S), Node<'a, S>>
         ensures end { IfOk result (λ e. IsEnd e.0) }
-        ensures along { let m = self.entry.member in IfOk result (λ e. IsTrue (S.is_clean e.1)
-            → IsStatusAlong m.program m.own m.n e.0) }
+        ensures whole { let m = self.entry.member in IfOk result (λ e. IsTrue (S.is_clean e.1)
+            → IsWholeRun m.program m.own m.n e.0 (queue_end (outputs_of self.entry.core))) }
         ensures member { IfErr result (λ node. node.member ≡ self.entry.member) }
     {
         let status = self.core.status();

@@ -1,14 +1,16 @@
 //! What workers bring back, and which fault is told of all.
 
 ghost use Rattle.std.specs.Prelude.{◌≡◌, ◌≤◌, ◌↔◌, ◌⊎◌, All, IfErr, IfNone, IfOk, IfSome, IsTrue, OnOk, length, map, vec_len};
-ghost use Rattle.om_runner.specs.Reports.{AreAlong, IsEnd, IsFaultOf};
+ghost use Rattle.om_runner.specs.Reports.{IsEnd, IsFaultOf};
 ghost use Rattle.om_runner.specs.declared.fault.RunFault.TheVariants.{Memory};
-ghost use Rattle.om_runner.specs.steps.Ends.{AreBelow, AreEndsOf, AreOwnEnds, IsGiven, IsLeastFault, IsOut, IsWell};
+ghost use Rattle.om_runner.specs.steps.Ends.{AreBelow, AreEndsOf, AreOwnEnds, AreWholeOver, IsGiven, IsLeastFault, IsOut, IsWell};
+ghost use Rattle.om_runner.specs.steps.Harvests.{AreOwn, harvested};
 ghost use Rattle.om_runner.specs.steps.Network.{IsNetwork};
 ghost use Rattle.om_runner.specs.steps.Settling.{ArePasses};
 
 use crate::fault::RunFault;
 use crate::ground::Cluster;
+use crate::harvest::Harvest;
 use crate::network::Ends;
 use crate::opener::Opener;
 use om_board::{Naming, PutPass, TakePass};
@@ -19,8 +21,9 @@ use std::sync::Wait;
 
 // What a worker brings back.
 #[derive(Drop)]
-pub(crate) struct Finished<S: Stable> {
+pub(crate) struct Finished<K: Naming, S: Stable> {
     pub(crate) status: Status,
+    pub(crate) harvest: Harvest<K>,
     pub(crate) store: S,
     pub(crate) ends: Ends,
     pub(crate) witness: Witness,
@@ -28,8 +31,9 @@ pub(crate) struct Finished<S: Stable> {
 
 // What all workers brought back, by process.
 #[derive(Drop)]
-pub(crate) struct Parts<S: Stable> {
+pub(crate) struct Parts<K: Naming, S: Stable> {
     pub(crate) statuses: Vec<Status>,
+    pub(crate) harvests: Vec<Harvest<K>>,
     pub(crate) stores: Vec<S>,
     // By sender, and there by receiver.
     pub(crate) puts: Vec<Vec<PutPass>>,
@@ -53,7 +57,7 @@ fn is_out(fault: RunFault) -> bool
 }
 
 // The fault that is told, of those that workers ended with.
-fn fault_of<S: Stable>(results: &[Result<Finished<S>, RunFault>]) -> Option<RunFault>
+fn fault_of<K: Naming, S: Stable>(results: &[Result<Finished<K, S>, RunFault>]) -> Option<RunFault>
     ensures none { IfNone result (AreBelow IsWell (length results.now) results.now) }
     ensures least { IfSome result (IsLeastFault results.now) }
 {
@@ -73,10 +77,10 @@ fn fault_of<S: Stable>(results: &[Result<Finished<S>, RunFault>]) -> Option<RunF
 }
 
 // What all workers brought back.
-fn all_of<S: Stable>(
+fn all_of<K: Naming, S: Stable>(
     alloc: Global,
-    results: Vec<Result<Finished<S>, RunFault>>,
-) -> Result<Vec<Finished<S>>, RunFault>
+    results: Vec<Result<Finished<K, S>, RunFault>>,
+) -> Result<Vec<Finished<K, S>>, RunFault>
     ensures all { IfOk result (λ all. map Ok all.items ≡ results.items) }
     ensures fault { IfErr result (λ f. IsLeastFault results.items f ⊎ (f ≡ Memory)) }
 {
@@ -93,20 +97,26 @@ fn all_of<S: Stable>(
 }
 
 // Each kind of what was brought back, by process.
-fn parted<S: Stable>(alloc: Global, all: Vec<Finished<S>>) -> Result<Parts<S>, AllocError>
+fn parted<K: Naming, S: Stable>(
+    alloc: Global,
+    all: Vec<Finished<K, S>>,
+) -> Result<Parts<K, S>, AllocError>
     ensures statuses { IfOk result (λ parts. parts.statuses.items ≡ map (λ f. f.status) all.items) }
     ensures stores { IfOk result (λ parts. parts.stores.items ≡ map (λ f. f.store) all.items) }
     ensures puts { IfOk result (λ parts. parts.puts.items ≡ map (λ f. f.ends.puts) all.items) }
     ensures takes { IfOk result (λ parts. parts.takes.items ≡ map (λ f. f.ends.takes) all.items) }
+    ensures harvests { IfOk result (λ parts. parts.harvests.items ≡ map (λ f. f.harvest) all.items) }
 {
     let mut statuses = Vec::with_capacity(alloc, all.len())?;
     let mut stores = Vec::with_capacity(alloc, all.len())?;
     let mut puts = Vec::with_capacity(alloc, all.len())?;
     let mut takes = Vec::with_capacity(alloc, all.len())?;
     let mut witnesses = Vec::with_capacity(alloc, all.len())?;
+    let mut harvests = Vec::with_capacity(alloc, all.len())?;
     for one in all {
         let Finished {
             status,
+            harvest,
             store,
             ends,
             witness,
@@ -116,9 +126,11 @@ fn parted<S: Stable>(alloc: Global, all: Vec<Finished<S>>) -> Result<Parts<S>, A
         puts.push_reserved(ends.puts);
         takes.push_reserved(ends.takes);
         witnesses.push_reserved(witness);
+        harvests.push_reserved(harvest);
     }
     Ok(Parts {
         statuses,
+        harvests,
         stores,
         puts,
         takes,
@@ -129,8 +141,8 @@ fn parted<S: Stable>(alloc: Global, all: Vec<Finished<S>>) -> Result<Parts<S>, A
 // What workers brought back, where each ended well.
 pub(crate) fn gathered<K: Naming, R: Wait, G, O: Opener<R>>(
     cluster: &Cluster<'_, K, R, G, O>,
-    results: Vec<Result<Finished<O::Store>, RunFault>>,
-) -> Result<Parts<O::Store>, RunFault>
+    results: Vec<Result<Finished<K, O::Store>, RunFault>>,
+) -> Result<Parts<K, O::Store>, RunFault>
     requires images { length cluster.now.plan.now.images.items ≡ K.cell.n }
     requires network { IsNetwork K.cell.n cluster.now.inboxes.now }
     requires long { vec_len results ≡ K.cell.n }
@@ -142,8 +154,10 @@ pub(crate) fn gathered<K: Naming, R: Wait, G, O: Opener<R>>(
     ensures statuses { IfOk result (λ parts. length parts.statuses.items ≡ length cluster.now.plan.now.images.items) }
     ensures stores { IfOk result (λ parts. length parts.stores.items ≡ length cluster.now.plan.now.images.items) }
     ensures ended { IfOk result (λ parts. All IsEnd parts.statuses.items) }
-    ensures along { IfOk result (λ parts. AreAlong O.Store.is_clean cluster.now.plan.now.images.items
-        parts.statuses.items parts.stores.items) }
+    ensures harvests { IfOk result (λ parts. length parts.harvests.items ≡ length cluster.now.plan.now.images.items) }
+    ensures of_each { IfOk result (λ parts. AreOwn parts.harvests.items) }
+    ensures whole { IfOk result (λ parts. AreWholeOver O.Store.is_clean cluster.now.plan.now.images.items
+        parts.statuses.items (harvested parts.harvests.items) parts.stores.items) }
     ensures given { OnOk result (IsGiven cluster.now.plan.now) }
     ensures fault { IfErr result (λ f. IsLeastFault results.items f ⊎ (f ≡ Memory)) }
     ensures own { IfErr result (IsFaultOf K.cell.n) }

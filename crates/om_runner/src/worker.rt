@@ -1,7 +1,9 @@
 //! What the thread of a process does.
 
-ghost use Rattle.std.specs.Prelude.{◌≡◌, ◌<◌, ◌+◌, ◌⊎◌, ◌↔◌, Contains, IfOk, IfSome, IsTrue, Ok, OnOk, Some, length, slice_get};
+ghost use Rattle.std.specs.Prelude.{◌≡◌, ◌<◌, ◌+◌, ◌⊎◌, ◌↔◌, [], Contains, IfOk, IfSome, IsTrue, Ok, OnOk, Some, length, slice_get};
+ghost use Rattle.om_member.specs.Handed.{outputs_from};
 ghost use Rattle.om_process.specs.Stores.{flushed};
+ghost use Rattle.om_runner.specs.Reports.{IsEnd};
 ghost use Rattle.om_runner.specs.steps.Acts.{HasDeclared, HasJoined, UnderLock};
 ghost use Rattle.om_runner.specs.steps.Nodes.{AreAlwaysClean};
 ghost use Rattle.om_runner.specs.steps.Places.{member_of};
@@ -12,6 +14,7 @@ ghost use Rattle.om_runner.specs.steps.Wiring.{HasEnds};
 use crate::bell::Look;
 use crate::config::Config;
 use crate::diary::{Diary, Listeners};
+use crate::harvest::Harvest;
 use crate::idle::{Idle, Pause};
 use crate::links::Links;
 use crate::manager_link::{Limits, ManagerLink, RoundOutcome, Standing};
@@ -245,6 +248,19 @@ impl<'a, K: Naming> Worker<'a, K> {
         (links.into_ends(), past.into_witness())
     }
 
+    // The outputs of the process, where as many are released as it made.
+    pub(crate) fn harvest<R: Wait>(
+        &self,
+        rt: &R,
+        alloc: Global,
+        made: u64,
+    ) -> Result<Option<Harvest<K>>, WorkerFault>
+        ensures own { IfOk result (λ r. IfSome r (λ h. h.own ≡ self.now.links.own)) }
+        ensures many { IfOk result (λ r. IfSome r (λ h. length h.outputs.items ≡ made)) }
+    {
+        self.manager_link.harvest(rt, alloc, made)
+    }
+
     // The process has ended, with so many instructions.
     pub(crate) fn end(&mut self, count: u64)
         ensures { self.new.links ≡ self.old.links }
@@ -432,6 +448,9 @@ impl<'a, K: Naming> Worker<'a, K> {
         ensures member { node.new.member ≡ node.old.member }
         ensures reported { IfOk result (λ r. HasNothingToSay self.old.manager_link.handed status node.old.core r.0 node.new.core
             ⊎ HasReported K.cell.n self.old.manager_link.pid self.old.manager_link.round status node.old.core r.0) }
+        ensures idle { let link = self.old.manager_link in (IsEnd status → ⊥) → front.now.version ≡ link.seen → node.old.core.pending ≡ []
+            → outputs_from node.old.core link.handed ≡ []
+            → IfOk result (λ r. HasNothingToSay link.handed status node.old.core r.0 node.new.core) }
     {
         let ended = has_ended(status);
         if !self.manager_link.is_due(node.core(), front, ended) {

@@ -1,17 +1,16 @@
 -- What is done with the board, from when its lock is had to when the lock goes.
-use Rattle.std.specs.Prelude.{◌≡◌, ◌≢◌, ◌↔◌, ℕ, [], Any, is_some, length, slice_index, slice_set, Bool, IsTrue, true, None, Option, IfNone, IfSome, Ok}
+use Rattle.std.specs.Prelude.{◌≡◌, ◌≢◌, ◌↔◌, ℕ, List, [], Any, is_some, length, map, slice_index, slice_set, Bool, IsTrue, true, None, Option, IfNone, IfSome, Ok}
 use Rattle.om_interval.specs.Starts.{is_named, newest_of}
 use Rattle.om_interval.specs.declared.verdict.Verdict.{Verdict}
 use Rattle.om_process.specs.Core.{CoreState, with_pending}
 use Rattle.om_recover.specs.Cutting.{IsEffective, IsPruned}
 use Rattle.om_manager.specs.Bounds.{AreGotFrom}
+use Rattle.om_manager.specs.Outputs.{held_of}
 use Rattle.om_manager.specs.Rounds.{Failing, Joining}
 use Rattle.om_manager.specs.State.{ManagerState, held_by, released_by, size_of}
 use Rattle.om_manager.specs.declared.answers.Gathered.{Gathered}
+use Rattle.om_manager.specs.declared.output_log.Output.{Output}
 use Rattle.om_board.specs.Boards.{AreAllQuiet, BoardState, DoAllWait, IsBoard, MayRest, MayWait, all_owe, told_by}
-use Rattle.om_board.specs.Fronts.{front_of}
-use Rattle.om_board.specs.Released.{AreReleasedBy}
-use Rattle.om_board.specs.declared.report.Report.{Report}
 use Rattle.om_board.specs.declared.waiting.Waiting.TheVariants.{Offers, Waits}
 use Rattle.om_member.specs.Handed.{AreHanded, outputs_from}
 use Rattle.om_member.specs.Keeps.{Keeps}
@@ -100,10 +99,9 @@ pub record HasWithdrawn (before : BoardState) (p : ℕ) (after : BoardState) : T
 abbrev pub HasRefused : BoardState → BoardState → Type 0
 HasRefused before after = after ≡ record before { waiting = all_owe }
 
--- a report has all that this manager has released, and its front
-pub record IsReadFrom (m : ManagerState) (report : Report) : Type 0 where
-  pub outputs : AreReleasedBy m report.released.items
-  pub front : report.front ≡ front_of m
+-- these are all that this manager has released of a process
+abbrev pub AreAllOf : ManagerState → ℕ → List Output → Type 0
+AreAllOf m p outputs = map held_of outputs ≡ released_by m p
 
 -- between a board of n processes as its lock was had and as the lock went, this was done
 abbrev pub UnderLock : ℕ → (BoardState → BoardState → Type 0) → Type 0

@@ -1,9 +1,12 @@
 -- What a worker brings back.
-use Rattle.std.specs.Prelude.{◌≡◌, ℕ, ◌<◌, ◌≤◌, List, Bool, IfErr, IfOk, IfSome, IsTrue, Option, None, Some, Result, Ok, Err, length, slice_get, slice_index_or}
+use Rattle.std.specs.Prelude.{◌≡◌, ℕ, ◌<◌, ◌≤◌, List, Bool, IfErr, IfOk, IfSome, IsTrue, Option, None, Some, Result, Ok, Err, Vec, length, slice_get, slice_index_or}
+use Rattle.std.specs.declared.alloc.Global.{Global}
+use Rattle.om_manager.specs.declared.output_log.Output.{Output}
 use Rattle.om_process.specs.Images.{program_of}
 use Rattle.om_process.specs.Process.{Program}
 use Rattle.om_process.specs.declared.image.Image.{Image}
-use Rattle.om_runner.specs.Reports.{IsEnd, IsStatusAlong, process_of}
+use Rattle.om_process.specs.declared.status.Status.{Status}
+use Rattle.om_runner.specs.Reports.{IsEnd, IsWholeRun, process_of}
 use Rattle.om_runner.specs.declared.config.Config.{Config}
 use Rattle.om_runner.specs.declared.fault.RunFault.{RunFault}
 use Rattle.om_runner.specs.declared.fault.RunFault.TheVariants.{Turns, GateShut, Memory, Fault, Load, NoThread}
@@ -16,20 +19,40 @@ use Rattle.om_runner.specs.steps.Nodes.{Member}
 use Rattle.om_runner.specs.steps.Places.{member_of}
 use Rattle.om_runner.specs.steps.Wiring.{HasEnds}
 
--- how a process ended, with its store and its passes
-pub record IsEndOf {S : Type 0} (is_clean : S → Bool) (program : Program) (lines : Lines) (own n : ℕ) (f : Finished S) : Type 0 where
+-- how a process ended, with its outputs, its store and its passes: over a clean store the outputs are all that it had made
+pub record IsEndOf {K S : Type 0} (is_clean : S → Bool) (program : Program) (lines : Lines) (own n : ℕ) (f : Finished K S) : Type 0 where
   pub ended : IsEnd f.status
-  pub along : IsTrue (is_clean f.store) → IsStatusAlong program own n f.status
+  pub own_is : f.harvest.own ≡ own
+  pub whole : IsTrue (is_clean f.store) → IsWholeRun program own n f.status (length f.harvest.outputs.items)
   pub ends : HasEnds n lines own f.ends
 
 -- a turn leaves the process the member that it is, or it has ended so
 abbrev pub IsTurned : {K S : Type 0} → (S → Bool) → Member → Turned K S → Type 0
 IsTurned is_clean m (On place pass) = member_of place ≡ m
-IsTurned is_clean m (Over status store) = IsEnd status × (IsTrue (is_clean store) → IsStatusAlong m.program m.own m.n status)
+IsTurned is_clean m (Over status harvest store) =
+    IsEnd status × (harvest.own ≡ m.own)
+    × (IsTrue (is_clean store) → IsWholeRun m.program m.own m.n status (length harvest.outputs.items))
+
+-- by process: where its store is clean, it comes to its status along its image, and its outputs are as many as it has then made
+abbrev pub AreWholeOver : {S : Type 0} → (S → Bool) → List Image → List Status → List (Vec Output Global) → List S → Type 0
+AreWholeOver is_clean images statuses released stores =
+    (p : ℕ) (image : Image) (status : Status) (outputs : Vec Output Global) (store : _)
+    → slice_get images p ≡ Some image → slice_get statuses p ≡ Some status → slice_get released p ≡ Some outputs
+    → slice_get stores p ≡ Some store → IsTrue (is_clean store)
+    → IsWholeRun (program_of image) p (length images) status (length outputs.items)
+
+-- by process: where its store is clean, it comes to its status along its image, and of the outputs that it has then made none
+-- is left out
+abbrev pub HaveAllOver : {S : Type 0} → (S → Bool) → List Image → List Status → List (Vec Output Global) → List S → Type 0
+HaveAllOver is_clean images statuses released stores =
+    (p : ℕ) (image : Image) (status : Status) (outputs : Vec Output Global) (store : _)
+    → slice_get images p ≡ Some image → slice_get statuses p ≡ Some status → slice_get released p ≡ Some outputs
+    → slice_get stores p ≡ Some store → IsTrue (is_clean store)
+    → (count : ℕ) × IsWholeRun (program_of image) p (length images) status count × (count ≤ length outputs.items)
 
 -- each of n workers that ended well ended so
-abbrev pub AreEndsOf : {S E : Type 0} → (S → Bool) → List Image → Lines → ℕ → List (Result (Finished S) E) → Type 0
-AreEndsOf is_clean images lines n results = (i : ℕ) (image : Image) (result : Result (Finished _) _) → i < n
+abbrev pub AreEndsOf : {K S E : Type 0} → (S → Bool) → List Image → Lines → ℕ → List (Result (Finished K S) E) → Type 0
+AreEndsOf is_clean images lines n results = (i : ℕ) (image : Image) (result : Result (Finished _ _) _) → i < n
     → IfOk (slice_index_or results i result) (λ f. IsEndOf is_clean (program_of (slice_index_or images i image)) lines i n f)
 
 -- what is promised is for this run, this image, these inboxes, this process, and so many

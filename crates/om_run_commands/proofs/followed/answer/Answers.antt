@@ -12,7 +12,7 @@ returns-clause-text g c =
     (g.W.Write.contents c.args.writer) (g.W.Write.contents run.result.1.writer) (g.W.Write.contents c.write_ends-written.new.writer)
     (run.result.1.programs.now ≡ c.programs-programs.result.now)
     c.in-Ok-ended.is c.programs-programs.ensures c.in-Ok.ensures.programs
-    run.ensures.released run.ensures.made run.ensures.processes run.ensures.statuses run.ensures.ended run.ensures.along run.ensures.told
+    run.ensures.released run.ensures.made run.ensures.processes run.ensures.statuses run.ensures.ended run.ensures.along run.ensures.all run.ensures.told
     c.deref.ensures.value c.write_ends-written.ensures.text
 
 pub returns-in-Err-clause-partly : goal.returns-in-Err-clause-partly

@@ -9,5 +9,5 @@ returns-clause-text g c =
     answer_of ((store : g.row.O-Store.Denot) → IsTrue (g.O.Store.Stable.is_clean store)) c.args.script.now c.programs-programs.result.now
     c.in_ok-config.config.images.items run.result c.in-Ok.report c.deref.result.now c.deref-2.result.now (string_bytes c.in_ok-run_text.field-0)
     c.in-Ok.is c.programs-programs.ensures c.in_ok-config.ensures.programs
-    run.ensures.released run.ensures.made run.ensures.processes run.ensures.statuses run.ensures.ended run.ensures.along
+    run.ensures.released run.ensures.made run.ensures.processes run.ensures.statuses run.ensures.ended run.ensures.along run.ensures.whole
     c.deref.ensures.value c.deref-2.ensures.value c.in_ok-run_text.ensures

@@ -1,22 +1,20 @@
-use Rattle.std.proofs.Common.{refl, subst, sym}
-use Rattle.om_board.specs.Made.{HoldsMade}
-use Rattle.om_manager.specs.State.{ManagerState}
-use Rattle.om_runner.specs.steps.Acts.{IsReadFrom}
+use Rattle.std.proofs.Common.{◌≡◌, ◌∙◌, ap, subst, sym}
+use Rattle.std.specs.Prelude.{Vec}
+use Rattle.std.specs.declared.alloc.Global.{Global}
+use Rattle.om_process.specs.declared.status.Status.{Status}
+use Rattle.om_runner.specs.steps.Ends.{AreWholeOver}
+use Rattle.om_runner.specs.steps.Harvests.{HarvestState, harvested}
 use Rattle.om_runner.proofs.cluster.close.Goals as goal
 
-pub returns-clause-read : goal.returns-clause-read
-returns-clause-read g c = (
-  _,
-  _,
-  c.manager.ensures.sound,
-  (
-    subst (λ (m : ManagerState). IsReadFrom m c.in-Ok.report) c.manager.ensures.manager (record { outputs = c.in-Ok.ensures.outputs; front = c.in-Ok.ensures.front }),
-    refl,
-  ),
-)
-
-pub returns-clause-made : goal.returns-clause-made
-returns-clause-made g c = λ clean.
-    let k = g.K.Naming in
-    let held = subst (HoldsMade k.programs k.cell.n) (sym c.manager.ensures.manager) (c.manager.ensures.made clean) in
-    c.in-Ok.ensures.made k.programs k.cell.n held
+pub returns-clause-whole : goal.returns-clause-whole
+returns-clause-whole g c =
+    let is_clean = g.O.Store.Stable.is_clean in
+    let images = c.args.cluster.now.plan.now.images.items in
+    let parts = c.args.parts in
+    let brought = c.settled-statuses in
+    let released = c.in-Ok.released.items in
+    let outputs : released ≡ harvested parts.harvests.items =
+    c.in-Ok.ensures.outputs ∙ ap (λ (v : Vec HarvestState Global). harvested v.items) brought.ensures.harvests in
+    subst (λ (v : Vec Status Global). AreWholeOver is_clean images v.items released brought.result.2.items) (sym brought.ensures.statuses)
+    (subst (λ (v : Vec _ Global). AreWholeOver is_clean images parts.statuses.items released v.items) (sym brought.ensures.stores)
+    (subst (λ os. AreWholeOver is_clean images parts.statuses.items os parts.stores.items) (sym outputs) c.requires.whole))

@@ -1,9 +1,8 @@
-use Rattle.std.proofs.Common.{◌≡◌, ◌≢◌, ◌∙◌, ℕ, List, length, map, ap, subst, sym}
+use Rattle.std.proofs.Common.{◌≡◌, ◌≢◌, ◌∙◌, ℕ, List, length, ap, subst, sym}
 use Rattle.std.specs.Prelude.{IfErr}
 use Rattle.om_board.specs.CellNames.{CellName}
 use Rattle.om_runner.proofs.FollowLemmas.{told_at_start}
 use Rattle.om_runner.proofs.ReportLemmas.{made_of_images}
-use Rattle.om_process.specs.Images.{program_of}
 use Rattle.om_process.specs.Process.{Program}
 use Rattle.om_runner.specs.Telling.{AreInOrder, AreToldMade, Told}
 use Rattle.om_runner.specs.declared.follower.FollowFault.TheVariants.{Unwanted}

@@ -1,9 +1,8 @@
-use Rattle.std.proofs.Common.{◌≡◌, ◌∙◌, ◌<◌, Some, ap, length, map, refl, rules, subst, sym}
+use Rattle.std.proofs.Common.{◌≡◌, ◌∙◌, ◌<◌, Some, ap, length, map, refl, rules}
 use Rattle.std.proofs.lemmas.Option.{slice_get_read}
 use Rattle.std.specs.Prelude.{slice_get, slice_index}
 use Rattle.om_board.proofs.MadeLemmas.{released_made}
 use Rattle.om_board.proofs.ReleasedLemmas.{released_at}
-use Rattle.om_board.specs.Released.{AreReleased}
 use Rattle.om_manager.specs.Outputs.{held_of}
 use Rattle.om_manager.specs.State.{released_by, size_of}
 use Rattle.om_runner.proofs.FollowLemmas.{kept_where, made_where, same_where}

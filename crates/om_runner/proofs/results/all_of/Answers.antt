@@ -1,4 +1,4 @@
-use Rattle.std.proofs.Common.{◌≡◌, inl, rules, subst, map, length}
+use Rattle.std.proofs.Common.{inl, subst, map, length}
 use Rattle.std.specs.Prelude.{Ok}
 use Rattle.om_runner.specs.steps.Ends.{AreBelow, IsLeastFault, IsWell}
 use Rattle.om_runner.proofs.FaultLemmas.{not_all_well, stands_next}

@@ -1,5 +1,4 @@
-use Rattle.std.proofs.Common.{◌≡◌, rules, refl, ap, ◌∙◌, sym, subst, Some, ◌+◌}
-use Rattle.std.specs.Prelude.{slice_get, Ok, Err}
+use Rattle.std.proofs.Common.{refl, ap, ◌∙◌, sym, subst, Some, ◌+◌}
 use Rattle.std.proofs.lemmas.Option.{slice_get-get_or}
 use Rattle.om_runner.specs.steps.Ends.{IsFirstOut, IsLeastFault, IsOut, IsWellOrOut}
 use Rattle.om_runner.proofs.FaultLemmas.{below_more, first_least, out_more, well_more}

@@ -20,4 +20,7 @@ loop-one-preserved g c =
       moved (λ f. f.ends.takes) _ _ _ _ _ _ next c.push_reserved-in-loop-one-3.ensures.items was.11,
       search rules,
       search rules,
+      search rules,
+      search rules,
+      moved (λ f. f.harvest) _ _ _ _ _ _ next c.push_reserved-in-loop-one-5.ensures.items was.16,
     )

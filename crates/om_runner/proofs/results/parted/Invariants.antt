@@ -18,3 +18,6 @@ invariant-loop-one g l =
     × (l.takes.items ++ map (λ f. f.ends.takes) (into_iter_items l.one-iterator) ≡ map (λ f. f.ends.takes) l.fn.all.items)
     × (vec_len l.witnesses + into_iter_len l.one-iterator ≡ vec_len l.fn.all)
     × (vec_len l.fn.all ≤ vec_capacity l.witnesses)
+    × (vec_len l.harvests + into_iter_len l.one-iterator ≡ vec_len l.fn.all)
+    × (vec_len l.fn.all ≤ vec_capacity l.harvests)
+    × (l.harvests.items ++ map (λ f. f.harvest) (into_iter_items l.one-iterator) ≡ map (λ f. f.harvest) l.fn.all.items)

@@ -1,5 +1,6 @@
-use Rattle.std.proofs.Common.{◌≡◌, None}
+use Rattle.std.proofs.Common.{◌≡◌, None, subst, sym}
 use Rattle.om_runner.proofs.FollowLemmas.{all_released, made_of_all, told_all, told_partly}
+use Rattle.om_runner.specs.steps.Harvests.{AreNoFewer}
 use Rattle.om_runner.proofs.following.Following.into_report.Goals as goal
 
 pub returns-in-Some-clause-partly : goal.returns-in-Some-clause-partly
@@ -14,6 +15,11 @@ returns-in_default-outputs_of-clause-partly g c = λ start was wanted.
 
 pub returns-clause-released : goal.returns-clause-released
 returns-clause-released g c = all_released c.args.self.front.vec c.args.self.lanes.items c.in-Ok.released.items c.in-Ok.ensures c.args.self.kept
+
+pub returns-clause-brought : goal.returns-clause-brought
+returns-clause-brought g c = λ few more.
+    let none : c.args.self.fault ≡ None = cc in
+    subst (AreNoFewer few) (sym c.in-Ok.ensures) (more none)
 
 pub returns-clause-made : goal.returns-clause-made
 returns-clause-made g c = λ clean.

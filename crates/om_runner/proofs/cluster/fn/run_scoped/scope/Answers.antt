@@ -1,4 +1,4 @@
-use Rattle.std.proofs.Common.{◌≡◌, ◌<◌, rules, ap, length, vec_len, get_or}
+use Rattle.std.proofs.Common.{◌≡◌, ◌<◌, rules, ap, vec_len, get_or}
 use Rattle.om_runner.proofs.FaultLemmas.{image_in, kept_end}
 use Rattle.om_runner.proofs.cluster.fn.run_scoped.scope.Goals as goal
 
