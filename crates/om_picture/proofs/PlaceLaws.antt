@@ -1,5 +1,5 @@
 -- Of two events the later one stands further right.
-use Rattle.std.proofs.Common.{◌≡◌, ◌∙◌, ◌<◌, ◌≤◌, ℕ, true, List, [], ◌∷◌, ◌++◌, length, max, refl, ap, sym, subst, arith, append_assoc}
+use Rattle.std.proofs.Common.{◌≡◌, ◌<◌, ◌≤◌, ℕ, true, List, [], ◌∷◌, ◌++◌, length, max, sym, subst, arith, append_assoc}
 use Rattle.std.proofs.lemmas.List.{append-nil}
 use Rattle.om_picture.specs.Fates.{Row}
 use Rattle.om_picture.specs.Places.{ArePlaced, IsPlacedBehind, has_column, rightmost}

@@ -13,7 +13,7 @@
 //! - where it stands: `placing` (the column of an event), `column`, `page` (all but the marks), `lane`, `frame` (messages),
 //!   `measure` (how wide texts are), `counts`
 //! - the pieces, and their text: `sheet`, `text` (the whole), `shape_text`, `word_text`, `answer_text`
-//! - `laws`: no byte of a name or a number needs an escape
+//! - `laws`: which events stand right of which, what is cut, stored and released; no byte of a name or a number needs an escape
 #![tactic(auto)]
 
 pub use ending::Drawn;
