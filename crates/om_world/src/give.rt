@@ -49,8 +49,14 @@ impl<S: Stable> World<S> {
                 self.live.add(entry);
                 Ok(Answer::Given(Accept::Taken(x)))
             }
-            Accept::Memory => Err(Refusal::Memory),
-            answer => Ok(Answer::Given(answer)),
+            Accept::Memory => {
+                drop(entry);
+                Err(Refusal::Memory)
+            }
+            answer => {
+                drop(entry);
+                Ok(Answer::Given(answer))
+            }
         }
     }
 }

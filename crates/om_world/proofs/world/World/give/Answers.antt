@@ -51,8 +51,8 @@ returns-in-Taken-clause-happened g c =
     offered_as_seen g.S.Stable.content g.S.Stable.is_clean g.S.Stable.failed g.S.Stable.IsSound _ _ _ _ _ _ c.args.p _ at _ _ c.self.invariant c.self.view_is c.index-message.result.now c.in_ok-told.told c.in_ok-told.ensures.offered c.add.new.self.entries (λ v z. GiveHappened v c.args.p c.args.f (accepts.Taken c.in-Taken.x) z)
     (given_taken _ c.args.p c.args.f c.in-Taken.x c.index-message.result.now c.in_ok-entry.entry _ c.add.new.self.entries up frame c.in_ok-entry.ensures o (c.add.ensures ∙ ap (λ l. l ++ c.in_ok-entry.entry ∷ []) c.in_ok-make_room.ensures.entries))
 
-pub invariant_of-self-in-Memory-1 : goal.invariant_of-self-in-Memory-1
-invariant_of-self-in-Memory-1 g c =
+pub invariant_of-self-in-Memory : goal.invariant_of-self-in-Memory
+invariant_of-self-in-Memory g c =
     let at = lent_at _ c.args.p _ (here g.S.Stable.content (health_of g.S.Stable.is_clean g.S.Stable.failed) g.S.Stable.IsSound _ _ _ _ _ _ c.args.p _ c.self.invariant c.self.view_is c.in_ok-is_up.ensures.there) c.index_mut-member.ensures.value in
     let o = offered_in g.S.Stable.content g.S.Stable.is_clean g.S.Stable.failed g.S.Stable.IsSound _ _ _ _ _ _ c.args.p _ at _ _ c.self.invariant c.self.view_is c.index-message.result.now c.in_ok-told.told c.in_ok-told.ensures.offered accepts.Memory c.in-Memory.is in
     offered_world g.S.Stable.content g.S.Stable.is_clean g.S.Stable.failed g.S.Stable.IsSound _ _ _ _ _ _ c.args.p _ at _ _ c.self.invariant c.self.view_is c.index-message.result.now c.in_ok-told.told c.in_ok-told.ensures.offered c.make_room.new.self.entries (after_none _ _ _ c.make_room.new.self.entries _ c.self.invariant c.in_ok-make_room.ensures.entries (none_taken _ _ c.args.p c.index-message.result.now accepts.Memory (λ x e. cc) o))
@@ -66,8 +66,8 @@ returns-in-Memory-clause-happened g c =
     offered_as_seen g.S.Stable.content g.S.Stable.is_clean g.S.Stable.failed g.S.Stable.IsSound _ _ _ _ _ _ c.args.p _ at _ _ c.self.invariant c.self.view_is c.index-message.result.now c.in_ok-told.told c.in_ok-told.ensures.offered c.make_room.new.self.entries (λ v z. Happened v (Event.Give c.args.p c.args.f) (answered (Err refusals.Memory)) z)
     (no_room _ _ c.args.p c.args.f c.index-message.result.now (Err refusals.Memory) up c.self.invariant.shape frame refl (none_given _ c.make_room.new.self.entries _ c.in_ok-make_room.ensures.entries (none_taken _ _ c.args.p c.index-message.result.now accepts.Memory (λ x e. cc) o)))
 
-pub invariant_of-self-in-Stranger-1 : goal.invariant_of-self-in-Stranger-1
-invariant_of-self-in-Stranger-1 g c =
+pub invariant_of-self-in_default : goal.invariant_of-self-in_default
+invariant_of-self-in_default g c =
     let at = lent_at _ c.args.p _ (here g.S.Stable.content (health_of g.S.Stable.is_clean g.S.Stable.failed) g.S.Stable.IsSound _ _ _ _ _ _ c.args.p _ c.self.invariant c.self.view_is c.in_ok-is_up.ensures.there) c.index_mut-member.ensures.value in
     let o = offered_in g.S.Stable.content g.S.Stable.is_clean g.S.Stable.failed g.S.Stable.IsSound _ _ _ _ _ _ c.args.p _ at _ _ c.self.invariant c.self.view_is c.index-message.result.now c.in_ok-told.told c.in_ok-told.ensures.offered c.in_ok-told.told refl in
     offered_world g.S.Stable.content g.S.Stable.is_clean g.S.Stable.failed g.S.Stable.IsSound _ _ _ _ _ _ c.args.p _ at _ _ c.self.invariant c.self.view_is c.index-message.result.now c.in_ok-told.told c.in_ok-told.ensures.offered c.make_room.new.self.entries (after_none _ _ _ c.make_room.new.self.entries _ c.self.invariant c.in_ok-make_room.ensures.entries (none_taken _ _ c.args.p c.index-message.result.now c.in_ok-told.told c.in_default.not-Taken o))
