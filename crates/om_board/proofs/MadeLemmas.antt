@@ -14,7 +14,7 @@ use Rattle.om_manager.specs.Notes.{IsNext, Notes, NotesOutput, Offer, after_note
 use Rattle.om_manager.specs.Outputs.{AreNumbered, HeldOutput, held_of}
 use Rattle.om_manager.specs.Rounds.{Fails, Failing, Finishes, Gathers, Joining}
 use Rattle.om_manager.specs.Sound.{IsManager}
-use Rattle.om_manager.specs.State.{ManagerState, held_by, released_by, size_of}
+use Rattle.om_manager.specs.State.{ManagerState, held_by, process_count, released_by}
 use Rattle.om_manager.specs.declared.answers.FailError.{FailError}
 use Rattle.om_manager.specs.declared.answers.Gathered.{Gathered}
 use Rattle.om_manager.specs.declared.answers.Gathered.TheVariants.{Finished, Waiting}
@@ -99,7 +99,7 @@ offered_made programs n (Err error) old new offer is notes one made =
     subst (HoldsMade programs n) (sym (refused_output (Err error) old new offer notes)) made
 
 -- ---- a round is finished
-pub released_had : (m : ManagerState) (p i : ℕ) (output : HeldOutput) → IsManager m → p < size_of m → slice_get (released_by m p) i ≡ Some output → slice_get (held_by m p) i ≡ Some output
+pub released_had : (m : ManagerState) (p i : ℕ) (output : HeldOutput) → IsManager m → p < process_count m → slice_get (released_by m p) i ≡ Some output → slice_get (held_by m p) i ≡ Some output
 released_had m p i output is within at =
     let prefix = is.released p within in
     subst (λ held. slice_get held i ≡ Some output) prefix.1 (at_front (released_by m p) prefix.0 i output at)
@@ -110,7 +110,7 @@ finished_made programs n presences old new is done made p i output at =
     let places = is.places in let many = done.places in
     elim (slice_get_cases old.outputs p).1 [
       | inl inside ↦
-          let lt = inside.1 in let within : p < size_of old = omega arith in
+          let lt = inside.1 in let within : p < process_count old = omega arith in
           made p i output (released_had old p i output is within (subst (λ held. slice_get held i ≡ Some output) (done.outputs p within) at))
       | inr past ↦
           let le = past.0 in let beyond : length new.outputs ≤ p = omega arith in
@@ -138,7 +138,7 @@ joined_made programs n old new p round current (Ok answer) is joining made = gat
 joined_made programs n old new p round current (Err error) is joining made = subst (HoldsMade programs n) (sym (refused_join old new p round current error joining)) made
 
 -- ---- what is read off a manager
-pub released_made : (programs : List Program) (n : ℕ) (m : ManagerState) (p : ℕ) (outputs : List Output) → IsManager m → p < size_of m
+pub released_made : (programs : List Program) (n : ℕ) (m : ManagerState) (p : ℕ) (outputs : List Output) → IsManager m → p < process_count m
     → map held_of outputs ≡ released_by m p → AreNumbered outputs → HoldsMade programs n m → AreMade programs n p outputs
 released_made programs n m p outputs is within held numbered made i o at =
     let there : slice_get (released_by m p) i ≡ Some (held_of o) = subst (λ hs. slice_get hs i ≡ Some (held_of o)) held (map_get held_of outputs i o at) in
@@ -146,7 +146,7 @@ released_made programs n m p outputs is within held numbered made i o at =
     subst (λ (x : Output). x.seq ≡ i) (get_or_from_slice_get outputs i o o at) (numbered i o (slice_get_within outputs i o at)) in
     subst (λ k. IsMade programs n p k (held_of o)) (sym number) (made p i (held_of o) (released_had m p i (held_of o) is within there))
 
-pub all_made : (programs : List Program) (n : ℕ) (m : ManagerState) (released : List (Vec Output Global)) → IsManager m → length released ≡ size_of m → AreReleasedBy m released
+pub all_made : (programs : List Program) (n : ℕ) (m : ManagerState) (released : List (Vec Output Global)) → IsManager m → length released ≡ process_count m → AreReleasedBy m released
     → HoldsMade programs n m → AreAllMade programs n released
 all_made programs n m released is many are made p outputs at =
     let lt = slice_get_within released p outputs at in let both = are p outputs at in

@@ -6,7 +6,7 @@ use Rattle.crossbeam_channel.specs.Fifo.{Pushes, Pops, Forks, Merges, Learns}
 use Rattle.atomic_table.proofs.Lists.{at_set, at_snoc}
 use Rattle.om_format.specs.declared.message.Message.{Message}
 use Rattle.om_board.specs.declared.hand.Hand.{Hand}
-use Rattle.om_board.specs.steps.Order.{hand, Fits, Relayed, IsOfPair, Puts, Takes}
+use Rattle.om_board.specs.steps.Order.{hand, FitsLine, Relayed, IsOfPair, Puts, Takes}
 use Rattle.om_board.specs.Inboxes.{IsEndOf}
 use Rattle.std.proofs.lemmas.List.Elements.{All-push}
 
@@ -37,7 +37,7 @@ nothing : (P : Message → Type 0) → All P []
 nothing P = λ k d below. absurd (omega arith)
 
 pub begins : Relayed [] (hand true true 0 0 [] [] ∷ [])
-begins = (0, 0, 0, 0, [], [], refl, nothing (IsOfPair 0 0), all_set (Fits 0 0 0 0 [] []) (hand true true 0 0 [] [] ∷ []) 0 (hand true true 0 0 [] []) ((λ _. (refl, refl, refl, refl)), λ _. (refl, refl, refl, refl)) (λ j u other e. absurd (other (at_end [] _ u j (λ x. some-ne-none u (sym x)) e))))
+begins = (0, 0, 0, 0, [], [], refl, nothing (IsOfPair 0 0), all_set (FitsLine 0 0 0 0 [] []) (hand true true 0 0 [] [] ∷ []) 0 (hand true true 0 0 [] []) ((λ _. (refl, refl, refl, refl)), λ _. (refl, refl, refl, refl)) (λ j u other e. absurd (other (at_end [] _ u j (λ x. some-ne-none u (sym x)) e))))
 
 pub sends : (n port : ℕ) (v : Hand) (x : Message) → v.puts ≡ true → IsOfPair v.from v.to x → Pushes Relayed n port v x (λ w. Puts v x w)
 sends n port v x may pair items views _ h at =
@@ -55,7 +55,7 @@ sends n port v x may pair items views _ h at =
         h.5,
         ap (λ l. l ++ x ∷ []) h.6 ∙ append_assoc h.5 items (x ∷ []),
         All-push (IsOfPair h.2 h.3) h.4 x h.7 (pair.0 ∙ known.2, pair.1 ∙ known.3),
-        all_set (Fits h.0 h.1 h.2 h.3 put h.5) views port w
+        all_set (FitsLine h.0 h.1 h.2 h.3 put h.5) views port w
             ((λ _. (known.0, ap (λ l. l ++ x ∷ []) known.1, known.2, known.3)), mine.1)
             (λ j u other e. ((λ p. absurd (other (((h.8 j u e).0 p).0 ∙ sym known.0))), (h.8 j u e).1)),
       ),
@@ -82,7 +82,7 @@ gets port v may x items views h at =
         taken,
         h.6 ∙ sym (append_assoc h.5 (x ∷ []) items),
         h.7,
-        all_set (Fits h.0 h.1 h.2 h.3 h.4 taken) views port w
+        all_set (FitsLine h.0 h.1 h.2 h.3 h.4 taken) views port w
             (mine.0, λ _. (known.0, ap (λ l. l ++ x ∷ []) known.1, known.2, known.3))
             (λ j u other e. ((h.8 j u e).0, λ p. absurd (other (((h.8 j u e).1 p).0 ∙ sym known.0)))),
       ),
@@ -141,12 +141,12 @@ merges port v other u b a items views h at two at' =
     let vs : List Hand = set views port both in
     let was : get_elem? views other ≡ some u = ⊎_elim (λ x. absurd (two x.0)) (λ x. x.1) (at_set views port other both u at') in
     let theirs = (h.8 other u was).0 a in
-    let Now : ℕ → Hand → Type 0 = λ j y. j ≢ other → Fits port h.1 h.2 h.3 h.4 h.5 j y in
+    let Now : ℕ → Hand → Type 0 = λ j y. j ≢ other → FitsLine port h.1 h.2 h.3 h.4 h.5 j y in
     let now : Each Now vs =
     all_set Now views port both
     (λ _. ((λ _. (refl, theirs.1, mine.2, mine.3)), λ _. mine))
     (λ j y _ e apart. ((λ p. absurd (apart (((h.8 j y e).0 p).0 ∙ sym theirs.0))), (h.8 j y e).1)) in
-    (port, h.1, h.2, h.3, h.4, h.5, h.6, h.7, all_set (Fits port h.1 h.2 h.3 h.4 h.5) vs other (hand false false 0 0 [] []) ((λ p. absurd (off p)), λ p. absurd (off p)) (λ j y apart e. now j y e apart))
+    (port, h.1, h.2, h.3, h.4, h.5, h.6, h.7, all_set (FitsLine port h.1 h.2 h.3 h.4 h.5) vs other (hand false false 0 0 [] []) ((λ p. absurd (off p)), λ p. absurd (off p)) (λ j y apart e. now j y e apart))
 
 pub totals : (port : ℕ) (v : Hand) → v.puts ≡ true → v.takes ≡ true → Learns Relayed port v (λ items. v.put ≡ v.taken ++ items)
 totals port v puts takes items views h at = left port v takes items views h at puts

@@ -12,7 +12,7 @@ use Rattle.crossbeam_utils.specs.Register.{Turns, Forks, Merges}
 use Rattle.atomic_table.proofs.Lists.{at_set, at_snoc, set_again}
 use Rattle.om_interval.proofs.VectorLemmas.{below_through}
 use Rattle.om_board.specs.declared.cell.View.{View}
-use Rattle.om_board.specs.steps.Posting.{AreWords, Grows, IsLog, IsLastOf, writer, reader, zero_words, Fits, Kept, Loads, Stores, Meets, opened, shown_to}
+use Rattle.om_board.specs.steps.Posting.{AreWords, Grows, IsLog, IsLastOf, writer, reader, zero_words, FitsLog, Kept, Loads, Stores, Meets, opened, shown_to}
 
 -- lists of words
 
@@ -65,12 +65,12 @@ one_log words are = record {
 -- views
 
 fits_set : (seat : ℕ) (log : List (List ℕ)) (views : List View) (by : ℕ) (w : View)
-    → ((j : ℕ) (u : View) → j ≢ by → get_elem? views j ≡ some u → Fits seat log j u)
-    → Fits seat log by w
-    → (j : ℕ) (u : View) → get_elem? (set views by w) j ≡ some u → Fits seat log j u
+    → ((j : ℕ) (u : View) → j ≢ by → get_elem? views j ≡ some u → FitsLog seat log j u)
+    → FitsLog seat log by w
+    → (j : ℕ) (u : View) → get_elem? (set views by w) j ≡ some u → FitsLog seat log j u
 fits_set seat log views by w others mine j u e =
     ⊎_elim
-    (λ (x : (j ≡ by) × (w ≡ u)). subst (λ (y : ℕ × View). Fits seat log y.0 y.1) (λ i. (sym x.0 i, x.1 i)) mine)
+    (λ (x : (j ≡ by) × (w ≡ u)). subst (λ (y : ℕ × View). FitsLog seat log y.0 y.1) (λ i. (sym x.0 i, x.1 i)) mine)
     (λ (x : (j ≢ by) × (get_elem? views j ≡ some u)). others j u x.0 x.1)
     (at_set views by j w u e)
 
@@ -87,8 +87,8 @@ zeros_are_words = record { whole = refl; fit = λ place some. all_zero place }
 pub begins : Kept zero_words (writer (zero_words ∷ []) ∷ [])
 begins = (0, zero_words ∷ [], ([], refl), one_log zero_words zeros_are_words, one)
   where
-    one : (by : ℕ) (v : View) → get_elem? (writer (zero_words ∷ []) ∷ []) by ≡ some v → Fits 0 (zero_words ∷ []) by v
-    one zero v e = subst (Fits 0 (zero_words ∷ []) 0) (some-injective _ _ e) ((λ _. (refl, refl)), whole_prefix (zero_words ∷ []), no_prefix (zero_words ∷ []))
+    one : (by : ℕ) (v : View) → get_elem? (writer (zero_words ∷ []) ∷ []) by ≡ some v → FitsLog 0 (zero_words ∷ []) by v
+    one zero v e = subst (FitsLog 0 (zero_words ∷ []) 0) (some-injective _ _ e) ((λ _. (refl, refl)), whole_prefix (zero_words ∷ []), no_prefix (zero_words ∷ []))
     one (suc by) v e = absurd (some-ne-none v (sym e))
 
 pub loads : (by : ℕ) (v : View) → v.writes ≡ false → Turns Kept by v (λ x. x) Loads
@@ -138,7 +138,7 @@ meets by v writes words views h at =
       (refl, subst (IsPrefix v.shown) (sym known.1) mine.2),
     )
 
-forks : (by : ℕ) (v right : View) → ((seat : ℕ) (log : List (List ℕ)) (j : ℕ) → Fits seat log by v → Fits seat log j right) → Forks Kept by v v right
+forks : (by : ℕ) (v right : View) → ((seat : ℕ) (log : List (List ℕ)) (j : ℕ) → FitsLog seat log by v → FitsLog seat log j right) → Forks Kept by v v right
 forks by v right new words views h at = (
   h.0,
   h.1,
@@ -146,7 +146,7 @@ forks by v right new words views h at = (
   h.3,
   λ j u e. ⊎_elim
       (λ was. h.4 j u (subst (λ l. get_elem? l j ≡ some u) (set_again views by v at) was))
-      (λ (same : right ≡ u). subst (Fits h.0 h.1 j) same (new h.0 h.1 j (h.4 by v at)))
+      (λ (same : right ≡ u). subst (FitsLog h.0 h.1 j) same (new h.0 h.1 j (h.4 by v at)))
       (at_snoc (set views by v) right u j e),
 )
 

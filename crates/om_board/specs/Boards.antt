@@ -1,7 +1,7 @@
 use Rattle.std.specs.Prelude.{◌≡◌, ◌≢◌, ℕ, ◌<◌, List, map, replicate, slice_index_or, sum, take, Bool, true, false, None}
 use Rattle.om_interval.specs.declared.pid.TheConstants.{MAX_PROCESSES}
 use Rattle.om_interval.specs.Starts.{is_named}
-use Rattle.om_manager.specs.State.{ManagerState, size_of}
+use Rattle.om_manager.specs.State.{ManagerState, process_count}
 use Rattle.om_manager.specs.Sound.{IsManager}
 use Rattle.om_board.specs.Fronts.{front_of, IsPosted, EndsWith}
 use Rattle.om_board.specs.Waits.{DoWait, put_by, taken_by}
@@ -28,7 +28,7 @@ all_owe = replicate MAX_PROCESSES Owes
 -- manager's; and while a gathering is open nobody is quiet, and each process owes its messages anew
 pub record IsBoard (n : ℕ) (b : BoardState) : Type 0 where
   pub manager : IsManager b.manager
-  pub places : size_of b.manager ≡ n
+  pub places : process_count b.manager ≡ n
   pub posted : IsPosted b.posted
   pub last : EndsWith b.posted (front_of b.manager)
   pub gathers : b.manager.gathering ≢ None → b.quiet ≡ nobody

@@ -4,7 +4,7 @@ ghost use Rattle.om_interval.specs.Vectors.{IsBelow};
 ghost use Rattle.om_interval.specs.declared.pid.TheConstants.{MAX_PROCESSES};
 ghost use Rattle.om_recover.specs.Records.{log_of, checkpoint_of};
 ghost use Rattle.om_recover.specs.Cutting.{IsPruned};
-ghost use Rattle.om_manager.specs.State.{size_of};
+ghost use Rattle.om_manager.specs.State.{process_count};
 ghost use Rattle.om_manager.specs.Sound.{KeepsReleased};
 ghost use Rattle.om_manager.specs.Notes.{Notes, NotesOutput};
 ghost use Rattle.om_manager.specs.Rounds.{Failing, Joining};
@@ -53,7 +53,7 @@ impl<K: Naming> Model for Board<K> {
 impl<K: Naming> Board<K> {
     // The board of a manager at its start.
     pub(crate) fn new(manager: Manager, writer: Writer<K>) -> Board<K>
-        requires places { size_of manager ≡ K.cell.n }
+        requires places { process_count manager ≡ K.cell.n }
         requires first { front_of manager ≡ first_front K.cell.n }
         requires outputs { manager.outputs ≡ replicate K.cell.n [] }
         requires posted { writer ≡ first_front K.cell.n ∷ [] }
@@ -232,10 +232,10 @@ impl<K: Naming> Board<K> {
     /// Reports a process as quiet, where `round` is the manager's and no gathering is open, and says whether all are. When a
     /// gathering opens, nobody is quiet any longer.
     pub fn quiet(&mut self, pid: Pid, round: u32) -> bool
-        requires { pid < size_of self.old.manager }
+        requires { pid < process_count self.old.manager }
         ensures reported { MayRest self.old round → self.new ≡ record self.old { quiet = slice_set self.old.quiet pid true } }
         ensures passed_over { (MayRest self.old round → ⊥) → self.new ≡ self.old }
-        ensures all { IsTrue result ↔ AreAllQuiet (size_of self.new.manager) self.new.quiet }
+        ensures all { IsTrue result ↔ AreAllQuiet (process_count self.new.manager) self.new.quiet }
     {
         if round == self.manager.round() && !self.manager.gathering() {
             self.report(pid);
@@ -253,7 +253,7 @@ impl<K: Naming> Board<K> {
     /// Tells that the process puts all messages that it keeps anew from now on, where `round` is the manager's and no gathering
     /// is open. If it waited, it does so no longer.
     pub fn offer(&mut self, pid: Pid, round: u32)
-        requires { pid < size_of self.old.manager }
+        requires { pid < process_count self.old.manager }
         ensures told { MayRest self.old round → self.new ≡ record self.old { waiting = slice_set self.old.waiting pid Offers } }
         ensures passed_over { (MayRest self.old round → ⊥) → self.new ≡ self.old }
     {
@@ -272,10 +272,10 @@ impl<K: Naming> Board<K> {
     /// before, and after its process had last run or received. So it was received, then or before, or its receiver has ended. A resend brings nothing else, no process can go on without a
     /// message, none that has ended goes on at all, and only a receipt makes one fail: until the run ends, nothing happens.
     pub fn wait(&mut self, pid: Pid, round: u32, put: u64, taken: u64) -> bool
-        requires { pid < size_of self.old.manager }
+        requires { pid < process_count self.old.manager }
         ensures told { MayWait self.old pid round → self.new ≡ record self.old { waiting = slice_set self.old.waiting pid (Waits put taken) } }
         ensures passed_over { (MayWait self.old pid round → ⊥) → self.new ≡ self.old }
-        ensures all { IsTrue result ↔ DoAllWait (size_of self.new.manager) self.new }
+        ensures all { IsTrue result ↔ DoAllWait (process_count self.new.manager) self.new }
     {
         let owes = self.waiting[pid.index()].owes();
         if round == self.manager.round() && !self.manager.gathering() && !owes {
@@ -286,7 +286,7 @@ impl<K: Naming> Board<K> {
 
     /// Takes back that the process waits, before it runs, puts or takes. It has not to put what it keeps anew for that.
     pub fn withdraw(&mut self, pid: Pid)
-        requires { pid < size_of self.old.manager }
+        requires { pid < process_count self.old.manager }
         ensures told { (put taken : ℕ) → told_by self.old pid ≡ Waits put taken
             → self.new ≡ record self.old { waiting = slice_set self.old.waiting pid Offers } }
         ensures passed_over { ((put taken : ℕ) → told_by self.old pid ≢ Waits put taken) → self.new ≡ self.old }
@@ -312,7 +312,7 @@ impl<K: Naming> Board<K> {
     }
 
     fn do_all_wait(&self) -> bool
-        ensures { IsTrue result ↔ DoAllWait (size_of self.now.manager) self.now }
+        ensures { IsTrue result ↔ DoAllWait (process_count self.now.manager) self.now }
     {
         let n = self.manager.recovery().n();
         all_wait(&self.waiting, n)

@@ -5,7 +5,7 @@ ghost use Rattle.om_board.specs.Fronts.{front_of};
 ghost use Rattle.om_board.specs.Made.{AreAllMade, HoldsMade};
 ghost use Rattle.om_board.specs.Released.{AreAllReleased, AreReleasedBy};
 ghost use Rattle.om_manager.specs.Outputs.{AreNumbered, held_of};
-ghost use Rattle.om_manager.specs.State.{released_by as held_within, size_of};
+ghost use Rattle.om_manager.specs.State.{process_count, released_by as held_within};
 ghost use Rattle.om_process.specs.Process.{Program};
 
 use crate::front::Front;
@@ -51,7 +51,7 @@ fn copied(alloc: Global, outputs: &[Output]) -> Result<Vec<Output>, AllocError>
 
 // The released outputs of a process.
 fn released_of(alloc: Global, manager: &Manager, pid: Pid) -> Result<Vec<Output>, AllocError>
-    requires { pid < size_of manager.now }
+    requires { pid < process_count manager.now }
     ensures held { IfOk result (λ outputs. map held_of outputs.items ≡ held_within manager.now pid) }
     ensures numbered { IfOk result (λ outputs. AreNumbered outputs.items) }
 {
@@ -60,7 +60,7 @@ fn released_of(alloc: Global, manager: &Manager, pid: Pid) -> Result<Vec<Output>
 
 // The released outputs of each process.
 fn released_by(alloc: Global, manager: &Manager) -> Result<Vec<Vec<Output>>, AllocError>
-    ensures long { IfOk result (λ released. length released.items ≡ size_of manager.now) }
+    ensures long { IfOk result (λ released. length released.items ≡ process_count manager.now) }
     ensures released { IfOk result (λ released. AreReleasedBy manager.now released.items) }
 {
     let n = manager.recovery().n();
@@ -75,7 +75,7 @@ impl Report {
     /// The released outputs and the front of a manager, with how the processes ended.
     pub fn of(alloc: Global, manager: &Manager, statuses: Vec<Status>) -> Result<Report, AllocError>
         ensures outputs { IfOk result (λ report. AreReleasedBy manager.now report.released.items) }
-        ensures processes { IfOk result (λ report. length report.released.items ≡ size_of manager.now) }
+        ensures processes { IfOk result (λ report. length report.released.items ≡ process_count manager.now) }
         ensures statuses { IfOk result (λ report. report.statuses ≡ statuses) }
         ensures front { IfOk result (λ report. report.front ≡ front_of manager.now) }
         ensures released { IfOk result (λ report. AreAllReleased report.front.vec report.released.items) }

@@ -1,10 +1,10 @@
 -- A process that has ended, all of whose outputs are released, has put out exactly those.
 use Rattle.std.proofs.Common.{◌≡◌, ◌⊎◌, inl, inr, ℕ, zero, suc, ◌+◌, ◌≤◌, ◌<◌, List, [], ◌∷◌, ◌++◌, length, map, replicate, Some, refl, sym, ap, subst, ◌∙◌, arith, length-append}
 use Rattle.std.specs.Prelude.{slice_get}
-use Rattle.om_format.specs.declared.queue.Entry as kept
+use Rattle.om_format.specs.declared.queue.QueueEntry.{QueueEntry}
 use Rattle.om_format.specs.Queues.{QueueRecord, queue_end}
 use Rattle.om_process.specs.Claims.{HasEntry}
-use Rattle.om_process.specs.Core.{CoreState, move_of, size_of, status_of}
+use Rattle.om_process.specs.Core.{CoreState, IsEnd, cluster_size, move_of, status_of}
 use Rattle.om_process.specs.Kept.{queue_at}
 use Rattle.om_process.specs.Parts.{Grow, Keeps, KeepsQueue, KeepQueues}
 use Rattle.om_process.specs.Process.{Process, Program, Received, Move, Waits, Ends, Traps, Goes, Emits, empty_queue, made, moved, started}
@@ -20,8 +20,8 @@ use Rattle.om_world.specs.Holds.{StandsAt}
 use Rattle.om_world.specs.Live.{Legal, program_at, received}
 use Rattle.om_world.specs.World.{WorldState, output_entry}
 use Rattle.om_world.specs.declared.place.Place.{Place}
-use Rattle.om_check.specs.FailureFree.{ComesTo, IsEnd, IsRunBy}
-use Rattle.om_check.specs.Whole.{AreOutputsOf, AreStatusesOf, IsWhole}
+use Rattle.om_check.specs.FailureFree.{ComesTo, IsRunBy}
+use Rattle.om_check.specs.Whole.{AreReleasedIn, AreStatusesOf, IsWhole}
 
 -- ---- queues from 0 on
 abbrev FromZero : List QueueRecord → Type 0
@@ -49,7 +49,7 @@ zero_at (q ∷ qs) zero z = z.0
 zero_at (q ∷ qs) (suc place) z = zero_at qs place z.1
 
 -- what a queue from 0 on has under a number stands at that place
-at_number : (qs : List QueueRecord) (place i : ℕ) (e : kept.Entry) → FromZero qs → HasEntry qs place i e → slice_get (queue_at qs place).entries i ≡ Some e
+at_number : (qs : List QueueRecord) (place i : ℕ) (e : QueueEntry) → FromZero qs → HasEntry qs place i e → slice_get (queue_at qs place).entries i ≡ Some e
 at_number [] place i e z h = absurd h
 at_number (q ∷ qs) zero i e z h =
     let at : i ≡ q.first + h.0 = h.1 in
@@ -73,7 +73,7 @@ same_end (f ∷ fs) (q ∷ qs) zero k = one f q k.0
 same_end (f ∷ fs) (q ∷ qs) (suc place) k = same_end fs qs place k.1
 
 -- lists that have the same at each place
-same_list : (es : List kept.Entry) (os : List HeldOutput) → length es ≡ length os
+same_list : (es : List QueueEntry) (os : List HeldOutput) → length es ≡ length os
     → ((i : ℕ) (o : HeldOutput) → slice_get os i ≡ Some o → slice_get es i ≡ Some (output_entry o)) → es ≡ map output_entry os
 same_list [] [] long all = refl
 same_list [] (o ∷ os) long all = absurd (omega (arith, long))
@@ -82,7 +82,7 @@ same_list (e ∷ es) (o ∷ os) long all =
     let head : e ≡ output_entry o = once (all 0 o refl) in
     ap (λ x. x ∷ es) head ∙ ap (λ xs. output_entry o ∷ xs) (same_list es os (omega (arith, long)) (λ i p at. all (suc i) p at))
   where
-    once : {a b : kept.Entry} → Some a ≡ Some b → a ≡ b
+    once : {a b : QueueEntry} → Some a ≡ Some b → a ≡ b
     once same = cc
 
 -- ---- nothing comes after the end
@@ -98,7 +98,7 @@ last own n zero s t end a = a
 last own n (suc k) s t end a = absurd (no_move s (next_move own n s.machine (made s.queues)) a.0 end a.1)
 
 -- what another state along the same receipts has, the end has
-end_has : (program : Program) (own n place number : ℕ) (h : List Received) (s t : Process) (e : kept.Entry)
+end_has : (program : Program) (own n place number : ℕ) (h : List Received) (s t : Process) (e : QueueEntry)
     → Reaches program own n h s → Reaches program own n h t → IsEnd (status_of (next_move own n t.machine (made t.queues)))
     → HasEntry s.queues place number e → HasEntry t.queues place number e
 end_has program own n place number h s t e a b end has = go (le_or a.0 b.0)
@@ -138,7 +138,7 @@ core_once same = cc
 
 -- by the parts of what is known of one process
 ends_so : (w : WorldState) (program : Program) (p n : ℕ) (h : List Received) (c : CoreState) (whole s : Process) (outputs : List HeldOutput)
-    → c.own ≡ p → size_of c.now ≡ n → IsEnd (status_of (move_of c)) → made_by c ≡ length outputs
+    → c.own ≡ p → cluster_size c.now ≡ n → IsEnd (status_of (move_of c)) → made_by c ≡ length outputs
     → Reaches program p n h whole → Keeps whole c.now → Reaches program p n h s
     → ((i : ℕ) (o : HeldOutput) → slice_get outputs i ≡ Some o → HasEntry s.queues n i (output_entry o))
     → ComesTo program p n h outputs (status_of (move_of c))
@@ -152,7 +152,7 @@ ends_so w program p n h c whole s outputs own size ended number reaches keeps ot
   where
     same : move_of c ≡ next_move p n whole.machine (made whole.queues)
     same =
-        ap (λ o. next_move o (size_of c.now) c.now.machine (made c.now.queues)) own
+        ap (λ o. next_move o (cluster_size c.now) c.now.machine (made c.now.queues)) own
         ∙ ap (λ k. next_move p k c.now.machine (made c.now.queues)) size
         ∙ same_move p n whole c.now keeps
 
@@ -179,7 +179,7 @@ ends_so w program p n h c whole s outputs own size ended number reaches keeps ot
     queue_is : (q : QueueRecord) → q.first ≡ 0 → q.entries ≡ map output_entry outputs → q ≡ record { first = 0; entries = map output_entry outputs }
     queue_is q none es =
         ap (λ (f : ℕ). record { first = f; entries = q.entries }) none
-        ∙ ap (λ (xs : List kept.Entry). record { first = 0; entries = xs }) es
+        ∙ ap (λ (xs : List QueueEntry). record { first = 0; entries = xs }) es
 
 comes_to : (programs : List Program) (w : WorldState) (p : ℕ) (program : Program) (c : CoreState) → IsWhole programs w
     → slice_get programs p ≡ Some program → slice_get w.cores p ≡ Some (Some c)
@@ -197,7 +197,7 @@ comes_to programs w p program c whole at core =
     subst (λ n. ComesTo program p n (received p w.live) (released_by w.manager p) (status_of (move_of c))) long
     (ends_so w program p (length w.programs) (received p w.live) c stands.whole first.0 (released_by w.manager p)
     (subst (λ (d : CoreState). d.own ≡ p) is done.2)
-    (subst (λ (d : CoreState). size_of d.now ≡ length w.programs) is done.3)
+    (subst (λ (d : CoreState). cluster_size d.now ≡ length w.programs) is done.3)
     (subst (λ (d : CoreState). IsEnd (status_of (move_of d))) is done.4)
     (subst (λ (d : CoreState). made_by d ≡ length (released_by w.manager p)) is done.5)
     (subst (λ q. Reaches q p (length w.programs) (received p w.live) stands.whole) mine stands.reaches)
@@ -207,7 +207,7 @@ comes_to programs w p program c whole at core =
 
 -- all of its processes do
 pub whole_run : (programs : List Program) (w : WorldState) (outputs : List (List HeldOutput)) (statuses : List Status) → IsWhole programs w
-    → length outputs ≡ length programs → length statuses ≡ length programs → AreOutputsOf w outputs → AreStatusesOf w statuses
+    → length outputs ≡ length programs → length statuses ≡ length programs → AreReleasedIn w outputs → AreStatusesOf w statuses
     → IsRunBy programs w.live outputs statuses
 whole_run programs w outputs statuses whole processes ends outs stats = record {
   legal = subst (λ ps. Legal ps w.live) whole.way.these whole.way.holds.legal;

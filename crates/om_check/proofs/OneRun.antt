@@ -1,9 +1,9 @@
 -- What was received in a run without failures determines what it comes to.
 use Rattle.std.proofs.Common.{◌≡◌, ◌⊎◌, inl, inr, ℕ, zero, suc, ◌≤◌, ◌<◌, List, [], ◌∷◌, length, map, Some, refl, sym, ap, subst, ◌∙◌, arith}
 use Rattle.std.specs.Prelude.{slice_get}
-use Rattle.om_format.specs.declared.queue.Entry as kept
+use Rattle.om_format.specs.declared.queue.QueueEntry.{QueueEntry}
 use Rattle.om_format.specs.Queues.{QueueRecord}
-use Rattle.om_process.specs.Core.{status_of}
+use Rattle.om_process.specs.Core.{IsEnd, status_of}
 use Rattle.om_process.specs.Kept.{queue_at}
 use Rattle.om_process.specs.Process.{Process, Program, Received, made, started}
 use Rattle.om_process.specs.Turns.{Reaches, Turns, next_move}
@@ -13,7 +13,7 @@ use Rattle.om_manager.specs.Outputs.{HeldOutput}
 use Rattle.om_world.specs.declared.entry.Entry.{Entry}
 use Rattle.om_world.specs.Live.{received}
 use Rattle.om_world.specs.World.{output_entry}
-use Rattle.om_check.specs.FailureFree.{ComesTo, IsEnd, IsRunBy}
+use Rattle.om_check.specs.FailureFree.{ComesTo, IsRunBy}
 use Rattle.om_check.proofs.Ending.{below, last}
 
 -- the receipts lead to one end at most
@@ -37,7 +37,7 @@ one_end program own n h s t a b s_ends t_ends = go (le_or a.0 b.0)
 
 -- entries are those of one list of outputs
 one_output : (o p : HeldOutput) → output_entry o ≡ output_entry p → o ≡ p
-one_output o p same = ap (λ (e : kept.Entry). record { interval = e.interval; bytes = e.body }) same
+one_output o p same = ap (λ (e : QueueEntry). record { interval = e.interval; bytes = e.body }) same
 
 head_is : {A : Type 0} (x y : A) (xs ys : List A) → x ∷ xs ≡ y ∷ ys → x ≡ y
 head_is x y xs ys same = cc

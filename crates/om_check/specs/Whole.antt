@@ -1,16 +1,14 @@
 -- A world in which a run without failures has come to its end.
 use Rattle.std.specs.Prelude.{◌≡◌, ℕ, ◌<◌, List, Some, length, replicate, slice_get}
-use Rattle.om_process.specs.Core as cores
-use Rattle.om_process.specs.Core.{CoreState, move_of, status_of}
+use Rattle.om_process.specs.Core.{CoreState, IsEnd, cluster_size, move_of, status_of}
 use Rattle.om_process.specs.Process.{Program}
 use Rattle.om_process.specs.declared.status.Status.{Status}
 use Rattle.om_manager.specs.Outputs.{HeldOutput}
-use Rattle.om_manager.specs.State.{released_by, size_of}
+use Rattle.om_manager.specs.State.{process_count, released_by}
 use Rattle.om_world.specs.Changes.{made_by}
 use Rattle.om_world.specs.declared.place.Place.{Place}
 use Rattle.om_world.specs.Holds.{Holds}
 use Rattle.om_world.specs.World.{WorldState, IsKnown}
-use Rattle.om_check.specs.FailureFree.{IsEnd}
 
 -- a world of these programs, at a point of a run without failures, with all processes up
 pub record IsUnderWay (programs : List Program) (w : WorldState) : Type 0 where
@@ -18,15 +16,15 @@ pub record IsUnderWay (programs : List Program) (w : WorldState) : Type 0 where
   pub places : w.places ≡ replicate (length programs) Place.Up
   pub known : IsKnown w
   pub holds : Holds w
-  pub managed : size_of w.manager ≡ length programs
+  pub managed : process_count w.manager ≡ length programs
 
 -- so is the one world where the other was
-abbrev pub GoesOn : WorldState → WorldState → Type 0
-GoesOn old new = (programs : List Program) → IsUnderWay programs old → IsUnderWay programs new
+abbrev pub StaysUnderWay : WorldState → WorldState → Type 0
+StaysUnderWay old new = (programs : List Program) → IsUnderWay programs old → IsUnderWay programs new
 
 -- the process has come to an end, and all that it put out is released
 abbrev pub IsDone : WorldState → ℕ → Type 0
-IsDone w p = (c : CoreState) × (slice_get w.cores p ≡ Some (Some c)) × (c.own ≡ p) × (cores.size_of c.now ≡ length w.programs)
+IsDone w p = (c : CoreState) × (slice_get w.cores p ≡ Some (Some c)) × (c.own ≡ p) × (cluster_size c.now ≡ length w.programs)
     × IsEnd (status_of (move_of c)) × (made_by c ≡ length (released_by w.manager p))
 
 -- all have
@@ -35,8 +33,8 @@ pub record IsWhole (programs : List Program) (w : WorldState) : Type 0 where
   pub done : (p : ℕ) → p < length programs → IsDone w p
 
 -- the outputs of each process are those that are released
-abbrev pub AreOutputsOf : WorldState → List (List HeldOutput) → Type 0
-AreOutputsOf w outputs = (p : ℕ) (out : List HeldOutput) → slice_get outputs p ≡ Some out → out ≡ released_by w.manager p
+abbrev pub AreReleasedIn : WorldState → List (List HeldOutput) → Type 0
+AreReleasedIn w outputs = (p : ℕ) (out : List HeldOutput) → slice_get outputs p ≡ Some out → out ≡ released_by w.manager p
 
 -- the process has a core, whose status this is
 abbrev pub HasStatus : WorldState → ℕ → Status → Type 0

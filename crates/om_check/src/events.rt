@@ -1,7 +1,7 @@
 //! The events of a run without failures, each by itself.
 
 ghost use Rattle.std.specs.Prelude.{OnOk};
-ghost use Rattle.om_check.specs.Whole.{GoesOn};
+ghost use Rattle.om_check.specs.Whole.{StaysUnderWay};
 
 use crate::fault::PlayFault;
 use om_interval::Pid;
@@ -17,7 +17,7 @@ pub(crate) fn run(
     pid: Pid,
     fuel: u64,
 ) -> Result<usize, PlayFault>
-    ensures { OnOk result (GoesOn world.old world.new) }
+    ensures { OnOk result (StaysUnderWay world.old world.new) }
 {
     let process = pid.index();
     let answers = world.play(alloc, &[Event::Run { process, fuel }])?;
@@ -38,7 +38,7 @@ pub(crate) fn give(
     pid: Pid,
     frame: usize,
 ) -> Result<(), PlayFault>
-    ensures { OnOk result (GoesOn world.old world.new) }
+    ensures { OnOk result (StaysUnderWay world.old world.new) }
 {
     let process = pid.index();
     let answers = world.play(alloc, &[Event::Give { process, frame }])?;
@@ -52,7 +52,7 @@ pub(crate) fn give(
 
 // Releases what a process put out.
 pub(crate) fn flush(world: &mut World<MemStable>, alloc: Global, pid: Pid) -> Result<(), PlayFault>
-    ensures { OnOk result (GoesOn world.old world.new) }
+    ensures { OnOk result (StaysUnderWay world.old world.new) }
 {
     let process = pid.index();
     let answers = world.play(alloc, &[Event::Flush { process }])?;
@@ -68,7 +68,7 @@ pub(crate) fn checkpoint(
     alloc: Global,
     pid: Pid,
 ) -> Result<(), PlayFault>
-    ensures { OnOk result (GoesOn world.old world.new) }
+    ensures { OnOk result (StaysUnderWay world.old world.new) }
 {
     let process = pid.index();
     let answers = world.play(alloc, &[Event::Checkpoint { process }])?;
@@ -80,7 +80,7 @@ pub(crate) fn checkpoint(
 
 // Drops what the manager and the stores need not keep.
 pub(crate) fn prune(world: &mut World<MemStable>, alloc: Global) -> Result<(), PlayFault>
-    ensures { OnOk result (GoesOn world.old world.new) }
+    ensures { OnOk result (StaysUnderWay world.old world.new) }
 {
     let answers = world.play(alloc, &[Event::Prune])?;
     match answers[0] {
@@ -91,7 +91,7 @@ pub(crate) fn prune(world: &mut World<MemStable>, alloc: Global) -> Result<(), P
 
 // Drops what a process need not keep.
 pub(crate) fn trim(world: &mut World<MemStable>, alloc: Global, pid: Pid) -> Result<(), PlayFault>
-    ensures { OnOk result (GoesOn world.old world.new) }
+    ensures { OnOk result (StaysUnderWay world.old world.new) }
 {
     let process = pid.index();
     let answers = world.play(alloc, &[Event::Trim { process }])?;

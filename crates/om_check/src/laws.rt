@@ -7,13 +7,13 @@ ghost use Rattle.om_manager.specs.Outputs.{HeldOutput};
 ghost use Rattle.om_world.specs.World.{WorldState};
 ghost use Rattle.om_world.specs.declared.entry.Entry.{Entry};
 ghost use Rattle.om_check.specs.FailureFree.{IsRunBy};
-ghost use Rattle.om_check.specs.Whole.{AreOutputsOf, AreStatusesOf, IsWhole};
+ghost use Rattle.om_check.specs.Whole.{AreReleasedIn, AreStatusesOf, IsWhole};
 
 /// In the end of a world, what is released of its processes, and their statuses, are what its run without failures comes to.
 pub fn whole_run()
     ensures { (programs : List Program) (w : WorldState) (outputs : List (List HeldOutput)) (statuses : List Status)
         → IsWhole programs w → length outputs ≡ length programs → length statuses ≡ length programs
-        → AreOutputsOf w outputs → AreStatusesOf w statuses → IsRunBy programs w.live outputs statuses }
+        → AreReleasedIn w outputs → AreStatusesOf w statuses → IsRunBy programs w.live outputs statuses }
 {}
 
 /// What was received in a run without failures determines what its processes put out, and how they end.

@@ -2,7 +2,7 @@
 
 ghost use Rattle.std.specs.Prelude.{◌≡◌, ◌≤◌, OnOk};
 ghost use Rattle.om_interval.specs.declared.pid.TheConstants.{MAX_PROCESSES};
-ghost use Rattle.om_check.specs.Whole.{GoesOn};
+ghost use Rattle.om_check.specs.Whole.{StaysUnderWay};
 
 use crate::events::{checkpoint, flush, give, prune, run, trim};
 use crate::fault::PlayFault;
@@ -71,7 +71,7 @@ impl<'a> Player<'a> {
 
     // Runs a process until it waits or has ended.
     fn go(&mut self, pid: Pid) -> Result<(), PlayFault>
-        ensures { OnOk result (GoesOn self.old.world self.new.world) }
+        ensures { OnOk result (StaysUnderWay self.old.world self.new.world) }
     {
         let fuel = self.left(pid);
         let process = pid.index();
@@ -92,7 +92,7 @@ impl<'a> Player<'a> {
 
     // Gives a process the message that it is to receive next, if that was sent, and says whether it was.
     fn receive(&mut self, pid: Pid) -> Result<bool, PlayFault>
-        ensures { OnOk result (GoesOn self.old.world self.new.world) }
+        ensures { OnOk result (StaysUnderWay self.old.world self.new.world) }
     {
         let Some(from) = self.sender(pid) else {
             return Ok(false);
@@ -111,7 +111,7 @@ impl<'a> Player<'a> {
     // Gives a process what it is to receive and was sent, up to so many that the world drops what it need not keep; and says
     // whether something was.
     fn receive_all(&mut self, pid: Pid) -> Result<bool, PlayFault>
-        ensures { OnOk result (GoesOn self.old.world self.new.world) }
+        ensures { OnOk result (StaysUnderWay self.old.world self.new.world) }
     {
         for k in 0..RECEIPTS_KEPT {
             if !self.receive(pid)? {
@@ -123,7 +123,7 @@ impl<'a> Player<'a> {
 
     // Stores all that a process received, and its state.
     fn store(&mut self, pid: Pid) -> Result<(), PlayFault>
-        ensures { OnOk result (GoesOn self.old.world self.new.world) }
+        ensures { OnOk result (StaysUnderWay self.old.world self.new.world) }
     {
         flush(&mut self.world, self.alloc, pid)?;
         checkpoint(&mut self.world, self.alloc, pid)
@@ -131,7 +131,7 @@ impl<'a> Player<'a> {
 
     // Drops what a process need not keep.
     fn trim(&mut self, pid: Pid) -> Result<(), PlayFault>
-        ensures { OnOk result (GoesOn self.old.world self.new.world) }
+        ensures { OnOk result (StaysUnderWay self.old.world self.new.world) }
     {
         trim(&mut self.world, self.alloc, pid)?;
         self.number(pid)?;
@@ -140,7 +140,7 @@ impl<'a> Player<'a> {
 
     // Releases what a process put out.
     fn release(&mut self, pid: Pid) -> Result<(), PlayFault>
-        ensures { OnOk result (GoesOn self.old.world self.new.world) }
+        ensures { OnOk result (StaysUnderWay self.old.world self.new.world) }
     {
         let process = pid.index();
         self.keep(Event::Flush { process })?;
@@ -161,7 +161,7 @@ impl<'a> Player<'a> {
     // Stores the state of each of so many processes, and drops what need not be kept then.
     fn tidy(&mut self, n: usize) -> Result<(), PlayFault>
         requires { n ≤ MAX_PROCESSES }
-        ensures { OnOk result (GoesOn self.old.world self.new.world) }
+        ensures { OnOk result (StaysUnderWay self.old.world self.new.world) }
     {
         for p in 0..n {
             self.store(Pid::at(p))?;
@@ -177,7 +177,7 @@ impl<'a> Player<'a> {
     // Goes once round the processes, and says whether one received something.
     fn round(&mut self, n: usize) -> Result<bool, PlayFault>
         requires { n ≤ MAX_PROCESSES }
-        ensures { OnOk result (GoesOn self.old.world self.new.world) }
+        ensures { OnOk result (StaysUnderWay self.old.world self.new.world) }
     {
         let mut went = false;
         for p in 0..n {
@@ -194,7 +194,7 @@ impl<'a> Player<'a> {
     // Goes round the processes for as long as one receives something.
     fn rounds(&mut self, n: usize) -> Result<(), PlayFault>
         requires { n ≤ MAX_PROCESSES }
-        ensures { OnOk result (GoesOn self.old.world self.new.world) }
+        ensures { OnOk result (StaysUnderWay self.old.world self.new.world) }
     {
         for _ in 0..self.total() {
             if !self.round(n)? {
@@ -220,7 +220,7 @@ impl<'a> Player<'a> {
     // Plays all, of so many processes.
     pub(crate) fn play(&mut self, n: usize) -> Result<(), PlayFault>
         requires { n ≤ MAX_PROCESSES }
-        ensures { OnOk result (GoesOn self.old.world self.new.world) }
+        ensures { OnOk result (StaysUnderWay self.old.world self.new.world) }
     {
         for p in 0..n {
             self.go(Pid::at(p))?;

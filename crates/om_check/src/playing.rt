@@ -4,9 +4,9 @@ ghost use Rattle.std.specs.Prelude.{◌≡◌, ◌≤◌, ◌<◌, ℕ, All, IfO
 ghost use Rattle.om_interval.specs.declared.pid.TheConstants.{MAX_PROCESSES};
 ghost use Rattle.om_process.specs.Images.{program_of};
 ghost use Rattle.om_world.specs.World.{IsEmpty};
-ghost use Rattle.om_check.specs.FailureFree.{IsEnd};
+ghost use Rattle.om_process.specs.Core.{IsEnd};
 ghost use Rattle.om_check.specs.Whole.{IsDone, IsUnderWay, IsWhole};
-ghost use Rattle.om_manager.specs.State.{size_of};
+ghost use Rattle.om_manager.specs.State.{process_count};
 
 use crate::fault::PlayFault;
 use crate::lines::Lines;
@@ -54,7 +54,7 @@ fn has_ended(status: Status) -> bool
 
 // Whether a process has ended, and all that it put out is released.
 fn is_done(world: &World<MemStable>, pid: Pid) -> bool
-    requires { pid < size_of world.now.manager }
+    requires { pid < process_count world.now.manager }
     ensures { IsTrue result → IsDone world.now pid }
 {
     match world.core(pid) {
@@ -68,7 +68,7 @@ fn is_done(world: &World<MemStable>, pid: Pid) -> bool
 // Refused where one of so many processes has not ended.
 fn all_done(world: &World<MemStable>, n: usize) -> Result<(), PlayFault>
     requires few { n ≤ MAX_PROCESSES }
-    requires managed { n ≤ size_of world.now.manager }
+    requires managed { n ≤ process_count world.now.manager }
     ensures { OnOk result ((p : ℕ) → p < n → IsDone world.now p) }
 {
     for p in 0..n {

@@ -4,10 +4,10 @@ use Rattle.std.specs.Prelude.{IfOk, IfErr, IfSome, nat_le}
 use Rattle.std.proofs.lemmas.List.{get_or-drop, length-take}
 use Rattle.std.proofs.lemmas.List.Sums.{count_by-le-length}
 use Rattle.om_scripts.specs.Programs.{Cluster, programs_of}
-use Rattle.om_manager.specs.State.{size_of}
+use Rattle.om_manager.specs.State.{process_count}
 use Rattle.om_text.specs.declared.text.TheConstants.{MAX_BYTES}
 use Rattle.om_picture.specs.Drawing.{IsSketchOf, Sketch}
-use Rattle.om_picture.specs.Fates.{Row}
+use Rattle.om_picture.specs.Fates.{EventRow}
 use Rattle.om_picture.specs.Marks.{IsDrawingOf}
 use Rattle.om_picture.specs.PictureText.{picture_text}
 use Rattle.om_picture.specs.Places.{ArePlaced}
@@ -23,7 +23,7 @@ use Rattle.om_commands.specs.declared.error.CommandError.TheVariants.{EmptyScrip
 use Rattle.om_commands.proofs.LineLemmas.{lines_few}
 use Rattle.om_commands.proofs.PlainNames.{names_are_plain}
 use Rattle.om_commands.proofs.SimLemmas.{error_of_answer}
-use Rattle.om_commands.specs.SimScript.{Script, meaning_of, no_lines}
+use Rattle.om_commands.specs.SimScript.{EventScript, event_script_line, no_events}
 
 -- one event more
 line_more : (lines : List ℕ) (k : ℕ) → slice_index (drop 1 lines) k ≡ slice_index lines (suc k)
@@ -31,7 +31,7 @@ line_more lines k =
     let next : 1 + k ≡ suc k = omega arith in
     get_or-drop 1 lines k 0 ∙ ap (λ (n : ℕ). slice_index lines n) next
 
-played_then : (lines : List ℕ) (es : List Event) (rows : List Row) (e : Event) (row : Row) (old mid new : WorldState)
+played_then : (lines : List ℕ) (es : List Event) (rows : List EventRow) (e : Event) (row : EventRow) (old mid new : WorldState)
     → ArePlayed lines es old rows mid → IsPlayedRow (slice_index lines (length es)) e mid row new
     → ArePlayed lines (es ++ e ∷ []) old (rows ++ row ∷ []) new
 played_then lines [] [] e row old mid new p s = (new, subst (λ w. IsPlayedRow (slice_index lines 0) e w row new) p s, refl)
@@ -51,9 +51,9 @@ none_drawn lines n first w sketch begun = record { rows = []; played = refl; mar
 
 -- an event more is played and drawn
 pub drawn_then : (lines : List ℕ) (es more : List Event) (k n first : ℕ) (old mid new : WorldState) (before after : Sketch) (e : Event)
-    (line : ℕ) (row : Row) → more ≡ es ++ e ∷ [] → length es ≡ k → AreDrawn lines es n first old mid before
+    (line : ℕ) (row : EventRow) → more ≡ es ++ e ∷ [] → length es ≡ k → AreDrawn lines es n first old mid before
     → line ≡ slice_index lines k → IsPlayedRow line e mid row new
-    → ((n first : ℕ) (rows : List Row) → IsSketchOf n first rows before → IsSketchOf n first (rows ++ row ∷ []) after)
+    → ((n first : ℕ) (rows : List EventRow) → IsSketchOf n first rows before → IsSketchOf n first (rows ++ row ∷ []) after)
     → AreDrawn lines more n first old new after
 drawn_then lines es more k n first old mid new before after e line row same count drawn at step draws =
     let place : line ≡ slice_index lines (length es) = at ∙ ap (λ (j : ℕ). slice_index lines j) (sym count) in
@@ -75,7 +75,7 @@ few_within bytes lines last count events same within is =
     omega arith
 
 -- there is a row for each event
-played_count : (lines : List ℕ) (es : List Event) (rows : List Row) (old new : WorldState) → ArePlayed lines es old rows new
+played_count : (lines : List ℕ) (es : List Event) (rows : List EventRow) (old new : WorldState) → ArePlayed lines es old rows new
     → length rows ≡ length es
 played_count lines [] [] old new p = refl
 played_count lines [] (row ∷ rows) old new p = absurd p
@@ -83,10 +83,10 @@ played_count lines (e ∷ es) [] old new p = absurd p
 played_count lines (e ∷ es) (row ∷ rows) old new p = ap suc (played_count (drop 1 lines) es rows p.0 new p.2)
 
 -- a picture of what was played
-pub is_played_picture : {A E : Type 0} (spelled : A → List ℕ) (script : Script) (cluster : Cluster) (events : List Event) (lines : List ℕ)
+pub is_played_picture : {A E : Type 0} (spelled : A → List ℕ) (script : EventScript) (cluster : Cluster) (events : List Event) (lines : List ℕ)
     (first count n : ℕ) (begun end : WorldState) (sketch : Sketch) (drawn : Drawn) (r : Result A E) → cluster ≡ script.cluster
-    → count ≤ MOST_COLUMNS → events ≡ take count script.events → n ≡ size_of begun.manager → AreDrawn lines events n first begun end sketch → IsKnown end
-    → ((n first : ℕ) (rows : List Row) → IsSketchOf n first rows sketch → IsDrawingOf n first rows drawn)
+    → count ≤ MOST_COLUMNS → events ≡ take count script.events → n ≡ process_count begun.manager → AreDrawn lines events n first begun end sketch → IsKnown end
+    → ((n first : ℕ) (rows : List EventRow) → IsSketchOf n first rows sketch → IsDrawingOf n first rows drawn)
     → IfOk r (λ text. spelled text ≡ picture_text cluster drawn)
     → IfOk r (λ text. IsPlayedPicture script lines first count begun (spelled text))
 is_played_picture spelled script cluster events lines first count n begun end sketch drawn (Ok text) same_cluster room same_events same_size
@@ -112,15 +112,15 @@ is_played_picture spelled script cluster events lines first count n begun end sk
     written = tt
 
 -- a picture of what was played from the start of a script's world
-pub is_picture_of : (script : Script) (cluster : Cluster) (lines : List ℕ) (first count : ℕ) (begun : WorldState) (text : List ℕ)
+pub is_picture_of : (script : EventScript) (cluster : Cluster) (lines : List ℕ) (first count : ℕ) (begun : WorldState) (text : List ℕ)
     → cluster ≡ script.cluster → IsBegun (programs_of cluster) begun → IsPlayedPicture script lines first count begun text
     → IsPictureOf script lines first count text
 is_picture_of script cluster lines first count begun text same is_begun played =
     (begun, subst (λ c. IsBegun (programs_of c) begun) same is_begun, played)
 
 -- the picture of a script is that of the bytes that it is read from
-pub is_drawn : {A E : Type 0} (spelled : A → List ℕ) (remaining : Option (List ℕ)) (read : List ℕ) (script : Script) (lines : List ℕ)
-    (first last count : ℕ) (r : Result A E) → IfSome remaining (λ bytes. (read ≡ bytes) × IsScript meaning_of no_lines bytes script)
+pub is_drawn : {A E : Type 0} (spelled : A → List ℕ) (remaining : Option (List ℕ)) (read : List ℕ) (script : EventScript) (lines : List ℕ)
+    (first last count : ℕ) (r : Result A E) → IfSome remaining (λ bytes. (read ≡ bytes) × IsScript event_script_line no_events bytes script)
     → lines ≡ event_lines read (length script.events) → count ≡ count_within lines last
     → IfOk r (λ text. IsPictureOf script lines first count (spelled text))
     → IfSome remaining (λ bytes. IfOk r (λ text. IsDrawn first last bytes (spelled text)))
@@ -137,9 +137,9 @@ is_drawn spelled (Some bytes) read script lines first last count (Ok text) is sa
 }
 
 -- the error of a script is that of the bytes that it is read from
-pub error_of_drawing : {A : Type 0} (remaining : Option (List ℕ)) (read : List ℕ) (script : Script) (r : Result A CommandError)
-    → IfSome remaining (λ bytes. (read ≡ bytes) × IsScript meaning_of no_lines bytes script)
+pub error_of_drawing : {A : Type 0} (remaining : Option (List ℕ)) (read : List ℕ) (script : EventScript) (r : Result A CommandError)
+    → IfSome remaining (λ bytes. (read ≡ bytes) × IsScript event_script_line no_events bytes script)
     → IfErr r (λ error. (error ≡ NoMemory) ⊎ ((error ≡ EmptyScript) × LacksProcesses script))
-    → IfSome remaining (λ bytes. IfErr r (IsErrorOf meaning_of no_lines LacksProcesses bytes))
+    → IfSome remaining (λ bytes. IfErr r (IsErrorOf event_script_line no_events LacksProcesses bytes))
 error_of_drawing None read script r is error = tt
-error_of_drawing (Some bytes) read script r is error = error_of_answer (Some bytes) no_lines script r refl is.1 error
+error_of_drawing (Some bytes) read script r is error = error_of_answer (Some bytes) no_events script r refl is.1 error

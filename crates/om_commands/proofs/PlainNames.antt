@@ -20,7 +20,7 @@ use Rattle.om_picture.specs.Plain.{HasPlainNames, is_plain_text}
 use Rattle.om_picture.proofs.PlainLemmas.{plain-name}
 use Rattle.om_commands.specs.Command.{IsScript}
 use Rattle.om_commands.specs.Events.{event_line}
-use Rattle.om_commands.specs.SimScript.{Script, cluster_line, meaning_of, no_lines, with_event}
+use Rattle.om_commands.specs.SimScript.{EventScript, cluster_line, event_script_line, no_events, with_event}
 
 both : (a b : Bool) → a ≡ true → b ≡ true → (a && b) ≡ true
 both a b p q = rw p q
@@ -102,17 +102,17 @@ process_line_kept cluster (name ∷ program ∷ word ∷ words) plain = tt
 
 -- a line of a script
 
-cluster_kept : (script : Script) (read : Result Cluster LineError) → IfOk read HasPlainNames
+cluster_kept : (script : EventScript) (read : Result Cluster LineError) → IfOk read HasPlainNames
     → IfOk (cluster_line script read) (λ next. HasPlainNames next.cluster)
 cluster_kept script (Ok cluster) plain = plain
 cluster_kept script (Err e) plain = tt
 
-event_kept : (script : Script) (read : Result Event LineError) → HasPlainNames script.cluster
+event_kept : (script : EventScript) (read : Result Event LineError) → HasPlainNames script.cluster
     → IfOk (read >>= λ event. Ok (with_event script event)) (λ next. HasPlainNames next.cluster)
 event_kept script (Ok event) plain = record { processes = plain.processes; programs = plain.programs }
 event_kept script (Err e) plain = tt
 
-by_word : (a b c : Bool) (w x y z : Result Script LineError) → IfOk w (λ next. HasPlainNames next.cluster)
+by_word : (a b c : Bool) (w x y z : Result EventScript LineError) → IfOk w (λ next. HasPlainNames next.cluster)
     → IfOk x (λ next. HasPlainNames next.cluster)
     → IfOk y (λ next. HasPlainNames next.cluster) → IfOk z (λ next. HasPlainNames next.cluster)
     → IfOk (if a then w else (if b then x else (if c then y else z))) (λ next. HasPlainNames next.cluster)
@@ -121,8 +121,8 @@ by_word false true c w x y z p q r s = q
 by_word false false true w x y z p q r s = r
 by_word false false false w x y z p q r s = s
 
-line_kept : (script : Script) (words : List (List ℕ)) → HasPlainNames script.cluster
-    → IfOk (meaning_of script words) (λ next. HasPlainNames next.cluster)
+line_kept : (script : EventScript) (words : List (List ℕ)) → HasPlainNames script.cluster
+    → IfOk (event_script_line script words) (λ next. HasPlainNames next.cluster)
 line_kept script [] plain = tt
 line_kept script (first ∷ words) plain =
     by_word (bytes_eq first (codes "program")) (bytes_eq first (codes "program-m")) (bytes_eq first (codes "proc"))
@@ -135,29 +135,29 @@ line_kept script (first ∷ words) plain =
 
 -- and of all its lines
 
-passed : (b : Bool) (number : ℕ) (script end : Script) (lines : List (List (List ℕ))) (next : Result Script LineError)
-    → ((s : Script) → HasPlainNames s.cluster → script_from meaning_of (number + 1) s lines ≡ Ok end → HasPlainNames end.cluster)
+passed : (b : Bool) (number : ℕ) (script end : EventScript) (lines : List (List (List ℕ))) (next : Result EventScript LineError)
+    → ((s : EventScript) → HasPlainNames s.cluster → script_from event_script_line (number + 1) s lines ≡ Ok end → HasPlainNames end.cluster)
     → HasPlainNames script.cluster → IfOk next (λ s. HasPlainNames s.cluster)
-    → ((if b then Ok script else at_line number next) >>= λ s. script_from meaning_of (number + 1) s lines) ≡ Ok end
+    → ((if b then Ok script else at_line number next) >>= λ s. script_from event_script_line (number + 1) s lines) ≡ Ok end
     → HasPlainNames end.cluster
 passed true number script end lines next rest plain kept read = rest script plain read
 passed false number script end lines (Ok s) rest plain kept read = rest s kept read
 passed false number script end lines (Err e) rest plain kept read = cc
 
-lines_kept : (number : ℕ) (script end : Script) (lines : List (List (List ℕ))) → HasPlainNames script.cluster
-    → script_from meaning_of number script lines ≡ Ok end → HasPlainNames end.cluster
+lines_kept : (number : ℕ) (script end : EventScript) (lines : List (List (List ℕ))) → HasPlainNames script.cluster
+    → script_from event_script_line number script lines ≡ Ok end → HasPlainNames end.cluster
 lines_kept number script end [] plain read =
     let same : script ≡ end = cc in
-    subst (λ (s : Script). HasPlainNames s.cluster) same plain
+    subst (λ (s : EventScript). HasPlainNames s.cluster) same plain
 lines_kept number script end (words ∷ lines) plain read =
-    passed (is_passed_over words) number script end lines (meaning_of script words)
-    (λ (s : Script) (p : HasPlainNames s.cluster) (r : script_from meaning_of (number + 1) s lines ≡ Ok end).
+    passed (is_passed_over words) number script end lines (event_script_line script words)
+    (λ (s : EventScript) (p : HasPlainNames s.cluster) (r : script_from event_script_line (number + 1) s lines ≡ Ok end).
     lines_kept (number + 1) s end lines p r) plain
     (line_kept script words plain) read
 
-no_names : HasPlainNames no_lines.cluster
+no_names : HasPlainNames no_events.cluster
 no_names = record { processes = refl; programs = refl }
 
 -- the names of a script
-pub names_are_plain : (bytes : List ℕ) (script : Script) → IsScript meaning_of no_lines bytes script → HasPlainNames script.cluster
-names_are_plain bytes script is = lines_kept 1 no_lines script (map words_of (lines_of bytes)) no_names is.read
+pub names_are_plain : (bytes : List ℕ) (script : EventScript) → IsScript event_script_line no_events bytes script → HasPlainNames script.cluster
+names_are_plain bytes script is = lines_kept 1 no_events script (map words_of (lines_of bytes)) no_names is.read

@@ -4,7 +4,7 @@ use Rattle.om_recover.specs.Recoverable.{IsGreatest}
 use Rattle.om_recover.specs.Offered.{offered, TellsChange}
 use Rattle.om_recover.specs.declared.note.Note.{Note}
 use Rattle.om_recover.specs.declared.note.NoteError.{NoteError}
-use Rattle.om_commands.specs.Report.{answer_word, state_text, offered_row, IsWritten, IsReportFrom}
+use Rattle.om_commands.specs.Report.{answer_word, intervals_text, offered_row, IsWritten, IsReportFrom}
 use Rattle.om_commands.specs.declared.record_script.NoteLine.{NoteLine}
 
 -- what is left at a place is what stands there and the rest
@@ -19,11 +19,11 @@ line_and_rest before word state rest = simp append_assoc
 pub report_more : (Whole : List ℕ → Type 0) (n : ℕ) (rows after : Rows) (state next : List ℕ) (notes : List NoteLine) (i : ℕ) (note : NoteLine) (answer : Result Note NoteError) (before longer : List ℕ)
     → i < length notes → note ≡ get_or notes i note
     → offered n rows (offered_row (replicate n 0) note) answer after → IsGreatest n after next → TellsChange answer state next → IsWritten answer
-    → longer ≡ ((before ++ answer_word answer) ++ 58 ∷ []) ++ state_text next
+    → longer ≡ ((before ++ answer_word answer) ++ 58 ∷ []) ++ intervals_text next
     → ((rest : List ℕ) → IsReportFrom n rows state (drop i notes) rest → Whole (before ++ rest))
     → (rest : List ℕ) → IsReportFrom n after next (drop (i + 1) notes) rest → Whole (longer ++ rest)
 report_more Whole n rows after state next notes i note answer before longer within is offer greatest change written longer_is told rest told_rest =
-    let text : List ℕ = answer_word answer ++ 58 ∷ state_text next ++ rest in
+    let text : List ℕ = answer_word answer ++ 58 ∷ intervals_text next ++ rest in
     let here : IsReportFrom n rows state (drop i notes) text =
     subst (λ ns. IsReportFrom n rows state ns text) (sym (drop-place notes i note within is)) (answer, after, next, rest, offer, greatest, change, written, told_rest, refl) in
-    subst Whole (sym (ap (λ t. t ++ rest) longer_is ∙ line_and_rest before (answer_word answer) (state_text next) rest)) (told text here)
+    subst Whole (sym (ap (λ t. t ++ rest) longer_is ∙ line_and_rest before (answer_word answer) (intervals_text next) rest)) (told text here)

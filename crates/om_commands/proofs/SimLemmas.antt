@@ -24,8 +24,8 @@ use Rattle.om_world.specs.World.{WorldState, IsEmpty, IsKnown}
 use Rattle.om_world.specs.declared.event.Answer.{Answer}
 use Rattle.om_world.specs.declared.event.Event.{Event}
 use Rattle.om_commands.specs.Command.{IsErrorOf, IsScript}
-use Rattle.om_commands.specs.Sim.{IsAnswer, IsBegun, IsPlayed, IsSim, LacksProcesses}
-use Rattle.om_commands.specs.SimScript.{Script, meaning_of, no_lines}
+use Rattle.om_commands.specs.Sim.{IsBegun, IsPlayed, IsSim, IsSimAnswer, LacksProcesses}
+use Rattle.om_commands.specs.SimScript.{EventScript, event_script_line, no_events}
 use Rattle.om_commands.specs.SimText.{answers_text, bytes_at, end_text}
 use Rattle.om_commands.specs.declared.error.CommandError.{CommandError}
 use Rattle.om_commands.specs.declared.error.CommandError.TheVariants.{EmptyScript, NoMemory}
@@ -84,7 +84,7 @@ pub all_same : (stores : List Content) → All IsEmpty stores → All IsEmpty (m
 all_same stores all = All-map IsEmpty (λ s. s) stores all
 
 -- a script is told by what its events give
-pub is_played : {A E : Type 0} (spelled : A → List ℕ) (script : Script) (cluster : Cluster) (begun end : WorldState) (events : List Event) (answers told : List Answer) (r : Result A E)
+pub is_played : {A E : Type 0} (spelled : A → List ℕ) (script : EventScript) (cluster : Cluster) (begun end : WorldState) (events : List Event) (answers told : List Answer) (r : Result A E)
     → cluster ≡ script.cluster → events ≡ script.events → told ≡ answers → Played begun events answers end → IsKnown end → All IsFaultless answers
     → IfOk r (λ text. spelled text ≡ answers_text told ++ end_text cluster (length cluster.processes) end)
     → IfOk r (λ text. IsPlayed script begun (spelled text))
@@ -101,33 +101,33 @@ is_played spelled script cluster begun end events answers told (Ok text) same_cl
 is_played spelled script cluster begun end events answers told (Err e) same_cluster same_events same_answers played known faultless written = tt
 
 -- a script is answered by what is played from the start of its world
-pub is_answer : (script : Script) (cluster : Cluster) (begun : WorldState) (text : List ℕ) → cluster ≡ script.cluster
-    → IsBegun (programs_of cluster) begun → IsPlayed script begun text → IsAnswer script text
+pub is_answer : (script : EventScript) (cluster : Cluster) (begun : WorldState) (text : List ℕ) → cluster ≡ script.cluster
+    → IsBegun (programs_of cluster) begun → IsPlayed script begun text → IsSimAnswer script text
 is_answer script cluster begun text same is_begun played =
     (begun, subst (λ c. IsBegun (programs_of c) begun) same is_begun, played)
 
 -- the answer to a script is that to the bytes that it is read from
-pub text_of_answer : {A : Type 0} (spelled : A → List ℕ) (remaining : Option (List ℕ)) (start script : Script) (r : Result A CommandError)
-    → start ≡ no_lines → IfSome remaining (λ bytes. IsScript meaning_of start bytes script)
-    → IfOk r (λ text. IsAnswer script (spelled text)) → IfSome remaining (λ bytes. IfOk r (λ text. IsSim bytes (spelled text)))
+pub text_of_answer : {A : Type 0} (spelled : A → List ℕ) (remaining : Option (List ℕ)) (start script : EventScript) (r : Result A CommandError)
+    → start ≡ no_events → IfSome remaining (λ bytes. IsScript event_script_line start bytes script)
+    → IfOk r (λ text. IsSimAnswer script (spelled text)) → IfSome remaining (λ bytes. IfOk r (λ text. IsSim bytes (spelled text)))
 text_of_answer spelled None start script r is read answer = tt
 text_of_answer spelled (Some bytes) start script (Ok text) is read answer =
-    record { script = script; is_script = subst (λ s. IsScript meaning_of s bytes script) is read; answer = answer }
+    record { script = script; is_script = subst (λ s. IsScript event_script_line s bytes script) is read; answer = answer }
 text_of_answer spelled (Some bytes) start script (Err e) is read answer = tt
 
 -- the error of a script is that of the bytes that it is read from
-of_script : (bytes : List ℕ) (script : Script) (error : CommandError) → IsScript meaning_of no_lines bytes script
-    → (error ≡ NoMemory) ⊎ ((error ≡ EmptyScript) × LacksProcesses script) → IsErrorOf meaning_of no_lines LacksProcesses bytes error
+of_script : (bytes : List ℕ) (script : EventScript) (error : CommandError) → IsScript event_script_line no_events bytes script
+    → (error ≡ NoMemory) ⊎ ((error ≡ EmptyScript) × LacksProcesses script) → IsErrorOf event_script_line no_events LacksProcesses bytes error
 of_script bytes script error read told = ⊎_elim
-    (λ memory. subst (IsErrorOf meaning_of no_lines LacksProcesses bytes) (sym memory) tt)
-    (λ none. subst (IsErrorOf meaning_of no_lines LacksProcesses bytes) (sym none.0) (record { script = script; is_script = read; is_empty = none.1 }))
+    (λ memory. subst (IsErrorOf event_script_line no_events LacksProcesses bytes) (sym memory) tt)
+    (λ none. subst (IsErrorOf event_script_line no_events LacksProcesses bytes) (sym none.0) (record { script = script; is_script = read; is_empty = none.1 }))
     told
 
-pub error_of_answer : {A : Type 0} (remaining : Option (List ℕ)) (start script : Script) (r : Result A CommandError) → start ≡ no_lines
-    → IfSome remaining (λ bytes. IsScript meaning_of start bytes script)
+pub error_of_answer : {A : Type 0} (remaining : Option (List ℕ)) (start script : EventScript) (r : Result A CommandError) → start ≡ no_events
+    → IfSome remaining (λ bytes. IsScript event_script_line start bytes script)
     → IfErr r (λ error. (error ≡ NoMemory) ⊎ ((error ≡ EmptyScript) × LacksProcesses script))
-    → IfSome remaining (λ bytes. IfErr r (IsErrorOf meaning_of no_lines LacksProcesses bytes))
+    → IfSome remaining (λ bytes. IfErr r (IsErrorOf event_script_line no_events LacksProcesses bytes))
 error_of_answer None start script r is read error = tt
 error_of_answer (Some bytes) start script (Ok x) is read error = tt
 error_of_answer (Some bytes) start script (Err e) is read error =
-    of_script bytes script e (subst (λ s. IsScript meaning_of s bytes script) is read) error
+    of_script bytes script e (subst (λ s. IsScript event_script_line s bytes script) is read) error

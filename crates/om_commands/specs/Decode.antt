@@ -5,7 +5,7 @@ use Rattle.om_isa.specs.Text.{text_of}
 use Rattle.om_isa.specs.declared.ext.Ext.{Ext}
 use Rattle.om_isa.specs.declared.inst.Inst.{Inst}
 use Rattle.om_commands.specs.Command.{IsScript}
-use Rattle.om_commands.specs.WordScript.{meaning_of}
+use Rattle.om_commands.specs.WordScript.{word_script_line}
 
 -- the text of an instruction that the word decodes to, with these extensions
 abbrev pub IsInstructionText : Ext → ℕ → List ℕ → Type 0
@@ -28,5 +28,5 @@ IsListing ext (word ∷ words) text =
 -- the listing of the words that these bytes are
 pub record IsDecoded (ext : Ext) (bytes text : List ℕ) : Type 0 where
   pub words : List ℕ
-  pub script : IsScript meaning_of [] bytes words
+  pub script : IsScript word_script_line [] bytes words
   pub listing : IsListing ext words text

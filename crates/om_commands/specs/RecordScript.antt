@@ -11,16 +11,16 @@ use Rattle.om_text.specs.declared.error.LineError.TheVariants.{UnknownLine, Wron
 use Rattle.om_commands.specs.declared.record_script.NoteLine.{NoteLine}
 
 -- what has been read: the number of processes, once it is given, and the notes in order
-pub record Script : Type 0 where
+pub record RecordLines : Type 0 where
   pub processes : Option ℕ
   pub notes : List NoteLine
 
 -- nothing has been read
-abbrev pub no_lines : Script
-no_lines = record { processes = None; notes = [] }
+abbrev pub no_records : RecordLines
+no_records = record { processes = None; notes = [] }
 
 -- a line `procs N`, once
-abbrev pub processes_line : Script → List (List ℕ) → Result Script LineError
+abbrev pub processes_line : RecordLines → List (List ℕ) → Result RecordLines LineError
 processes_line script (word ∷ []) = do
   n ← or_error (number_of word) BadNumber
   _ ← refused (nat_lt n 1 || nat_lt MAX_PROCESSES n) BadNumber
@@ -46,7 +46,7 @@ abbrev pub note_of : RowKind → List ℕ → NoteLine
 note_of kind numbers = record { kind = kind; pid = slice_index numbers 0; interval = slice_index numbers 1; vec = drop 2 numbers }
 
 -- a line `log P X V0 ..` or `ckpt P X V0 ..`, once the number of processes is given
-abbrev pub note_line : RowKind → Script → List (List ℕ) → Result Script LineError
+abbrev pub note_line : RowKind → RecordLines → List (List ℕ) → Result RecordLines LineError
 note_line kind script words = do
   _ ← refused (has_wrong_count script.processes words) WrongCount
   numbers ← numbers_in words
@@ -54,9 +54,9 @@ note_line kind script words = do
   Ok (record script { notes = script.notes ++ note_of kind numbers ∷ [] })
 
 -- a line of a record script, by its first word
-abbrev pub meaning_of : Script → List (List ℕ) → Result Script LineError
-meaning_of script [] = Err UnknownLine
-meaning_of script (first ∷ words) =
+abbrev pub record_script_line : RecordLines → List (List ℕ) → Result RecordLines LineError
+record_script_line script [] = Err UnknownLine
+record_script_line script (first ∷ words) =
     if bytes_eq first (codes "procs") then processes_line script words
     else (if bytes_eq first (codes "log") then note_line Log script words
     else (if bytes_eq first (codes "ckpt") then note_line Checkpoint script words

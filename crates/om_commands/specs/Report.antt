@@ -48,13 +48,13 @@ IsWritten (Ok note) = Unit {0}
 IsWritten (Err error) = HasWord error
 
 -- the intervals of a state, each after a space, and the end of the line
-abbrev pub state_text : List ℕ → List ℕ
-state_text state = flat_map (λ interval. 32 ∷ decimal interval) state ++ 10 ∷ []
+abbrev pub intervals_text : List ℕ → List ℕ
+intervals_text state = flat_map (λ interval. 32 ∷ decimal interval) state ++ 10 ∷ []
 
 -- the text of the notes, offered in order to these rows, whose greatest recoverable state this is: a line for each
 -- answer with the state after it, and the state in the end
 abbrev pub IsReportFrom : ℕ → Rows → List ℕ → List NoteLine → List ℕ → Type 0
-IsReportFrom n rows state [] text = text ≡ codes "recovery" ++ state_text state
+IsReportFrom n rows state [] text = text ≡ codes "recovery" ++ intervals_text state
 IsReportFrom n rows state (note ∷ notes) text =
     (answer : Result Note NoteError) × (after : Rows) × (next : List ℕ) × (rest : List ℕ)
     × offered n rows (offered_row (replicate n 0) note) answer after
@@ -62,7 +62,7 @@ IsReportFrom n rows state (note ∷ notes) text =
     × TellsChange answer state next
     × IsWritten answer
     × IsReportFrom n after next notes rest
-    × (text ≡ answer_word answer ++ 58 ∷ state_text next ++ rest)
+    × (text ≡ answer_word answer ++ 58 ∷ intervals_text next ++ rest)
 
 -- the text of the notes, offered to records that hold checkpoint 0 of each of n processes and nothing else
 abbrev pub IsReport : ℕ → List NoteLine → List ℕ → Type 0

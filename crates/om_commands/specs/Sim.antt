@@ -8,11 +8,11 @@ use Rattle.om_world.specs.Started.{IsStarted}
 use Rattle.om_world.specs.World.{WorldState, IsKnown}
 use Rattle.om_world.specs.declared.event.Answer.{Answer}
 use Rattle.om_commands.specs.Command.{IsScript}
-use Rattle.om_commands.specs.SimScript.{Script, meaning_of, no_lines}
+use Rattle.om_commands.specs.SimScript.{EventScript, event_script_line, no_events}
 use Rattle.om_commands.specs.SimText.{answers_text, end_text}
 
 -- a script without a process is empty
-abbrev pub LacksProcesses : Script → Type 0
+abbrev pub LacksProcesses : EventScript → Type 0
 LacksProcesses script = length script.cluster.processes ≡ 0
 
 -- a world of these programs at its start, over stores that held nothing
@@ -22,17 +22,17 @@ pub record IsBegun (programs : List Program) (w : WorldState) : Type 0 where
   pub holds : Holds w
 
 -- the answers to the events of a script, played from this world on, and how it stands in the end; no store failed
-abbrev pub IsPlayed : Script → WorldState → List ℕ → Type 0
+abbrev pub IsPlayed : EventScript → WorldState → List ℕ → Type 0
 IsPlayed script begun text =
     (end : WorldState) × (answers : List Answer) × Played begun script.events answers end × IsKnown end
     × All IsFaultless answers × (text ≡ answers_text answers ++ end_text script.cluster (length script.cluster.processes) end)
 
 -- the same, from the start of its world
-abbrev pub IsAnswer : Script → List ℕ → Type 0
-IsAnswer script text = (begun : WorldState) × IsBegun (programs_of script.cluster) begun × IsPlayed script begun text
+abbrev pub IsSimAnswer : EventScript → List ℕ → Type 0
+IsSimAnswer script text = (begun : WorldState) × IsBegun (programs_of script.cluster) begun × IsPlayed script begun text
 
 -- the answer to the script that these bytes are
 pub record IsSim (bytes text : List ℕ) : Type 0 where
-  pub script : Script
-  pub is_script : IsScript meaning_of no_lines bytes script
-  pub answer : IsAnswer script text
+  pub script : EventScript
+  pub is_script : IsScript event_script_line no_events bytes script
+  pub answer : IsSimAnswer script text

@@ -10,28 +10,28 @@ use Rattle.om_world.specs.declared.event.Event.{Event}
 use Rattle.om_commands.specs.Events.{event_line}
 
 -- what has been read: the programs and processes, and the events in order
-pub record Script : Type 0 where
+pub record EventScript : Type 0 where
   pub cluster : Cluster
   pub events : List Event
 
 -- nothing has been read
-abbrev pub no_lines : Script
-no_lines = record { cluster = no_programs; events = [] }
+abbrev pub no_events : EventScript
+no_events = record { cluster = no_programs; events = [] }
 
 -- one more event, behind which no line of a program or a process may stand
-abbrev pub with_event : Script → Event → Script
+abbrev pub with_event : EventScript → Event → EventScript
 with_event script event = record script {
   cluster = record script.cluster { is_closed = true };
   events = script.events ++ event ∷ [];
 }
 
-abbrev pub cluster_line : Script → Result Cluster LineError → Result Script LineError
+abbrev pub cluster_line : EventScript → Result Cluster LineError → Result EventScript LineError
 cluster_line script read = read >>= λ cluster. Ok (record script { cluster = cluster })
 
 -- a line, by its first word
-abbrev pub meaning_of : Script → List (List ℕ) → Result Script LineError
-meaning_of script [] = Err UnknownLine
-meaning_of script (first ∷ words) =
+abbrev pub event_script_line : EventScript → List (List ℕ) → Result EventScript LineError
+event_script_line script [] = Err UnknownLine
+event_script_line script (first ∷ words) =
     if bytes_eq first (codes "program") then cluster_line script (program_line I script.cluster words)
     else (if bytes_eq first (codes "program-m") then cluster_line script (program_line Im script.cluster words)
     else (if bytes_eq first (codes "proc") then cluster_line script (process_line script.cluster words)

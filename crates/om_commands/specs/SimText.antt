@@ -16,7 +16,7 @@ use Rattle.om_world.specs.declared.event.Answer.TheVariants.{Ran, Given, Noted, 
 use Rattle.om_world.specs.declared.event.Answer.TheVariants as answers
 use Rattle.om_world.specs.declared.event.Refusal.{Refusal}
 use Rattle.om_world.specs.declared.event.Refusal.TheVariants as refusals
-use Rattle.om_commands.specs.Report.{state_text}
+use Rattle.om_commands.specs.Report.{intervals_text}
 use Rattle.om_commands.specs.StateText.{status_text}
 
 -- what a process answers to a frame; want of memory is told as of any event
@@ -103,6 +103,6 @@ released_text cluster manager p = outputs_text (name_at cluster p) (released_by 
 -- how a world of n processes stands: the recovery state, each process, and then what is released of each
 abbrev pub end_text : Cluster → ℕ → WorldState → List ℕ
 end_text cluster n w =
-    codes "recovery" ++ state_text w.manager.recovery
+    codes "recovery" ++ intervals_text w.manager.recovery
     ++ flat_map (process_line cluster w.cores) (range_with_len 0 n)
     ++ flat_map (released_text cluster w.manager) (range_with_len 0 n)

@@ -2,7 +2,7 @@
 use Rattle.std.specs.Prelude.{◌≡◌, ℕ, ◌<◌, ◌≤◌, List, [], ◌++◌, Bool, true, false, None}
 use Rattle.om_look.specs.Trace.{IsTrace}
 use Rattle.om_stable.specs.Content.{Content}
-use Rattle.om_process.specs.Core.{CoreState, core_turn, size_of, with_now}
+use Rattle.om_process.specs.Core.{CoreState, cluster_size, core_turn, with_now}
 use Rattle.om_process.specs.Process.{Process}
 use Rattle.om_process.specs.Stored.{IsReplay}
 use Rattle.om_process.specs.Turns.{Turns}
@@ -14,13 +14,13 @@ AreLinesIf true own n k s t lines = IsTrace own n k s t lines
 AreLinesIf false own n k s t lines = lines ≡ []
 
 -- so many turns of the core lead to another, at most this number, and fewer only where there is no further one; with their lines
-pub record GoesOn (steps : ℕ) (traced : Bool) (start end : CoreState) (lines : List ℕ) : Type 0 where
+pub record TakesSteps (steps : ℕ) (traced : Bool) (start end : CoreState) (lines : List ℕ) : Type 0 where
   pub taken : ℕ
   pub within : taken ≤ steps
-  pub turns : Turns start.own (size_of start.now) taken start.now end.now
+  pub turns : Turns start.own (cluster_size start.now) taken start.now end.now
   pub no_more : taken < steps → core_turn end ≡ None
   pub rest : end ≡ with_now start end.now
-  pub are_lines : AreLinesIf traced start.own (size_of start.now) taken start.now end.now lines
+  pub are_lines : AreLinesIf traced start.own (cluster_size start.now) taken start.now end.now lines
 
 -- the text of the process that goes on from the interval to which it is replayed
 pub record IsStepsText (held : Content) (x steps : ℕ) (traced : Bool) (text : List ℕ) : Type 0 where
@@ -28,10 +28,10 @@ pub record IsStepsText (held : Content) (x steps : ℕ) (traced : Bool) (text : 
   pub replayed : IsReplay held x start
   pub end : CoreState
   pub lines : List ℕ
-  pub goes_on : GoesOn steps traced start end lines
+  pub goes_on : TakesSteps steps traced start end lines
   pub is_text : text ≡ lines ++ state_text end
 
 -- the text of a core that goes on
 abbrev pub IsTextBehind : CoreState → ℕ → Bool → List ℕ → Type 0
 IsTextBehind start steps traced text =
-    (end : CoreState) × (lines : List ℕ) × GoesOn steps traced start end lines × (text ≡ lines ++ state_text end)
+    (end : CoreState) × (lines : List ℕ) × TakesSteps steps traced start end lines × (text ≡ lines ++ state_text end)

@@ -6,8 +6,8 @@ use Rattle.om_text.specs.declared.error.LineError.{LineError}
 use Rattle.om_text.specs.declared.error.LineError.TheVariants.{WrongCount, BadWord}
 
 -- a line has one word, of eight hexadecimal digits
-abbrev pub meaning_of : List ℕ → List (List ℕ) → Result (List ℕ) LineError
-meaning_of read (text ∷ []) = do
+abbrev pub word_script_line : List ℕ → List (List ℕ) → Result (List ℕ) LineError
+word_script_line read (text ∷ []) = do
   word ← or_error (hex_word text) BadWord
   Ok (read ++ word ∷ [])
-meaning_of read _ = Err WrongCount
+word_script_line read _ = Err WrongCount

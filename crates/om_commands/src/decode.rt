@@ -4,7 +4,7 @@ ghost use Rattle.std.specs.Prelude.{◌≡◌, ◌++◌, ◌∷◌, [], ℕ, Lis
 ghost use Rattle.std.specs.Io.KnownBytes.{Appends, Keeps};
 ghost use Rattle.om_commands.specs.Command.{IsErrorOf, IsSilent};
 ghost use Rattle.om_commands.specs.Decode.{IsDecoded, IsListing, IsTextOf};
-ghost use Rattle.om_commands.specs.WordScript.{meaning_of};
+ghost use Rattle.om_commands.specs.WordScript.{word_script_line};
 
 use crate::command::{read_input, write_answer};
 use crate::error::CommandError;
@@ -24,7 +24,7 @@ pub fn decode<R: Read, W: Write>(
     ensures text { IfSome (R.remaining reader.old) (λ bytes. OnOk result ((text : List ℕ) × IsDecoded ext bytes text
         × Appends (W.contents writer.old) (W.contents writer.new) text)) }
     ensures error { IfSome (R.remaining reader.old) (λ bytes.
-        IfErr result (IsErrorOf meaning_of [] (λ _. ⊥) bytes)) }
+        IfErr result (IsErrorOf word_script_line [] (λ _. ⊥) bytes)) }
     ensures silent { IfErr result (λ error. IsSilent error (Keeps (W.contents writer.old) (W.contents writer.new))) }
 {
     let script = read_input(alloc, reader, WordScript::new(alloc))?;

@@ -11,7 +11,7 @@ ghost use Rattle.om_picture.specs.declared.column.TheConstants.{MOST_COLUMNS};
 ghost use Rattle.om_text.specs.declared.text.TheConstants.{MAX_BYTES};
 ghost use Rattle.om_commands.specs.Draw.{AreDrawn, IsDrawn, IsPictureOf, IsPlayedPicture, count_within, event_lines};
 ghost use Rattle.om_commands.specs.Sim.{LacksProcesses};
-ghost use Rattle.om_commands.specs.SimScript.{meaning_of, no_lines};
+ghost use Rattle.om_commands.specs.SimScript.{event_script_line, no_events};
 
 use crate::command::write_answer;
 use crate::error::CommandError;
@@ -46,7 +46,7 @@ pub fn draw<R: Read, W: Write>(
     ensures text { IfSome (R.remaining reader.old) (λ bytes. OnOk result ((text : List ℕ) × IsDrawn window.from window.to bytes text
         × Appends (W.contents writer.old) (W.contents writer.new) text)) }
     ensures error { IfSome (R.remaining reader.old) (λ bytes.
-        IfErr result (IsErrorOf meaning_of no_lines LacksProcesses bytes)) }
+        IfErr result (IsErrorOf event_script_line no_events LacksProcesses bytes)) }
     ensures silent { IfErr result (λ error. IsSilent error (Keeps (W.contents writer.old) (W.contents writer.new))) }
 {
     let text = picture_of(alloc, reader, window)?;
@@ -61,7 +61,7 @@ fn picture_of<R: Read>(
 ) -> Result<String, CommandError>
     ensures text { IfSome (R.remaining reader.old) (λ bytes. IfOk result (λ text. IsDrawn window.from window.to bytes (string_bytes text))) }
     ensures error { IfSome (R.remaining reader.old) (λ bytes.
-        IfErr result (IsErrorOf meaning_of no_lines LacksProcesses bytes)) }
+        IfErr result (IsErrorOf event_script_line no_events LacksProcesses bytes)) }
 {
     let input = read_events(alloc, reader)?;
     let lines = event_lines(alloc, &input)?;
@@ -79,9 +79,9 @@ struct Input {
 // Reads an input and its script.
 fn read_events<R: Read>(alloc: Global, reader: &mut R) -> Result<Input, CommandError>
     ensures script { IfSome (R.remaining reader.old) (λ bytes.
-        IfOk result (λ input. (input.bytes.items ≡ bytes) × IsScript meaning_of no_lines bytes input.script)) }
+        IfOk result (λ input. (input.bytes.items ≡ bytes) × IsScript event_script_line no_events bytes input.script)) }
     ensures error { IfSome (R.remaining reader.old) (λ bytes.
-        IfErr result (IsErrorOf meaning_of no_lines (λ _. ⊥) bytes)) }
+        IfErr result (IsErrorOf event_script_line no_events (λ _. ⊥) bytes)) }
     ensures within { IfOk result (λ input. length input.bytes.items ≤ MAX_BYTES) }
 {
     let bytes = read_text(alloc, reader)?;

@@ -3,8 +3,8 @@
 ghost use Rattle.std.specs.Prelude.{◌≡◌, ◌⊎◌, ℕ, List, IfSome, IfOk, IfErr, OnOk, string_bytes};
 ghost use Rattle.std.specs.Io.KnownBytes.{Appends, Keeps};
 ghost use Rattle.om_commands.specs.Command.{IsErrorOf, IsSilent};
-ghost use Rattle.om_commands.specs.Frontier.{IsAnswer, IsFrontier, LacksProcesses};
-ghost use Rattle.om_commands.specs.RecordScript.{meaning_of, no_lines};
+ghost use Rattle.om_commands.specs.Frontier.{IsFrontier, IsFrontierAnswer, LacksProcesses};
+ghost use Rattle.om_commands.specs.RecordScript.{no_records, record_script_line};
 
 use crate::command::write_answer;
 use crate::error::CommandError;
@@ -23,7 +23,7 @@ pub fn frontier<R: Read, W: Write>(
     ensures text { IfSome (R.remaining reader.old) (λ bytes. OnOk result ((text : List ℕ) × IsFrontier bytes text
         × Appends (W.contents writer.old) (W.contents writer.new) text)) }
     ensures error { IfSome (R.remaining reader.old) (λ bytes.
-        IfErr result (IsErrorOf meaning_of no_lines LacksProcesses bytes)) }
+        IfErr result (IsErrorOf record_script_line no_records LacksProcesses bytes)) }
     ensures silent { IfErr result (λ error. IsSilent error (Keeps (W.contents writer.old) (W.contents writer.new))) }
 {
     // The script's bytes are kept to the end: once so large a block is freed, the allocator grows others by copies.
@@ -35,7 +35,7 @@ pub fn frontier<R: Read, W: Write>(
 
 // The text that answers a script.
 fn answer(alloc: Global, script: &RecordScript) -> Result<String, CommandError>
-    ensures text { IfOk result (λ text. IsAnswer script.now (string_bytes text)) }
+    ensures text { IfOk result (λ text. IsFrontierAnswer script.now (string_bytes text)) }
     ensures error { IfErr result (λ error. (error ≡ CommandError.NoMemory)
         ⊎ ((error ≡ CommandError.EmptyScript) × LacksProcesses script.now)) }
 {

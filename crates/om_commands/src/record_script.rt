@@ -3,7 +3,7 @@
 ghost use Rattle.std.specs.Prelude.{◌≡◌, ◌≤◌, ◌+◌, length, map, IfSome, OnOk, vec_len};
 ghost use Rattle.om_interval.specs.declared.pid.TheConstants.{MAX_PROCESSES};
 ghost use Rattle.om_text.specs.Reading.{Gives};
-ghost use Rattle.om_commands.specs.RecordScript.{Script, no_lines, processes_line, note_line, note_of, meaning_of, numbers_in};
+ghost use Rattle.om_commands.specs.RecordScript.{RecordLines, no_records, processes_line, note_line, note_of, record_script_line, numbers_in};
 
 use om_interval::{DepVec, MAX_PROCESSES};
 use om_recover::RowKind;
@@ -31,7 +31,7 @@ pub struct RecordScript {
 }
 
 impl Model for RecordScript {
-    ghost Value = { Script };
+    ghost Value = { RecordLines };
 
     ghost view = { λ s. record { processes = s.processes; notes = s.notes.items } };
 
@@ -40,7 +40,7 @@ impl Model for RecordScript {
 
 impl RecordScript {
     pub fn new(alloc: Global) -> RecordScript
-        ensures { result ≡ no_lines }
+        ensures { result ≡ no_records }
     {
         RecordScript {
             processes: None,
@@ -104,11 +104,11 @@ impl RecordScript {
 }
 
 impl Builder for RecordScript {
-    ghost State = { Script };
+    ghost State = { RecordLines };
 
     ghost state = { λ script. script };
 
-    ghost meaning = { meaning_of };
+    ghost meaning = { record_script_line };
 
     fn add_line(&mut self, _alloc: Global, words: &[&[u8]]) -> Result<(), BuildError<LineError>> {
         let [first, words @ ..] = words else {

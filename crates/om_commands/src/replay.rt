@@ -2,7 +2,7 @@
 
 ghost use Rattle.std.specs.Prelude.{◌≡◌, ◌≤◌, ℕ, List, IsTrue, IfOk, IfErr, OnOk, IsErrOf, Err, ◌≢◌, string_bytes};
 ghost use Rattle.std.specs.Io.KnownBytes.{Appends, Keeps};
-ghost use Rattle.om_stable.specs.Calls.{IsKnown};
+ghost use Rattle.om_stable.specs.Calls.{IsCleanCall};
 ghost use Rattle.om_stable.specs.Count.{Rose};
 ghost use Rattle.om_process.specs.Stored.{Anyone, CanReplay};
 ghost use Rattle.om_commands.specs.Command.{IsSilent};
@@ -25,15 +25,15 @@ pub fn replay<S: Stable, W: Write>(
     interval: u32,
     writer: &mut W,
 ) -> Result<(), CommandError>
-    ensures text { IsKnown S.is_clean S.IsSound store.old store.new
+    ensures text { IsCleanCall S.is_clean S.IsSound store.old store.new
         → OnOk result ((text : List ℕ) × IsReplayText (S.content store.old) interval text
         × Appends (W.contents writer.old) (W.contents writer.new) text) }
-    ensures error { IsKnown S.is_clean S.IsSound store.old store.new
+    ensures error { IsCleanCall S.is_clean S.IsSound store.old store.new
         → IfErr result (IsReplayError (S.content store.old) interval) }
-    ensures only { IsKnown S.is_clean S.IsSound store.old store.new → CanReplay Anyone (S.content store.old) interval
+    ensures only { IsCleanCall S.is_clean S.IsSound store.old store.new → CanReplay Anyone (S.content store.old) interval
         → IfErr result IsNoMatterOfContent }
     ensures silent { IfErr result (λ error. IsSilent error (Keeps (W.contents writer.old) (W.contents writer.new))) }
-    ensures same { IsKnown S.is_clean S.IsSound store.old store.new → S.content store.new ≡ S.content store.old }
+    ensures same { IsCleanCall S.is_clean S.IsSound store.old store.new → S.content store.new ≡ S.content store.old }
     ensures fault { IsErrOf result CommandError.StoreFault → Rose (S.failed store.old) (S.failed store.new) }
     ensures count { S.failed store.old ≤ S.failed store.new }
     ensures clean { IsTrue (S.is_clean store.new) → IsTrue (S.is_clean store.old) }
@@ -45,14 +45,14 @@ pub fn replay<S: Stable, W: Write>(
 
 // The text of the process that is replayed.
 fn replayed<S: Stable>(alloc: Global, store: &mut S, interval: u32) -> Result<String, CommandError>
-    ensures text { IsKnown S.is_clean S.IsSound store.old store.new
+    ensures text { IsCleanCall S.is_clean S.IsSound store.old store.new
         → IfOk result (λ text. IsReplayText (S.content store.old) interval (string_bytes text)) }
-    ensures error { IsKnown S.is_clean S.IsSound store.old store.new
+    ensures error { IsCleanCall S.is_clean S.IsSound store.old store.new
         → IfErr result (IsReplayError (S.content store.old) interval) }
-    ensures only { IsKnown S.is_clean S.IsSound store.old store.new → CanReplay Anyone (S.content store.old) interval
+    ensures only { IsCleanCall S.is_clean S.IsSound store.old store.new → CanReplay Anyone (S.content store.old) interval
         → IfErr result IsNoMatterOfContent }
     ensures silent { result ≢ Err CommandError.CannotWrite }
-    ensures same { IsKnown S.is_clean S.IsSound store.old store.new → S.content store.new ≡ S.content store.old }
+    ensures same { IsCleanCall S.is_clean S.IsSound store.old store.new → S.content store.new ≡ S.content store.old }
     ensures fault { IsErrOf result CommandError.StoreFault → Rose (S.failed store.old) (S.failed store.new) }
     ensures count { S.failed store.old ≤ S.failed store.new }
     ensures clean { IsTrue (S.is_clean store.new) → IsTrue (S.is_clean store.old) }

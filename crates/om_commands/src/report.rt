@@ -2,7 +2,7 @@ ghost use Rattle.std.specs.Prelude.{◌≡◌, ◌≤◌, ◌++◌, ◌∷◌, [
 ghost use Rattle.om_interval.specs.declared.pid.TheConstants.{MAX_PROCESSES};
 ghost use Rattle.om_recover.specs.Offered.{offered, TellsChange};
 ghost use Rattle.om_recover.specs.Recoverable.{IsGreatest};
-ghost use Rattle.om_commands.specs.Report.{IsReport, IsWritten, HasWord, answer_word, note_word, error_word, offered_row, state_text};
+ghost use Rattle.om_commands.specs.Report.{IsReport, IsWritten, HasWord, answer_word, note_word, error_word, offered_row, intervals_text};
 
 use crate::record_script::NoteLine;
 use om_interval::{DepVec, Pid};
@@ -41,7 +41,7 @@ fn write_state(
     records: &Records,
 ) -> Result<(), AllocError>
     ensures { OnOk result ((state : List ℕ) → TellsChange answer state records.now.state
-        → string_bytes text.old ≡ state_text state → string_bytes text.new ≡ state_text records.now.state) }
+        → string_bytes text.old ≡ intervals_text state → string_bytes text.new ≡ intervals_text records.now.state) }
 {
     if let Ok(Note::Noted { raised: true }) = answer {
         text.clear();
@@ -118,7 +118,7 @@ fn push_error(text: &mut String, error: NoteError) -> Result<(), AllocError>
 
 /// Writes the intervals of a state, each after a space, and ends the line.
 pub fn push_state(text: &mut String, state: &DepVec) -> Result<(), AllocError>
-    ensures { OnOk result (string_bytes text.new ≡ string_bytes text.old ++ state_text state.now) }
+    ensures { OnOk result (string_bytes text.new ≡ string_bytes text.old ++ intervals_text state.now) }
 {
     for interval in state.as_slice() {
         write!(text, " {interval}")?;

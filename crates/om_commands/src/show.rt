@@ -3,7 +3,7 @@
 ghost use Rattle.std.specs.Prelude.{◌≡◌, ◌≤◌, ℕ, List, IsTrue, IfErr, OnOk, IsErrOf};
 ghost use Rattle.std.specs.Io.KnownBytes.{Appends, Keeps};
 ghost use Rattle.om_look.specs.Show.{IsShown};
-ghost use Rattle.om_stable.specs.Calls.{IsKnown};
+ghost use Rattle.om_stable.specs.Calls.{IsCleanCall};
 ghost use Rattle.om_stable.specs.Count.{Rose};
 ghost use Rattle.om_commands.specs.Command.{IsSilent};
 ghost use Rattle.om_commands.specs.Replay.{IsNoMatterOfContent};
@@ -24,12 +24,12 @@ pub fn show<S: Stable, W: Write>(
     store: &mut S,
     writer: &mut W,
 ) -> Result<(), CommandError>
-    ensures text { IsKnown S.is_clean S.IsSound store.old store.new
+    ensures text { IsCleanCall S.is_clean S.IsSound store.old store.new
         → OnOk result ((text : List ℕ) × IsShown (S.content store.old) text
         × Appends (W.contents writer.old) (W.contents writer.new) text) }
     ensures error { IfErr result IsNoMatterOfContent }
     ensures silent { IfErr result (λ error. IsSilent error (Keeps (W.contents writer.old) (W.contents writer.new))) }
-    ensures same { IsKnown S.is_clean S.IsSound store.old store.new → S.content store.new ≡ S.content store.old }
+    ensures same { IsCleanCall S.is_clean S.IsSound store.old store.new → S.content store.new ≡ S.content store.old }
     ensures fault { IsErrOf result CommandError.StoreFault → Rose (S.failed store.old) (S.failed store.new) }
     ensures count { S.failed store.old ≤ S.failed store.new }
     ensures clean { IsTrue (S.is_clean store.new) → IsTrue (S.is_clean store.old) }

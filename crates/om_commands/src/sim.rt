@@ -3,15 +3,15 @@
 ghost use Rattle.std.specs.Prelude.{◌≡◌, ◌⊎◌, ◌≤◌, ℕ, List, All, length, map, Err, IfSome, IfOk, IfErr, OnOk, OnErr, string_bytes};
 ghost use Rattle.std.specs.Io.KnownBytes.{Appends, Keeps};
 ghost use Rattle.om_interval.specs.declared.pid.TheConstants.{MAX_PROCESSES};
-ghost use Rattle.om_manager.specs.State.{size_of};
+ghost use Rattle.om_manager.specs.State.{process_count};
 ghost use Rattle.om_process.specs.Images.{program_of};
 ghost use Rattle.om_process.specs.declared.start.StartFault.{StartFault};
 ghost use Rattle.om_scripts.specs.Programs.{IsProgram, programs_of};
 ghost use Rattle.om_world.specs.Played.{IsFaultless, Played};
 ghost use Rattle.om_world.specs.World.{IsEmpty, IsKnown};
 ghost use Rattle.om_commands.specs.Command.{IsErrorOf, IsSilent};
-ghost use Rattle.om_commands.specs.Sim.{IsAnswer, IsBegun, IsPlayed, IsSim, LacksProcesses};
-ghost use Rattle.om_commands.specs.SimScript.{meaning_of, no_lines};
+ghost use Rattle.om_commands.specs.Sim.{IsBegun, IsPlayed, IsSim, IsSimAnswer, LacksProcesses};
+ghost use Rattle.om_commands.specs.SimScript.{event_script_line, no_events};
 
 use crate::command::{read_input, write_answer};
 use crate::error::CommandError;
@@ -34,7 +34,7 @@ pub fn sim<R: Read, W: Write>(
     ensures text { IfSome (R.remaining reader.old) (λ bytes. OnOk result ((text : List ℕ) × IsSim bytes text
         × Appends (W.contents writer.old) (W.contents writer.new) text)) }
     ensures error { IfSome (R.remaining reader.old) (λ bytes.
-        IfErr result (IsErrorOf meaning_of no_lines LacksProcesses bytes)) }
+        IfErr result (IsErrorOf event_script_line no_events LacksProcesses bytes)) }
     ensures silent { IfErr result (λ error. IsSilent error (Keeps (W.contents writer.old) (W.contents writer.new))) }
 {
     let text = answer_to(alloc, reader)?;
@@ -45,7 +45,7 @@ pub fn sim<R: Read, W: Write>(
 fn answer_to<R: Read>(alloc: Global, reader: &mut R) -> Result<String, CommandError>
     ensures text { IfSome (R.remaining reader.old) (λ bytes. IfOk result (λ text. IsSim bytes (string_bytes text))) }
     ensures error { IfSome (R.remaining reader.old) (λ bytes.
-        IfErr result (IsErrorOf meaning_of no_lines LacksProcesses bytes)) }
+        IfErr result (IsErrorOf event_script_line no_events LacksProcesses bytes)) }
 {
     let script = read_input(alloc, reader, SimScript::new(alloc))?;
     answer(alloc, &script)
@@ -53,7 +53,7 @@ fn answer_to<R: Read>(alloc: Global, reader: &mut R) -> Result<String, CommandEr
 
 // The text that answers a script.
 fn answer(alloc: Global, script: &SimScript) -> Result<String, CommandError>
-    ensures text { IfOk result (λ text. IsAnswer script.now (string_bytes text)) }
+    ensures text { IfOk result (λ text. IsSimAnswer script.now (string_bytes text)) }
     ensures error { IfErr result (λ error. (error ≡ CommandError.NoMemory)
         ⊎ ((error ≡ CommandError.EmptyScript) × LacksProcesses script.now)) }
 {
@@ -70,7 +70,7 @@ pub(crate) fn start(alloc: Global, programs: &Programs) -> Result<World<MemStabl
     requires some { 1 ≤ length programs.now.processes }
     requires few { length programs.now.processes ≤ MAX_PROCESSES }
     ensures begun { IfOk result (IsBegun (programs_of programs.now)) }
-    ensures size { IfOk result (λ world. size_of world.manager ≡ length programs.now.processes) }
+    ensures size { IfOk result (λ world. process_count world.manager ≡ length programs.now.processes) }
 {
     let images = programs.images(alloc)?;
     begin(alloc, &images)
@@ -83,7 +83,7 @@ fn told(
     world: &mut World<MemStable>,
 ) -> Result<String, AllocError>
     requires known { IsKnown world.old }
-    requires managed { length script.now.cluster.processes ≤ size_of world.old.manager }
+    requires managed { length script.now.cluster.processes ≤ process_count world.old.manager }
     ensures { IfOk result (λ text. IsPlayed script.now world.old (string_bytes text)) }
 {
     let answers = play(alloc, world, script.events())?;
@@ -108,7 +108,7 @@ fn begin(alloc: Global, images: &[Image]) -> Result<World<MemStable>, AllocError
     requires few { length images.now ≤ MAX_PROCESSES }
     requires sizes { All IsProgram (map program_of images.now) }
     ensures begun { IfOk result (IsBegun (map program_of images.now)) }
-    ensures size { IfOk result (λ world. size_of world.manager ≡ length images.now) }
+    ensures size { IfOk result (λ world. process_count world.manager ≡ length images.now) }
 {
     let stores = empty_stores(alloc, images.len())?;
     match World::start(alloc, images, stores) {
@@ -137,7 +137,7 @@ fn play(
     ensures played { IfOk result (λ answers. Played world.old events.now answers.items world.new) }
     ensures faultless { IfOk result (λ answers. All IsFaultless answers.items) }
     ensures known { IsKnown world.new }
-    ensures size { size_of world.new.manager ≡ size_of world.old.manager }
+    ensures size { process_count world.new.manager ≡ process_count world.old.manager }
 {
     world.play(alloc, events)
 }

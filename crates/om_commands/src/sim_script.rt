@@ -1,7 +1,7 @@
 //! Scripts of a world: its programs and processes, and what is to happen to it.
 
 ghost use Rattle.std.specs.Prelude.{◌≡◌, OnOk};
-ghost use Rattle.om_commands.specs.SimScript.{Script, meaning_of, no_lines, with_event};
+ghost use Rattle.om_commands.specs.SimScript.{EventScript, event_script_line, no_events, with_event};
 
 use crate::events::event_of;
 use om_isa::Ext;
@@ -19,14 +19,14 @@ pub struct SimScript {
 }
 
 impl Model for SimScript {
-    ghost Value = { Script };
+    ghost Value = { EventScript };
 
     ghost view = { λ s. record { cluster = s.programs; events = s.events.items } };
 }
 
 impl SimScript {
     pub fn new(alloc: Global) -> SimScript
-        ensures { result ≡ no_lines }
+        ensures { result ≡ no_events }
     {
         SimScript {
             programs: Programs::new(alloc),
@@ -59,11 +59,11 @@ impl SimScript {
 }
 
 impl Builder for SimScript {
-    ghost State = { Script };
+    ghost State = { EventScript };
 
     ghost state = { λ script. script };
 
-    ghost meaning = { meaning_of };
+    ghost meaning = { event_script_line };
 
     fn add_line(&mut self, alloc: Global, words: &[&[u8]]) -> Result<(), BuildError<LineError>> {
         let [first, words @ ..] = words else {

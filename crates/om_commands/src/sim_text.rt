@@ -4,7 +4,7 @@ ghost use Rattle.std.specs.Prelude.{◌≡◌, ◌++◌, ◌∷◌, ◌<◌, ◌
 ghost use Rattle.std.specs.List.{flat_map, range_with_len};
 ghost use Rattle.om_interval.specs.declared.pid.TheConstants.{MAX_PROCESSES};
 ghost use Rattle.om_manager.specs.Outputs.{held_of};
-ghost use Rattle.om_manager.specs.State as managers;
+ghost use Rattle.om_manager.specs.State.{process_count};
 ghost use Rattle.om_commands.specs.SimText.{accept_text, answer_text, answers_text, bytes_text, core_text, end_text, gathered_text, name_at, output_line, outputs_text, process_line, released_text, refusal_text};
 
 use crate::report::push_state;
@@ -223,7 +223,7 @@ fn push_released(
 ) -> Result<(), AllocError>
     requires processes { n ≤ length programs.now.processes }
     requires few { n ≤ MAX_PROCESSES }
-    requires managed { n ≤ managers.size_of manager.now }
+    requires managed { n ≤ process_count manager.now }
     ensures { OnOk result (string_bytes text.new ≡ string_bytes text.old
         ++ flat_map (released_text programs.now manager.now) (range_with_len 0 n)) }
 {
@@ -244,7 +244,7 @@ fn push_end<S: Stable>(
 ) -> Result<(), AllocError>
     requires processes { n ≤ length programs.now.processes }
     requires few { n ≤ MAX_PROCESSES }
-    requires managed { n ≤ managers.size_of world.now.manager }
+    requires managed { n ≤ process_count world.now.manager }
     ensures { OnOk result (string_bytes text.new ≡ string_bytes text.old ++ end_text programs.now n world.now) }
 {
     text.push_str("recovery")?;
@@ -260,7 +260,7 @@ pub(crate) fn sim_text<S: Stable>(
     world: &World<S>,
     answers: &[Answer],
 ) -> Result<String, AllocError>
-    requires managed { length programs.now.processes ≤ managers.size_of world.now.manager }
+    requires managed { length programs.now.processes ≤ process_count world.now.manager }
     ensures { IfOk result (λ text. string_bytes text ≡ answers_text answers.now
         ++ end_text programs.now (length programs.now.processes) world.now) }
 {

@@ -2,12 +2,12 @@
 
 ghost use Rattle.std.specs.Prelude.{◌≡◌, ◌≢◌, ◌≤◌, ◌++◌, ℕ, List, IsTrue, IfOk, IfErr, OnOk, IsErrOf, Err};
 ghost use Rattle.std.specs.Io.KnownBytes.{Appends, Keeps};
-ghost use Rattle.om_stable.specs.Calls.{IsKnown};
+ghost use Rattle.om_stable.specs.Calls.{IsCleanCall};
 ghost use Rattle.om_stable.specs.Count.{Rose};
 ghost use Rattle.om_process.specs.Stored.{Anyone, CanReplay};
 ghost use Rattle.om_commands.specs.Command.{IsSilent};
 ghost use Rattle.om_commands.specs.Replay.{IsNoMatterOfContent, IsReplayError};
-ghost use Rattle.om_commands.specs.Steps.{GoesOn, IsStepsText, IsTextBehind};
+ghost use Rattle.om_commands.specs.Steps.{IsStepsText, IsTextBehind, TakesSteps};
 
 use crate::command::write_answer;
 use crate::error::CommandError;
@@ -30,15 +30,15 @@ pub fn replay_steps<S: Stable, W: Write>(
     traced: bool,
     writer: &mut W,
 ) -> Result<(), CommandError>
-    ensures text { IsKnown S.is_clean S.IsSound store.old store.new
+    ensures text { IsCleanCall S.is_clean S.IsSound store.old store.new
         → OnOk result ((text : List ℕ) × IsStepsText (S.content store.old) interval steps traced text
         × Appends (W.contents writer.old) (W.contents writer.new) text) }
-    ensures error { IsKnown S.is_clean S.IsSound store.old store.new
+    ensures error { IsCleanCall S.is_clean S.IsSound store.old store.new
         → IfErr result (IsReplayError (S.content store.old) interval) }
-    ensures only { IsKnown S.is_clean S.IsSound store.old store.new → CanReplay Anyone (S.content store.old) interval
+    ensures only { IsCleanCall S.is_clean S.IsSound store.old store.new → CanReplay Anyone (S.content store.old) interval
         → IfErr result IsNoMatterOfContent }
     ensures silent { IfErr result (λ error. IsSilent error (Keeps (W.contents writer.old) (W.contents writer.new))) }
-    ensures same { IsKnown S.is_clean S.IsSound store.old store.new → S.content store.new ≡ S.content store.old }
+    ensures same { IsCleanCall S.is_clean S.IsSound store.old store.new → S.content store.new ≡ S.content store.old }
     ensures fault { IsErrOf result CommandError.StoreFault → Rose (S.failed store.old) (S.failed store.new) }
     ensures count { S.failed store.old ≤ S.failed store.new }
     ensures clean { IsTrue (S.is_clean store.new) → IsTrue (S.is_clean store.old) }
@@ -56,14 +56,14 @@ fn stepped<S: Stable>(
     steps: u64,
     traced: bool,
 ) -> Result<Vec<u8>, CommandError>
-    ensures text { IsKnown S.is_clean S.IsSound store.old store.new
+    ensures text { IsCleanCall S.is_clean S.IsSound store.old store.new
         → IfOk result (λ text. IsStepsText (S.content store.old) interval steps traced text.items) }
-    ensures error { IsKnown S.is_clean S.IsSound store.old store.new
+    ensures error { IsCleanCall S.is_clean S.IsSound store.old store.new
         → IfErr result (IsReplayError (S.content store.old) interval) }
-    ensures only { IsKnown S.is_clean S.IsSound store.old store.new → CanReplay Anyone (S.content store.old) interval
+    ensures only { IsCleanCall S.is_clean S.IsSound store.old store.new → CanReplay Anyone (S.content store.old) interval
         → IfErr result IsNoMatterOfContent }
     ensures silent { result ≢ Err CommandError.CannotWrite }
-    ensures same { IsKnown S.is_clean S.IsSound store.old store.new → S.content store.new ≡ S.content store.old }
+    ensures same { IsCleanCall S.is_clean S.IsSound store.old store.new → S.content store.new ≡ S.content store.old }
     ensures fault { IsErrOf result CommandError.StoreFault → Rose (S.failed store.old) (S.failed store.new) }
     ensures count { S.failed store.old ≤ S.failed store.new }
     ensures clean { IsTrue (S.is_clean store.new) → IsTrue (S.is_clean store.old) }
@@ -97,7 +97,7 @@ fn go_on(
     traced: bool,
     text: &mut Vec<u8>,
 ) -> Result<(), AllocError>
-    ensures { OnOk result ((lines : List ℕ) × GoesOn steps traced core.old core.new lines
+    ensures { OnOk result ((lines : List ℕ) × TakesSteps steps traced core.old core.new lines
         × (text.new.items ≡ text.old.items ++ lines)) }
 {
     if traced {

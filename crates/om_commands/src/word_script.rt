@@ -1,5 +1,5 @@
 ghost use Rattle.std.specs.Prelude.{◌≡◌, ℕ, List, []};
-ghost use Rattle.om_commands.specs.WordScript.{meaning_of};
+ghost use Rattle.om_commands.specs.WordScript.{word_script_line};
 
 use om_text::{BuildError, Builder, LineError, hex_word};
 use std::alloc::Global;
@@ -25,7 +25,7 @@ impl Builder for WordScript {
 
     ghost state = { λ script. script.words.items };
 
-    ghost meaning = { meaning_of };
+    ghost meaning = { word_script_line };
 
     fn add_line(&mut self, _alloc: Global, words: &[&[u8]]) -> Result<(), BuildError<LineError>> {
         let [word] = words else {

@@ -8,7 +8,7 @@ use Rattle.std.specs.Int.{w16, w32, w64, to_le_bytes}
 use Rattle.std.proofs.lemmas.Bool.{and_parts, and_from, leb-true, le-leb, lt-ltb}
 use Rattle.std.proofs.lemmas.List.{append-nil, length-drop, length-take}
 use Rattle.om_interval.specs.declared.pid.TheConstants.{MAX_PROCESSES}
-use Rattle.om_format.specs.declared.queue.Entry.{Entry}
+use Rattle.om_format.specs.declared.queue.QueueEntry.{QueueEntry}
 use Rattle.om_format.specs.declared.limits.TheConstants.{MAX_MEMORY, MAX_BODY, PAGE}
 use Rattle.om_isa.specs.declared.registers.TheConstants.{WRITABLE_REGISTERS}
 use Rattle.om_isa.specs.declared.ext.Ext.{Ext}
@@ -120,7 +120,7 @@ memory_spells memory behind rest after most fits h =
 
 -- ---- queues
 
-entries_spell : (newest low : ℕ) (es : List Entry) (behind : Format) (rest : List (List ℕ)) (after : List ℕ) → newest < 2 ^ 32 → are_entries newest low es ≡ true → IsBytes (flat_map entry_bytes es ++ after) → Spells behind rest after
+entries_spell : (newest low : ℕ) (es : List QueueEntry) (behind : Format) (rest : List (List ℕ)) (after : List ℕ) → newest < 2 ^ 32 → are_entries newest low es ≡ true → IsBytes (flat_map entry_bytes es ++ after) → Spells behind rest after
     → Spells (entries newest low (length es) behind) (flat_map entry_values es ++ rest) (flat_map entry_bytes es ++ after)
 unfolding entries
 entries_spell newest low [] behind rest after lt fine fits h = h

@@ -10,7 +10,7 @@ use Rattle.om_format.specs.declared.checkpoint_reading.Front.{Front}
 use Rattle.om_format.specs.declared.head.Head.{Head}
 use Rattle.om_format.specs.declared.error.DecodeError.{DecodeError}
 use Rattle.om_format.specs.declared.error.DecodeError.TheVariants.{Field}
-use Rattle.om_format.specs.declared.queue.Entry.{Entry}
+use Rattle.om_format.specs.declared.queue.QueueEntry.{QueueEntry}
 use Rattle.om_format.specs.declared.version.Version.{Version}
 use Rattle.om_format.specs.declared.version.Version.TheVariants.{V1, V2}
 use Rattle.om_format.specs.Formats.{Format, end, two, eight}
@@ -130,10 +130,10 @@ front_read bytes behind f e ok = front_read_from bytes behind f (before_memory_a
 
 -- ---- values that are the same
 
-entry_made : ℕ → List ℕ → Entry
+entry_made : ℕ → List ℕ → QueueEntry
 entry_made interval body = record { interval = interval; body = body }
 
-same_entry : (a b : Entry) → a.interval ≡ b.interval → a.body ≡ b.body → a ≡ b
+same_entry : (a b : QueueEntry) → a.interval ≡ b.interval → a.body ≡ b.body → a ≡ b
 unfolding entry_made
 same_entry a b p q = (let same : entry_made a.interval a.body ≡ entry_made b.interval b.body = cc in same)
 
@@ -144,7 +144,7 @@ same_page : (a b : Page) → a.index ≡ b.index → a.bytes ≡ b.bytes → a �
 unfolding page_made
 same_page a b p q = (let same : page_made a.index a.bytes ≡ page_made b.index b.bytes = cc in same)
 
-same_entries : (a b : List Entry) (x y : List (List ℕ)) → length a ≡ length b → flat_map entry_values a ++ x ≡ flat_map entry_values b ++ y → (a ≡ b) × (x ≡ y)
+same_entries : (a b : List QueueEntry) (x y : List (List ℕ)) → length a ≡ length b → flat_map entry_values a ++ x ≡ flat_map entry_values b ++ y → (a ≡ b) × (x ≡ y)
 same_entries [] [] x y len e = (refl, e)
 same_entries [] (b ∷ more_b) x y len e = absurd (omega arith)
 same_entries (a ∷ more_a) [] x y len e = absurd (omega arith)
@@ -156,7 +156,7 @@ same_entries (a ∷ more_a) (b ∷ more_b) x y len e =
     let here = same_entry a b interval body in
     ((let first = more.0 in cc), more.1)
 
-queue_made : ℕ → List Entry → QueueRecord
+queue_made : ℕ → List QueueEntry → QueueRecord
 queue_made first entries = record { first = first; entries = entries }
 
 same_queue : (q p : QueueRecord) (x y : List (List ℕ)) → queue_end q ≡ queue_end p → queue_values q ++ x ≡ queue_values p ++ y → (q ≡ p) × (x ≡ y)

@@ -4,10 +4,9 @@ use Rattle.std.proofs.lemmas.Bool.{cases_lt, lt-ltb, le-ltb}
 use Rattle.std.proofs.lemmas.List.{length-take-le}
 use Rattle.om_format.specs.declared.error.DecodeError.{DecodeError}
 use Rattle.om_format.specs.declared.error.DecodeError.TheVariants.{Short}
-use Rattle.om_format.specs.Formats.{Size, bytes_in}
+use Rattle.om_format.specs.Formats.{Size, bytes_in, one}
 use Rattle.om_format.specs.FirstFault.{values_at}
 use Rattle.om_format.specs.steps.Reading.{◌>>=◌, allow, number_at, numbers_at, bytes_at, opening_at, counted_at}
-use Rattle.om_format.specs.Formats.{one}
 
 -- what holds of what a reading gives, where it gives something
 abbrev pub Holds : {A : Type 0} → (A → Type 0) → Result A DecodeError → Type 0

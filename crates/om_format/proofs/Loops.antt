@@ -2,14 +2,14 @@
 use Rattle.std.proofs.Common.{◌≡◌, ℕ, suc, ◌-◌, ◌+◌, ◌*◌, ◌≤◌, ◌<◌, List, [], ◌∷◌, ◌++◌, length, take, drop, min, replicate, get_or, Result, Ok, Err, refl, sym, ap, ◌∙◌, add-one, append_assoc, arith, drop-cons}
 use Rattle.std.proofs.lemmas.List.{append-nil, drop_all, take_all}
 use Rattle.om_format.specs.declared.error.DecodeError.{DecodeError}
-use Rattle.om_format.specs.declared.queue.Entry.{Entry}
+use Rattle.om_format.specs.declared.queue.QueueEntry.{QueueEntry}
 use Rattle.om_format.specs.Formats.{four}
 use Rattle.om_format.specs.Queues.{QueueRecord}
 use Rattle.om_format.specs.Outcomes.{Fails}
 use Rattle.om_format.specs.steps.Reading.{◌>>=◌}
 use Rattle.om_format.specs.declared.limits.TheConstants.{PAGE}
 use Rattle.om_format.specs.Pages.{Page, page_count}
-use Rattle.om_format.specs.steps.CheckpointReading.{page_at, pages_at, entry_at, entries_at, queue_at, queues_at}
+use Rattle.om_format.specs.steps.CheckpointReading.{next_page_at, pages_at, entry_at, entries_at, queue_at, queues_at}
 
 -- what was read before, and what is still read
 abbrev pub with_front : {A : Type 0} → List A → Result (List A × ℕ × List ℕ) DecodeError → Result (List A × ℕ × List ℕ) DecodeError
@@ -22,8 +22,8 @@ regroup front e (Err f) = refl
 whole_front : {A : Type 0} (front : List A) (offset : ℕ) (bytes : List ℕ) → with_front front (Ok ([], offset, bytes)) ≡ Ok (front, offset, bytes)
 whole_front front offset bytes = ap (λ (es : List _). Ok (es, offset, bytes)) (append-nil front)
 
-module _ (newest count : ℕ) (total : Result (List Entry × ℕ × List ℕ) DecodeError) where
-  pub entries_go_on : (front : List Entry) (i low offset : ℕ) (bytes : List ℕ) (e : Entry) (after : ℕ) (rest : List ℕ) → i < count → entry_at newest low offset bytes ≡ Ok (e, after, rest)
+module _ (newest count : ℕ) (total : Result (List QueueEntry × ℕ × List ℕ) DecodeError) where
+  pub entries_go_on : (front : List QueueEntry) (i low offset : ℕ) (bytes : List ℕ) (e : QueueEntry) (after : ℕ) (rest : List ℕ) → i < count → entry_at newest low offset bytes ≡ Ok (e, after, rest)
       → with_front front (entries_at newest low (count - i) offset bytes) ≡ total → with_front (front ++ e ∷ []) (entries_at newest e.interval (count - (i + 1)) after rest) ≡ total
   unfolding entries_at
   entries_go_on front i low offset bytes e after rest lt h so_far =
@@ -31,7 +31,7 @@ module _ (newest count : ℕ) (total : Result (List Entry × ℕ × List ℕ) De
       let one : with_front front (entries_at newest low (count - i) offset bytes) ≡ with_front (front ++ e ∷ []) (entries_at newest e.interval (count - (i + 1)) after rest) = rw (left, h) (regroup front e (entries_at newest e.interval (count - (i + 1)) after rest)) in
       sym one ∙ so_far
 
-  pub entries_end : (error : DecodeError) (front : List Entry) (i low offset : ℕ) (bytes : List ℕ) → i < count → Fails error (entry_at newest low offset bytes)
+  pub entries_end : (error : DecodeError) (front : List QueueEntry) (i low offset : ℕ) (bytes : List ℕ) → i < count → Fails error (entry_at newest low offset bytes)
       → with_front front (entries_at newest low (count - i) offset bytes) ≡ total → Fails error total
   unfolding entries_at
   entries_end error front i low offset bytes lt h so_far = λ other.
@@ -40,7 +40,7 @@ module _ (newest count : ℕ) (total : Result (List Entry × ℕ × List ℕ) De
       let one : with_front front (entries_at newest low (count - i) offset bytes) ≡ Err error = rw (left, here) refl in
       sym so_far ∙ one
 
-  pub entries_done : (front : List Entry) (i low offset : ℕ) (bytes : List ℕ) → count ≤ i → with_front front (entries_at newest low (count - i) offset bytes) ≡ total → total ≡ Ok (front, offset, bytes)
+  pub entries_done : (front : List QueueEntry) (i low offset : ℕ) (bytes : List ℕ) → count ≤ i → with_front front (entries_at newest low (count - i) offset bytes) ≡ total → total ≡ Ok (front, offset, bytes)
   unfolding entries_at
   entries_done front i low offset bytes le so_far =
       let left : count - i ≡ 0 = omega arith in
@@ -92,7 +92,7 @@ last_front value size low len =
     rw (gap, whole) refl
 
 module _ (size count : ℕ) (total : Result (List ℕ × ℕ × List ℕ) DecodeError) where
-  pub pages_go_on : (front : List ℕ) (i low offset : ℕ) (bytes : List ℕ) (page : Page) (rest : List ℕ) → i < count → page_at size low offset bytes ≡ Ok (page, rest)
+  pub pages_go_on : (front : List ℕ) (i low offset : ℕ) (bytes : List ℕ) (page : Page) (rest : List ℕ) → i < count → next_page_at size low offset bytes ≡ Ok (page, rest)
       → with_front front (pages_at size low (count - i) offset bytes) ≡ total
       → with_front ((front ++ replicate ((page.index - low) * PAGE) 0) ++ page.bytes) (pages_at size (page.index + 1) (count - (i + 1)) (offset + (2 + length page.bytes)) rest) ≡ total
   unfolding pages_at
@@ -103,7 +103,7 @@ module _ (size count : ℕ) (total : Result (List ℕ × ℕ × List ℕ) Decode
       let one : with_front front (pages_at size low (count - i) offset bytes) ≡ with_front ((front ++ zeros) ++ page.bytes) more = rw (left, h) (regroup_page front zeros page.bytes more) in
       sym one ∙ so_far
 
-  pub pages_end : (error : DecodeError) (front : List ℕ) (i low offset : ℕ) (bytes : List ℕ) → i < count → page_at size low offset bytes ≡ Err error
+  pub pages_end : (error : DecodeError) (front : List ℕ) (i low offset : ℕ) (bytes : List ℕ) → i < count → next_page_at size low offset bytes ≡ Err error
       → with_front front (pages_at size low (count - i) offset bytes) ≡ total → total ≡ Err error
   unfolding pages_at
   pages_end error front i low offset bytes lt h so_far =

@@ -12,7 +12,7 @@ use Rattle.om_format.specs.Formats.{two, Format, bytes}
 use Rattle.om_format.specs.Pages.{Page, page_count, page_size, is_kept, kept_pages, pages, counted_pages, page_values}
 use Rattle.om_format.specs.Versions.{memory_in, memory_values}
 use Rattle.om_format.specs.steps.Reading.{◌>>=◌, allow, number_at, bytes_at, fields_at}
-use Rattle.om_format.specs.steps.CheckpointReading.{page_at, pages_at, memory_at}
+use Rattle.om_format.specs.steps.CheckpointReading.{next_page_at, pages_at, memory_at}
 use Rattle.om_format.proofs.Parts.{one_number, bytes_is, bind_assoc, bind_same}
 use Rattle.om_format.proofs.Holding.{Holds, then_holds, any_holds, allow_holds, holding_same, allow_same, bytes_hold}
 use Rattle.om_format.proofs.Queues.{bind_done, behind_of}
@@ -29,8 +29,8 @@ pub record FitsPage (size low : ℕ) (page : Page) : Type 0 where
   pub whole : length page.bytes ≡ page_size size page.index
   pub kept : is_kept page.bytes ≡ true
 
-pub page_hold : (size low offset : ℕ) (bytes : List ℕ) → Holds (λ x. FitsPage size low x.0) (page_at size low offset bytes)
-unfolding page_at
+pub page_hold : (size low offset : ℕ) (bytes : List ℕ) → Holds (λ x. FitsPage size low x.0) (next_page_at size low offset bytes)
+unfolding next_page_at
 page_hold size low offset bytes =
     let P : Page × List ℕ → Type 0 = λ x. FitsPage size low x.0 in
     any_holds P (number_at two bytes) _ (λ index. allow_holds P (nat_le low index.0 && nat_lt index.0 (page_count size)) _ _ (λ fine.
@@ -56,7 +56,7 @@ pages_hold size low zero offset bytes = record {
   kept = ap length (none_kept low (page_count size - low) (size - low * PAGE));
 }
 pages_hold size low (suc count) offset bytes =
-    then_holds _ (λ x. FitsPage size low x.0) (page_at size low offset bytes) _ (page_hold size low offset bytes) (λ page h.
+    then_holds _ (λ x. FitsPage size low x.0) (next_page_at size low offset bytes) _ (page_hold size low offset bytes) (λ page h.
     then_holds _ (λ x. FitsPages size (page.0.index + 1) count x.0) (pages_at size (page.0.index + 1) count (offset + (2 + length page.0.bytes)) page.1) _ (pages_hold size (page.0.index + 1) count (offset + (2 + length page.0.bytes)) page.1) (λ more m.
     next_fits size low count page.0 more.0 h m))
 
@@ -74,7 +74,7 @@ behind_page size low count offset behind page bytes h more =
 
 pub pages_is : (size low count : ℕ) (behind : Format) (offset : ℕ) (bytes : List ℕ)
     → fields_at (pages size low count behind) offset bytes ≡ (pages_at size low count offset bytes >>= λ x. behind_of behind (flat_map page_values (kept_at size low x.0)) x.1 x.2)
-unfolding pages pages_at page_at
+unfolding pages pages_at next_page_at
 pages_is size low zero behind offset bytes =
     rw (none_kept low (page_count size - low) (size - low * PAGE)) (bind_done (fields_at behind offset bytes))
 pages_is size low (suc count) behind offset bytes =

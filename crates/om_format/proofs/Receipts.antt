@@ -5,7 +5,7 @@ use Rattle.std.proofs.lemmas.List.{append-nil}
 use Rattle.om_format.specs.declared.error.DecodeError.{DecodeError}
 use Rattle.om_format.specs.declared.error.DecodeError.TheVariants.{Memory}
 use Rattle.om_format.specs.declared.receipt.Receipt.{Receipt}
-use Rattle.std.specs.Prelude.{IfOk, IfErr}
+use Rattle.std.specs.Prelude.{IfOk, IfErr, ◌==◌, IsOk}
 use Rattle.std.specs.declared.alloc.AllocError.{AllocError}
 use Rattle.std.specs.Global.{Vec}
 use Rattle.std.specs.Int.{w16, w32, w64, to_le_bytes}
@@ -21,7 +21,6 @@ use Rattle.om_format.proofs.Numbers.{IsBytes, within_bytes, numbers-bytes}
 use Rattle.om_format.proofs.Parts.{one_number, last_body_is, opening_is, bind_assoc}
 use Rattle.om_format.proofs.Formats.{bind_ok, ok_is, found, again, faulty, read_all, fault_or_memory}
 use Rattle.om_format.proofs.Holding.{holding_same, opening_hold}
-use Rattle.std.specs.Prelude.{◌==◌, IsOk}
 
 pub receipt_is : (bytes : List ℕ) → fields_at receipt_format 0 bytes ≡ (receipt_at bytes >>= λ r. Ok (receipt_values r))
 unfolding receipt_format receipt_at receipt_fields_at ends_at order_at pid_at

@@ -1,14 +1,14 @@
 -- Queues: the kept ends of numbered lists, and their format.
 use Rattle.std.specs.Prelude.{ℕ, zero, suc, ◌+◌, ◌-◌, ◌&&◌, List, [], ◌∷◌, length, Bool, true, nat_le}
 use Rattle.std.specs.List.{flat_map}
-use Rattle.om_format.specs.declared.queue.Entry.{Entry}
+use Rattle.om_format.specs.declared.queue.QueueEntry.{QueueEntry}
 use Rattle.om_format.specs.declared.queue.Queue.{Queue}
 use Rattle.om_format.specs.Formats.{Size, four, Format, number, body, is_body_size}
 
 -- a queue without where it lies in memory
 pub record QueueRecord : Type 0 where
   pub first : ℕ
-  pub entries : List Entry
+  pub entries : List QueueEntry
 
 -- what is seen of a queue
 abbrev pub queue_record : Queue → QueueRecord
@@ -41,7 +41,7 @@ queues newest [] behind = behind
 queues newest (stop ∷ stops) behind = queue four newest stop (queues newest stops behind)
 
 -- the values of an entry's fields
-abbrev pub entry_values : Entry → List (List ℕ)
+abbrev pub entry_values : QueueEntry → List (List ℕ)
 entry_values e = (e.interval ∷ []) ∷ (length e.body ∷ []) ∷ e.body ∷ []
 
 -- the values of a queue's fields
@@ -49,7 +49,7 @@ abbrev pub queue_values : QueueRecord → List (List ℕ)
 queue_values q = (q.first ∷ []) ∷ flat_map entry_values q.entries
 
 -- the intervals of the entries do not fall from this one on, and pass none that is newer
-abbrev pub are_entries : ℕ → ℕ → List Entry → Bool
+abbrev pub are_entries : ℕ → ℕ → List QueueEntry → Bool
 are_entries newest low [] = true
 are_entries newest low (e ∷ more) = is_between low newest e.interval && is_body_size (length e.body) && are_entries newest e.interval more
 

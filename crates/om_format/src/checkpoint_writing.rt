@@ -14,7 +14,7 @@ use crate::checkpoint::Checkpoint;
 use crate::head::Head;
 use crate::limits::{CHECKPOINT_KIND, CHECKPOINT_KIND_M, CHECKPOINT_VERSION_2, PAGE};
 use crate::pages::{count_kept, is_kept, page_count, page_of};
-use crate::queue::{Entry, Queue};
+use crate::queue::{QueueEntry, Queue};
 use om_isa::Ext;
 use std::alloc::AllocError;
 
@@ -109,7 +109,7 @@ pub(crate) fn put_memory(
     Ok(())
 }
 
-fn put_entries(out: &mut Vec<u8>, entries: &[Entry]) -> Result<(), AllocError>
+fn put_entries(out: &mut Vec<u8>, entries: &[QueueEntry]) -> Result<(), AllocError>
     ensures { OnOk result (out.new.items ≡ out.old.items ++ flat_map entry_bytes entries.now) }
 {
     for entry in entries {

@@ -21,7 +21,7 @@ pub use head::Head;
 pub use limits::{MAX_BODY, MAX_MEMORY, MAX_PROCESSES_OF_VERSION_1, MIN_MEMORY, PAGE};
 pub use memory::MemoryBytes;
 pub use message::Message;
-pub use queue::{Entry, Queue};
+pub use queue::{QueueEntry, Queue};
 pub use receipt::Receipt;
 pub use version::Version;
 

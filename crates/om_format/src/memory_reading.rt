@@ -5,7 +5,7 @@ ghost use Rattle.om_format.specs.declared.limits.TheConstants.{MAX_MEMORY};
 ghost use Rattle.om_format.specs.Checkpoints.{is_memory_size};
 ghost use Rattle.om_format.specs.Outcomes.{Gives, Tells};
 ghost use Rattle.om_format.specs.Pages.{page_count, page_size};
-ghost use Rattle.om_format.specs.steps.CheckpointReading.{page_at, pages_at, memory_at, before_memory_at};
+ghost use Rattle.om_format.specs.steps.CheckpointReading.{next_page_at, pages_at, memory_at, before_memory_at};
 ghost use Rattle.om_format.specs.declared.version.Version.TheVariants.{V2};
 
 use crate::error::DecodeError;
@@ -27,7 +27,7 @@ fn page_at(
     requires most { size ≤ MAX_MEMORY }
     requires room { offset + length bytes.now < 2 ^ 64 }
     ensures exact { Tells (λ x. (record { index = x.0; bytes = x.1.now }, x.2.now)) result
-        (page_at size low offset bytes.now) }
+        (next_page_at size low offset bytes.now) }
     ensures above { IfOk result (λ x. low ≤ x.0) }
     ensures below { IfOk result (λ x. x.0 < page_count size) }
     ensures whole { IfOk result (λ x. length x.1.now ≡ page_size size x.0) }

@@ -6,19 +6,19 @@ use std::alloc::{AllocError, Global};
 
 /// A message or an output that is kept, without its number.
 #[derive(Debug, PartialEq, Eq, Drop)]
-pub struct Entry {
+pub struct QueueEntry {
     /// The interval in which it was made.
     pub interval: u32,
     pub body: Body,
 }
 
-impl Entry {
+impl QueueEntry {
     /// The same entry, in memory of its own.
-    pub fn copy(&self, alloc: Global) -> Result<Entry, AllocError>
+    pub fn copy(&self, alloc: Global) -> Result<QueueEntry, AllocError>
         ensures { IfOk result (λ copy. copy ≡ self.now) }
     {
         let body = self.body.copy(alloc)?;
-        Ok(Entry {
+        Ok(QueueEntry {
             interval: self.interval,
             body,
         })
@@ -30,7 +30,7 @@ impl Entry {
 pub struct Queue {
     /// The number of the first entry.
     pub first: u64,
-    pub entries: Vec<Entry>,
+    pub entries: Vec<QueueEntry>,
 }
 
 impl Queue {

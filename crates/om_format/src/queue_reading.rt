@@ -8,7 +8,7 @@ ghost use Rattle.om_format.specs.Queues.{queue_record};
 
 use crate::body::Body;
 use crate::error::DecodeError;
-use crate::queue::{Entry, Queue};
+use crate::queue::{QueueEntry, Queue};
 use crate::reading::{Taken, body_at, u32_at, u64_at};
 use std::alloc::Global;
 
@@ -20,7 +20,7 @@ fn entry_at<'a>(
     low: u32,
     offset: usize,
     bytes: &'a [u8],
-) -> Result<Taken<'a, Entry>, DecodeError>
+) -> Result<Taken<'a, QueueEntry>, DecodeError>
     requires room { offset + length bytes.now < 2 ^ 64 }
     ensures exact { Gives (λ x. (x.value, x.offset, x.rest.now)) result (entry_at newest low offset bytes.now) }
     ensures left { IfOk result (λ x. x.offset + length x.rest.now ≡ offset + length bytes.now) }
@@ -32,7 +32,7 @@ fn entry_at<'a>(
     let (content, rest) = body_at(offset + 4, rest)?;
     let body = Body::from_slice(alloc, content)?;
     Ok(Taken {
-        value: Entry { interval, body },
+        value: QueueEntry { interval, body },
         offset: offset + 6 + content.len(),
         rest,
     })
@@ -45,7 +45,7 @@ fn entries_at<'a>(
     count: u64,
     offset: usize,
     bytes: &'a [u8],
-) -> Result<Taken<'a, Vec<Entry>>, DecodeError>
+) -> Result<Taken<'a, Vec<QueueEntry>>, DecodeError>
     requires room { offset + length bytes.now < 2 ^ 64 }
     ensures exact { Gives (λ x. (x.value.items, x.offset, x.rest.now)) result
         (entries_at newest 0 count offset bytes.now) }

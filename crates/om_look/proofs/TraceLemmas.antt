@@ -2,7 +2,7 @@
 use Rattle.std.proofs.Common.{◌≡◌, ℕ, ◌+◌, ◌-◌, ◌<◌, ◌≤◌, List, [], ◌∷◌, ◌++◌, length, drop, get_or, refl, sym, ap, ◌∙◌, subst, append_assoc, append-nil, arith}
 use Rattle.std.specs.Prelude.{Some, decimal, max, slice_get}
 use Rattle.std.proofs.lemmas.Bool.{lt-ltb}
-use Rattle.om_format.specs.declared.queue.Entry.{Entry}
+use Rattle.om_format.specs.declared.queue.QueueEntry.{QueueEntry}
 use Rattle.om_format.specs.Queues.{QueueRecord}
 use Rattle.om_machine.specs.declared.event.Event.{Event}
 use Rattle.om_machine.specs.declared.event.Event.TheVariants.{Call}
@@ -39,7 +39,7 @@ pub nothing_gained : (words : List ℕ) (kept : ℕ) (q : QueueRecord) (text : L
 nothing_gained words kept q text le = rw (nothing_at kept q.entries le) (sym (append-nil text))
 
 -- an entry was
-gained : (words : List ℕ) (kept number : ℕ) (body : List ℕ) (q : QueueRecord) (e : Entry) (old mid new : List ℕ) → slice_get q.entries kept ≡ Some e → number ≡ q.first + kept → body ≡ e.body
+gained : (words : List ℕ) (kept number : ℕ) (body : List ℕ) (q : QueueRecord) (e : QueueEntry) (old mid new : List ℕ) → slice_get q.entries kept ≡ Some e → number ≡ q.first + kept → body ≡ e.body
     → mid ≡ old ++ words → new ≡ mid ++ 32 ∷ decimal number ++ 32 ∷ body_text body ++ 10 ∷ [] → new ≡ old ++ gained_text words kept q
 gained words kept number body q e old mid new at is same first second =
     rw at (second ∙ ap (λ t. t ++ 32 ∷ decimal number ++ 32 ∷ body_text body ++ 10 ∷ []) first

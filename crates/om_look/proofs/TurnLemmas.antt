@@ -12,7 +12,7 @@ use Rattle.om_machine.specs.declared.event.Event.TheVariants.{Trap}
 use Rattle.om_machine.specs.declared.event.Cause.{Cause}
 use Rattle.om_machine.specs.declared.event.Cause.TheVariants.{CountFull, FetchOutside, Illegal}
 use Rattle.om_machine.specs.declared.limits.TheConstants.{LAST_COUNT}
-use Rattle.om_process.specs.Core.{CoreState, size_of, with_now}
+use Rattle.om_process.specs.Core.{CoreState, cluster_size, with_now}
 use Rattle.om_process.specs.Process.{Process, made, moved}
 use Rattle.om_process.specs.Turns.{Turns, after_event, next_move, next_turn}
 use Rattle.om_process.proofs.Going.{turns_add}
@@ -102,14 +102,14 @@ traced_turns own n (suc k) s t lines traced = (traced.0, traced.1, traced_turns 
 same_own : (start mid : CoreState) → mid ≡ with_now start mid.now → mid.own ≡ start.own
 same_own start mid rest = ap (λ (c : CoreState). c.own) rest
 
-pub core_traced : (start mid : CoreState) (k : ℕ) (t : Process) (before lines : List ℕ) → mid ≡ with_now start mid.now → size_of mid.now ≡ size_of start.now → IsTrace start.own (size_of start.now) k start.now mid.now before
-    → IsTrace mid.own (size_of mid.now) 1 mid.now t lines → IsTrace start.own (size_of start.now) (k + 1) start.now t (before ++ lines)
+pub core_traced : (start mid : CoreState) (k : ℕ) (t : Process) (before lines : List ℕ) → mid ≡ with_now start mid.now → cluster_size mid.now ≡ cluster_size start.now → IsTrace start.own (cluster_size start.now) k start.now mid.now before
+    → IsTrace mid.own (cluster_size mid.now) 1 mid.now t lines → IsTrace start.own (cluster_size start.now) (k + 1) start.now t (before ++ lines)
 core_traced start mid k t before lines rest size first one =
-    let here : IsTrace start.own (size_of start.now) 1 mid.now t lines = subst (λ n. IsTrace start.own n 1 mid.now t lines) size (subst (λ o. IsTrace o (size_of mid.now) 1 mid.now t lines) (same_own start mid rest) one) in
-    rw add-one (traced_more start.own (size_of start.now) k start.now mid.now t before lines first here)
+    let here : IsTrace start.own (cluster_size start.now) 1 mid.now t lines = subst (λ n. IsTrace start.own n 1 mid.now t lines) size (subst (λ o. IsTrace o (cluster_size mid.now) 1 mid.now t lines) (same_own start mid rest) one) in
+    rw add-one (traced_more start.own (cluster_size start.now) k start.now mid.now t before lines first here)
 
-pub core_turns : (start mid : CoreState) (k j : ℕ) (t : Process) → mid ≡ with_now start mid.now → size_of mid.now ≡ size_of start.now → Turns start.own (size_of start.now) k start.now mid.now
-    → Turns mid.own (size_of mid.now) j mid.now t → Turns start.own (size_of start.now) (k + j) start.now t
+pub core_turns : (start mid : CoreState) (k j : ℕ) (t : Process) → mid ≡ with_now start mid.now → cluster_size mid.now ≡ cluster_size start.now → Turns start.own (cluster_size start.now) k start.now mid.now
+    → Turns mid.own (cluster_size mid.now) j mid.now t → Turns start.own (cluster_size start.now) (k + j) start.now t
 core_turns start mid k j t rest size first next =
-    let here : Turns start.own (size_of start.now) j mid.now t = subst (λ n. Turns start.own n j mid.now t) size (subst (λ o. Turns o (size_of mid.now) j mid.now t) (same_own start mid rest) next) in
-    turns_add start.own (size_of start.now) k j start.now mid.now t first here
+    let here : Turns start.own (cluster_size start.now) j mid.now t = subst (λ n. Turns start.own n j mid.now t) size (subst (λ o. Turns o (cluster_size mid.now) j mid.now t) (same_own start mid rest) next) in
+    turns_add start.own (cluster_size start.now) k j start.now mid.now t first here

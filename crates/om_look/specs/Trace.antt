@@ -10,7 +10,7 @@ use Rattle.om_machine.specs.derived.NextStep.{next_of}
 use Rattle.om_machine.specs.declared.event.Event.{Event}
 use Rattle.om_machine.specs.declared.event.Event.TheVariants.{Call}
 use Rattle.om_machine.specs.declared.event.EnvCall.TheVariants.{Send, Output, Who}
-use Rattle.om_format.specs.declared.queue.Entry.{Entry}
+use Rattle.om_format.specs.declared.queue.QueueEntry.{QueueEntry}
 use Rattle.om_format.specs.Queues.{QueueRecord}
 use Rattle.om_process.specs.Kept.{queue_at}
 use Rattle.om_process.specs.Process.{Process}
@@ -56,7 +56,7 @@ body_text [] = codes "-"
 body_text (byte ∷ bytes) = encode_lower (byte ∷ bytes)
 
 -- the line of an entry that a queue has gained, with its number, if it has
-abbrev pub entry_text : List ℕ → ℕ → Option Entry → List ℕ
+abbrev pub entry_text : List ℕ → ℕ → Option QueueEntry → List ℕ
 entry_text words number None = []
 entry_text words number (Some e) = words ++ 32 ∷ decimal number ++ 32 ∷ body_text e.body ++ 10 ∷ []
 

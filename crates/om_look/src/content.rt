@@ -5,7 +5,7 @@ ghost use Rattle.om_look.specs.Lines.{AreLines, IsReceiptLine};
 ghost use Rattle.om_look.specs.Show.{IsShown};
 ghost use Rattle.om_look.specs.declared.fault.LookFault.{LookFault};
 ghost use Rattle.om_look.specs.steps.Found.{IsTextOf, lines_text};
-ghost use Rattle.om_stable.specs.Calls.{IsKnown};
+ghost use Rattle.om_stable.specs.Calls.{IsCleanCall};
 ghost use Rattle.om_stable.specs.Content.{rows_of};
 ghost use Rattle.om_stable.specs.Count.{Rose};
 
@@ -23,9 +23,9 @@ use std::alloc::{AllocError, Global};
 /// From each checkpoint the process is replayed once, or twice where a receipt is missing behind it: the work is linear in what
 /// is stored.
 pub fn content_text<S: Stable>(alloc: Global, store: &mut S) -> Result<String, LookFault>
-    ensures text { IsKnown S.is_clean S.IsSound store.old store.new
+    ensures text { IsCleanCall S.is_clean S.IsSound store.old store.new
         → IfOk result (λ text. IsShown (S.content store.old) (string_bytes text)) }
-    ensures same { IsKnown S.is_clean S.IsSound store.old store.new → S.content store.new ≡ S.content store.old }
+    ensures same { IsCleanCall S.is_clean S.IsSound store.old store.new → S.content store.new ≡ S.content store.old }
     ensures fault { IsErrOf result LookFault.Fault → Rose (S.failed store.old) (S.failed store.new) }
     ensures count { S.failed store.old ≤ S.failed store.new }
     ensures clean { IsTrue (S.is_clean store.new) → IsTrue (S.is_clean store.old) }

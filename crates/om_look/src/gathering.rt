@@ -7,7 +7,7 @@ ghost use Rattle.om_look.specs.Stops.{StopsAt};
 ghost use Rattle.om_look.specs.steps.Found.{AreFound, Finds, before};
 ghost use Rattle.om_look.specs.steps.Reading.{IsReading};
 ghost use Rattle.om_process.specs.declared.limits.TheConstants.{LAST_INTERVAL};
-ghost use Rattle.om_stable.specs.Calls.{IsKnown};
+ghost use Rattle.om_stable.specs.Calls.{IsCleanCall};
 ghost use Rattle.om_stable.specs.Content.{IsEffective};
 
 use crate::fault::LookFault;
@@ -29,7 +29,7 @@ pub struct Found {
 
 // The checkpoints, ascending. One is kept as its line, since its bytes may be many.
 pub(crate) fn gather<S: Stable>(alloc: Global, store: &mut S) -> Result<Vec<Found>, LookFault>
-    ensures all { IsKnown S.is_clean S.IsSound store.old store.new
+    ensures all { IsCleanCall S.is_clean S.IsSound store.old store.new
         → IfOk result (λ found. AreFound (S.content store.old) None found.items) }
     ensures reads { IsReading S.content S.failed S.is_clean S.IsSound store.old (IsErrOf result LookFault.Fault) store.new }
 {
@@ -50,7 +50,7 @@ fn find<S: Stable>(
     found: &mut Vec<Found>,
 ) -> Result<Option<u32>, LookFault>
     ensures below { IfOk result (λ next. IfSome next (λ y. y < to)) }
-    ensures finds { IsKnown S.is_clean S.IsSound store.old store.new
+    ensures finds { IsCleanCall S.is_clean S.IsSound store.old store.new
         → IfOk result (λ next. Finds (S.content store.old) to found.old.items next found.new.items) }
     ensures reads { IsReading S.content S.failed S.is_clean S.IsSound store.old (IsErrOf result LookFault.Fault) store.new }
 {
@@ -82,7 +82,7 @@ fn found_at<S: Stable>(
 ) -> Result<Found, LookFault>
     ensures interval { IfOk result (λ f. f.interval ≡ x) }
     ensures line { IfOk result (λ f. IsCheckpointLine (x, bytes.now) (string_bytes f.line)) }
-    ensures stops { IsKnown S.is_clean S.IsSound store.old store.new → (c : ℕ)
+    ensures stops { IsCleanCall S.is_clean S.IsSound store.old store.new → (c : ℕ)
         → IsEffective (S.content store.old).checkpoints to c → IfOk result (λ f. StopsAt (S.content store.old) c to f.stop) }
     ensures reads { IsReading S.content S.failed S.is_clean S.IsSound store.old (IsErrOf result LookFault.Fault) store.new }
 {

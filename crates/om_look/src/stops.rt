@@ -5,7 +5,7 @@ ghost use Rattle.om_look.specs.declared.fault.LookFault.{LookFault};
 ghost use Rattle.om_look.specs.Stops.{StopsAt};
 ghost use Rattle.om_look.specs.steps.Reading.{IsReading};
 ghost use Rattle.om_look.specs.steps.Told.{NoneMissing, stop_told};
-ghost use Rattle.om_stable.specs.Calls.{IsKnown};
+ghost use Rattle.om_stable.specs.Calls.{IsCleanCall};
 ghost use Rattle.om_stable.specs.Content.{IsEffective};
 
 use crate::fault::LookFault;
@@ -16,7 +16,7 @@ use std::alloc::Global;
 // The first interval up to `x` to which the process is not replayed, from its effective checkpoint of `x` on; where it is to
 // each, the one behind `x`. It is replayed once, or where a receipt is missing once more, up to there.
 pub(crate) fn stop_of<S: Stable>(alloc: Global, store: &mut S, x: u32) -> Result<u64, LookFault>
-    ensures stops { IsKnown S.is_clean S.IsSound store.old store.new → (c : ℕ)
+    ensures stops { IsCleanCall S.is_clean S.IsSound store.old store.new → (c : ℕ)
         → IsEffective (S.content store.old).checkpoints x c → IfOk result (StopsAt (S.content store.old) c x) }
     ensures reads { IsReading S.content S.failed S.is_clean S.IsSound store.old (IsErrOf result LookFault.Fault) store.new }
 {
@@ -31,7 +31,7 @@ pub(crate) fn stop_of<S: Stable>(alloc: Global, store: &mut S, x: u32) -> Result
 
 // The same up to the interval before `y`, where no receipt below `y` is missing.
 fn stop_below<S: Stable>(alloc: Global, store: &mut S, y: u32) -> Result<u64, LookFault>
-    ensures stops { IsKnown S.is_clean S.IsSound store.old store.new → (c : ℕ) → c < y
+    ensures stops { IsCleanCall S.is_clean S.IsSound store.old store.new → (c : ℕ) → c < y
         → IsEffective (S.content store.old).checkpoints (y - 1) c → NoneMissing (S.content store.old) c (y - 1)
         → IfOk result (StopsAt (S.content store.old) c (y - 1)) }
     ensures reads { IsReading S.content S.failed S.is_clean S.IsSound store.old (IsErrOf result LookFault.Fault) store.new }

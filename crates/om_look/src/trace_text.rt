@@ -5,7 +5,7 @@ ghost use Rattle.hex.specs.Hex.{encode_lower};
 ghost use Rattle.om_isa.specs.Text.{text_of};
 ghost use Rattle.om_look.specs.Trace.{answer_text, body_text, gained_text, kept_in, line_text, made_text, place_of, register_text, word_text, written_text};
 ghost use Rattle.om_machine.specs.declared.event.Event.{Event};
-ghost use Rattle.om_process.specs.Core.{size_of};
+ghost use Rattle.om_process.specs.Core.{cluster_size};
 ghost use Rattle.om_process.specs.Kept.{queue_at};
 
 use crate::tracing::Before;
@@ -147,7 +147,7 @@ fn push_first(text: &mut Vec<u8>, after: &Machine) -> Result<(), AllocError>
 
 // How many entries the queue has that a call may add to.
 pub(crate) fn kept_of(core: &ProcCore, event: Event) -> usize
-    ensures { result ≡ kept_in core.now.now.queues (place_of (size_of core.now.now) event) }
+    ensures { result ≡ kept_in core.now.now.queues (place_of (cluster_size core.now.now) event) }
 {
     match event {
         Event::Call(call) => kept_at(core, call),
@@ -156,7 +156,7 @@ pub(crate) fn kept_of(core: &ProcCore, event: Event) -> usize
 }
 
 fn kept_at(core: &ProcCore, call: EnvCall) -> usize
-    ensures { result ≡ kept_in core.now.now.queues (place_of (size_of core.now.now) (Event.Call call)) }
+    ensures { result ≡ kept_in core.now.now.queues (place_of (cluster_size core.now.now) (Event.Call call)) }
 {
     match call {
         EnvCall::Send { to, .. } => {
@@ -179,7 +179,7 @@ pub(crate) fn push_made(
     core: &ProcCore,
 ) -> Result<(), AllocError>
     ensures { OnOk result (text.new.items
-        ≡ text.old.items ++ made_text event (place_of (size_of core.now.now) event) kept core.now.now.queues) }
+        ≡ text.old.items ++ made_text event (place_of (cluster_size core.now.now) event) kept core.now.now.queues) }
 {
     match event {
         Event::Call(EnvCall::Send { to, .. }) => {
@@ -200,7 +200,7 @@ fn push_sent(
     kept: usize,
     core: &ProcCore,
 ) -> Result<(), AllocError>
-    requires { to < size_of core.now.now }
+    requires { to < cluster_size core.now.now }
     ensures { OnOk result (text.new.items
         ≡ text.old.items ++ gained_text (codes "send " ++ decimal to) kept (queue_at core.now.now.queues to)) }
 {
@@ -220,7 +220,7 @@ fn push_output(
     core: &ProcCore,
 ) -> Result<(), AllocError>
     ensures { OnOk result (text.new.items
-        ≡ text.old.items ++ gained_text (codes "out") kept (queue_at core.now.now.queues (size_of core.now.now))) }
+        ≡ text.old.items ++ gained_text (codes "out") kept (queue_at core.now.now.queues (cluster_size core.now.now))) }
 {
     let outputs = core.outputs_from(0);
     if kept >= outputs.len() {

@@ -7,7 +7,7 @@ ghost use Rattle.om_machine.specs.State.{word_at};
 ghost use Rattle.om_machine.specs.derived.NextStep.{next_of};
 ghost use Rattle.om_machine.specs.declared.event.Cause.{Cause};
 ghost use Rattle.om_machine.specs.declared.event.Event.{Event};
-ghost use Rattle.om_process.specs.Core.{CoreTurns, core_turn, move_of, size_of, status_of, with_now};
+ghost use Rattle.om_process.specs.Core.{CoreTurns, cluster_size, core_turn, move_of, status_of, with_now};
 
 use crate::trace_text::{kept_of, push_line, push_made};
 use crate::writes::what_it_writes;
@@ -37,7 +37,7 @@ pub fn trace(
     text: &mut Vec<u8>,
 ) -> Result<Ran, AllocError>
     ensures lines { IfOk result (λ ran. (lines : List ℕ)
-        × IsTrace core.old.own (size_of core.old.now) ran.steps core.old.now core.new.now lines
+        × IsTrace core.old.own (cluster_size core.old.now) ran.steps core.old.now core.new.now lines
         × (text.new.items ≡ text.old.items ++ lines)) }
     ensures turns { IfOk result (λ ran. CoreTurns ran.steps core.old core.new) }
     ensures within { IfOk result (λ ran. ran.steps ≤ fuel) }
@@ -45,7 +45,7 @@ pub fn trace(
     ensures no_more { IfOk result (λ ran. ran.steps < fuel → core_turn core.new ≡ None) }
     ensures at_most { (k : ℕ) × (k ≤ fuel) × CoreTurns k core.old core.new }
     ensures rest { core.new ≡ with_now core.old core.new.now }
-    ensures size { size_of core.new.now ≡ size_of core.old.now }
+    ensures size { cluster_size core.new.now ≡ cluster_size core.old.now }
 {
     let mut steps = 0;
     while steps < fuel {
@@ -66,13 +66,13 @@ pub fn trace(
 // One turn with its lines, if there is one.
 fn turn(alloc: Global, core: &mut ProcCore, text: &mut Vec<u8>) -> Result<bool, AllocError>
     ensures turn { IfOk result (λ went. went ≡ true → (lines : List ℕ)
-        × IsTrace core.old.own (size_of core.old.now) 1 core.old.now core.new.now lines
+        × IsTrace core.old.own (cluster_size core.old.now) 1 core.old.now core.new.now lines
         × (text.new.items ≡ text.old.items ++ lines)) }
     ensures stands { IfOk result (λ went. went ≡ false
         → (core_turn core.new ≡ None) × (core.new.now ≡ core.old.now) × (text.new.items ≡ text.old.items)) }
     ensures at_most { (k : ℕ) × (k ≤ 1) × CoreTurns k core.old core.new }
     ensures rest { core.new ≡ with_now core.old core.new.now }
-    ensures size { size_of core.new.now ≡ size_of core.old.now }
+    ensures size { cluster_size core.new.now ≡ cluster_size core.old.now }
 {
     let Some(before) = about_to_do(core.machine()) else {
         return Ok(false);

@@ -6,7 +6,7 @@ use om_isa::Reg;
 /// The call at which a machine stands is read where it is answered: an effect that held it would have its bytes where the
 /// numbers of the others lie, and these would be put together from bytes at each step.
 #[derive(Clone, Copy)]
-pub enum Effect {
+pub enum EffectNow {
     /// A number goes into a register.
     Put { rd: Reg, value: u32 },
     /// A branch is taken.

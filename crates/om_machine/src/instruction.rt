@@ -5,7 +5,7 @@ ghost use Rattle.om_machine.specs.State.{reg, byte_at, half_at, word_at};
 ghost use Rattle.om_machine.specs.Effects.{branch_effect, address_of, jump_effect, access_fault, signed_byte_at, signed_half_at, load_effect, store_effect, call_effect, effect_of, applied};
 ghost use Rattle.om_machine.specs.steps.Told.{told, CanHave, event_of};
 
-use crate::effect::Effect;
+use crate::effect::EffectNow;
 use crate::event::{Cause, EnvCall, Event};
 use crate::limits::{A0, A1, A2, A7};
 use crate::machine::Machine;
@@ -24,10 +24,10 @@ use om_isa::{Imm12, Inst, Off13, Reg, rows, shape};
 // The effect of a row, with the fields of its form in their order.
 macro_rules! effect {
     ($m:ident (load_upper) u $a:ident $b:ident $c:ident) => {
-        Effect::Put { rd: $a, value: 4096 * $b.value() }
+        EffectNow::Put { rd: $a, value: 4096 * $b.value() }
     };
     ($m:ident (add_upper_to_pc) u $a:ident $b:ident $c:ident) => {
-        Effect::Put { rd: $a, value: add($m.pc, 4096 * $b.value()) }
+        EffectNow::Put { rd: $a, value: add($m.pc, 4096 * $b.value()) }
     };
     ($m:ident (jump) j $a:ident $b:ident $c:ident) => {
         $m.jump($a, add($m.pc, $b.value().cast_unsigned()))
@@ -45,22 +45,22 @@ macro_rules! effect {
         $m.$store($b, $m.address($a, $c))
     };
     ($m:ident (put $value:ident) i $a:ident $b:ident $c:ident) => {
-        Effect::Put { rd: $a, value: $value($m.operand($b), $c.value().cast_unsigned()) }
+        EffectNow::Put { rd: $a, value: $value($m.operand($b), $c.value().cast_unsigned()) }
     };
     ($m:ident (put $value:ident) shift $a:ident $b:ident $c:ident) => {
-        Effect::Put { rd: $a, value: $value($m.operand($b), u32::from($c.value())) }
+        EffectNow::Put { rd: $a, value: $value($m.operand($b), u32::from($c.value())) }
     };
     ($m:ident (put $value:ident) r $a:ident $b:ident $c:ident) => {
-        Effect::Put { rd: $a, value: $value($m.operand($b), $m.operand($c)) }
+        EffectNow::Put { rd: $a, value: $value($m.operand($b), $m.operand($c)) }
     };
     ($m:ident (nothing) fence $a:ident $b:ident $c:ident) => {
-        Effect::Nothing
+        EffectNow::Nothing
     };
     ($m:ident (environment_call) whole $a:ident $b:ident $c:ident) => {
-        Effect::Call
+        EffectNow::Call
     };
     ($m:ident (breakpoint) whole $a:ident $b:ident $c:ident) => {
-        Effect::Trap(Cause::Break)
+        EffectNow::Trap(Cause::Break)
     };
 }
 
@@ -75,7 +75,7 @@ macro_rules! effect_rows {
 impl Machine {
     // What an instruction does now.
     #[inline(always)]
-    pub(crate) fn effect(&self, inst: &Inst) -> Effect
+    pub(crate) fn effect(&self, inst: &Inst) -> EffectNow
         ensures effect { told self.now result ≡ effect_of self.now inst.now }
         ensures can { CanHave self.now result }
     {
@@ -98,31 +98,31 @@ impl Machine {
 
     // A branch to an offset from its own address.
     #[tactic(auto, unfolding(crate::specs::Effects::branch_effect))]
-    fn branch(&self, holds: bool, offset: Off13) -> Effect
+    fn branch(&self, holds: bool, offset: Off13) -> EffectNow
         ensures effect { told self.now result ≡ branch_effect self.now holds offset }
         ensures can { CanHave self.now result }
     {
         if !holds {
-            return Effect::Nothing;
+            return EffectNow::Nothing;
         }
         let target = add(self.pc, offset.value().cast_unsigned());
         if target % 4 == 0 {
-            Effect::Go { target }
+            EffectNow::Go { target }
         } else {
-            Effect::Trap(Cause::TargetMisaligned)
+            EffectNow::Trap(Cause::TargetMisaligned)
         }
     }
 
     // A jump.
     #[tactic(auto, unfolding(crate::specs::Effects::jump_effect))]
-    fn jump(&self, rd: Reg, target: u32) -> Effect
+    fn jump(&self, rd: Reg, target: u32) -> EffectNow
         ensures effect { told self.now result ≡ jump_effect rd target }
         ensures can { CanHave self.now result }
     {
         if target % 4 == 0 {
-            Effect::Jump { rd, target }
+            EffectNow::Jump { rd, target }
         } else {
-            Effect::Trap(Cause::TargetMisaligned)
+            EffectNow::Trap(Cause::TargetMisaligned)
         }
     }
 
@@ -144,13 +144,13 @@ impl Machine {
     }
 
     #[tactic(auto, unfolding(crate::specs::Effects::access_effect))]
-    fn load_byte(&self, rd: Reg, address: u32) -> Effect
+    fn load_byte(&self, rd: Reg, address: u32) -> EffectNow
         ensures effect { told self.now result ≡ load_effect self.now rd 1 signed_byte_at address }
         ensures can { CanHave self.now result }
     {
         match self.access_fault(1, address) {
-            Some(cause) => Effect::Trap(cause),
-            None => Effect::Put {
+            Some(cause) => EffectNow::Trap(cause),
+            None => EffectNow::Put {
                 rd,
                 value: extend_byte(self.memory[address as usize]),
             },
@@ -158,13 +158,13 @@ impl Machine {
     }
 
     #[tactic(auto, unfolding(crate::specs::Effects::access_effect))]
-    fn load_half(&self, rd: Reg, address: u32) -> Effect
+    fn load_half(&self, rd: Reg, address: u32) -> EffectNow
         ensures effect { told self.now result ≡ load_effect self.now rd 2 signed_half_at address }
         ensures can { CanHave self.now result }
     {
         match self.access_fault(2, address) {
-            Some(cause) => Effect::Trap(cause),
-            None => Effect::Put {
+            Some(cause) => EffectNow::Trap(cause),
+            None => EffectNow::Put {
                 rd,
                 value: extend_half(read_half(&self.memory, address as usize)),
             },
@@ -172,13 +172,13 @@ impl Machine {
     }
 
     #[tactic(auto, unfolding(crate::specs::Effects::access_effect))]
-    fn load_word(&self, rd: Reg, address: u32) -> Effect
+    fn load_word(&self, rd: Reg, address: u32) -> EffectNow
         ensures effect { told self.now result ≡ load_effect self.now rd 4 word_at address }
         ensures can { CanHave self.now result }
     {
         match self.access_fault(4, address) {
-            Some(cause) => Effect::Trap(cause),
-            None => Effect::Put {
+            Some(cause) => EffectNow::Trap(cause),
+            None => EffectNow::Put {
                 rd,
                 value: read_word(&self.memory, address as usize),
             },
@@ -186,13 +186,13 @@ impl Machine {
     }
 
     #[tactic(auto, unfolding(crate::specs::Effects::access_effect))]
-    fn load_byte_unsigned(&self, rd: Reg, address: u32) -> Effect
+    fn load_byte_unsigned(&self, rd: Reg, address: u32) -> EffectNow
         ensures effect { told self.now result ≡ load_effect self.now rd 1 byte_at address }
         ensures can { CanHave self.now result }
     {
         match self.access_fault(1, address) {
-            Some(cause) => Effect::Trap(cause),
-            None => Effect::Put {
+            Some(cause) => EffectNow::Trap(cause),
+            None => EffectNow::Put {
                 rd,
                 value: u32::from(self.memory[address as usize]),
             },
@@ -200,13 +200,13 @@ impl Machine {
     }
 
     #[tactic(auto, unfolding(crate::specs::Effects::access_effect))]
-    fn load_half_unsigned(&self, rd: Reg, address: u32) -> Effect
+    fn load_half_unsigned(&self, rd: Reg, address: u32) -> EffectNow
         ensures effect { told self.now result ≡ load_effect self.now rd 2 half_at address }
         ensures can { CanHave self.now result }
     {
         match self.access_fault(2, address) {
-            Some(cause) => Effect::Trap(cause),
-            None => Effect::Put {
+            Some(cause) => EffectNow::Trap(cause),
+            None => EffectNow::Put {
                 rd,
                 value: u32::from(read_half(&self.memory, address as usize)),
             },
@@ -214,13 +214,13 @@ impl Machine {
     }
 
     #[tactic(auto, unfolding(crate::specs::Effects::access_effect))]
-    fn store_byte(&self, source: Reg, address: u32) -> Effect
+    fn store_byte(&self, source: Reg, address: u32) -> EffectNow
         ensures effect { told self.now result ≡ store_effect self.now source 1 address }
         ensures can { CanHave self.now result }
     {
         match self.access_fault(1, address) {
-            Some(cause) => Effect::Trap(cause),
-            None => Effect::StoreByte {
+            Some(cause) => EffectNow::Trap(cause),
+            None => EffectNow::StoreByte {
                 address,
                 value: self.operand(source),
             },
@@ -228,13 +228,13 @@ impl Machine {
     }
 
     #[tactic(auto, unfolding(crate::specs::Effects::access_effect))]
-    fn store_half(&self, source: Reg, address: u32) -> Effect
+    fn store_half(&self, source: Reg, address: u32) -> EffectNow
         ensures effect { told self.now result ≡ store_effect self.now source 2 address }
         ensures can { CanHave self.now result }
     {
         match self.access_fault(2, address) {
-            Some(cause) => Effect::Trap(cause),
-            None => Effect::StoreHalf {
+            Some(cause) => EffectNow::Trap(cause),
+            None => EffectNow::StoreHalf {
                 address,
                 value: self.operand(source),
             },
@@ -242,13 +242,13 @@ impl Machine {
     }
 
     #[tactic(auto, unfolding(crate::specs::Effects::access_effect))]
-    fn store_word(&self, source: Reg, address: u32) -> Effect
+    fn store_word(&self, source: Reg, address: u32) -> EffectNow
         ensures effect { told self.now result ≡ store_effect self.now source 4 address }
         ensures can { CanHave self.now result }
     {
         match self.access_fault(4, address) {
-            Some(cause) => Effect::Trap(cause),
-            None => Effect::StoreWord {
+            Some(cause) => EffectNow::Trap(cause),
+            None => EffectNow::StoreWord {
                 address,
                 value: self.operand(source),
             },
@@ -284,12 +284,12 @@ impl Machine {
     }
 
     // What a step is that has this effect.
-    pub(crate) fn event(&self, effect: Effect) -> Event
+    pub(crate) fn event(&self, effect: EffectNow) -> Event
         ensures { result ≡ event_of (told self.now effect) }
     {
         match effect {
-            Effect::Call => self.call(),
-            Effect::Trap(cause) => Event::Trap(cause),
+            EffectNow::Call => self.call(),
+            EffectNow::Trap(cause) => Event::Trap(cause),
             _ => Event::Went,
         }
     }

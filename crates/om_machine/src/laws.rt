@@ -3,7 +3,7 @@
 ghost use Rattle.std.specs.Prelude.{◌≡◌, ◌≢◌, ◌↔◌, ◌∷◌, ◌+◌, ◌<◌, ◌≤◌, ◌^◌, All, List, drop, length, ℕ};
 ghost use Rattle.om_isa.specs.declared.ext.Ext.{Ext};
 ghost use Rattle.om_machine.specs.State.{State, IsSize, IsMachine, IsMachineAfter, loaded, restored};
-ghost use Rattle.om_machine.specs.Step.{Goes, Steps};
+ghost use Rattle.om_machine.specs.Step.{Steps, StepsOn};
 ghost use Rattle.om_machine.specs.derived.NextStep.{next_of};
 ghost use Rattle.om_machine.specs.Finishing.{TakesBody, finished_word, finished_who, finished_receive};
 ghost use Rattle.om_machine.specs.declared.event.EnvCall.{EnvCall};
@@ -40,9 +40,9 @@ pub fn call_has_room()
 
 /// So many steps that went lead to one state, count themselves, and go on as one run.
 pub fn runs_go_on()
-    ensures one { (k : ℕ) (m n o : State) → Goes k m n → Goes k m o → n ≡ o }
-    ensures counted { (k : ℕ) (m n : State) → Goes k m n → n.count ≡ m.count + k }
-    ensures joined { (j k : ℕ) (m n o : State) → Goes j m n → Goes k n o → Goes (j + k) m o }
+    ensures one { (k : ℕ) (m n o : State) → StepsOn k m n → StepsOn k m o → n ≡ o }
+    ensures counted { (k : ℕ) (m n : State) → StepsOn k m n → n.count ≡ m.count + k }
+    ensures joined { (j k : ℕ) (m n o : State) → StepsOn j m n → StepsOn k n o → StepsOn (j + k) m o }
 {}
 
 /// After a step a machine is one, with a memory of the same size.

@@ -5,7 +5,7 @@ use Rattle.om_recover.specs.declared.row.Row.{Row}
 use Rattle.om_recover.specs.declared.note.Note.{Note}
 use Rattle.om_recover.specs.declared.note.Note.TheVariants.{Noted, Known}
 use Rattle.om_manager.specs.Outputs.{HeldOutput}
-use Rattle.om_manager.specs.State.{ManagerState, size_of, held_by}
+use Rattle.om_manager.specs.State.{ManagerState, process_count, held_by}
 use Rattle.om_manager.specs.declared.answers.RecordError.{RecordError}
 use Rattle.om_manager.specs.declared.answers.RecordError.TheVariants.{Stale, Refused}
 use Rattle.om_manager.specs.declared.answers.OutputNote.{OutputNote}
@@ -22,11 +22,11 @@ after_note m Known rows recovery = m
 -- the answer to a row that is offered in a round, and the manager after it
 abbrev pub Notes : ManagerState → ℕ → Row → Result Note RecordError → ManagerState → Type 0
 Notes old round row (Ok note) new =
-    (round ≡ old.round) × offered (size_of old) old.rows row (Ok note) new.rows × TellsChange (Ok note) old.recovery new.recovery
+    (round ≡ old.round) × offered (process_count old) old.rows row (Ok note) new.rows × TellsChange (Ok note) old.recovery new.recovery
     × (new ≡ after_note old note new.rows new.recovery)
-Notes old round row (Err (Stale told)) new = (row.pid < size_of old) × (round ≢ old.round) × (told ≡ old.round) × (new ≡ old)
+Notes old round row (Err (Stale told)) new = (row.pid < process_count old) × (round ≢ old.round) × (told ≡ old.round) × (new ≡ old)
 Notes old round row (Err (Refused fault)) new =
-    (row.pid < size_of old → round ≡ old.round) × offered (size_of old) old.rows row (Err fault) old.rows × (new ≡ old)
+    (row.pid < process_count old → round ≡ old.round) × offered (process_count old) old.rows row (Err fault) old.rows × (new ≡ old)
 
 -- an output that is offered: of this process, in this round, with this number
 pub record Offer : Type 0 where
@@ -37,7 +37,7 @@ pub record Offer : Type 0 where
 
 -- what is offered comes from a process of the cluster, in the manager's round
 pub record IsCurrent (m : ManagerState) (pid round : ℕ) : Type 0 where
-  pub known : pid < size_of m
+  pub known : pid < process_count m
   pub in_round : round ≡ m.round
 
 -- none of the process's outputs was made later
@@ -68,9 +68,9 @@ NotesOutput old offer (Ok kept.Released) new =
     IsNext old offer × (offer.output.interval ≤ slice_index old.recovery offer.pid) × (new ≡ with_output old offer.pid offer.output)
 NotesOutput old offer (Ok kept.Held) new =
     IsNext old offer × (slice_index old.recovery offer.pid < offer.output.interval) × (new ≡ with_output old offer.pid offer.output)
-NotesOutput old offer (Err refused.Stranger) new = (size_of old ≤ offer.pid) × (new ≡ old)
+NotesOutput old offer (Err refused.Stranger) new = (process_count old ≤ offer.pid) × (new ≡ old)
 NotesOutput old offer (Err (refused.Stale told)) new =
-    (offer.pid < size_of old) × (offer.round ≢ old.round) × (told ≡ old.round) × (new ≡ old)
+    (offer.pid < process_count old) × (offer.round ≢ old.round) × (told ≡ old.round) × (new ≡ old)
 NotesOutput old offer (Err refused.Differs) new = IsCurrent old offer.pid offer.round × IsDifferent old offer × (new ≡ old)
 NotesOutput old offer (Err (refused.Gap next)) new =
     IsCurrent old offer.pid offer.round × (next ≡ length (held_by old offer.pid)) × (next < offer.seq) × (new ≡ old)

@@ -3,7 +3,7 @@ use Rattle.om_interval.specs.Starts.{is_named, BeginIncarnations}
 use Rattle.om_recover.specs.Cutting.{cut_to}
 use Rattle.om_manager.specs.Gatherings.{presence_of, presences_of, AreAllIn, begins}
 use Rattle.om_manager.specs.Notes.{IsCurrent}
-use Rattle.om_manager.specs.State.{ManagerState, size_of, held_by, released_by, open_count}
+use Rattle.om_manager.specs.State.{ManagerState, process_count, held_by, released_by, open_count}
 use Rattle.om_manager.specs.declared.presence.Presence.{Presence}
 use Rattle.om_manager.specs.declared.presence.Presence.TheVariants.{Away, Failed, Joined}
 use Rattle.om_manager.specs.declared.answers.Gathered.{Gathered}
@@ -23,9 +23,9 @@ pub record Finishes (presences : List Presence) (old new : ManagerState) : Type 
   pub rows : new.rows ≡ cut_to old.rows old.recovery
   pub recovery : new.recovery ≡ old.recovery
   pub places : length new.outputs ≡ length old.outputs
-  pub outputs : (p : ℕ) → p < size_of old → held_by new p ≡ released_by old p
+  pub outputs : (p : ℕ) → p < process_count old → held_by new p ≡ released_by old p
   pub begin : BeginIncarnations new.backs old.recovery old.starts new.starts
-  pub backs : (p : ℕ) → p < size_of old → is_named new.backs p ≡ begins (presence_of presences p) (slice_index old.recovery p)
+  pub backs : (p : ℕ) → p < process_count old → is_named new.backs p ≡ begins (presence_of presences p) (slice_index old.recovery p)
   pub last : new.last ≡ old.recovery
   pub round : new.round ≡ old.round + 1
   pub closed : new.gathering ≡ None
@@ -33,8 +33,8 @@ pub record Finishes (presences : List Presence) (old new : ManagerState) : Type 
 
 -- the manager where these are in now: the round is finished exactly where all are
 abbrev pub Gathers : List Presence → ManagerState → Gathered → ManagerState → Type 0
-Gathers presences old Waiting new = (AreAllIn (size_of old) presences → ⊥) × (new ≡ gathering_with old presences)
-Gathers presences old Finished new = AreAllIn (size_of old) presences × Finishes presences old new
+Gathers presences old Waiting new = (AreAllIn (process_count old) presences → ⊥) × (new ≡ gathering_with old presences)
+Gathers presences old Finished new = AreAllIn (process_count old) presences × Finishes presences old new
 
 -- who is in after a failure: those before, and the process as failed
 abbrev pub with_failed : ManagerState → ℕ → List Presence
@@ -58,12 +58,12 @@ pub record IsSpent (m : ManagerState) : Type 0 where
 -- the answer to a failure that is declared, and the manager after it
 abbrev pub Failing : ManagerState → ℕ → ℕ → Result Gathered FailError → ManagerState → Type 0
 Failing old pid round (Ok answer) new = IsCurrent old pid round × (IsSpent old → ⊥) × Fails old pid answer new
-Failing old pid round (Err failing.Stranger) new = (size_of old ≤ pid) × (new ≡ old)
-Failing old pid round (Err (failing.Stale told)) new = (pid < size_of old) × (round ≢ old.round) × (told ≡ old.round) × (new ≡ old)
+Failing old pid round (Err failing.Stranger) new = (process_count old ≤ pid) × (new ≡ old)
+Failing old pid round (Err (failing.Stale told)) new = (pid < process_count old) × (round ≢ old.round) × (told ≡ old.round) × (new ≡ old)
 Failing old pid round (Err failing.Spent) new = IsCurrent old pid round × IsSpent old × (new ≡ old)
 Failing old pid round (Err failing.Memory) new =
     IsCurrent old pid round × (IsSpent old → ⊥) × (presence_of (presences_of old.gathering) pid ≢ Failed)
-    × AreAllIn (size_of old) (with_failed old pid) × (new ≡ old)
+    × AreAllIn (process_count old) (with_failed old pid) × (new ≡ old)
 
 -- a process may join: a gathering is open, and it is not in
 pub record MayJoin (m : ManagerState) (pid round : ℕ) : Type 0 where
@@ -74,11 +74,11 @@ pub record MayJoin (m : ManagerState) (pid round : ℕ) : Type 0 where
 -- the answer to a process that joins, and the manager after it
 abbrev pub Joining : ManagerState → ℕ → ℕ → ℕ → Result Gathered JoinError → ManagerState → Type 0
 Joining old pid round current (Ok answer) new = MayJoin old pid round × Gathers (with_joined old pid current) old answer new
-Joining old pid round current (Err joining.Stranger) new = (size_of old ≤ pid) × (new ≡ old)
+Joining old pid round current (Err joining.Stranger) new = (process_count old ≤ pid) × (new ≡ old)
 Joining old pid round current (Err (joining.Stale told)) new =
-    (pid < size_of old) × (round ≢ old.round) × (told ≡ old.round) × (new ≡ old)
+    (pid < process_count old) × (round ≢ old.round) × (told ≡ old.round) × (new ≡ old)
 Joining old pid round current (Err joining.NoRound) new = IsCurrent old pid round × (old.gathering ≡ None) × (new ≡ old)
 Joining old pid round current (Err joining.Joined) new =
     IsCurrent old pid round × (old.gathering ≢ None) × (presence_of (presences_of old.gathering) pid ≢ Away) × (new ≡ old)
 Joining old pid round current (Err joining.Memory) new =
-    MayJoin old pid round × AreAllIn (size_of old) (with_joined old pid current) × (new ≡ old)
+    MayJoin old pid round × AreAllIn (process_count old) (with_joined old pid current) × (new ≡ old)

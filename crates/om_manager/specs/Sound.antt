@@ -7,7 +7,7 @@ use Rattle.om_interval.specs.declared.verdict.Verdict.{Verdict}
 use Rattle.om_recover.specs.Rows.{IsLawful}
 use Rattle.om_recover.specs.Recoverable.{IsGreatest}
 use Rattle.om_manager.specs.Outputs.{AreRising, within}
-use Rattle.om_manager.specs.State.{ManagerState, size_of, held_by, released_by, weight_of}
+use Rattle.om_manager.specs.State.{ManagerState, process_count, held_by, released_by, weight_of}
 use Rattle.om_manager.specs.declared.presence.Presence.{Presence}
 
 -- the incarnations of each process: none starts above the recovery state by more than one, and a process has begun no more
@@ -35,20 +35,20 @@ pub record IsLast (recovery : List ℕ) (round : ℕ) (last : List ℕ) (backs :
 -- the recovery state is the greatest recoverable state of the rows, and of each process's outputs exactly those made
 -- within the greatest recoverable state are released
 pub record IsExact (m : ManagerState) : Type 0 where
-  pub greatest : IsGreatest (size_of m) m.rows m.recovery
-  pub released : (state : List ℕ) → IsGreatest (size_of m) m.rows state → (p : ℕ) → p < size_of m
+  pub greatest : IsGreatest (process_count m) m.rows m.recovery
+  pub released : (state : List ℕ) → IsGreatest (process_count m) m.rows state → (p : ℕ) → p < process_count m
       → released_by m p ≡ within (held_by m p) (slice_index state p)
 
 -- what holds of every manager. The outputs of each process are in the order of their intervals, and so what is released of
 -- them stands at the same numbers
 pub record IsManager (m : ManagerState) : Type 0 where
-  pub some : 0 < size_of m
-  pub few : size_of m ≤ MAX_PROCESSES
-  pub lawful : IsLawful (size_of m) m.rows
+  pub some : 0 < process_count m
+  pub few : process_count m ≤ MAX_PROCESSES
+  pub lawful : IsLawful (process_count m) m.rows
   pub exact : IsExact m
-  pub places : length m.outputs ≡ size_of m
-  pub rising : (p : ℕ) → p < size_of m → AreRising (held_by m p)
-  pub released : (p : ℕ) → p < size_of m → IsPrefix (released_by m p) (held_by m p)
+  pub places : length m.outputs ≡ process_count m
+  pub rising : (p : ℕ) → p < process_count m → AreRising (held_by m p)
+  pub released : (p : ℕ) → p < process_count m → IsPrefix (released_by m p) (held_by m p)
   pub begun : AreBegun m.starts m.recovery m.round
   pub rounds : AreRounds m.recovery m.round m.gathering m.version
   pub last : IsLast m.recovery m.round m.last m.backs
@@ -69,7 +69,7 @@ pub data GoesOn (old new : ManagerState) : Type 0 where
 
 -- what was released of a process is still released, at the same numbers
 abbrev pub KeepsReleased : ManagerState → ManagerState → Type 0
-KeepsReleased old new = (p : ℕ) → p < size_of old → IsPrefix (released_by old p) (released_by new p)
+KeepsReleased old new = (p : ℕ) → p < process_count old → IsPrefix (released_by old p) (released_by new p)
 
 -- the verdict of no round
 pub record IsNoVerdict (verdict : Verdict) : Type 0 where

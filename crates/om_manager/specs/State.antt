@@ -16,8 +16,8 @@ pub record ManagerState : Type 0 where
   pub version : ℕ
 
 -- the number of processes
-abbrev pub size_of : ManagerState → ℕ
-size_of m = length m.recovery
+abbrev pub process_count : ManagerState → ℕ
+process_count m = length m.recovery
 
 -- the outputs of a process that were handed in and not cut
 abbrev pub held_by : ManagerState → ℕ → List HeldOutput

@@ -7,7 +7,7 @@ ghost use Rattle.om_recover.specs.Records.{first_row};
 ghost use Rattle.om_recover.specs.Cutting.{IsEffective, IsPruned};
 ghost use Rattle.om_manager.specs.Bounds.{AreGotFrom};
 ghost use Rattle.om_manager.specs.Outputs.{held_of, AreNumbered};
-ghost use Rattle.om_manager.specs.State.{size_of, held_by, released_by};
+ghost use Rattle.om_manager.specs.State.{process_count, held_by, released_by};
 ghost use Rattle.om_manager.specs.Sound.{IsManager, IsExact, GoesOn, KeepsReleased, IsNoVerdict};
 
 use crate::output_log::{Output, OutputLog};
@@ -129,7 +129,7 @@ impl Manager {
 
     /// The checkpoint that is used for the process's place of the recovery state.
     pub fn effective(&self, pid: Pid) -> u32
-        requires { pid < size_of self.now }
+        requires { pid < process_count self.now }
         ensures { IsEffective self.now.rows pid (slice_index self.now.recovery pid) result }
     {
         self.records.effective(pid)
@@ -137,7 +137,7 @@ impl Manager {
 
     /// The number of the process's next output.
     pub fn next_output(&self, pid: Pid) -> u64
-        requires { pid < size_of self.now }
+        requires { pid < process_count self.now }
         ensures { result ≡ length (held_by self.now pid) }
     {
         let log = &self.logs[pid.index()];
@@ -146,7 +146,7 @@ impl Manager {
 
     /// The outputs of a process that are released, in order. They are kept for good.
     pub fn released(&self, pid: Pid) -> &[Output]
-        requires { pid < size_of self.now }
+        requires { pid < process_count self.now }
         ensures outputs { map held_of result.now ≡ released_by self.now pid }
         ensures exact { IsExact self.now }
         ensures numbered { AreNumbered result.now }
@@ -157,7 +157,7 @@ impl Manager {
 
     /// What the last finished round says to a process. Before any round, all of it is zero or false.
     pub fn verdict(&self, pid: Pid) -> Verdict
-        requires { pid < size_of self.now }
+        requires { pid < process_count self.now }
         ensures round { result.round ≡ self.now.round }
         ensures inc { result.inc ≡ newest_of self.now.starts pid }
         ensures r { result.r ≡ slice_index self.now.last pid }
@@ -174,7 +174,7 @@ impl Manager {
 
     /// What a process need not keep any longer.
     pub fn bounds(&self, pid: Pid) -> Bounds
-        requires { pid < size_of self.now }
+        requires { pid < process_count self.now }
         ensures got { AreGotFrom self.now.rows self.now.recovery pid result.got }
         ensures released { result.released ≡ length (released_by self.now pid) }
     {

@@ -1,7 +1,7 @@
 ghost use Rattle.std.specs.Prelude.{◌≡◌, ◌≢◌, ◌<◌, map, false, IsTrue};
 ghost use Rattle.om_interval.specs.Vectors.{IsBelow};
 ghost use Rattle.om_recover.specs.Records.{log_of, checkpoint_of};
-ghost use Rattle.om_manager.specs.State.{size_of};
+ghost use Rattle.om_manager.specs.State.{process_count};
 ghost use Rattle.om_manager.specs.Sound.{IsManager, GoesOn, KeepsReleased};
 ghost use Rattle.om_manager.specs.Notes.{Notes, NotesOutput};
 
@@ -92,8 +92,8 @@ impl Manager {
 
     // Whether what a process of the cluster tells comes in another round than the manager's.
     fn is_stale(&self, pid: Pid, round: u32) -> bool
-        ensures stale { IsTrue result → (pid < size_of self.now) × (round ≢ self.now.round) }
-        ensures current { result ≡ false → pid < size_of self.now → round ≡ self.now.round }
+        ensures stale { IsTrue result → (pid < process_count self.now) × (round ≢ self.now.round) }
+        ensures current { result ≡ false → pid < process_count self.now → round ≡ self.now.round }
     {
         pid.index() < self.records.n() && round != self.round
     }

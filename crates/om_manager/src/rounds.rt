@@ -2,7 +2,7 @@ ghost use Rattle.std.specs.Prelude.{◌≡◌, ◌+◌, ◌-◌, ◌<◌, ◌^�
 ghost use Rattle.om_interval.specs.Vectors.{IsBelow};
 ghost use Rattle.om_manager.specs.declared.answers.FailError.TheVariants.{Spent};
 ghost use Rattle.om_manager.specs.Gatherings.{AreAllIn, presences_of};
-ghost use Rattle.om_manager.specs.State.{size_of};
+ghost use Rattle.om_manager.specs.State.{process_count};
 ghost use Rattle.om_manager.specs.Sound.{IsManager, GoesOn, KeepsReleased};
 ghost use Rattle.om_manager.specs.Rounds.{Failing, Joining, Finishes, Gathers, IsSpent};
 ghost use Rattle.om_manager.specs.steps.OutputLog.{log_within};
@@ -112,7 +112,7 @@ impl Manager {
     ) -> Result<Gathered, AllocError>
         requires { self.old.round + 1 < 2 ^ 32 }
         ensures gathered { (answer : _) → result ≡ Ok answer → Gathers presences.now self.old answer self.new }
-        ensures refused { OnErr result (AreAllIn (size_of self.old) presences.now × (self.new ≡ self.old)) }
+        ensures refused { OnErr result (AreAllIn (process_count self.old) presences.now × (self.new ≡ self.old)) }
         ensures sound { IsManager self.new }
         ensures front { GoesOn self.old self.new }
         ensures not_lowered { IsBelow self.old.recovery self.new.recovery }

@@ -2,7 +2,7 @@
 use Rattle.std.proofs.Common.{◌≡◌, ℕ, List, [], ◌∷◌, ◌++◌, refl, sym, ap, ◌∙◌, subst, arith}
 use mathlib.Core.List.{IsPrefix}
 use Rattle.om_process.specs.declared.queues.Made.{Made}
-use Rattle.om_process.specs.declared.row.Row.{Row}
+use Rattle.om_process.specs.declared.row.PendingRow.{PendingRow}
 use Rattle.om_manager.specs.Sound.{IsManager}
 use Rattle.om_manager.specs.State.{ManagerState, released_by}
 use Rattle.om_member.specs.Handed.{AreHanded}
@@ -45,7 +45,7 @@ keeps_then a b c k l = record {
       prefix_then (released_by a p) (released_by b p) (released_by c p) (k.released p lt) (l.released p (omega arith));
 }
 
-pub told_keeps : (old new : ManagerState) (round p : ℕ) (rows : List Row) → IsManager old → AreTold old round p rows new → Keeps old new
+pub told_keeps : (old new : ManagerState) (round p : ℕ) (rows : List PendingRow) → IsManager old → AreTold old round p rows new → Keeps old new
 told_keeps old new round p [] is same = subst (λ m. Keeps old m) (sym same) (keeps_same old is)
 told_keeps old new round p (row ∷ rows) is told =
     let t = told.2 in

@@ -8,7 +8,7 @@ use Rattle.om_stable.specs.Count.{Rose}
 use Rattle.om_stable.specs.declared.error.StoreError.{StoreError}
 use Rattle.om_stable.specs.declared.error.StoreError.TheVariants.{Fault, Present}
 use Rattle.om_process.specs.Accepts.{Answers, taken}
-use Rattle.om_process.specs.Core.{CoreState, CoreTurns, core_turn, move_of, size_of, status_of, with_now, with_pending}
+use Rattle.om_process.specs.Core.{CoreState, CoreTurns, cluster_size, core_turn, move_of, status_of, with_now, with_pending}
 use Rattle.om_process.specs.Stored.{CanReplay, IsNoMatterOfContent, IsReplay, TheProcess}
 use Rattle.om_process.specs.Stores.{HasGainedCheckpoint, HasGainedLog, checkpointed, first_logged, flushed}
 use Rattle.om_process.specs.Trims.{trimmed}
@@ -90,13 +90,13 @@ WasPruned c (Err refusal) before after = after ≡ before
 
 -- ---- how it runs
 -- a process that is up takes some turns
-pub record GoesOn {S : Type 0} (old : Member S) (fuel : ℕ) (new : Member S) : Type 0 where
+pub record TakesTurns {S : Type 0} (old : Member S) (fuel : ℕ) (new : Member S) : Type 0 where
   pub before : CoreState
   pub after : CoreState
   pub up : old.standing ≡ stands.Up before
   pub turns : (k : ℕ) × (k ≤ fuel) × CoreTurns k before after
   pub rest : after ≡ with_now before after.now
-  pub size : size_of after.now ≡ size_of before.now
+  pub size : cluster_size after.now ≡ cluster_size before.now
   pub others : new ≡ record old { standing = stands.Up after }
 
 -- and it has run: as many turns as there are, up to the fuel
@@ -171,7 +171,7 @@ pub record HasComeBack {S : Type 0} (content : S → Content) (failed : S → �
     (who : Down) (starts : List (List ℕ)) (verdict : Verdict) (old : Member S) (at : ℕ × ℕ) (new : Member S) : Type 0 where
   pub core : CoreState
   pub own : core.own ≡ who.pid
-  pub size : size_of core.now ≡ who.n
+  pub size : cluster_size core.now ≡ who.n
   pub log : core.log ≡ []
   pub pending : core.pending ≡ []
   pub inc : core.inc ≡ verdict.inc

@@ -1,7 +1,7 @@
 //! Outputs that the manager is handed.
 
 ghost use Rattle.std.specs.Prelude.{◌<◌, length};
-ghost use Rattle.om_manager.specs.State.{held_by, size_of};
+ghost use Rattle.om_manager.specs.State.{held_by, process_count};
 ghost use Rattle.om_member.specs.Keeps.{Keeps};
 ghost use Rattle.om_member.specs.Handed.{AreHandedUpTo, AreTaken, IsHanded, MayHandIn, held_as, outputs_from};
 
@@ -56,7 +56,7 @@ pub fn hand_in<O: Office>(
     alloc: Global,
     pid: Pid,
 ) -> Result<(), OutputError>
-    requires known { pid < size_of (O.state office.old) }
+    requires known { pid < process_count (O.state office.old) }
     requires taken { MayHandIn O.Takes pid core.now }
     ensures keeps { Keeps (O.state office.old) (O.state office.new) }
     ensures handed { AreHandedUpTo (O.state office.old) core.now.round pid

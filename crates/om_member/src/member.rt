@@ -1,14 +1,14 @@
 //! One process with its store.
 
 ghost use Rattle.std.specs.Prelude.{◌≡◌, ◌≢◌, ◌<◌, length, IfErr, IfNone, IfOk, IfSome, OnErr, OnOk, Err, None, Ok, Some, false};
-ghost use Rattle.om_manager.specs.State.{held_by, size_of as processes_of};
-ghost use Rattle.om_process.specs.Core.{CoreState, size_of};
+ghost use Rattle.om_manager.specs.State.{held_by, process_count};
+ghost use Rattle.om_process.specs.Core.{CoreState, cluster_size};
 ghost use Rattle.om_process.specs.Resumes.{resumed};
 ghost use Rattle.om_process.specs.declared.replay.ReplayFault.{ReplayFault};
 ghost use Rattle.om_stable.specs.declared.error.StoreError.{StoreError};
 ghost use Rattle.om_member.specs.Handed.{AreHandedUpTo, MayHandIn, outputs_from};
 ghost use Rattle.om_member.specs.Keeps.{Keeps};
-ghost use Rattle.om_member.specs.Members.{GoesOn, HasComeBack, HasDeclared, HasJoined, HasNoted, HasRun, HasStored, HasTrimmed, IsNotIn, IsNotUp, IsOffered, StaysDown, WasCalled, WasPruned, core_of};
+ghost use Rattle.om_member.specs.Members.{HasComeBack, HasDeclared, HasJoined, HasNoted, HasRun, HasStored, HasTrimmed, IsNotIn, IsNotUp, IsOffered, StaysDown, TakesTurns, WasCalled, WasPruned, core_of};
 ghost use Rattle.om_member.specs.declared.member.Standing.TheVariants as stands;
 
 use crate::office::Office;
@@ -105,7 +105,7 @@ impl<S: Stable> Member<S> {
 impl<S: Stable> Member<S> {
     /// Runs a process that is up, at most `fuel` instructions. Where memory runs out the instructions before stand.
     pub fn run(&mut self, alloc: Global, fuel: u64) -> Result<Result<Ran, AllocError>, NotUp>
-        ensures goes_on { OnOk result (GoesOn self.old fuel self.new) }
+        ensures goes_on { OnOk result (TakesTurns self.old fuel self.new) }
         ensures ran { IfOk result (λ answer. IfOk answer (λ ran. HasRun self.old fuel ran self.new)) }
         ensures not_up { OnErr result (IsNotUp self.old.standing) }
         ensures refused { OnErr result (self.new ≡ self.old) }
@@ -130,7 +130,7 @@ impl<S: Stable> Member<S> {
 
     /// Drops what a process that is up keeps below these bounds.
     pub fn trim(&mut self, bounds: &Bounds) -> Result<(), NotUp>
-        requires { (core : CoreState) → self.old.standing ≡ stands.Up core → length bounds.now.got ≡ size_of core.now }
+        requires { (core : CoreState) → self.old.standing ≡ stands.Up core → length bounds.now.got ≡ cluster_size core.now }
         ensures trimmed { OnOk result (HasTrimmed self.old bounds.now.got bounds.now.released self.new) }
         ensures not_up { OnErr result (IsNotUp self.old.standing) }
         ensures refused { OnErr result (self.new ≡ self.old) }
@@ -217,7 +217,7 @@ impl<S: Stable> Member<S> {
         starts: &Starts,
         verdict: &Verdict,
     ) -> Result<Result<(), AllocError>, NotIn>
-        requires { (core : CoreState) → self.old.standing ≡ stands.In core → length starts.now ≡ size_of core.now }
+        requires { (core : CoreState) → self.old.standing ≡ stands.In core → length starts.now ≡ cluster_size core.now }
         ensures on { IfOk result (λ answer. OnOk answer ((core : CoreState) × (self.old.standing ≡ stands.In core)
             × (self.new ≡ record self.old { standing = stands.Up (resumed core verdict.now.round starts.now); round = verdict.now.round }))) }
         ensures not_in { OnErr result (IsNotIn self.old.standing) }
@@ -275,7 +275,7 @@ impl<S: Stable> Member<S> {
         alloc: Global,
         pid: Pid,
     ) -> Result<Result<(), OutputError>, NotUp>
-        requires known { pid < processes_of (O.state office.old) }
+        requires known { pid < process_count (O.state office.old) }
         requires taken { (core : CoreState) → self.now.standing ≡ stands.Up core → MayHandIn O.Takes pid core }
         ensures handed { IfOk result (λ end. (core : CoreState) × (self.now.standing ≡ stands.Up core)
             × AreHandedUpTo (O.state office.old) core.round pid

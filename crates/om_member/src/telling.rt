@@ -8,7 +8,7 @@ ghost use Rattle.om_member.specs.Told.{IsTold, IsToldUpTo};
 use crate::office::Office;
 use om_interval::Pid;
 use om_manager::RecordError;
-use om_process::{ProcCore, Row};
+use om_process::{ProcCore, PendingRow};
 use om_recover::Note;
 use std::alloc::Global;
 
@@ -18,7 +18,7 @@ fn tell<O: Office>(
     alloc: Global,
     pid: Pid,
     round: u32,
-    row: &Row,
+    row: &PendingRow,
 ) -> Result<Note, RecordError>
     ensures { IsTold (O.state office.old) round pid row.now result (O.state office.new) }
 {
@@ -35,7 +35,7 @@ fn tell_all<O: Office>(
     alloc: Global,
     pid: Pid,
     round: u32,
-    rows: &[Row],
+    rows: &[PendingRow],
 ) -> (usize, Result<(), RecordError>)
     ensures { IsToldUpTo (O.state office.old) round pid rows.now result.0 result.1 (O.state office.new) }
 {

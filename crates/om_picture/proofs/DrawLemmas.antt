@@ -12,8 +12,8 @@ use Rattle.std.proofs.lemmas.Result.{on_ok_weaker}
 use Rattle.om_world.specs.declared.event.Answer.{Answer}
 use Rattle.om_world.specs.declared.event.Event.{Event}
 use Rattle.om_interval.specs.declared.pid.TheConstants.{MAX_PROCESSES}
-use Rattle.om_picture.specs.Drawing.{Edge, IsLaneOf, IsSketchOf, Lane, Sketch, all_marks, held_in, held_of, lane_in, lane_marks, lane_of, lanes_marks, new_lane, waiting_marks}
-use Rattle.om_picture.specs.Fates.{Fate, Row, ended_after, fate_behind, fate_of, has_ended, highest, interval_after, interval_behind, is_loose, is_of, is_process, is_store, loose_after, next_ended, next_interval, next_loose, next_place, process_of, step_row, stores}
+use Rattle.om_picture.specs.Drawing.{Edge, IsLaneOf, IsSketchOf, LaneState, Sketch, all_marks, held_in, held_of, lane_in, lane_marks, lane_of, lanes_marks, new_lane, waiting_marks}
+use Rattle.om_picture.specs.Fates.{EventRow, Fate, ended_after, fate_behind, fate_of, has_ended, highest, interval_after, interval_behind, is_loose, is_of, is_process, is_store, loose_after, next_ended, next_interval, next_loose, next_place, process_of, step_row, stores}
 use Rattle.om_picture.specs.Held.{Held, covered_by, held_behind, is_any_elsewhere, left_by, may_wait, releases, left_behind}
 use Rattle.om_picture.specs.Marks.{AreTheSame, EventMark, event_marks, fated_marks, is_reached, marks_among, marks_on, released_at, released_below, row_marks, shape_marks, sure_marks}
 use Rattle.om_picture.specs.Places.{ArePlaced, IsPlacedBehind, has_column, is_shown, rightmost, shows_on}
@@ -31,20 +31,20 @@ use Rattle.om_picture.proofs.HeldLemmas.{held_more, left_none, left_own}
 use Rattle.om_picture.proofs.LaneLemmas.{all_counted, lane_counted, lanes_alike}
 
 -- ---- whose event it is
-of_own : (p : ℕ) (row : Row) → process_of row.entry.event ≡ Some p → is_of p row ≡ true
+of_own : (p : ℕ) (row : EventRow) → process_of row.entry.event ≡ Some p → is_of p row ≡ true
 of_own p row is = ap (λ (o : Option ℕ). is_process p o) is ∙ eq-eqb p p refl
 
-of_other : (p q : ℕ) (row : Row) → process_of row.entry.event ≡ Some p → q ≢ p → is_of q row ≡ false
+of_other : (p q : ℕ) (row : EventRow) → process_of row.entry.event ≡ Some p → q ≢ p → is_of q row ≡ false
 of_other p q row is away = ap (λ (o : Option ℕ). is_process q o) is ∙ elim (eqb_tells p q) [
   | inl same ↦ absurd (away (sym same.1))
   | inr other ↦ other.0
 ]
 
-of_none : (q : ℕ) (row : Row) → process_of row.entry.event ≡ None → is_of q row ≡ false
+of_none : (q : ℕ) (row : EventRow) → process_of row.entry.event ≡ None → is_of q row ≡ false
 of_none q row is = ap (λ (o : Option ℕ). is_process q o) is
 
 -- an event of another process changes no fate and stores nothing
-other_marks : (row : Row) (later : List Row) (q : ℕ) (lane : Lane) → is_of q row ≡ false
+other_marks : (row : EventRow) (later : List EventRow) (q : ℕ) (lane : LaneState) → is_of q row ≡ false
     → lane_marks (row ∷ later) q lane ≡ amid_marks row later q lane
 other_marks row later q lane other =
     waiting_alike (λ i stored. fate_behind q i stored lane.reached (row ∷ later)) (λ i stored. fate_amid row later q i stored lane.reached)
@@ -53,26 +53,26 @@ other_marks row later q lane other =
     ∙ ap (λ (b : Bool). fate_amid row later q i (stored || (b && is_store row.entry.event row.entry.answer)) lane.reached) other
     ∙ ap (λ (b : Bool). fate_amid row later q i b lane.reached) (or-false stored)) lane.stored lane.waiting
 
-other_interval : (q was : ℕ) (row : Row) → is_of q row ≡ false → next_interval q was row ≡ was
+other_interval : (q was : ℕ) (row : EventRow) → is_of q row ≡ false → next_interval q was row ≡ was
 other_interval q was row other = ap (λ (b : Bool). if b then interval_after row.entry.event row.entry.answer was else was) other
 
-other_ended : (q : ℕ) (was : Bool) (row : Row) → is_of q row ≡ false → next_ended q was row ≡ was
+other_ended : (q : ℕ) (was : Bool) (row : EventRow) → is_of q row ≡ false → next_ended q was row ≡ was
 other_ended q was row other = ap (λ (b : Bool). if b then ended_after row.entry.event row.entry.answer was else was) other
 
-other_loose : (q : ℕ) (was : Bool) (row : Row) → is_of q row ≡ false → next_loose q was row ≡ was
+other_loose : (q : ℕ) (was : Bool) (row : EventRow) → is_of q row ≡ false → next_loose q was row ≡ was
 other_loose q was row other = ap (λ (b : Bool). if b then loose_after row.entry.event row.entry.answer was else was) other
 
-own_interval : (p was : ℕ) (row : Row) → is_of p row ≡ true → next_interval p was row ≡ interval_after row.entry.event row.entry.answer was
+own_interval : (p was : ℕ) (row : EventRow) → is_of p row ≡ true → next_interval p was row ≡ interval_after row.entry.event row.entry.answer was
 own_interval p was row own = ap (λ (b : Bool). if b then interval_after row.entry.event row.entry.answer was else was) own
 
-own_ended : (p : ℕ) (was : Bool) (row : Row) → is_of p row ≡ true → next_ended p was row ≡ ended_after row.entry.event row.entry.answer was
+own_ended : (p : ℕ) (was : Bool) (row : EventRow) → is_of p row ≡ true → next_ended p was row ≡ ended_after row.entry.event row.entry.answer was
 own_ended p was row own = ap (λ (b : Bool). if b then ended_after row.entry.event row.entry.answer was else was) own
 
-own_loose : (p : ℕ) (was : Bool) (row : Row) → is_of p row ≡ true → next_loose p was row ≡ loose_after row.entry.event row.entry.answer was
+own_loose : (p : ℕ) (was : Bool) (row : EventRow) → is_of p row ≡ true → next_loose p was row ≡ loose_after row.entry.event row.entry.answer was
 own_loose p was row own = ap (λ (b : Bool). if b then loose_after row.entry.event row.entry.answer was else was) own
 
 -- ---- the lane of its process
-stored_marks : (b : Bool) (row : Row) (later : List Row) (p : ℕ) (lane : Lane) (stored : ℕ) → stores p row ≡ b
+stored_marks : (b : Bool) (row : EventRow) (later : List EventRow) (p : ℕ) (lane : LaneState) (stored : ℕ) → stores p row ≡ b
     → stored ≡ (if b then length lane.waiting else lane.stored)
     → waiting_marks (λ i s. fate_amid row later p i s lane.reached) stored lane.waiting ≡ lane_marks (row ∷ later) p lane
 stored_marks true row later p lane stored is now =
@@ -88,7 +88,7 @@ stored_marks false row later p lane stored is now =
     ∙ ap (λ (b : Bool). fate_amid row later p i (s || b) lane.reached) is
     ∙ ap (λ (b : Bool). fate_amid row later p i b lane.reached) (or-false s)) lane.stored lane.waiting)
 
-own_marks : (on : Bool) (s : Shown) (row : Row) (later : List Row) (p : ℕ) (a b : Lane) → stores p row ≡ is_stored_by s
+own_marks : (on : Bool) (s : Shown) (row : EventRow) (later : List EventRow) (p : ℕ) (a b : LaneState) → stores p row ≡ is_stored_by s
     → LaneShows on s row.fresh row.entry a b
     → amid_marks row later p b
     ≡ lane_marks (row ∷ later) p a
@@ -101,7 +101,7 @@ own_marks on s row later p a b is lane =
     (stored_marks (is_stored_by s) row later p a b.stored is lane.stored)
 
 -- the fate of its own mark
-own_fate : (s : Shown) (row : Row) (later : List Row) (p i was : ℕ) → stores p row ≡ is_stored_by s
+own_fate : (s : Shown) (row : EventRow) (later : List EventRow) (p i was : ℕ) → stores p row ≡ is_stored_by s
     → fated_marks s row.fresh (fate_amid row later p i false was) row.entry
     ≡ fated_marks s row.fresh (fate_behind p i false was (row ∷ later)) row.entry
 own_fate s row later p i was is =
@@ -115,7 +115,7 @@ if_both : (count : EventMark → ℕ) (on : Bool) (x y : List EventMark)
 if_both count true x y = sum_by-append count x y
 if_both count false x y = refl
 
-alike : (v w : ℕ → Lane → List EventMark) (s : Sketch)
+alike : (v w : ℕ → LaneState → List EventMark) (s : Sketch)
     → ((q : ℕ) → q < length s.lanes → v q (lane_of s q) ≡ w q (lane_of s q)) → all_marks v s ≡ all_marks w s
 unfolding all_marks
 alike v w s same =
@@ -124,9 +124,9 @@ alike v w s same =
     subst (λ (n : ℕ). v n (lane_of s q) ≡ w n (lane_of s q)) at (same q below)))
 
 -- it is of no process that there is
-amid_none : (n : ℕ) (before : List Row) (row : Row) (s : Sketch) → length s.lanes ≡ n
+amid_none : (n : ℕ) (before : List EventRow) (row : EventRow) (s : Sketch) → length s.lanes ≡ n
     → ((p : ℕ) → p < n → IsLaneOf p before (lane_of s p)) → ((q : ℕ) → q < n → is_of q row ≡ false)
-    → ((later : List Row) → marks_on n (process_of row.entry.event) before row later ≡ []) → IsAmid n before row s s
+    → ((later : List EventRow) → marks_on n (process_of row.entry.event) before row later ≡ []) → IsAmid n before row s s
 amid_none n before row s count lanes others none = record {
   on = refl;
   edge = refl;
@@ -141,7 +141,7 @@ amid_none n before row s count lanes others none = record {
       (lanes p below).held ∙ sym (append-nil (held_behind p before))
       ∙ ap (λ (l : List Held). held_behind p before ++ l) (sym (left_none p before row (others p below)));
   reached = λ (p : ℕ) (below : p < n). (lanes p below).reached;
-  marks = λ (later : List Row) (c : EventMark → ℕ).
+  marks = λ (later : List EventRow) (c : EventMark → ℕ).
       let same = ap (λ (l : List EventMark). sum_by c l) (alike (amid_marks row later) (lane_marks (row ∷ later)) s
       (λ (q : ℕ) (below : q < length s.lanes). let within : q < n = omega arith in
       sym (other_marks row later q (lane_of s q) (others q within)))) in
@@ -157,13 +157,13 @@ amid_none n before row s count lanes others none = record {
     none_counted c false = refl
 
 -- the marks of an event of a process that there is
-event_here : (n p : ℕ) (before : List Row) (row : Row) (later : List Row) → process_of row.entry.event ≡ Some p → p < n
+event_here : (n p : ℕ) (before : List EventRow) (row : EventRow) (later : List EventRow) → process_of row.entry.event ≡ Some p → p < n
     → marks_on n (process_of row.entry.event) before row later ≡ event_marks p before row later
 event_here n p before row later is within =
     ap (λ (o : Option ℕ). marks_on n o before row later) is
     ∙ ap (λ (b : Bool). if b then event_marks p before row later else []) (lt-ltb p n within)
 
-stored_own : (p : ℕ) (ended : Bool) (row : Row) → process_of row.entry.event ≡ Some p
+stored_own : (p : ℕ) (ended : Bool) (row : EventRow) → process_of row.entry.event ≡ Some p
     → stores p row ≡ is_stored_by (shown ended row.entry.event row.entry.answer)
 stored_own p ended row is =
     ap (λ (b : Bool). b && is_store row.entry.event row.entry.answer) (of_own p row is)
@@ -176,7 +176,7 @@ held_alike s fresh x i j a b same interval =
     ap (λ (l : List Held). l ++ (if may_wait s then record { interval = i; fresh = fresh; x = x } ∷ [] else [])) same
     ∙ ap (λ (n : ℕ). b ++ (if may_wait s then record { interval = n; fresh = fresh; x = x } ∷ [] else [])) interval
 
-amid_shown : (n p : ℕ) (before : List Row) (row : Row) (a b : Sketch) → length a.lanes ≡ n → process_of row.entry.event ≡ Some p → p < n
+amid_shown : (n p : ℕ) (before : List EventRow) (row : EventRow) (a b : Sketch) → length a.lanes ≡ n → process_of row.entry.event ≡ Some p → p < n
     → ((q : ℕ) → q < n → IsLaneOf q before (lane_of a q))
     → Shows a b p (shown (lane_of a p).ended row.entry.event row.entry.answer) row.fresh row.entry → IsAmid n before row a b
 amid_shown n p before row a b count is within lanes s =
@@ -205,43 +205,43 @@ amid_shown n p before row a b count is within lanes s =
     ∙ ap (λ (l : List Held). held_behind p before ++ l) (sym (left_own p before row own)) in
     let away : (q : ℕ) → q ≢ p → lane_of b q ≡ lane_of a q =
     (λ (q : ℕ) (off : q ≢ p).
-    ap (λ (ls : List Lane). get_or ls q new_lane) s.lanes ∙ get_or-set_other a.lanes p q (lane_of b p) new_lane off) in
+    ap (λ (ls : List LaneState). get_or ls q new_lane) s.lanes ∙ get_or-set_other a.lanes p q (lane_of b p) new_lane off) in
     record {
       on = s.on;
       edge = s.edge;
-      count = ap (λ (ls : List Lane). length ls) s.lanes ∙ length-set a.lanes p (lane_of b p) ∙ count;
+      count = ap (λ (ls : List LaneState). length ls) s.lanes ∙ length-set a.lanes p (lane_of b p) ∙ count;
       interval = λ (q : ℕ) (below : q < n). elim (eqb_tells q p) [
         | inl here ↦
             subst (λ (k : ℕ). (lane_of b k).interval ≡ interval_behind k (before ++ row ∷ [])) (sym here.1) interval_here
         | inr off ↦
-            ap (λ (l : Lane). l.interval) (away q off.1) ∙ (lanes q below).interval
+            ap (λ (l : LaneState). l.interval) (away q off.1) ∙ (lanes q below).interval
             ∙ sym (interval_more q 0 before row ∙ other_interval q (interval_behind q before) row (of_other p q row is off.1))
       ];
       ended = λ (q : ℕ) (below : q < n). elim (eqb_tells q p) [
         | inl here ↦ subst (λ (k : ℕ). (lane_of b k).ended ≡ has_ended k (before ++ row ∷ [])) (sym here.1) ended_here
         | inr off ↦
-            ap (λ (l : Lane). l.ended) (away q off.1) ∙ (lanes q below).ended
+            ap (λ (l : LaneState). l.ended) (away q off.1) ∙ (lanes q below).ended
             ∙ sym (ended_more q false before row ∙ other_ended q (has_ended q before) row (of_other p q row is off.1))
       ];
       loose = λ (q : ℕ) (below : q < n). elim (eqb_tells q p) [
         | inl here ↦ subst (λ (k : ℕ). (lane_of b k).loose ≡ is_loose k (before ++ row ∷ [])) (sym here.1) loose_here
         | inr off ↦
-            ap (λ (l : Lane). l.loose) (away q off.1) ∙ (lanes q below).loose
+            ap (λ (l : LaneState). l.loose) (away q off.1) ∙ (lanes q below).loose
             ∙ sym (loose_more q false before row ∙ other_loose q (is_loose q before) row (of_other p q row is off.1))
       ];
       held = λ (q : ℕ) (below : q < n). elim (eqb_tells q p) [
         | inl here ↦
             subst (λ (k : ℕ). held_in (lane_of b k) ≡ held_behind k before ++ left_by k before row) (sym here.1) held_here
         | inr off ↦
-            ap (λ (l : Lane). held_in l) (away q off.1) ∙ (lanes q below).held ∙ sym (append-nil (held_behind q before))
+            ap (λ (l : LaneState). held_in l) (away q off.1) ∙ (lanes q below).held ∙ sym (append-nil (held_behind q before))
             ∙ ap (λ (l : List Held). held_behind q before ++ l) (sym (left_none q before row (of_other p q row is off.1)))
       ];
       reached = λ (q : ℕ) (below : q < n). elim (eqb_tells q p) [
         | inl here ↦
             subst (λ (k : ℕ). (lane_of b k).reached ≡ highest k 0 before) (sym here.1) (s.lane.reached ∙ mine.reached)
-        | inr off ↦ ap (λ (l : Lane). l.reached) (away q off.1) ∙ (lanes q below).reached
+        | inr off ↦ ap (λ (l : LaneState). l.reached) (away q off.1) ∙ (lanes q below).reached
       ];
-      marks = λ (later : List Row) (c : EventMark → ℕ).
+      marks = λ (later : List EventRow) (c : EventMark → ℕ).
           let sure : List EventMark = sure_marks (lane_of a p).loose sh row.entry in
           let fate : Fate = fate_of p (interval_behind p (before ++ row ∷ [])) before (row ∷ later) in
           let fated : List EventMark = fated_marks sh row.fresh fate row.entry in
@@ -263,9 +263,9 @@ amid_shown n p before row a b count is within lanes s =
           ap (λ (l : List EventMark). sum_by c l) s.drawn ∙ sum_by-append c a.drawn (if a.on then sure else []) in
           let set_lanes : sum_by c (lanes_marks (amid_marks row later) 0 b.lanes)
           ≡ sum_by c (lanes_marks (amid_marks row later) 0 (set a.lanes p (lane_of b p))) =
-          ap (λ (ls : List Lane). sum_by c (lanes_marks (amid_marks row later) 0 ls)) s.lanes in
+          ap (λ (ls : List LaneState). sum_by c (lanes_marks (amid_marks row later) 0 ls)) s.lanes in
           let one = lane_counted c (lane_marks (row ∷ later)) (amid_marks row later) a.lanes p (lane_of b p) s.within
-          (λ (q : ℕ) (off : q ≢ p) (l : Lane). other_marks row later q l (of_other p q row is off)) in
+          (λ (q : ℕ) (off : q ≢ p) (l : LaneState). other_marks row later q l (of_other p q row is off)) in
           let here : sum_by c (amid_marks row later p (lane_of b p))
           ≡ sum_by c (lane_marks (row ∷ later) p (lane_of a p)) + sum_by c (if a.on then amid else []) =
           ap (λ (l : List EventMark). sum_by c l) (own_marks a.on sh row later p (lane_of a p) (lane_of b p) st s.lane)
@@ -283,12 +283,12 @@ amid_shown n p before row a b count is within lanes s =
 within_or : (p n : ℕ) → (p < n) ⊎ (n ≤ p)
 within_or p n = grind arith
 
-amid_by : (o : Option ℕ) (n : ℕ) (before : List Row) (row : Row) (a b : Sketch) → process_of row.entry.event ≡ o → length a.lanes ≡ n
+amid_by : (o : Option ℕ) (n : ℕ) (before : List EventRow) (row : EventRow) (a b : Sketch) → process_of row.entry.event ≡ o → length a.lanes ≡ n
     → ((q : ℕ) → q < n → IsLaneOf q before (lane_of a q)) → ShowsOn o a b row → IsAmid n before row a b
 amid_by None n before row a b is count lanes same =
     subst (λ (s : Sketch). IsAmid n before row a s) (sym same)
     (amid_none n before row a count lanes (λ (q : ℕ) (below : q < n). of_none q row is)
-    (λ (later : List Row). ap (λ (o : Option ℕ). marks_on n o before row later) is))
+    (λ (later : List EventRow). ap (λ (o : Option ℕ). marks_on n o before row later) is))
 amid_by (Some p) n before row a b is count lanes at = elim (within_or p n) [
   | inl within ↦ let there : p < length a.lanes = omega arith in amid_shown n p before row a b count is within lanes (at.shows there)
   | inr past ↦
@@ -296,24 +296,24 @@ amid_by (Some p) n before row a b is count lanes at = elim (within_or p n) [
       subst (λ (s : Sketch). IsAmid n before row a s) (sym (at.past beyond))
       (amid_none n before row a count lanes
       (λ (q : ℕ) (below : q < n). let off : q ≢ p = omega arith in of_other p q row is off)
-      (λ (later : List Row).
+      (λ (later : List EventRow).
       ap (λ (o : Option ℕ). marks_on n o before row later) is
       ∙ ap (λ (x : Bool). if x then event_marks p before row later else []) (le-ltb p n past)))
 ]
 
 -- ---- its recovery state and its round
-told_lane : (p : ℕ) (before : List Row) (row : Row) (b c : Lane) → b.reached ≡ highest p 0 before
+told_lane : (p : ℕ) (before : List EventRow) (row : EventRow) (b c : LaneState) → b.reached ≡ highest p 0 before
     → c.reached ≡ max b.reached (slice_index row.recovery p) → c.reached ≡ highest p 0 (before ++ row ∷ [])
 told_lane p before row b c was is = is ∙ ap (λ (n : ℕ). next_place p n row) was ∙ sym (highest_more p 0 before row)
 
-told_again : (p : ℕ) (row : Row) (b c : Lane) → c.reached ≡ max b.reached (slice_index row.recovery p)
+told_again : (p : ℕ) (row : EventRow) (b c : LaneState) → c.reached ≡ max b.reached (slice_index row.recovery p)
     → next_place p c.reached row ≡ c.reached
 told_again p row b c is = ap (λ (n : ℕ). next_place p n row) is ∙ place_again p b.reached row ∙ sym is
 
 no_waiting : (f : ℕ → Bool → Fate) (stored : ℕ) (marks : List Mark) → marks ≡ [] → waiting_marks f stored marks ≡ []
 no_waiting f stored marks none = ap (λ (l : List Mark). waiting_marks f stored l) none
 
-round_told : (finished : Bool) (row : Row) (later : List Row) (c d : Sketch) → is_finished row.entry.answer ≡ finished
+round_told : (finished : Bool) (row : EventRow) (later : List EventRow) (c d : Sketch) → is_finished row.entry.answer ≡ finished
     → ((q : ℕ) → q < length c.lanes → next_place q (lane_of c q).reached row ≡ (lane_of c q).reached) → SettlesIf finished c d
     → AreTheSame (all_marks (lane_marks later) d) (all_marks (amid_marks row later) c)
 round_told false row later c d is again same =
@@ -363,14 +363,14 @@ lane_small p n below few =
     ap (λ (b : Bool). if b then p else 0) (lt-ltb p (2 ^ 32) small)
 
 -- what an event frees
-freed_told : (p : ℕ) (rows : List Row) (row : Row) (lane : Lane) → lane.reached ≡ highest p 0 rows
+freed_told : (p : ℕ) (rows : List EventRow) (row : EventRow) (lane : LaneState) → lane.reached ≡ highest p 0 rows
     → held_in lane ≡ held_behind p rows ++ left_by p rows row → frees row p lane ≡ releases p rows row
 freed_told p rows row lane reached held =
     ap (λ (n : ℕ). is_any_elsewhere row.entry.at.x (covered_by (next_place p n row) (held_in lane))) reached
     ∙ ap (λ (n : ℕ). is_any_elsewhere row.entry.at.x (covered_by n (held_in lane))) (sym (highest_more p 0 rows row))
     ∙ ap (λ (l : List Held). is_any_elsewhere row.entry.at.x (covered_by (highest p 0 (rows ++ row ∷ [])) l)) held
 
-freed_same : (x : EventMark → ℕ) (n : ℕ) (rows : List Row) (row : Row) (c : Sketch) → n ≤ MAX_PROCESSES
+freed_same : (x : EventMark → ℕ) (n : ℕ) (rows : List EventRow) (row : EventRow) (c : Sketch) → n ≤ MAX_PROCESSES
     → ((p : ℕ) → p < n → frees row p (lane_of c p) ≡ releases p rows row) → (k : ℕ) → k ≤ n
     → sum_by x (freed_below row c k) ≡ sum_by x (if c.on then released_below k rows row else [])
 freed_same x n rows row c few same zero within = none_freed c.on
@@ -393,27 +393,27 @@ freed_same x n rows row c few same (suc k) within =
     omega arith
 
 -- ---- the window
-reached_more : (first : ℕ) (rows : List Row) (row : Row)
+reached_more : (first : ℕ) (rows : List EventRow) (row : EventRow)
     → is_reached first (rows ++ row ∷ []) ≡ (is_reached first rows || nat_le first row.entry.line)
 reached_more first [] row = or-false (nat_le first row.entry.line)
 reached_more first (x ∷ rows) row =
     ap (λ (b : Bool). nat_le first x.entry.line || b) (reached_more first rows row)
     ∙ sym (or_assoc (nat_le first x.entry.line) (is_reached first rows) (nat_le first row.entry.line))
 
-among_more : (n first : ℕ) (before rows : List Row) (row : Row) (later : List Row)
+among_more : (n first : ℕ) (before rows : List EventRow) (row : EventRow) (later : List EventRow)
     → marks_among n first before (rows ++ row ∷ []) later
     ≡ marks_among n first before rows (row ∷ later) ++ row_marks n first (before ++ rows) row later
 among_more n first before [] row later =
     append-nil (row_marks n first before row later)
-    ∙ ap (λ (l : List Row). row_marks n first l row later) (sym (append-nil before))
+    ∙ ap (λ (l : List EventRow). row_marks n first l row later) (sym (append-nil before))
 among_more n first before (x ∷ rows) row later =
-    ap (λ (l : List Row). row_marks n first before x l ++ marks_among n first (before ++ x ∷ []) (rows ++ row ∷ []) later)
+    ap (λ (l : List EventRow). row_marks n first before x l ++ marks_among n first (before ++ x ∷ []) (rows ++ row ∷ []) later)
     (append_assoc rows (row ∷ []) later)
     ∙ ap (λ (l : List EventMark). row_marks n first before x (rows ++ row ∷ later) ++ l)
     (among_more n first (before ++ x ∷ []) rows row later)
     ∙ sym (append_assoc (row_marks n first before x (rows ++ row ∷ later)) (marks_among n first (before ++ x ∷ []) rows (row ∷ later))
     (row_marks n first ((before ++ x ∷ []) ++ rows) row later))
-    ∙ ap (λ (l : List Row). (row_marks n first before x (rows ++ row ∷ later) ++ marks_among n first (before ++ x ∷ []) rows (row ∷ later))
+    ∙ ap (λ (l : List EventRow). (row_marks n first before x (rows ++ row ∷ later) ++ marks_among n first (before ++ x ∷ []) rows (row ∷ later))
     ++ row_marks n first l row later) (append_assoc before (x ∷ []) rows)
 
 -- ---- where it stands
@@ -423,7 +423,7 @@ edge_x a b same = ap (λ (e : Edge). e.x) same
 edge_right : (a b : Edge) → a ≡ b → a.right ≡ b.right
 edge_right a b same = ap (λ (e : Edge). e.right) same
 
-rightmost_more : (rows : List Row) (row : Row) → rightmost (rows ++ row ∷ []) ≡ max (rightmost rows) row.entry.at.x
+rightmost_more : (rows : List EventRow) (row : EventRow) → rightmost (rows ++ row ∷ []) ≡ max (rightmost rows) row.entry.at.x
 rightmost_more [] row = zeros row.entry.at.x
   where
     zeros : (x : ℕ) → max x 0 ≡ max 0 x
@@ -434,14 +434,14 @@ rightmost_more (r ∷ rows) row =
     regrouped : (x y z : ℕ) → max x (max y z) ≡ max (max x y) z
     regrouped x y z = omega arith
 
-placed_more : (n first : ℕ) (before rows : List Row) (row : Row) → ArePlaced n first before rows
+placed_more : (n first : ℕ) (before rows : List EventRow) (row : EventRow) → ArePlaced n first before rows
     → IsPlacedBehind n first (before ++ rows) row → ArePlaced n first before (rows ++ row ∷ [])
 placed_more n first before [] row were here =
-    (subst (λ (l : List Row). IsPlacedBehind n first l row) (append-nil before) here, tt)
+    (subst (λ (l : List EventRow). IsPlacedBehind n first l row) (append-nil before) here, tt)
 placed_more n first before (r ∷ rows) row were here = (
   were.0,
   placed_more n first (before ++ r ∷ []) rows row were.1
-      (subst (λ (l : List Row). IsPlacedBehind n first l row) (sym (append_assoc before (r ∷ []) rows)) here),
+      (subst (λ (l : List EventRow). IsPlacedBehind n first l row) (sym (append_assoc before (r ∷ []) rows)) here),
 )
 
 both_true : (a b : Bool) → (a && b) ≡ true → (a ≡ true) × (b ≡ true)
@@ -449,7 +449,7 @@ both_true true b h = (refl, h)
 both_true false b h = absurd (cc)
 
 -- an event that has a column is one that the lanes show
-column_shown : (n : ℕ) (o : Option ℕ) (rows : List Row) (row : Row) (a : Sketch) → length a.lanes ≡ n
+column_shown : (n : ℕ) (o : Option ℕ) (rows : List EventRow) (row : EventRow) (a : Sketch) → length a.lanes ≡ n
     → ((q : ℕ) → q < n → IsLaneOf q rows (lane_of a q)) → shows_on n o rows row ≡ true → shows_at o a row ≡ true
 column_shown n None rows row a count lanes h = h
 column_shown n (Some p) rows row a count lanes h =
@@ -460,17 +460,17 @@ column_shown n (Some p) rows row a count lanes h =
     ∙ ap (λ (b : Bool). is_shown (shown b row.entry.event row.entry.answer)) (lanes p below).ended ∙ parts.1
 
 -- where an event stands, behind those that are drawn
-placed_behind : (n first : ℕ) (rows : List Row) (row : Row) (a b m : Sketch) → IsSketchOf n first rows a → Reaches a b row.entry.line
+placed_behind : (n first : ℕ) (rows : List EventRow) (row : EventRow) (a b m : Sketch) → IsSketchOf n first rows a → Reaches a b row.entry.line
     → PlacesEvent b m row → b.on ≡ is_reached first (rows ++ row ∷ []) → IsPlacedBehind n first rows row
 placed_behind n first rows row a b m before reached placed on = record {
   lane = λ (p : ℕ) (is : process_of row.entry.event ≡ Some p) (below : p < n).
       placed.lane p is ∙ lane_small p n below before.few;
   column = λ (few : length rows < MOST_COLUMNS) (has : has_column n first rows row ≡ true).
       let parts = both_true (is_reached first (rows ++ row ∷ [])) (shows_on n (process_of row.entry.event) rows row) has in
-      let count : length b.lanes ≡ n = ap (λ (ls : List Lane). length ls) reached.lanes ∙ before.count in
+      let count : length b.lanes ≡ n = ap (λ (ls : List LaneState). length ls) reached.lanes ∙ before.count in
       let lanes : (q : ℕ) → q < n → IsLaneOf q rows (lane_of b q) =
       (λ (q : ℕ) (below : q < n).
-      subst (λ (l : Lane). IsLaneOf q rows l) (sym (ap (λ (ls : List Lane). get_or ls q new_lane) reached.lanes)) (before.lanes q below)) in
+      subst (λ (l : LaneState). IsLaneOf q rows l) (sym (ap (λ (ls : List LaneState). get_or ls q new_lane) reached.lanes)) (before.lanes q below)) in
       let it_shows = column_shown n (process_of row.entry.event) rows row b count lanes parts.1 in
       let is_on : b.on ≡ true = on ∙ parts.0 in
       let x = edge_x b.edge a.edge reached.edge in
@@ -483,22 +483,22 @@ placed_behind n first rows row a b m before reached placed on = record {
 }
 
 -- ---- one event more
-same_all : (v : ℕ → Lane → List EventMark) (a b : Sketch) → b.drawn ≡ a.drawn → b.lanes ≡ a.lanes → all_marks v b ≡ all_marks v a
+same_all : (v : ℕ → LaneState → List EventMark) (a b : Sketch) → b.drawn ≡ a.drawn → b.lanes ≡ a.lanes → all_marks v b ≡ all_marks v a
 unfolding all_marks
 same_all v a b drawn lanes =
     ap (λ (l : List EventMark). l ++ lanes_marks v 0 b.lanes) drawn
-    ∙ ap (λ (ls : List Lane). a.drawn ++ lanes_marks v 0 ls) lanes
+    ∙ ap (λ (ls : List LaneState). a.drawn ++ lanes_marks v 0 ls) lanes
 
-sketch_more : (a b m c d e : Sketch) (row : Row) → Reaches a b row.entry.line → PlacesEvent b m row → ShowsEvent m c row
+sketch_more : (a b m c d e : Sketch) (row : EventRow) → Reaches a b row.entry.line → PlacesEvent b m row → ShowsEvent m c row
     → LearnsAll row c d → SettlesIf (is_finished row.entry.answer) d e
-    → (n first : ℕ) (rows : List Row) → IsSketchOf n first rows a → IsSketchOf n first (rows ++ row ∷ []) e
+    → (n first : ℕ) (rows : List EventRow) → IsSketchOf n first rows a → IsSketchOf n first (rows ++ row ∷ []) e
 sketch_more a b m c d e row reached placed shows learns settles n first rows before =
     let same_lanes : m.lanes ≡ a.lanes = placed.places.lanes ∙ reached.lanes in
     let same_drawn : m.drawn ≡ a.drawn = placed.places.drawn ∙ reached.drawn in
-    let count : length m.lanes ≡ n = ap (λ (ls : List Lane). length ls) same_lanes ∙ before.count in
+    let count : length m.lanes ≡ n = ap (λ (ls : List LaneState). length ls) same_lanes ∙ before.count in
     let lanes : (p : ℕ) → p < n → IsLaneOf p rows (lane_of m p) =
     (λ (p : ℕ) (below : p < n).
-    subst (λ (l : Lane). IsLaneOf p rows l) (sym (ap (λ (ls : List Lane). get_or ls p new_lane) same_lanes)) (before.lanes p below)) in
+    subst (λ (l : LaneState). IsLaneOf p rows l) (sym (ap (λ (ls : List LaneState). get_or ls p new_lane) same_lanes)) (before.lanes p below)) in
     let amid : IsAmid n rows row m c = amid_by (process_of row.entry.event) n rows row m c refl count lanes shows in
     let facts = settled_facts (is_finished row.entry.answer) d e settles in
     let keeps = (learns.keeps []).count in
@@ -548,7 +548,7 @@ sketch_more a b m c d e row reached placed shows learns settles n first rows bef
                 ∙ sym (held_more p [] [] rows row);
             reached = (facts.3 p).reached ∙ told_lane p rows row (lane_of c p) (lane_of d p) (amid.reached p below) l.told.reached;
           };
-      marks = λ (later : List Row) (x : EventMark → ℕ).
+      marks = λ (later : List EventRow) (x : EventMark → ℕ).
           let own : List EventMark = if m.on then marks_on n (process_of row.entry.event) rows row later else [] in
           let z = round_told (is_finished row.entry.answer) row later d e refl
           (λ (q : ℕ) (below : q < length d.lanes). let within : q < n = omega arith in
@@ -587,7 +587,7 @@ sketch_more a b m c d e row reached placed shows learns settles n first rows bef
 pub step_drawn : (r : Result (Unit {0}) AllocError) (a b m c d e f : Sketch) (step : Step) (at : Spot) → Reaches a b step.line
     → PlacesEvent b m (step_row step at) → ShowsEvent m c (step_row step at) → d ≡ c → LearnsAll (step_row step at) d e
     → OnOk r (SettlesIf (is_finished step.answer) e f)
-    → OnOk r ((at : Spot) × ((n first : ℕ) (rows : List Row) → IsSketchOf n first rows a
+    → OnOk r ((at : Spot) × ((n first : ℕ) (rows : List EventRow) → IsSketchOf n first rows a
     → IsSketchOf n first (rows ++ step_row step at ∷ []) f))
 step_drawn r a b m c d e f step at reached placed shows same learns settles =
     on_ok_weaker r (λ (s : SettlesIf (is_finished step.answer) e f). (
@@ -596,7 +596,7 @@ step_drawn r a b m c d e f step at reached placed shows same learns settles =
     )) settles
 
 -- ---- the end
-no_lanes : (v : ℕ → Lane → List EventMark) (s : Sketch) → ((q : ℕ) → q < length s.lanes → v q (lane_of s q) ≡ [])
+no_lanes : (v : ℕ → LaneState → List EventMark) (s : Sketch) → ((q : ℕ) → q < length s.lanes → v q (lane_of s q) ≡ [])
     → all_marks v s ≡ s.drawn
 unfolding all_marks
 no_lanes v s none =
@@ -605,12 +605,12 @@ no_lanes v s none =
     subst (λ (n : ℕ). v n (lane_of s q) ≡ []) at (none q below)) ∙ empty 0 s.lanes)
     ∙ append-nil s.drawn
   where
-    empty : (k : ℕ) (ls : List Lane) → lanes_marks (λ q l. []) k ls ≡ []
+    empty : (k : ℕ) (ls : List LaneState) → lanes_marks (λ q l. []) k ls ≡ []
     empty k [] = refl
     empty k (l ∷ ls) = empty (suc k) ls
 
 pub whole_drawn : (a b : Sketch) (drawn : List EventMark) → SettlesAll false a b → drawn ≡ b.drawn
-    → (n first : ℕ) (rows : List Row) → IsSketchOf n first rows a → AreTheSame drawn (marks_among n first [] rows [])
+    → (n first : ℕ) (rows : List EventRow) → IsSketchOf n first rows a → AreTheSame drawn (marks_among n first [] rows [])
 whole_drawn a b drawn settled is n first rows before =
     λ (x : EventMark → ℕ).
     ap (λ (l : List EventMark). sum_by x l) (is ∙ sym (no_lanes (now_marks false) b (λ (q : ℕ) (below : q < length b.lanes).
@@ -649,10 +649,10 @@ new_sketch n first shapes hs edge none count new few is inside most =
       behind = omega arith;
       inside = inside;
       room = omega arith;
-      lanes = λ (p : ℕ) (below : p < n). subst (λ (l : Lane). IsLaneOf p [] l) (sym (new_at hs p new))
+      lanes = λ (p : ℕ) (below : p < n). subst (λ (l : LaneState). IsLaneOf p [] l) (sym (new_at hs p new))
           (record { interval = refl; ended = refl; loose = refl; held = refl; reached = refl });
-      marks = λ (later : List Row) (x : EventMark → ℕ).
+      marks = λ (later : List EventRow) (x : EventMark → ℕ).
           ap (λ (l : List EventMark). sum_by x l) (no_lanes (lane_marks later) s (λ (q : ℕ) (below : q < length s.lanes).
-          ap (λ (l : Lane). lane_marks later q l) (new_at hs q new))
+          ap (λ (l : LaneState). lane_marks later q l) (new_at hs q new))
           ∙ ap (λ (l : List Shape). flat_map shape_marks l) none);
     }

@@ -3,7 +3,7 @@ use Rattle.std.proofs.Common.{◌≡◌, ◌∙◌, ◌<◌, ◌||◌, ◌&&◌,
 use Rattle.std.specs.Prelude.{nat_le}
 use Rattle.std.proofs.lemmas.Bool.{false≢true, or_parts}
 use Rattle.std.proofs.lemmas.Bool.Decides.{leb_tells}
-use Rattle.om_picture.specs.Fates.{IsCutBy, IsStoredBy, Row, cuts, highest, is_cut, is_stored, next_place, stores}
+use Rattle.om_picture.specs.Fates.{EventRow, IsCutBy, IsStoredBy, cuts, highest, is_cut, is_stored, next_place, stores}
 use Rattle.om_picture.specs.Shows.{is_finished}
 
 -- a round that cuts
@@ -31,7 +31,7 @@ or_second false b e = e
 or_first : (a b : Bool) → a ≡ true → (a || b) ≡ true
 or_first a b e = ap (λ (x : Bool). x || b) e
 
-cut_by : (p i was : ℕ) (rows : List Row) → is_cut p i was rows ≡ true → IsCutBy p i was rows
+cut_by : (p i was : ℕ) (rows : List EventRow) → is_cut p i was rows ≡ true → IsCutBy p i was rows
 cut_by p i was [] e = absurd (false≢true e)
 cut_by p i was (row ∷ rows) e =
     elim (or_true (cuts i (next_place p was row) row) (is_cut p i (next_place p was row) rows) e) [
@@ -44,13 +44,13 @@ cut_by p i was (row ∷ rows) e =
             before = row ∷ by.before;
             row = by.row;
             after = by.after;
-            split = ap (λ (l : List Row). row ∷ l) by.split;
+            split = ap (λ (l : List EventRow). row ∷ l) by.split;
             finished = by.finished;
             beyond = by.beyond;
           }
     ]
 
-by_cut : (p i was : ℕ) (before : List Row) (row : Row) (after : List Row) → is_finished row.entry.answer ≡ true
+by_cut : (p i was : ℕ) (before : List EventRow) (row : EventRow) (after : List EventRow) → is_finished row.entry.answer ≡ true
     → highest p was (before ++ row ∷ []) < i → is_cut p i was (before ++ row ∷ after) ≡ true
 by_cut p i was [] row after finished beyond =
     or_first (cuts i (next_place p was row) row) (is_cut p i (next_place p was row) after)
@@ -59,11 +59,11 @@ by_cut p i was (x ∷ before) row after finished beyond =
     or_second (cuts i (next_place p was x) x) (is_cut p i (next_place p was x) (before ++ row ∷ after))
     (by_cut p i (next_place p was x) before row after finished beyond)
 
-pub cut_where : (p i was : ℕ) (rows : List Row) → is_cut p i was rows ≡ true ↔ IsCutBy p i was rows
+pub cut_where : (p i was : ℕ) (rows : List EventRow) → is_cut p i was rows ≡ true ↔ IsCutBy p i was rows
 cut_where p i was rows = (
   cut_by p i was rows,
   λ (by : IsCutBy p i was rows).
-      subst (λ (l : List Row). is_cut p i was l ≡ true) (sym by.split) (by_cut p i was by.before by.row by.after by.finished by.beyond),
+      subst (λ (l : List EventRow). is_cut p i was l ≡ true) (sym by.split) (by_cut p i was by.before by.row by.after by.finished by.beyond),
 )
 
 and_true : (a b : Bool) → (a && b) ≡ true → (a ≡ true) × (b ≡ true)
@@ -74,7 +74,7 @@ not_true : (a : Bool) → not a ≡ true → a ≡ false
 not_true true e = absurd (false≢true e)
 not_true false e = refl
 
-stored_by : (p i was : ℕ) (rows : List Row) → is_stored p i was rows ≡ true → IsStoredBy p i was rows
+stored_by : (p i was : ℕ) (rows : List EventRow) → is_stored p i was rows ≡ true → IsStoredBy p i was rows
 stored_by p i was [] e = absurd (false≢true e)
 stored_by p i was (row ∷ rows) e =
     elim (or_true (stores p row) (not (cuts i (next_place p was row) row) && is_stored p i (next_place p was row) rows) e) [
@@ -86,14 +86,14 @@ stored_by p i was (row ∷ rows) e =
             before = row ∷ by.before;
             row = by.row;
             after = by.after;
-            split = ap (λ (l : List Row). row ∷ l) by.split;
+            split = ap (λ (l : List EventRow). row ∷ l) by.split;
             stores_it = by.stores_it;
             not_cut = ap (λ (b : Bool). b || is_cut p i (next_place p was row) by.before)
                 (not_true (cuts i (next_place p was row) row) parts.0) ∙ by.not_cut;
           }
     ]
 
-by_stored : (p i was : ℕ) (before : List Row) (row : Row) (after : List Row) → stores p row ≡ true
+by_stored : (p i was : ℕ) (before : List EventRow) (row : EventRow) (after : List EventRow) → stores p row ≡ true
     → is_cut p i was before ≡ false → is_stored p i was (before ++ row ∷ after) ≡ true
 by_stored p i was [] row after here kept = or_first (stores p row)
     (not (cuts i (next_place p was row) row) && is_stored p i (next_place p was row) after) here
@@ -103,10 +103,10 @@ by_stored p i was (x ∷ before) row after here kept =
     (ap (λ (b : Bool). not b && is_stored p i (next_place p was x) (before ++ row ∷ after)) parts.0
     ∙ by_stored p i (next_place p was x) before row after here parts.1)
 
-pub stored_where : (p i was : ℕ) (rows : List Row) → is_stored p i was rows ≡ true ↔ IsStoredBy p i was rows
+pub stored_where : (p i was : ℕ) (rows : List EventRow) → is_stored p i was rows ≡ true ↔ IsStoredBy p i was rows
 stored_where p i was rows = (
   stored_by p i was rows,
   λ (by : IsStoredBy p i was rows).
-      subst (λ (l : List Row). is_stored p i was l ≡ true) (sym by.split)
+      subst (λ (l : List EventRow). is_stored p i was l ≡ true) (sym by.split)
       (by_stored p i was by.before by.row by.after by.stores_it by.not_cut),
 )

@@ -13,7 +13,7 @@ use Rattle.om_world.specs.declared.event.Event.{Event}
 use Rattle.om_world.specs.declared.event.Event.TheVariants as events
 use Rattle.om_world.specs.declared.event.Refusal.TheVariants as refusals
 use Rattle.om_picture.specs.Drawing.{mark_marks, waiting_marks}
-use Rattle.om_picture.specs.Fates.{Entry, Fate, Row, cuts, ended_after, ended_from, fate_behind, highest, interval_after, interval_from, is_cut, is_store, is_stored, loose_after, loose_from, next_ended, next_interval, next_loose, next_place, stores}
+use Rattle.om_picture.specs.Fates.{EventAt, EventRow, Fate, cuts, ended_after, ended_from, fate_behind, highest, interval_after, interval_from, is_cut, is_store, is_stored, loose_after, loose_from, next_ended, next_interval, next_loose, next_place, stores}
 use Rattle.om_picture.specs.Marks.{EventMark, fated_marks}
 use Rattle.om_picture.specs.Shows.{end_of, is_finished, new_end, shown}
 use Rattle.om_picture.specs.declared.history.Mark.{Mark}
@@ -25,7 +25,7 @@ use Rattle.om_picture.specs.steps.Adding.{ended_shown, fate_amid, fate_now, inte
 further : (a b c : ℕ) → a ≤ b → b ≤ c → a ≤ c
 further a b c p q = omega arith
 
-le_highest : (p was : ℕ) (rows : List Row) → was ≤ highest p was rows
+le_highest : (p was : ℕ) (rows : List EventRow) → was ≤ highest p was rows
 le_highest p was [] = omega arith
 le_highest p was (row ∷ rows) =
     further was (next_place p was row) (highest p (next_place p was row) rows) (le-max_left was (slice_index row.recovery p))
@@ -34,7 +34,7 @@ le_highest p was (row ∷ rows) =
 max_again : (a b : ℕ) → max (max a b) b ≡ max a b
 max_again a b = omega arith
 
-pub place_again : (p was : ℕ) (row : Row) → next_place p (max was (slice_index row.recovery p)) row ≡ next_place p was row
+pub place_again : (p was : ℕ) (row : EventRow) → next_place p (max was (slice_index row.recovery p)) row ≡ next_place p was row
 place_again p was row = max_again was (slice_index row.recovery p)
 
 -- ---- fates
@@ -42,12 +42,12 @@ abbrev make_fate : Bool → Bool → Bool → Fate
 make_fate cut within stored = record { cut = cut; covered = not cut && within; stored = (not cut && within) || stored }
 
 -- the round of an event is finished or not, and its recovery state is told
-abbrev fate_at : Bool → ℕ → ℕ → Bool → ℕ → List Row → Fate
+abbrev fate_at : Bool → ℕ → ℕ → Bool → ℕ → List EventRow → Fate
 fate_at finished p i stored high later =
     make_fate ((finished && not (nat_le i high)) || is_cut p i high later) (nat_le i (highest p high later))
     (stored || (not (finished && not (nat_le i high)) && is_stored p i high later))
 
-not_cut : (p i was : ℕ) (rows : List Row) → i ≤ was → is_cut p i was rows ≡ false
+not_cut : (p i was : ℕ) (rows : List EventRow) → i ≤ was → is_cut p i was rows ≡ false
 not_cut p i was [] within = refl
 not_cut p i was (row ∷ rows) within =
     let more : i ≤ next_place p was row = further i was (next_place p was row) within (le-max_left was (slice_index row.recovery p)) in
@@ -56,7 +56,7 @@ not_cut p i was (row ∷ rows) within =
     ap (λ (b : Bool). is_finished row.entry.answer && not b) covered ∙ and-false (is_finished row.entry.answer) in
     ap (λ (b : Bool). b || is_cut p i (next_place p was row) rows) none ∙ not_cut p i (next_place p was row) rows more
 
-kept_at : (finished stored : Bool) (p i high : ℕ) (later : List Row) → i ≤ high → fate_at finished p i stored high later ≡ kept
+kept_at : (finished stored : Bool) (p i high : ℕ) (later : List EventRow) → i ≤ high → fate_at finished p i stored high later ≡ kept
 kept_at finished stored p i high later within =
     let w : Bool = nat_le i (highest p high later) in
     let s : Bool = stored || (not (finished && not (nat_le i high)) && is_stored p i high later) in
@@ -68,19 +68,19 @@ kept_at finished stored p i high later within =
     (le_highest p high later)))
 
 -- an interval that a recovery state covers
-pub kept_amid : (row : Row) (later : List Row) (p i was : ℕ) (stored : Bool) → i ≤ was → fate_amid row later p i stored was ≡ kept
+pub kept_amid : (row : EventRow) (later : List EventRow) (p i was : ℕ) (stored : Bool) → i ≤ was → fate_amid row later p i stored was ≡ kept
 kept_amid row later p i was stored within =
     kept_at (is_finished row.entry.answer) stored p i (next_place p was row) later (further i was (next_place p was row) within
     (le-max_left was (slice_index row.recovery p)))
 
 -- its recovery state may be told before
-pub amid_again : (row : Row) (later : List Row) (p i was : ℕ) (stored : Bool)
+pub amid_again : (row : EventRow) (later : List EventRow) (p i was : ℕ) (stored : Bool)
     → fate_amid row later p i stored (max was (slice_index row.recovery p)) ≡ fate_amid row later p i stored was
 amid_again row later p i was stored =
     ap (λ (high : ℕ). fate_at (is_finished row.entry.answer) p i stored high later) (place_again p was row)
 
 -- the event itself stores, or not
-pub first_fate : (row : Row) (later : List Row) (p i was : ℕ) (stored : Bool)
+pub first_fate : (row : EventRow) (later : List EventRow) (p i was : ℕ) (stored : Bool)
     → fate_behind p i stored was (row ∷ later) ≡ fate_amid row later p i (stored || stores p row) was
 first_fate row later p i was stored =
     ap (λ (b : Bool). make_fate (is_cut p i was (row ∷ later)) (nat_le i (highest p was (row ∷ later))) b)
@@ -90,7 +90,7 @@ first_fate row later p i was stored =
 abbrev lost : Bool → Fate
 lost stored = record { cut = true; covered = false; stored = stored }
 
-round_at : (p i high : ℕ) (stored : Bool) (later : List Row) → fate_at true p i stored high later ≡ fate_now true (nat_le i high) stored
+round_at : (p i high : ℕ) (stored : Bool) (later : List EventRow) → fate_at true p i stored high later ≡ fate_now true (nat_le i high) stored
 round_at p i high stored later = go (nat_le i high) refl
   where
     go : (b : Bool) → nat_le i high ≡ b → fate_at true p i stored high later ≡ fate_now true (nat_le i high) stored
@@ -102,7 +102,7 @@ round_at p i high stored later = go (nat_le i high) refl
         ∙ sym (ap (λ (b : Bool). fate_now true b stored) is)
 
 -- a round is finished with the event
-pub round_fate : (row : Row) (later : List Row) (p i was : ℕ) (stored : Bool) → is_finished row.entry.answer ≡ true
+pub round_fate : (row : EventRow) (later : List EventRow) (p i was : ℕ) (stored : Bool) → is_finished row.entry.answer ≡ true
     → next_place p was row ≡ was
     → fate_amid row later p i stored was ≡ fate_now true (nat_le i was) stored
 round_fate row later p i was stored finished same =
@@ -111,7 +111,7 @@ round_fate row later p i was stored finished same =
     ∙ round_at p i was stored later
 
 -- none is
-pub open_fate : (row : Row) (later : List Row) (p i was : ℕ) (stored : Bool) → is_finished row.entry.answer ≡ false
+pub open_fate : (row : EventRow) (later : List EventRow) (p i was : ℕ) (stored : Bool) → is_finished row.entry.answer ≡ false
     → next_place p was row ≡ was
     → fate_amid row later p i stored was ≡ fate_behind p i stored was later
 open_fate row later p i was stored finished same =
@@ -155,7 +155,7 @@ waiting_more f stored (m ∷ ms) mark few =
     (mark_marks mark (f mark.interval false)))
 
 -- ---- what an event shows
-pub fated_same : (s : Shown) (fresh : ℕ) (x y : Fate) (entry : Entry) → (is_stored_by s ≡ false → x ≡ y)
+pub fated_same : (s : Shown) (fresh : ℕ) (x y : Fate) (entry : EventAt) → (is_stored_by s ≡ false → x ≡ y)
     → fated_marks s fresh x entry ≡ fated_marks s fresh y entry
 fated_same (shows.Run sent made ends) fresh x y entry h = ap (λ (f : Fate). fated_marks (shows.Run sent made ends) fresh f entry) (h refl)
 fated_same (shows.Resend sent) fresh x y entry h = ap (λ (f : Fate). fated_marks (shows.Resend sent) fresh f entry) (h refl)
@@ -342,21 +342,21 @@ loose_told ended (events.Resume process) answer was = refl
 loose_told ended events.Prune answer was = refl
 
 -- ---- one event more
-pub interval_more : (p was : ℕ) (rows : List Row) (row : Row)
+pub interval_more : (p was : ℕ) (rows : List EventRow) (row : EventRow)
     → interval_from p was (rows ++ row ∷ []) ≡ next_interval p (interval_from p was rows) row
 interval_more p was [] row = refl
 interval_more p was (x ∷ rows) row = interval_more p (next_interval p was x) rows row
 
-pub ended_more : (p : ℕ) (was : Bool) (rows : List Row) (row : Row)
+pub ended_more : (p : ℕ) (was : Bool) (rows : List EventRow) (row : EventRow)
     → ended_from p was (rows ++ row ∷ []) ≡ next_ended p (ended_from p was rows) row
 ended_more p was [] row = refl
 ended_more p was (x ∷ rows) row = ended_more p (next_ended p was x) rows row
 
-pub loose_more : (p : ℕ) (was : Bool) (rows : List Row) (row : Row)
+pub loose_more : (p : ℕ) (was : Bool) (rows : List EventRow) (row : EventRow)
     → loose_from p was (rows ++ row ∷ []) ≡ next_loose p (loose_from p was rows) row
 loose_more p was [] row = refl
 loose_more p was (x ∷ rows) row = loose_more p (next_loose p was x) rows row
 
-pub highest_more : (p was : ℕ) (rows : List Row) (row : Row) → highest p was (rows ++ row ∷ []) ≡ next_place p (highest p was rows) row
+pub highest_more : (p was : ℕ) (rows : List EventRow) (row : EventRow) → highest p was (rows ++ row ∷ []) ≡ next_place p (highest p was rows) row
 highest_more p was [] row = refl
 highest_more p was (x ∷ rows) row = highest_more p (next_place p was x) rows row

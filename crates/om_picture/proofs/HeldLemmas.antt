@@ -4,7 +4,7 @@ use Rattle.std.specs.Prelude.{nat_le}
 use Rattle.std.specs.Option.{option_or}
 use Rattle.std.proofs.lemmas.Bool.{le-leb, lt-leb}
 use Rattle.std.proofs.lemmas.List.{append-nil}
-use Rattle.om_picture.specs.Fates.{Row, has_ended, interval_behind, is_of}
+use Rattle.om_picture.specs.Fates.{EventRow, has_ended, interval_behind, is_of}
 use Rattle.om_picture.specs.Held.{Held, covered_by, held_from, left_by, may_wait, next_held, left_behind}
 use Rattle.om_picture.specs.Shows.{shown}
 
@@ -32,20 +32,20 @@ pub covered_none : (place : ℕ) (held : Held) (more : List Held) → place < he
 covered_none place held more beyond = ap (λ (b : Bool). if b then held ∷ covered_by place more else []) (lt-leb held.interval place beyond)
 
 -- ---- one event more
-pub held_more : (p : ℕ) (before : List Row) (was : List Held) (rows : List Row) (row : Row)
+pub held_more : (p : ℕ) (before : List EventRow) (was : List Held) (rows : List EventRow) (row : EventRow)
     → held_from p before was (rows ++ row ∷ []) ≡ next_held p (before ++ rows) (held_from p before was rows) row
-held_more p before was [] row = ap (λ (l : List Row). next_held p l was row) (sym (append-nil before))
+held_more p before was [] row = ap (λ (l : List EventRow). next_held p l was row) (sym (append-nil before))
 held_more p before was (r ∷ rows) row =
     held_more p (before ++ r ∷ []) (next_held p before was r) rows row
-    ∙ ap (λ (l : List Row). next_held p l (held_from p (before ++ r ∷ []) (next_held p before was r) rows) row)
+    ∙ ap (λ (l : List EventRow). next_held p l (held_from p (before ++ r ∷ []) (next_held p before was r) rows) row)
     (append_assoc before (r ∷ []) rows)
 
-pub left_none : (p : ℕ) (before : List Row) (row : Row) → is_of p row ≡ false → left_by p before row ≡ []
+pub left_none : (p : ℕ) (before : List EventRow) (row : EventRow) → is_of p row ≡ false → left_by p before row ≡ []
 left_none p before row other =
     ap (λ (b : Bool). if b && may_wait (shown (has_ended p before) row.entry.event row.entry.answer)
     then record { interval = interval_behind p (before ++ row ∷ []); fresh = row.fresh; x = row.entry.at.x } ∷ [] else []) other
 
-pub left_own : (p : ℕ) (before : List Row) (row : Row) → is_of p row ≡ true
+pub left_own : (p : ℕ) (before : List EventRow) (row : EventRow) → is_of p row ≡ true
     → left_by p before row
     ≡ (if may_wait (shown (has_ended p before) row.entry.event row.entry.answer)
     then record { interval = interval_behind p (before ++ row ∷ []); fresh = row.fresh; x = row.entry.at.x } ∷ [] else [])

@@ -10,8 +10,8 @@ use Rattle.std.proofs.lemmas.Bool.Decides.{eqb_tells}
 use Rattle.std.proofs.lemmas.List.{append-nil, drop-append-le, drop_all, drop_more, flat_map_more, get_or_past, get_or-map, length-drop, length-map, map-set, set-get_or}
 use Rattle.std.proofs.lemmas.List.Sums.{sum_by-append}
 use Rattle.std.proofs.lemmas.Result.{on_ok_weaker}
-use Rattle.om_picture.specs.Drawing.{Edge, Lane, Sketch, all_marks, held_in, held_of, lane_in, lane_of, lanes_marks, late_marks, mark_marks, new_lane, waiting_marks}
-use Rattle.om_picture.specs.Fates.{Entry, Fate, Row}
+use Rattle.om_picture.specs.Drawing.{Edge, LaneState, Sketch, all_marks, held_in, held_of, lane_in, lane_of, lanes_marks, late_marks, mark_marks, new_lane, waiting_marks}
+use Rattle.om_picture.specs.Fates.{EventAt, EventRow, Fate}
 use Rattle.om_picture.specs.Held.{Held, covered_by, is_any_elsewhere, is_elsewhere, left_behind}
 use Rattle.om_picture.specs.Marks.{EventMark, Kind, Made, Stands, kind_drawn, mark_of, output_marks, released_at, shape_marks, title_entry}
 use Rattle.om_picture.specs.Shows.{shown}
@@ -29,13 +29,13 @@ use Rattle.om_picture.proofs.FateLemmas.{amid_again, kept_amid, waiting_alike}
 use Rattle.om_picture.proofs.HeldLemmas.{covered_first, covered_none, uncovered_all, uncovered_first}
 
 -- ---- counts
-pub all_counted : (count : EventMark → ℕ) (marks : ℕ → Lane → List EventMark) (s : Sketch)
+pub all_counted : (count : EventMark → ℕ) (marks : ℕ → LaneState → List EventMark) (s : Sketch)
     → sum_by count (all_marks marks s) ≡ sum_by count s.drawn + sum_by count (lanes_marks marks 0 s.lanes)
 unfolding all_marks
 all_counted count marks s = sum_by-append count s.drawn (lanes_marks marks 0 s.lanes)
 
 -- lanes whose marks come to the same
-pub lanes_alike : (v w : ℕ → Lane → List EventMark) (k : ℕ) (lanes : List Lane)
+pub lanes_alike : (v w : ℕ → LaneState → List EventMark) (k : ℕ) (lanes : List LaneState)
     → ((q : ℕ) → q < length lanes → v (k + q) (get_or lanes q new_lane) ≡ w (k + q) (get_or lanes q new_lane))
     → lanes_marks v k lanes ≡ lanes_marks w k lanes
 lanes_alike v w k [] same = refl
@@ -48,8 +48,8 @@ lanes_alike v w k (lane ∷ lanes) same =
     subst (λ (n : ℕ). v n (get_or lanes q new_lane) ≡ w n (get_or lanes q new_lane)) next (same (suc q) (omega arith))))
 
 -- a lane that is another, where the marks of the others come to the same
-lanes_set : (count : EventMark → ℕ) (v w : ℕ → Lane → List EventMark) (k : ℕ) (lanes : List Lane) (p : ℕ) (b : Lane) → p < length lanes
-    → ((q : ℕ) → q ≢ k + p → (lane : Lane) → v q lane ≡ w q lane)
+lanes_set : (count : EventMark → ℕ) (v w : ℕ → LaneState → List EventMark) (k : ℕ) (lanes : List LaneState) (p : ℕ) (b : LaneState) → p < length lanes
+    → ((q : ℕ) → q ≢ k + p → (lane : LaneState) → v q lane ≡ w q lane)
     → sum_by count (lanes_marks w k (set lanes p b)) + sum_by count (v (k + p) (get_or lanes p new_lane))
     ≡ sum_by count (lanes_marks v k lanes) + sum_by count (w (k + p) b)
 lanes_set count v w k [] p b within others = absurd (omega arith)
@@ -66,7 +66,7 @@ lanes_set count v w k (lane ∷ lanes) zero b within others =
     omega arith
 lanes_set count v w k (lane ∷ lanes) (suc p) b within others =
     let at : k + suc p ≡ suc k + p = omega arith in
-    let before = lanes_set count v w (suc k) lanes p b (omega arith) (λ (q : ℕ) (away : q ≢ suc k + p) (l : Lane).
+    let before = lanes_set count v w (suc k) lanes p b (omega arith) (λ (q : ℕ) (away : q ≢ suc k + p) (l : LaneState).
     let off : q ≢ k + suc p = omega arith in others q off l) in
     let first : k ≢ k + suc p = omega arith in
     let here : sum_by count (v k lane) ≡ sum_by count (w k lane) = ap (λ (l : List EventMark). sum_by count l) (others k first lane) in
@@ -77,13 +77,13 @@ lanes_set count v w k (lane ∷ lanes) (suc p) b within others =
     let t : sum_by count (w (k + suc p) b) ≡ sum_by count (w (suc k + p) b) = ap (λ (n : ℕ). sum_by count (w n b)) at in
     omega arith
 
-pub lane_counted : (count : EventMark → ℕ) (v w : ℕ → Lane → List EventMark) (lanes : List Lane) (p : ℕ) (b : Lane) → p < length lanes
-    → ((q : ℕ) → q ≢ p → (lane : Lane) → v q lane ≡ w q lane)
+pub lane_counted : (count : EventMark → ℕ) (v w : ℕ → LaneState → List EventMark) (lanes : List LaneState) (p : ℕ) (b : LaneState) → p < length lanes
+    → ((q : ℕ) → q ≢ p → (lane : LaneState) → v q lane ≡ w q lane)
     → sum_by count (lanes_marks w 0 (set lanes p b)) + sum_by count (v p (get_or lanes p new_lane))
     ≡ sum_by count (lanes_marks v 0 lanes) + sum_by count (w p b)
 lane_counted count v w lanes p b within others =
     let at : 0 + p ≡ p = omega arith in
-    let all = lanes_set count v w 0 lanes p b within (λ (q : ℕ) (away : q ≢ 0 + p) (l : Lane).
+    let all = lanes_set count v w 0 lanes p b within (λ (q : ℕ) (away : q ≢ 0 + p) (l : LaneState).
     let off : q ≢ p = omega arith in others q off l) in
     let s : sum_by count (v (0 + p) (get_or lanes p new_lane)) ≡ sum_by count (v p (get_or lanes p new_lane)) =
     ap (λ (n : ℕ). sum_by count (v n (get_or lanes p new_lane))) at in
@@ -91,7 +91,7 @@ lane_counted count v w lanes p b within others =
     omega arith
 
 -- ---- steps
-turn_counted : (count : EventMark → ℕ) (v : ℕ → Lane → List EventMark) (Turn : Lane → Lane → Type 0) (a b : Sketch) (p : ℕ)
+turn_counted : (count : EventMark → ℕ) (v : ℕ → LaneState → List EventMark) (Turn : LaneState → LaneState → Type 0) (a b : Sketch) (p : ℕ)
     → Turns Turn a b p
     → sum_by count (all_marks v b) + sum_by count (v p (lane_of a p)) ≡ sum_by count (all_marks v a) + sum_by count (v p (lane_of b p))
 turn_counted count v Turn a b p t =
@@ -99,11 +99,11 @@ turn_counted count v Turn a b p t =
     let y = all_counted count v b in
     let drawn : sum_by count b.drawn ≡ sum_by count a.drawn = ap (λ (l : List EventMark). sum_by count l) t.drawn in
     let lanes : sum_by count (lanes_marks v 0 b.lanes) ≡ sum_by count (lanes_marks v 0 (set a.lanes p (lane_of b p))) =
-    ap (λ (ls : List Lane). sum_by count (lanes_marks v 0 ls)) t.lanes in
-    let one = lane_counted count v v a.lanes p (lane_of b p) t.within (λ (q : ℕ) (away : q ≢ p) (l : Lane). refl) in
+    ap (λ (ls : List LaneState). sum_by count (lanes_marks v 0 ls)) t.lanes in
+    let one = lane_counted count v v a.lanes p (lane_of b p) t.within (λ (q : ℕ) (away : q ≢ p) (l : LaneState). refl) in
     omega arith
 
-settle_counted : (count : EventMark → ℕ) (v : ℕ → Lane → List EventMark) (a b : Sketch) (more : List EventMark) → Settles a b more
+settle_counted : (count : EventMark → ℕ) (v : ℕ → LaneState → List EventMark) (a b : Sketch) (more : List EventMark) → Settles a b more
     → sum_by count (all_marks v b) ≡ sum_by count (all_marks v a) + sum_by count more
 settle_counted count v a b more s =
     let x = all_counted count v a in
@@ -111,24 +111,24 @@ settle_counted count v a b more s =
     let drawn : sum_by count b.drawn ≡ sum_by count a.drawn + sum_by count more =
     ap (λ (l : List EventMark). sum_by count l) s.drawn ∙ sum_by-append count a.drawn more in
     let lanes : sum_by count (lanes_marks v 0 b.lanes) ≡ sum_by count (lanes_marks v 0 a.lanes) =
-    ap (λ (ls : List Lane). sum_by count (lanes_marks v 0 ls)) s.lanes in
+    ap (λ (ls : List LaneState). sum_by count (lanes_marks v 0 ls)) s.lanes in
     omega arith
 
-pub turned_count : (Turn : Lane → Lane → Type 0) (a b : Sketch) (p : ℕ) → Turns Turn a b p → length b.lanes ≡ length a.lanes
-turned_count Turn a b p t = ap (λ (ls : List Lane). length ls) t.lanes ∙ length-set a.lanes p (lane_of b p)
+pub turned_count : (Turn : LaneState → LaneState → Type 0) (a b : Sketch) (p : ℕ) → Turns Turn a b p → length b.lanes ≡ length a.lanes
+turned_count Turn a b p t = ap (λ (ls : List LaneState). length ls) t.lanes ∙ length-set a.lanes p (lane_of b p)
 
-pub turned_other : (Turn : Lane → Lane → Type 0) (a b : Sketch) (p : ℕ) → Turns Turn a b p → (q : ℕ) → q ≢ p → lane_of b q ≡ lane_of a q
+pub turned_other : (Turn : LaneState → LaneState → Type 0) (a b : Sketch) (p : ℕ) → Turns Turn a b p → (q : ℕ) → q ≢ p → lane_of b q ≡ lane_of a q
 turned_other Turn a b p t q away =
-    ap (λ (ls : List Lane). get_or ls q new_lane) t.lanes ∙ get_or-set_other a.lanes p q (lane_of b p) new_lane away
+    ap (λ (ls : List LaneState). get_or ls q new_lane) t.lanes ∙ get_or-set_other a.lanes p q (lane_of b p) new_lane away
 
 pub settled_lane : (a b : Sketch) (more : List EventMark) → Settles a b more → (q : ℕ) → lane_of b q ≡ lane_of a q
-settled_lane a b more s q = ap (λ (ls : List Lane). get_or ls q new_lane) s.lanes
+settled_lane a b more s q = ap (λ (ls : List LaneState). get_or ls q new_lane) s.lanes
 
 -- ---- what is kept
-pub keeps_none : (v : ℕ → Lane → List EventMark) (s : Sketch) → Keeps v s s
+pub keeps_none : (v : ℕ → LaneState → List EventMark) (s : Sketch) → Keeps v s s
 keeps_none v s = record { on = refl; edge = refl; count = refl; marks = λ (c : EventMark → ℕ). refl }
 
-pub keeps_then : (v : ℕ → Lane → List EventMark) (a b c : Sketch) → Keeps v a b → Keeps v b c → Keeps v a c
+pub keeps_then : (v : ℕ → LaneState → List EventMark) (a b c : Sketch) → Keeps v a b → Keeps v b c → Keeps v a c
 keeps_then v a b c p q = record {
   on = q.on ∙ p.on;
   edge = q.edge ∙ p.edge;
@@ -136,7 +136,7 @@ keeps_then v a b c p q = record {
   marks = λ (x : EventMark → ℕ). q.marks x ∙ p.marks x;
 }
 
-turn_keeps : (v : ℕ → Lane → List EventMark) (Turn : Lane → Lane → Type 0) (a b : Sketch) (p : ℕ) → Turns Turn a b p
+turn_keeps : (v : ℕ → LaneState → List EventMark) (Turn : LaneState → LaneState → Type 0) (a b : Sketch) (p : ℕ) → Turns Turn a b p
     → v p (lane_of b p) ≡ v p (lane_of a p) → Keeps v a b
 turn_keeps v Turn a b p t same = record {
   on = t.on;
@@ -149,12 +149,12 @@ turn_keeps v Turn a b p t same = record {
 }
 
 -- a mark that is taken and drawn
-taken_keeps : (v : ℕ → Lane → List EventMark) (Turn : Lane → Lane → Type 0) (a b c : Sketch) (p : ℕ) (more : List EventMark)
+taken_keeps : (v : ℕ → LaneState → List EventMark) (Turn : LaneState → LaneState → Type 0) (a b c : Sketch) (p : ℕ) (more : List EventMark)
     → Turns Turn a b p → Settles b c more → v p (lane_of a p) ≡ more ++ v p (lane_of b p) → Keeps v a c
 taken_keeps v Turn a b c p more t s was = record {
   on = s.on ∙ t.on;
   edge = s.edge ∙ t.edge;
-  count = ap (λ (ls : List Lane). length ls) s.lanes ∙ turned_count Turn a b p t;
+  count = ap (λ (ls : List LaneState). length ls) s.lanes ∙ turned_count Turn a b p t;
   marks = λ (x : EventMark → ℕ).
       let i = turn_counted x v Turn a b p t in
       let j = settle_counted x v b c more s in
@@ -164,45 +164,45 @@ taken_keeps v Turn a b c p more t s was = record {
 }
 
 -- what waits on a lane comes to its first mark and the rest
-takes_marks : (f : ℕ → ℕ → Bool → Fate) (mark : Mark) (a b : Lane) → Takes mark a b
+takes_marks : (f : ℕ → ℕ → Bool → Fate) (mark : Mark) (a b : LaneState) → Takes mark a b
     → waiting_marks (f a.reached) a.stored a.waiting
     ≡ mark_marks mark (f a.reached mark.interval (nat_lt 0 a.stored)) ++ waiting_marks (f b.reached) b.stored b.waiting
 takes_marks f mark a b t =
     let head : List EventMark = mark_marks mark (f a.reached mark.interval (nat_lt 0 a.stored)) in
     ap (λ (l : List Mark). waiting_marks (f a.reached) a.stored l) t.was
-    ∙ ap (λ (n : ℕ). head ++ waiting_marks (f a.reached) n b.waiting) (sym (ap (λ (l : Lane). l.stored) t.lane))
-    ∙ ap (λ (n : ℕ). head ++ waiting_marks (f n) b.stored b.waiting) (sym (ap (λ (l : Lane). l.reached) t.lane))
+    ∙ ap (λ (n : ℕ). head ++ waiting_marks (f a.reached) n b.waiting) (sym (ap (λ (l : LaneState). l.stored) t.lane))
+    ∙ ap (λ (n : ℕ). head ++ waiting_marks (f n) b.stored b.waiting) (sym (ap (λ (l : LaneState). l.reached) t.lane))
 
-takes_stays : (mark : Mark) (a b : Lane) → Takes mark a b → Stays a b
+takes_stays : (mark : Mark) (a b : LaneState) → Takes mark a b → Stays a b
 takes_stays mark a b t = record {
-  interval = ap (λ (l : Lane). l.interval) t.lane;
-  ended = ap (λ (l : Lane). l.ended) t.lane;
-  loose = ap (λ (l : Lane). l.loose) t.lane;
-  reached = ap (λ (l : Lane). l.reached) t.lane;
+  interval = ap (λ (l : LaneState). l.interval) t.lane;
+  ended = ap (λ (l : LaneState). l.ended) t.lane;
+  loose = ap (λ (l : LaneState). l.loose) t.lane;
+  reached = ap (λ (l : LaneState). l.reached) t.lane;
 }
 
 -- ---- a recovery state is told
-raised_marks : (row : Row) (later : List Row) (p place : ℕ) (a b : Lane) → place ≡ slice_index row.recovery p → Raises place a b
+raised_marks : (row : EventRow) (later : List EventRow) (p place : ℕ) (a b : LaneState) → place ≡ slice_index row.recovery p → Raises place a b
     → amid_marks row later p b ≡ amid_marks row later p a
 raised_marks row later p place a b is raised =
-    ap (λ (l : Lane). amid_marks row later p l) raised
+    ap (λ (l : LaneState). amid_marks row later p l) raised
     ∙ waiting_alike (λ i stored. fate_amid row later p i stored (max a.reached place))
     (λ i stored. fate_amid row later p i stored a.reached)
     (λ (i : ℕ) (stored : Bool).
     ap (λ (n : ℕ). fate_amid row later p i stored (max a.reached n)) is ∙ amid_again row later p i a.reached stored) a.stored a.waiting
 
-pub learn_first : (row : Row) (a b : Sketch) (p place : ℕ) → place ≡ slice_index row.recovery p → Turns (Raises place) a b p
+pub learn_first : (row : EventRow) (a b : Sketch) (p place : ℕ) → place ≡ slice_index row.recovery p → Turns (Raises place) a b p
     → Learning row false a b p
 learn_first row a b p place is t =
-    let same : held_in (lane_of b p) ≡ held_in (lane_of a p) = ap (λ (l : Lane). held_in l) t.turn in
+    let same : held_in (lane_of b p) ≡ held_in (lane_of a p) = ap (λ (l : LaneState). held_in l) t.turn in
     record {
-      keeps = λ (later : List Row). turn_keeps (amid_marks row later) (Raises place) a b p t
+      keeps = λ (later : List EventRow). turn_keeps (amid_marks row later) (Raises place) a b p t
           (raised_marks row later p place (lane_of a p) (lane_of b p) is t.turn);
       here = record {
-        interval = ap (λ (l : Lane). l.interval) t.turn;
-        ended = ap (λ (l : Lane). l.ended) t.turn;
-        loose = ap (λ (l : Lane). l.loose) t.turn;
-        reached = ap (λ (l : Lane). l.reached) t.turn ∙ ap (λ (n : ℕ). max (lane_of a p).reached n) is;
+        interval = ap (λ (l : LaneState). l.interval) t.turn;
+        ended = ap (λ (l : LaneState). l.ended) t.turn;
+        loose = ap (λ (l : LaneState). l.loose) t.turn;
+        reached = ap (λ (l : LaneState). l.reached) t.turn ∙ ap (λ (n : ℕ). max (lane_of a p).reached n) is;
       };
       left = ap (λ (l : List Held). left_behind (lane_of b p).reached l) (sym same);
       freed = ap (λ (l : List Held). is_any_elsewhere row.entry.at.x (covered_by (lane_of b p).reached l)) (sym same);
@@ -210,14 +210,14 @@ learn_first row a b p place is t =
     }
 
 -- a mark that it covers is kept
-covered_marks : (row : Row) (later : List Row) (p : ℕ) (mark : Mark) (a b : Lane) → TakesCovered mark a b
+covered_marks : (row : EventRow) (later : List EventRow) (p : ℕ) (mark : Mark) (a b : LaneState) → TakesCovered mark a b
     → amid_marks row later p a ≡ mark_marks mark kept ++ amid_marks row later p b
 covered_marks row later p mark a b t =
     takes_marks (λ was i stored. fate_amid row later p i stored was) mark a b t.takes
     ∙ ap (λ (f : Fate). mark_marks mark f ++ amid_marks row later p b)
     (kept_amid row later p mark.interval a.reached (nat_lt 0 a.stored) t.covered)
 
-told_still : (place : ℕ) (a b c : Lane) → Told place a b → Stays b c → Told place a c
+told_still : (place : ℕ) (a b c : LaneState) → Told place a b → Stays b c → Told place a c
 told_still place a b c p q = record {
   interval = q.interval ∙ p.interval;
   ended = q.ended ∙ p.ended;
@@ -241,21 +241,21 @@ freed_next x place mark found more all was rest within is here freed =
     ∙ sym (or_assoc found (is_elsewhere x (held_of mark)) (is_any_elsewhere x (covered_by place rest)))
     ∙ ap (λ (b : Bool). (found || b) || is_any_elsewhere x (covered_by place rest)) (sym here)
 
-pub learn_kept : (row : Row) (found more : Bool) (a b c d : Sketch) (p : ℕ) (mark : Mark) → Learning row found a b p
+pub learn_kept : (row : EventRow) (found more : Bool) (a b c d : Sketch) (p : ℕ) (mark : Mark) → Learning row found a b p
     → Turns (TakesCovered mark) b c p → Settles c d (mark_marks mark kept) → more ≡ is_elsewhere row.entry.at.x (held_of mark)
     → Learning row (found || more) a d p
 learn_kept row found more a b c d p mark before t s is =
     let settled = settled_lane c d (mark_marks mark kept) s p in
     let reached : (lane_of d p).reached ≡ (lane_of b p).reached =
-    ap (λ (l : Lane). l.reached) settled ∙ ap (λ (l : Lane). l.reached) t.turn.takes.lane in
+    ap (λ (l : LaneState). l.reached) settled ∙ ap (λ (l : LaneState). l.reached) t.turn.takes.lane in
     let was : held_in (lane_of b p) ≡ held_of mark ∷ held_in (lane_of d p) =
-    ap (λ (l : List Mark). map held_of l) t.turn.takes.was ∙ ap (λ (l : Lane). held_of mark ∷ held_in l) (sym settled) in
+    ap (λ (l : List Mark). map held_of l) t.turn.takes.was ∙ ap (λ (l : LaneState). held_of mark ∷ held_in l) (sym settled) in
     record {
-      keeps = λ (later : List Row). keeps_then (amid_marks row later) a b d (before.keeps later)
+      keeps = λ (later : List EventRow). keeps_then (amid_marks row later) a b d (before.keeps later)
           (taken_keeps (amid_marks row later) (TakesCovered mark) b c d p (mark_marks mark kept) t s
           (covered_marks row later p mark (lane_of b p) (lane_of c p) t.turn));
       here = told_still (slice_index row.recovery p) (lane_of a p) (lane_of b p) (lane_of d p) before.here
-          (subst (λ (l : Lane). Stays (lane_of b p) l) (sym settled) (takes_stays mark (lane_of b p) (lane_of c p) t.turn.takes));
+          (subst (λ (l : LaneState). Stays (lane_of b p) l) (sym settled) (takes_stays mark (lane_of b p) (lane_of c p) t.turn.takes));
       left =
           subst (λ (n : ℕ). left_behind n (held_in (lane_of a p)) ≡ left_behind n (held_in (lane_of d p))) (sym reached)
           (left_next (lane_of b p).reached mark (held_in (lane_of a p)) (held_in (lane_of b p)) (held_in (lane_of d p)) t.turn.covered was
@@ -270,19 +270,19 @@ learn_kept row found more a b c d p mark before t s is =
     }
 
 -- a lane whose first mark is taken has fewer
-fewer : (mark : Mark) (a b : Lane) → Takes mark a b → length b.waiting < length a.waiting
+fewer : (mark : Mark) (a b : LaneState) → Takes mark a b → length b.waiting < length a.waiting
 fewer mark a b t = let was : length a.waiting ≡ suc (length b.waiting) = ap (λ (l : List Mark). length l) t.was in omega arith
 
 pub kept_fewer : (b c d : Sketch) (p : ℕ) (mark : Mark) (more : List EventMark) → Turns (TakesCovered mark) b c p → Settles c d more
     → length (lane_of d p).waiting < length (lane_of b p).waiting
 kept_fewer b c d p mark more t s =
     let less = fewer mark (lane_of b p) (lane_of c p) t.turn.takes in
-    let same : length (lane_of d p).waiting ≡ length (lane_of c p).waiting = ap (λ (l : Lane). length l.waiting)
+    let same : length (lane_of d p).waiting ≡ length (lane_of c p).waiting = ap (λ (l : LaneState). length l.waiting)
     (settled_lane c d more s p) in
     omega arith
 
 -- no more is covered
-learned : (row : Row) (found : Bool) (a b : Sketch) (p : ℕ) → Learning row found a b p
+learned : (row : EventRow) (found : Bool) (a b : Sketch) (p : ℕ) → Learning row found a b p
     → covered_by (lane_of b p).reached (held_in (lane_of b p)) ≡ [] → LearnsAt row a b p
 learned row found a b p before none = record {
   keeps = before.keeps;
@@ -293,20 +293,20 @@ learned row found a b p before none = record {
   others = before.others;
 }
 
-pub learn_none : (row : Row) (found : Bool) (a b c : Sketch) (p : ℕ) → Learning row found a b p
+pub learn_none : (row : EventRow) (found : Bool) (a b c : Sketch) (p : ℕ) → Learning row found a b p
     → (c ≡ b) × (covered_by (lane_of b p).reached (held_in (lane_of b p)) ≡ []) → LearnsAt row a c p
 learn_none row found a b c p before last =
     subst (λ (s : Sketch). LearnsAt row a s p) (sym last.0) (learned row found a b p before last.1)
 
-pub learn_freed : (row : Row) (found : Bool) (a b c : Sketch) (p : ℕ) → Learning row found a b p
+pub learn_freed : (row : EventRow) (found : Bool) (a b c : Sketch) (p : ℕ) → Learning row found a b p
     → (c ≡ b) × (covered_by (lane_of b p).reached (held_in (lane_of b p)) ≡ []) → found ≡ frees row p (lane_of a p)
 learn_freed row found a b c p before last =
     sym (ap (λ (n : ℕ). is_any_elsewhere row.entry.at.x (covered_by n (held_in (lane_of a p)))) (sym before.here.reached)
     ∙ before.freed ∙ ap (λ (l : List Held). found || is_any_elsewhere row.entry.at.x l) last.1 ∙ or-false found)
 
-pub learns_start : (row : Row) (a : Sketch) → LearnsBelow row a a 0
+pub learns_start : (row : EventRow) (a : Sketch) → LearnsBelow row a a 0
 learns_start row a = record {
-  keeps = λ (later : List Row). record {
+  keeps = λ (later : List EventRow). record {
     on = refl;
     edge = refl;
     count = refl;
@@ -317,16 +317,16 @@ learns_start row a = record {
 }
 
 -- what one lane more frees
-freed_one : (row : Row) (found : Bool) (a b c : Sketch) (p : ℕ) → c.on ≡ a.on → lane_of b p ≡ lane_of a p
+freed_one : (row : EventRow) (found : Bool) (a b c : Sketch) (p : ℕ) → c.on ≡ a.on → lane_of b p ≡ lane_of a p
     → found ≡ frees row p (lane_of b p)
     → (if c.on then released_at found (lane_number p) row.entry else [])
     ≡ (if a.on then released_at (frees row p (lane_of a p)) (lane_number p) row.entry else [])
 freed_one row found a b c p on lane is =
     ap (λ (x : Bool). if x then released_at found (lane_number p) row.entry else []) on
     ∙ ap (λ (x : Bool). if a.on then released_at x (lane_number p) row.entry else []) is
-    ∙ ap (λ (l : Lane). if a.on then released_at (frees row p l) (lane_number p) row.entry else []) lane
+    ∙ ap (λ (l : LaneState). if a.on then released_at (frees row p l) (lane_number p) row.entry else []) lane
 
-freed_more : (v : ℕ → Lane → List EventMark) (row : Row) (a b c d : Sketch) (p : ℕ) (more : List EventMark)
+freed_more : (v : ℕ → LaneState → List EventMark) (row : EventRow) (a b c d : Sketch) (p : ℕ) (more : List EventMark)
     → KeepsWith (freed_below row a p) v a b → Keeps v b c → Settles c d more
     → more ≡ (if a.on then released_at (frees row p (lane_of a p)) (lane_number p) row.entry else [])
     → KeepsWith (freed_below row a (p + 1)) v a d
@@ -335,7 +335,7 @@ freed_more v row a b c d p more before at s is =
     record {
       on = s.on ∙ at.on ∙ before.on;
       edge = s.edge ∙ at.edge ∙ before.edge;
-      count = ap (λ (ls : List Lane). length ls) s.lanes ∙ at.count ∙ before.count;
+      count = ap (λ (ls : List LaneState). length ls) s.lanes ∙ at.count ∙ before.count;
       marks = λ (x : EventMark → ℕ).
           let one : List EventMark = if a.on then released_at (frees row p (lane_of a p)) (lane_number p) row.entry else [] in
           let i : sum_by x (all_marks v b) ≡ sum_by x (all_marks v a ++ freed_below row a p) = before.marks x in
@@ -350,14 +350,14 @@ freed_more v row a b c d p more before at s is =
           omega arith;
     }
 
-pub learns_next : (row : Row) (found : Bool) (a b c d : Sketch) (p : ℕ) → LearnsBelow row a b p → LearnsAt row b c p
+pub learns_next : (row : EventRow) (found : Bool) (a b c d : Sketch) (p : ℕ) → LearnsBelow row a b p → LearnsAt row b c p
     → found ≡ frees row p (lane_of b p) → Settles c d (if c.on then released_at found (lane_number p) row.entry else [])
     → LearnsBelow row a d (p + 1)
 learns_next row found a b c d p before at is s =
     let more : List EventMark = if c.on then released_at found (lane_number p) row.entry else [] in
     let here : p ≤ p = omega arith in
     record {
-      keeps = λ (later : List Row).
+      keeps = λ (later : List EventRow).
           let on : c.on ≡ a.on = (at.keeps later).on ∙ (before.keeps later).on in
           freed_more (amid_marks row later) row a b c d p more (before.keeps later) (at.keeps later) s
           (freed_one row found a b c p on (before.others p here) is);
@@ -366,11 +366,11 @@ learns_next row found a b c d p before at is s =
             let le : p ≤ q = (let e = same.1 in omega arith) in
             let one : Learns (slice_index row.recovery q) (lane_of b q) (lane_of c q) =
             subst (λ (n : ℕ). Learns (slice_index row.recovery n) (lane_of b n) (lane_of c n)) (sym same.1) at.here in
-            subst (λ (l : Lane). Learns (slice_index row.recovery q) (lane_of a q) l) (sym (settled_lane c d more s q))
-            (subst (λ (l : Lane). Learns (slice_index row.recovery q) l (lane_of c q)) (before.others q le) one)
+            subst (λ (l : LaneState). Learns (slice_index row.recovery q) (lane_of a q) l) (sym (settled_lane c d more s q))
+            (subst (λ (l : LaneState). Learns (slice_index row.recovery q) l (lane_of c q)) (before.others q le) one)
         | inr away ↦
             let less : q < p = (let e = away.1 in omega arith) in
-            subst (λ (l : Lane). Learns (slice_index row.recovery q) (lane_of a q) l)
+            subst (λ (l : LaneState). Learns (slice_index row.recovery q) (lane_of a q) l)
             (sym (settled_lane c d more s q ∙ at.others q away.1)) (before.learned q less)
       ];
       others = λ (q : ℕ) (past : p + 1 ≤ q).
@@ -379,22 +379,22 @@ learns_next row found a b c d p before at is s =
           settled_lane c d more s q ∙ at.others q away ∙ before.others q le;
     }
 
-pub learns_all : (row : Row) (a b : Sketch) (p : ℕ) → p ≡ length a.lanes → LearnsBelow row a b p → LearnsAll row a b
+pub learns_all : (row : EventRow) (a b : Sketch) (p : ℕ) → p ≡ length a.lanes → LearnsBelow row a b p → LearnsAll row a b
 learns_all row a b p count below = record {
-  keeps = λ (later : List Row).
+  keeps = λ (later : List EventRow).
       subst (λ (k : ℕ). KeepsWith (freed_below row a k) (amid_marks row later) a b) count (below.keeps later);
   lanes = λ (q : ℕ) (within : q < length a.lanes). let less : q < p = omega arith in below.learned q less;
 }
 
 -- ---- what waits is settled
-first_marks : (finished : Bool) (p : ℕ) (next : Next) (a b : Lane) → TakesFirst next a b
+first_marks : (finished : Bool) (p : ℕ) (next : Next) (a b : LaneState) → TakesFirst next a b
     → now_marks finished p a ≡ mark_marks next.mark (fate_now finished next.covered next.stored) ++ now_marks finished p b
 first_marks finished p next a b t =
     takes_marks (λ reached i stored. fate_now finished (nat_le i reached) stored) next.mark a b t.takes
     ∙ ap (λ (x : Bool). mark_marks next.mark (fate_now finished x (nat_lt 0 a.stored)) ++ now_marks finished p b) (sym t.covered)
     ∙ ap (λ (x : Bool). mark_marks next.mark (fate_now finished next.covered x) ++ now_marks finished p b) (sym t.stored)
 
-stays_then : (a b c : Lane) → Stays a b → Stays b c → Stays a c
+stays_then : (a b c : LaneState) → Stays a b → Stays b c → Stays a c
 stays_then a b c p q = record {
   interval = q.interval ∙ p.interval;
   ended = q.ended ∙ p.ended;
@@ -402,7 +402,7 @@ stays_then a b c p q = record {
   reached = q.reached ∙ p.reached;
 }
 
-stays : (a : Lane) → Stays a a
+stays : (a : LaneState) → Stays a a
 stays a = record { interval = refl; ended = refl; loose = refl; reached = refl }
 
 pub settles_start : (finished : Bool) (a : Sketch) (p : ℕ) → SettlesSome finished a a p
@@ -417,7 +417,7 @@ settles_next finished a b c d p next before t s =
           (taken_keeps (now_marks finished) (TakesFirst next) b c d p more t s
           (first_marks finished p next (lane_of b p) (lane_of c p) t.turn));
       here = stays_then (lane_of a p) (lane_of b p) (lane_of d p) before.here
-          (subst (λ (l : Lane). Stays (lane_of b p) l) (sym (settled_lane c d more s p))
+          (subst (λ (l : LaneState). Stays (lane_of b p) l) (sym (settled_lane c d more s p))
           (takes_stays next.mark (lane_of b p) (lane_of c p) t.turn.takes));
       others = λ (q : ℕ) (away : q ≢ p).
           settled_lane c d more s q ∙ turned_other (TakesFirst next) b c p t q away ∙ before.others q away;
@@ -427,7 +427,7 @@ pub settles_fewer : (b c d : Sketch) (p : ℕ) (next : Next) (more : List EventM
     → length (lane_of d p).waiting < length (lane_of b p).waiting
 settles_fewer b c d p next more t s =
     let less = fewer next.mark (lane_of b p) (lane_of c p) t.turn.takes in
-    let same : length (lane_of d p).waiting ≡ length (lane_of c p).waiting = ap (λ (l : Lane). length l.waiting)
+    let same : length (lane_of d p).waiting ≡ length (lane_of c p).waiting = ap (λ (l : LaneState). length l.waiting)
     (settled_lane c d more s p) in
     omega arith
 
@@ -451,13 +451,13 @@ below_next finished a b c p before lane = record {
     | inl here ↦
         stays_then (lane_of a q) (lane_of b q) (lane_of c q) (before.lanes q)
         (subst (λ (n : ℕ). Stays (lane_of b n) (lane_of c n)) (sym here.1) lane.some.here)
-    | inr away ↦ subst (λ (l : Lane). Stays (lane_of a q) l) (sym (lane.some.others q away.1)) (before.lanes q)
+    | inr away ↦ subst (λ (l : LaneState). Stays (lane_of a q) l) (sym (lane.some.others q away.1)) (before.lanes q)
   ];
   empty = λ (q : ℕ) (below : q < p + 1). elim (eqb_tells q p) [
     | inl here ↦ subst (λ (n : ℕ). (lane_of c n).waiting ≡ []) (sym here.1) lane.empty
     | inr away ↦
         let less : q < p = (let e = away.1 in omega arith) in
-        ap (λ (l : Lane). l.waiting) (lane.some.others q away.1) ∙ before.empty q less
+        ap (λ (l : LaneState). l.waiting) (lane.some.others q away.1) ∙ before.empty q less
   ];
 }
 
@@ -473,7 +473,7 @@ pub lane_at : (hs : List History) (p : ℕ) (h : History) → p < length hs → 
 lane_at hs p h within is = get_or-map lane_in hs p h new_lane within ∙ ap lane_in (sym is)
 
 -- a history that changes
-pub turned : (Turn : Lane → Lane → Type 0) (on : Bool) (edge : Edge) (drawn : List EventMark) (hs : List History) (p : ℕ) (old new : History)
+pub turned : (Turn : LaneState → LaneState → Type 0) (on : Bool) (edge : Edge) (drawn : List EventMark) (hs : List History) (p : ℕ) (old new : History)
     → p < length hs → old ≡ get_or hs p old → Turn (lane_in old) (lane_in new)
     → Turns Turn (record { on = on; edge = edge; drawn = drawn; lanes = map lane_in hs })
     (record { on = on; edge = edge; drawn = drawn; lanes = map lane_in (set hs p new) }) p
@@ -481,19 +481,19 @@ turned Turn on edge drawn hs p old new within is turn =
     let long = length-map hs lane_in in
     let there : p < length (map lane_in hs) = omega arith in
     let now : get_or (map lane_in (set hs p new)) p new_lane ≡ lane_in new =
-    ap (λ (ls : List Lane). get_or ls p new_lane) (map-set lane_in hs p new)
+    ap (λ (ls : List LaneState). get_or ls p new_lane) (map-set lane_in hs p new)
     ∙ get_or-set_same (map lane_in hs) p (lane_in new) new_lane there in
     record {
       on = refl;
       edge = refl;
       drawn = refl;
       within = there;
-      lanes = map-set lane_in hs p new ∙ ap (λ (l : Lane). set (map lane_in hs) p l) (sym now);
-      turn = subst (λ (l : Lane). Turn (get_or (map lane_in hs) p new_lane) l) (sym now)
-          (subst (λ (l : Lane). Turn l (lane_in new)) (sym (lane_at hs p old within is)) turn);
+      lanes = map-set lane_in hs p new ∙ ap (λ (l : LaneState). set (map lane_in hs) p l) (sym now);
+      turn = subst (λ (l : LaneState). Turn (get_or (map lane_in hs) p new_lane) l) (sym now)
+          (subst (λ (l : LaneState). Turn l (lane_in new)) (sym (lane_at hs p old within is)) turn);
     }
 
-pub turned_if : (r : Result (Unit {0}) AllocError) (Turn : Lane → Lane → Type 0) (on : Bool) (edge : Edge) (drawn : List EventMark)
+pub turned_if : (r : Result (Unit {0}) AllocError) (Turn : LaneState → LaneState → Type 0) (on : Bool) (edge : Edge) (drawn : List EventMark)
     (hs : List History) (p : ℕ) (old new : History)
     → p < length hs → old ≡ get_or hs p old → OnOk r (Turn (lane_in old) (lane_in new))
     → OnOk r (Turns Turn (record { on = on; edge = edge; drawn = drawn; lanes = map lane_in hs })
@@ -507,9 +507,9 @@ same_lanes : (on : Bool) (edge : Edge) (drawn : List EventMark) (hs : List Histo
     → (let s : Sketch = record { on = on; edge = edge; drawn = drawn; lanes = map lane_in (set hs p new) } in s)
     ≡ record { on = on; edge = edge; drawn = drawn; lanes = map lane_in hs }
 same_lanes on edge drawn hs p old new within is same =
-    ap (λ (ls : List Lane). let s : Sketch = record { on = on; edge = edge; drawn = drawn; lanes = ls } in s)
+    ap (λ (ls : List LaneState). let s : Sketch = record { on = on; edge = edge; drawn = drawn; lanes = ls } in s)
     (map-set lane_in hs p new
-    ∙ ap (λ (l : Lane). set (map lane_in hs) p l) (same ∙ sym (lane_at hs p old within is))
+    ∙ ap (λ (l : LaneState). set (map lane_in hs) p l) (same ∙ sym (lane_at hs p old within is))
     ∙ set-get_or (map lane_in hs) p new_lane)
 
 pub first_taken : (r : Option Next) (on : Bool) (edge : Edge) (drawn : List EventMark) (hs : List History) (p : ℕ) (old new : History)
@@ -521,7 +521,7 @@ pub first_taken : (r : Option Next) (on : Bool) (edge : Edge) (drawn : List Even
 first_taken (Some next) on edge drawn hs p old new within is taken =
     turned (TakesFirst next) on edge drawn hs p old new within is taken
 first_taken None on edge drawn hs p old new within is none =
-    (same_lanes on edge drawn hs p old new within is none.1, ap (λ (l : Lane). l.waiting) (lane_at hs p old within is) ∙ none.0)
+    (same_lanes on edge drawn hs p old new within is none.1, ap (λ (l : LaneState). l.waiting) (lane_at hs p old within is) ∙ none.0)
 
 pub covered_taken : (r : Option Mark) (on : Bool) (edge : Edge) (drawn : List EventMark) (hs : List History) (p : ℕ) (old new : History)
     → p < length hs → old ≡ get_or hs p old
@@ -535,16 +535,16 @@ covered_taken (Some mark) on edge drawn hs p old new within is taken =
     turned (TakesCovered mark) on edge drawn hs p old new within is taken
 covered_taken None on edge drawn hs p old new within is none = (
   same_lanes on edge drawn hs p old new within is none.0,
-  ap (λ (l : Lane). covered_by l.reached (held_in l)) (lane_at hs p old within is) ∙ none.1,
+  ap (λ (l : LaneState). covered_by l.reached (held_in l)) (lane_at hs p old within is) ∙ none.1,
 )
 
 pub past_lane : (hs : List History) (p : ℕ) → length hs ≤ p → (get_or (map lane_in hs) p new_lane).waiting ≡ []
 past_lane hs p past =
     let there : length (map lane_in hs) ≤ p = omega (arith, length-map hs lane_in) in
-    ap (λ (l : Lane). l.waiting) (get_or_past (map lane_in hs) p new_lane there)
+    ap (λ (l : LaneState). l.waiting) (get_or_past (map lane_in hs) p new_lane there)
 
 pub past_covered : (hs : List History) (p : ℕ) → length hs ≤ p
-    → (let l : Lane = get_or (map lane_in hs) p new_lane in covered_by l.reached (held_in l)) ≡ []
+    → (let l : LaneState = get_or (map lane_in hs) p new_lane in covered_by l.reached (held_in l)) ≡ []
 past_covered hs p past =
     ap (λ (ms : List Mark). covered_by (get_or (map lane_in hs) p new_lane).reached (map held_of ms)) (past_lane hs p past)
 
@@ -559,7 +559,7 @@ lane_more (Ok x) interval ended loose reached items more one stored settled mark
     let long = length-drop settled items in
     record {
       few = omega arith;
-      lane = ap (λ (l : List Mark). let lane : Lane =
+      lane = ap (λ (l : List Mark). let lane : LaneState =
           record { interval = interval; ended = ended; loose = loose; reached = reached; stored = stored - settled; waiting = l } in lane)
           (ap (drop settled) (added ∙ ap (λ (l : List Mark). items ++ l) is) ∙ drop-append-le settled items (mark ∷ []) there);
     }
@@ -572,7 +572,7 @@ pub lane_takes : (interval : ℕ) (ended loose : Bool) (reached : ℕ) (items : 
     (record { interval = interval; ended = ended; loose = loose; reached = reached; stored = stored - (settled + 1); waiting = drop (settled + 1) items })
 lane_takes interval ended loose reached items stored settled mark there is = record {
   was = drop_more items settled mark there ∙ ap (λ (m : Mark). m ∷ drop (settled + 1) items) (sym is);
-  lane = ap (λ (n : ℕ). let lane : Lane =
+  lane = ap (λ (n : ℕ). let lane : LaneState =
       record { interval = interval; ended = ended; loose = loose; reached = reached; stored = n; waiting = drop (settled + 1) items } in lane)
       (let less : stored - (settled + 1) ≡ (stored - settled) - 1 = omega arith in less);
 }
@@ -604,7 +604,7 @@ pub settles_then_if : (r : Result (Unit {0}) AllocError) (a b c : Sketch) (f g :
 settles_then_if r a b c f g p q = on_ok_weaker r (settles_then a b c f g p) q
 
 -- one shape more
-pub shape_added : (r : Result (Unit {0}) AllocError) (on : Bool) (edge : Edge) (shapes more : List Shape) (lanes : List Lane) (shape : Shape)
+pub shape_added : (r : Result (Unit {0}) AllocError) (on : Bool) (edge : Edge) (shapes more : List Shape) (lanes : List LaneState) (shape : Shape)
     (one : List Shape) → one ≡ shape ∷ [] → more ≡ (if is_ok r then shapes ++ one else shapes)
     → OnOk r (Settles (record { on = on; edge = edge; drawn = flat_map shape_marks shapes; lanes = lanes })
     (record { on = on; edge = edge; drawn = flat_map shape_marks more; lanes = lanes }) (shape_marks shape))
@@ -627,7 +627,7 @@ form_settles r a b shape form cut title at form_is cut_is title_is at_is settled
     (subst (λ (x : Spot). OnOk r (Settles a b (mark_of (kind_drawn shape.form) shape.cut (title_entry shape.title x)))) at_is settled)))
 
 -- the marks of a mark that waited: of its outputs, and its own
-late_both : (s : Shown) (fresh : ℕ) (fate : Fate) (entry : Entry)
+late_both : (s : Shown) (fresh : ℕ) (fate : Fate) (entry : EventAt)
     → output_marks (made_by s) fresh fate entry ++ mark_of (Some (kind_late s fate)) fate.cut entry ≡ late_marks s fresh fate entry
 late_both shows.Nothing fresh fate entry = refl
 late_both (shows.Run sent made ends) fresh fate entry = refl
@@ -646,7 +646,7 @@ pub settles_mark : (r : Result (Unit {0}) AllocError) (a b c : Sketch) (mark : M
     → Settles a b (output_marks (made_by mark.shown) mark.fresh fate (title_entry mark.title mark.at))
     → OnOk r (Settles b c (mark_of kind fate.cut (title_entry mark.title mark.at))) → OnOk r (Settles a c (mark_marks mark fate))
 settles_mark r a b c mark fate kind there is p q =
-    let entry : Entry = title_entry mark.title mark.at in
+    let entry : EventAt = title_entry mark.title mark.at in
     let outputs : List EventMark = output_marks (made_by mark.shown) mark.fresh fate entry in
     let same : outputs ++ mark_of kind fate.cut entry ≡ mark_marks mark fate =
     ap (λ (k : Option Kind). outputs ++ mark_of k fate.cut entry) is ∙ late_both mark.shown mark.fresh fate entry
@@ -667,7 +667,7 @@ not_zero (suc x) h = eqb-suc-zero x
 pub lane_there : (hs : List History) (p : ℕ) → p < length hs → p < length (map lane_in hs)
 lane_there hs p within = omega (arith, length-map hs lane_in)
 
-pub shown_past : (on : Bool) (edge : Edge) (drawn : List EventMark) (hs : List History) (p : ℕ) (row : Row) → length hs ≤ p
+pub shown_past : (on : Bool) (edge : Edge) (drawn : List EventMark) (hs : List History) (p : ℕ) (row : EventRow) → length hs ≤ p
     → (let s : Sketch = record { on = on; edge = edge; drawn = drawn; lanes = map lane_in hs } in ShowsAt p s s row)
 shown_past on edge drawn hs p row past = record {
   shows = λ (within : p < length (map lane_in hs)). absurd (omega (arith, length-map hs lane_in));
@@ -675,13 +675,13 @@ shown_past on edge drawn hs p row past = record {
 }
 
 pub shown_at : (r : Result (Unit {0}) AllocError) (on : Bool) (edge : Edge) (drawn : List EventMark) (hs : List History) (new : Sketch)
-    (p : ℕ) (row : Row) (h : History) (s : Shown) → p < length hs → h ≡ get_or hs p h
+    (p : ℕ) (row : EventRow) (h : History) (s : Shown) → p < length hs → h ≡ get_or hs p h
     → s ≡ shown h.ended row.entry.event row.entry.answer
     → (let old : Sketch = record { on = on; edge = edge; drawn = drawn; lanes = map lane_in hs } in
     OnOk r (Shows old new p s row.fresh row.entry) → OnOk r (ShowsAt p old new row))
 shown_at r on edge drawn hs new p row h s within is shows_it drawn_it =
     let old : Sketch = record { on = on; edge = edge; drawn = drawn; lanes = map lane_in hs } in
-    let ended : h.ended ≡ (lane_of old p).ended = sym (ap (λ (l : Lane). l.ended) (lane_at hs p h within is)) in
+    let ended : h.ended ≡ (lane_of old p).ended = sym (ap (λ (l : LaneState). l.ended) (lane_at hs p h within is)) in
     let same : s ≡ shown (lane_of old p).ended row.entry.event row.entry.answer =
     shows_it ∙ ap (λ (b : Bool). shown b row.entry.event row.entry.answer) ended in
     on_ok_weaker r (λ (x : Shows old new p s row.fresh row.entry). record {
@@ -692,7 +692,7 @@ shown_at r on edge drawn hs new p row h s within is shows_it drawn_it =
 
 -- a mark that waits
 pub wait_turned : (r : Result (Unit {0}) AllocError) (on : Bool) (edge : Edge) (drawn : List EventMark) (hs : List History) (p : ℕ)
-    (old new : History) (mark : Mark) (x : ℕ) (s : Shown) (fresh : ℕ) (entry : Entry)
+    (old new : History) (mark : Mark) (x : ℕ) (s : Shown) (fresh : ℕ) (entry : EventAt)
     → p < length hs → old ≡ get_or hs p old → mark.at.x ≡ x → mark.interval ≡ old.interval → mark.shown ≡ s → mark.fresh ≡ fresh
     → title_entry mark.title mark.at ≡ entry → OnOk r (IsMore mark (lane_in old) (lane_in new))
     → OnOk r (Turns (Waits x s fresh entry) (record { on = on; edge = edge; drawn = drawn; lanes = map lane_in hs })
@@ -705,7 +705,7 @@ pub still_there : (hs ks : List History) (p : ℕ) → length (map lane_in ks) �
 still_there hs ks p same within = let a = length-map hs lane_in in let b = length-map ks lane_in in omega arith
 
 -- ---- the outputs of a mark
-outputs_made : (made fresh : ℕ) (fate : Fate) (entry : Entry) → true ≡ nat_lt 0 made
+outputs_made : (made fresh : ℕ) (fate : Fate) (entry : EventAt) → true ≡ nat_lt 0 made
     → output_marks made fresh fate entry
     ≡ mark_of (Some (Stands (fresh == 0))) fate.cut entry ++ (if fresh == 0 then [] else mark_of (Some (Made fate.covered)) fate.cut entry)
 outputs_made made fresh fate entry some =
@@ -713,7 +713,7 @@ outputs_made made fresh fate entry some =
     ++ (if fresh == 0 then [] else mark_of (Some (Made fate.covered)) fate.cut entry))
     (not_zero made (λ (zero : made ≡ 0). let there = ltb-true 0 made (sym some) in omega arith))
 
-pub outputs_none : (s : Sketch) (made fresh : ℕ) (fate : Fate) (entry : Entry) → false ≡ nat_lt 0 made
+pub outputs_none : (s : Sketch) (made fresh : ℕ) (fate : Fate) (entry : EventAt) → false ≡ nat_lt 0 made
     → Settles s s (output_marks made fresh fate entry)
 outputs_none s made fresh fate entry none =
     let few : made ≤ 0 = ltb-false 0 made (sym none) in
@@ -723,7 +723,7 @@ outputs_none s made fresh fate entry none =
     ++ (if fresh == 0 then [] else mark_of (Some (Made fate.covered)) fate.cut entry)) (eq-eqb made 0 zero) in
     subst (λ (l : List EventMark). Settles s s l) (sym same) (settles_none s)
 
-pub outputs_again : (a b : Sketch) (made fresh : ℕ) (fate : Fate) (entry : Entry) (again : Bool) → true ≡ nat_lt 0 made
+pub outputs_again : (a b : Sketch) (made fresh : ℕ) (fate : Fate) (entry : EventAt) (again : Bool) → true ≡ nat_lt 0 made
     → (fresh == 0) ≡ again → (fresh == 0) ≡ true → Settles a b (mark_of (Some (Stands again)) fate.cut entry)
     → Settles a b (output_marks made fresh fate entry)
 outputs_again a b made fresh fate entry again some is none settled =
@@ -734,7 +734,7 @@ outputs_again a b made fresh fate entry again some is none settled =
     ∙ ap (λ (x : Bool). mark_of (Some (Stands x)) fate.cut entry) is in
     subst (λ (l : List EventMark). Settles a b l) (sym same) settled
 
-pub outputs_new : (r : Result (Unit {0}) AllocError) (a b c : Sketch) (made fresh : ℕ) (fate : Fate) (entry : Entry) (again : Bool)
+pub outputs_new : (r : Result (Unit {0}) AllocError) (a b c : Sketch) (made fresh : ℕ) (fate : Fate) (entry : EventAt) (again : Bool)
     → true ≡ nat_lt 0 made → (fresh == 0) ≡ again → (fresh == 0) ≡ false → Settles a b (mark_of (Some (Stands again)) fate.cut entry)
     → OnOk r (Settles b c (mark_of (Some (Made fate.covered)) fate.cut entry))
     → OnOk r (Settles a c (output_marks made fresh fate entry))

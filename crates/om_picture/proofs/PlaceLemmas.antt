@@ -3,8 +3,8 @@ use Rattle.std.proofs.Common.{◌≡◌, ◌∙◌, ◌<◌, ◌≤◌, ◌==◌
 use Rattle.std.specs.declared.alloc.AllocError.{AllocError}
 use Rattle.std.proofs.lemmas.Bool.{eq-eqb, le-ltb, lt-ltb}
 use Rattle.std.proofs.lemmas.List.{length-map}
-use Rattle.om_picture.specs.Drawing.{Edge, Lane, Sketch, lane_in, new_lane}
-use Rattle.om_picture.specs.Fates.{Row, process_of, step_row}
+use Rattle.om_picture.specs.Drawing.{Edge, LaneState, Sketch, lane_in, new_lane}
+use Rattle.om_picture.specs.Fates.{EventRow, process_of, step_row}
 use Rattle.om_picture.specs.Marks.{EventMark}
 use Rattle.om_picture.specs.Places.{is_shown}
 use Rattle.om_picture.specs.Shows.{shown}
@@ -100,19 +100,19 @@ placed_none a step at is places = record {
 }
 
 -- ---- whether it shows something
-pub shows_past : (on : Bool) (edge : Edge) (drawn : List EventMark) (hs : List History) (p : ℕ) (row : Row) → length hs ≤ p
+pub shows_past : (on : Bool) (edge : Edge) (drawn : List EventMark) (hs : List History) (p : ℕ) (row : EventRow) → length hs ≤ p
     → shows_at (Some p) (record { on = on; edge = edge; drawn = drawn; lanes = map lane_in hs }) row ≡ false
 shows_past on edge drawn hs p row past =
     let beyond : length (map lane_in hs) ≤ p = omega (arith, length-map hs lane_in) in
     ap (λ (b : Bool). b && is_shown (shown (get_or (map lane_in hs) p new_lane).ended row.entry.event row.entry.answer))
     (le-ltb p (length (map lane_in hs)) beyond)
 
-pub shows_here : (on : Bool) (edge : Edge) (drawn : List EventMark) (hs : List History) (p : ℕ) (row : Row) (h : History) (s : Shown)
+pub shows_here : (on : Bool) (edge : Edge) (drawn : List EventMark) (hs : List History) (p : ℕ) (row : EventRow) (h : History) (s : Shown)
     → p < length hs → h ≡ get_or hs p h → s ≡ shown h.ended row.entry.event row.entry.answer
     → shows_at (Some p) (record { on = on; edge = edge; drawn = drawn; lanes = map lane_in hs }) row ≡ is_shown s
 shows_here on edge drawn hs p row h s within is shows_it =
     let there : p < length (map lane_in hs) = omega (arith, length-map hs lane_in) in
     ap (λ (b : Bool). b && is_shown (shown (get_or (map lane_in hs) p new_lane).ended row.entry.event row.entry.answer))
     (lt-ltb p (length (map lane_in hs)) there)
-    ∙ ap (λ (l : Lane). is_shown (shown l.ended row.entry.event row.entry.answer)) (lane_at hs p h within is)
+    ∙ ap (λ (l : LaneState). is_shown (shown l.ended row.entry.event row.entry.answer)) (lane_at hs p h within is)
     ∙ ap is_shown (sym shows_it)

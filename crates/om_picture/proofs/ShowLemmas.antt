@@ -4,8 +4,8 @@ use Rattle.std.specs.declared.alloc.AllocError.{AllocError}
 use Rattle.std.proofs.lemmas.List.{append-nil, map-append, set-get_or, set-set}
 use Rattle.std.proofs.lemmas.Result.{on_ok_weaker}
 use Rattle.om_process.specs.declared.status.Status.{Status}
-use Rattle.om_picture.specs.Drawing.{Lane, Sketch, held_in, held_of, lane_of, late_marks, mark_marks, new_lane, waiting_marks}
-use Rattle.om_picture.specs.Fates.{Entry, Fate, step_entry}
+use Rattle.om_picture.specs.Drawing.{LaneState, Sketch, held_in, held_of, lane_of, late_marks, mark_marks, new_lane, waiting_marks}
+use Rattle.om_picture.specs.Fates.{EventAt, Fate, step_entry}
 use Rattle.om_picture.specs.Held.{Held, may_wait}
 use Rattle.om_picture.specs.Marks.{CameBack, EventMark, Failed, Joined, Logged, Released, fated_marks, log_marks, mark_of, released_at, sure_marks, title_entry}
 use Rattle.om_picture.specs.declared.history.Mark.{Mark}
@@ -31,56 +31,56 @@ none_more on l = sym (append-nil l) ∙ ap (λ (m : List EventMark). l ++ m) (no
 
 -- ---- lanes
 -- a mark that waits
-late_waits : (on : Bool) (x : ℕ) (s : Shown) (fresh : ℕ) (entry : Entry) (a b : Lane) → (x == 0) ≡ not on
+late_waits : (on : Bool) (x : ℕ) (s : Shown) (fresh : ℕ) (entry : EventAt) (a b : LaneState) → (x == 0) ≡ not on
     → ((fate : Fate) → late_marks s fresh fate entry ≡ fated_marks s fresh fate entry) → Waits x s fresh entry a b
     → (fate : ℕ → Bool → Fate) → waiting_marks fate b.stored b.waiting
     ≡ waiting_marks fate b.stored a.waiting ++ (if on then fated_marks s fresh (fate b.interval false) entry else [])
 late_waits on x s fresh entry a b there late waits fate =
     let mark : Mark = waits.0 in
     let more : IsMore mark a b = waits.1 in
-    let same : b.stored ≡ a.stored = ap (λ (l : Lane). l.stored) more.lane in
+    let same : b.stored ≡ a.stored = ap (λ (l : LaneState). l.stored) more.lane in
     let few : b.stored ≤ length a.waiting = (let h = more.few in omega arith) in
-    let interval : mark.interval ≡ b.interval = waits.3 ∙ sym (ap (λ (l : Lane). l.interval) more.lane) in
+    let interval : mark.interval ≡ b.interval = waits.3 ∙ sym (ap (λ (l : LaneState). l.interval) more.lane) in
     let one : mark_marks mark (fate mark.interval false) ≡ (if on then fated_marks s fresh (fate b.interval false) entry else []) =
     ap (λ (n : ℕ). if n == 0 then [] else late_marks mark.shown mark.fresh (fate mark.interval false) (title_entry mark.title mark.at)) waits.2
     ∙ ap (λ (n : ℕ). if x == 0 then [] else late_marks mark.shown mark.fresh (fate n false) (title_entry mark.title mark.at)) interval
     ∙ ap (λ (t : Shown). if x == 0 then [] else late_marks t mark.fresh (fate b.interval false) (title_entry mark.title mark.at)) waits.4
     ∙ ap (λ (n : ℕ). if x == 0 then [] else late_marks s n (fate b.interval false) (title_entry mark.title mark.at)) waits.5
-    ∙ ap (λ (e : Entry). if x == 0 then [] else late_marks s fresh (fate b.interval false) e) waits.6
+    ∙ ap (λ (e : EventAt). if x == 0 then [] else late_marks s fresh (fate b.interval false) e) waits.6
     ∙ ap (λ (l : List EventMark). if x == 0 then [] else l) (late (fate b.interval false))
     ∙ placed on x (fated_marks s fresh (fate b.interval false) entry) there in
-    ap (λ (l : List Mark). waiting_marks fate b.stored l) (ap (λ (l : Lane). l.waiting) more.lane)
+    ap (λ (l : List Mark). waiting_marks fate b.stored l) (ap (λ (l : LaneState). l.waiting) more.lane)
     ∙ waiting_more fate b.stored a.waiting mark few
     ∙ ap (λ (l : List EventMark). waiting_marks fate b.stored a.waiting ++ l) one
 
-late_held : (x : ℕ) (s : Shown) (fresh : ℕ) (entry : Entry) (a b c : Lane) → may_wait s ≡ true → b.waiting ≡ a.waiting
+late_held : (x : ℕ) (s : Shown) (fresh : ℕ) (entry : EventAt) (a b c : LaneState) → may_wait s ≡ true → b.waiting ≡ a.waiting
     → Waits x s fresh entry b c
     → held_in c ≡ held_in a ++ (if may_wait s then record { interval = c.interval; fresh = fresh; x = entry.at.x } ∷ [] else [])
 late_held x s fresh entry a b c some waiting waits =
     let mark : Mark = waits.0 in
     let more : IsMore mark b c = waits.1 in
     let one : List Held = record { interval = c.interval; fresh = fresh; x = entry.at.x } ∷ [] in
-    let interval : mark.interval ≡ c.interval = waits.3 ∙ sym (ap (λ (l : Lane). l.interval) more.lane) in
-    let x_is : mark.at.x ≡ entry.at.x = ap (λ (e : Entry). e.at.x) waits.6 in
+    let interval : mark.interval ≡ c.interval = waits.3 ∙ sym (ap (λ (l : LaneState). l.interval) more.lane) in
+    let x_is : mark.at.x ≡ entry.at.x = ap (λ (e : EventAt). e.at.x) waits.6 in
     let added : held_of mark ∷ [] ≡ one =
     ap (λ (n : ℕ). let h : List Held = record { interval = n; fresh = mark.fresh; x = mark.at.x } ∷ [] in h) interval
     ∙ ap (λ (n : ℕ). let h : List Held = record { interval = c.interval; fresh = n; x = mark.at.x } ∷ [] in h) waits.5
     ∙ ap (λ (n : ℕ). let h : List Held = record { interval = c.interval; fresh = fresh; x = n } ∷ [] in h) x_is in
-    ap (λ (l : Lane). held_in l) more.lane ∙ map-append held_of b.waiting (mark ∷ [])
+    ap (λ (l : LaneState). held_in l) more.lane ∙ map-append held_of b.waiting (mark ∷ [])
     ∙ ap (λ (l : List Mark). map held_of l ++ held_of mark ∷ []) waiting
     ∙ ap (λ (l : List Held). held_in a ++ l) added
     ∙ ap (λ (w : Bool). held_in a ++ (if w then one else [])) (sym some)
 
-late_lane : (on : Bool) (x : ℕ) (s : Shown) (fresh : ℕ) (entry : Entry) (a b c : Lane) → (x == 0) ≡ not on
+late_lane : (on : Bool) (x : ℕ) (s : Shown) (fresh : ℕ) (entry : EventAt) (a b c : LaneState) → (x == 0) ≡ not on
     → ((fate : Fate) → late_marks s fresh fate entry ≡ fated_marks s fresh fate entry) → is_stored_by s ≡ false → may_wait s ≡ true
     → b.interval ≡ interval_shown a.interval s → b.ended ≡ ended_shown a.ended s → b.loose ≡ loose_shown a.loose s
     → b.reached ≡ a.reached → b.stored ≡ a.stored → b.waiting ≡ a.waiting → Waits x s fresh entry b c → LaneShows on s fresh entry a c
 late_lane on x s fresh entry a b c there late not_stored some interval ended loose reached stored waiting waits = record {
-  interval = ap (λ (l : Lane). l.interval) waits.1.lane ∙ interval;
-  ended = ap (λ (l : Lane). l.ended) waits.1.lane ∙ ended;
-  loose = ap (λ (l : Lane). l.loose) waits.1.lane ∙ loose;
-  reached = ap (λ (l : Lane). l.reached) waits.1.lane ∙ reached;
-  stored = ap (λ (l : Lane). l.stored) waits.1.lane ∙ stored
+  interval = ap (λ (l : LaneState). l.interval) waits.1.lane ∙ interval;
+  ended = ap (λ (l : LaneState). l.ended) waits.1.lane ∙ ended;
+  loose = ap (λ (l : LaneState). l.loose) waits.1.lane ∙ loose;
+  reached = ap (λ (l : LaneState). l.reached) waits.1.lane ∙ reached;
+  stored = ap (λ (l : LaneState). l.stored) waits.1.lane ∙ stored
       ∙ sym (ap (λ (b : Bool). if b then length a.waiting else a.stored) not_stored);
   held = late_held x s fresh entry a b c some waiting waits;
   waits = λ (fate : ℕ → Bool → Fate).
@@ -90,7 +90,7 @@ late_lane on x s fresh entry a b c there late not_stored some interval ended loo
 }
 
 -- none that waits
-still_lane : (on : Bool) (s : Shown) (fresh : ℕ) (entry : Entry) (a b : Lane)
+still_lane : (on : Bool) (s : Shown) (fresh : ℕ) (entry : EventAt) (a b : LaneState)
     → ((fate : Fate) → [] ≡ fated_marks s fresh fate entry) → may_wait s ≡ false
     → b.interval ≡ interval_shown a.interval s → b.ended ≡ ended_shown a.ended s → b.loose ≡ loose_shown a.loose s
     → b.reached ≡ a.reached → b.stored ≡ (if is_stored_by s then length a.waiting else a.stored) → b.waiting ≡ a.waiting → LaneShows on s fresh entry a b
@@ -121,7 +121,7 @@ turn_none s p within = record {
   turn = refl;
 }
 
-shows_of : (s : Shown) (fresh : ℕ) (entry : Entry) (Turn : Lane → Lane → Type 0) (a b c : Sketch) (p : ℕ) (more : List EventMark)
+shows_of : (s : Shown) (fresh : ℕ) (entry : EventAt) (Turn : LaneState → LaneState → Type 0) (a b c : Sketch) (p : ℕ) (more : List EventMark)
     → Turns Turn a b p → Settles b c more → more ≡ (if a.on then sure_marks (lane_of a p).loose s entry else [])
     → LaneShows a.on s fresh entry (lane_of a p) (lane_of b p) → Shows a c p s fresh entry
 shows_of s fresh entry Turn a b c p more t settled is lane =
@@ -131,12 +131,12 @@ shows_of s fresh entry Turn a b c p more t settled is lane =
       edge = settled.edge ∙ t.edge;
       drawn = settled.drawn ∙ ap (λ (l : List EventMark). l ++ more) t.drawn ∙ ap (λ (l : List EventMark). a.drawn ++ l) is;
       within = t.within;
-      lanes = settled.lanes ∙ t.lanes ∙ ap (λ (l : Lane). set a.lanes p l) (sym same);
-      lane = subst (λ (l : Lane). LaneShows a.on s fresh entry (lane_of a p) l) (sym same) lane;
+      lanes = settled.lanes ∙ t.lanes ∙ ap (λ (l : LaneState). set a.lanes p l) (sym same);
+      lane = subst (λ (l : LaneState). LaneShows a.on s fresh entry (lane_of a p) l) (sym same) lane;
     }
 
 -- an event whose mark waits
-late_shows : (s : Shown) (fresh : ℕ) (entry : Entry) (Turn : Lane → Lane → Type 0) (a b c : Sketch) (p x : ℕ) → Turns Turn a b p
+late_shows : (s : Shown) (fresh : ℕ) (entry : EventAt) (Turn : LaneState → LaneState → Type 0) (a b c : Sketch) (p x : ℕ) → Turns Turn a b p
     → Turns (Waits x s fresh entry) b c p → [] ≡ sure_marks (lane_of a p).loose s entry
     → LaneShows a.on s fresh entry (lane_of a p) (lane_of c p) → Shows a c p s fresh entry
 late_shows s fresh entry Turn a b c p x t w none lane =
@@ -145,18 +145,18 @@ late_shows s fresh entry Turn a b c p x t w none lane =
       edge = w.edge ∙ t.edge;
       drawn = w.drawn ∙ t.drawn ∙ none_more a.on a.drawn ∙ ap (λ (l : List EventMark). a.drawn ++ (if a.on then l else [])) none;
       within = t.within;
-      lanes = w.lanes ∙ ap (λ (ls : List Lane). set ls p (lane_of c p)) t.lanes
+      lanes = w.lanes ∙ ap (λ (ls : List LaneState). set ls p (lane_of c p)) t.lanes
           ∙ set-set a.lanes p (lane_of b p) (lane_of c p);
       lane = lane;
     }
 
-pub nothing_shown : (s : Sketch) (p fresh : ℕ) (entry : Entry) → p < length s.lanes → Shows s s p shows.Nothing fresh entry
+pub nothing_shown : (s : Sketch) (p fresh : ℕ) (entry : EventAt) → p < length s.lanes → Shows s s p shows.Nothing fresh entry
 nothing_shown s p fresh entry within =
     shows_of shows.Nothing fresh entry (λ a b. b ≡ a) s s s p [] (turn_none s p within) (settles_none s) (none_if s.on)
     (still_lane s.on shows.Nothing fresh entry (lane_of s p) (lane_of s p) (λ fate. refl) refl refl refl refl refl refl refl)
 
 pub run_shown : (r : Result (Unit {0}) AllocError) (a b c : Sketch) (p x sent made fresh : ℕ) (ends : Option Status) (ended : Bool)
-    (entry : Entry)
+    (entry : EventAt)
     → ended ≡ is_some ends → (x == 0) ≡ not a.on → Turns (Ends ended) a b p
     → OnOk r (Turns (Waits x (shows.Run sent made ends) fresh entry) b c p)
     → OnOk r (Shows a c p (shows.Run sent made ends) fresh entry)
@@ -164,12 +164,12 @@ run_shown r a b c p x sent made fresh ends ended entry is there t waits =
     let s : Shown = shows.Run sent made ends in
     on_ok_weaker r (λ (w : Turns (Waits x s fresh entry) b c p). late_shows s fresh entry (Ends ended) a b c p x t w refl
     (late_lane a.on x s fresh entry (lane_of a p) (lane_of b p) (lane_of c p) there (λ fate. refl) refl refl
-    (ap (λ (l : Lane). l.interval) t.turn)
-    (ap (λ (l : Lane). l.ended) t.turn ∙ ap (λ (e : Bool). (lane_of a p).ended || e) is)
-    (ap (λ (l : Lane). l.loose) t.turn)
-    (ap (λ (l : Lane). l.reached) t.turn) (ap (λ (l : Lane). l.stored) t.turn) (ap (λ (l : Lane). l.waiting) t.turn) w.turn)) waits
+    (ap (λ (l : LaneState). l.interval) t.turn)
+    (ap (λ (l : LaneState). l.ended) t.turn ∙ ap (λ (e : Bool). (lane_of a p).ended || e) is)
+    (ap (λ (l : LaneState). l.loose) t.turn)
+    (ap (λ (l : LaneState). l.reached) t.turn) (ap (λ (l : LaneState). l.stored) t.turn) (ap (λ (l : LaneState). l.waiting) t.turn) w.turn)) waits
 
-pub resend_shown : (r : Result (Unit {0}) AllocError) (a c : Sketch) (p x sent fresh : ℕ) (entry : Entry) → p < length a.lanes
+pub resend_shown : (r : Result (Unit {0}) AllocError) (a c : Sketch) (p x sent fresh : ℕ) (entry : EventAt) → p < length a.lanes
     → (x == 0) ≡ not a.on → OnOk r (Turns (Waits x (shows.Resend sent) fresh entry) a c p)
     → OnOk r (Shows a c p (shows.Resend sent) fresh entry)
 resend_shown r a c p x sent fresh entry within there waits =
@@ -179,7 +179,7 @@ resend_shown r a c p x sent fresh entry within there waits =
     (late_lane a.on x s fresh entry (lane_of a p) (lane_of a p) (lane_of c p) there (λ fate. refl) refl refl refl refl refl refl refl refl w.turn))
     waits
 
-pub checkpoint_shown : (r : Result (Unit {0}) AllocError) (a c : Sketch) (p x fresh : ℕ) (entry : Entry) → p < length a.lanes
+pub checkpoint_shown : (r : Result (Unit {0}) AllocError) (a c : Sketch) (p x fresh : ℕ) (entry : EventAt) → p < length a.lanes
     → (x == 0) ≡ not a.on → OnOk r (Turns (Waits x shows.Checkpoint fresh entry) a c p)
     → OnOk r (Shows a c p shows.Checkpoint fresh entry)
 checkpoint_shown r a c p x fresh entry within there waits =
@@ -189,7 +189,7 @@ checkpoint_shown r a c p x fresh entry within there waits =
     (late_lane a.on x s fresh entry (lane_of a p) (lane_of a p) (lane_of c p) there (λ fate. refl) refl refl refl refl refl refl refl refl w.turn))
     waits
 
-pub receipt_shown : (r : Result (Unit {0}) AllocError) (a b c : Sketch) (p x frame interval fresh : ℕ) (entry : Entry)
+pub receipt_shown : (r : Result (Unit {0}) AllocError) (a b c : Sketch) (p x frame interval fresh : ℕ) (entry : EventAt)
     → (x == 0) ≡ not a.on → Turns (Receives interval) a b p
     → OnOk r (Turns (Waits x (shows.Receipt frame interval) fresh entry) b c p)
     → OnOk r (Shows a c p (shows.Receipt frame interval) fresh entry)
@@ -197,11 +197,11 @@ receipt_shown r a b c p x frame interval fresh entry there t waits =
     let s : Shown = shows.Receipt frame interval in
     on_ok_weaker r (λ (w : Turns (Waits x s fresh entry) b c p). late_shows s fresh entry (Receives interval) a b c p x t w refl
     (late_lane a.on x s fresh entry (lane_of a p) (lane_of b p) (lane_of c p) there (λ fate. refl) refl refl
-    (ap (λ (l : Lane). l.interval) t.turn) (ap (λ (l : Lane). l.ended) t.turn) (ap (λ (l : Lane). l.loose) t.turn)
-    (ap (λ (l : Lane). l.reached) t.turn) (ap (λ (l : Lane). l.stored) t.turn) (ap (λ (l : Lane). l.waiting) t.turn) w.turn)) waits
+    (ap (λ (l : LaneState). l.interval) t.turn) (ap (λ (l : LaneState). l.ended) t.turn) (ap (λ (l : LaneState). l.loose) t.turn)
+    (ap (λ (l : LaneState). l.reached) t.turn) (ap (λ (l : LaneState). l.stored) t.turn) (ap (λ (l : LaneState). l.waiting) t.turn) w.turn)) waits
 
 -- an event whose mark is drawn at once
-pub sure_shown : (r : Result (Unit {0}) AllocError) (s : Shown) (fresh : ℕ) (entry : Entry) (more : List EventMark) (a c : Sketch) (p : ℕ)
+pub sure_shown : (r : Result (Unit {0}) AllocError) (s : Shown) (fresh : ℕ) (entry : EventAt) (more : List EventMark) (a c : Sketch) (p : ℕ)
     → p < length a.lanes → ((loose : Bool) → more ≡ sure_marks loose s entry) → ((fate : Fate) → [] ≡ fated_marks s fresh fate entry)
     → ((was : ℕ) → was ≡ interval_shown was s) → ((was : Bool) → was ≡ ended_shown was s)
     → ((was : Bool) → was ≡ loose_shown was s) → is_stored_by s ≡ false → may_wait s ≡ false
@@ -215,7 +215,7 @@ sure_shown r s fresh entry more a c p within is none interval ended loose not_st
     (sym (ap (λ (b : Bool). if b then length (lane_of a p).waiting else (lane_of a p).stored) not_stored)) refl)) settles
 
 -- receipts that are stored
-pub logged_some : (r : Result (Unit {0}) AllocError) (a b c : Sketch) (p : ℕ) (entry : Entry) → Turns Stores a b p
+pub logged_some : (r : Result (Unit {0}) AllocError) (a b c : Sketch) (p : ℕ) (entry : EventAt) → Turns Stores a b p
     → true ≡ (lane_of a p).loose → OnOk r (Settles b c (if b.on then mark_of (Some Logged) false entry else []))
     → OnOk r (Logs entry a c p)
 logged_some r a b c p entry t some settles =
@@ -228,27 +228,27 @@ logged_some r a b c p entry t some settles =
       settles = subst (λ (l : List EventMark). Settles b c l) same s;
     }) settles
 
-pub logged_none : (a b : Sketch) (p : ℕ) (entry : Entry) → Turns Stores a b p → false ≡ (lane_of a p).loose → Logs entry a b p
+pub logged_none : (a b : Sketch) (p : ℕ) (entry : EventAt) → Turns Stores a b p → false ≡ (lane_of a p).loose → Logs entry a b p
 logged_none a b p entry t none =
     let same : [] ≡ (if a.on then log_marks (lane_of a p).loose entry else []) =
     none_if a.on ∙ ap (λ (loose : Bool). if a.on then log_marks loose entry else []) none in
     record { stored = b; turns = t; settles = subst (λ (l : List EventMark). Settles b b l) same (settles_none b) }
 
-log_lane : (s : Shown) (fresh : ℕ) (entry : Entry) (a b : Sketch) (p : ℕ) → Turns Stores a b p
+log_lane : (s : Shown) (fresh : ℕ) (entry : EventAt) (a b : Sketch) (p : ℕ) → Turns Stores a b p
     → ((fate : Fate) → [] ≡ fated_marks s fresh fate entry) → ((was : ℕ) → was ≡ interval_shown was s)
     → ((was : Bool) → was ≡ ended_shown was s) → ((was : Bool) → false ≡ loose_shown was s) → is_stored_by s ≡ true
     → may_wait s ≡ false
     → LaneShows a.on s fresh entry (lane_of a p) (lane_of b p)
 log_lane s fresh entry a b p t none interval ended loose stored not_held =
     still_lane a.on s fresh entry (lane_of a p) (lane_of b p) none not_held
-    (ap (λ (l : Lane). l.interval) t.turn ∙ interval (lane_of a p).interval)
-    (ap (λ (l : Lane). l.ended) t.turn ∙ ended (lane_of a p).ended)
-    (ap (λ (l : Lane). l.loose) t.turn ∙ loose (lane_of a p).loose) (ap (λ (l : Lane). l.reached) t.turn)
-    (ap (λ (l : Lane). l.stored) t.turn
+    (ap (λ (l : LaneState). l.interval) t.turn ∙ interval (lane_of a p).interval)
+    (ap (λ (l : LaneState). l.ended) t.turn ∙ ended (lane_of a p).ended)
+    (ap (λ (l : LaneState). l.loose) t.turn ∙ loose (lane_of a p).loose) (ap (λ (l : LaneState). l.reached) t.turn)
+    (ap (λ (l : LaneState). l.stored) t.turn
     ∙ sym (ap (λ (x : Bool). if x then length (lane_of a p).waiting else (lane_of a p).stored) stored))
-    (ap (λ (l : Lane). l.waiting) t.turn)
+    (ap (λ (l : LaneState). l.waiting) t.turn)
 
-pub flush_shown : (r : Result (Unit {0}) AllocError) (a c : Sketch) (p fresh : ℕ) (entry : Entry) → OnOk r (Logs entry a c p)
+pub flush_shown : (r : Result (Unit {0}) AllocError) (a c : Sketch) (p fresh : ℕ) (entry : EventAt) → OnOk r (Logs entry a c p)
     → OnOk r (Shows a c p shows.Flush fresh entry)
 flush_shown r a c p fresh entry logs =
     on_ok_weaker r (λ (g : Logs entry a c p).
@@ -259,7 +259,7 @@ both_if : (on : Bool) (x y : List EventMark) → (if on then x else []) ++ (if o
 both_if true x y = refl
 both_if false x y = refl
 
-pub join_shown : (r : Result (Unit {0}) AllocError) (a b c : Sketch) (p fresh : ℕ) (entry : Entry) → Logs entry a b p
+pub join_shown : (r : Result (Unit {0}) AllocError) (a b c : Sketch) (p fresh : ℕ) (entry : EventAt) → Logs entry a b p
     → OnOk r (Settles b c (if b.on then mark_of (Some Joined) false entry else [])) → OnOk r (Shows a c p shows.Join fresh entry)
 join_shown r a b c p fresh entry g settles =
     let logs : List EventMark = log_marks (lane_of a p).loose entry in
@@ -272,7 +272,7 @@ join_shown r a b c p fresh entry g settles =
     (log_lane shows.Join fresh entry a g.stored p g.turns (λ fate. refl) (λ was. refl) (λ was. refl) (λ was. refl) refl refl)) settles
 
 -- a failure, with which what is in memory only is lost
-pub failure_shown : (r : Result (Unit {0}) AllocError) (a b c : Sketch) (p fresh : ℕ) (declared : Bool) (entry : Entry) → Turns Loses a b p
+pub failure_shown : (r : Result (Unit {0}) AllocError) (a b c : Sketch) (p fresh : ℕ) (declared : Bool) (entry : EventAt) → Turns Loses a b p
     → OnOk r (Settles b c (if b.on then mark_of (Some Failed) false entry else []))
     → OnOk r (Shows a c p (shows.Failure declared) fresh entry)
 failure_shown r a b c p fresh declared entry t settles =
@@ -281,11 +281,11 @@ failure_shown r a b c p fresh declared entry t settles =
     on_ok_weaker r (λ (m : Settles b c (if b.on then fails else [])).
     shows_of s fresh entry Loses a b c p (if b.on then fails else []) t m (ap (λ (on : Bool). if on then fails else []) t.on)
     (still_lane a.on s fresh entry (lane_of a p) (lane_of b p) (λ fate. refl) refl
-    (ap (λ (l : Lane). l.interval) t.turn) (ap (λ (l : Lane). l.ended) t.turn) (ap (λ (l : Lane). l.loose) t.turn)
-    (ap (λ (l : Lane). l.reached) t.turn)
-    (ap (λ (l : Lane). l.stored) t.turn) (ap (λ (l : Lane). l.waiting) t.turn))) settles
+    (ap (λ (l : LaneState). l.interval) t.turn) (ap (λ (l : LaneState). l.ended) t.turn) (ap (λ (l : LaneState). l.loose) t.turn)
+    (ap (λ (l : LaneState). l.reached) t.turn)
+    (ap (λ (l : LaneState). l.stored) t.turn) (ap (λ (l : LaneState). l.waiting) t.turn))) settles
 
-pub back_shown : (r : Result (Unit {0}) AllocError) (a b c : Sketch) (p interval inc fresh : ℕ) (entry : Entry)
+pub back_shown : (r : Result (Unit {0}) AllocError) (a b c : Sketch) (p interval inc fresh : ℕ) (entry : EventAt)
     → Turns (GoesBack interval) a b p → OnOk r (Settles b c (if b.on then mark_of (Some CameBack) false entry else []))
     → OnOk r (Shows a c p (shows.Back interval inc) fresh entry)
 back_shown r a b c p interval inc fresh entry t settles =
@@ -294,9 +294,9 @@ back_shown r a b c p interval inc fresh entry t settles =
     shows_of s fresh entry (GoesBack interval) a b c p (if b.on then mark_of (Some CameBack) false entry else []) t m
     (ap (λ (on : Bool). if on then mark_of (Some CameBack) false entry else []) t.on)
     (still_lane a.on s fresh entry (lane_of a p) (lane_of b p) (λ fate. refl) refl
-    (ap (λ (l : Lane). l.interval) t.turn) (ap (λ (l : Lane). l.ended) t.turn) (ap (λ (l : Lane). l.loose) t.turn)
-    (ap (λ (l : Lane). l.reached) t.turn)
-    (ap (λ (l : Lane). l.stored) t.turn) (ap (λ (l : Lane). l.waiting) t.turn))) settles
+    (ap (λ (l : LaneState). l.interval) t.turn) (ap (λ (l : LaneState). l.ended) t.turn) (ap (λ (l : LaneState). l.loose) t.turn)
+    (ap (λ (l : LaneState). l.reached) t.turn)
+    (ap (λ (l : LaneState). l.stored) t.turn) (ap (λ (l : LaneState). l.waiting) t.turn))) settles
 
 -- ---- a mark of its own
 pub off_mark : (s : Sketch) (more : List EventMark) → s.on ≡ false → Settles s s (if s.on then more else [])
@@ -309,7 +309,7 @@ on_mark r a b more shapes on is settles =
     (subst (λ (l : List EventMark). OnOk r (Settles a b l)) is settles)
 
 -- ---- a release
-pub freed_none : (s : Sketch) (held : Bool) (p : ℕ) (entry : Entry) → held ≡ false
+pub freed_none : (s : Sketch) (held : Bool) (p : ℕ) (entry : EventAt) → held ≡ false
     → Settles s s (if s.on then released_at held p entry else [])
 freed_none s held p entry none =
     subst (λ (b : Bool). Settles s s (if s.on then released_at b p entry else [])) (sym none)
@@ -323,4 +323,4 @@ freed_shown r a b held p title step at to on some place told settles =
     let there : Spot = record { x = at.x; lane = p } in
     subst (λ (x : Bool). OnOk r (Settles a b (if x then released_at held p (step_entry step at) else []))) (sym on)
     (subst (λ (x : Bool). OnOk r (Settles a b (released_at x p (step_entry step at)))) (sym some)
-    (subst (λ (e : Entry). OnOk r (Settles a b (mark_of (Some Released) false e))) (ap (title_entry title) place ∙ told there) settles))
+    (subst (λ (e : EventAt). OnOk r (Settles a b (mark_of (Some Released) false e))) (ap (title_entry title) place ∙ told there) settles))

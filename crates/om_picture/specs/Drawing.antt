@@ -1,7 +1,7 @@
 -- A picture that is being drawn: which marks it has, drawn or waiting.
 use Rattle.std.specs.Prelude.{◌≡◌, ℕ, suc, ◌+◌, ◌*◌, ◌<◌, ◌≤◌, ◌-◌, ◌==◌, Bool, false, if◌then◌else◌, is_some, nat_lt, List, [], ◌∷◌, ◌++◌, Some, drop, length, map, slice_index_or}
 use Rattle.std.specs.List.{flat_map}
-use Rattle.om_picture.specs.Fates.{Entry, Fate, Row, fate_behind, has_ended, highest, interval_behind, is_loose}
+use Rattle.om_picture.specs.Fates.{EventAt, EventRow, Fate, fate_behind, has_ended, highest, interval_behind, is_loose}
 use Rattle.om_picture.specs.Held.{Held, held_behind}
 use Rattle.om_picture.specs.Marks.{AreTheSame, EventMark, Saved, Taken, Worked, is_reached, mark_of, marks_among, output_marks, shape_marks, title_entry}
 use Rattle.om_interval.specs.declared.pid.TheConstants.{MAX_PROCESSES}
@@ -14,7 +14,7 @@ use Rattle.om_picture.specs.declared.shown.Shown.{Shown}
 use Rattle.om_picture.specs.declared.shown.Shown.TheVariants as shows
 
 -- what a mark that waits comes to, of an event that showed this
-abbrev pub late_marks : Shown → ℕ → Fate → Entry → List EventMark
+abbrev pub late_marks : Shown → ℕ → Fate → EventAt → List EventMark
 late_marks (shows.Receipt frame interval) fresh fate entry = mark_of (Some (Taken fate.stored)) fate.cut entry
 late_marks shows.Checkpoint fresh fate entry = mark_of (Some Saved) fate.cut entry
 late_marks (shows.Run sent made ends) fresh fate entry = output_marks made fresh fate entry ++ mark_of (Some Worked) fate.cut entry
@@ -32,7 +32,7 @@ waiting_marks fate stored (mark ∷ marks) =
 
 -- what is known of a process: its interval, whether its program ended, whether it has received something that is in memory only, the
 -- highest place that it had in a recovery state, and the marks that wait, of which the first ones, so many, are stored
-pub record Lane : Type 0 where
+pub record LaneState : Type 0 where
   pub interval : ℕ
   pub ended : Bool
   pub loose : Bool
@@ -40,10 +40,10 @@ pub record Lane : Type 0 where
   pub stored : ℕ
   pub waiting : List Mark
 
-abbrev pub new_lane : Lane
+abbrev pub new_lane : LaneState
 new_lane = record { interval = 0; ended = false; loose = false; reached = 0; stored = 0; waiting = [] }
 
-abbrev pub lane_in : History → Lane
+abbrev pub lane_in : History → LaneState
 lane_in history = record {
   interval = history.interval;
   ended = history.ended;
@@ -63,7 +63,7 @@ pub record Edge : Type 0 where
 abbrev pub held_of : Mark → Held
 held_of mark = record { interval = mark.interval; fresh = mark.fresh; x = mark.at.x }
 
-abbrev pub held_in : Lane → List Held
+abbrev pub held_in : LaneState → List Held
 held_in lane = map held_of lane.waiting
 
 -- whether the window is reached, its edges, the marks of events that are drawn, and the lanes
@@ -71,7 +71,7 @@ pub record Sketch : Type 0 where
   pub on : Bool
   pub edge : Edge
   pub drawn : List EventMark
-  pub lanes : List Lane
+  pub lanes : List LaneState
 
 abbrev pub sketch_of : Picture → Sketch
 sketch_of picture = record {
@@ -82,23 +82,23 @@ sketch_of picture = record {
 }
 
 -- what the marks of lanes come to, of which the first is of this process
-abbrev pub lanes_marks : (ℕ → Lane → List EventMark) → ℕ → List Lane → List EventMark
+abbrev pub lanes_marks : (ℕ → LaneState → List EventMark) → ℕ → List LaneState → List EventMark
 lanes_marks marks p [] = []
 lanes_marks marks p (lane ∷ lanes) = marks p lane ++ lanes_marks marks (suc p) lanes
 
 -- all marks, those that are drawn and what those come to that wait
-unfoldable pub all_marks : (ℕ → Lane → List EventMark) → Sketch → List EventMark
+unfoldable pub all_marks : (ℕ → LaneState → List EventMark) → Sketch → List EventMark
 all_marks marks sketch = sketch.drawn ++ lanes_marks marks 0 sketch.lanes
 
 -- what the marks that wait on a lane come to with these events
-abbrev pub lane_marks : List Row → ℕ → Lane → List EventMark
+abbrev pub lane_marks : List EventRow → ℕ → LaneState → List EventMark
 lane_marks later p lane = waiting_marks (λ interval stored. fate_behind p interval stored lane.reached later) lane.stored lane.waiting
 
-abbrev pub lane_of : Sketch → ℕ → Lane
+abbrev pub lane_of : Sketch → ℕ → LaneState
 lane_of sketch p = slice_index_or sketch.lanes p new_lane
 
 -- what is known of a process behind these events
-pub record IsLaneOf (p : ℕ) (rows : List Row) (lane : Lane) : Type 0 where
+pub record IsLaneOf (p : ℕ) (rows : List EventRow) (lane : LaneState) : Type 0 where
   pub interval : lane.interval ≡ interval_behind p rows
   pub ended : lane.ended ≡ has_ended p rows
   pub loose : lane.loose ≡ is_loose p rows
@@ -107,12 +107,12 @@ pub record IsLaneOf (p : ℕ) (rows : List Row) (lane : Lane) : Type 0 where
 
 -- a picture of so many processes and of these events, whose window begins at a line: whatever comes behind them, its marks come
 -- to those of the events
-pub record IsSketchOf (n first : ℕ) (rows : List Row) (sketch : Sketch) : Type 0 where
+pub record IsSketchOf (n first : ℕ) (rows : List EventRow) (sketch : Sketch) : Type 0 where
   pub on : sketch.on ≡ is_reached first rows
   pub first_line : sketch.edge.first ≡ first
   pub count : length sketch.lanes ≡ n
   pub lanes : (p : ℕ) → p < n → IsLaneOf p rows (lane_of sketch p)
-  pub marks : (later : List Row) → AreTheSame (all_marks (lane_marks later) sketch) (marks_among n first [] rows later)
+  pub marks : (later : List EventRow) → AreTheSame (all_marks (lane_marks later) sketch) (marks_among n first [] rows later)
   -- where they stand, and how far right that is
   pub few : n ≤ MAX_PROCESSES
   pub placed : ArePlaced n first [] rows

@@ -10,22 +10,22 @@ use Rattle.om_picture.specs.declared.sheet.Spot.{Spot}
 use Rattle.om_picture.specs.declared.step.Step.{Step}
 
 -- an event of a script, the number of its line, its answer, and where it stands in a picture
-pub record Entry : Type 0 where
+pub record EventAt : Type 0 where
   pub line : ℕ
   pub event : Event
   pub answer : Answer
   pub at : Spot
 
 -- the same, how many new outputs it handed in, and the recovery state behind it
-pub record Row : Type 0 where
-  pub entry : Entry
+pub record EventRow : Type 0 where
+  pub entry : EventAt
   pub fresh : ℕ
   pub recovery : List ℕ
 
-abbrev pub step_entry : Step → Spot → Entry
+abbrev pub step_entry : Step → Spot → EventAt
 step_entry step at = record { line = step.line; event = step.event; answer = step.answer; at = at }
 
-abbrev pub step_row : Step → Spot → Row
+abbrev pub step_row : Step → Spot → EventRow
 step_row step at = record { entry = step_entry step at; fresh = step.fresh; recovery = step.recovery }
 
 -- the process of an event
@@ -46,7 +46,7 @@ is_process p None = false
 is_process p (Some q) = q == p
 
 -- the event is one of this process
-abbrev pub is_of : ℕ → Row → Bool
+abbrev pub is_of : ℕ → EventRow → Bool
 is_of p row = is_process p (process_of row.entry.event)
 
 -- ---- a process
@@ -56,15 +56,15 @@ interval_after (events.Give process frame) (answers.Given (accepts.Taken interva
 interval_after (events.Resume process) (answers.Back interval inc) was = interval
 interval_after _ _ was = was
 
-abbrev pub next_interval : ℕ → ℕ → Row → ℕ
+abbrev pub next_interval : ℕ → ℕ → EventRow → ℕ
 next_interval p was row = if is_of p row then interval_after row.entry.event row.entry.answer was else was
 
-abbrev pub interval_from : ℕ → ℕ → List Row → ℕ
+abbrev pub interval_from : ℕ → ℕ → List EventRow → ℕ
 interval_from p was [] = was
 interval_from p was (row ∷ rows) = interval_from p (next_interval p was row) rows
 
 -- the interval of a process behind these events
-abbrev pub interval_behind : ℕ → List Row → ℕ
+abbrev pub interval_behind : ℕ → List EventRow → ℕ
 interval_behind p rows = interval_from p 0 rows
 
 -- whether it is known behind an event that the program of its process came to its end
@@ -73,15 +73,15 @@ ended_after (events.Run process fuel) (answers.Ran steps status sent made) was =
 ended_after (events.Resume process) (answers.Back interval inc) was = false
 ended_after _ _ was = was
 
-abbrev pub next_ended : ℕ → Bool → Row → Bool
+abbrev pub next_ended : ℕ → Bool → EventRow → Bool
 next_ended p was row = if is_of p row then ended_after row.entry.event row.entry.answer was else was
 
-abbrev pub ended_from : ℕ → Bool → List Row → Bool
+abbrev pub ended_from : ℕ → Bool → List EventRow → Bool
 ended_from p was [] = was
 ended_from p was (row ∷ rows) = ended_from p (next_ended p was row) rows
 
 -- the program of a process came to its end in these events, and the process did not go back since
-abbrev pub has_ended : ℕ → List Row → Bool
+abbrev pub has_ended : ℕ → List EventRow → Bool
 has_ended p rows = ended_from p false rows
 
 -- whether a process has received something behind an event that it has in memory only
@@ -93,33 +93,33 @@ loose_after (events.Fail process) (answers.Gathered gathered) was = false
 loose_after (events.Fail process) answers.Down was = false
 loose_after _ _ was = was
 
-abbrev pub next_loose : ℕ → Bool → Row → Bool
+abbrev pub next_loose : ℕ → Bool → EventRow → Bool
 next_loose p was row = if is_of p row then loose_after row.entry.event row.entry.answer was else was
 
-abbrev pub loose_from : ℕ → Bool → List Row → Bool
+abbrev pub loose_from : ℕ → Bool → List EventRow → Bool
 loose_from p was [] = was
 loose_from p was (row ∷ rows) = loose_from p (next_loose p was row) rows
 
 -- a process received something in these events, and since then it did not store what it received, nor fail
-abbrev pub is_loose : ℕ → List Row → Bool
+abbrev pub is_loose : ℕ → List EventRow → Bool
 is_loose p rows = loose_from p false rows
 
 -- ---- what becomes of an interval
 -- the place of a process in the recovery state behind an event, or a higher one that was there before
-abbrev pub next_place : ℕ → ℕ → Row → ℕ
+abbrev pub next_place : ℕ → ℕ → EventRow → ℕ
 next_place p was row = max was (slice_index row.recovery p)
 
 -- the highest place of a process in the recovery states behind these events, from one on
-abbrev pub highest : ℕ → ℕ → List Row → ℕ
+abbrev pub highest : ℕ → ℕ → List EventRow → ℕ
 highest p was [] = was
 highest p was (row ∷ rows) = highest p (next_place p was row) rows
 
 -- a round that is finished with this event cuts the interval: no recovery state has covered it, up to this place
-abbrev pub cuts : ℕ → ℕ → Row → Bool
+abbrev pub cuts : ℕ → ℕ → EventRow → Bool
 cuts interval place row = is_finished row.entry.answer && not (nat_le interval place)
 
 -- one of these events does
-abbrev pub is_cut : ℕ → ℕ → ℕ → List Row → Bool
+abbrev pub is_cut : ℕ → ℕ → ℕ → List EventRow → Bool
 is_cut p interval was [] = false
 is_cut p interval was (row ∷ rows) =
     cuts interval (next_place p was row) row || is_cut p interval (next_place p was row) rows
@@ -130,11 +130,11 @@ is_store (events.Flush process) (answers.Noted count) = not (count == 0)
 is_store (events.Join process) (answers.Gathered gathered) = true
 is_store _ _ = false
 
-abbrev pub stores : ℕ → Row → Bool
+abbrev pub stores : ℕ → EventRow → Bool
 stores p row = is_of p row && is_store row.entry.event row.entry.answer
 
 -- one of these events stores what a process received, and no round cut that before
-abbrev pub is_stored : ℕ → ℕ → ℕ → List Row → Bool
+abbrev pub is_stored : ℕ → ℕ → ℕ → List EventRow → Bool
 is_stored p interval was [] = false
 is_stored p interval was (row ∷ rows) =
     stores p row || (not (cuts interval (next_place p was row) row) && is_stored p interval (next_place p was row) rows)
@@ -149,31 +149,31 @@ pub record Fate : Type 0 where
   pub stored : Bool
 
 -- of what is stored or not before these events, where no place was higher than one
-abbrev pub fate_behind : ℕ → ℕ → Bool → ℕ → List Row → Fate
+abbrev pub fate_behind : ℕ → ℕ → Bool → ℕ → List EventRow → Fate
 fate_behind p interval stored was rows =
     let cut = is_cut p interval was rows in
     let covered = not cut && nat_le interval (highest p was rows) in
     record { cut = cut; covered = covered; stored = covered || (stored || is_stored p interval was rows) }
 
 -- what these events make of an interval that began or went on with the first of them, behind others
-abbrev pub fate_of : ℕ → ℕ → List Row → List Row → Fate
+abbrev pub fate_of : ℕ → ℕ → List EventRow → List EventRow → Fate
 fate_of p interval before rows = fate_behind p interval false (highest p 0 before) rows
 
 -- ---- the same, told by the event that did it
 -- a round is finished with one of these events, and no recovery state up to it had the process as high
-pub record IsCutBy (p interval was : ℕ) (rows : List Row) : Type 0 where
-  pub before : List Row
-  pub row : Row
-  pub after : List Row
+pub record IsCutBy (p interval was : ℕ) (rows : List EventRow) : Type 0 where
+  pub before : List EventRow
+  pub row : EventRow
+  pub after : List EventRow
   pub split : rows ≡ before ++ row ∷ after
   pub finished : is_finished row.entry.answer ≡ true
   pub beyond : highest p was (before ++ row ∷ []) < interval
 
 -- with one of these events the process stores what it received, and no round before it cuts the interval
-pub record IsStoredBy (p interval was : ℕ) (rows : List Row) : Type 0 where
-  pub before : List Row
-  pub row : Row
-  pub after : List Row
+pub record IsStoredBy (p interval was : ℕ) (rows : List EventRow) : Type 0 where
+  pub before : List EventRow
+  pub row : EventRow
+  pub after : List EventRow
   pub split : rows ≡ before ++ row ∷ after
   pub stores_it : stores p row ≡ true
   pub not_cut : is_cut p interval was before ≡ false

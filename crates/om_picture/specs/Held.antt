@@ -1,6 +1,6 @@
 -- What waits on the lane of a process until a recovery state covers it or a round cuts it, and with which event its outputs are released.
 use Rattle.std.specs.Prelude.{◌≡◌, ◌≢◌, ◌<◌, ◌≤◌, ℕ, ◌==◌, Bool, true, false, not, ◌&&◌, ◌||◌, if◌then◌else◌, nat_le, nat_lt, List, [], ◌∷◌, ◌++◌}
-use Rattle.om_picture.specs.Fates.{Row, has_ended, highest, interval_behind, is_of}
+use Rattle.om_picture.specs.Fates.{EventRow, has_ended, highest, interval_behind, is_of}
 use Rattle.om_picture.specs.Shows.{is_finished, shown}
 use Rattle.om_picture.specs.declared.shown.Shown.{Shown}
 use Rattle.om_picture.specs.declared.shown.Shown.TheVariants as shows
@@ -20,7 +20,7 @@ may_wait shows.Checkpoint = true
 may_wait _ = false
 
 -- what an event leaves on the lane of a process, behind others
-abbrev pub left_by : ℕ → List Row → Row → List Held
+abbrev pub left_by : ℕ → List EventRow → EventRow → List Held
 left_by p before row =
     if is_of p row && may_wait (shown (has_ended p before) row.entry.event row.entry.answer)
     then record { interval = interval_behind p (before ++ row ∷ []); fresh = row.fresh; x = row.entry.at.x } ∷ [] else []
@@ -35,16 +35,16 @@ left_behind place [] = []
 left_behind place (held ∷ more) = if nat_le held.interval place then left_behind place more else held ∷ more
 
 -- what waits behind an event: nothing, if a round is finished with it; else what the recovery state behind it does not cover
-abbrev pub next_held : ℕ → List Row → List Held → Row → List Held
+abbrev pub next_held : ℕ → List EventRow → List Held → EventRow → List Held
 next_held p before was row =
     if is_finished row.entry.answer then [] else left_behind (highest p 0 (before ++ row ∷ [])) (was ++ left_by p before row)
 
-abbrev pub held_from : ℕ → List Row → List Held → List Row → List Held
+abbrev pub held_from : ℕ → List EventRow → List Held → List EventRow → List Held
 held_from p before was [] = was
 held_from p before was (row ∷ rows) = held_from p (before ++ row ∷ []) (next_held p before was row) rows
 
 -- what waits on the lane of a process behind these events
-abbrev pub held_behind : ℕ → List Row → List Held
+abbrev pub held_behind : ℕ → List EventRow → List Held
 held_behind p rows = held_from p [] [] rows
 
 -- there are outputs among these that were made elsewhere than at a place
@@ -57,16 +57,16 @@ is_any_elsewhere x (held ∷ more) = is_elsewhere x held || is_any_elsewhere x m
 
 -- with an event, behind others, outputs of a process are released that were held until then: its recovery state is the first that covers
 -- their interval, and all that waits before them
-abbrev pub releases : ℕ → List Row → Row → Bool
+abbrev pub releases : ℕ → List EventRow → EventRow → Bool
 releases p before row =
     is_any_elsewhere row.entry.at.x (covered_by (highest p 0 (before ++ row ∷ [])) (held_behind p before ++ left_by p before row))
 
 -- with one of these events the process handed in outputs that stand elsewhere than at a place, in an interval that does not lie beyond
 -- a place of it in a recovery state
-pub record WereHeld (p : ℕ) (rows : List Row) (x place : ℕ) : Type 0 where
-  pub before : List Row
-  pub row : Row
-  pub after : List Row
+pub record WereHeld (p : ℕ) (rows : List EventRow) (x place : ℕ) : Type 0 where
+  pub before : List EventRow
+  pub row : EventRow
+  pub after : List EventRow
   pub split : rows ≡ before ++ row ∷ after
   pub own : is_of p row ≡ true
   pub handed : 0 < row.fresh

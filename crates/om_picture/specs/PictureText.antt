@@ -10,8 +10,8 @@ use Rattle.om_picture.specs.declared.sheet.Sheet.{Sheet}
 use Rattle.om_picture.specs.declared.text.TheConstants.{LEGEND, STYLE}
 
 -- how the classes of marks look, and what the marks mean
-unfoldable pub style_text : List ℕ
-style_text = STYLE.now
+unfoldable pub styles_text : List ℕ
+styles_text = STYLE.now
 
 unfoldable pub key_text : List ℕ
 key_text = LEGEND.now
@@ -80,7 +80,7 @@ ground_text drawn = ground_width drawn.width ++ ground_height drawn.height
 
 -- the size, the title, the style and the ground
 unfoldable pub open_text : Drawn → List ℕ
-open_text drawn = size_text drawn ++ view_text drawn ++ summary_text drawn ++ codes "</title>\n" ++ style_text ++ ground_text drawn
+open_text drawn = size_text drawn ++ view_text drawn ++ summary_text drawn ++ codes "</title>\n" ++ styles_text ++ ground_text drawn
 
 -- the layers below the marks, each before the next
 unfoldable pub layers_text : ℕ → Sheet → List ℕ

@@ -1,6 +1,6 @@
 -- What is read of a world, before and behind an event.
 use Rattle.std.specs.Prelude.{ℕ, ◌-◌, Bool, false, if◌then◌else◌, length, nat_lt}
-use Rattle.om_manager.specs.State.{ManagerState, held_by, size_of}
+use Rattle.om_manager.specs.State.{ManagerState, held_by, process_count}
 use Rattle.om_world.specs.declared.event.Answer.{Answer}
 use Rattle.om_world.specs.declared.event.Answer.TheVariants as answers
 use Rattle.om_world.specs.declared.event.Event.{Event}
@@ -8,7 +8,7 @@ use Rattle.om_world.specs.declared.event.Event.TheVariants as events
 
 -- how many outputs a process has handed in, if there is the process
 abbrev pub handed_by : ManagerState → ℕ → ℕ
-handed_by m p = if nat_lt p (size_of m) then length (held_by m p) else 0
+handed_by m p = if nat_lt p (process_count m) then length (held_by m p) else 0
 
 -- a run with this answer made outputs
 abbrev pub has_made : Answer → Bool

@@ -2,7 +2,7 @@
 
 ghost use Rattle.std.specs.Prelude.{◌≡◌, ℕ, List, length, false, IfOk, OnOk};
 ghost use Rattle.om_picture.specs.Drawing.{IsSketchOf, mark_marks, sketch_of};
-ghost use Rattle.om_picture.specs.Fates.{Row};
+ghost use Rattle.om_picture.specs.Fates.{EventRow};
 ghost use Rattle.om_picture.specs.Marks.{IsDrawingOf};
 ghost use Rattle.om_picture.specs.steps.Adding.{Settles, SettlesAll, SettlesLane, fate_now};
 
@@ -192,7 +192,7 @@ impl Picture {
         standings: &[Option<Standing>],
         lengths: &[u32],
     ) -> Result<Drawn, AllocError>
-        ensures { (n first : ℕ) (rows : List Row) → IsSketchOf n first rows (sketch_of self)
+        ensures { (n first : ℕ) (rows : List EventRow) → IsSketchOf n first rows (sketch_of self)
             → IfOk result (IsDrawingOf n first rows) }
     {
         let mut picture = self;

@@ -4,7 +4,7 @@ ghost use Rattle.std.specs.Prelude.{◌≡◌, ◌<◌, ◌↔◌, [], ◌∷◌
 ghost use Rattle.om_scripts.specs.Named.{is_name};
 ghost use Rattle.om_scripts.specs.Programs.{Cluster};
 ghost use Rattle.om_picture.specs.AnswerText.{recovery_text};
-ghost use Rattle.om_picture.specs.Fates.{IsCutBy, IsStoredBy, Row, highest, is_cut, is_stored};
+ghost use Rattle.om_picture.specs.Fates.{EventRow, IsCutBy, IsStoredBy, highest, is_cut, is_stored};
 ghost use Rattle.om_picture.specs.Held.{WereHeld, releases};
 ghost use Rattle.om_picture.specs.Places.{ArePlaced, has_column};
 ghost use Rattle.om_picture.specs.Plain.{HasPlainNames, is_plain_text};
@@ -36,17 +36,17 @@ pub fn names_are_plain()
 
 /// An interval is cut exactly where a round is finished and no recovery state up to it had the process as high.
 pub fn cut_by_a_round()
-    ensures { (p interval was : ℕ) (rows : List Row) → is_cut p interval was rows ≡ true ↔ IsCutBy p interval was rows }
+    ensures { (p interval was : ℕ) (rows : List EventRow) → is_cut p interval was rows ≡ true ↔ IsCutBy p interval was rows }
 {}
 
 /// It is stored exactly where its process stores what it received, and no round before that cut it.
 pub fn stored_by_its_process()
-    ensures { (p interval was : ℕ) (rows : List Row) → is_stored p interval was rows ≡ true ↔ IsStoredBy p interval was rows }
+    ensures { (p interval was : ℕ) (rows : List EventRow) → is_stored p interval was rows ≡ true ↔ IsStoredBy p interval was rows }
 {}
 
 /// Of two events the later one, if it has a column and there is room, stands right of the other.
 pub fn later_stands_right()
-    ensures { (n first : ℕ) (before between later : List Row) (one other : Row)
+    ensures { (n first : ℕ) (before between later : List EventRow) (one other : EventRow)
         → ArePlaced n first [] ((before ++ one ∷ between) ++ other ∷ later) → length (before ++ one ∷ between) < MOST_COLUMNS
         → has_column n first (before ++ one ∷ between) other ≡ true → one.entry.at.x < other.entry.at.x }
 {}
@@ -54,6 +54,6 @@ pub fn later_stands_right()
 /// Outputs that are released with an event were handed in by an event up to it, which stands elsewhere, in an interval that the
 /// recovery states up to it cover.
 pub fn released_were_held()
-    ensures { (p : ℕ) (before : List Row) (row : Row) → releases p before row ≡ true
+    ensures { (p : ℕ) (before : List EventRow) (row : EventRow) → releases p before row ≡ true
         → WereHeld p (before ++ row ∷ []) row.entry.at.x (highest p 0 (before ++ row ∷ [])) }
 {}

@@ -2,7 +2,7 @@
 
 ghost use Rattle.std.specs.Prelude.{◌≡◌, ◌==◌, ◌<◌, ◌≤◌, not, false, [], ◌∷◌, ◌++◌, ℕ, List, Some, if◌then◌else◌, is_some, length, OnOk, IfOk, MatchOption};
 ghost use Rattle.om_picture.specs.Drawing.{IsSketchOf, held_in, lane_of, sketch_of};
-ghost use Rattle.om_picture.specs.Fates.{Row, step_entry, step_row};
+ghost use Rattle.om_picture.specs.Fates.{EventRow, step_entry, step_row};
 ghost use Rattle.om_picture.specs.Held.{covered_by};
 ghost use Rattle.om_picture.specs.Marks.{kind_drawn, mark_of, shape_marks, title_entry};
 ghost use Rattle.om_picture.specs.Shows.{is_finished};
@@ -81,7 +81,7 @@ impl Picture {
 
     /// Draws what an event showed.
     pub fn draw(&mut self, alloc: Global, step: &Step) -> Result<(), AllocError>
-        ensures { OnOk result ((at : Spot) × ((n first : ℕ) (rows : List Row) → IsSketchOf n first rows (sketch_of self.old)
+        ensures { OnOk result ((at : Spot) × ((n first : ℕ) (rows : List EventRow) → IsSketchOf n first rows (sketch_of self.old)
             → IsSketchOf n first (rows ++ step_row step.now at ∷ []) (sketch_of self.new))) }
     {
         self.begin(step.line)?;

@@ -1,7 +1,7 @@
 //! What is read of a world, before and behind an event.
 
 ghost use Rattle.std.specs.Prelude.{◌≡◌, ◌∷◌, ◌-◌, [], if◌then◌else◌, IfOk, IsTrue, length, true};
-ghost use Rattle.om_manager.specs.State.{size_of};
+ghost use Rattle.om_manager.specs.State.{process_count};
 ghost use Rattle.om_picture.specs.Reading.{handed_by, has_made, makes, newly_handed};
 ghost use Rattle.om_world.specs.Played.{Played};
 ghost use Rattle.om_world.specs.World.{IsKnown, all_clean};
@@ -169,7 +169,7 @@ pub fn play_step<S: Stable>(
     ensures event { IfOk result (λ step. step.event ≡ event) }
     ensures recovery { IfOk result (λ step. step.recovery ≡ world.new.manager.recovery) }
     ensures fresh { IfOk result (λ step. step.fresh ≡ newly_handed event step.answer world.old.manager world.new.manager) }
-    ensures size { size_of world.new.manager ≡ size_of world.old.manager }
+    ensures size { process_count world.new.manager ≡ process_count world.old.manager }
     ensures always { ((store : S) → IsTrue (S.is_clean store)) → all_clean world.new.health ≡ true }
     ensures origins { world.new.origins ≡ world.old.origins }
 {

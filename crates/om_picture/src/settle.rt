@@ -21,17 +21,17 @@ use std::alloc::AllocError;
 
 /// How a mark is settled: cut by a round or not; covered by a recovery state, its outputs are released; stored.
 #[derive(Clone, Copy)]
-pub(crate) struct Fate {
+pub(crate) struct FateNow {
     pub cut: bool,
     pub covered: bool,
     pub stored: bool,
 }
 
 /// How the next mark of a lane is settled now; as a round is finished, or in the end.
-pub(crate) fn fate_now(next: &Next, finished: bool) -> Fate
+pub(crate) fn fate_now(next: &Next, finished: bool) -> FateNow
     ensures { fate_in result ≡ fate_now finished next.now.covered next.now.stored }
 {
-    Fate {
+    FateNow {
         cut: finished && !next.covered,
         covered: next.covered,
         stored: next.covered || next.stored,
@@ -39,12 +39,12 @@ pub(crate) fn fate_now(next: &Next, finished: bool) -> Fate
 }
 
 // The style of the words of a mark.
-fn style(fate: Fate, style: Style) -> Style {
+fn style(fate: FateNow, style: Style) -> Style {
     if fate.cut { Style::Grey } else { style }
 }
 
 // A mark of a form, at the place of this one.
-fn shape_of(form: Form, mark: &Mark, fate: Fate) -> Shape
+fn shape_of(form: Form, mark: &Mark, fate: FateNow) -> Shape
     ensures form { result.form ≡ form }
     ensures cut { result.cut ≡ fate.cut }
     ensures at { result.at ≡ mark.now.at }
@@ -59,7 +59,7 @@ fn shape_of(form: Form, mark: &Mark, fate: Fate) -> Shape
 }
 
 // The form of a mark.
-fn form_of(shown: Shown, fate: Fate) -> Form
+fn form_of(shown: Shown, fate: FateNow) -> Form
     ensures { kind_drawn result ≡ Some (kind_late shown (fate_in fate)) }
 {
     match shown {
@@ -94,7 +94,7 @@ impl Page {
     }
 
     // The words of a mark whose fate is known, and the message of a receipt.
-    fn tell(&mut self, mark: &Mark, fate: Fate) -> Result<(), AllocError> {
+    fn tell(&mut self, mark: &Mark, fate: FateNow) -> Result<(), AllocError> {
         match mark.shown {
             Shown::Receipt { frame, interval } => { self.tell_receipt(mark, fate, frame, interval) }
             Shown::Run { made, ends, .. } => {
@@ -110,7 +110,7 @@ impl Page {
     fn tell_receipt(
         &mut self,
         mark: &Mark,
-        fate: Fate,
+        fate: FateNow,
         frame: usize,
         interval: u32,
     ) -> Result<(), AllocError> {
@@ -138,7 +138,7 @@ impl Page {
     fn tell_status(
         &mut self,
         mark: &Mark,
-        fate: Fate,
+        fate: FateNow,
         ends: Option<Status>,
     ) -> Result<(), AllocError> {
         let Some(status) = ends else {
@@ -149,7 +149,7 @@ impl Page {
         self.say(style(fate, Style::Small), x, y, What::End(status))
     }
 
-    fn tell_outputs(&mut self, mark: &Mark, fate: Fate) -> Result<(), AllocError> {
+    fn tell_outputs(&mut self, mark: &Mark, fate: FateNow) -> Result<(), AllocError> {
         let y = lane_y(mark.at.lane).saturating_sub(24);
         let x = mark.at.x.saturating_sub(4);
         let what = What::Output {
@@ -162,7 +162,7 @@ impl Page {
 
 impl Picture {
     // Draws a mark whose fate is known; one from before the window is passed over.
-    pub(crate) fn settle(&mut self, mark: &Mark, fate: Fate) -> Result<(), AllocError>
+    pub(crate) fn settle(&mut self, mark: &Mark, fate: FateNow) -> Result<(), AllocError>
         ensures { OnOk result (Settles (sketch_of self.old) (sketch_of self.new) (mark_marks mark.now (fate_in fate))) }
     {
         if mark.at.x == 0 {
@@ -174,7 +174,7 @@ impl Picture {
     }
 
     // The stem of the outputs of a mark, and its head, if they were not all made before.
-    fn add_outputs(&mut self, mark: &Mark, fate: Fate) -> Result<(), AllocError>
+    fn add_outputs(&mut self, mark: &Mark, fate: FateNow) -> Result<(), AllocError>
         ensures { OnOk result (Settles (sketch_of self.old) (sketch_of self.new)
             (output_marks (made_by mark.now.shown) mark.now.fresh (fate_in fate) (title_entry mark.now.title mark.now.at))) }
     {
@@ -191,7 +191,7 @@ impl Picture {
     }
 
     // A form at the place of a mark.
-    fn add_form(&mut self, form: Form, mark: &Mark, fate: Fate) -> Result<(), AllocError>
+    fn add_form(&mut self, form: Form, mark: &Mark, fate: FateNow) -> Result<(), AllocError>
         ensures { OnOk result (Settles (sketch_of self.old) (sketch_of self.new)
             (mark_of (kind_drawn form) fate.cut (title_entry mark.now.title mark.now.at))) }
     {
@@ -230,7 +230,7 @@ impl Picture {
         ensures found { IfOk result (λ found. is_some found ≡ is_elsewhere at.x (held_of mark.now)) }
     {
         self.page.count_fate(self.on, mark, false);
-        let fate = Fate {
+        let fate = FateNow {
             cut: false,
             covered: true,
             stored: true,

@@ -2,7 +2,7 @@
 
 ghost use Rattle.std.specs.Prelude.{◌≡◌, ◌++◌, IfOk, OnOk, string_bytes};
 ghost use Rattle.std.specs.List.{flat_map};
-ghost use Rattle.om_picture.specs.PictureText.{failed_text, failure_count, ground_height, ground_text, ground_width, head_text, key_text, layers_text, legend_text, moved_text, open_text, outputs_text, picture_text, refused_count, resent_count, sent_count, sent_text, shown_count, shown_text, size_text, style_text, summary_text, svg_height, svg_width, taken_count, taken_text, view_text};
+ghost use Rattle.om_picture.specs.PictureText.{failed_text, failure_count, ground_height, ground_text, ground_width, head_text, key_text, layers_text, legend_text, moved_text, open_text, outputs_text, picture_text, refused_count, resent_count, sent_count, sent_text, shown_count, shown_text, size_text, styles_text, summary_text, svg_height, svg_width, taken_count, taken_text, view_text};
 ghost use Rattle.om_picture.specs.ShapeText.{band_text, crossing_text, road_text, shape_text, way_text};
 ghost use Rattle.om_picture.specs.WordText.{word_text};
 
@@ -90,7 +90,7 @@ pub const LEGEND: &str = "\
 
 #[tactic(auto, unfolding(crate::specs::PictureText::style_text))]
 fn style() -> &'static str
-    ensures { result.now ≡ style_text }
+    ensures { result.now ≡ styles_text }
 {
     STYLE
 }

@@ -17,23 +17,21 @@ use Rattle.om_format.specs.Queues.{QueueRecord, queue_end, are_entries, all_entr
 use Rattle.om_process.specs.declared.plan.Plan.{Plan}
 use Rattle.om_process.specs.declared.status.Status.{Status}
 use Rattle.om_process.specs.declared.status.Status.TheVariants.{Ready, Waiting, Ended, Trapped}
-use Rattle.om_process.specs.Process.{Process, Move, Waits, Ends, Traps, Goes, Emits, made, moved}
+use Rattle.om_process.specs.Process.{Process, Move, Waits, Ends, Traps, Goes, Emits, made, moved, emitted, with_entry, raised}
 use Rattle.om_process.specs.Turns.{next_move, next_turn, after_event, emits, Turns, IsWaiting}
 use Rattle.om_process.specs.steps.Planned.{planned, stopped}
-use Rattle.om_process.specs.Core.{CoreParts, IsCore, CoreState, size_of, move_of, status_of}
+use Rattle.om_process.specs.Core.{CoreParts, IsCore, CoreState, cluster_size, move_of, status_of, LoggedRecord, AreLast}
 use Rattle.om_isa.specs.declared.ext.Ext.{Ext}
 use Rattle.om_format.specs.Checkpoints.{IsCheckpoint, is_memory_size}
 use Rattle.om_format.specs.Versions.{is_cluster_size}
 use Rattle.om_format.specs.declared.version.Version.TheVariants.{V2}
 use Rattle.om_format.proofs.Entries.{are_entries-drop, are_entries-push, are_entries_later, all_entries_later}
-use Rattle.om_process.specs.Core.{LoggedRecord, AreLast}
 use Rattle.om_process.specs.Trims.{trimmed_queue, trimmed_queues}
-use Rattle.om_process.specs.declared.row.Row.{Row}
+use Rattle.om_process.specs.declared.row.PendingRow.{PendingRow}
 use Rattle.om_process.proofs.Going.{turns_add}
 use Rattle.om_process.proofs.QueueLemmas.{all_entries_trimmed, end_trimmed, ends_trimmed, ends-append, emitted-append, emitted-last, ends_emitted, all_entries_emitted, end_with}
-use Rattle.om_format.specs.declared.queue.Entry.{Entry}
+use Rattle.om_format.specs.declared.queue.QueueEntry.{QueueEntry}
 use Rattle.om_format.specs.declared.limits.TheConstants.{MAX_BODY}
-use Rattle.om_process.specs.Process.{emitted, with_entry, raised}
 
 -- the machine counted on
 pub counted_on : (c : CoreParts) (count : ℕ) → c.count ≤ count → IsCore c → IsCore (record c { count = count })
@@ -73,7 +71,7 @@ status_stopped next (Ended code) = refl
 status_stopped next (Trapped cause) = refl
 
 -- a message more
-pub core_sent : (c : CoreParts) (count place : ℕ) (e : Entry) (sent : List ℕ) (outbox : List QueueRecord) → c.count ≤ count → e.interval ≡ c.interval → length e.body ≤ MAX_BODY
+pub core_sent : (c : CoreParts) (count place : ℕ) (e : QueueEntry) (sent : List ℕ) (outbox : List QueueRecord) → c.count ≤ count → e.interval ≡ c.interval → length e.body ≤ MAX_BODY
     → outbox ≡ emitted place e c.outbox → sent ≡ set c.sent place (get_or c.sent place 0 + 1) → IsCore c → IsCore (record c { count = count; sent = sent; outbox = outbox })
 core_sent c count place e sent outbox le at short box counts is = record {
   cluster = is.cluster;
@@ -93,7 +91,7 @@ core_sent c count place e sent outbox le at short box counts is = record {
 }
 
 -- an output more
-pub core_put_out : (c : CoreParts) (count made : ℕ) (e : Entry) (outputs : QueueRecord) → count ≡ c.count + 1 → made ≡ c.made + 1 → e.interval ≡ c.interval → length e.body ≤ MAX_BODY
+pub core_put_out : (c : CoreParts) (count made : ℕ) (e : QueueEntry) (outputs : QueueRecord) → count ≡ c.count + 1 → made ≡ c.made + 1 → e.interval ≡ c.interval → length e.body ≤ MAX_BODY
     → outputs ≡ with_entry e c.outputs → IsCore c → IsCore (record c { count = count; made = made; outputs = outputs })
 core_put_out c count made e outputs one more at short box is = record {
   cluster = is.cluster;
@@ -232,12 +230,12 @@ process_with interval vec got m qs = record { machine = m; interval = interval; 
 pub same_process : (interval : ℕ) (vec got : List ℕ) (m n : State) (qs rs : List QueueRecord) → m ≡ n → qs ≡ rs → Some (process_with interval vec got m qs) ≡ Some (process_with interval vec got n rs)
 same_process interval vec got m n qs rs same alike = ap (λ (x : State). Some (process_with interval vec got x qs)) same ∙ ap (λ (x : List QueueRecord). Some (process_with interval vec got n x)) alike
 
-abbrev pub core_with : ℕ → State → ℕ → List ℕ → List ℕ → List LoggedRecord → List Row → ℕ → ℕ → List (List ℕ) → List QueueRecord → CoreState
+abbrev pub core_with : ℕ → State → ℕ → List ℕ → List ℕ → List LoggedRecord → List PendingRow → ℕ → ℕ → List (List ℕ) → List QueueRecord → CoreState
 core_with own m interval vec got log pending inc round starts qs =
     record { own = own; now = process_with interval vec got m qs; log = log; pending = pending; inc = inc; round = round; starts = starts }
 
 -- cores that differ in the queues alone
-pub same_core : (own : ℕ) (m : State) (interval : ℕ) (vec got : List ℕ) (log : List LoggedRecord) (pending : List Row) (inc round : ℕ) (starts : List (List ℕ)) (qs rs : List QueueRecord) → qs ≡ rs
+pub same_core : (own : ℕ) (m : State) (interval : ℕ) (vec got : List ℕ) (log : List LoggedRecord) (pending : List PendingRow) (inc round : ℕ) (starts : List (List ℕ)) (qs rs : List QueueRecord) → qs ≡ rs
     → core_with own m interval vec got log pending inc round starts qs ≡ core_with own m interval vec got log pending inc round starts rs
 same_core own m interval vec got log pending inc round starts qs rs alike = ap (core_with own m interval vec got log pending inc round starts) alike
 
@@ -262,31 +260,31 @@ core_trimmed c bounds bound outbox outputs box last is = record {
 }
 
 -- the queues after a message more
-pub queues_sent : (place : ℕ) (d e : Entry) (box new : List QueueRecord) (outputs : QueueRecord) → place < length box → d ≡ e → new ≡ emitted place d box → emitted place e (box ++ outputs ∷ []) ≡ new ++ outputs ∷ []
+pub queues_sent : (place : ℕ) (d e : QueueEntry) (box new : List QueueRecord) (outputs : QueueRecord) → place < length box → d ≡ e → new ≡ emitted place d box → emitted place e (box ++ outputs ∷ []) ≡ new ++ outputs ∷ []
 queues_sent place d e box new outputs within same is =
     emitted-append place e box (outputs ∷ []) within ∙ ap (λ qs. qs ++ outputs ∷ []) (ap (λ x. emitted place x box) (sym same) ∙ sym is)
 
 -- the queues after an output more
-pub queues_put_out : (size : ℕ) (d e : Entry) (box : List QueueRecord) (outputs new : QueueRecord) → length box ≡ size → d ≡ e → new ≡ with_entry d outputs → emitted size e (box ++ outputs ∷ []) ≡ box ++ new ∷ []
+pub queues_put_out : (size : ℕ) (d e : QueueEntry) (box : List QueueRecord) (outputs new : QueueRecord) → length box ≡ size → d ≡ e → new ≡ with_entry d outputs → emitted size e (box ++ outputs ∷ []) ≡ box ++ new ∷ []
 queues_put_out size d e box outputs new long same is =
     ap (λ k. emitted k e (box ++ outputs ∷ [])) (sym long) ∙ emitted-last e box outputs ∙ ap (λ q. box ++ q ∷ []) (ap (λ x. with_entry x outputs) (sym same) ∙ sym is)
 
 -- what comes next in a core, by its plan
-pub move_planned : (c : CoreState) (m : State) (sent : List ℕ) (outputs : ℕ) (event : Event) (plan : Plan) → m ≡ c.now.machine → made c.now.queues ≡ sent ++ outputs ∷ [] → length sent ≡ size_of c.now → event ≡ (next_of c.now.machine).0
+pub move_planned : (c : CoreState) (m : State) (sent : List ℕ) (outputs : ℕ) (event : Event) (plan : Plan) → m ≡ c.now.machine → made c.now.queues ≡ sent ++ outputs ∷ [] → length sent ≡ cluster_size c.now → event ≡ (next_of c.now.machine).0
     → ((own made : ℕ) (next : State) → planned own (length sent) m next plan ≡ after_event own (length sent) m (sent ++ made ∷ []) event next)
-    → move_of c ≡ planned c.own (size_of c.now) c.now.machine (next_of c.now.machine).1 plan
+    → move_of c ≡ planned c.own (cluster_size c.now) c.now.machine (next_of c.now.machine).1 plan
 move_planned c m sent outputs event plan same counts all at is =
-    planned_move c.own (length sent) (size_of c.now) c.now.machine (sent ++ outputs ∷ []) (made c.now.queues) event plan at counts all
+    planned_move c.own (length sent) (cluster_size c.now) c.now.machine (sent ++ outputs ∷ []) (made c.now.queues) event plan at counts all
     (subst (λ x. planned c.own (length sent) x (next_of c.now.machine).1 plan ≡ after_event c.own (length sent) x (sent ++ outputs ∷ []) event (next_of c.now.machine).1) same (is c.own outputs (next_of c.now.machine).1))
 
 -- turns after turns, in cores of one process
-pub turns_on : (s t u : CoreState) (j k : ℕ) → t.own ≡ s.own → size_of t.now ≡ size_of s.now → Turns s.own (size_of s.now) j s.now t.now → Turns t.own (size_of t.now) k t.now u.now → Turns s.own (size_of s.now) (j + k) s.now u.now
+pub turns_on : (s t u : CoreState) (j k : ℕ) → t.own ≡ s.own → cluster_size t.now ≡ cluster_size s.now → Turns s.own (cluster_size s.now) j s.now t.now → Turns t.own (cluster_size t.now) k t.now u.now → Turns s.own (cluster_size s.now) (j + k) s.now u.now
 turns_on s t u j k own size first more =
-    turns_add s.own (size_of s.now) j k s.now t.now u.now first
-    (subst (λ n. Turns s.own n k t.now u.now) size (subst (λ o. Turns o (size_of t.now) k t.now u.now) own more))
+    turns_add s.own (cluster_size s.now) j k s.now t.now u.now first
+    (subst (λ n. Turns s.own n k t.now u.now) size (subst (λ o. Turns o (cluster_size t.now) k t.now u.now) own more))
 
 -- and one turn more
-pub turn_on : (s t u : CoreState) (j : ℕ) → t.own ≡ s.own → size_of t.now ≡ size_of s.now → Turns s.own (size_of s.now) j s.now t.now → next_turn t.own (size_of t.now) t.now ≡ Some u.now → Turns s.own (size_of s.now) (j + 1) s.now u.now
+pub turn_on : (s t u : CoreState) (j : ℕ) → t.own ≡ s.own → cluster_size t.now ≡ cluster_size s.now → Turns s.own (cluster_size s.now) j s.now t.now → next_turn t.own (cluster_size t.now) t.now ≡ Some u.now → Turns s.own (cluster_size s.now) (j + 1) s.now u.now
 turn_on s t u j own size first more = turns_on s t u j 1 own size first (u.now, more, refl)
 
 -- the parts of a core make a checkpoint
@@ -312,7 +310,7 @@ core_lawful c ext pc regs memory kept outputs is aligned long size same last = r
 }
 
 -- a process that is told not to be ready has no turn
-pub no_turn_at : (s : CoreState) (status : Status) → status ≡ status_of (move_of s) → status ≢ Ready → next_turn s.own (size_of s.now) s.now ≡ None
+pub no_turn_at : (s : CoreState) (status : Status) → status ≡ status_of (move_of s) → status ≢ Ready → next_turn s.own (cluster_size s.now) s.now ≡ None
 no_turn_at s status is other = none (move_of s) (λ ready. other (is ∙ ready))
   where
     none : (move : Move) → status_of move ≢ Ready → moved s.now move ≡ None
@@ -330,6 +328,6 @@ waits_of (Goes next) is = cc
 waits_of (Emits place body next) is = cc
 
 -- a core that is told to wait waits, by the numbers of an earlier one of its process
-pub waits_by_status : (s t : CoreState) → t.own ≡ s.own → size_of t.now ≡ size_of s.now → status_of (move_of t) ≡ Waiting → IsWaiting s.own (size_of s.now) t.now
+pub waits_by_status : (s t : CoreState) → t.own ≡ s.own → cluster_size t.now ≡ cluster_size s.now → status_of (move_of t) ≡ Waiting → IsWaiting s.own (cluster_size s.now) t.now
 waits_by_status s t own size is =
-    subst (λ o. IsWaiting o (size_of s.now) t.now) own (subst (λ n. IsWaiting t.own n t.now) size (waits_of (move_of t) is))
+    subst (λ o. IsWaiting o (cluster_size s.now) t.now) own (subst (λ n. IsWaiting t.own n t.now) size (waits_of (move_of t) is))

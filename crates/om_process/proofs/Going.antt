@@ -1,10 +1,8 @@
 -- Runs of the machine are turns of the process, and turns count.
 use Rattle.std.proofs.Common.{◌≡◌, ℕ, zero, suc, ◌+◌, List, Bool, true, false, Some, refl, sym, ap, subst, ◌∙◌, arith}
 use Rattle.std.specs.Prelude.{if◌then◌else◌}
-use Rattle.om_machine.specs.State as machine
-use Rattle.om_machine.specs.State.{State, put, written}
-use Rattle.om_machine.specs.Step as runs
-use Rattle.om_machine.specs.Step.{Steps}
+use Rattle.om_machine.specs.State.{State, moved_to, put, written}
+use Rattle.om_machine.specs.Step.{Steps, StepsOn}
 use Rattle.om_machine.specs.derived.NextStep.{next_of}
 use Rattle.om_machine.specs.Finishing.{finished_word, finished_who, finished_receive}
 use Rattle.om_machine.specs.declared.event.Event.{Event}
@@ -35,22 +33,22 @@ turns_add own n (suc j) k s m t first more =
     subst (λ i. Turns own n i s t) e (first.0, first.1, turns_add own n j k first.0 m t first.2 more)
 
 -- a run of the machine is that many turns
-pub goes_turns : (own n k : ℕ) (p : Process) (m : State) → runs.Goes k p.machine m → Turns own n k p (with_machine p m)
+pub goes_turns : (own n k : ℕ) (p : Process) (m : State) → StepsOn k p.machine m → Turns own n k p (with_machine p m)
 goes_turns own n zero p m same = ap (with_machine p) (sym same)
 goes_turns own n (suc k) p m goes =
     turns_more own n k p (with_machine p goes.0) (with_machine p m) (goes_turns own n k p goes.0 goes.1) (step_turn own n (with_machine p goes.0) m goes.2)
 
 -- ---- each turn counts one
 pub counts_word : (v : ℕ) (m : State) → (finished_word v m).count ≡ m.count + 1
-unfolding finished_word put machine.moved
+unfolding finished_word put moved_to
 counts_word v m = refl
 
 pub counts_who : (own n : ℕ) (m : State) → (finished_who own n m).count ≡ m.count + 1
-unfolding finished_who put machine.moved
+unfolding finished_who put moved_to
 counts_who own n m = refl
 
 pub counts_receive : (from : ℕ) (body : List ℕ) (m : State) → (finished_receive from body m).count ≡ m.count + 1
-unfolding finished_receive put machine.moved written
+unfolding finished_receive put moved_to written
 counts_receive from body m = refl
 
 -- the move counts one, where there is one

@@ -2,7 +2,7 @@
 use Rattle.std.proofs.Common.{◌≡◌, ◌⊎◌, inl, inr, ℕ, zero, suc, ◌+◌, ◌-◌, ◌<◌, ◌≤◌, List, [], ◌∷◌, ◌++◌, length, drop, get_or, map, refl, sym, ap, ◌∙◌, Some, None, arith}
 use Rattle.std.specs.Prelude.{max, min, slice_get}
 use Rattle.std.proofs.lemmas.List.{map-append, length-append, length-map, length-drop, drop-map, drop_all}
-use Rattle.om_format.specs.declared.queue.Entry.{Entry}
+use Rattle.om_format.specs.declared.queue.QueueEntry.{QueueEntry}
 use Rattle.om_format.specs.Queues.{QueueRecord, queue_end}
 use Rattle.om_process.specs.Claims.{HasEntry}
 use Rattle.om_process.specs.Kept.{numbered, queue_at, AreNumbered}
@@ -10,24 +10,24 @@ use Rattle.om_process.specs.Process.{empty_queue}
 use Rattle.om_process.proofs.Basics.{some_once}
 use Rattle.om_process.specs.Trims.{trimmed_queue}
 
-pub numbered-push : {A : Type 0} (form : ℕ → Entry → A) (first next : ℕ) (es : List Entry) (e : Entry) → next ≡ first + length es
+pub numbered-push : {A : Type 0} (form : ℕ → QueueEntry → A) (first next : ℕ) (es : List QueueEntry) (e : QueueEntry) → next ≡ first + length es
     → numbered form first (es ++ e ∷ []) ≡ numbered form first es ++ form next e ∷ []
 numbered-push form first next [] e is = let at : next ≡ first = omega arith in ap (λ k. form k e ∷ []) (sym at)
 numbered-push form first next (x ∷ es) e is = ap (λ xs. form first x ∷ xs) (numbered-push form (first + 1) next es e (omega arith))
 
-pub numbered-drop : {A : Type 0} (form : ℕ → Entry → A) (k first next : ℕ) (es : List Entry) → k ≤ length es → next ≡ first + k
+pub numbered-drop : {A : Type 0} (form : ℕ → QueueEntry → A) (k first next : ℕ) (es : List QueueEntry) → k ≤ length es → next ≡ first + k
     → numbered form next (drop k es) ≡ drop k (numbered form first es)
 numbered-drop form zero first next es le is = let at : next ≡ first = omega arith in ap (λ j. numbered form j es) at
 numbered-drop form (suc k) first next [] le is = absurd (omega arith)
 numbered-drop form (suc k) first next (x ∷ es) le is = numbered-drop form k (first + 1) next es (omega arith) (omega arith)
 
-pub length-numbered : {A : Type 0} (form : ℕ → Entry → A) (first : ℕ) (es : List Entry) → length (numbered form first es) ≡ length es
+pub length-numbered : {A : Type 0} (form : ℕ → QueueEntry → A) (first : ℕ) (es : List QueueEntry) → length (numbered form first es) ≡ length es
 length-numbered form first [] = refl
 length-numbered form first (x ∷ es) = ap suc (length-numbered form (first + 1) es)
 
 -- the entry at a place, with its number
-pub numbered_at : {A : Type 0} (form : ℕ → Entry → A) (first k : ℕ) (es : List Entry) (x : A) → k < length es → x ≡ get_or (numbered form first es) k x
-    → (e : Entry) × (slice_get es k ≡ Some e) × (x ≡ form (first + k) e)
+pub numbered_at : {A : Type 0} (form : ℕ → QueueEntry → A) (first k : ℕ) (es : List QueueEntry) (x : A) → k < length es → x ≡ get_or (numbered form first es) k x
+    → (e : QueueEntry) × (slice_get es k ≡ Some e) × (x ≡ form (first + k) e)
 numbered_at form first k [] x within at = absurd (omega arith)
 numbered_at form first zero (e ∷ es) x within at = let is : first ≡ first + 0 = omega arith in (e, refl, at ∙ ap (λ j. form j e) is)
 numbered_at form first (suc k) (e ∷ es) x within at =
@@ -35,13 +35,13 @@ numbered_at form first (suc k) (e ∷ es) x within at =
     let is : first + 1 + k ≡ first + suc k = omega arith in
     (there.0, there.1, there.2 ∙ ap (λ j. form j there.0) is)
 
-pub nothing_at : (k : ℕ) (es : List Entry) → length es ≤ k → slice_get es k ≡ None
+pub nothing_at : (k : ℕ) (es : List QueueEntry) → length es ≤ k → slice_get es k ≡ None
 nothing_at k [] le = refl
 nothing_at zero (e ∷ es) le = absurd (omega arith)
 nothing_at (suc k) (e ∷ es) le = nothing_at k es (omega arith)
 
 -- those numbered from this number on
-pub numbered_from : {A : Type 0} (form : ℕ → Entry → A) (first seq before : ℕ) (values : List A) (es : List Entry) → values ≡ numbered form first es
+pub numbered_from : {A : Type 0} (form : ℕ → QueueEntry → A) (first seq before : ℕ) (values : List A) (es : List QueueEntry) → values ≡ numbered form first es
     → before ≡ min (seq - first) (length values) → drop before values ≡ numbered form (max first seq) (drop (seq - first) es)
 numbered_from form first seq before values es all is = go (le_or (seq - first) (length values))
   where
@@ -61,7 +61,7 @@ numbered_from form first seq before values es all is = go (le_or (seq - first) (
         drop_all before values (omega arith) ∙ sym (ap (numbered form (max first seq)) (drop_all (seq - first) es (omega arith)))
 
 -- one value more, of the next number
-pub are_numbered-push : {A : Type 0} (form : ℕ → Entry → A) (entry : A → Entry) (last first next : ℕ) (values new : List A) (x : A) (e : Entry)
+pub are_numbered-push : {A : Type 0} (form : ℕ → QueueEntry → A) (entry : A → QueueEntry) (last first next : ℕ) (values new : List A) (x : A) (e : QueueEntry)
     → next ≡ first + length values → queue_end (record { first = first; entries = map entry values }) < last → x ≡ form next e → e ≡ entry x → new ≡ values ++ x ∷ []
     → AreNumbered form last (record { first = first; entries = map entry values }) values
     → AreNumbered form last (record { first = first; entries = map entry new }) new
@@ -75,7 +75,7 @@ are_numbered-push form entry last first next values new x e at room is same more
     }
 
 -- without the first values
-pub are_numbered-drop : {A : Type 0} (form : ℕ → Entry → A) (entry : A → Entry) (last first next k : ℕ) (values new : List A) → k ≤ length values → next ≡ first + k → new ≡ drop k values
+pub are_numbered-drop : {A : Type 0} (form : ℕ → QueueEntry → A) (entry : A → QueueEntry) (last first next k : ℕ) (values new : List A) → k ≤ length values → next ≡ first + k → new ≡ drop k values
     → AreNumbered form last (record { first = first; entries = map entry values }) values
     → AreNumbered form last (record { first = next; entries = map entry new }) new
 are_numbered-drop form entry last first next k values new within at less all =
@@ -89,17 +89,17 @@ are_numbered-drop form entry last first next k values new within at less all =
     }
 
 -- the queue is the trimmed one
-pub is_trimmed : {A : Type 0} (entry : A → Entry) (bound first next k : ℕ) (values new : List A) → k ≡ min (bound - first) (length values) → next ≡ first + k → new ≡ drop k values
+pub is_trimmed : {A : Type 0} (entry : A → QueueEntry) (bound first next k : ℕ) (values new : List A) → k ≡ min (bound - first) (length values) → next ≡ first + k → new ≡ drop k values
     → record { first = next; entries = map entry new } ≡ trimmed_queue bound (record { first = first; entries = map entry values })
 is_trimmed entry bound first next k values new is at less =
     let long : length (map entry values) ≡ length values = length-map values entry in
     let by : k ≡ min (bound - first) (length (map entry values)) = omega arith in
     ap (λ (n : ℕ). record { first = n; entries = map entry new }) at
-    ∙ ap (λ (es : List Entry). record { first = first + k; entries = es }) (ap (map entry) less ∙ sym (drop-map entry k values))
+    ∙ ap (λ (es : List QueueEntry). record { first = first + k; entries = es }) (ap (map entry) less ∙ sym (drop-map entry k values))
     ∙ ap (λ (j : ℕ). record { first = first + j; entries = drop j (map entry values) }) by
 
 -- ---- what is kept, by its number
-pub has_entry_at : (qs : List QueueRecord) (place k number : ℕ) (e : Entry) → number ≡ (queue_at qs place).first + k → slice_get (queue_at qs place).entries k ≡ Some e → HasEntry qs place number e
+pub has_entry_at : (qs : List QueueRecord) (place k number : ℕ) (e : QueueEntry) → number ≡ (queue_at qs place).first + k → slice_get (queue_at qs place).entries k ≡ Some e → HasEntry qs place number e
 has_entry_at [] place k number e is at = absurd (nothing_there k at)
   where
     nothing_there : (k : ℕ) → slice_get empty_queue.entries k ≡ Some e → ⊥
@@ -117,14 +117,14 @@ some_at [] k x within at = absurd (omega arith)
 some_at (y ∷ xs) zero x within at = ap (λ z. Some z) (sym at)
 some_at (y ∷ xs) (suc k) x within at = some_at xs k x (omega arith) at
 
-get_dropped : (n k : ℕ) (es : List Entry) → slice_get (drop n es) k ≡ slice_get es (n + k)
+get_dropped : (n k : ℕ) (es : List QueueEntry) → slice_get (drop n es) k ≡ slice_get es (n + k)
 get_dropped zero k es = let is : k ≡ 0 + k = omega arith in ap (slice_get es) is
 get_dropped (suc n) k [] = refl
 get_dropped (suc n) k (e ∷ es) = let is : suc (n + k) ≡ suc n + k = omega arith in get_dropped n k es ∙ ap (slice_get (e ∷ es)) is
 
 -- each of the numbered values is the queue's entry of its number
-pub has_kept : {A : Type 0} (form : ℕ → Entry → A) (number : A → ℕ) (entry : A → Entry) (qs : List QueueRecord) (place i : ℕ) (values : List A) (x : A)
-    → ((k : ℕ) (e : Entry) → (number (form k e) ≡ k) × (entry (form k e) ≡ e))
+pub has_kept : {A : Type 0} (form : ℕ → QueueEntry → A) (number : A → ℕ) (entry : A → QueueEntry) (qs : List QueueRecord) (place i : ℕ) (values : List A) (x : A)
+    → ((k : ℕ) (e : QueueEntry) → (number (form k e) ≡ k) × (entry (form k e) ≡ e))
     → values ≡ numbered form (queue_at qs place).first (queue_at qs place).entries → slice_get values i ≡ Some x → HasEntry qs place (number x) (entry x)
 has_kept form number entry qs place i values x back all at =
     let q = queue_at qs place in
@@ -134,11 +134,11 @@ has_kept form number entry qs place i values x back all at =
     let there = numbered_at form q.first i q.entries x (omega arith) here.1 in
     let n : number x ≡ q.first + i = ap number there.2 ∙ (back (q.first + i) there.0).0 in
     let e : entry x ≡ there.0 = ap entry there.2 ∙ (back (q.first + i) there.0).1 in
-    has_entry_at qs place i (number x) (entry x) n (there.1 ∙ ap (λ (d : Entry). Some d) (sym e))
+    has_entry_at qs place i (number x) (entry x) n (there.1 ∙ ap (λ (d : QueueEntry). Some d) (sym e))
 
 -- and of those numbered from a number on is the queue's entry of its number
-pub has_numbered : {A : Type 0} (form : ℕ → Entry → A) (number : A → ℕ) (entry : A → Entry) (qs : List QueueRecord) (place seq i : ℕ) (values : List A) (x : A)
-    → ((k : ℕ) (e : Entry) → (number (form k e) ≡ k) × (entry (form k e) ≡ e))
+pub has_numbered : {A : Type 0} (form : ℕ → QueueEntry → A) (number : A → ℕ) (entry : A → QueueEntry) (qs : List QueueRecord) (place seq i : ℕ) (values : List A) (x : A)
+    → ((k : ℕ) (e : QueueEntry) → (number (form k e) ≡ k) × (entry (form k e) ≡ e))
     → values ≡ numbered form (max (queue_at qs place).first seq) (drop (seq - (queue_at qs place).first) (queue_at qs place).entries)
     → slice_get values i ≡ Some x → HasEntry qs place (number x) (entry x)
 has_numbered form number entry qs place seq i values x back all at =
@@ -150,15 +150,15 @@ has_numbered form number entry qs place seq i values x back all at =
     let there = numbered_at form (max q.first seq) i left x (omega arith) here.1 in
     let n : number x ≡ max q.first seq + i = ap number there.2 ∙ (back (max q.first seq + i) there.0).0 in
     let e : entry x ≡ there.0 = ap entry there.2 ∙ (back (max q.first seq + i) there.0).1 in
-    has_entry_at qs place (seq - q.first + i) (number x) (entry x) (omega arith) (sym (get_dropped (seq - q.first) i q.entries) ∙ there.1 ∙ ap (λ (d : Entry). Some d) (sym e))
+    has_entry_at qs place (seq - q.first + i) (number x) (entry x) (omega arith) (sym (get_dropped (seq - q.first) i q.entries) ∙ there.1 ∙ ap (λ (d : QueueEntry). Some d) (sym e))
 
 -- ---- values that are made of entries
 -- what is numbered are the entries
-pub numbered_entries : {A : Type 0} (form : ℕ → Entry → A) (entry : A → Entry) (first : ℕ) (es : List Entry) → ((k : ℕ) (e : Entry) → entry (form k e) ≡ e) → map entry (numbered form first es) ≡ es
+pub numbered_entries : {A : Type 0} (form : ℕ → QueueEntry → A) (entry : A → QueueEntry) (first : ℕ) (es : List QueueEntry) → ((k : ℕ) (e : QueueEntry) → entry (form k e) ≡ e) → map entry (numbered form first es) ≡ es
 numbered_entries form entry first [] back = refl
-numbered_entries form entry first (e ∷ es) back = ap (λ (d : Entry). d ∷ map entry (numbered form (first + 1) es)) (back first e) ∙ ap (λ ds. e ∷ ds) (numbered_entries form entry (first + 1) es back)
+numbered_entries form entry first (e ∷ es) back = ap (λ (d : QueueEntry). d ∷ map entry (numbered form (first + 1) es)) (back first e) ∙ ap (λ ds. e ∷ ds) (numbered_entries form entry (first + 1) es back)
 
-pub are_numbered : {A : Type 0} (form : ℕ → Entry → A) (entry : A → Entry) (last first : ℕ) (es : List Entry) (values : List A) → ((k : ℕ) (e : Entry) → entry (form k e) ≡ e)
+pub are_numbered : {A : Type 0} (form : ℕ → QueueEntry → A) (entry : A → QueueEntry) (last first : ℕ) (es : List QueueEntry) (values : List A) → ((k : ℕ) (e : QueueEntry) → entry (form k e) ≡ e)
     → values ≡ numbered form first es → first + length es ≤ last → AreNumbered form last (record { first = first; entries = map entry values }) values
 are_numbered form entry last first es values back all within =
     let same : map entry values ≡ es = ap (map entry) all ∙ numbered_entries form entry first es back in

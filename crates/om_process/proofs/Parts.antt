@@ -1,7 +1,7 @@
 -- A process that keeps only the last entries of its queues goes on as the whole one does.
 use Rattle.std.proofs.Common.{◌≡◌, ℕ, zero, suc, ◌+◌, List, [], ◌∷◌, ◌++◌, length, Some, refl, sym, ap, ◌∙◌, subst, arith, length-append}
 use Rattle.std.proofs.lemmas.List.{append_assoc}
-use Rattle.om_format.specs.declared.queue.Entry.{Entry}
+use Rattle.om_format.specs.declared.queue.QueueEntry.{QueueEntry}
 use Rattle.om_format.specs.Queues.{QueueRecord, queue_end}
 use Rattle.om_process.specs.Process.{Process, Received, Move, Waits, Ends, Traps, Goes, Emits, made, moved, delivered, emitted}
 use Rattle.om_process.specs.Turns.{next_move, next_turn, Turns, IsWaiting}
@@ -21,7 +21,7 @@ made_same [] (q ∷ qs) keep = absurd keep
 made_same (f ∷ fs) [] keep = absurd keep
 made_same (f ∷ fs) (q ∷ qs) keep = ap (λ e. e ∷ made qs) (same_end f q keep.0) ∙ ap (λ es. queue_end f ∷ es) (made_same fs qs keep.1)
 
-pub keep_emitted : (j : ℕ) (e : Entry) (fs qs : List QueueRecord) → KeepQueues fs qs → KeepQueues (emitted j e fs) (emitted j e qs)
+pub keep_emitted : (j : ℕ) (e : QueueEntry) (fs qs : List QueueRecord) → KeepQueues fs qs → KeepQueues (emitted j e fs) (emitted j e qs)
 keep_emitted j e [] [] p = tt
 keep_emitted j e [] (q ∷ qs) p = absurd p
 keep_emitted j e (f ∷ fs) [] p = absurd p
@@ -41,7 +41,7 @@ keeps_moved whole queues next (Goes m) p e =
     let w : Process = record { machine = m; interval = whole.interval; vec = whole.vec; got = whole.got; queues = whole.queues } in
     (w, refl, subst (Keeps w) (some_once _ next e) (record { same = refl; queues = p }))
 keeps_moved whole queues next (Emits j body m) p e =
-    let item : Entry = record { interval = whole.interval; body = body } in
+    let item : QueueEntry = record { interval = whole.interval; body = body } in
     let w : Process = record { machine = m; interval = whole.interval; vec = whole.vec; got = whole.got; queues = emitted j item whole.queues } in
     (w, refl, subst (Keeps w) (some_once _ next e) (record { same = refl; queues = keep_emitted j item whole.queues queues p }))
 

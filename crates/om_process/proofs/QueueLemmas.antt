@@ -3,14 +3,14 @@ use Rattle.std.proofs.Common.{◌≡◌, ℕ, zero, suc, ◌+◌, ◌-◌, ◌<�
 use Rattle.std.specs.Prelude.{min}
 use Rattle.std.proofs.lemmas.List.{length-drop}
 use Rattle.om_format.specs.declared.limits.TheConstants.{MAX_BODY}
-use Rattle.om_format.specs.declared.queue.Entry.{Entry}
+use Rattle.om_format.specs.declared.queue.QueueEntry.{QueueEntry}
 use Rattle.om_format.specs.Queues.{QueueRecord, queue_end, are_entries, all_entries}
 use Rattle.om_format.proofs.Entries.{are_entries-drop, are_entries-push}
 use Rattle.om_process.specs.Kept.{queue_at}
 use Rattle.om_process.specs.Process.{emitted, with_entry}
 use Rattle.om_process.specs.Trims.{trimmed_queue, trimmed_queues}
 
-pub emitted_at : (qs : List QueueRecord) (place : ℕ) (old new : QueueRecord) (e : Entry) → place < length qs → old ≡ get_or qs place old → new ≡ with_entry e old → set qs place new ≡ emitted place e qs
+pub emitted_at : (qs : List QueueRecord) (place : ℕ) (old new : QueueRecord) (e : QueueEntry) → place < length qs → old ≡ get_or qs place old → new ≡ with_entry e old → set qs place new ≡ emitted place e qs
 emitted_at [] place old new e within at is = absurd (omega arith)
 emitted_at (q ∷ qs) zero old new e within at is = ap (λ r. r ∷ qs) (is ∙ ap (with_entry e) at)
 emitted_at (q ∷ qs) (suc place) old new e within at is = ap (λ rs. q ∷ rs) (emitted_at qs place old new e (omega arith) at is)
@@ -31,21 +31,21 @@ pub ends-append : (qs : List QueueRecord) (q : QueueRecord) → map queue_end (q
 ends-append [] q = refl
 ends-append (p ∷ qs) q = ap (λ es. queue_end p ∷ es) (ends-append qs q)
 
-pub end_with : (e : Entry) (q : QueueRecord) → queue_end (with_entry e q) ≡ queue_end q + 1
+pub end_with : (e : QueueEntry) (q : QueueRecord) → queue_end (with_entry e q) ≡ queue_end q + 1
 end_with e q = simp (length-append) (omega arith)
 
 -- so many were made at that place, one more than before
-pub ends_emitted : (place : ℕ) (e : Entry) (qs : List QueueRecord) → map queue_end (emitted place e qs) ≡ set (map queue_end qs) place (get_or (map queue_end qs) place 0 + 1)
+pub ends_emitted : (place : ℕ) (e : QueueEntry) (qs : List QueueRecord) → map queue_end (emitted place e qs) ≡ set (map queue_end qs) place (get_or (map queue_end qs) place 0 + 1)
 ends_emitted place e [] = refl
 ends_emitted zero e (q ∷ qs) = ap (λ x. x ∷ map queue_end qs) (end_with e q)
 ends_emitted (suc place) e (q ∷ qs) = ap (λ es. queue_end q ∷ es) (ends_emitted place e qs)
 
-pub emitted-append : (place : ℕ) (e : Entry) (qs rs : List QueueRecord) → place < length qs → emitted place e (qs ++ rs) ≡ emitted place e qs ++ rs
+pub emitted-append : (place : ℕ) (e : QueueEntry) (qs rs : List QueueRecord) → place < length qs → emitted place e (qs ++ rs) ≡ emitted place e qs ++ rs
 emitted-append place e [] rs within = absurd (omega arith)
 emitted-append zero e (q ∷ qs) rs within = refl
 emitted-append (suc place) e (q ∷ qs) rs within = ap (λ more. q ∷ more) (emitted-append place e qs rs (omega arith))
 
-pub emitted-last : (e : Entry) (qs : List QueueRecord) (q : QueueRecord) → emitted (length qs) e (qs ++ q ∷ []) ≡ qs ++ with_entry e q ∷ []
+pub emitted-last : (e : QueueEntry) (qs : List QueueRecord) (q : QueueRecord) → emitted (length qs) e (qs ++ q ∷ []) ≡ qs ++ with_entry e q ∷ []
 emitted-last e [] q = refl
 emitted-last e (p ∷ qs) q = ap (λ more. p ∷ more) (emitted-last e qs q)
 
@@ -57,7 +57,7 @@ and : (a b : Bool) → a ≡ true → b ≡ true → (a && b) ≡ true
 and a b ea eb = rw (ea, eb) refl
 
 -- one more entry, of the newest interval
-pub all_entries_emitted : (newest place : ℕ) (e : Entry) (qs : List QueueRecord) → e.interval ≡ newest → length e.body ≤ MAX_BODY → all_entries newest qs ≡ true → all_entries newest (emitted place e qs) ≡ true
+pub all_entries_emitted : (newest place : ℕ) (e : QueueEntry) (qs : List QueueRecord) → e.interval ≡ newest → length e.body ≤ MAX_BODY → all_entries newest qs ≡ true → all_entries newest (emitted place e qs) ≡ true
 all_entries_emitted newest place e [] is short all = refl
 all_entries_emitted newest zero e (q ∷ qs) is short all =
     let h = both (are_entries newest 0 q.entries) (all_entries newest qs) all in

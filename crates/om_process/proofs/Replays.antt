@@ -3,7 +3,7 @@ use Rattle.std.proofs.Common.{◌≡◌, ℕ, zero, suc, ◌+◌, List, [], ◌�
 use Rattle.std.specs.Prelude.{min, ◌-◌, slice_index}
 use Rattle.std.proofs.lemmas.List.{append_assoc, append-nil, take-append-drop, length-take-le, length-append}
 use Rattle.std.proofs.Math.Seq.{append_snoc}
-use Rattle.om_format.specs.declared.queue.Entry.{Entry}
+use Rattle.om_format.specs.declared.queue.QueueEntry.{QueueEntry}
 use Rattle.om_format.specs.Queues.{QueueRecord}
 use Rattle.om_format.specs.Receipts.{ReceiptRecord}
 use Rattle.om_process.specs.Process.{Process, Received, Program, Move, Waits, Ends, Traps, Goes, Emits, made, moved, delivered, emitted, started}
@@ -34,7 +34,7 @@ part_moved whole queues next (Goes m) p e =
     let d : Process = record { machine = m; interval = whole.interval; vec = whole.vec; got = whole.got; queues = queues } in
     (d, refl, subst (λ (w : Process). Keeps w d) (some_once _ next e) (record { same = refl; queues = p }))
 part_moved whole queues next (Emits j body m) p e =
-    let item : Entry = record { interval = whole.interval; body = body } in
+    let item : QueueEntry = record { interval = whole.interval; body = body } in
     let d : Process = record { machine = m; interval = whole.interval; vec = whole.vec; got = whole.got; queues = emitted j item queues } in
     (d, refl, subst (λ (w : Process). Keeps w d) (some_once _ next e) (record { same = refl; queues = keep_emitted j item whole.queues queues p }))
 

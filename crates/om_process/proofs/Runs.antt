@@ -2,7 +2,7 @@
 use Rattle.std.proofs.Common.{◌≡◌, ℕ, zero, suc, ◌+◌, ◌≤◌, List, [], ◌∷◌, ◌++◌, length, Some, refl, sym, ap, ◌∙◌, subst, arith}
 use Rattle.std.specs.List.{AllByRecursion}
 use Rattle.std.proofs.lemmas.List.{append_assoc, append-nil}
-use Rattle.om_format.specs.declared.queue.Entry.{Entry}
+use Rattle.om_format.specs.declared.queue.QueueEntry.{QueueEntry}
 use Rattle.om_format.specs.Queues.{QueueRecord}
 use Rattle.om_format.specs.Receipts.{ReceiptRecord}
 use Rattle.om_process.specs.Process.{Process, Received, Move, Waits, Ends, Traps, Goes, Emits, made, moved, delivered, emitted}
@@ -78,16 +78,16 @@ grow_same : (x : ℕ) (qs : List QueueRecord) → Grow x qs qs
 grow_same x [] = tt
 grow_same x (q ∷ qs) = ((refl, ([], sym (append-nil q.entries), tt)), grow_same x qs)
 
-grow_emitted : (x j : ℕ) (item : Entry) (qs : List QueueRecord) → x ≤ item.interval → Grow x qs (emitted j item qs)
+grow_emitted : (x j : ℕ) (item : QueueEntry) (qs : List QueueRecord) → x ≤ item.interval → Grow x qs (emitted j item qs)
 grow_emitted x j item [] h = tt
 grow_emitted x zero item (q ∷ qs) h = ((refl, (item ∷ [], refl, (h, tt))), grow_same x qs)
 grow_emitted x (suc j) item (q ∷ qs) h = ((refl, ([], sym (append-nil q.entries), tt)), grow_emitted x j item qs h)
 
-all_append : (x : ℕ) (a b : List Entry) → AllByRecursion (λ i. x ≤ i.interval) a → AllByRecursion (λ i. x ≤ i.interval) b → AllByRecursion (λ i. x ≤ i.interval) (a ++ b)
+all_append : (x : ℕ) (a b : List QueueEntry) → AllByRecursion (λ i. x ≤ i.interval) a → AllByRecursion (λ i. x ≤ i.interval) b → AllByRecursion (λ i. x ≤ i.interval) (a ++ b)
 all_append x [] b h g = g
 all_append x (i ∷ a) b h g = (h.0, all_append x a b h.1 g)
 
-all_above : (x y : ℕ) (a : List Entry) → x ≤ y → AllByRecursion (λ i. y ≤ i.interval) a → AllByRecursion (λ i. x ≤ i.interval) a
+all_above : (x y : ℕ) (a : List QueueEntry) → x ≤ y → AllByRecursion (λ i. y ≤ i.interval) a → AllByRecursion (λ i. x ≤ i.interval) a
 all_above x y [] le h = tt
 all_above x y (i ∷ a) le h = (omega arith, all_above x y a le h.1)
 

@@ -14,7 +14,7 @@ use Rattle.om_process.specs.declared.replay.ReplayFault.{ReplayFault}
 use Rattle.om_process.specs.declared.replay.ReplayFault.TheVariants.{NoCheckpoint, Damaged, MissingReceipt, Mismatch, Fault, Memory}
 use Rattle.om_process.specs.Process.{Process}
 use Rattle.om_process.specs.Replays.{Replayed, process_of}
-use Rattle.om_process.specs.Core.{CoreState, size_of}
+use Rattle.om_process.specs.Core.{CoreState, cluster_size}
 use Rattle.om_process.specs.Stored.{Anyone, AreReceiptsAfter, BeginsWith, StandsAfter, ComesTo, IsReceiptAt, IsNoMatterOfContent, Refuses}
 use Rattle.om_process.specs.steps.Rows.{Ascend, AreGapless, ComesFrom, HasReceipts, IsFirstGap, IsReplayFrom, RefusesBytes, RefusesCheckpoint, RefusesFrom, RefusesRow, RefusesRows, RefusesStart, SpellRows, damage}
 use Rattle.om_process.proofs.Basics.{some_once}
@@ -197,11 +197,11 @@ row_from held x c rows fault is gapless long refuses =
 
 -- what all rows make
 pub rows_from_checkpoint : (held : Content) (x : ℕ) (c : CheckpointRecord) (rows : List Row) (rs : List ReceiptRecord) (first core : CoreState) → rows ≡ between held.receipts c.head.interval x → AreGapless c.head.interval rows → c.head.interval + length rows ≡ x
-    → SpellRows rows rs → length c.head.vec ≡ c.n → first.own ≡ c.head.pid → first.now ≡ process_of c → core.own ≡ first.own → size_of core.now ≡ size_of first.now → Replayed first.own (size_of first.now) first.now rs core.now → IsReplayFrom held x c core
+    → SpellRows rows rs → length c.head.vec ≡ c.n → first.own ≡ c.head.pid → first.now ≡ process_of c → core.own ≡ first.own → cluster_size core.now ≡ cluster_size first.now → Replayed first.own (cluster_size first.now) first.now rs core.now → IsReplayFrom held x c core
 rows_from_checkpoint held x c rows rs first core is gapless long spell places own now own_kept size_kept replayed =
     let all = between-AreAllBetween held.receipts c.head.interval x in
     let there : AreHeld held.receipts rows = λ i r at. all.are_held i r (ap (λ l. slice_get l i) (sym is) ∙ at) in
-    let size : size_of first.now ≡ c.n = ap size_of now ∙ places in
+    let size : cluster_size first.now ≡ c.n = ap cluster_size now ∙ places in
     let all_long : length rs ≡ length rows = rows_long rows rs spell in
     record {
       all = all_there held.receipts c.head.interval x rows there gapless long;
@@ -210,16 +210,16 @@ rows_from_checkpoint held x c rows rs first core is gapless long spell places ow
       receipts = rs;
       stored = stored_rows held.receipts c.head.interval rows rs there gapless spell;
       last = omega arith;
-      replayed = subst (λ (p : Process). Replayed c.head.pid c.n p rs core.now) now (subst (λ k. Replayed c.head.pid k first.now rs core.now) size (subst (λ o. Replayed o (size_of first.now) first.now rs core.now) own replayed));
+      replayed = subst (λ (p : Process). Replayed c.head.pid c.n p rs core.now) now (subst (λ k. Replayed c.head.pid k first.now rs core.now) size (subst (λ o. Replayed o (cluster_size first.now) first.now rs core.now) own replayed));
     }
 
 -- what they refuse, where they begin in the checkpoint's process
 pub rows_refused : (held : Content) (x : ℕ) (c : CheckpointRecord) (rows : List Row) (fault : ReplayFault) (first : CoreState) → rows ≡ between held.receipts c.head.interval x → AreGapless c.head.interval rows → c.head.interval + length rows ≡ x
-    → length c.head.vec ≡ c.n → first.own ≡ c.head.pid → first.now ≡ process_of c → RefusesRows first.own (size_of first.now) first.now rows fault → RefusesFrom held x c fault
+    → length c.head.vec ≡ c.n → first.own ≡ c.head.pid → first.now ≡ process_of c → RefusesRows first.own (cluster_size first.now) first.now rows fault → RefusesFrom held x c fault
 rows_refused held x c rows fault first is gapless long places own now why =
-    let size : size_of first.now ≡ c.n = ap size_of now ∙ places in
+    let size : cluster_size first.now ≡ c.n = ap cluster_size now ∙ places in
     row_from held x c rows fault is gapless long
-    (subst (λ (p : Process). RefusesRows c.head.pid c.n p rows fault) now (subst (λ k. RefusesRows c.head.pid k first.now rows fault) size (subst (λ o. RefusesRows o (size_of first.now) first.now rows fault) own why)))
+    (subst (λ (p : Process). RefusesRows c.head.pid c.n p rows fault) now (subst (λ k. RefusesRows c.head.pid k first.now rows fault) size (subst (λ o. RefusesRows o (cluster_size first.now) first.now rows fault) own why)))
 
 -- ---- bytes that are not decoded
 no_checkpoint : (y : ℕ) (bytes : List ℕ) (e : DecodeError) → ((version : Version) (r : CheckpointRecord) → SpellsCheckpoint version r bytes → Fails e (Ok r)) → RefusesCheckpoint y bytes (damage y e)
@@ -297,7 +297,7 @@ refused_from Meant held x c (Mismatch y) begins why = (c.head.pid, c.n, why.1.0,
 refused_from Meant held x c Fault begins why = tt
 refused_from Meant held x c Memory begins why = tt
 
-pub replayed_from : (Meant : ℕ → ℕ → Type 0) (held : Content) (x : ℕ) (c : CheckpointRecord) (core : CoreState) → BeginsWith Meant held x c → IsReplayFrom held x c core → StandsAfter Meant held x x core.own (size_of core.now) core.now
+pub replayed_from : (Meant : ℕ → ℕ → Type 0) (held : Content) (x : ℕ) (c : CheckpointRecord) (core : CoreState) → BeginsWith Meant held x c → IsReplayFrom held x c core → StandsAfter Meant held x x core.own (cluster_size core.now) core.now
 replayed_from Meant held x c core begins is = record {
   checkpoint = c;
   all = record { begins = begins; receipts = is.all };
@@ -306,7 +306,7 @@ replayed_from Meant held x c core begins is = record {
   receipts = is.receipts;
   stored = is.stored;
   last = is.last;
-  replayed = subst (λ o. Replayed o (size_of core.now) (process_of c) is.receipts core.now) (sym is.own) (subst (λ n. Replayed c.head.pid n (process_of c) is.receipts core.now) (sym is.size) is.replayed);
+  replayed = subst (λ o. Replayed o (cluster_size core.now) (process_of c) is.receipts core.now) (sym is.own) (subst (λ n. Replayed c.head.pid n (process_of c) is.receipts core.now) (sym is.size) is.replayed);
 }
 
 pub refused_for_no_matter : (Meant : ℕ → ℕ → Type 0) (held : Content) (x : ℕ) (fault : ReplayFault) → IsNoMatterOfContent fault → Refuses Meant held x fault

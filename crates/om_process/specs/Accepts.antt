@@ -8,11 +8,11 @@ use Rattle.om_process.specs.declared.accept.Accept.{Accept}
 use Rattle.om_process.specs.declared.accept.Accept.TheVariants.{Taken, Stranger, Orphan, Repeat, Ahead, NotWaiting, Full, Memory}
 use Rattle.om_process.specs.Process.{Received, delivered}
 use Rattle.om_process.specs.Turns.{IsWaiting}
-use Rattle.om_process.specs.Core.{CoreState, size_of}
+use Rattle.om_process.specs.Core.{CoreState, cluster_size}
 
 -- what is delivered of a message
-abbrev pub received : Message → Received
-received m = record { from = m.from; interval = m.tag.interval; body = m.body }
+abbrev pub as_received : Message → Received
+as_received m = record { from = m.from; interval = m.tag.interval; body = m.body }
 
 -- the receipt of a message
 abbrev pub receipt_for : CoreState → Message → ReceiptRecord
@@ -29,13 +29,13 @@ receipt_for c m = record {
 -- the core after it took a message
 abbrev pub taken : CoreState → Message → CoreState
 taken c m =
-    let next = delivered c.own c.now (received m) in
+    let next = delivered c.own c.now (as_received m) in
     record c { now = next; log = c.log ++ record { receipt = receipt_for c m; vec = next.vec; got = next.got } ∷ [] }
 
 -- it is for this process, from one that it knows in that incarnation
 pub record IsNoStranger (c : CoreState) (m : Message) : Type 0 where
   pub to : m.to ≡ c.own
-  pub from : m.from < size_of c.now
+  pub from : m.from < cluster_size c.now
   pub inc : m.tag.inc ≤ newest_of c.starts m.from
 
 -- it is no stranger and no orphan
@@ -51,7 +51,7 @@ pub record IsNext (c : CoreState) (m : Message) : Type 0 where
 -- and the process waits
 pub record IsDue (c : CoreState) (m : Message) : Type 0 where
   pub next : IsNext c m
-  pub waits : IsWaiting c.own (size_of c.now) c.now
+  pub waits : IsWaiting c.own (cluster_size c.now) c.now
 
 -- the answer, by the first thing that speaks against the message
 abbrev pub Answers : CoreState → Message → Accept → Type 0
@@ -59,7 +59,7 @@ Answers c m Stranger = IsNoStranger c m → ⊥
 Answers c m Orphan = IsNoStranger c m × IsOrphan c.starts m.from m.tag.inc m.tag.interval
 Answers c m Repeat = IsNoOrphan c m × (m.ssn < slice_index c.now.got m.from)
 Answers c m Ahead = IsNoOrphan c m × (slice_index c.now.got m.from < m.ssn)
-Answers c m NotWaiting = IsNext c m × (IsWaiting c.own (size_of c.now) c.now → ⊥)
+Answers c m NotWaiting = IsNext c m × (IsWaiting c.own (cluster_size c.now) c.now → ⊥)
 Answers c m Full = IsDue c m × (c.now.interval ≡ LAST_INTERVAL)
 Answers c m (Taken x) = IsDue c m × (c.now.interval < LAST_INTERVAL) × (x ≡ c.now.interval + 1)
 Answers c m Memory = IsDue c m × (c.now.interval < LAST_INTERVAL)

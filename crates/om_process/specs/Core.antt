@@ -7,7 +7,7 @@ use Rattle.om_format.specs.declared.version.Version.TheVariants.{V2}
 use Rattle.om_format.specs.Queues.{QueueRecord, queue_end, are_entries, all_entries}
 use Rattle.om_process.specs.declared.status.Status.{Status}
 use Rattle.om_process.specs.declared.status.Status.TheVariants.{Ready, Waiting, Ended, Trapped}
-use Rattle.om_process.specs.declared.row.Row.{Row}
+use Rattle.om_process.specs.declared.row.PendingRow.{PendingRow}
 use Rattle.om_process.specs.Process.{Process, Move, Waits, Ends, Traps, Goes, Emits, made}
 use Rattle.om_process.specs.Turns.{Turns, next_move, next_turn}
 
@@ -28,14 +28,14 @@ pub record CoreState : Type 0 where
   pub own : ℕ
   pub now : Process
   pub log : List LoggedRecord
-  pub pending : List Row
+  pub pending : List PendingRow
   pub inc : ℕ
   pub round : ℕ
   pub starts : List (List ℕ)
 
 -- the number of processes
-abbrev pub size_of : Process → ℕ
-size_of p = length p.vec
+abbrev pub cluster_size : Process → ℕ
+cluster_size p = length p.vec
 
 -- what a process is about to do, as it is told
 abbrev pub status_of : Move → Status
@@ -47,22 +47,22 @@ status_of (Emits place body next) = Ready
 
 -- what comes next in a core
 abbrev pub move_of : CoreState → Move
-move_of c = next_move c.own (size_of c.now) c.now.machine (made c.now.queues)
+move_of c = next_move c.own (cluster_size c.now) c.now.machine (made c.now.queues)
 
 -- the process of a core after one turn, where there is one
 abbrev pub core_turn : CoreState → Option Process
-core_turn c = next_turn c.own (size_of c.now) c.now
+core_turn c = next_turn c.own (cluster_size c.now) c.now
 
 -- so many turns lead from the process of the first core to that of the second
 abbrev pub CoreTurns : ℕ → CoreState → CoreState → Type 0
-CoreTurns k c d = Turns c.own (size_of c.now) k c.now d.now
+CoreTurns k c d = Turns c.own (cluster_size c.now) k c.now d.now
 
 -- only the process changed
 abbrev pub with_now : CoreState → Process → CoreState
 with_now c p = record c { now = p }
 
 -- only the pending rows changed
-abbrev pub with_pending : CoreState → List Row → CoreState
+abbrev pub with_pending : CoreState → List PendingRow → CoreState
 with_pending c rows = record c { pending = rows }
 
 -- the parts of a core

@@ -1,25 +1,25 @@
 -- Messages of a process on their way.
 use Rattle.std.specs.Prelude.{◌≡◌, ℕ, ◌+◌, Option, Some, None, slice_get}
 use Rattle.om_format.specs.declared.message.Message.{Message}
-use Rattle.om_format.specs.declared.queue.Entry.{Entry}
+use Rattle.om_format.specs.declared.queue.QueueEntry.{QueueEntry}
 use Rattle.om_format.specs.Queues.{QueueRecord}
 use Rattle.om_process.specs.Claims.{HasEntry}
 use Rattle.om_process.specs.Kept.{queue_at}
-use Rattle.om_process.specs.Core.{CoreState, size_of}
+use Rattle.om_process.specs.Core.{CoreState, cluster_size}
 
 -- the messages to a process that are kept, and the outputs
 abbrev pub messages_to : CoreState → ℕ → QueueRecord
 messages_to c to = queue_at c.now.queues to
 
 abbrev pub outputs_of : CoreState → QueueRecord
-outputs_of c = queue_at c.now.queues (size_of c.now)
+outputs_of c = queue_at c.now.queues (cluster_size c.now)
 
 -- an entry as a message on its way, with the process's present incarnation and the interval in which it was sent
-abbrev pub message_of : CoreState → ℕ → ℕ → Entry → Message
+abbrev pub message_of : CoreState → ℕ → ℕ → QueueEntry → Message
 message_of c to ssn e = record { from = c.own; to = to; tag = record { inc = c.inc; interval = e.interval }; ssn = ssn; body = e.body }
 
 -- so is an entry, if there is one
-abbrev pub frame_of : CoreState → ℕ → ℕ → Option Entry → Option Message
+abbrev pub frame_of : CoreState → ℕ → ℕ → Option QueueEntry → Option Message
 frame_of c to ssn None = None
 frame_of c to ssn (Some e) = Some (message_of c to ssn e)
 

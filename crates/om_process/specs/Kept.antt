@@ -1,6 +1,6 @@
 -- What a process keeps of what it made, with its numbers.
 use Rattle.std.specs.Prelude.{◌≡◌, ℕ, ◌+◌, ◌≤◌, List, [], ◌∷◌, slice_index_or}
-use Rattle.om_format.specs.declared.queue.Entry.{Entry}
+use Rattle.om_format.specs.declared.queue.QueueEntry.{QueueEntry}
 use Rattle.om_format.specs.Queues.{QueueRecord, queue_end}
 use Rattle.om_process.specs.declared.queues.Made.{Made}
 use Rattle.om_process.specs.declared.queues.Sent.{Sent}
@@ -11,25 +11,25 @@ abbrev pub queue_at : List QueueRecord → ℕ → QueueRecord
 queue_at queues place = slice_index_or queues place empty_queue
 
 -- entries with their numbers, from this one on, each as a value of this form
-abbrev pub numbered : {A : Type 0} → (ℕ → Entry → A) → ℕ → List Entry → List A
+abbrev pub numbered : {A : Type 0} → (ℕ → QueueEntry → A) → ℕ → List QueueEntry → List A
 numbered form first [] = []
 numbered form first (e ∷ es) = form first e ∷ numbered form (first + 1) es
 
 -- an entry as a message of this number, and as an output
-abbrev pub sent_as : ℕ → Entry → Sent
+abbrev pub sent_as : ℕ → QueueEntry → Sent
 sent_as ssn e = record { ssn = ssn; interval = e.interval; body = e.body }
 
-abbrev pub made_as : ℕ → Entry → Made
+abbrev pub made_as : ℕ → QueueEntry → Made
 made_as seq e = record { seq = seq; interval = e.interval; bytes = e.body }
 
 -- and without its number
-abbrev pub sent_entry : Sent → Entry
+abbrev pub sent_entry : Sent → QueueEntry
 sent_entry s = record { interval = s.interval; body = s.body }
 
-abbrev pub made_entry : Made → Entry
+abbrev pub made_entry : Made → QueueEntry
 made_entry m = record { interval = m.interval; body = m.bytes }
 
 -- the values are the queue's entries with their numbers, which pass no limit
-pub record AreNumbered {A : Type 0} (form : ℕ → Entry → A) (last : ℕ) (q : QueueRecord) (values : List A) : Type 0 where
+pub record AreNumbered {A : Type 0} (form : ℕ → QueueEntry → A) (last : ℕ) (q : QueueRecord) (values : List A) : Type 0 where
   pub numbers : values ≡ numbered form q.first q.entries
   pub within : queue_end q ≤ last

@@ -4,7 +4,7 @@ use Rattle.om_isa.specs.declared.ext.Ext.{Ext}
 use Rattle.om_machine.specs.State.{State, loaded}
 use Rattle.om_machine.specs.Finishing.{finished_receive}
 use Rattle.om_machine.specs.declared.event.Cause.{Cause}
-use Rattle.om_format.specs.declared.queue.Entry.{Entry}
+use Rattle.om_format.specs.declared.queue.QueueEntry.{QueueEntry}
 use Rattle.om_format.specs.Queues.{QueueRecord, queue_end}
 
 -- a process: its machine, its interval, the intervals that it depends on, how many messages it got by sender, and what it
@@ -45,11 +45,11 @@ abbrev pub made : List QueueRecord → List ℕ
 made queues = map queue_end queues
 
 -- a queue with one more entry
-abbrev pub with_entry : Entry → QueueRecord → QueueRecord
+abbrev pub with_entry : QueueEntry → QueueRecord → QueueRecord
 with_entry e q = record { first = q.first; entries = q.entries ++ e ∷ [] }
 
 -- queues of which the one at this place has one more entry
-abbrev pub emitted : ℕ → Entry → List QueueRecord → List QueueRecord
+abbrev pub emitted : ℕ → QueueEntry → List QueueRecord → List QueueRecord
 emitted place e [] = []
 emitted zero e (q ∷ qs) = with_entry e q ∷ qs
 emitted (suc place) e (q ∷ qs) = q ∷ emitted place e qs

@@ -9,7 +9,7 @@ use Rattle.om_process.specs.declared.replay.ReplayFault.TheVariants.{NoCheckpoin
 use Rattle.om_process.specs.Process.{Process}
 use Rattle.om_process.specs.Turns.{Turns, IsWaiting}
 use Rattle.om_process.specs.Replays.{Replayed, process_of}
-use Rattle.om_process.specs.Core.{CoreState, size_of}
+use Rattle.om_process.specs.Core.{CoreState, cluster_size}
 
 -- the record is stored at an interval, and names it
 pub record IsReceiptAt (held : Records) (y : ℕ) (r : ReceiptRecord) : Type 0 where
@@ -65,7 +65,7 @@ CanReplay Meant held x = (own : ℕ) × (n : ℕ) × (t : Process) × StandsAfte
 
 -- the core is what is replayed to x
 abbrev pub IsReplay : Content → ℕ → CoreState → Type 0
-IsReplay held x core = StandsAfter Anyone held x x core.own (size_of core.now) core.now
+IsReplay held x core = StandsAfter Anyone held x x core.own (cluster_size core.now) core.now
 
 -- the effective checkpoint of x is that of y, and it does not decode, names another interval, or is of a process that is not
 -- meant

@@ -5,10 +5,10 @@ use Rattle.om_format.specs.Receipts.{SpellsReceipt}
 use Rattle.om_format.specs.Checkpoints.{CheckpointRecord, SpellsCheckpoint}
 use Rattle.om_format.specs.declared.version.Version.TheVariants.{V2}
 use Rattle.om_stable.specs.Content.{Content, with_receipts, with_checkpoint}
-use Rattle.om_process.specs.declared.row.Row.{Row}
+use Rattle.om_process.specs.declared.row.PendingRow.{PendingRow}
 use Rattle.om_process.specs.Process.{Process}
 use Rattle.om_process.specs.Replays.{process_of}
-use Rattle.om_process.specs.Core.{CoreState, LoggedRecord, size_of}
+use Rattle.om_process.specs.Core.{CoreState, LoggedRecord, cluster_size}
 
 -- the bytes spell the receipts of a log, one by one
 abbrev pub SpellLog : List LoggedRecord → List (List ℕ) → Type 0
@@ -31,7 +31,7 @@ abbrev pub IsLogged : Content → LoggedRecord → Type 0
 IsLogged held l = (bytes : List ℕ) × SpellsReceipt l.receipt bytes × (get held.receipts l.receipt.interval ≡ Some bytes)
 
 -- the row of a receipt of the log
-abbrev pub log_row : LoggedRecord → Row
+abbrev pub log_row : LoggedRecord → PendingRow
 log_row l = record { ckpt = false; x = l.receipt.interval; vec = l.vec; got = l.got }
 
 -- the core once its log is stored: the log is empty, and its rows are pending
@@ -40,7 +40,7 @@ flushed c = record c { log = []; pending = c.pending ++ map log_row c.log }
 
 -- the record is a checkpoint of this process
 pub record IsOf (own : ℕ) (p : Process) (r : CheckpointRecord) : Type 0 where
-  pub n : r.n ≡ size_of p
+  pub n : r.n ≡ cluster_size p
   pub pid : r.head.pid ≡ own
   pub process : process_of r ≡ p
 
@@ -51,7 +51,7 @@ HasGainedCheckpoint c old new =
     × (bytes : List ℕ) × SpellsCheckpoint V2 r bytes × (new ≡ with_checkpoint old c.now.interval bytes)
 
 -- the row of a checkpoint of now
-abbrev pub checkpoint_row : CoreState → Row
+abbrev pub checkpoint_row : CoreState → PendingRow
 checkpoint_row c = record { ckpt = true; x = c.now.interval; vec = c.now.vec; got = c.now.got }
 
 -- the core once a checkpoint of now is stored: its row is pending

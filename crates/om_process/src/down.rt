@@ -1,10 +1,10 @@
 //! Processes that are down, and how processes go on after a round of recovery.
 
 ghost use Rattle.std.specs.Prelude.{◌≡◌, ◌≤◌, [], IfErr, IfOk, IsTrue, OnErr, OnOk, length};
-ghost use Rattle.om_stable.specs.Calls.{IsKnown};
+ghost use Rattle.om_stable.specs.Calls.{IsCleanCall};
 ghost use Rattle.om_stable.specs.Content.{kept_by_cut};
 ghost use Rattle.om_stable.specs.Count.{Rose};
-ghost use Rattle.om_process.specs.Core.{size_of};
+ghost use Rattle.om_process.specs.Core.{cluster_size};
 ghost use Rattle.om_process.specs.Resumes.{resumed};
 ghost use Rattle.om_process.specs.Stored.{CanReplay, IsNoMatterOfContent, IsReplay, Refuses, TheProcess};
 ghost use Rattle.om_process.specs.declared.replay.ReplayFault.{ReplayFault};
@@ -27,7 +27,7 @@ impl ProcCore {
     /// The process fails: all that is volatile is lost.
     pub fn fail(self) -> Down
         ensures pid { result.pid ≡ self.own }
-        ensures n { result.n ≡ size_of self.now }
+        ensures n { result.n ≡ cluster_size self.now }
     {
         Down {
             pid: self.pid,
@@ -42,7 +42,7 @@ impl ProcCore {
         starts: &Starts,
         verdict: &Verdict,
     ) -> Result<(), AllocError>
-        requires { length starts.now ≡ size_of self.old.now }
+        requires { length starts.now ≡ cluster_size self.old.now }
         ensures ok { OnOk result (self.new ≡ resumed self.old verdict.now.round starts.now) }
         ensures err { OnErr result (self.new ≡ self.old) }
     {
@@ -66,24 +66,24 @@ impl Down {
         verdict: &Verdict,
     ) -> Result<ProcCore, (Down, ReplayFault)>
         requires { length starts.now ≡ self.n }
-        ensures back { IsKnown S.is_clean S.IsSound store.old store.new
+        ensures back { IsCleanCall S.is_clean S.IsSound store.old store.new
             → IfOk result (λ core. IsReplay (S.content store.old) verdict.now.r core) }
-        ensures cut { IsKnown S.is_clean S.IsSound store.old store.new
+        ensures cut { IsCleanCall S.is_clean S.IsSound store.old store.new
             → OnOk result (S.content store.new ≡ kept_by_cut (S.content store.old) verdict.now.r) }
         ensures own { IfOk result (λ core. core.own ≡ self.pid) }
-        ensures size { IfOk result (λ core. size_of core.now ≡ self.n) }
+        ensures size { IfOk result (λ core. cluster_size core.now ≡ self.n) }
         ensures log { IfOk result (λ core. core.log ≡ []) }
         ensures pending { IfOk result (λ core. core.pending ≡ []) }
         ensures inc { IfOk result (λ core. core.inc ≡ verdict.now.inc) }
         ensures round { IfOk result (λ core. core.round ≡ verdict.now.round) }
         ensures starts { IfOk result (λ core. core.starts ≡ starts.now) }
         ensures down { IfErr result (λ refusal. refusal.0 ≡ self) }
-        ensures refused { IsKnown S.is_clean S.IsSound store.old store.new
+        ensures refused { IsCleanCall S.is_clean S.IsSound store.old store.new
             → IfErr result (λ refusal. Refuses (TheProcess self.pid self.n) (S.content store.old) verdict.now.r refusal.1) }
-        ensures only { IsKnown S.is_clean S.IsSound store.old store.new
+        ensures only { IsCleanCall S.is_clean S.IsSound store.old store.new
             → CanReplay (TheProcess self.pid self.n) (S.content store.old) verdict.now.r
             → IfErr result (λ refusal. IsNoMatterOfContent refusal.1) }
-        ensures same { IsKnown S.is_clean S.IsSound store.old store.new
+        ensures same { IsCleanCall S.is_clean S.IsSound store.old store.new
             → OnErr result (S.content store.new ≡ S.content store.old) }
         ensures fault { IfErr result (λ refusal. refusal.1 ≡ ReplayFault.Fault → Rose (S.failed store.old) (S.failed store.new)) }
         ensures count { S.failed store.old ≤ S.failed store.new }
@@ -105,20 +105,20 @@ impl Down {
         verdict: &Verdict,
     ) -> Result<ProcCore, ReplayFault>
         requires { length starts.now ≡ self.now.n }
-        ensures back { IsKnown S.is_clean S.IsSound store.old store.new
+        ensures back { IsCleanCall S.is_clean S.IsSound store.old store.new
             → IfOk result (λ core. IsReplay (S.content store.old) verdict.now.r core) }
-        ensures cut { IsKnown S.is_clean S.IsSound store.old store.new
+        ensures cut { IsCleanCall S.is_clean S.IsSound store.old store.new
             → OnOk result (S.content store.new ≡ kept_by_cut (S.content store.old) verdict.now.r) }
         ensures own { IfOk result (λ core. core.own ≡ self.now.pid) }
-        ensures size { IfOk result (λ core. size_of core.now ≡ self.now.n) }
+        ensures size { IfOk result (λ core. cluster_size core.now ≡ self.now.n) }
         ensures log { IfOk result (λ core. core.log ≡ []) }
         ensures pending { IfOk result (λ core. core.pending ≡ []) }
         ensures inc { IfOk result (λ core. core.inc ≡ verdict.now.inc) }
         ensures round { IfOk result (λ core. core.round ≡ verdict.now.round) }
         ensures starts { IfOk result (λ core. core.starts ≡ starts.now) }
-        ensures refused { IsKnown S.is_clean S.IsSound store.old store.new
+        ensures refused { IsCleanCall S.is_clean S.IsSound store.old store.new
             → IfErr result (λ fault. Refuses (TheProcess self.now.pid self.now.n) (S.content store.old) verdict.now.r fault) }
-        ensures same { IsKnown S.is_clean S.IsSound store.old store.new
+        ensures same { IsCleanCall S.is_clean S.IsSound store.old store.new
             → OnErr result (S.content store.new ≡ S.content store.old) }
         ensures fault { IfErr result (λ fault. fault ≡ ReplayFault.Fault → Rose (S.failed store.old) (S.failed store.new)) }
         ensures count { S.failed store.old ≤ S.failed store.new }
@@ -141,15 +141,15 @@ impl Down {
         store: &mut S,
         x: u32,
     ) -> Result<ProcCore, ReplayFault>
-        ensures back { IsKnown S.is_clean S.IsSound store.old store.new
+        ensures back { IsCleanCall S.is_clean S.IsSound store.old store.new
             → IfOk result (λ core. IsReplay (S.content store.old) x core) }
         ensures own { IfOk result (λ core. core.own ≡ self.now.pid) }
-        ensures size { IfOk result (λ core. size_of core.now ≡ self.now.n) }
+        ensures size { IfOk result (λ core. cluster_size core.now ≡ self.now.n) }
         ensures log { IfOk result (λ core. core.log ≡ []) }
         ensures pending { IfOk result (λ core. core.pending ≡ []) }
-        ensures refused { IsKnown S.is_clean S.IsSound store.old store.new
+        ensures refused { IsCleanCall S.is_clean S.IsSound store.old store.new
             → IfErr result (λ fault. Refuses (TheProcess self.now.pid self.now.n) (S.content store.old) x fault) }
-        ensures same { IsKnown S.is_clean S.IsSound store.old store.new → S.content store.new ≡ S.content store.old }
+        ensures same { IsCleanCall S.is_clean S.IsSound store.old store.new → S.content store.new ≡ S.content store.old }
         ensures fault { IfErr result (λ fault. fault ≡ ReplayFault.Fault → Rose (S.failed store.old) (S.failed store.new)) }
         ensures count { S.failed store.old ≤ S.failed store.new }
         ensures clean { IsTrue (S.is_clean store.new) → IsTrue (S.is_clean store.old) }

@@ -1,7 +1,7 @@
 //! What holds of every process, as theorems over the definitions alone: each function stands for one.
 
 ghost use Rattle.std.specs.Prelude.{◌≡◌, ◌↔◌, ◌++◌, ◌+◌, ◌<◌, ◌≤◌, ◌∷◌, [], List, ℕ, Some, length, slice_index, take};
-ghost use Rattle.om_format.specs.declared.queue.Entry.{Entry};
+ghost use Rattle.om_format.specs.declared.queue.QueueEntry.{QueueEntry};
 ghost use Rattle.om_format.specs.Receipts.{ReceiptRecord};
 ghost use Rattle.om_process.specs.Claims.{AtInterval, CheckpointOf, HasEntry, Makes, RecordsAlong, RowOf};
 ghost use Rattle.om_process.specs.Parts.{Grow, Keeps};
@@ -89,19 +89,19 @@ pub fn said_before()
 
 /// No entry is of a later interval than the receipts.
 pub fn below_along()
-    ensures { (program : Program) (own n place number : ℕ) (h : List Received) (t : Process) (e : Entry)
+    ensures { (program : Program) (own n place number : ℕ) (h : List Received) (t : Process) (e : QueueEntry)
         → Reaches program own n h t → HasEntry t.queues place number e → e.interval ≤ length h }
 {}
 
 /// What is made along some receipts is made along those up to its interval.
 pub fn made_at()
-    ensures { (program : Program) (own n place number : ℕ) (h : List Received) (e : Entry)
+    ensures { (program : Program) (own n place number : ℕ) (h : List Received) (e : QueueEntry)
         → Makes program own n place number e h → AtInterval h e.interval (Makes program own n place number e) }
 {}
 
 /// Under one number one entry is made.
 pub fn same_entry()
-    ensures { (program : Program) (own n place number x y : ℕ) (h : List Received) (a b : Entry)
+    ensures { (program : Program) (own n place number x y : ℕ) (h : List Received) (a b : QueueEntry)
         → x ≤ length h → y ≤ length h → b.interval ≤ x → a.interval ≤ y
         → Makes program own n place number a (take x h) → Makes program own n place number b (take y h) → a ≡ b }
 {}

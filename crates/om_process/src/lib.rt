@@ -22,7 +22,7 @@ pub use limits::{LAST_INTERVAL, LAST_NUMBER, LAST_OUTPUT, REFUSED};
 pub use proc_core::ProcCore;
 pub use queues::{Made, Sent};
 pub use replay::ReplayFault;
-pub use row::Row;
+pub use row::PendingRow;
 pub use start::StartFault;
 pub use status::Status;
 pub use turns::Ran;

@@ -1,7 +1,7 @@
 //! What a process sent and made, as far as it is kept.
 
 ghost use Rattle.std.specs.Prelude.{◌≡◌, ◌-◌, ◌<◌, ℕ, Some, drop, max, slice_get, IfOk, IfSome};
-ghost use Rattle.om_process.specs.Core.{size_of};
+ghost use Rattle.om_process.specs.Core.{cluster_size};
 ghost use Rattle.om_process.specs.Frames.{IsFrameOf, frame_at, messages_to, outputs_of};
 ghost use Rattle.om_process.specs.Claims.{HasEntry};
 ghost use Rattle.om_process.specs.Kept.{made_as, made_entry, numbered, sent_as, sent_entry};
@@ -15,7 +15,7 @@ use std::alloc::{AllocError, Global};
 impl ProcCore {
     /// The messages to a process that are kept, with their numbers.
     pub fn outbox(&self, to: Pid) -> &[Sent]
-        requires { to < size_of self.now.now }
+        requires { to < cluster_size self.now.now }
         ensures kept { result.now ≡ numbered sent_as (messages_to self.now to).first (messages_to self.now to).entries }
         ensures sent { (i : ℕ) (s : Sent) → slice_get result.now i ≡ Some s
             → HasEntry self.now.now.queues to s.ssn (sent_entry s) }
@@ -28,7 +28,7 @@ impl ProcCore {
         ensures kept { result.now ≡ numbered made_as (max (outputs_of self.now).first seq)
             (drop (seq - (outputs_of self.now).first) (outputs_of self.now).entries) }
         ensures made { (i : ℕ) (m : Made) → slice_get result.now i ≡ Some m
-            → HasEntry self.now.now.queues (size_of self.now.now) m.seq (made_entry m) }
+            → HasEntry self.now.now.queues (cluster_size self.now.now) m.seq (made_entry m) }
     {
         self.outputs.above(seq)
     }
@@ -36,7 +36,7 @@ impl ProcCore {
     /// The `k`-th of the messages to a process that are kept, tagged with the process's present incarnation and the interval
     /// in which it was sent; `None` where there are no more than `k`.
     pub fn frame(&self, alloc: Global, to: Pid, k: usize) -> Result<Option<Message>, AllocError>
-        requires { to < size_of self.now.now }
+        requires { to < cluster_size self.now.now }
         ensures frame { IfOk result (λ frame. frame ≡ frame_at self.now to k) }
         ensures sent { IfOk result (λ frame. IfSome frame (λ m. IsFrameOf self.now m)) }
     {

@@ -1,5 +1,5 @@
 ghost use Rattle.std.specs.Prelude.{◌≡◌, slice_index, sum};
-ghost use Rattle.om_process.specs.Core.{AreLast, move_of, size_of, status_of};
+ghost use Rattle.om_process.specs.Core.{AreLast, cluster_size, move_of, status_of};
 ghost use Rattle.om_process.specs.Starting.{IsPlace};
 ghost use Rattle.om_process.specs.Frames.{outputs_of};
 ghost use Rattle.om_format.specs.Queues.{queue_end};
@@ -7,7 +7,7 @@ ghost use Rattle.om_format.specs.Queues.{queue_end};
 use crate::log::Logged;
 use crate::plan::plan_at;
 use crate::queues::{Messages, Outputs};
-use crate::row::Row;
+use crate::row::PendingRow;
 use crate::status::Status;
 use om_interval::{DepVec, Pid, Starts};
 use om_machine::Machine;
@@ -26,7 +26,7 @@ pub struct ProcCore {
     pub(crate) outbox: Vec<Messages>,
     pub(crate) outputs: Outputs,
     pub(crate) log: Vec<Logged>,
-    pub(crate) pending: Vec<Row>,
+    pub(crate) pending: Vec<PendingRow>,
     pub(crate) inc: u32,
     pub(crate) round: u32,
     pub(crate) starts: Starts,
@@ -90,7 +90,7 @@ impl ProcCore {
     pub fn vec(&self) -> &DepVec
         ensures vec { result.now ≡ self.now.now.vec }
         ensures own { slice_index result.now self.now.own ≡ self.now.now.interval }
-        ensures place { IsPlace self.now.own (size_of self.now.now) }
+        ensures place { IsPlace self.now.own (cluster_size self.now.now) }
     {
         &self.vec
     }
@@ -132,7 +132,7 @@ impl ProcCore {
     }
 
     /// The rows that the manager is still to be told of.
-    pub fn pending(&self) -> &[Row]
+    pub fn pending(&self) -> &[PendingRow]
         ensures { result.now ≡ self.now.pending }
     {
         &self.pending

@@ -8,7 +8,7 @@ ghost use Rattle.om_process.specs.Trims.{trimmed_queue};
 ghost use Rattle.om_process.specs.declared.limits.TheConstants.{LAST_NUMBER, LAST_OUTPUT};
 
 use crate::fifo::Fifo;
-use om_format::{Body, Entry, Queue};
+use om_format::{Body, QueueEntry, Queue};
 use std::alloc::{AllocError, Global};
 use std::marker::Model;
 
@@ -123,7 +123,7 @@ impl Messages {
     {
         let mut entries = Vec::with_capacity(alloc, self.kept.len())?;
         for sent in self.kept.as_slice() {
-            entries.push(Entry {
+            entries.push(QueueEntry {
                 interval: sent.interval,
                 body: sent.body.copy(alloc)?,
             })?;
@@ -227,7 +227,7 @@ impl Outputs {
     {
         let mut entries = Vec::with_capacity(alloc, self.kept.len())?;
         for made in self.kept.as_slice() {
-            entries.push(Entry {
+            entries.push(QueueEntry {
                 interval: made.interval,
                 body: made.bytes.copy(alloc)?,
             })?;

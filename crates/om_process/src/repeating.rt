@@ -3,7 +3,7 @@
 ghost use Rattle.std.specs.Prelude.{◌≡◌, ◌+◌, ◌<◌, ◌∷◌, [], List, IfErr, IfNone, IfOk, IfSome, OnOk, false, true, vec_len};
 ghost use Rattle.om_format.specs.Receipts.{ReceiptRecord, SpellsReceipt, receipt_record};
 ghost use Rattle.om_stable.specs.Content.{rows_of};
-ghost use Rattle.om_process.specs.Core.{size_of, with_now};
+ghost use Rattle.om_process.specs.Core.{cluster_size, with_now};
 ghost use Rattle.om_process.specs.Process.{delivered};
 ghost use Rattle.om_process.specs.Replays.{Replayed};
 ghost use Rattle.om_process.specs.Stored.{DoesNotFit};
@@ -39,8 +39,8 @@ fn receipt_at(alloc: Global, y: u32, bytes: &[u8]) -> Result<Receipt, ReplayFaul
 impl ProcCore {
     // Delivers what the process waits for.
     fn deliver(&mut self, from: Pid, interval: u32, body: &[u8])
-        requires from { from < size_of self.old.now }
-        requires waits { IsWaiting self.old.own (size_of self.old.now) self.old.now }
+        requires from { from < cluster_size self.old.now }
+        requires waits { IsWaiting self.old.own (cluster_size self.old.now) self.old.now }
         requires room { self.old.now.interval < LAST_INTERVAL }
         requires unlogged { self.old.log ≡ [] }
         ensures { self.new ≡ with_now self.old
@@ -57,7 +57,7 @@ impl ProcCore {
     // Whether a receipt is this process's, of a sender that is there and the next of its sender, at a count not yet passed.
     fn may_take(&self, receipt: &Receipt) -> bool
         ensures yes { result ≡ true → MayTake self.now (receipt_record receipt.now) }
-        ensures no { result ≡ false → DoesNotFit self.now.own (size_of self.now.now) self.now.now (receipt_record receipt.now) }
+        ensures no { result ≡ false → DoesNotFit self.now.own (cluster_size self.now.now) self.now.now (receipt_record receipt.now) }
     {
         if receipt.to != self.pid || receipt.from.index() >= self.vec.n() {
             return false;
@@ -72,11 +72,11 @@ impl ProcCore {
         requires room { self.old.now.interval < LAST_INTERVAL }
         requires unlogged { self.old.log ≡ [] }
         ensures fits { IfOk result (λ fits. fits ≡ true
-            → Replayed self.old.own (size_of self.old.now) self.old.now (receipt_record receipt.now ∷ []) self.new.now) }
+            → Replayed self.old.own (cluster_size self.old.now) self.old.now (receipt_record receipt.now ∷ []) self.new.now) }
         ensures other { IfOk result (λ fits. fits ≡ false
-            → DoesNotFit self.old.own (size_of self.old.now) self.old.now (receipt_record receipt.now)) }
+            → DoesNotFit self.old.own (cluster_size self.old.now) self.old.now (receipt_record receipt.now)) }
         ensures rest { self.new ≡ with_now self.old self.new.now }
-        ensures size { size_of self.new.now ≡ size_of self.old.now }
+        ensures size { cluster_size self.new.now ≡ cluster_size self.old.now }
     {
         if !self.may_take(receipt) {
             return Ok(false);
@@ -102,10 +102,10 @@ impl ProcCore {
         requires next { y ≡ self.old.now.interval + 1 }
         requires unlogged { self.old.log ≡ [] }
         ensures replayed { OnOk result ((r : ReceiptRecord) × SpellsReceipt r bytes.now × (r.interval ≡ y)
-            × Replayed self.old.own (size_of self.old.now) self.old.now (r ∷ []) self.new.now) }
-        ensures refused { IfErr result (λ fault. RefusesRow self.old.own (size_of self.old.now) self.old.now (y, bytes.now) fault) }
+            × Replayed self.old.own (cluster_size self.old.now) self.old.now (r ∷ []) self.new.now) }
+        ensures refused { IfErr result (λ fault. RefusesRow self.old.own (cluster_size self.old.now) self.old.now (y, bytes.now) fault) }
         ensures rest { self.new ≡ with_now self.old self.new.now }
-        ensures size { size_of self.new.now ≡ size_of self.old.now }
+        ensures size { cluster_size self.new.now ≡ cluster_size self.old.now }
     {
         let receipt = receipt_at(alloc, y, bytes)?;
         if self.again(alloc, &receipt)? {
@@ -124,11 +124,11 @@ impl ProcCore {
         requires gapless { AreGapless self.old.now.interval (rows_of found.now.items) }
         requires unlogged { self.old.log ≡ [] }
         ensures replayed { OnOk result ((rs : List ReceiptRecord) × SpellRows (rows_of found.now.items) rs
-            × Replayed self.old.own (size_of self.old.now) self.old.now rs self.new.now) }
+            × Replayed self.old.own (cluster_size self.old.now) self.old.now rs self.new.now) }
         ensures refused { IfErr result (λ fault.
-            RefusesRows self.old.own (size_of self.old.now) self.old.now (rows_of found.now.items) fault) }
+            RefusesRows self.old.own (cluster_size self.old.now) self.old.now (rows_of found.now.items) fault) }
         ensures rest { self.new ≡ with_now self.old self.new.now }
-        ensures size { size_of self.new.now ≡ size_of self.old.now }
+        ensures size { cluster_size self.new.now ≡ cluster_size self.old.now }
     {
         for (y, bytes) in found {
             self.repeat(alloc, *y, bytes)?;

@@ -3,10 +3,10 @@
 ghost use Rattle.std.specs.Prelude.{◌≡◌, ◌≢◌, ◌≤◌, ◌∷◌, [], IfErr, IfOk, IsErrOf, IsTrue, length, replicate};
 ghost use Rattle.om_format.specs.CheckpointViews.{checkpoint_record};
 ghost use Rattle.om_format.specs.Checkpoints.{IsSpelled};
-ghost use Rattle.om_stable.specs.Calls.{IsKnown};
+ghost use Rattle.om_stable.specs.Calls.{IsCleanCall};
 ghost use Rattle.om_stable.specs.Count.{Rose};
 ghost use Rattle.om_stable.specs.declared.error.StoreError.{StoreError};
-ghost use Rattle.om_process.specs.Core.{size_of};
+ghost use Rattle.om_process.specs.Core.{cluster_size};
 ghost use Rattle.om_process.specs.Stored.{Anyone, BeginsWith, CanReplay, IsNoMatterOfContent, IsReplay, Refuses};
 ghost use Rattle.om_process.specs.steps.Rows.{IsReplayFrom, RefusesCheckpoint, RefusesFrom, RefusesStart, damage};
 
@@ -98,11 +98,11 @@ pub(crate) fn beginning<S: Stable>(
     store: &mut S,
     x: u32,
 ) -> Result<Checkpoint, ReplayFault>
-    ensures begins { IsKnown S.is_clean S.IsSound store.old store.new
+    ensures begins { IsCleanCall S.is_clean S.IsSound store.old store.new
         → IfOk result (λ checkpoint. BeginsWith Anyone (S.content store.old) x (checkpoint_record checkpoint)) }
-    ensures refused { IsKnown S.is_clean S.IsSound store.old store.new
+    ensures refused { IsCleanCall S.is_clean S.IsSound store.old store.new
         → IfErr result (λ fault. RefusesStart (S.content store.old) x fault) }
-    ensures same { IsKnown S.is_clean S.IsSound store.old store.new → S.content store.new ≡ S.content store.old }
+    ensures same { IsCleanCall S.is_clean S.IsSound store.old store.new → S.content store.new ≡ S.content store.old }
     ensures fault { IsErrOf result ReplayFault.Fault → Rose (S.failed store.old) (S.failed store.new) }
     ensures count { S.failed store.old ≤ S.failed store.new }
     ensures clean { IsTrue (S.is_clean store.new) → IsTrue (S.is_clean store.old) }
@@ -123,18 +123,18 @@ impl ProcCore {
         x: u32,
         checkpoint: Checkpoint,
     ) -> Result<ProcCore, ReplayFault>
-        ensures replayed { IsKnown S.is_clean S.IsSound store.old store.new → checkpoint.head.interval ≤ x
+        ensures replayed { IsCleanCall S.is_clean S.IsSound store.old store.new → checkpoint.head.interval ≤ x
             → IfOk result (λ core. IsReplayFrom (S.content store.old) x (checkpoint_record checkpoint) core) }
-        ensures refused { IsKnown S.is_clean S.IsSound store.old store.new → checkpoint.head.interval ≤ x
+        ensures refused { IsCleanCall S.is_clean S.IsSound store.old store.new → checkpoint.head.interval ≤ x
             → IfErr result (λ fault. RefusesFrom (S.content store.old) x (checkpoint_record checkpoint) fault) }
         ensures own { IfOk result (λ core. core.own ≡ checkpoint.head.pid) }
-        ensures size { IfOk result (λ core. size_of core.now ≡ length checkpoint.head.vec) }
+        ensures size { IfOk result (λ core. cluster_size core.now ≡ length checkpoint.head.vec) }
         ensures log { IfOk result (λ core. core.log ≡ []) }
         ensures pending { IfOk result (λ core. core.pending ≡ []) }
         ensures inc { IfOk result (λ core. core.inc ≡ 0) }
         ensures round { IfOk result (λ core. core.round ≡ 0) }
-        ensures starts { IfOk result (λ core. core.starts ≡ replicate (size_of core.now) (0 ∷ [])) }
-        ensures same { IsKnown S.is_clean S.IsSound store.old store.new → S.content store.new ≡ S.content store.old }
+        ensures starts { IfOk result (λ core. core.starts ≡ replicate (cluster_size core.now) (0 ∷ [])) }
+        ensures same { IsCleanCall S.is_clean S.IsSound store.old store.new → S.content store.new ≡ S.content store.old }
         ensures fault { IsErrOf result ReplayFault.Fault → Rose (S.failed store.old) (S.failed store.new) }
         ensures count { S.failed store.old ≤ S.failed store.new }
         ensures clean { IsTrue (S.is_clean store.new) → IsTrue (S.is_clean store.old) }
@@ -159,18 +159,18 @@ impl ProcCore {
     /// then for each receipt ascending with `Damaged` and `Mismatch`; with `Fault` and `Memory` where they arise. The
     /// store's content stays in any case.
     pub fn replay<S: Stable>(alloc: Global, store: &mut S, x: u32) -> Result<ProcCore, ReplayFault>
-        ensures replayed { IsKnown S.is_clean S.IsSound store.old store.new
+        ensures replayed { IsCleanCall S.is_clean S.IsSound store.old store.new
             → IfOk result (λ core. IsReplay (S.content store.old) x core) }
-        ensures refused { IsKnown S.is_clean S.IsSound store.old store.new
+        ensures refused { IsCleanCall S.is_clean S.IsSound store.old store.new
             → IfErr result (λ fault. Refuses Anyone (S.content store.old) x fault) }
-        ensures only { IsKnown S.is_clean S.IsSound store.old store.new → CanReplay Anyone (S.content store.old) x
+        ensures only { IsCleanCall S.is_clean S.IsSound store.old store.new → CanReplay Anyone (S.content store.old) x
             → IfErr result (λ fault. IsNoMatterOfContent fault) }
         ensures log { IfOk result (λ core. core.log ≡ []) }
         ensures pending { IfOk result (λ core. core.pending ≡ []) }
         ensures inc { IfOk result (λ core. core.inc ≡ 0) }
         ensures round { IfOk result (λ core. core.round ≡ 0) }
-        ensures starts { IfOk result (λ core. core.starts ≡ replicate (size_of core.now) (0 ∷ [])) }
-        ensures same { IsKnown S.is_clean S.IsSound store.old store.new → S.content store.new ≡ S.content store.old }
+        ensures starts { IfOk result (λ core. core.starts ≡ replicate (cluster_size core.now) (0 ∷ [])) }
+        ensures same { IsCleanCall S.is_clean S.IsSound store.old store.new → S.content store.new ≡ S.content store.old }
         ensures fault { IsErrOf result ReplayFault.Fault → Rose (S.failed store.old) (S.failed store.new) }
         ensures count { S.failed store.old ≤ S.failed store.new }
         ensures clean { IsTrue (S.is_clean store.new) → IsTrue (S.is_clean store.old) }

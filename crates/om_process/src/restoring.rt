@@ -3,7 +3,7 @@
 ghost use Rattle.std.specs.Prelude.{◌≡◌, ◌∷◌, [], IfOk, map, replicate};
 ghost use Rattle.om_format.specs.CheckpointViews.{checkpoint_record};
 ghost use Rattle.om_format.specs.Queues.{queue_end, queue_record};
-ghost use Rattle.om_process.specs.Core.{size_of};
+ghost use Rattle.om_process.specs.Core.{cluster_size};
 ghost use Rattle.om_process.specs.Replays.{process_of};
 
 use crate::proc_core::ProcCore;
@@ -22,7 +22,7 @@ impl ProcCore {
         ensures pending { IfOk result (λ core. core.pending ≡ []) }
         ensures inc { IfOk result (λ core. core.inc ≡ 0) }
         ensures round { IfOk result (λ core. core.round ≡ 0) }
-        ensures starts { IfOk result (λ core. core.starts ≡ replicate (size_of core.now) (0 ∷ [])) }
+        ensures starts { IfOk result (λ core. core.starts ≡ replicate (cluster_size core.now) (0 ∷ [])) }
     {
         let machine = machine_of(alloc, &checkpoint)?;
         let head = checkpoint.head;

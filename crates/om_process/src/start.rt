@@ -3,7 +3,7 @@
 ghost use Rattle.std.specs.Prelude.{◌≡◌, ◌≢◌, ◌<◌, ◌≤◌, ◌↔◌, ◌++◌, ◌∷◌, [], IfOk, IsErrOf, IsSome, IsTrue, None, OnErr, OnOk, length, map, replicate};
 ghost use Rattle.std.specs.FinMap.{get};
 ghost use Rattle.om_machine.specs.State.{IsSize};
-ghost use Rattle.om_stable.specs.Calls.{IsKnown};
+ghost use Rattle.om_stable.specs.Calls.{IsCleanCall};
 ghost use Rattle.om_stable.specs.Count.{Rose};
 ghost use Rattle.om_stable.specs.declared.error.StoreError.{StoreError};
 ghost use Rattle.om_process.specs.Process.{empty_queue, started_with};
@@ -94,16 +94,16 @@ impl ProcCore {
     ) -> Result<ProcCore, StartFault>
         ensures started { IfOk result (λ core. core ≡ started_core (record { image = image.now; size = size; ext = ext }) pid n) }
         ensures along { IfOk result (λ core. Along (record { image = image.now; size = size; ext = ext }) pid n [] 0 core.now) }
-        ensures stored { IsKnown S.is_clean S.IsSound store.old store.new
+        ensures stored { IsCleanCall S.is_clean S.IsSound store.old store.new
             → IfOk result (λ core. HasGainedCheckpoint core (S.content store.old) (S.content store.new)) }
         ensures bad_place { (result ≡ Err StartFault.BadPlace) ↔ ¬ IsPlace pid n }
         ensures bad_size { (result ≡ Err StartFault.BadSize) ↔ (IsPlace pid n × ¬ IsSize size) }
         ensures too_long { (result ≡ Err StartFault.ImageTooLong) ↔ (IsPlace pid n × IsSize size × (size < length image.now)) }
-        ensures free { IsKnown S.is_clean S.IsSound store.old store.new
+        ensures free { IsCleanCall S.is_clean S.IsSound store.old store.new
             → OnOk result (get (S.content store.old).checkpoints 0 ≡ None) }
-        ensures present { IsKnown S.is_clean S.IsSound store.old store.new
+        ensures present { IsCleanCall S.is_clean S.IsSound store.old store.new
             → IsErrOf result StartFault.Present → IsSome (get (S.content store.old).checkpoints 0) }
-        ensures refused { IsKnown S.is_clean S.IsSound store.old store.new
+        ensures refused { IsCleanCall S.is_clean S.IsSound store.old store.new
             → OnErr result (S.content store.new ≡ S.content store.old) }
         ensures fault { IsErrOf result StartFault.Fault → Rose (S.failed store.old) (S.failed store.new) }
         ensures count { S.failed store.old ≤ S.failed store.new }

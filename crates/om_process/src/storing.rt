@@ -4,7 +4,7 @@ ghost use Rattle.std.specs.Prelude.{◌≡◌, ◌+◌, ◌≤◌, ◌++◌, ℕ
 ghost use Rattle.std.specs.FinMap.{get};
 ghost use Rattle.om_format.specs.CheckpointViews.{checkpoint_record};
 ghost use Rattle.om_format.specs.Queues.{queue_record};
-ghost use Rattle.om_stable.specs.Calls.{IsKnown};
+ghost use Rattle.om_stable.specs.Calls.{IsCleanCall};
 ghost use Rattle.om_stable.specs.Content.{IsFree, IsTaken, bytes_of};
 ghost use Rattle.om_stable.specs.Count.{Rose};
 ghost use Rattle.om_process.specs.Core.{LoggedRecord};
@@ -14,7 +14,7 @@ ghost use Rattle.om_process.specs.Views.{logged_record};
 use crate::log::Logged;
 use crate::proc_core::ProcCore;
 use crate::queues::Messages;
-use crate::row::Row;
+use crate::row::PendingRow;
 use om_format::{Checkpoint, Head, MemoryBytes, Queue, encode_checkpoint, encode_receipt};
 use om_stable::{Stable, StoreError};
 use std::alloc::{AllocError, Global};
@@ -26,15 +26,15 @@ impl ProcCore {
     pub fn flush<S: Stable>(&mut self, alloc: Global, store: &mut S) -> Result<(), StoreError>
         ensures core { OnOk result (self.new ≡ flushed self.old) }
         ensures same { OnErr result (self.new ≡ self.old) }
-        ensures stored { IsKnown S.is_clean S.IsSound store.old store.new
+        ensures stored { IsCleanCall S.is_clean S.IsSound store.old store.new
             → OnOk result (HasGainedLog self.old (S.content store.old) (S.content store.new)) }
-        ensures each { IsKnown S.is_clean S.IsSound store.old store.new
+        ensures each { IsCleanCall S.is_clean S.IsSound store.old store.new
             → OnOk result ((i : ℕ) (l : LoggedRecord) → slice_get self.old.log i ≡ Some l → IsLogged (S.content store.new) l) }
-        ensures free { IsKnown S.is_clean S.IsSound store.old store.new
+        ensures free { IsCleanCall S.is_clean S.IsSound store.old store.new
             → OnOk result (IsFree (S.content store.old).receipts (first_logged self.old) (length self.old.log)) }
-        ensures present { IsKnown S.is_clean S.IsSound store.old store.new → IsErrOf result StoreError.Present
+        ensures present { IsCleanCall S.is_clean S.IsSound store.old store.new → IsErrOf result StoreError.Present
             → IsTaken (S.content store.old).receipts (first_logged self.old) (length self.old.log) }
-        ensures refused { IsKnown S.is_clean S.IsSound store.old store.new
+        ensures refused { IsCleanCall S.is_clean S.IsSound store.old store.new
             → OnErr result (S.content store.new ≡ S.content store.old) }
         ensures fault { IsErrOf result StoreError.Fault → Rose (S.failed store.old) (S.failed store.new) }
         ensures count { S.failed store.old ≤ S.failed store.new }
@@ -59,13 +59,13 @@ impl ProcCore {
     pub fn checkpoint<S: Stable>(&mut self, alloc: Global, store: &mut S) -> Result<(), StoreError>
         ensures core { OnOk result (self.new ≡ checkpointed self.old) }
         ensures same { OnErr result (self.new ≡ self.old) }
-        ensures stored { IsKnown S.is_clean S.IsSound store.old store.new
+        ensures stored { IsCleanCall S.is_clean S.IsSound store.old store.new
             → OnOk result (HasGainedCheckpoint self.old (S.content store.old) (S.content store.new)) }
-        ensures free { IsKnown S.is_clean S.IsSound store.old store.new
+        ensures free { IsCleanCall S.is_clean S.IsSound store.old store.new
             → OnOk result (get (S.content store.old).checkpoints self.old.now.interval ≡ None) }
-        ensures present { IsKnown S.is_clean S.IsSound store.old store.new → IsErrOf result StoreError.Present
+        ensures present { IsCleanCall S.is_clean S.IsSound store.old store.new → IsErrOf result StoreError.Present
             → IsSome (get (S.content store.old).checkpoints self.old.now.interval) }
-        ensures refused { IsKnown S.is_clean S.IsSound store.old store.new
+        ensures refused { IsCleanCall S.is_clean S.IsSound store.old store.new
             → OnErr result (S.content store.new ≡ S.content store.old) }
         ensures fault { IsErrOf result StoreError.Fault → Rose (S.failed store.old) (S.failed store.new) }
         ensures count { S.failed store.old ≤ S.failed store.new }
@@ -74,7 +74,7 @@ impl ProcCore {
     {
         self.pending.try_reserve(1)?;
         self.store_checkpoint(alloc, store)?;
-        self.pending.push_reserved(Row {
+        self.pending.push_reserved(PendingRow {
             ckpt: true,
             x: self.interval,
             vec: self.vec,
@@ -89,13 +89,13 @@ impl ProcCore {
         alloc: Global,
         store: &mut S,
     ) -> Result<(), StoreError>
-        ensures stored { IsKnown S.is_clean S.IsSound store.old store.new
+        ensures stored { IsCleanCall S.is_clean S.IsSound store.old store.new
             → OnOk result (HasGainedCheckpoint self.now (S.content store.old) (S.content store.new)) }
-        ensures free { IsKnown S.is_clean S.IsSound store.old store.new
+        ensures free { IsCleanCall S.is_clean S.IsSound store.old store.new
             → OnOk result (get (S.content store.old).checkpoints self.now.now.interval ≡ None) }
-        ensures present { IsKnown S.is_clean S.IsSound store.old store.new
+        ensures present { IsCleanCall S.is_clean S.IsSound store.old store.new
             → IsErrOf result StoreError.Present → IsSome (get (S.content store.old).checkpoints self.now.now.interval) }
-        ensures refused { IsKnown S.is_clean S.IsSound store.old store.new
+        ensures refused { IsCleanCall S.is_clean S.IsSound store.old store.new
             → OnErr result (S.content store.new ≡ S.content store.old) }
         ensures fault { IsErrOf result StoreError.Fault → Rose (S.failed store.old) (S.failed store.new) }
         ensures count { S.failed store.old ≤ S.failed store.new }
@@ -146,12 +146,12 @@ fn spelled(alloc: Global, log: &Vec<Logged>) -> Result<Vec<Vec<u8>>, AllocError>
 }
 
 // Adds the rows of the log, for which there is room.
-fn add_rows(rows: &mut Vec<Row>, log: &Vec<Logged>)
+fn add_rows(rows: &mut Vec<PendingRow>, log: &Vec<Logged>)
     requires { vec_len rows.old + vec_len log.now ≤ vec_capacity rows.old }
     ensures { rows.new.items ≡ rows.old.items ++ map log_row (map logged_record log.now.items) }
 {
     for logged in log {
-        rows.push_reserved(Row {
+        rows.push_reserved(PendingRow {
             ckpt: false,
             x: logged.receipt.interval,
             vec: logged.vec,

@@ -1,7 +1,7 @@
 //! What a process need not keep any longer.
 
 ghost use Rattle.std.specs.Prelude.{◌≡◌, ◌≤◌, ◌++◌, ◌∷◌, [], drop, length};
-ghost use Rattle.om_process.specs.Core.{size_of, with_now, with_pending};
+ghost use Rattle.om_process.specs.Core.{cluster_size, with_now, with_pending};
 ghost use Rattle.om_process.specs.Trims.{trimmed, trimmed_queues};
 
 use crate::proc_core::ProcCore;
@@ -12,7 +12,7 @@ impl ProcCore {
     /// Drops the messages to each process numbered below its bound, and the outputs numbered below theirs. A bound above
     /// what was made drops all there is.
     pub fn trim(&mut self, bounds: &Bounds)
-        requires { length bounds.now.got ≡ size_of self.old.now }
+        requires { length bounds.now.got ≡ cluster_size self.old.now }
         ensures { self.new ≡ with_now self.old (trimmed (bounds.now.got ++ bounds.now.released ∷ []) self.old.now) }
     {
         trim_all(&mut self.outbox, bounds.got.as_slice());

@@ -3,7 +3,7 @@
 ghost use Rattle.std.specs.Prelude.{ℕ, ◌≡◌, ◌≢◌, ◌+◌, ◌<◌, ◌≤◌, length, slice_index, slice_range, Option, None, Some, IfOk, OnOk, OnErr, IfSome};
 ghost use Rattle.om_machine.specs.derived.NextStep.{next_of};
 ghost use Rattle.om_machine.specs.Finishing.{TakesWord, finished_who, finished_word};
-ghost use Rattle.om_process.specs.Core.{CoreTurns, core_turn, move_of, size_of, status_of, with_now};
+ghost use Rattle.om_process.specs.Core.{CoreTurns, cluster_size, core_turn, move_of, status_of, with_now};
 ghost use Rattle.om_process.specs.steps.Planned.{IsBuffer, with_bytes_emitted};
 ghost use Rattle.om_process.specs.Process.{Process, IsEmission, emitted, made, with_machine};
 ghost use Rattle.om_format.specs.declared.limits.TheConstants.{MAX_BODY};
@@ -61,7 +61,7 @@ impl ProcCore {
     fn go(&mut self, fuel: u64) -> om_machine::Ran
         ensures turns { CoreTurns result.steps self.old self.new }
         ensures rest { self.new ≡ with_now self.old self.new.now }
-        ensures size { size_of self.new.now ≡ size_of self.old.now }
+        ensures size { cluster_size self.new.now ≡ cluster_size self.old.now }
         ensures within { result.steps ≤ fuel }
         ensures stands { result.steps < fuel → (next_of self.new.now.machine).0 ≡ result.event }
         ensures stopped { result.steps < fuel → result.event ≢ Event.Went }
@@ -73,11 +73,11 @@ impl ProcCore {
     fn send(&mut self, alloc: Global, to: Pid, addr: u32, len: u32) -> Result<(), AllocError>
         requires word { TakesWord (next_of self.old.now.machine).0 }
         requires buffer { IsBuffer self.old.now.machine addr len }
-        requires place { to < size_of self.old.now }
+        requires place { to < cluster_size self.old.now }
         requires room { slice_index (made self.old.now.queues) to < LAST_NUMBER }
         ensures ok { OnOk result (with_bytes_emitted self.old.now to addr len ≡ Some self.new.now) }
         ensures rest { self.new ≡ with_now self.old self.new.now }
-        ensures size { size_of self.new.now ≡ size_of self.old.now }
+        ensures size { cluster_size self.new.now ≡ cluster_size self.old.now }
         ensures err { OnErr result (self.new ≡ self.old) }
     {
         let body = copied(alloc, &self.machine, addr, len)?;
@@ -91,9 +91,9 @@ impl ProcCore {
     fn put_out(&mut self, alloc: Global, addr: u32, len: u32) -> Result<(), AllocError>
         requires word { TakesWord (next_of self.old.now.machine).0 }
         requires buffer { IsBuffer self.old.now.machine addr len }
-        ensures ok { OnOk result (with_bytes_emitted self.old.now (size_of self.old.now) addr len ≡ Some self.new.now) }
+        ensures ok { OnOk result (with_bytes_emitted self.old.now (cluster_size self.old.now) addr len ≡ Some self.new.now) }
         ensures rest { self.new ≡ with_now self.old self.new.now }
-        ensures size { size_of self.new.now ≡ size_of self.old.now }
+        ensures size { cluster_size self.new.now ≡ cluster_size self.old.now }
         ensures err { OnErr result (self.new ≡ self.old) }
     {
         let body = copied(alloc, &self.machine, addr, len)?;
@@ -115,7 +115,7 @@ impl ProcCore {
     fn tell(&mut self)
         requires { (next_of self.old.now.machine).0 ≡ Event.Call EnvCall.Who }
         ensures { self.new ≡ with_now self.old
-            (with_machine self.old.now (finished_who self.old.own (size_of self.old.now) self.old.now.machine)) }
+            (with_machine self.old.now (finished_who self.old.own (cluster_size self.old.now) self.old.now.machine)) }
     {
         let n = self.vec.n() as u32;
         self.machine.finish_who(self.pid.index() as u32, n);
@@ -130,7 +130,7 @@ impl ProcCore {
         ensures stop { IfOk result (λ stop. IfSome stop (λ status.
             (status ≡ status_of (move_of self.old)) × (self.new ≡ self.old))) }
         ensures rest { self.new ≡ with_now self.old self.new.now }
-        ensures size { size_of self.new.now ≡ size_of self.old.now }
+        ensures size { cluster_size self.new.now ≡ cluster_size self.old.now }
         ensures err { OnErr result (self.new ≡ self.old) }
         ensures due { OnErr result ((p : Process) × (core_turn self.old ≡ Some p)) }
         ensures adds { OnErr result (IsEmission (move_of self.old)) }
@@ -158,7 +158,7 @@ impl ProcCore {
         ensures adds { OnErr result (IsEmission (move_of self.new)) }
         ensures at_most { (k : ℕ) × (k ≤ fuel) × CoreTurns k self.old self.new }
         ensures rest { self.new ≡ with_now self.old self.new.now }
-        ensures size { size_of self.new.now ≡ size_of self.old.now }
+        ensures size { cluster_size self.new.now ≡ cluster_size self.old.now }
     {
         let mut steps = 0;
         while steps < fuel {

@@ -1,7 +1,7 @@
 use super::parts::{RECEIPT, bytes_of, checkpoint, first_stored, flush, replayed};
 use om_interval::Pid;
 use om_isa::Ext;
-use om_process::{ProcCore, Row};
+use om_process::{ProcCore, PendingRow};
 use om_stable::{MemStable, Stable, StoreError};
 use std::alloc::Global;
 use std::process::Abort;
@@ -31,7 +31,7 @@ fn a_flush_stores_the_receipt(rt: HostRuntime) {
 }
 
 // Whether the row is of interval 1 of process 1 of 3, after a message from process 2, and of this kind.
-fn is_row(row: Option<&Row>, ckpt: bool) -> bool {
+fn is_row(row: Option<&PendingRow>, ckpt: bool) -> bool {
     let Some(row) = row else {
         return false;
     };
@@ -42,7 +42,7 @@ fn is_row(row: Option<&Row>, ckpt: bool) -> bool {
 }
 
 // Whether so many rows are left, of which the first is of this kind.
-fn are_left(rows: &[Row], left: usize, ckpt: bool) -> bool {
+fn are_left(rows: &[PendingRow], left: usize, ckpt: bool) -> bool {
     is_row(rows.first(), ckpt) && rows.len() == left
 }
 

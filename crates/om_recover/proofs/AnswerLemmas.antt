@@ -1,7 +1,7 @@
 use Rattle.std.proofs.Common.{◌≡◌, ℕ, ◌+◌, ◌≤◌, refl, arith, Option, None, Some, MatchOption}
 use Rattle.om_recover.specs.Rows.{Rows, HasRow, Has}
 use Rattle.om_recover.specs.Offered.{IsNearestBelow, IsNearestAbove}
-use Rattle.om_recover.specs.steps.Search.{HasNoneBelow, HasNoneAbove}
+use Rattle.om_recover.specs.steps.Search.{HasNoRowBelow, HasNoRowAbove}
 use Rattle.om_recover.specs.steps.Held.{IsRecordTo, IsRecordFrom}
 use Rattle.om_recover.specs.declared.row.RowKind.{RowKind}
 use Rattle.om_recover.specs.declared.row.RowKind.TheVariants.{Checkpoint, Log}
@@ -37,7 +37,7 @@ below_by_checkpoint rows row checkpoint to next near farther = record {
 
 -- and where there is no log, the nearest checkpoint, if there is one
 pub below_without_log : (rows : Rows) (row : Row) (to : ℕ) (told : Option Row) → to + 1 ≡ row.interval → ((x : ℕ) → Has rows Log row.pid x → x ≤ to → ⊥)
-    → MatchOption told ((x : ℕ) → Has rows Checkpoint row.pid x → x ≤ to → ⊥) (IsRecordTo rows Checkpoint row.pid to) → MatchOption told (HasNoneBelow rows row) (IsNearestBelow rows row)
+    → MatchOption told ((x : ℕ) → Has rows Checkpoint row.pid x → x ≤ to → ⊥) (IsRecordTo rows Checkpoint row.pid to) → MatchOption told (HasNoRowBelow rows row) (IsNearestBelow rows row)
 below_without_log rows row to None next no_log none = λ low there same below. of_either (λ kind. Has rows kind row.pid low.interval → ⊥)
     (λ has. none low.interval has (omega (arith, below, next))) (λ has. no_log low.interval has (omega (arith, below, next))) low.kind (itself rows row low there same)
 below_without_log rows row to (Some checkpoint) next no_log near = below_by_checkpoint rows row checkpoint to next near (λ x has below. absurd (no_log x has below))
@@ -62,7 +62,7 @@ above_by_checkpoint rows row checkpoint from next near farther = record {
 }
 
 pub above_without_log : (rows : Rows) (row : Row) (from : ℕ) (told : Option Row) → row.interval + 1 ≡ from → ((x : ℕ) → Has rows Log row.pid x → from ≤ x → ⊥)
-    → MatchOption told ((x : ℕ) → Has rows Checkpoint row.pid x → from ≤ x → ⊥) (IsRecordFrom rows Checkpoint row.pid from) → MatchOption told (HasNoneAbove rows row) (IsNearestAbove rows row)
+    → MatchOption told ((x : ℕ) → Has rows Checkpoint row.pid x → from ≤ x → ⊥) (IsRecordFrom rows Checkpoint row.pid from) → MatchOption told (HasNoRowAbove rows row) (IsNearestAbove rows row)
 above_without_log rows row from None next no_log none = λ high there same above. of_either (λ kind. Has rows kind row.pid high.interval → ⊥)
     (λ has. none high.interval has (omega (arith, above, next))) (λ has. no_log high.interval has (omega (arith, above, next))) high.kind (itself rows row high there same)
 above_without_log rows row from (Some checkpoint) next no_log near = above_by_checkpoint rows row checkpoint from next near (λ x has above. absurd (no_log x has above))

@@ -8,8 +8,7 @@ use Rattle.om_interval.specs.Vectors.{IsBelow}
 use Rattle.om_recover.specs.Rows.{Rows, HasRow, Has, IsLawful}
 use Rattle.om_recover.specs.Recoverable.{IsStable, IsRecoverable, maximum_of}
 use Rattle.om_recover.specs.Climb.{IsLeastStable, IsNeeded, starts, follows, AreLooks, IsClimbed, IsOutOfReach}
-use Rattle.om_recover.specs.steps.Climbing.{IsForced, IsBlocked}
-use Rattle.om_recover.specs.steps.Climbing.{IsNeededWithin, begins, leads, IsClimbing}
+use Rattle.om_recover.specs.steps.Climbing.{IsForced, IsBlocked, IsNeededWithin, begins, leads, IsClimbing}
 use Rattle.om_recover.specs.declared.row.RowKind.{RowKind}
 use Rattle.om_recover.specs.declared.row.Row.{Row}
 use Rattle.om_interval.proofs.VectorLemmas.{below_itself, below_through}

@@ -1,9 +1,8 @@
-use Rattle.std.proofs.Common.{◌≡◌, ℕ, ◌<◌, ◌≤◌, ◌⊎◌, inl, inr, sym, ◌∙◌, ap, subst, arith, List, length, slice_index, slice_index_or, max, Option, Some, None, MatchOption}
+use Rattle.std.proofs.Common.{◌≡◌, ℕ, ◌<◌, ◌≤◌, ◌⊎◌, inl, inr, sym, ◌∙◌, ap, subst, arith, List, length, slice_index, slice_index_or, max, Option, Some, None, MatchOption, ◌+◌, slice_set, length-set}
 use Rattle.std.specs.Prelude.{⊤}
 use Rattle.std.specs.FinSet as set
 use Rattle.std.proofs.lemmas.Bool.{cases_order}
 use Rattle.std.proofs.lemmas.Grind.{same_number_lists}
-use Rattle.std.proofs.Common.{◌+◌, slice_set, length-set}
 use Rattle.om_interval.specs.Vectors.{IsBelow}
 use Rattle.om_recover.specs.Rows.{Rows, HasRow, Has, IsLawful}
 use Rattle.om_recover.specs.declared.row.RowKind.{RowKind}
@@ -13,7 +12,7 @@ use Rattle.om_recover.specs.declared.search.memory.Memory.{Memory}
 use Rattle.om_recover.specs.Recoverable.{IsStable, IsRecoverable, maximum_of}
 use Rattle.om_recover.specs.Climb.{IsOutOfReach}
 use Rattle.om_recover.specs.steps.Climbing.{IsNeededWithin, begins, leads, IsClimbing, IsPassing}
-use Rattle.om_recover.specs.steps.Memory.{IsRemembered, IsKnown, AreRemembered, HasPlace, IsKept, IsUpTo, IsWithout, part_of}
+use Rattle.om_recover.specs.steps.Memory.{IsRemembered, IsTrueMemory, AreRemembered, HasPlace, IsKept, IsUpTo, IsWithout, part_of}
 use Rattle.om_recover.proofs.RowsLemmas.{kept}
 use Rattle.om_recover.proofs.StableLemmas.{stable_kept, stable_before, stable_by_records}
 use Rattle.om_interval.proofs.VectorLemmas.{below_itself, below_through}
@@ -206,7 +205,7 @@ part_remembered n rows state p reached memory passing waits = record {
 }
 
 -- each of both stays where the state rises
-known_raised : (n : ℕ) (rows : Rows) (state higher : List ℕ) (p : ℕ) (memory : Memory) → IsLawful n rows → IsRecoverable n rows higher → IsBelow state higher → IsKnown n rows state p memory → IsKnown n rows higher p memory
+known_raised : (n : ℕ) (rows : Rows) (state higher : List ℕ) (p : ℕ) (memory : Memory) → IsLawful n rows → IsRecoverable n rows higher → IsBelow state higher → IsTrueMemory n rows state p memory → IsTrueMemory n rows higher p memory
 known_raised n rows state higher p memory lawful recoverable above known = record {
   whole = remembered_raised n rows state higher p memory lawful recoverable above known.whole;
   part = remembered_raised n rows state higher p (part_of memory) lawful recoverable above known.part;
@@ -214,7 +213,7 @@ known_raised n rows state higher p memory lawful recoverable above known = recor
 
 -- and in rows that are alike
 known_alike : (n : ℕ) (rows others : Rows) (state : List ℕ) (p : ℕ) (memory : Memory) → IsLawful n rows → IsRecoverable n rows state → AreAlike rows others state memory.reached → AreAlike rows others state memory.passed
-    → IsKnown n rows state p memory → IsKnown n others state p memory
+    → IsTrueMemory n rows state p memory → IsTrueMemory n others state p memory
 known_alike n rows others state p memory lawful recoverable alike alike_passed known = record {
   whole = remembered_alike n rows others state p memory lawful recoverable alike known.whole;
   part = remembered_alike n rows others state p (part_of memory) lawful recoverable alike_passed known.part;
@@ -231,34 +230,34 @@ match_both P R Q (Some a) f known more = f a known more
 -- all memories, where the state rises
 pub all_raised : (n : ℕ) (rows : Rows) (state higher : List ℕ) (places : List (Option Memory)) → IsLawful n rows → IsRecoverable n rows higher → IsBelow state higher → AreRemembered n rows state places → AreRemembered n rows higher places
 all_raised n rows state higher places lawful recoverable above known p in_cluster =
-    match_map (IsKnown n rows state p) (IsKnown n rows higher p) (slice_index_or places p None) (λ memory. known_raised n rows state higher p memory lawful recoverable above) (known p in_cluster)
+    match_map (IsTrueMemory n rows state p) (IsTrueMemory n rows higher p) (slice_index_or places p None) (λ memory. known_raised n rows state higher p memory lawful recoverable above) (known p in_cluster)
 
 -- where one is kept
-pub all_with : (n : ℕ) (rows : Rows) (state : List ℕ) (old new : List (Option Memory)) (p : ℕ) (memory : Memory) → AreRemembered n rows state old → IsKnown n rows state p memory → IsKept old new p memory → AreRemembered n rows state new
+pub all_with : (n : ℕ) (rows : Rows) (state : List ℕ) (old new : List (Option Memory)) (p : ℕ) (memory : Memory) → AreRemembered n rows state old → IsTrueMemory n rows state p memory → IsKept old new p memory → AreRemembered n rows state new
 all_with n rows state old new p memory known one is q in_cluster = elim (is q) [
-  | inl same ↦ subst (λ (o : Option Memory). MatchOption o ⊤ (IsKnown n rows state q)) (sym same) (known q in_cluster)
-  | inr here ↦ subst (λ (o : Option Memory). MatchOption o ⊤ (IsKnown n rows state q)) (sym here.1) (subst (λ r. IsKnown n rows state r memory) (sym here.0) one)
+  | inl same ↦ subst (λ (o : Option Memory). MatchOption o ⊤ (IsTrueMemory n rows state q)) (sym same) (known q in_cluster)
+  | inr here ↦ subst (λ (o : Option Memory). MatchOption o ⊤ (IsTrueMemory n rows state q)) (sym here.1) (subst (λ r. IsTrueMemory n rows state r memory) (sym here.0) one)
 ]
 
 -- in rows that are alike
 pub all_alike : (n : ℕ) (rows others : Rows) (state : List ℕ) (places : List (Option Memory)) → IsLawful n rows → IsRecoverable n rows state → ((bound : List ℕ) → AreAlike rows others state bound) → AreRemembered n rows state places → AreRemembered n others state places
 all_alike n rows others state places lawful recoverable alike known p in_cluster =
-    match_map (IsKnown n rows state p) (IsKnown n others state p) (slice_index_or places p None) (λ memory. known_alike n rows others state p memory lawful recoverable (alike memory.reached) (alike memory.passed)) (known p in_cluster)
+    match_map (IsTrueMemory n rows state p) (IsTrueMemory n others state p) (slice_index_or places p None) (λ memory. known_alike n rows others state p memory lawful recoverable (alike memory.reached) (alike memory.passed)) (known p in_cluster)
 
 -- and in rows that are alike up to an interval of a process, where those that came further are dropped
 pub all_alike_within : (n : ℕ) (rows others : Rows) (state : List ℕ) (old new : List (Option Memory)) (q x : ℕ) → IsLawful n rows → IsRecoverable n rows state → ((bound : List ℕ) → slice_index bound q ≤ x → AreAlike rows others state bound)
     → IsWithout n old new q x → AreRemembered n rows state old → AreRemembered n others state new
 all_alike_within n rows others state old new q x lawful recoverable alike is known p in_cluster = elim (is p in_cluster) [
   | inl less ↦ elim less [
-    | inl none ↦ subst (λ (o : Option Memory). MatchOption o ⊤ (IsKnown n others state p)) (sym none) tt
+    | inl none ↦ subst (λ (o : Option Memory). MatchOption o ⊤ (IsTrueMemory n others state p)) (sym none) tt
     | inr left ↦
-        let before : IsKnown n rows state p left.0 = subst (λ (o : Option Memory). MatchOption o ⊤ (IsKnown n rows state p)) left.1 (known p in_cluster) in
+        let before : IsTrueMemory n rows state p left.0 = subst (λ (o : Option Memory). MatchOption o ⊤ (IsTrueMemory n rows state p)) left.1 (known p in_cluster) in
         let part : IsRemembered n others state p (part_of left.0) = remembered_alike n rows others state p (part_of left.0) lawful recoverable (alike left.0.passed left.3) before.part in
-        subst (λ (o : Option Memory). MatchOption o ⊤ (IsKnown n others state p)) (sym left.2) (record { whole = part; part = part })
+        subst (λ (o : Option Memory). MatchOption o ⊤ (IsTrueMemory n others state p)) (sym left.2) (record { whole = part; part = part })
   ]
   | inr left ↦
-      subst (λ (o : Option Memory). MatchOption o ⊤ (IsKnown n others state p)) (sym left.0)
-      (match_both (IsKnown n rows state p) (IsUpTo q x) (IsKnown n others state p) (slice_index_or old p None)
+      subst (λ (o : Option Memory). MatchOption o ⊤ (IsTrueMemory n others state p)) (sym left.0)
+      (match_both (IsTrueMemory n rows state p) (IsUpTo q x) (IsTrueMemory n others state p) (slice_index_or old p None)
       (λ memory remembered low. known_alike n rows others state p memory lawful recoverable (alike memory.reached low.reached) (alike memory.passed low.passed) remembered) (known p in_cluster) left.1)
 ]
 
@@ -366,12 +365,12 @@ all_pruned n rows left state places q c lawful recoverable fewer there_still low
 
 -- where there are none
 pub none_remembered : (n : ℕ) (rows : Rows) (state : List ℕ) (places : List (Option Memory)) → ((p : ℕ) → slice_index_or places p None ≡ None) → AreRemembered n rows state places
-none_remembered n rows state places none p in_cluster = subst (λ (o : Option Memory). MatchOption o ⊤ (IsKnown n rows state p)) (sym (none p)) tt
+none_remembered n rows state places none p in_cluster = subst (λ (o : Option Memory). MatchOption o ⊤ (IsTrueMemory n rows state p)) (sym (none p)) tt
 
 -- each has a place for each process
 pub all_places : (n : ℕ) (rows : Rows) (state : List ℕ) (places : List (Option Memory)) (p : ℕ) → p < n → AreRemembered n rows state places → (q : ℕ) → q < n → MatchOption (slice_index_or places q None) ⊤ (HasPlace p)
 all_places n rows state places p process known q in_cluster =
-    match_map (IsKnown n rows state q) (HasPlace p) (slice_index_or places q None) (λ memory known. record { reached = omega (arith, process, known.whole.places); passed = omega (arith, process, known.part.places) }) (known q in_cluster)
+    match_map (IsTrueMemory n rows state q) (HasPlace p) (slice_index_or places q None) (λ memory known. record { reached = omega (arith, process, known.whole.places); passed = omega (arith, process, known.part.places) }) (known q in_cluster)
 
 -- the places before are the greater ones, and the others are as they were
 pub record IsMaximumTo (one other greater : List ℕ) (p : ℕ) : Type 0 where

@@ -1,5 +1,5 @@
 ghost use Rattle.std.specs.Prelude.{◌<◌, IfSome};
-ghost use Rattle.om_manager.specs.State.{size_of};
+ghost use Rattle.om_manager.specs.State.{process_count};
 
 use om_interval::{DepVec, MAX_PROCESSES, Pid, Tag};
 use om_manager::{
@@ -54,7 +54,7 @@ enum Row<'a> {
 
 // A process of the manager's cluster.
 fn member(manager: &Manager, number: u32) -> Option<Pid>
-    ensures { IfSome result (λ pid. pid < size_of manager.now) }
+    ensures { IfSome result (λ pid. pid < process_count manager.now) }
 {
     let pid = Pid::new(number)?;
     if pid.index() < manager.recovery().n() {

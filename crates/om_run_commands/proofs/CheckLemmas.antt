@@ -7,11 +7,11 @@ use Rattle.std.proofs.lemmas.List.{length-map}
 use Rattle.std.proofs.lemmas.Option.{slice_get-map}
 use Rattle.om_board.specs.Released.{AreReleasedBy}
 use Rattle.om_board.specs.declared.report.Report.{Report}
-use Rattle.om_check.specs.Whole.{AreOutputsOf, AreStatusesOf, IsWhole}
+use Rattle.om_check.specs.Whole.{AreReleasedIn, AreStatusesOf, IsWhole}
 use Rattle.om_check.proofs.Ending.{whole_run}
 use Rattle.om_check.proofs.OneRun.{one_run}
 use Rattle.om_manager.specs.Outputs.{HeldOutput, held_of}
-use Rattle.om_manager.specs.State.{ManagerState, released_by, size_of}
+use Rattle.om_manager.specs.State.{ManagerState, process_count, released_by}
 use Rattle.om_manager.specs.declared.output_log.Output.{Output}
 use Rattle.om_interval.specs.declared.pid.TheConstants.{MAX_PROCESSES}
 use Rattle.om_process.specs.Images.{program_of}
@@ -20,7 +20,7 @@ use Rattle.om_process.specs.declared.status.Status.{Status}
 use Rattle.om_scripts.specs.Programs.{Cluster, program_at, programs_of}
 use Rattle.om_world.specs.World.{WorldState}
 use Rattle.om_world.specs.declared.entry.Entry.{Entry}
-use Rattle.om_run_commands.specs.ClusterScript.{Script, meaning_of, no_lines}
+use Rattle.om_run_commands.specs.ClusterScript.{ClusterFile, cluster_file_line, no_settings}
 use Rattle.om_commands.specs.Command.{IsScript}
 use Rattle.om_run_commands.specs.Check.{IsErrorOfCheckedRun, IsErrorOfCheckedScript, IsFailureFreeText, IsTextBy}
 use Rattle.om_run_commands.specs.RunText.{run_text}
@@ -47,14 +47,14 @@ element_of f None y is = cc
 element_of f (Some x) y is = (x, refl, cc)
 
 outputs_are : (w : WorldState) (manager : ManagerState) (released : List (Vec Output Global)) → manager ≡ w.manager
-    → AreReleasedBy manager released → AreOutputsOf w (map held released)
+    → AreReleasedBy manager released → AreReleasedIn w (map held released)
 outputs_are w manager released same are p out at =
     let found = element_of held (slice_get released p) out (sym (slice_get-map held released p) ∙ at) in
     sym found.2 ∙ (are p found.0 found.1).0 ∙ ap (λ m. released_by m p) same
 
 failure_free : (cluster : Cluster) (w : WorldState) (manager : ManagerState) (released : List (Vec Output Global)) (statuses : List Status) (n : ℕ) (text : List ℕ)
     → IsWhole (programs_of cluster) w → manager ≡ w.manager → n ≡ length cluster.processes
-    → AreReleasedBy manager released → length released ≡ size_of manager → length statuses ≡ n → AreStatusesOf w statuses
+    → AreReleasedBy manager released → length released ≡ process_count manager → length statuses ≡ n → AreStatusesOf w statuses
     → text ≡ run_text cluster (map held released) statuses → IsFailureFreeText cluster text
 failure_free cluster w manager released statuses n text whole same many are long number stats written = (
   w.live,
@@ -62,7 +62,7 @@ failure_free cluster w manager released statuses n text whole same many are long
     outputs = map held released;
     statuses = statuses;
     run = whole_run (programs_of cluster) w (map held released) statuses whole
-        (length-map released held ∙ long ∙ ap size_of same ∙ whole.way.managed)
+        (length-map released held ∙ long ∙ ap process_count same ∙ whole.way.managed)
         (number ∙ many ∙ sym (length-map cluster.processes (λ e. program_at cluster e.1)))
         (outputs_are w manager released same are) stats;
     written = written;
@@ -73,7 +73,7 @@ failure_free cluster w manager released statuses n text whole same many are long
 pub text_of_world : {A E : Type 0} (spelled : A → List ℕ) (cluster : Cluster) (w : WorldState) (manager : ManagerState) (report : Report)
     (released : List (Vec Output Global)) (read statuses : List Status) (n : ℕ) (r : Result A E)
     → IsWhole (programs_of cluster) w → manager ≡ w.manager → n ≡ length cluster.processes
-    → AreReleasedBy manager report.released.items → length report.released.items ≡ size_of manager
+    → AreReleasedBy manager report.released.items → length report.released.items ≡ process_count manager
     → length statuses ≡ n → AreStatusesOf w statuses → report.statuses.items ≡ statuses
     → released ≡ report.released.items → read ≡ report.statuses.items
     → IfOk r (λ text. spelled text ≡ run_text cluster (map (λ os. map held_of os.items) released) read)
@@ -94,7 +94,7 @@ few_images images now cluster n programs same number few =
     few
 
 -- ---- the bytes that a script is read from
-of_checked : (bytes : List ℕ) (script : Script) (error : CommandError) → IsScript meaning_of no_lines bytes script
+of_checked : (bytes : List ℕ) (script : ClusterFile) (error : CommandError) → IsScript cluster_file_line no_settings bytes script
     → IsErrorOfCheckedScript script error → IsErrorOfCheckedRun bytes error
 of_checked bytes script errors.Unlike read some = record { script = script; is_script = read; some = some }
 of_checked bytes script errors.EmptyScript read told = of_script bytes script errors.EmptyScript read told
@@ -112,10 +112,10 @@ of_checked bytes script (errors.Damaged y) read never = absurd never
 of_checked bytes script (errors.MissingReceipt y) read never = absurd never
 of_checked bytes script (errors.Mismatch y) read never = absurd never
 
-pub error_of_answer : {A : Type 0} (remaining : Option (List ℕ)) (start script : Script) (r : Result A CommandError) → start ≡ no_lines
-    → IfSome remaining (λ bytes. IsScript meaning_of start bytes script) → IfErr r (IsErrorOfCheckedScript script)
+pub error_of_answer : {A : Type 0} (remaining : Option (List ℕ)) (start script : ClusterFile) (r : Result A CommandError) → start ≡ no_settings
+    → IfSome remaining (λ bytes. IsScript cluster_file_line start bytes script) → IfErr r (IsErrorOfCheckedScript script)
     → IfSome remaining (λ bytes. IfErr r (IsErrorOfCheckedRun bytes))
 error_of_answer None start script r is read error = tt
 error_of_answer (Some bytes) start script (Ok x) is read error = tt
 error_of_answer (Some bytes) start script (Err e) is read error =
-    of_checked bytes script e (subst (λ s. IsScript meaning_of s bytes script) is read) error
+    of_checked bytes script e (subst (λ s. IsScript cluster_file_line s bytes script) is read) error

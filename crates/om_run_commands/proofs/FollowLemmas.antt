@@ -11,14 +11,15 @@ use Rattle.om_process.specs.declared.status.Status.{Status}
 use Rattle.om_scripts.specs.Programs.{Cluster, programs_of}
 use Rattle.om_board.specs.Released.{AreAllReleased}
 use Rattle.om_board.specs.declared.report.Report.{Report}
-use Rattle.om_runner.specs.Reports.{AreOutputsOf, AreStatusesAlong, HaveAllOf, IsEnd}
+use Rattle.om_runner.specs.Reports.{AreOutputsOf, AreStatusesAlong, HaveAllOf}
+use Rattle.om_process.specs.Core.{IsEnd}
 use Rattle.om_runner.specs.Telling.{AreInOrder, AreToldMade, Told, TellsAll}
 use Rattle.om_runner.specs.declared.follower.FollowFault.{FollowFault}
 use Rattle.om_runner.specs.declared.follower.FollowFault.TheVariants.{Run, Unwanted}
 use Rattle.om_runner.specs.declared.fault.RunFault.{RunFault}
 use Rattle.om_runner.specs.declared.fault.RunFault.TheVariants as running
 use Rattle.om_run_commands.proofs.RunLemmas.{is_report, ok_at}
-use Rattle.om_run_commands.specs.ClusterScript.{Script, meaning_of, no_lines}
+use Rattle.om_run_commands.specs.ClusterScript.{ClusterFile, cluster_file_line, no_settings}
 use Rattle.om_commands.specs.Command.{IsErrorOf, IsScript}
 use Rattle.om_run_commands.specs.Errors.{error_of_run}
 use Rattle.om_run_commands.specs.Follow.{AreMadeBy, IsFollowedAnswer, IsFollowedRun, IsPart, IsPartOf, IsPartly, told_line, told_text}
@@ -36,7 +37,7 @@ line_more cluster a b c told t line before more is =
     in subst (Appends a c) (sym text) (Appends-trans a b c _ _ before (subst (Appends b c) is more))
 
 -- a script is answered by the lines of what its run told, and then by how it ended
-pub is_followed : (over_clean : Type 0) (script : Script) (images : List Image) (report : Report) (statuses : List Status) (a b c : Option (List ℕ))
+pub is_followed : (over_clean : Type 0) (script : ClusterFile) (images : List Image) (report : Report) (statuses : List Status) (a b c : Option (List ℕ))
     → map program_of images ≡ programs_of script.cluster
     → AreAllReleased report.front.vec report.released.items → (over_clean → AreOutputsOf images report.released.items)
     → length report.released.items ≡ length images
@@ -60,7 +61,7 @@ is_followed over_clean script images report statuses a b c same_programs are_rel
 )
 
 -- so where the report is what a run answered, and the ends are written
-pub text_of_report : {A E : Type 0} (over_clean : Type 0) (script : Script) (cluster : Cluster) (images : List Image) (r : Result Report E) (report : Report)
+pub text_of_report : {A E : Type 0} (over_clean : Type 0) (script : ClusterFile) (cluster : Cluster) (images : List Image) (r : Result Report E) (report : Report)
     (statuses : List Status) (w : Result A CommandError) (a b c : Option (List ℕ)) (same_after : Type 0)
     → r ≡ Ok report → cluster ≡ script.cluster → map program_of images ≡ programs_of script.cluster
     → IfOk r (λ report. AreAllReleased report.front.vec report.released.items)
@@ -105,7 +106,7 @@ partly_of_fault Unwanted error part none unwanted run is = partly_refused error 
 partly_of_fault (Run f) error part none unwanted run is = subst (λ e. IsPartly e part none) (sym (run f refl)) (partly_run f part none (is (λ same. cc)))
 
 -- what was told of a cluster's run is a part of the answer to its script
-pub part_told : (over_clean : Type 0) (script : Script) (cluster : Cluster) (images : List Image) (same_after : Type 0) (a b : Option (List ℕ)) → cluster ≡ script.cluster
+pub part_told : (over_clean : Type 0) (script : ClusterFile) (cluster : Cluster) (images : List Image) (same_after : Type 0) (a b : Option (List ℕ)) → cluster ≡ script.cluster
     → map program_of images ≡ programs_of script.cluster
     → (told : List Told) × (same_after × Appends a b (told_text cluster told)) × AreInOrder told × (over_clean → AreToldMade (map program_of images) (length images) told)
     → IsPartOf over_clean script a b
@@ -117,7 +118,7 @@ part_told over_clean script cluster images same_after a b same programs is = (
 )
 
 -- of a run that comes to no end what was told is written
-pub part_of_run : (over_clean : Type 0) (script : Script) (cluster : Cluster) (images : List Image) (r : Result Report FollowFault) (fault : FollowFault)
+pub part_of_run : (over_clean : Type 0) (script : ClusterFile) (cluster : Cluster) (images : List Image) (r : Result Report FollowFault) (fault : FollowFault)
     (error : CommandError) (same_after : Type 0) (a b : Option (List ℕ)) (none : Type 0)
     → r ≡ Err fault → cluster ≡ script.cluster → map program_of images ≡ programs_of script.cluster
     → (fault ≡ Unwanted → (error ≡ errors.NoMemory) ⊎ (error ≡ errors.CannotWrite)) → ((f : RunFault) → fault ≡ Run f → error ≡ error_of_run f)
@@ -131,12 +132,12 @@ part_of_run over_clean script cluster images r fault error same_after a b none i
     (λ wanted. part_told over_clean script cluster images same_after a b same programs (told wanted))
 
 -- the other two errors may come of any script
-pub refused_is_error : (script : Script) (error : CommandError) → (error ≡ errors.NoMemory) ⊎ (error ≡ errors.CannotWrite) → IsErrorOfFollowed script error
+pub refused_is_error : (script : ClusterFile) (error : CommandError) → (error ≡ errors.NoMemory) ⊎ (error ≡ errors.CannotWrite) → IsErrorOfFollowed script error
 refused_is_error script error (inl is) = subst (IsErrorOfFollowed script) (sym is) tt
 refused_is_error script error (inr is) = subst (IsErrorOfFollowed script) (sym is) tt
 
 -- nothing is written where the script could not be read
-partly_unread : (bytes : List ℕ) (error : CommandError) (part none : Type 0) → IsErrorOf meaning_of no_lines (λ _. ⊥) bytes error → none → IsPartly error part none
+partly_unread : (bytes : List ℕ) (error : CommandError) (part none : Type 0) → IsErrorOf cluster_file_line no_settings (λ _. ⊥) bytes error → none → IsPartly error part none
 partly_unread bytes errors.CannotWrite part none is kept = tt
 partly_unread bytes errors.NoMemory part none is kept = tt
 partly_unread bytes errors.OutOfTurns part none never kept = absurd never
@@ -153,15 +154,15 @@ partly_unread bytes (errors.MissingReceipt y) part none is kept = kept
 partly_unread bytes (errors.Mismatch y) part none is kept = kept
 partly_unread bytes errors.Unlike part none is kept = kept
 
-pub partly_of_reading : (over_clean : Type 0) (remaining : Option (List ℕ)) (start : Script) (error : CommandError) (contents : Option (List ℕ)) → start ≡ no_lines
-    → IfSome remaining (λ bytes. IsErrorOf meaning_of start (λ _. ⊥) bytes error)
+pub partly_of_reading : (over_clean : Type 0) (remaining : Option (List ℕ)) (start : ClusterFile) (error : CommandError) (contents : Option (List ℕ)) → start ≡ no_settings
+    → IfSome remaining (λ bytes. IsErrorOf cluster_file_line start (λ _. ⊥) bytes error)
     → IfSome remaining (λ bytes. IsPartly error (IsPart over_clean bytes contents contents) (Keeps contents contents))
 partly_of_reading over_clean None start error contents is wrong = tt
 partly_of_reading over_clean (Some bytes) start error contents is wrong =
-    partly_unread bytes error _ _ (subst (λ s. IsErrorOf meaning_of s (λ _. ⊥) bytes error) is wrong) (Keeps-refl contents)
+    partly_unread bytes error _ _ (subst (λ s. IsErrorOf cluster_file_line s (λ _. ⊥) bytes error) is wrong) (Keeps-refl contents)
 
 -- a part of the answer to a script is one of the answer to its bytes
-part_of : (over_clean : Type 0) (bytes : List ℕ) (script : Script) (error : CommandError) (a b : Option (List ℕ)) → IsScript meaning_of no_lines bytes script
+part_of : (over_clean : Type 0) (bytes : List ℕ) (script : ClusterFile) (error : CommandError) (a b : Option (List ℕ)) → IsScript cluster_file_line no_settings bytes script
     → IsPartly error (IsPartOf over_clean script a b) (Keeps a b) → IsPartly error (IsPart over_clean bytes a b) (Keeps a b)
 part_of over_clean bytes script errors.CannotWrite a b read is = tt
 part_of over_clean bytes script errors.NoMemory a b read is = tt
@@ -179,19 +180,19 @@ part_of over_clean bytes script (errors.MissingReceipt y) a b read is = is
 part_of over_clean bytes script (errors.Mismatch y) a b read is = is
 part_of over_clean bytes script errors.Unlike a b read is = is
 
-pub partly_of_answer : {A : Type 0} (over_clean : Type 0) (remaining : Option (List ℕ)) (start script : Script) (r : Result A CommandError) (a b : Option (List ℕ)) → start ≡ no_lines
-    → IfSome remaining (λ bytes. IsScript meaning_of start bytes script) → IfErr r (λ error. IsPartly error (IsPartOf over_clean script a b) (Keeps a b))
+pub partly_of_answer : {A : Type 0} (over_clean : Type 0) (remaining : Option (List ℕ)) (start script : ClusterFile) (r : Result A CommandError) (a b : Option (List ℕ)) → start ≡ no_settings
+    → IfSome remaining (λ bytes. IsScript cluster_file_line start bytes script) → IfErr r (λ error. IsPartly error (IsPartOf over_clean script a b) (Keeps a b))
     → IfSome remaining (λ bytes. IfErr r (λ error. IsPartly error (IsPart over_clean bytes a b) (Keeps a b)))
 partly_of_answer over_clean None start script r a b is read part = tt
 partly_of_answer over_clean (Some bytes) start script (Ok x) a b is read part = tt
 partly_of_answer over_clean (Some bytes) start script (Err e) a b is read part =
-    part_of over_clean bytes script e a b (subst (λ s. IsScript meaning_of s bytes script) is read) part
+    part_of over_clean bytes script e a b (subst (λ s. IsScript cluster_file_line s bytes script) is read) part
 
-pub text_of_answer : {A : Type 0} (over_clean : Type 0) (remaining : Option (List ℕ)) (start script : Script) (r : Result A CommandError) (a b : Option (List ℕ)) → start ≡ no_lines
-    → IfSome remaining (λ bytes. IsScript meaning_of start bytes script)
+pub text_of_answer : {A : Type 0} (over_clean : Type 0) (remaining : Option (List ℕ)) (start script : ClusterFile) (r : Result A CommandError) (a b : Option (List ℕ)) → start ≡ no_settings
+    → IfSome remaining (λ bytes. IsScript cluster_file_line start bytes script)
     → OnOk r ((text : List ℕ) × IsFollowedAnswer over_clean script text × Appends a b text)
     → IfSome remaining (λ bytes. OnOk r ((text : List ℕ) × IsFollowedRun over_clean bytes text × Appends a b text))
 text_of_answer over_clean None start script r a b is read answer = tt
 text_of_answer over_clean (Some bytes) start script (Ok x) a b is read answer =
-    (answer.0, record { script = script; is_script = subst (λ s. IsScript meaning_of s bytes script) is read; answer = answer.1 }, answer.2)
+    (answer.0, record { script = script; is_script = subst (λ s. IsScript cluster_file_line s bytes script) is read; answer = answer.1 }, answer.2)
 text_of_answer over_clean (Some bytes) start script (Err e) a b is read answer = tt

@@ -14,14 +14,15 @@ use Rattle.om_process.specs.declared.status.Status.{Status}
 use Rattle.om_scripts.specs.Programs.{Cluster, programs_of}
 use Rattle.om_board.specs.Made.{AreAllMade}
 use Rattle.om_board.specs.Released.{AreAllReleased}
-use Rattle.om_runner.specs.Reports.{AreOutputsOf, AreStatusesAlong, AreWholeOf, HaveAll, HaveAllOf, IsEnd, IsStatusAlong}
+use Rattle.om_runner.specs.Reports.{AreOutputsOf, AreStatusesAlong, AreWholeOf, HaveAll, HaveAllOf, IsStatusAlong}
+use Rattle.om_process.specs.Core.{IsEnd}
 use Rattle.om_board.specs.declared.report.Report.{Report}
 use Rattle.om_runner.specs.declared.fault.RunFault.{RunFault}
 use Rattle.om_runner.specs.declared.fault.RunFault.TheVariants as running
 use Rattle.om_run_commands.specs.Errors.{error_of_run}
-use Rattle.om_run_commands.specs.ClusterScript.{Script, meaning_of, no_lines}
+use Rattle.om_run_commands.specs.ClusterScript.{ClusterFile, cluster_file_line, no_settings}
 use Rattle.om_commands.specs.Command.{IsScript}
-use Rattle.om_run_commands.specs.Run.{AreAlong, IsAnswer, IsReport, IsErrorOfFollowed, IsErrorOfRun, IsErrorOfScript}
+use Rattle.om_run_commands.specs.Run.{AreAlong, IsRunAnswer, IsReport, IsErrorOfFollowed, IsErrorOfRun, IsErrorOfScript}
 use Rattle.om_run_commands.specs.RunText.{run_text}
 use Rattle.om_commands.specs.declared.error.CommandError.{CommandError}
 use Rattle.om_commands.specs.declared.error.CommandError.TheVariants as errors
@@ -90,7 +91,7 @@ is_report over_clean programs images report same_programs are_released made proc
     }
 
 -- a script is answered by what a run of its cluster ends with
-pub is_answer : (over_clean : Type 0) (script : Script) (cluster : Cluster) (images : List Image) (report : Report)
+pub is_answer : (over_clean : Type 0) (script : ClusterFile) (cluster : Cluster) (images : List Image) (report : Report)
     (released : List (Vec Output Global)) (statuses : List Status) (text : List ℕ)
     → cluster ≡ script.cluster → map program_of images ≡ programs_of script.cluster
     → AreAllReleased report.front.vec report.released.items → (over_clean → AreOutputsOf images report.released.items)
@@ -99,7 +100,7 @@ pub is_answer : (over_clean : Type 0) (script : Script) (cluster : Cluster) (ima
     → (over_clean → AreStatusesAlong images report.statuses.items)
     → (over_clean → AreWholeOf images report.statuses.items report.released.items)
     → released ≡ report.released.items → statuses ≡ report.statuses.items
-    → text ≡ run_text cluster (map (λ os. map held_of os.items) released) statuses → IsAnswer over_clean script text
+    → text ≡ run_text cluster (map (λ os. map held_of os.items) released) statuses → IsRunAnswer over_clean script text
 is_answer over_clean script cluster images report released statuses text same_cluster same_programs are_released made processes number ended
     along whole same_released same_statuses written = (
       report,
@@ -116,7 +117,7 @@ pub ok_at : {E : Type 0} (P : Report → Type 0) (r : Result Report E) (report :
 ok_at P r report is holds = subst (λ x. IfOk x P) is holds
 
 -- a script is answered by the report that a run of its cluster answered
-pub answer_of : {E : Type 0} (over_clean : Type 0) (script : Script) (cluster : Cluster) (images : List Image) (r : Result Report E) (report : Report)
+pub answer_of : {E : Type 0} (over_clean : Type 0) (script : ClusterFile) (cluster : Cluster) (images : List Image) (r : Result Report E) (report : Report)
     (released : List (Vec Output Global)) (statuses : List Status) (text : List ℕ)
     → r ≡ Ok report → cluster ≡ script.cluster → map program_of images ≡ programs_of script.cluster
     → IfOk r (λ report. AreAllReleased report.front.vec report.released.items)
@@ -125,7 +126,7 @@ pub answer_of : {E : Type 0} (over_clean : Type 0) (script : Script) (cluster : 
     → (over_clean → IfOk r (λ report. AreStatusesAlong images report.statuses.items))
     → (over_clean → IfOk r (λ report. AreWholeOf images report.statuses.items report.released.items))
     → released ≡ report.released.items → statuses ≡ report.statuses.items
-    → text ≡ run_text cluster (map (λ os. map held_of os.items) released) statuses → IsAnswer over_clean script text
+    → text ≡ run_text cluster (map (λ os. map held_of os.items) released) statuses → IsRunAnswer over_clean script text
 answer_of over_clean script cluster images r report released statuses text is same_cluster same_programs are_released made processes number ended
     along whole same_released same_statuses written =
     is_answer over_clean script cluster images report released statuses text same_cluster same_programs
@@ -139,7 +140,7 @@ answer_of over_clean script cluster images r report released statuses text is sa
     same_released same_statuses written
 
 -- the error of a script is that of the bytes that it is read from
-pub of_script : (bytes : List ℕ) (script : Script) (error : CommandError) → IsScript meaning_of no_lines bytes script
+pub of_script : (bytes : List ℕ) (script : ClusterFile) (error : CommandError) → IsScript cluster_file_line no_settings bytes script
     → IsErrorOfScript script error → IsErrorOfRun bytes error
 of_script bytes script errors.EmptyScript read lacks = record { script = script; is_script = read; is_empty = lacks }
 of_script bytes script errors.NoMemory read told = tt
@@ -157,16 +158,16 @@ of_script bytes script (errors.MissingReceipt y) read never = absurd never
 of_script bytes script (errors.Mismatch y) read never = absurd never
 of_script bytes script errors.Unlike read never = absurd never
 
-pub error_of_answer : {A : Type 0} (remaining : Option (List ℕ)) (start script : Script) (r : Result A CommandError) → start ≡ no_lines
-    → IfSome remaining (λ bytes. IsScript meaning_of start bytes script) → IfErr r (IsErrorOfScript script)
+pub error_of_answer : {A : Type 0} (remaining : Option (List ℕ)) (start script : ClusterFile) (r : Result A CommandError) → start ≡ no_settings
+    → IfSome remaining (λ bytes. IsScript cluster_file_line start bytes script) → IfErr r (IsErrorOfScript script)
     → IfSome remaining (λ bytes. IfErr r (IsErrorOfRun bytes))
 error_of_answer None start script r is read error = tt
 error_of_answer (Some bytes) start script (Ok x) is read error = tt
 error_of_answer (Some bytes) start script (Err e) is read error =
-    of_script bytes script e (subst (λ s. IsScript meaning_of s bytes script) is read) error
+    of_script bytes script e (subst (λ s. IsScript cluster_file_line s bytes script) is read) error
 
 -- the fault of a run is an error of its script, also where outputs are written while it runs
-pub error_of_fault : (script : Script) (fault : RunFault) → 1 ≤ length script.cluster.processes
+pub error_of_fault : (script : ClusterFile) (fault : RunFault) → 1 ≤ length script.cluster.processes
     → IsErrorOfFollowed script (error_of_run fault)
 error_of_fault script (running.Turns p) some = some
 error_of_fault script (running.GateShut p) some = some
@@ -176,7 +177,7 @@ error_of_fault script (running.Load p) some = some
 error_of_fault script running.NoThread some = some
 
 -- the error of a script whose outputs are written while it runs is that of its bytes
-of_followed : (bytes : List ℕ) (script : Script) (error : CommandError) → IsScript meaning_of no_lines bytes script
+of_followed : (bytes : List ℕ) (script : ClusterFile) (error : CommandError) → IsScript cluster_file_line no_settings bytes script
     → IsErrorOfFollowed script error → IsErrorOfRun bytes error
 of_followed bytes script errors.CannotWrite read told = tt
 of_followed bytes script errors.EmptyScript read told = of_script bytes script errors.EmptyScript read told
@@ -194,10 +195,10 @@ of_followed bytes script (errors.MissingReceipt y) read never = absurd never
 of_followed bytes script (errors.Mismatch y) read never = absurd never
 of_followed bytes script errors.Unlike read never = absurd never
 
-pub error_of_followed : {A : Type 0} (remaining : Option (List ℕ)) (start script : Script) (r : Result A CommandError) → start ≡ no_lines
-    → IfSome remaining (λ bytes. IsScript meaning_of start bytes script) → IfErr r (IsErrorOfFollowed script)
+pub error_of_followed : {A : Type 0} (remaining : Option (List ℕ)) (start script : ClusterFile) (r : Result A CommandError) → start ≡ no_settings
+    → IfSome remaining (λ bytes. IsScript cluster_file_line start bytes script) → IfErr r (IsErrorOfFollowed script)
     → IfSome remaining (λ bytes. IfErr r (IsErrorOfRun bytes))
 error_of_followed None start script r is read error = tt
 error_of_followed (Some bytes) start script (Ok x) is read error = tt
 error_of_followed (Some bytes) start script (Err e) is read error =
-    of_followed bytes script e (subst (λ s. IsScript meaning_of s bytes script) is read) error
+    of_followed bytes script e (subst (λ s. IsScript cluster_file_line s bytes script) is read) error

@@ -6,7 +6,7 @@ use Rattle.om_process.specs.declared.status.Status.{Status}
 use Rattle.om_scripts.specs.Programs.{Cluster, programs_of}
 use Rattle.om_world.specs.declared.entry.Entry.{Entry}
 use Rattle.om_commands.specs.Command.{IsScript}
-use Rattle.om_run_commands.specs.ClusterScript.{Script, meaning_of, no_lines}
+use Rattle.om_run_commands.specs.ClusterScript.{ClusterFile, cluster_file_line, no_settings}
 use Rattle.om_run_commands.specs.Run.{IsClusterFile, IsErrorOfRun, IsErrorOfScript}
 use Rattle.om_run_commands.specs.RunText.{run_text}
 use Rattle.om_commands.specs.declared.error.CommandError.{CommandError}
@@ -25,12 +25,12 @@ IsFailureFreeText cluster text = (live : List Entry) × IsTextBy cluster live te
 
 -- the answer to the cluster file that these bytes are
 pub record IsCheckedRun (bytes text : List ℕ) : Type 0 where
-  pub script : Script
-  pub is_script : IsScript meaning_of no_lines bytes script
+  pub script : ClusterFile
+  pub is_script : IsScript cluster_file_line no_settings bytes script
   pub failure_free : IsFailureFreeText script.cluster text
 
 -- the errors are those of a run, and that it is unlike its check
-abbrev pub IsErrorOfCheckedScript : Script → CommandError → Type 0
+abbrev pub IsErrorOfCheckedScript : ClusterFile → CommandError → Type 0
 IsErrorOfCheckedScript script errors.Unlike = 1 ≤ length script.cluster.processes
 IsErrorOfCheckedScript script error = IsErrorOfScript script error
 

@@ -12,7 +12,7 @@ use Rattle.om_run_commands.specs.declared.cluster_script.TheConstants.{DEFAULT_C
 
 -- what has been read: the programs and processes; which processes are to fail, each in which interval; after how many
 -- receipts a process stores its volatile log, and after how many a checkpoint; and how many instructions a turn has
-pub record Script : Type 0 where
+pub record ClusterFile : Type 0 where
   pub cluster : Cluster
   pub kills : List (ℕ × ℕ)
   pub flush : ℕ
@@ -20,8 +20,8 @@ pub record Script : Type 0 where
   pub fuel : ℕ
 
 -- nothing has been read
-abbrev pub no_lines : Script
-no_lines = record {
+abbrev pub no_settings : ClusterFile
+no_settings = record {
   cluster = no_programs;
   kills = [];
   flush = DEFAULT_FLUSH;
@@ -30,11 +30,11 @@ no_lines = record {
 }
 
 -- behind this no line of a program or a process may stand
-abbrev pub closed : Script → Script
+abbrev pub closed : ClusterFile → ClusterFile
 closed script = record script { cluster = record script.cluster { is_closed = true } }
 
 -- `kill NAME INTERVAL`, by the words behind its first, as are the others
-abbrev pub kill_line : Script → List (List ℕ) → Result Script LineError
+abbrev pub kill_line : ClusterFile → List (List ℕ) → Result ClusterFile LineError
 kill_line script (name ∷ interval ∷ []) = do
   x ← or_error (number_of interval) BadNumber
   _ ← refused (not (is_name name)) BadName
@@ -60,23 +60,23 @@ instructions_in (word ∷ []) = do
 instructions_in _ = Err WrongCount
 
 -- `flush K`, in place of what was said before, as the next two
-abbrev pub flush_line : Script → List (List ℕ) → Result Script LineError
+abbrev pub flush_line : ClusterFile → List (List ℕ) → Result ClusterFile LineError
 flush_line script words = receipts_in words >>= λ k. Ok (closed (record script { flush = k }))
 
 -- `checkpoint K`
-abbrev pub checkpoint_line : Script → List (List ℕ) → Result Script LineError
+abbrev pub checkpoint_line : ClusterFile → List (List ℕ) → Result ClusterFile LineError
 checkpoint_line script words = receipts_in words >>= λ k. Ok (closed (record script { checkpoint = k }))
 
 -- `fuel K`
-abbrev pub fuel_line : Script → List (List ℕ) → Result Script LineError
+abbrev pub fuel_line : ClusterFile → List (List ℕ) → Result ClusterFile LineError
 fuel_line script words = instructions_in words >>= λ k. Ok (closed (record script { fuel = k }))
 
 -- a line of a program or of a process
-abbrev pub cluster_line : Script → Result Cluster LineError → Result Script LineError
+abbrev pub cluster_line : ClusterFile → Result Cluster LineError → Result ClusterFile LineError
 cluster_line script read = read >>= λ cluster. Ok (record script { cluster = cluster })
 
 -- a line that says how the cluster is run, by its first word and those behind it
-abbrev pub setting_line : Script → List ℕ → List (List ℕ) → Result Script LineError
+abbrev pub setting_line : ClusterFile → List ℕ → List (List ℕ) → Result ClusterFile LineError
 setting_line script first words =
     if bytes_eq first (codes "kill") then kill_line script words
     else (if bytes_eq first (codes "flush") then flush_line script words
@@ -85,9 +85,9 @@ setting_line script first words =
     else Err UnknownLine)))
 
 -- a line, by its first word
-abbrev pub meaning_of : Script → List (List ℕ) → Result Script LineError
-meaning_of script [] = Err UnknownLine
-meaning_of script (first ∷ words) =
+abbrev pub cluster_file_line : ClusterFile → List (List ℕ) → Result ClusterFile LineError
+cluster_file_line script [] = Err UnknownLine
+cluster_file_line script (first ∷ words) =
     if bytes_eq first (codes "program") then cluster_line script (program_line I script.cluster words)
     else (if bytes_eq first (codes "program-m") then cluster_line script (program_line Im script.cluster words)
     else (if bytes_eq first (codes "proc") then cluster_line script (process_line script.cluster words)

@@ -7,7 +7,7 @@ use Rattle.om_process.specs.Process.{Program}
 use Rattle.om_scripts.specs.Programs.{Cluster, programs_of}
 use Rattle.om_runner.specs.Telling.{AreInOrder, AreToldMade, TellsAll, Told}
 use Rattle.om_commands.specs.Command.{IsScript}
-use Rattle.om_run_commands.specs.ClusterScript.{Script, meaning_of, no_lines}
+use Rattle.om_run_commands.specs.ClusterScript.{ClusterFile, cluster_file_line, no_settings}
 use Rattle.om_run_commands.specs.Run.{IsReport}
 use Rattle.om_run_commands.specs.RunText.{ends_text}
 use Rattle.om_commands.specs.SimText.{name_at, output_line}
@@ -24,7 +24,7 @@ told_text cluster told = flat_map (told_line cluster) told
 
 -- The text of what a run of the cluster of a script ends with: a line for each output that is released, those of a process in
 -- order and each once, and then how each process ended.
-pub record IsFollowedAnswer (over_clean : Type 0) (script : Script) (text : List ℕ) : Type 0 where
+pub record IsFollowedAnswer (over_clean : Type 0) (script : ClusterFile) (text : List ℕ) : Type 0 where
   pub report : Report
   pub is_report : IsReport over_clean (programs_of script.cluster) report
   pub told : List Told
@@ -33,8 +33,8 @@ pub record IsFollowedAnswer (over_clean : Type 0) (script : Script) (text : List
 
 -- the answer to the cluster file that these bytes are
 pub record IsFollowedRun (over_clean : Type 0) (bytes text : List ℕ) : Type 0 where
-  pub script : Script
-  pub is_script : IsScript meaning_of no_lines bytes script
+  pub script : ClusterFile
+  pub is_script : IsScript cluster_file_line no_settings bytes script
   pub answer : IsFollowedAnswer over_clean script text
 
 -- each of what was told of a process is the output of its number that its program makes
@@ -43,14 +43,14 @@ AreMadeBy programs told = AreToldMade programs (length programs) told
 
 -- what was written is a line for each of some outputs, those of a process in order of their numbers, from 0 without a gap; over
 -- clean stores each is its program's
-abbrev pub IsPartOf : Type 0 → Script → Option (List ℕ) → Option (List ℕ) → Type 0
+abbrev pub IsPartOf : Type 0 → ClusterFile → Option (List ℕ) → Option (List ℕ) → Type 0
 IsPartOf over_clean script before after = (told : List Told) × AreInOrder told
     × (over_clean → AreMadeBy (programs_of script.cluster) told) × Appends before after (told_text script.cluster told)
 
 -- so it is for the cluster file that these bytes are
 pub record IsPart (over_clean : Type 0) (bytes : List ℕ) (before after : Option (List ℕ)) : Type 0 where
-  pub script : Script
-  pub is_script : IsScript meaning_of no_lines bytes script
+  pub script : ClusterFile
+  pub is_script : IsScript cluster_file_line no_settings bytes script
   pub part : IsPartOf over_clean script before after
 
 -- Of a run that comes to no end a part is written, and where there is none, nothing. Where the writer refused or memory ran out,

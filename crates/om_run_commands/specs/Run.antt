@@ -6,16 +6,17 @@ use Rattle.om_process.specs.declared.status.Status.{Status}
 use Rattle.om_scripts.specs.Programs.{programs_of}
 use Rattle.om_board.specs.Made.{AreAllMade}
 use Rattle.om_board.specs.Released.{AreAllReleased}
-use Rattle.om_runner.specs.Reports.{HaveAll, IsEnd, IsStatusAlong}
+use Rattle.om_runner.specs.Reports.{HaveAll, IsStatusAlong}
+use Rattle.om_process.specs.Core.{IsEnd}
 use Rattle.om_board.specs.declared.report.Report.{Report}
 use Rattle.om_commands.specs.Command.{IsErrorOf, IsScript}
-use Rattle.om_run_commands.specs.ClusterScript.{Script, meaning_of, no_lines}
+use Rattle.om_run_commands.specs.ClusterScript.{ClusterFile, cluster_file_line, no_settings}
 use Rattle.om_run_commands.specs.RunText.{run_text}
 use Rattle.om_commands.specs.declared.error.CommandError.{CommandError}
 use Rattle.om_commands.specs.declared.error.CommandError.TheVariants as errors
 
 -- a script without a process is empty
-abbrev pub LacksProcesses : Script → Type 0
+abbrev pub LacksProcesses : ClusterFile → Type 0
 LacksProcesses script = length script.cluster.processes ≡ 0
 
 -- by process: its status is that of a state along its program, for some receipts and turns
@@ -40,18 +41,18 @@ abbrev pub outputs_of : Report → List (List HeldOutput)
 outputs_of report = map (λ outputs. map held_of outputs.items) report.released.items
 
 -- the text of what a run of the cluster of a script ends with
-abbrev pub IsAnswer : Type 0 → Script → List ℕ → Type 0
-IsAnswer over_clean script text = (report : Report) × IsReport over_clean (programs_of script.cluster) report
+abbrev pub IsRunAnswer : Type 0 → ClusterFile → List ℕ → Type 0
+IsRunAnswer over_clean script text = (report : Report) × IsReport over_clean (programs_of script.cluster) report
     × (text ≡ run_text script.cluster (outputs_of report) report.statuses.items)
 
 -- the answer to the cluster file that these bytes are
 pub record IsRun (over_clean : Type 0) (bytes text : List ℕ) : Type 0 where
-  pub script : Script
-  pub is_script : IsScript meaning_of no_lines bytes script
-  pub answer : IsAnswer over_clean script text
+  pub script : ClusterFile
+  pub is_script : IsScript cluster_file_line no_settings bytes script
+  pub answer : IsRunAnswer over_clean script text
 
 -- A script without a process is told, and so is it where a run comes to no end. Nothing else of the script is.
-abbrev pub IsErrorOfScript : Script → CommandError → Type 0
+abbrev pub IsErrorOfScript : ClusterFile → CommandError → Type 0
 IsErrorOfScript script errors.EmptyScript = LacksProcesses script
 IsErrorOfScript script errors.NoMemory = Unit {0}
 IsErrorOfScript script errors.OutOfTurns = 1 ≤ length script.cluster.processes
@@ -69,14 +70,14 @@ IsErrorOfScript script (errors.MissingReceipt y) = ⊥
 IsErrorOfScript script (errors.Mismatch y) = ⊥
 
 -- the error of a script whose outputs are written while it runs, or the writer's
-abbrev pub IsErrorOfFollowed : Script → CommandError → Type 0
+abbrev pub IsErrorOfFollowed : ClusterFile → CommandError → Type 0
 IsErrorOfFollowed script errors.CannotWrite = Unit {0}
 IsErrorOfFollowed script error = IsErrorOfScript script error
 
 -- the bytes are a cluster file of a process or more
 pub record IsClusterFile (bytes : List ℕ) : Type 0 where
-  pub script : Script
-  pub is_script : IsScript meaning_of no_lines bytes script
+  pub script : ClusterFile
+  pub is_script : IsScript cluster_file_line no_settings bytes script
   pub some : 1 ≤ length script.cluster.processes
 
 -- The error is that of the bytes; those of a run come only where they are a cluster file.
@@ -85,4 +86,4 @@ IsErrorOfRun bytes errors.OutOfTurns = IsClusterFile bytes
 IsErrorOfRun bytes errors.GateShut = IsClusterFile bytes
 IsErrorOfRun bytes errors.StoreFault = IsClusterFile bytes
 IsErrorOfRun bytes errors.NoThread = IsClusterFile bytes
-IsErrorOfRun bytes error = IsErrorOf meaning_of no_lines LacksProcesses bytes error
+IsErrorOfRun bytes error = IsErrorOf cluster_file_line no_settings LacksProcesses bytes error

@@ -2,7 +2,7 @@
 
 ghost use Rattle.std.specs.Prelude.{◌≡◌, map};
 ghost use Rattle.om_text.specs.Reading.{Gives};
-ghost use Rattle.om_run_commands.specs.ClusterScript.{Script, checkpoint_line, closed, flush_line, fuel_line, instructions_in, kill_line, meaning_of, no_lines, receipts_in, setting_line};
+ghost use Rattle.om_run_commands.specs.ClusterScript.{ClusterFile, checkpoint_line, closed, cluster_file_line, flush_line, fuel_line, instructions_in, kill_line, no_settings, receipts_in, setting_line};
 
 use om_interval::Pid;
 use om_isa::Ext;
@@ -34,7 +34,7 @@ pub struct ClusterScript {
 }
 
 impl Model for ClusterScript {
-    ghost Value = { Script };
+    ghost Value = { ClusterFile };
 
     ghost view = { λ s. record {
       cluster = s.programs;
@@ -47,7 +47,7 @@ impl Model for ClusterScript {
 
 impl ClusterScript {
     pub fn new(alloc: Global) -> ClusterScript
-        ensures { result ≡ no_lines }
+        ensures { result ≡ no_settings }
     {
         ClusterScript {
             programs: Programs::new(alloc),
@@ -165,11 +165,11 @@ impl ClusterScript {
 }
 
 impl Builder for ClusterScript {
-    ghost State = { Script };
+    ghost State = { ClusterFile };
 
     ghost state = { λ script. script };
 
-    ghost meaning = { meaning_of };
+    ghost meaning = { cluster_file_line };
 
     fn add_line(&mut self, alloc: Global, words: &[&[u8]]) -> Result<(), BuildError<LineError>> {
         let [first, words @ ..] = words else {

@@ -3,7 +3,7 @@
 ghost use Rattle.std.specs.Prelude.{◌≡◌, ◌≤◌, ◌⊎◌, ℕ, IfErr, IfOk, IfSome, IsTrue, List, OnOk, length, string_bytes};
 ghost use Rattle.std.specs.Io.KnownBytes.{Appends, Keeps};
 ghost use Rattle.om_runner.specs.Telling.{told_of};
-ghost use Rattle.om_run_commands.specs.ClusterScript.{Script};
+ghost use Rattle.om_run_commands.specs.ClusterScript.{ClusterFile};
 ghost use Rattle.om_run_commands.specs.Errors.{error_of_run};
 ghost use Rattle.om_run_commands.specs.Follow.{IsFollowedAnswer, IsFollowedRun, IsPart, IsPartOf, IsPartly, told_line, told_text};
 ghost use Rattle.om_run_commands.specs.Run.{IsErrorOfFollowed, IsErrorOfRun};
@@ -162,7 +162,7 @@ fn answer<R: Threads + Wait + Clock + Sync, O: Opener<R> + Sync, W: Write + Drop
 
 // As the caller is told why a run that was followed came to no end.
 fn error_of(fault: FollowFault, lacks_memory: bool) -> CommandError
-    ensures error { (script : Script) → 1 ≤ length script.cluster.processes → IsErrorOfFollowed script result }
+    ensures error { (script : ClusterFile) → 1 ≤ length script.cluster.processes → IsErrorOfFollowed script result }
     ensures unwanted { fault ≡ FollowFault.Unwanted → (result ≡ CommandError.NoMemory) ⊎ (result ≡ CommandError.CannotWrite) }
     ensures run { (f : _) → fault ≡ FollowFault.Run f → result ≡ error_of_run f }
 {

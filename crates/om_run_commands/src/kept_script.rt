@@ -1,7 +1,7 @@
 //! Cluster files, with their lines of programs and processes as they stand.
 
 ghost use Rattle.std.specs.Prelude.{◌≡◌};
-ghost use Rattle.om_run_commands.specs.ClusterScript.{Script, meaning_of, no_lines};
+ghost use Rattle.om_run_commands.specs.ClusterScript.{ClusterFile, cluster_file_line, no_settings};
 
 use crate::cluster_script::ClusterScript;
 use om_text::{BuildError, Builder, LineError};
@@ -16,7 +16,7 @@ pub(crate) struct KeptScript {
 
 impl KeptScript {
     pub(crate) fn new(alloc: Global) -> KeptScript
-        ensures { result.script ≡ no_lines }
+        ensures { result.script ≡ no_settings }
     {
         KeptScript {
             script: ClusterScript::new(alloc),
@@ -26,11 +26,11 @@ impl KeptScript {
 }
 
 impl Builder for KeptScript {
-    ghost State = { Script };
+    ghost State = { ClusterFile };
 
     ghost state = { λ kept. kept.script };
 
-    ghost meaning = { meaning_of };
+    ghost meaning = { cluster_file_line };
 
     fn add_line(&mut self, alloc: Global, words: &[&[u8]]) -> Result<(), BuildError<LineError>> {
         self.script.add_line(alloc, words)?;

@@ -3,7 +3,7 @@
 ghost use Rattle.std.specs.Prelude.{◌≡◌, ℕ, List, IsTrue, map, IfSome, IfOk, IfErr, OnOk, string_bytes};
 ghost use Rattle.std.specs.Io.KnownBytes.{Appends, Keeps};
 ghost use Rattle.om_commands.specs.Command.{IsSilent};
-ghost use Rattle.om_run_commands.specs.Run.{IsAnswer, IsErrorOfRun, IsErrorOfScript, IsRun};
+ghost use Rattle.om_run_commands.specs.Run.{IsErrorOfRun, IsErrorOfScript, IsRun, IsRunAnswer};
 
 use crate::cluster_script::ClusterScript;
 use crate::error::error_of_run;
@@ -77,7 +77,7 @@ fn recorded<R: Threads + Wait + Clock + Sync, O: Opener<R> + Sync>(
     kept: KeptScript,
 ) -> Result<(Result<String, CommandError>, Vec<u8>), AllocError>
     ensures text { IfOk result (λ r. IfOk r.0 (λ text.
-        IsAnswer ((store : O.Store) → IsTrue (O.Store.is_clean store)) kept.script (string_bytes text))) }
+        IsRunAnswer ((store : O.Store) → IsTrue (O.Store.is_clean store)) kept.script (string_bytes text))) }
     ensures error { IfOk result (λ r. IfErr r.0 (IsErrorOfScript kept.script)) }
 {
     let KeptScript { script, mut lines } = kept;
@@ -98,7 +98,7 @@ fn answer<R: Threads + Wait + Clock + Sync, O: Opener<R> + Sync>(
     recorder: &Recorder,
 ) -> Result<String, CommandError>
     ensures text { IfOk result (λ text.
-        IsAnswer ((store : O.Store) → IsTrue (O.Store.is_clean store)) script.now (string_bytes text)) }
+        IsRunAnswer ((store : O.Store) → IsTrue (O.Store.is_clean store)) script.now (string_bytes text)) }
     ensures error { IfErr result (IsErrorOfScript script.now) }
 {
     let programs = script.programs();

@@ -5,7 +5,7 @@ ghost use Rattle.std.specs.Io.KnownBytes.{Appends, Keeps};
 ghost use Rattle.om_process.specs.Images.{program_of};
 ghost use Rattle.om_scripts.specs.Programs.{programs_of};
 ghost use Rattle.om_commands.specs.Command.{IsSilent};
-ghost use Rattle.om_run_commands.specs.Run.{IsAnswer, IsErrorOfRun, IsErrorOfScript, IsRun};
+ghost use Rattle.om_run_commands.specs.Run.{IsErrorOfRun, IsErrorOfScript, IsRun, IsRunAnswer};
 
 use crate::cluster_script::ClusterScript;
 use crate::error::error_of_run;
@@ -78,7 +78,7 @@ fn answer<R: Threads + Wait + Clock + Sync, O: Opener<R> + Sync>(
     script: &ClusterScript,
 ) -> Result<String, CommandError>
     ensures text { IfOk result (λ text.
-        IsAnswer ((store : O.Store) → IsTrue (O.Store.is_clean store)) script.now (string_bytes text)) }
+        IsRunAnswer ((store : O.Store) → IsTrue (O.Store.is_clean store)) script.now (string_bytes text)) }
     ensures error { IfErr result (IsErrorOfScript script.now) }
 {
     let programs = script.programs();

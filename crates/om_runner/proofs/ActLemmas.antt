@@ -5,7 +5,7 @@ use Rattle.std.proofs.lemmas.Option.{same_Some}
 use Rattle.std.proofs.Math.Seq.{drop-length, take-length}
 use Rattle.om_process.specs.Core.{CoreState, with_pending}
 use Rattle.om_process.specs.Process.{Program}
-use Rattle.om_process.specs.declared.row.Row.{Row}
+use Rattle.om_process.specs.declared.row.PendingRow.{PendingRow}
 use Rattle.om_board.specs.Made.{IsMade, IsOutputOf}
 use Rattle.om_board.specs.Boards.{BoardState}
 use Rattle.om_manager.specs.Rounds.{Joining}
@@ -39,10 +39,10 @@ joined_in m after p r x g c d same in_round in_interval joins =
     (subst (λ (i : ℕ). Joining m p d.round i (Ok g) after) in_interval (subst (λ (k : ℕ). Joining m p k x (Ok g) after) in_round joins))
 
 -- a manager is pruned where a checkpoint was among the rows, and else is the same
-pub pruned_where : (asked has : Bool) (rows : List Row) (c d : CoreState) → d ≡ c → rows ≡ d.pending → asked ≡ has → (IsTrue has ↔ Any (λ row. IsTrue row.ckpt) rows) → (IsTrue asked ↔ Any (λ row. IsTrue row.ckpt) c.pending)
+pub pruned_where : (asked has : Bool) (rows : List PendingRow) (c d : CoreState) → d ≡ c → rows ≡ d.pending → asked ≡ has → (IsTrue has ↔ Any (λ row. IsTrue row.ckpt) rows) → (IsTrue asked ↔ Any (λ row. IsTrue row.ckpt) c.pending)
 pruned_where asked has rows c d same are is_asked found =
     subst (λ (e : CoreState). IsTrue asked ↔ Any (λ row. IsTrue row.ckpt) e.pending) same
-    (subst (λ (l : List Row). IsTrue asked ↔ Any (λ row. IsTrue row.ckpt) l) are (subst (λ (b : Bool). IsTrue b ↔ Any (λ row. IsTrue row.ckpt) rows) (sym is_asked) found))
+    (subst (λ (l : List PendingRow). IsTrue asked ↔ Any (λ row. IsTrue row.ckpt) l) are (subst (λ (b : Bool). IsTrue b ↔ Any (λ row. IsTrue row.ckpt) rows) (sym is_asked) found))
 
 pub same_where_none : {A : Type 0} (asked : Option A) (a b : BoardState) → IfNone asked (a ≡ b) → IfNone asked (a.manager ≡ b.manager)
 same_where_none None a b same = ap (λ (x : BoardState). x.manager) same

@@ -4,7 +4,7 @@ use Rattle.std.specs.Prelude.{Vec, slice_get}
 use Rattle.std.specs.declared.alloc.Global.{Global}
 use Rattle.std.proofs.lemmas.Option.{none-some, same_Some, slice_get-get_or, slice_get_read}
 use Rattle.om_format.specs.declared.message.Message.{Message}
-use Rattle.om_format.specs.declared.queue.Entry.{Entry}
+use Rattle.om_format.specs.declared.queue.QueueEntry.{QueueEntry}
 use Rattle.om_process.specs.Core.{CoreState}
 use Rattle.om_process.specs.Frames.{frame_of}
 use Rattle.om_board.specs.Inboxes.{Line, Traffic, Takings, MatchPut, MatchTake}
@@ -91,6 +91,6 @@ take_links l puts takes turn from next old new a lt is same within = record {
 
 -- ---- messages
 -- a frame goes from the process to the one that it is for
-pub frame_goes : (c : CoreState) (to ssn : ℕ) (o : Option Entry) (m : Message) → frame_of c to ssn o ≡ Some m → (m.from ≡ c.own) × (m.to ≡ to)
+pub frame_goes : (c : CoreState) (to ssn : ℕ) (o : Option QueueEntry) (m : Message) → frame_of c to ssn o ≡ Some m → (m.from ≡ c.own) × (m.to ≡ to)
 frame_goes c to ssn None m e = absurd (none-some m e)
 frame_goes c to ssn (Some x) m e = let same = same_Some _ m e in (sym (ap (λ (n : Message). n.from) same), sym (ap (λ (n : Message). n.to) same))

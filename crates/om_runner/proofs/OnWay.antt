@@ -8,16 +8,16 @@ use Rattle.std.proofs.lemmas.Bool.{cases_eq}
 use Rattle.std.proofs.lemmas.Option.{none-some, same_Some}
 use Rattle.om_format.specs.Checkpoints.{SpellsCheckpoint}
 use Rattle.om_format.specs.declared.message.Message.{Message}
-use Rattle.om_format.specs.declared.queue.Entry.{Entry}
+use Rattle.om_format.specs.declared.queue.QueueEntry.{QueueEntry}
 use Rattle.om_format.specs.Queues.{QueueRecord, queue_end}
 use Rattle.om_format.specs.declared.version.Version.TheVariants.{V2}
 use Rattle.om_format.proofs.Checkpoints.{one_checkpoint}
-use Rattle.om_stable.specs.Calls.{IsKnown}
+use Rattle.om_stable.specs.Calls.{IsCleanCall}
 use Rattle.om_stable.specs.Content.{Content, with_checkpoint, kept_by_cut, kept_by_prune}
 use Rattle.om_stable.proofs.RecordLemmas.{get-insert_here, get-insert_apart, get-retained}
 use Rattle.om_member.specs.Handed.{held_as}
 use Rattle.om_board.specs.Made.{IsOutputOf}
-use Rattle.om_process.specs.Accepts.{Answers, IsDue, taken, received}
+use Rattle.om_process.specs.Accepts.{Answers, IsDue, taken, as_received}
 use Rattle.om_process.specs.declared.accept.Accept.{Accept}
 use Rattle.om_process.specs.declared.accept.Accept.TheVariants.{Taken, Stranger, Orphan, Repeat, Ahead, NotWaiting, Full, Memory}
 use Rattle.om_process.specs.Claims.{HasEntry}
@@ -25,7 +25,7 @@ use Rattle.om_process.specs.declared.queues.Made.{Made}
 use Rattle.om_process.specs.Frames.{outputs_of}
 use Rattle.om_process.specs.Kept.{made_entry, queue_at}
 use Rattle.om_process.proofs.Making.{part_has}
-use Rattle.om_process.specs.Core.{CoreState, CoreTurns, move_of, size_of, status_of, with_now}
+use Rattle.om_process.specs.Core.{CoreState, CoreTurns, cluster_size, move_of, status_of, with_now}
 use Rattle.om_process.specs.declared.status.Status.{Status}
 use Rattle.om_process.specs.Parts.{Keeps, KeepQueues}
 use Rattle.om_process.specs.Process.{Process, Received, delivered, empty_queue, made, started}
@@ -45,7 +45,7 @@ keep_themselves : (qs : List QueueRecord) → KeepQueues qs qs
 keep_themselves [] = tt
 keep_themselves (q ∷ qs) = (([], refl, add-zero_of q.first), keep_themselves qs)
   where
-    add-zero_of : (x : ℕ) → x ≡ x + length {A = Entry} []
+    add-zero_of : (x : ℕ) → x ≡ x + length {A = QueueEntry} []
     add-zero_of x = omega arith
 
 keeps_itself : (s : Process) → Keeps s s
@@ -122,7 +122,7 @@ stored_pruned m to held stored x bytes at c spelled =
 pub node_called : {S : Type 0} (content : S → Content) (is_clean : S → Bool) (IsSound : S → Type 0) (m : Member) (core next : CoreState) (old new : S)
     → IsNode content is_clean IsSound (record { member = m; core = core }) old
     → (IsTrue (is_clean new) → IsTrue (is_clean old)) → (IsTrue (is_clean new) → IsSound old → IsSound new)
-    → next.own ≡ core.own → size_of next.now ≡ size_of core.now
+    → next.own ≡ core.own → cluster_size next.now ≡ cluster_size core.now
     → (IsOnWay m core.now → IsOnWay m next.now)
     → (IsTrue (is_clean new) × IsSound old → IsOnWay m core.now → AreOnWay m (content old) → AreOnWay m (content new))
     → IsNode content is_clean IsSound (record { member = m; core = next }) new
@@ -139,7 +139,7 @@ node_called content is_clean IsSound m core next old new is clean sound own size
 -- after a move of the process alone
 pub node_moved : {S : Type 0} (content : S → Content) (is_clean : S → Bool) (IsSound : S → Type 0) (m : Member) (core next : CoreState) (store : S)
     → IsNode content is_clean IsSound (record { member = m; core = core }) store
-    → next.own ≡ core.own → size_of next.now ≡ size_of core.now
+    → next.own ≡ core.own → cluster_size next.now ≡ cluster_size core.now
     → (IsOnWay m core.now → IsOnWay m next.now)
     → IsNode content is_clean IsSound (record { member = m; core = next }) store
 node_moved content is_clean IsSound m core next store is own size on =
@@ -157,13 +157,13 @@ node_through content is_clean IsSound m core seen store held same_core same_stor
 -- it has run
 pub node_ran : {S : Type 0} (content : S → Content) (is_clean : S → Bool) (IsSound : S → Type 0) (m : Member) (core next : CoreState) (store : S) (fuel : ℕ)
     → IsNode content is_clean IsSound (record { member = m; core = core }) store
-    → (k : ℕ) × (k ≤ fuel) × CoreTurns k core next → next ≡ with_now core next.now → size_of next.now ≡ size_of core.now
+    → (k : ℕ) × (k ≤ fuel) × CoreTurns k core next → next ≡ with_now core next.now → cluster_size next.now ≡ cluster_size core.now
     → IsNode content is_clean IsSound (record { member = m; core = next }) store
 node_ran content is_clean IsSound m core next store fuel is ran rest size =
     node_moved content is_clean IsSound m core next store is (ap (λ (c : CoreState). c.own) rest) size
     (λ on. way_turns m ran.0 core.now next.now on (subst (λ o. Turns o m.n ran.0 core.now next.now) is.own (subst (λ n. Turns core.own n ran.0 core.now next.now) is.size ran.2)))
 
-taken_size : (core : CoreState) (message : Message) → size_of (taken core message).now ≡ size_of core.now
+taken_size : (core : CoreState) (message : Message) → cluster_size (taken core message).now ≡ cluster_size core.now
 taken_size core message = length-set _ _ _ ∙ length-set _ _ _
 
 -- it has taken a message
@@ -172,7 +172,7 @@ node_took : {S : Type 0} (content : S → Content) (is_clean : S → Bool) (IsSo
     → IsNode content is_clean IsSound (record { member = m; core = taken core message }) store
 node_took content is_clean IsSound m core store message is due =
     node_moved content is_clean IsSound m core (taken core message) store is refl (taken_size core message)
-    (λ on. subst (λ o. IsOnWay m (delivered o core.now (received message))) (sym is.own) (way_delivered m core.now (received message) on (subst (λ o. IsWaiting o m.n core.now) is.own (subst (λ n. IsWaiting core.own n core.now) is.size due.waits))))
+    (λ on. subst (λ o. IsOnWay m (delivered o core.now (as_received message))) (sym is.own) (way_delivered m core.now (as_received message) on (subst (λ o. IsWaiting o m.n core.now) is.own (subst (λ n. IsWaiting core.own n core.now) is.size due.waits))))
 
 -- it was offered one
 pub node_offered : {S : Type 0} (content : S → Content) (is_clean : S → Bool) (IsSound : S → Type 0) (m : Member) (core next : CoreState) (store : S) (message : Message) (answer : Accept)
@@ -201,7 +201,7 @@ node_offered content is_clean IsSound m core next store message answer is = by_a
 pub node_flushed : {S : Type 0} (content : S → Content) (is_clean : S → Bool) (IsSound : S → Type 0) (m : Member) (core next : CoreState) (old new : S)
     → IsNode content is_clean IsSound (record { member = m; core = core }) old
     → next ≡ flushed core → (IsTrue (is_clean new) → IsTrue (is_clean old)) → (IsTrue (is_clean new) → IsSound old → IsSound new)
-    → (IsKnown is_clean IsSound old new → HasGainedLog core (content old) (content new))
+    → (IsCleanCall is_clean IsSound old new → HasGainedLog core (content old) (content new))
     → IsNode content is_clean IsSound (record { member = m; core = next }) new
 node_flushed content is_clean IsSound m core next old new is went clean sound gained =
     subst (λ d. IsNode content is_clean IsSound (record { member = m; core = d }) new) (sym went)
@@ -211,7 +211,7 @@ node_flushed content is_clean IsSound m core next old new is went clean sound ga
 pub node_checkpointed : {S : Type 0} (content : S → Content) (is_clean : S → Bool) (IsSound : S → Type 0) (m : Member) (core next : CoreState) (old new : S)
     → IsNode content is_clean IsSound (record { member = m; core = core }) old
     → next ≡ checkpointed core → (IsTrue (is_clean new) → IsTrue (is_clean old)) → (IsTrue (is_clean new) → IsSound old → IsSound new)
-    → (IsKnown is_clean IsSound old new → HasGainedCheckpoint core (content old) (content new))
+    → (IsCleanCall is_clean IsSound old new → HasGainedCheckpoint core (content old) (content new))
     → IsNode content is_clean IsSound (record { member = m; core = next }) new
 node_checkpointed content is_clean IsSound m core next old new is went clean sound gained =
     subst (λ d. IsNode content is_clean IsSound (record { member = m; core = d }) new) (sym went)
@@ -221,7 +221,7 @@ node_checkpointed content is_clean IsSound m core next old new is went clean sou
 pub node_refused : {S : Type 0} (content : S → Content) (is_clean : S → Bool) (IsSound : S → Type 0) (m : Member) (core next : CoreState) (old new : S)
     → IsNode content is_clean IsSound (record { member = m; core = core }) old
     → next ≡ core → (IsTrue (is_clean new) → IsTrue (is_clean old)) → (IsTrue (is_clean new) → IsSound old → IsSound new)
-    → (IsKnown is_clean IsSound old new → content new ≡ content old)
+    → (IsCleanCall is_clean IsSound old new → content new ≡ content old)
     → IsNode content is_clean IsSound (record { member = m; core = next }) new
 node_refused content is_clean IsSound m core next old new is went clean sound same =
     subst (λ d. IsNode content is_clean IsSound (record { member = m; core = d }) new) (sym went)
@@ -231,7 +231,7 @@ node_refused content is_clean IsSound m core next old new is went clean sound sa
 pub node_pruned : {S : Type 0} (content : S → Content) (is_clean : S → Bool) (IsSound : S → Type 0) (m : Member) (core : CoreState) (old new : S) (to : ℕ)
     → IsNode content is_clean IsSound (record { member = m; core = core }) old
     → (IsTrue (is_clean new) → IsTrue (is_clean old)) → (IsTrue (is_clean new) → IsSound old → IsSound new)
-    → (IsKnown is_clean IsSound old new → content new ≡ kept_by_prune (content old) to)
+    → (IsCleanCall is_clean IsSound old new → content new ≡ kept_by_prune (content old) to)
     → IsNode content is_clean IsSound (record { member = m; core = core }) new
 node_pruned content is_clean IsSound m core old new to is clean sound pruned =
     node_called content is_clean IsSound m core core old new is clean sound refl refl (λ on. on) (λ known on stored. subst (AreOnWay m) (sym (pruned known)) (stored_pruned m to (content old) stored))
@@ -251,20 +251,20 @@ pub node_told : {S : Type 0} (content : S → Content) (is_clean : S → Bool) (
     → next.own ≡ core.own → next.now ≡ core.now
     → IsNode content is_clean IsSound (record { member = m; core = next }) store
 node_told content is_clean IsSound m core next store is own now =
-    node_moved content is_clean IsSound m core next store is own (ap size_of now) (λ on. subst (IsOnWay m) (sym now) on)
+    node_moved content is_clean IsSound m core next store is own (ap cluster_size now) (λ on. subst (IsOnWay m) (sym now) on)
 
 -- it has started over a store that held nothing
 pub node_started : {S : Type 0} (content : S → Content) (is_clean : S → Bool) (IsSound : S → Type 0) (m : Member) (core : CoreState) (old new : S)
     → core ≡ started_core m.program m.own m.n → Along m.program m.own m.n [] 0 core.now
     → (IsTrue (is_clean old) → IsSound old) → (IsTrue (is_clean old) → content old ≡ nothing)
     → (IsTrue (is_clean new) → IsTrue (is_clean old)) → (IsTrue (is_clean new) → IsSound old → IsSound new)
-    → (IsKnown is_clean IsSound old new → HasGainedCheckpoint core (content old) (content new))
+    → (IsCleanCall is_clean IsSound old new → HasGainedCheckpoint core (content old) (content new))
     → IsNode content is_clean IsSound (record { member = m; core = core }) new
 node_started content is_clean IsSound m core old new at along was empty clean sound gained =
     let on : IsOnWay m core.now = ([], (core.now, (0, along), keeps_itself core.now)) in
     record {
       own = ap (λ (c : CoreState). c.own) at;
-      size = ap (λ (c : CoreState). size_of c.now) at ∙ length-replicate m.n 0;
+      size = ap (λ (c : CoreState). cluster_size c.now) at ∙ length-replicate m.n 0;
       kept = record {
         sound = λ c. sound c (was (clean c));
         stored = λ c. stored_checkpoint m core (content old) (content new) (subst (AreOnWay m) (sym (empty (clean c))) (stored_nothing m)) on (gained (c, was (clean c)));
@@ -275,10 +275,10 @@ node_started content is_clean IsSound m core old new at along was empty clean so
 -- it came back
 pub node_back : {S : Type 0} (content : S → Content) (is_clean : S → Bool) (IsSound : S → Type 0) (m : Member) (core : CoreState) (old new : S) (r : ℕ)
     → IsKept content is_clean IsSound m old
-    → core.own ≡ m.own → size_of core.now ≡ m.n
+    → core.own ≡ m.own → cluster_size core.now ≡ m.n
     → (IsTrue (is_clean new) → IsTrue (is_clean old)) → (IsTrue (is_clean new) → IsSound old → IsSound new)
-    → (IsKnown is_clean IsSound old new → IsReplay (content old) r core)
-    → (IsKnown is_clean IsSound old new → content new ≡ kept_by_cut (content old) r)
+    → (IsCleanCall is_clean IsSound old new → IsReplay (content old) r core)
+    → (IsCleanCall is_clean IsSound old new → content new ≡ kept_by_cut (content old) r)
     → IsNode content is_clean IsSound (record { member = m; core = core }) new
 node_back content is_clean IsSound m core old new r kept own size clean sound replayed cut = record {
   own = own;
@@ -289,7 +289,7 @@ node_back content is_clean IsSound m core old new r kept own size clean sound re
   };
   stands = λ c.
       let at = replayed (c, kept.sound (clean c)) in
-      way_replayed m r (content old) core.now (kept.stored (clean c)) (subst (λ n. StandsAfter Anyone (content old) r r m.own n core.now) size (subst (λ o. StandsAfter Anyone (content old) r r o (size_of core.now) core.now) own at));
+      way_replayed m r (content old) core.now (kept.stored (clean c)) (subst (λ n. StandsAfter Anyone (content old) r r m.own n core.now) size (subst (λ o. StandsAfter Anyone (content old) r r o (cluster_size core.now) core.now) own at));
 }
 
 -- how it has ended, and how many outputs it has made
@@ -297,7 +297,7 @@ pub node_whole : {S : Type 0} (content : S → Content) (is_clean : S → Bool) 
     → IsNode content is_clean IsSound (record { member = m; core = core }) store → IsTrue (is_clean store) → status ≡ status_of (move_of core)
     → IsWholeRun m.program m.own m.n status (queue_end (outputs_of core))
 node_whole content is_clean IsSound m core store status is clean at =
-    let told : status ≡ status_of (next_move m.own m.n core.now.machine (made core.now.queues)) = subst (λ n. status ≡ status_of (next_move m.own n core.now.machine (made core.now.queues))) is.size (subst (λ o. status ≡ status_of (next_move o (size_of core.now) core.now.machine (made core.now.queues))) is.own at) in
+    let told : status ≡ status_of (next_move m.own m.n core.now.machine (made core.now.queues)) = subst (λ n. status ≡ status_of (next_move m.own n core.now.machine (made core.now.queues))) is.size (subst (λ o. status ≡ status_of (next_move o (cluster_size core.now) core.now.machine (made core.now.queues))) is.own at) in
     let count : queue_end (outputs_of core) ≡ outputs_made m.n core.now = ap (λ n. outputs_made n core.now) is.size in
     subst (λ k. IsWholeRun m.program m.own m.n status k) (sym count)
     (subst (λ s. IsWholeRun m.program m.own m.n s (outputs_made m.n core.now)) (sym told) (way_whole m core.now (is.stands clean)))
@@ -305,7 +305,7 @@ node_whole content is_clean IsSound m core store status is clean at =
 -- what it keeps as an output is one that its program makes
 pub node_output : {S : Type 0} (content : S → Content) (is_clean : S → Bool) (IsSound : S → Type 0) (m : Member) (core : CoreState) (store : S) (output : Made)
     → IsNode content is_clean IsSound (record { member = m; core = core }) store → IsTrue (is_clean store)
-    → HasEntry core.now.queues (size_of core.now) output.seq (made_entry output) → IsOutputOf m.program m.own m.n output.seq (held_as output)
+    → HasEntry core.now.queues (cluster_size core.now) output.seq (made_entry output) → IsOutputOf m.program m.own m.n output.seq (held_as output)
 node_output content is_clean IsSound m core store output is clean has =
     let on = is.stands clean in
     let here : HasEntry core.now.queues m.n output.seq (made_entry output) = subst (λ n. HasEntry core.now.queues n output.seq (made_entry output)) is.size has in

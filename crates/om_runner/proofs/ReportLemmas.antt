@@ -12,7 +12,8 @@ use Rattle.om_manager.specs.declared.output_log.Output.{Output}
 use Rattle.om_process.specs.Process.{Program}
 use Rattle.om_board.specs.Made.{AreAllMade}
 use Rattle.std.proofs.lemmas.Result.{IfOk-weaker}
-use Rattle.om_runner.specs.Reports.{AreAlong, AreOutputsOf, AreStatusesAlong, AreWholeOf, HaveAllOf, IsEnd, IsWholeRun}
+use Rattle.om_runner.specs.Reports.{AreAlong, AreOutputsOf, AreStatusesAlong, AreWholeOf, HaveAllOf, IsWholeRun}
+use Rattle.om_process.specs.Core.{IsEnd}
 use Rattle.om_board.specs.Inboxes.{Traffic, Takings}
 use Rattle.om_runner.specs.declared.results.Finished.{Finished}
 use Rattle.om_runner.specs.declared.network.Ends.{Ends}

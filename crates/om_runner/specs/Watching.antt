@@ -2,7 +2,7 @@
 use Rattle.std.specs.Prelude.{◌≡◌, ◌≢◌, ◌≤◌, ◌+◌, ℕ, List, Option, Some, None, min}
 use Rattle.std.specs.List.{All, Any, sum_by}
 use Rattle.om_board.specs.declared.front.Front.{Front}
-use Rattle.om_runner.specs.Reports.{IsEnd}
+use Rattle.om_process.specs.Core.{IsEnd}
 use Rattle.om_runner.specs.declared.sight.Doing.{Doing}
 use Rattle.om_runner.specs.declared.sight.Doing.TheVariants.{Begins, Up, Called, Joined, Down}
 use Rattle.om_runner.specs.declared.sight.Sight.{Sight}

@@ -1,7 +1,7 @@
 //! What a worker tells the recorder of a run, and the herald of its outputs.
 
 ghost use Rattle.std.specs.Prelude.{◌<◌};
-ghost use Rattle.om_process.specs.Core.{size_of};
+ghost use Rattle.om_process.specs.Core.{cluster_size};
 
 use crate::herald::Herald;
 use crate::recorder::{Act, Letter, Recorder};
@@ -100,7 +100,7 @@ fn add_messages_to(
     to: Pid,
     next: u32,
 ) -> Result<u32, AllocError>
-    requires { to < size_of core.now.now }
+    requires { to < cluster_size core.now.now }
 {
     let outbox = core.outbox(to);
     let Some(oldest) = outbox.first() else {

@@ -6,7 +6,7 @@ ghost use Rattle.om_board.specs.Boards.{IsBoard};
 ghost use Rattle.om_board.specs.Made.{AreAllMade, AreMade, HoldsMade};
 ghost use Rattle.om_board.specs.Released.{AreAllReleased, AreReleased};
 ghost use Rattle.om_interval.specs.declared.pid.TheConstants.{MAX_PROCESSES};
-ghost use Rattle.om_manager.specs.State.{size_of};
+ghost use Rattle.om_manager.specs.State.{process_count};
 ghost use Rattle.om_manager.specs.declared.output_log.Output.{Output};
 ghost use Rattle.om_process.specs.Process.{Program};
 ghost use Rattle.om_runner.specs.Telling.{AreInOrder, AreToldMade, TellsAll, Told};
@@ -84,7 +84,7 @@ fn add_new(alloc: Global, lane: &mut Lane, released: &[Output]) -> Result<(), Al
 
 // Adds what the manager has released beyond what is there.
 fn add_all(alloc: Global, lanes: &mut Vec<Lane>, manager: &Manager) -> Result<(), AllocError>
-    requires { vec_len lanes.old ≡ size_of manager.now }
+    requires { vec_len lanes.old ≡ process_count manager.now }
     ensures many { vec_len lanes.new ≡ vec_len lanes.old }
     ensures same { (p : ℕ) → told_in p (slice_get lanes.new.items p) ≡ told_in p (slice_get lanes.old.items p) }
     ensures kept { AreKept manager.now.recovery lanes.old.items → AreKept manager.now.recovery lanes.new.items }

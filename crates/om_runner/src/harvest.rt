@@ -6,7 +6,7 @@ ghost use Rattle.om_board.specs.Fronts.{EndsWith, front_of};
 ghost use Rattle.om_board.specs.Made.{AreAllMade, AreMade, HoldsMade};
 ghost use Rattle.om_board.specs.Released.{AreAllReleased, AreReleased};
 ghost use Rattle.om_manager.specs.Outputs.{held_of};
-ghost use Rattle.om_manager.specs.State.{size_of};
+ghost use Rattle.om_manager.specs.State.{process_count};
 ghost use Rattle.om_runner.specs.steps.Acts.{AreAllOf, UnderLock};
 ghost use Rattle.om_runner.specs.steps.Harvests.{AreOwn, harvested};
 
@@ -55,7 +55,7 @@ impl<K: Naming> Harvest<K> {
         pid: Pid,
         pass: Pass<K>,
     ) -> Result<Harvest<K>, AllocError>
-        requires known { pid < size_of manager.now }
+        requires known { pid < process_count manager.now }
         requires seen { EndsWith pass (front_of manager.now) }
         requires made { K.OverClean → HoldsMade K.programs K.cell.n manager.now }
         ensures own { IfOk result (λ h. h.own ≡ pid) }

@@ -2,7 +2,7 @@
 
 ghost use Rattle.std.specs.Prelude.{◌≡◌, ◌<◌, ◌≤◌, length};
 ghost use Rattle.om_interval.specs.declared.pid.TheConstants.{MAX_PROCESSES};
-ghost use Rattle.om_process.specs.Core.{size_of};
+ghost use Rattle.om_process.specs.Core.{cluster_size};
 ghost use Rattle.om_runner.specs.steps.Network.{ArePuts, AreTakes, IsNetwork};
 ghost use Rattle.om_runner.specs.steps.Wiring.{HasEnds};
 
@@ -52,7 +52,7 @@ pub(crate) struct Links<'a> {
 }
 
 impl<'a> Model for Links<'a> {
-    ghost use Rattle.om_runner.specs.steps.Network.{LinksState, AreLinks};
+    ghost use Rattle.om_runner.specs.steps.Network.{AreLinks, LinksState};
 
     ghost Value = { LinksState };
 
@@ -224,7 +224,7 @@ impl<'a> Links<'a> {
         core: &ProcCore,
     ) -> Result<(), AllocError>
         requires own { core.now.own ≡ self.old.own }
-        requires size { size_of core.now.now ≡ self.old.n }
+        requires size { cluster_size core.now.now ≡ self.old.n }
         ensures { self.new ≡ self.old }
     {
         for to in 0..self.n {
@@ -241,7 +241,7 @@ impl<'a> Links<'a> {
         to: Pid,
     ) -> Result<(), AllocError>
         requires own { core.now.own ≡ self.old.own }
-        requires size { size_of core.now.now ≡ self.old.n }
+        requires size { cluster_size core.now.now ≡ self.old.n }
         requires to { to < self.old.n }
         ensures { self.new ≡ self.old }
     {
@@ -270,7 +270,7 @@ impl<'a> Links<'a> {
         k: usize,
     ) -> Result<bool, AllocError>
         requires own { core.now.own ≡ self.old.own }
-        requires size { size_of core.now.now ≡ self.old.n }
+        requires size { cluster_size core.now.now ≡ self.old.n }
         requires to { to < self.old.n }
         ensures { self.new ≡ self.old }
     {

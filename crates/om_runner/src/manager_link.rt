@@ -14,7 +14,7 @@ use crate::worker_fault::WorkerFault;
 use om_board::{Front, Naming, Pass, Shared};
 use om_interval::{Bounds, Pid, Starts, Verdict};
 use om_member::Office;
-use om_process::{ProcCore, Row};
+use om_process::{ProcCore, PendingRow};
 use om_stable::Stable;
 use std::alloc::Global;
 use std::sync::Wait;
@@ -60,14 +60,14 @@ pub(crate) struct ManagerLink<'a, K: Naming> {
 }
 
 // Whether one of the rows is a checkpoint's.
-fn have_checkpoint(rows: &[Row]) -> bool
+fn have_checkpoint(rows: &[PendingRow]) -> bool
     ensures { IsTrue result ↔ Any (λ row. IsTrue row.ckpt) rows.now }
 {
     rows.iter().any(|row| row.ckpt)
 }
 
 // Whether one of them is a receipt's.
-fn have_receipt(rows: &[Row]) -> bool {
+fn have_receipt(rows: &[PendingRow]) -> bool {
     rows.iter().any(|row| !row.ckpt)
 }
 

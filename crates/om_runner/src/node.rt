@@ -1,16 +1,16 @@
 //! A process over its store.
 
 ghost use Rattle.std.specs.Prelude.{◌≡◌, ◌↔◌, ◌<◌, IfErr, IfOk, IfSome, IsTrue, OnOk, drop, length};
-ghost use Rattle.om_manager.specs.State as managers;
+ghost use Rattle.om_manager.specs.State.{held_by, process_count};
 ghost use Rattle.om_member.specs.Handed.{AreHandedUpTo, outputs_from};
 ghost use Rattle.om_member.specs.Keeps.{Keeps};
 ghost use Rattle.om_member.specs.Told.{IsToldUpTo};
 ghost use Rattle.om_format.specs.Queues.{queue_end};
-ghost use Rattle.om_process.specs.Core.{move_of, size_of, status_of, with_pending};
+ghost use Rattle.om_process.specs.Core.{IsEnd, cluster_size, move_of, status_of, with_pending};
 ghost use Rattle.om_process.specs.Frames.{outputs_of};
 ghost use Rattle.om_process.specs.Images.{program_of};
 ghost use Rattle.om_process.specs.Stores.{flushed};
-ghost use Rattle.om_runner.specs.Reports.{IsEnd, IsWholeRun, nothing};
+ghost use Rattle.om_runner.specs.Reports.{IsWholeRun, nothing};
 ghost use Rattle.om_runner.specs.steps.Nodes.{TakesFrom};
 
 use crate::worker_fault::WorkerFault;
@@ -38,7 +38,7 @@ pub(crate) struct Node<'a, S: Stable> {
 
 impl<'a, S: Stable> Model for Node<'a, S> {
     ghost use Rattle.om_process.specs.Images.{program_of};
-    ghost use Rattle.om_runner.specs.steps.Nodes.{NodeState, IsNode};
+    ghost use Rattle.om_runner.specs.steps.Nodes.{IsNode, NodeState};
 
     ghost Value = { NodeState };
 
@@ -62,7 +62,7 @@ pub(crate) struct DownNode<'a, S: Stable> {
 
 impl<'a, S: Stable> Model for DownNode<'a, S> {
     ghost use Rattle.om_process.specs.Images.{program_of};
-    ghost use Rattle.om_runner.specs.steps.Nodes.{Member, IsKept};
+    ghost use Rattle.om_runner.specs.steps.Nodes.{IsKept, Member};
 
     ghost Value = { Member };
 
@@ -129,7 +129,7 @@ impl<'a, S: Stable> Node<'a, S> {
     pub(crate) fn core(&self) -> &ProcCore
         ensures core { result.now ≡ self.now.core }
         ensures own { self.now.core.own ≡ self.now.member.own }
-        ensures size { size_of self.now.core.now ≡ self.now.member.n }
+        ensures size { cluster_size self.now.core.now ≡ self.now.member.n }
     {
         &self.core
     }
@@ -187,11 +187,11 @@ impl<'a, S: Stable> Node<'a, S> {
         office: &mut O,
         alloc: Global,
     ) -> Result<(), OutputError>
-        requires known { self.now.member.own < managers.size_of (O.state office.old) }
+        requires known { self.now.member.own < process_count (O.state office.old) }
         requires taken { TakesFrom O.Takes S.is_clean self.now.member }
         ensures keeps { Keeps (O.state office.old) (O.state office.new) }
         ensures handed { let p = self.now.member.own in AreHandedUpTo (O.state office.old) self.now.core.round p
-            (outputs_from self.now.core (length (managers.held_by (O.state office.old) p))) result (O.state office.new) }
+            (outputs_from self.now.core (length (held_by (O.state office.old) p))) result (O.state office.new) }
     {
         om_member::hand_in(&self.core, office, alloc, self.pid)
     }

@@ -1,7 +1,8 @@
 //! What workers bring back, and which fault is told of all.
 
 ghost use Rattle.std.specs.Prelude.{◌≡◌, ◌≤◌, ◌↔◌, ◌⊎◌, All, IfErr, IfNone, IfOk, IfSome, IsTrue, OnOk, length, map, vec_len};
-ghost use Rattle.om_runner.specs.Reports.{IsEnd, IsFaultOf};
+ghost use Rattle.om_runner.specs.Reports.{IsFaultOf};
+ghost use Rattle.om_process.specs.Core.{IsEnd};
 ghost use Rattle.om_runner.specs.declared.fault.RunFault.TheVariants.{Memory};
 ghost use Rattle.om_runner.specs.steps.Ends.{AreBelow, AreEndsOf, AreOwnEnds, AreWholeOver, IsGiven, IsLeastFault, IsOut, IsWell};
 ghost use Rattle.om_runner.specs.steps.Harvests.{AreOwn, harvested};

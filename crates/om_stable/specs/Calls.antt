@@ -5,8 +5,8 @@ use Rattle.om_stable.specs.declared.error.StoreError.{StoreError}
 use Rattle.om_stable.specs.declared.error.StoreError.TheVariants.{Fault}
 
 -- what a call does to the content is known: the store is clean as it ends, and was sound as it began
-abbrev pub IsKnown : {S : Type 0} → (S → Bool) → (S → Type 0) → S → S → Type 0
-IsKnown is_clean IsSound old new = IsTrue (is_clean new) × IsSound old
+abbrev pub IsCleanCall : {S : Type 0} → (S → Bool) → (S → Type 0) → S → S → Type 0
+IsCleanCall is_clean IsSound old new = IsTrue (is_clean new) × IsSound old
 
 -- what a call keeps and counts, by the store before, its error if any, and the store after
 pub record IsCall {S : Type 0} (failed : S → ℕ) (is_clean : S → Bool) (IsSound : S → Type 0)

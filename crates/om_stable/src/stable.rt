@@ -3,7 +3,7 @@ ghost use Rattle.std.specs.Result.{result_err};
 ghost use Rattle.std.specs.FinMap as map;
 ghost use Rattle.om_stable.specs.declared.error.StoreError.{StoreError};
 ghost use Rattle.om_stable.specs.Content.{Content, IsFree, IsTaken, IsEffective, with_receipts, with_checkpoint, between, bytes_of, rows_of, kept_by_cut, kept_by_prune};
-ghost use Rattle.om_stable.specs.Calls.{IsCall, IsKnown};
+ghost use Rattle.om_stable.specs.Calls.{IsCall, IsCleanCall};
 
 use crate::error::StoreError;
 use std::alloc::Global;
@@ -45,43 +45,43 @@ pub trait Stable: Drop {
         recs: &[Vec<u8>],
     ) -> Result<(), StoreError>
         requires { first + length recs.now ≤ INTERVALS }
-        ensures put { IsKnown is_clean IsSound self.old self.new
+        ensures put { IsCleanCall is_clean IsSound self.old self.new
             → OnOk result (content self.new
             ≡ with_receipts (content self.old) first (bytes_of recs.now)) }
-        ensures free { IsKnown is_clean IsSound self.old self.new
+        ensures free { IsCleanCall is_clean IsSound self.old self.new
             → OnOk result (IsFree (content self.old).receipts first (length recs.now)) }
-        ensures present { IsKnown is_clean IsSound self.old self.new
+        ensures present { IsCleanCall is_clean IsSound self.old self.new
             → IsErrOf result StoreError.Present
             → IsTaken (content self.old).receipts first (length recs.now) }
-        ensures refused { IsKnown is_clean IsSound self.old self.new
+        ensures refused { IsCleanCall is_clean IsSound self.old self.new
             → OnErr result (content self.new ≡ content self.old) }
         ensures call { IsCall failed is_clean IsSound call_gives self.old (result_err result) self.new };
 
     /// Puts a checkpoint at `x`.
     fn put_checkpoint(&mut self, alloc: Global, x: u32, bytes: &[u8]) -> Result<(), StoreError>
-        ensures put { IsKnown is_clean IsSound self.old self.new
+        ensures put { IsCleanCall is_clean IsSound self.old self.new
             → OnOk result (content self.new ≡ with_checkpoint (content self.old) x bytes.now) }
-        ensures free { IsKnown is_clean IsSound self.old self.new
+        ensures free { IsCleanCall is_clean IsSound self.old self.new
             → OnOk result (map.get (content self.old).checkpoints x ≡ None) }
-        ensures present { IsKnown is_clean IsSound self.old self.new
+        ensures present { IsCleanCall is_clean IsSound self.old self.new
             → IsErrOf result StoreError.Present
             → IsSome (map.get (content self.old).checkpoints x) }
-        ensures refused { IsKnown is_clean IsSound self.old self.new
+        ensures refused { IsCleanCall is_clean IsSound self.old self.new
             → OnErr result (content self.new ≡ content self.old) }
         ensures call { IsCall failed is_clean IsSound call_gives self.old (result_err result) self.new };
 
     /// The effective checkpoint of `x`: the greatest at or below it.
     fn effective(&mut self, alloc: Global, x: u32) -> Result<Option<(u32, Vec<u8>)>, StoreError>
-        ensures effective { IsKnown is_clean IsSound self.old self.new
+        ensures effective { IsCleanCall is_clean IsSound self.old self.new
             → IfOk result (λ found. IfSome found (λ e.
             IsEffective (content self.old).checkpoints x e.0)) }
-        ensures bytes { IsKnown is_clean IsSound self.old self.new
+        ensures bytes { IsCleanCall is_clean IsSound self.old self.new
             → IfOk result (λ found. IfSome found (λ e.
             map.get (content self.old).checkpoints e.0 ≡ Some e.1.items)) }
-        ensures none { IsKnown is_clean IsSound self.old self.new
+        ensures none { IsCleanCall is_clean IsSound self.old self.new
             → IfOk result (λ found. IfNone found
             (IsFree (content self.old).checkpoints 0 (x + 1))) }
-        ensures same { IsKnown is_clean IsSound self.old self.new
+        ensures same { IsCleanCall is_clean IsSound self.old self.new
             → content self.new ≡ content self.old }
         ensures never_present { result ≢ Err StoreError.Present }
         ensures call { IsCall failed is_clean IsSound call_gives self.old (result_err result) self.new };
@@ -93,28 +93,28 @@ pub trait Stable: Drop {
         after: u32,
         to: u32,
     ) -> Result<Vec<(u32, Vec<u8>)>, StoreError>
-        ensures found { IsKnown is_clean IsSound self.old self.new
+        ensures found { IsCleanCall is_clean IsSound self.old self.new
             → IfOk result (λ found. rows_of found.items
             ≡ between (content self.old).receipts after to) }
-        ensures same { IsKnown is_clean IsSound self.old self.new
+        ensures same { IsCleanCall is_clean IsSound self.old self.new
             → content self.new ≡ content self.old }
         ensures never_present { result ≢ Err StoreError.Present }
         ensures call { IsCall failed is_clean IsSound call_gives self.old (result_err result) self.new };
 
     /// Removes what stands above `r`.
     fn cut(&mut self, alloc: Global, r: u32) -> Result<(), StoreError>
-        ensures cut { IsKnown is_clean IsSound self.old self.new
+        ensures cut { IsCleanCall is_clean IsSound self.old self.new
             → OnOk result (content self.new ≡ kept_by_cut (content self.old) r) }
-        ensures refused { IsKnown is_clean IsSound self.old self.new
+        ensures refused { IsCleanCall is_clean IsSound self.old self.new
             → OnErr result (content self.new ≡ content self.old) }
         ensures never_present { result ≢ Err StoreError.Present }
         ensures call { IsCall failed is_clean IsSound call_gives self.old (result_err result) self.new };
 
     /// Removes the checkpoints below `c`, and the receipts at or below it.
     fn prune(&mut self, alloc: Global, c: u32) -> Result<(), StoreError>
-        ensures pruned { IsKnown is_clean IsSound self.old self.new
+        ensures pruned { IsCleanCall is_clean IsSound self.old self.new
             → OnOk result (content self.new ≡ kept_by_prune (content self.old) c) }
-        ensures refused { IsKnown is_clean IsSound self.old self.new
+        ensures refused { IsCleanCall is_clean IsSound self.old self.new
             → OnErr result (content self.new ≡ content self.old) }
         ensures never_present { result ≢ Err StoreError.Present }
         ensures call { IsCall failed is_clean IsSound call_gives self.old (result_err result) self.new };

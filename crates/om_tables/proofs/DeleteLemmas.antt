@@ -1,10 +1,10 @@
 -- What DELETE does.
-use Rattle.std.proofs.Common.{◌≡◌, ℕ, pos, negsuc, List, [], ◌∷◌, map, codes, Bool, true, false, cond, not, nat_lt, ◌||◌, ℤ, subst₂, fold, None, Ok, Result, refl, sym, ap, subst, ◌∙◌, arith}
+use Rattle.std.proofs.Common.{◌≡◌, ℕ, pos, negsuc, List, [], ◌∷◌, map, codes, Bool, true, false, cond, not, nat_lt, ◌||◌, ℤ, subst₂, fold, None, Ok, Result, refl, sym, ap, subst, ◌∙◌, arith, nat_le, ◌<◌}
 use Rattle.sqlite.specs.declared.types.Value.TheVariants.{Null, Int}
 use Rattle.sqlite.specs.Order.{Row}
 use Rattle.sqlite.specs.Term.{Term, lit, col, op2, holds}
 use Rattle.sqlite_value.proofs.OrderLemmas.{value_cmp-Int}
-use Rattle.std.specs.List.{list_all, list_any, filter}
+use Rattle.std.specs.List.{list_all, list_any, filter, AllByRecursion}
 use Rattle.std.proofs.lemmas.Bool.Decides.{nat_tests}
 use Rattle.sqlite.specs.Tree.{Trees, rowid}
 use Rattle.sqlite.specs.Program.{overlay}
@@ -13,9 +13,8 @@ use Rattle.std.proofs.lemmas.List.Sorted.{IsPermutation-map, list_any-IsPermutat
 use Rattle.sqlite_rules.specs.Calls.{ids_of}
 use Rattle.sqlite_rules.specs.Edit.{id_in, without_all}
 use Rattle.sqlite_trees.specs.Tree.{has_rowid}
-use Rattle.std.specs.Ordering.{int_eq, is_eq}
-use Rattle.std.specs.List.{AllByRecursion}
-use Rattle.sqlite_keyed.proofs.ListLemmas.{map-map, filter-map, filter_same, filter_all}
+use Rattle.std.specs.Ordering.{int_eq, is_eq, nat_cmp}
+use Rattle.sqlite_keyed.proofs.ListLemmas.{map-map, filter-map, filter_same, filter_all, ascending_weaker}
 use Rattle.sqlite_keyed.proofs.WriteLemmas.{removes_delete}
 use Rattle.sqlite_keyed.specs.Lists.{without_key, delete_where}
 use Rattle.sqlite_keyed.specs.Keyed.{IsKeyedBy}
@@ -32,7 +31,7 @@ use Rattle.sqlite.specs.Rowids.TheVariants.{Given}
 use Rattle.sqlite.specs.Does.{Tally, Does}
 use Rattle.sqlite.specs.Rows.{Written}
 use Rattle.sqlite.specs.Effect.{Database}
-use Rattle.sqlite.specs.State.{State, mode_of}
+use Rattle.sqlite.specs.State.{ExecutesInside, State, mode_of}
 use Rattle.om_tables.proofs.CreateLemmas.{went, same_value}
 use Rattle.om_tables.specs.Tables.{receipts, checkpoints, store_schema, stored_row}
 use Rattle.om_tables.specs.Store.{Holds, rows_for}
@@ -40,15 +39,11 @@ use Rattle.om_tables.specs.steps.Statements.{GoesOn, Goes, Performs}
 use Rattle.om_tables.proofs.InsertLemmas.{keeps_then}
 use Rattle.sqlite.specs.declared.error.Error.{Error}
 use Rattle.om_tables.proofs.QueryLemmas.{over, up_to, under, and_true, matched, entries_rise}
-use Rattle.std.proofs.Common.{nat_le, ◌<◌}
-use Rattle.std.specs.Ordering.{nat_cmp}
 use Rattle.std.specs.Cmp.{nat_cmp_total}
 use Rattle.std.specs.FinMap.{entries, entries_sorted, entries-from_sorted, get-from_sorted, get-entries, retain_keys, from_sorted, same_map, nat_cmp-IsAntisymmetric}
 use Rattle.std.specs.FinMap.Entries.{is_sorted-where_key, find-where_key}
 use Rattle.om_stable.proofs.RecordLemmas.{get-retained}
-use Rattle.sqlite_keyed.proofs.ListLemmas.{ascending_weaker}
 use Rattle.std.specs.Prelude.{◌<ℤ◌}
-use Rattle.sqlite.specs.State.{ExecutesInside}
 use Rattle.sqlite_sql.specs.declared.ops.CompareOp.{CompareOp}
 use Rattle.om_stable.specs.Content.{Records, Content}
 

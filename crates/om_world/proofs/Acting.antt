@@ -6,7 +6,7 @@ use Rattle.om_format.specs.declared.message.Message.{Message}
 use Rattle.om_stable.specs.Content.{Content}
 use Rattle.om_stable.specs.declared.error.StoreError.{StoreError}
 use Rattle.om_stable.specs.declared.error.StoreError.TheVariants as store_errors
-use Rattle.om_process.specs.Core.{CoreState, size_of, with_pending}
+use Rattle.om_process.specs.Core.{CoreState, cluster_size, with_pending}
 use Rattle.om_process.specs.Process.{Program}
 use Rattle.om_process.specs.declared.accept.Accept.{Accept}
 use Rattle.om_process.specs.declared.turns.Ran.{Ran}
@@ -17,8 +17,7 @@ use Rattle.om_manager.specs.State.{ManagerState, held_by, released_by}
 use Rattle.om_manager.specs.declared.answers.OutputError.{OutputError}
 use Rattle.om_manager.specs.declared.answers.RecordError.{RecordError}
 use Rattle.om_member.specs.Handed.{AreHandedUpTo, outputs_from}
-use Rattle.om_member.specs.Members as member
-use Rattle.om_member.specs.Members.{Gained, HasNoted, HasStored, HasTrimmed, IsNotUp, WasCalled, WasPruned, after_store, core_of, trimmed_core}
+use Rattle.om_member.specs.Members.{Gained, HasNoted, HasRun, HasStored, HasTrimmed, IsNotUp, IsOffered, TakesTurns, WasCalled, WasPruned, after_store, core_of, trimmed_core}
 use Rattle.om_member.specs.declared.member.Member.{Member}
 use Rattle.om_member.specs.declared.member.NotUp.{NotUp}
 use Rattle.om_member.specs.declared.member.Standing.TheVariants as stands
@@ -28,7 +27,7 @@ use Rattle.om_world.specs.declared.event.Refusal.TheVariants as why
 use Rattle.om_world.specs.Changes.{IsUp}
 use Rattle.om_world.specs.World.{Health, WorldState, health_of, recovered}
 use Rattle.om_world.specs.steps.Members.{content_in, core_in, health_in, place_in, place_of, round_in, seen, sound_in}
-use Rattle.om_world.specs.steps.Moves.{GoesOn, HasCalled, HasRunAt, HasTold, IsOffered, IsToldUpTo, told_of}
+use Rattle.om_world.specs.steps.Moves.{HasCalled, HasRunAt, HasTold, IsOfferedAt, IsToldUpTo, TakesTurnsAt, told_of}
 use Rattle.om_world.specs.steps.Pruning.{HasPruned}
 use Rattle.om_world.specs.steps.Running.{HasHandedIn}
 use Rattle.om_world.specs.steps.Sound.{IsWorld}
@@ -36,7 +35,7 @@ use Rattle.om_world.proofs.Giving.{given_at, offered}
 use Rattle.om_world.proofs.Handing.{IsHandedIn, after_handed, has_handed}
 use Rattle.om_world.proofs.Moved.{after_turns}
 use Rattle.om_world.proofs.Noting.{IsCalledIn, IsNotedIn, after_called, after_note, has_called, has_told}
-use Rattle.om_world.proofs.Pruning.{IsPrunedIn, after_store as after_pruned, has_pruned}
+use Rattle.om_world.proofs.Pruning.{IsPrunedIn, after_pruned_store, has_pruned}
 use Rattle.om_world.proofs.Seats.{called_in, core_was, cores_set, is_up, kept, restored, seated, still, was_up}
 use Rattle.om_world.proofs.Kept.{remade}
 use Rattle.om_world.proofs.Trimming.{IsTrimmedIn, after_trim}
@@ -77,7 +76,7 @@ module _ {S : Type 0} (content : S → Content) (is_clean : S → Bool) (failed 
     pruned_in = (effective, called_in content is_clean failed IsSound (a ≡ Err store_errors.Fault) (WasPruned c a) ms p m n at called)
 
     pub after_prune : IsWorld (sound_in IsSound) (set ms p n) (seen content (health_of is_clean failed) P L F (set ms p n) M O)
-    after_prune = subst (IsWorld (sound_in IsSound) (set ms p n)) (restored content (health_of is_clean failed) IsSound P L F ms M O p m at n (ap core_in others) (ap place_in others) (ap round_in others)) (after_pruned (content_in content) (health_in (health_of is_clean failed)) (sound_in IsSound) (seen content (health_of is_clean failed) P L F ms M O) p c a ms (set ms p n) i pruned_in)
+    after_prune = subst (IsWorld (sound_in IsSound) (set ms p n)) (restored content (health_of is_clean failed) IsSound P L F ms M O p m at n (ap core_in others) (ap place_in others) (ap round_in others)) (after_pruned_store (content_in content) (health_in (health_of is_clean failed)) (sound_in IsSound) (seen content (health_of is_clean failed) P L F ms M O) p c a ms (set ms p n) i pruned_in)
 
     pub was_pruned : a ≢ Err store_errors.Present → HasPruned v p a (seen content (health_of is_clean failed) P L F (set ms p n) M O)
     was_pruned never =
@@ -116,11 +115,11 @@ module _ {S : Type 0} (content : S → Content) (is_clean : S → Bool) (failed 
         )
 
   -- ---- it ran
-  module _ (fuel : ℕ) (r : Result (Result Ran AllocError) NotUp) (up : IsUp v p) (goes : OnOk r (member.GoesOn m fuel n)) (not : OnErr r (IsNotUp m.standing)) where
-    went : (a : Result Ran AllocError) × (r ≡ Ok a) × member.GoesOn m fuel n
-    went = was_up r (λ a. member.GoesOn m fuel n) m.standing (is_up content (health_of is_clean failed) IsSound P L F ms M O p m at v e up) goes not
+  module _ (fuel : ℕ) (r : Result (Result Ran AllocError) NotUp) (up : IsUp v p) (goes : OnOk r (TakesTurns m fuel n)) (not : OnErr r (IsNotUp m.standing)) where
+    went : (a : Result Ran AllocError) × (r ≡ Ok a) × TakesTurns m fuel n
+    went = was_up r (λ a. TakesTurns m fuel n) m.standing (is_up content (health_of is_clean failed) IsSound P L F ms M O p m at v e up) goes not
 
-    goes_in : member.GoesOn m fuel n → GoesOn (map core_in ms) p fuel (map core_in (set ms p n))
+    goes_in : TakesTurns m fuel n → TakesTurnsAt (map core_in ms) p fuel (map core_in (set ms p n))
     goes_in h = record {
       before = h.before;
       after = h.after;
@@ -138,8 +137,8 @@ module _ {S : Type 0} (content : S → Content) (is_clean : S → Bool) (failed 
         (subst (IsWorld (sound_in IsSound) ms) (kept content (health_of is_clean failed) IsSound P L F ms M O p m at n (ap place_in h.others ∙ sym (ap place_of h.up)) (ap round_in h.others) (ap (λ (x : Member S). x.store) h.others) L F M)
         (after_turns (sound_in IsSound) ms (seen content (health_of is_clean failed) P L F ms M O) p fuel (map core_in (set ms p n)) i (goes_in h)))
 
-    pub has_gone_on : GoesOn v.cores p fuel (map core_in (set ms p n))
-    has_gone_on = subst (λ (x : WorldState). GoesOn x.cores p fuel (map core_in (set ms p n))) e (goes_in went.2)
+    pub has_gone_on : TakesTurnsAt v.cores p fuel (map core_in (set ms p n))
+    has_gone_on = subst (λ (x : WorldState). TakesTurnsAt x.cores p fuel (map core_in (set ms p n))) e (goes_in went.2)
 
     -- no part of the world but its cores changes
     pub rest_runs : seen content (health_of is_clean failed) P L F (set ms p n) M O ≡ record v { cores = map core_in (set ms p n) }
@@ -147,12 +146,12 @@ module _ {S : Type 0} (content : S → Content) (is_clean : S → Bool) (failed 
         let h = went.2 in
         sym (kept content (health_of is_clean failed) IsSound P L F ms M O p m at n (ap place_in h.others ∙ sym (ap place_of h.up)) (ap round_in h.others) (ap (λ (x : Member S). x.store) h.others) L F M) ∙ ap (λ (x : WorldState). record x { cores = map core_in (set ms p n) }) e
 
-    pub has_run : (told : Result Ran Refusal) → told ≡ told_of (λ _. why.Memory) r → IfOk r (λ a. IfOk a (λ ran. member.HasRun m fuel ran n)) → IfOk told (λ ran. HasRunAt v.cores p fuel ran (map core_in (set ms p n)))
+    pub has_run : (told : Result Ran Refusal) → told ≡ told_of (λ _. why.Memory) r → IfOk r (λ a. IfOk a (λ ran. HasRun m fuel ran n)) → IfOk told (λ ran. HasRunAt v.cores p fuel ran (map core_in (set ms p n)))
     has_run told is ran =
         let a = went.0 in
-        subst (λ t. IfOk t (λ ran. HasRunAt v.cores p fuel ran (map core_in (set ms p n)))) (sym (is ∙ ap (told_of (λ _. why.Memory)) went.1)) (by a (subst (λ x. IfOk x (λ b. IfOk b (λ ran. member.HasRun m fuel ran n))) went.1 ran))
+        subst (λ t. IfOk t (λ ran. HasRunAt v.cores p fuel ran (map core_in (set ms p n)))) (sym (is ∙ ap (told_of (λ _. why.Memory)) went.1)) (by a (subst (λ x. IfOk x (λ b. IfOk b (λ ran. HasRun m fuel ran n))) went.1 ran))
       where
-        by : (a : Result Ran AllocError) → IfOk a (λ ran. member.HasRun m fuel ran n) → IfOk (told_of (λ _. why.Memory) (Ok a)) (λ ran. HasRunAt v.cores p fuel ran (map core_in (set ms p n)))
+        by : (a : Result Ran AllocError) → IfOk a (λ ran. HasRun m fuel ran n) → IfOk (told_of (λ _. why.Memory) (Ok a)) (λ ran. HasRunAt v.cores p fuel ran (map core_in (set ms p n)))
         by (Ok ran) h = (
           h.before,
           h.after,
@@ -170,11 +169,11 @@ module _ {S : Type 0} (content : S → Content) (is_clean : S → Bool) (failed 
         by (Err fault) = refl
 
   -- ---- it was offered a message
-  module _ (msg : Message) (answer : Accept) (h : member.IsOffered m msg answer n) where
-    pub offered_in : (a : Accept) → answer ≡ a → IsOffered (map core_in ms) p msg a (map core_in (set ms p n))
+  module _ (msg : Message) (answer : Accept) (h : IsOffered m msg answer n) where
+    pub offered_in : (a : Accept) → answer ≡ a → IsOfferedAt (map core_in ms) p msg a (map core_in (set ms p n))
     offered_in a is =
         let at_core = core_was content (health_of is_clean failed) IsSound P L F ms M O p m at n h.before h.up in
-        subst (λ b. IsOffered (map core_in ms) p msg b (map core_in (set ms p n))) is (subst (IsOffered (map core_in ms) p msg answer) (sym (cores_set content (health_of is_clean failed) IsSound P L F ms M O p m at n (Some h.after) (ap core_in h.others)))
+        subst (λ b. IsOfferedAt (map core_in ms) p msg b (map core_in (set ms p n))) is (subst (IsOfferedAt (map core_in ms) p msg answer) (sym (cores_set content (health_of is_clean failed) IsSound P L F ms M O p m at n (Some h.after) (ap core_in h.others)))
         (offered (map core_in ms) p h.before h.after msg answer at_core (given_at (map core_in ms) p h.before at_core) h.answers h.took h.refused))
 
     offered_seen : (live : List Entry) → remade (seen content (health_of is_clean failed) P L F ms M O) live F (map core_in (set ms p n)) M (map (content_in content) ms) (map (health_in (health_of is_clean failed)) ms) ≡ seen content (health_of is_clean failed) P live F (set ms p n) M O
@@ -213,7 +212,7 @@ module _ {S : Type 0} (content : S → Content) (is_clean : S → Bool) (failed 
 
 -- bounds by the manager's rows have a place for each process
 pub bounds_fit : {S : Type 0} (content : S → Content) (health : S → Health) (IsSound : S → Type 0) (P : List Program) (L : List Entry) (F : List Message) (ms : List (Member S)) (M : ManagerState) (O : List Content) (p : ℕ) (m : Member S) → slice_get ms p ≡ Some m → IsWorld (sound_in IsSound) ms (seen content health P L F ms M O)
-    → (core : CoreState) → m.standing ≡ stands.Up core → {q : ℕ} (got : List ℕ) → AreGotFrom M.rows M.recovery q got → length got ≡ size_of core.now
+    → (core : CoreState) → m.standing ≡ stands.Up core → {q : ℕ} (got : List ℕ) → AreGotFrom M.rows M.recovery q got → length got ≡ cluster_size core.now
 bounds_fit content health IsSound P L F ms M O p m at i core up got g = g.places ∙ i.shape.size ∙ sym (i.shape.own p core (core_was content health IsSound P L F ms M O p m at m core up)).size
 
 -- ---- its outputs were handed in

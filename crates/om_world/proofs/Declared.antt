@@ -4,8 +4,7 @@ use Rattle.std.specs.Prelude.{All, slice_get, slice_index}
 use Rattle.std.proofs.lemmas.List.{set-set}
 use Rattle.om_manager.specs.Rounds.{Gathers, with_failed}
 use Rattle.om_manager.specs.Sound.{KeepsReleased}
-use Rattle.om_manager.specs.State as managers
-use Rattle.om_manager.specs.State.{ManagerState}
+use Rattle.om_manager.specs.State.{ManagerState, process_count}
 use Rattle.om_manager.specs.declared.answers.FailError.{FailError}
 use Rattle.om_manager.specs.declared.answers.FailError.TheVariants as failing
 use Rattle.om_manager.specs.declared.answers.Gathered.{Gathered}
@@ -17,7 +16,7 @@ use Rattle.om_world.specs.declared.place.Place.{Place}
 use Rattle.om_world.specs.Failures.{FailHappened, HasNews, IsToDeclare, gathered, taken_down}
 use Rattle.om_world.specs.Happened.{Happened}
 use Rattle.om_world.specs.World.{IsEmpty, IsKnown, WorldState, all_clean}
-use Rattle.om_world.specs.steps.Gathering.{HasDeclared, IsWhyNot, declared}
+use Rattle.om_world.specs.steps.Gathering.{HasDeclaredAt, IsWhyNot, declared}
 use Rattle.om_world.specs.steps.Moves.{Keeps, answered, refusal_of_failure}
 use Rattle.om_world.specs.steps.Sound.{IsWorld}
 use Rattle.om_world.proofs.FailureCounts.{counts_by}
@@ -32,10 +31,10 @@ known_by a b origins health known = (subst (All IsEmpty) origins known.0, ap all
 known_down : (w v : WorldState) (p : ℕ) → v ≡ taken_down w p false → IsKnown v → IsKnown w
 known_down w v p e = known_by w v (ap (λ (x : WorldState). x.origins) e) (ap (λ (x : WorldState). x.health) e)
 
-known_declared : (v z : WorldState) (p : ℕ) (told : Gathered) → HasDeclared v p (Ok told) z → IsKnown z → IsKnown v
+known_declared : (v z : WorldState) (p : ℕ) (told : Gathered) → HasDeclaredAt v p (Ok told) z → IsKnown z → IsKnown v
 known_declared v z p told h = known_by v z (ap (λ (x : WorldState). x.origins) h.others) (ap (λ (x : WorldState). x.health) h.others)
 
-pub fail_happened : (w v z : WorldState) (p : ℕ) (told : Gathered) → IsToDeclare w p → v ≡ taken_down w p false → HasDeclared v p (Ok told) z → IsKnown z → FailHappened w p told z
+pub fail_happened : (w v z : WorldState) (p : ℕ) (told : Gathered) → IsToDeclare w p → v ≡ taken_down w p false → HasDeclaredAt v p (Ok told) z → IsKnown z → FailHappened w p told z
 fail_happened w v z p told due e h known = record {
   declares = due;
   manager = subst (λ (m : ManagerState). Gathers (with_failed m p) m told z.manager) (ap (λ (x : WorldState). x.manager) e) (h.manager (known_declared v z p told h known));
@@ -43,9 +42,9 @@ fail_happened w v z p told due e h known = record {
       ∙ ap (λ l. gathered (record (taken_down w p true) { places = l }) told z.manager) (set-set w.places p (Place.Down false) (Place.Down true));
 }
 
-pub fail_keeps : (w v z : WorldState) (p : ℕ) (told : Gathered) → v ≡ taken_down w p false → HasDeclared v p (Ok told) z → Keeps w z
+pub fail_keeps : (w v z : WorldState) (p : ℕ) (told : Gathered) → v ≡ taken_down w p false → HasDeclaredAt v p (Ok told) z → Keeps w z
 fail_keeps w v z p told e h = record {
-  size = h.size ∙ ap (λ (x : WorldState). managers.size_of x.manager) e;
+  size = h.size ∙ ap (λ (x : WorldState). process_count x.manager) e;
   released = subst (λ (m : ManagerState). KeepsReleased m z.manager) (ap (λ (x : WorldState). x.manager) e) h.released;
   clean = λ all. ap all_clean (sym (ap (λ (x : WorldState). x.health) h.others ∙ ap (λ (x : WorldState). x.health) e)) ∙ all;
   counts = counts_by w.health z.health (ap (λ (x : WorldState). x.health) h.others ∙ ap (λ (x : WorldState). x.health) e);
@@ -64,7 +63,7 @@ refused_by w z p failing.Memory due e why = record { declares = due; why = why; 
 refused_by w z p failing.Stranger due e why = why
 refused_by w z p (failing.Stale told) due e why = why
 
-pub fail_refused : {S : Type 0} (IsSound : S → Type 0) (xs : List S) (w v z : WorldState) (p : ℕ) (fault : FailError) (told : Result Answer Refusal) → IsWorld IsSound xs w → IsToDeclare w p → v ≡ taken_down w p false → HasDeclared v p (Err fault) z → told ≡ Err (refusal_of_failure fault) → IsKnown z
+pub fail_refused : {S : Type 0} (IsSound : S → Type 0) (xs : List S) (w v z : WorldState) (p : ℕ) (fault : FailError) (told : Result Answer Refusal) → IsWorld IsSound xs w → IsToDeclare w p → v ≡ taken_down w p false → HasDeclaredAt v p (Err fault) z → told ≡ Err (refusal_of_failure fault) → IsKnown z
     → Happened w (Event.Fail p) (answered told) z
 fail_refused IsSound xs w v z p fault told i due e h is known =
     let known_v = subst IsKnown h.refused known in
@@ -77,7 +76,7 @@ fail_refused IsSound xs w v z p fault told i due e h is known =
 pub down_keeps : (w v : WorldState) (p : ℕ) → v ≡ taken_down w p false → Keeps w v
 down_keeps w v p e = keeps_by w v (ap (λ (x : WorldState). x.manager) e) (ap (λ (x : WorldState). x.health) e) (ap (λ (x : WorldState). x.origins) e)
 
-pub refused_keeps : (w v z : WorldState) (p : ℕ) (fault : FailError) → v ≡ taken_down w p false → HasDeclared v p (Err fault) z → Keeps w z
+pub refused_keeps : (w v z : WorldState) (p : ℕ) (fault : FailError) → v ≡ taken_down w p false → HasDeclaredAt v p (Err fault) z → Keeps w z
 refused_keeps w v z p fault e d = down_keeps w z p (d.refused ∙ e)
 
 pub in_undeclared : (o : Option Place) → o ≡ Some Place.In → o ≢ Some (Place.Down true)

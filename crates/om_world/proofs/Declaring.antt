@@ -19,7 +19,7 @@ use Rattle.om_world.specs.declared.place.Place.{Place}
 use Rattle.om_world.specs.Changes.{IsUp}
 use Rattle.om_world.specs.Failures.{HasNews}
 use Rattle.om_world.specs.World.{WorldState, past_of}
-use Rattle.om_world.specs.steps.Gathering.{HasDeclared, HasEntered, HasGathered, IsWhyNot, StandsIn}
+use Rattle.om_world.specs.steps.Gathering.{HasDeclaredAt, HasEntered, HasGathered, IsWhyNot, StandsIn}
 use Rattle.om_world.specs.steps.Sound.{HasShape, IsWorld, Runs, Sound}
 use Rattle.om_world.proofs.Gathering.{IsEntering, now_in, running_interval, sound_gathered}
 use Rattle.om_world.proofs.Lists.{at_change, either, inside, once, set_apart, there}
@@ -174,7 +174,7 @@ after_declare IsSound xs w p round told m live i at is f g =
     (λ s. record { placing = placing_down w p; entering = entering_failed w p lt (sym is ∙ f.0.in_round); gathers = first_failed w p told m s at f.2 }) g
 
 pub has_declared : {S : Type 0} (IsSound : S → Type 0) (xs : List S) (w : WorldState) (p round : ℕ) (told : Gathered) (m : ManagerState) (live : List Entry) → IsWorld IsSound xs w → slice_get w.places p ≡ Some (Place.Down false)
-    → Failing w.manager p round (Ok told) m → HasGathered {E = FailError} w.manager w.live (Ok told) m live → HasDeclared w p (Ok told) (placed_with w p (Place.Down true) live m)
+    → Failing w.manager p round (Ok told) m → HasGathered {E = FailError} w.manager w.live (Ok told) m live → HasDeclaredAt w p (Ok told) (placed_with w p (Place.Down true) live m)
 has_declared IsSound xs w p round told m live i at f g = record {
   size = g.size;
   released = g.released;
@@ -200,7 +200,7 @@ why_not w new p round failing.Spent h s lt is old f = f.1
 why_not w new p round failing.Memory h s lt is old f = f.3
 
 pub not_declared : {S : Type 0} (IsSound : S → Type 0) (xs : List S) (w : WorldState) (p round : ℕ) (fault : FailError) (m : ManagerState) (live : List Entry) → IsWorld IsSound xs w → slice_get w.places p ≡ Some (Place.Down false)
-    → round ≡ slice_index w.rounds p → Failing w.manager p round (Err fault) m → HasGathered {E = FailError} w.manager w.live (Err fault) m live → HasDeclared w p (Err fault) (record w { live = live; manager = m })
+    → round ≡ slice_index w.rounds p → Failing w.manager p round (Err fault) m → HasGathered {E = FailError} w.manager w.live (Err fault) m live → HasDeclaredAt w p (Err fault) (record w { live = live; manager = m })
 not_declared IsSound xs w p round fault m live i at is f g =
     let lt = inside w.places p (Place.Down false) at in
     record {

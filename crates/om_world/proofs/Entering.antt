@@ -4,7 +4,7 @@ use Rattle.std.specs.Prelude.{slice_get}
 use Rattle.std.proofs.lemmas.List.{drop_all, take_all}
 use Rattle.om_stable.specs.declared.error.StoreError.{StoreError}
 use Rattle.om_stable.specs.declared.error.StoreError.TheVariants as store_errors
-use Rattle.om_process.specs.declared.row.Row.{Row}
+use Rattle.om_process.specs.declared.row.PendingRow.{PendingRow}
 use Rattle.om_process.specs.Core.{CoreState, with_pending}
 use Rattle.om_process.specs.Stores.{flushed}
 use Rattle.om_recover.specs.declared.note.Note.{Note}
@@ -14,8 +14,7 @@ use Rattle.om_recover.specs.declared.row.RowKind.TheVariants.{Log}
 use Rattle.om_recover.specs.Rows.{Rows}
 use Rattle.om_manager.specs.Notes.{after_note}
 use Rattle.om_manager.specs.Rounds.{Gathers, with_joined}
-use Rattle.om_manager.specs.State as managers
-use Rattle.om_manager.specs.State.{ManagerState, held_by, released_by}
+use Rattle.om_manager.specs.State.{ManagerState, held_by, process_count, released_by}
 use Rattle.om_manager.specs.declared.answers.Gathered.{Gathered}
 use Rattle.om_manager.specs.declared.answers.JoinError.{JoinError}
 use Rattle.om_manager.specs.declared.answers.OutputError.{OutputError}
@@ -44,7 +43,7 @@ noted_gathering m (Noted true) rows state = refl
 noted_gathering m (Noted false) rows state = refl
 noted_gathering m Known rows state = refl
 
-all_gathering : (old new : ManagerState) (p : ℕ) (rows : List Row) → NotesAll old p rows new → new.gathering ≡ old.gathering
+all_gathering : (old new : ManagerState) (p : ℕ) (rows : List PendingRow) → NotesAll old p rows new → new.gathering ≡ old.gathering
 all_gathering old new p [] same = ap (λ (m : ManagerState). m.gathering) same
 all_gathering old new p (row ∷ rows) n = all_gathering n.0 new p rows n.3 ∙ ap (λ (m : ManagerState). m.gathering) n.2.3 ∙ noted_gathering old n.1 n.0.rows n.0.recovery
 
@@ -154,7 +153,7 @@ keeps_then a b c f g = record {
 
 handed_keeps : (v z : WorldState) (p : ℕ) (end : Result (Unit {0}) OutputError) → HasHandedIn v p end z → Keeps v z
 handed_keeps v z p end k = record {
-  size = ap managers.size_of k.more.1;
+  size = ap process_count k.more.1;
   released = k.released;
   clean = λ all. ap all_clean (sym (ap (λ (x : WorldState). x.health) k.others)) ∙ all;
   counts = counts_by v.health z.health (ap (λ (x : WorldState). x.health) k.others);

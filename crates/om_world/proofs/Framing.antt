@@ -5,8 +5,8 @@ use Rattle.std.specs.Global.{Vec}
 use Rattle.std.specs.declared.alloc.AllocError.{AllocError}
 use Rattle.std.proofs.lemmas.List.{append_assoc, append-nil, take_all}
 use Rattle.om_format.specs.declared.message.Message.{Message}
-use Rattle.om_format.specs.declared.queue.Entry.{Entry}
-use Rattle.om_process.specs.Core.{CoreState, size_of}
+use Rattle.om_format.specs.declared.queue.QueueEntry.{QueueEntry}
+use Rattle.om_process.specs.Core.{CoreState, cluster_size}
 use Rattle.om_process.specs.Frames.{frame_at, frame_of, messages_to}
 use Rattle.om_process.specs.Kept.{numbered}
 use Rattle.om_process.proofs.Numbering.{length-numbered}
@@ -14,7 +14,7 @@ use Rattle.om_world.specs.Changes.{message_of, messages_behind, messages_in}
 use Rattle.om_world.specs.steps.Running.{messages_past}
 use Rattle.om_world.proofs.Lists.{none_in, none_some, once, there}
 
-numbered_get : (c : CoreState) (to first k : ℕ) (es : List Entry) → slice_get (numbered (message_of c to) first es) k ≡ frame_of c to (first + k) (slice_get es k)
+numbered_get : (c : CoreState) (to first k : ℕ) (es : List QueueEntry) → slice_get (numbered (message_of c to) first es) k ≡ frame_of c to (first + k) (slice_get es k)
 numbered_get c to first k [] = none k
   where
     none : (k : ℕ) → slice_get [] k ≡ frame_of c to (first + k) (slice_get [] k)
@@ -117,6 +117,6 @@ zero_at (suc n) zero = refl
 zero_at (suc n) (suc to) = zero_at n to
 
 pub frames_here : (cs : List (Option CoreState)) (p : ℕ) (c : CoreState) (few : List ℕ) (r : Result (Vec Message) AllocError) → slice_get cs p ≡ Some (Some c)
-    → IfOk r (λ frames. frames.items ≡ messages_behind c (λ to. slice_index few to) (size_of c.now)) → IfOk r (λ frames. (x : CoreState) × (slice_get cs p ≡ Some (Some x)) × (frames.items ≡ messages_past x few))
+    → IfOk r (λ frames. frames.items ≡ messages_behind c (λ to. slice_index few to) (cluster_size c.now)) → IfOk r (λ frames. (x : CoreState) × (slice_get cs p ≡ Some (Some x)) × (frames.items ≡ messages_past x few))
 frames_here cs p c few (Ok frames) at is = (c, at, is)
 frames_here cs p c few (Err e) at is = tt

@@ -9,7 +9,7 @@ use Rattle.om_format.specs.Receipts.{SpellsReceipt}
 use Rattle.om_format.specs.declared.version.Version.TheVariants.{V2}
 use Rattle.om_stable.specs.Content.{Content}
 use Rattle.om_stable.proofs.RecordLemmas.{get-insert_here, get-insert_apart, get-with_all_above, get-with_all_at, with_all_from, with_all_keeps}
-use Rattle.om_process.specs.declared.row.Row.{Row}
+use Rattle.om_process.specs.declared.row.PendingRow.{PendingRow}
 use Rattle.om_process.specs.Process.{Process, Program, Received}
 use Rattle.om_process.specs.Replays.{received_of, process_of}
 use Rattle.om_process.specs.Core.{CoreState, LoggedRecord}
@@ -138,7 +138,7 @@ gained_stored v p a b c g r s = record {
 }
 
 -- a row is one of the older ones, or one of the log
-row_at : (rows : List Row) (ls : List LoggedRecord) (i : ℕ) (row : Row) → slice_get (rows ++ map log_row ls) i ≡ Some row → (slice_get rows i ≡ Some row) ⊎ ((j : ℕ) × (l : LoggedRecord) × (slice_get ls j ≡ Some l) × (row ≡ log_row l))
+row_at : (rows : List PendingRow) (ls : List LoggedRecord) (i : ℕ) (row : PendingRow) → slice_get (rows ++ map log_row ls) i ≡ Some row → (slice_get rows i ≡ Some row) ⊎ ((j : ℕ) × (l : LoggedRecord) × (slice_get ls j ≡ Some l) × (row ≡ log_row l))
 row_at [] [] i row e = inl e
 row_at [] (l ∷ ls) zero row e = inr (0, l, refl, sym (once (log_row l) row e))
 row_at [] (l ∷ ls) (suc i) row e = elim (row_at [] ls i row e) [ inl old ↦ absurd (none i old) | inr new ↦ inr (suc new.0, new.1, new.2, new.3) ]
@@ -164,7 +164,7 @@ gained_running v p a b c g r = record {
         let bytes = spelled c.log g.0 new.0 new.1 g.1 new.2 in
         let here : get b.receipts (first_logged c + new.0) ≡ Some bytes.0 = ap (λ (d : Content). get d.receipts (first_logged c + new.0)) g.2 ∙ get-with_all_at a.receipts (first_logged c) g.0 new.0 bytes.0 bytes.1 in
         let f = first_is v p a c r in let at = is.1 in
-        subst (λ (x : Row). IsPending v p b x) (sym new.3) (record {
+        subst (λ (x : PendingRow). IsPending v p b x) (sym new.3) (record {
           row_of = subst (λ y. AtInterval (history v p) y (RowOf p (length v.programs) new.1.vec new.1.got)) (sym is.1) (is.0, is.3);
           begun = λ _. omega arith;
           backed = inl (bytes.0, ap (get b.receipts) is.1 ∙ here);
@@ -213,7 +213,7 @@ checkpoint_stored v p a b c own g r s = record {
 apart_bools : true ≡ false → ⊥
 apart_bools e = cc
 
-row_last : (rows : List Row) (new row : Row) (i : ℕ) → slice_get (rows ++ new ∷ []) i ≡ Some row → (slice_get rows i ≡ Some row) ⊎ (row ≡ new)
+row_last : (rows : List PendingRow) (new row : PendingRow) (i : ℕ) → slice_get (rows ++ new ∷ []) i ≡ Some row → (slice_get rows i ≡ Some row) ⊎ (row ≡ new)
 row_last [] new row zero e = inr (sym (once new row e))
 row_last [] new row (suc i) e = absurd (none i e)
   where
@@ -229,7 +229,7 @@ checkpoint_running v p a b c g r = record {
   log = r.log;
   pending = λ i row e. elim (row_last c.pending (checkpoint_row c) row i e) [
     | inl old ↦ let k = r.pending i row old in record { row_of = k.row_of; begun = k.begun; backed = elim k.backed [ inl has ↦ inl (gained_record Checkpoint c a b (kind_of row) row.x g has) | inr is ↦ inr is ] }
-    | inr new ↦ subst (λ (x : Row). IsPending v p b x) (sym new) (record {
+    | inr new ↦ subst (λ (x : PendingRow). IsPending v p b x) (sym new) (record {
       row_of = at_all (history v p) c.now.interval (RowOf p (length v.programs) c.now.vec c.now.got) (interval_is v p a c r) (row_of (program_at v.programs p) p (length v.programs) c.now (history v p) r.state);
       begun = λ e. absurd (apart_bools e);
       backed = inl (g.1.2, ap (λ (d : Content). get d.checkpoints c.now.interval) g.1.4 ∙ get-insert_here a.checkpoints c.now.interval g.1.2);

@@ -21,8 +21,7 @@ use Rattle.om_recover.proofs.CuttingLemmas.{has_after_cut, of_cut}
 use Rattle.om_manager.specs.Gatherings.{AreAllIn, begins, presence_of, presences_of}
 use Rattle.om_manager.specs.Outputs.{HeldOutput, within}
 use Rattle.om_manager.specs.Rounds.{Finishes, Gathers, gathering_with}
-use Rattle.om_manager.specs.State as managers
-use Rattle.om_manager.specs.State.{ManagerState, held_by, released_by}
+use Rattle.om_manager.specs.State.{ManagerState, held_by, process_count, released_by}
 use Rattle.om_manager.specs.declared.answers.Gathered.{Gathered}
 use Rattle.om_manager.specs.declared.answers.Gathered.TheVariants.{Waiting, Finished}
 use Rattle.om_manager.specs.declared.presence.Presence.{Presence}
@@ -310,7 +309,7 @@ record AreDone (w : WorldState) (presences : List Presence) (m : ManagerState) :
   pub shape : HasShape w
   pub sound : Sound w
   pub known : AreIn w presences
-  pub all : AreAllIn (managers.size_of w.manager) presences
+  pub all : AreAllIn (process_count w.manager) presences
   pub done : Finishes presences w.manager m
 
 -- how many receipts of a process are left

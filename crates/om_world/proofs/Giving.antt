@@ -15,7 +15,7 @@ use Rattle.om_world.specs.declared.place.Place.{Place}
 use Rattle.om_world.specs.Changes.{IsUp}
 use Rattle.om_world.specs.Happened.{GiveHappened, Happened}
 use Rattle.om_world.specs.World.{WorldState, entry_of}
-use Rattle.om_world.specs.steps.Moves.{IsOffered, after_offer, answered}
+use Rattle.om_world.specs.steps.Moves.{IsOfferedAt, after_offer, answered}
 use Rattle.om_world.specs.steps.Sound.{IsWorld, HasShape}
 use Rattle.om_world.proofs.Kept.{remade, shape_core, sound_taken}
 use Rattle.om_world.proofs.Lists.{once}
@@ -33,7 +33,7 @@ offered_as cs p c d m accepts.Full at back ans took other = ap (λ (e : CoreStat
 offered_as cs p c d m accepts.Memory at back ans took other = ap (λ (e : CoreState). set cs p (Some e)) (other (λ x e. cc)) ∙ back
 
 pub offered : (cs : List (Option CoreState)) (p : ℕ) (c d : CoreState) (m : Message) (a : Accept) → slice_get cs p ≡ Some (Some c) → set cs p (Some c) ≡ cs → Answers c m a
-    → ((x : ℕ) → a ≡ accepts.Taken x → d ≡ taken c m) → (((x : ℕ) → a ≢ accepts.Taken x) → d ≡ c) → IsOffered cs p m a (set cs p (Some d))
+    → ((x : ℕ) → a ≡ accepts.Taken x → d ≡ taken c m) → (((x : ℕ) → a ≢ accepts.Taken x) → d ≡ c) → IsOfferedAt cs p m a (set cs p (Some d))
 offered cs p c d m a at back ans took other = record { core = c; there = at; answers = ans; cores = offered_as cs p c d m a at back ans took other }
 
 pub given_at : (cs : List (Option CoreState)) (p : ℕ) (c : CoreState) → slice_get cs p ≡ Some (Some c) → set cs p (Some c) ≡ cs
@@ -42,7 +42,7 @@ given_at (x ∷ cs) zero c at = ap (λ y. y ∷ cs) (sym (once x (Some c) at))
 given_at (x ∷ cs) (suc p) c at = ap (λ l. x ∷ l) (given_at cs p c at)
 
 pub after_give : {S : Type 0} (IsSound : S → Type 0) (xs : List S) (w : WorldState) (p f x : ℕ) (m : Message) (e : Entry) (cs : List (Option CoreState)) (live : List Entry) → IsWorld IsSound xs w → IsUp w p
-    → slice_get w.frames f ≡ Some m → e ≡ entry_of m → IsOffered w.cores p m (accepts.Taken x) cs → live ≡ w.live ++ e ∷ [] → IsWorld IsSound xs (remade w live w.frames cs w.manager w.contents w.health)
+    → slice_get w.frames f ≡ Some m → e ≡ entry_of m → IsOfferedAt w.cores p m (accepts.Taken x) cs → live ≡ w.live ++ e ∷ [] → IsWorld IsSound xs (remade w live w.frames cs w.manager w.contents w.health)
 after_give IsSound xs w p f x m e cs live i up frame is offer more =
     let c = offer.core in let at = offer.there in let due = offer.answers.0 in
     let mine : p ≡ e.to = sym (i.shape.own p c at).own ∙ sym due.next.no_orphan.no_stranger.to ∙ ap (λ (d : Entry). d.to) (sym is) in
@@ -54,7 +54,7 @@ after_give IsSound xs w p f x m e cs live i up frame is offer more =
     }))
 
 pub given_taken : (w : WorldState) (p f x : ℕ) (m : Message) (e : Entry) (cs : List (Option CoreState)) (live : List Entry) → IsUp w p
-    → slice_get w.frames f ≡ Some m → e ≡ entry_of m → IsOffered w.cores p m (accepts.Taken x) cs → live ≡ w.live ++ e ∷ [] → GiveHappened w p f (accepts.Taken x) (remade w live w.frames cs w.manager w.contents w.health)
+    → slice_get w.frames f ≡ Some m → e ≡ entry_of m → IsOfferedAt w.cores p m (accepts.Taken x) cs → live ≡ w.live ++ e ∷ [] → GiveHappened w p f (accepts.Taken x) (remade w live w.frames cs w.manager w.contents w.health)
 given_taken w p f x m e cs live up frame is offer more = (
   m,
   offer.core,
@@ -63,7 +63,7 @@ given_taken w p f x m e cs live up frame is offer more = (
   ap (λ l. remade w l w.frames cs w.manager w.contents w.health) (more ∙ ap (λ (d : Entry). w.live ++ d ∷ []) is) ∙ ap (λ l. remade w (w.live ++ entry_of m ∷ []) w.frames l w.manager w.contents w.health) offer.cores,
 )
 
-pub not_given : (w : WorldState) (p f : ℕ) (m : Message) (a : Accept) (cs : List (Option CoreState)) → IsUp w p → slice_get w.frames f ≡ Some m → ((x : ℕ) → a ≢ accepts.Taken x) → a ≢ accepts.Memory → IsOffered w.cores p m a cs
+pub not_given : (w : WorldState) (p f : ℕ) (m : Message) (a : Accept) (cs : List (Option CoreState)) → IsUp w p → slice_get w.frames f ≡ Some m → ((x : ℕ) → a ≢ accepts.Taken x) → a ≢ accepts.Memory → IsOfferedAt w.cores p m a cs
     → GiveHappened w p f a (remade w w.live w.frames cs w.manager w.contents w.health)
 not_given w p f m (accepts.Taken x) cs up frame nt nm o = absurd (nt x refl)
 not_given w p f m accepts.Memory cs up frame nt nm o = absurd (nm refl)
@@ -79,7 +79,7 @@ pub no_room : (w v : WorldState) (p f : ℕ) (m : Message) (r : Result Answer Re
 no_room w v p f m r up h frame is same = let c = h.there p up in subst (λ a. Happened w (Event.Give p f) (answered a) v) (sym is) (m, c.0, record { up = up; frame = frame; core = c.1 }, same)
 
 -- ---- it is not taken
-pub none_taken : (cs new : List (Option CoreState)) (p : ℕ) (m : Message) (a : Accept) → ((x : ℕ) → a ≢ accepts.Taken x) → IsOffered cs p m a new → new ≡ cs
+pub none_taken : (cs new : List (Option CoreState)) (p : ℕ) (m : Message) (a : Accept) → ((x : ℕ) → a ≢ accepts.Taken x) → IsOfferedAt cs p m a new → new ≡ cs
 none_taken cs new p m (accepts.Taken x) nt o = absurd (nt x refl)
 none_taken cs new p m accepts.Stranger nt o = o.cores
 none_taken cs new p m accepts.Orphan nt o = o.cores
@@ -104,6 +104,6 @@ room_none w v live p f m r e up h frame is same =
     subst (λ (x : WorldState). Happened x (Event.Give p f) (answered r) (remade w live w.frames w.cores w.manager w.contents w.health)) e
     (no_room w (remade w live w.frames w.cores w.manager w.contents w.health) p f m r up h frame is (none_given w live w.cores same refl))
 
-pub given_none : (w : WorldState) (live : List Entry) (p f : ℕ) (m : Message) (a : Accept) (cs : List (Option CoreState)) → live ≡ w.live → IsUp w p → slice_get w.frames f ≡ Some m → ((x : ℕ) → a ≢ accepts.Taken x) → a ≢ accepts.Memory → IsOffered w.cores p m a cs
+pub given_none : (w : WorldState) (live : List Entry) (p f : ℕ) (m : Message) (a : Accept) (cs : List (Option CoreState)) → live ≡ w.live → IsUp w p → slice_get w.frames f ≡ Some m → ((x : ℕ) → a ≢ accepts.Taken x) → a ≢ accepts.Memory → IsOfferedAt w.cores p m a cs
     → GiveHappened w p f a (remade w live w.frames cs w.manager w.contents w.health)
 given_none w live p f m a cs same up frame nt nm o = subst (λ l. GiveHappened w p f a (remade w l w.frames cs w.manager w.contents w.health)) (sym same) (not_given w p f m a cs up frame nt nm o)

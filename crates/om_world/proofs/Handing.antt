@@ -2,14 +2,14 @@
 use Rattle.std.proofs.Common.{◌≡◌, ◌⊎◌, inl, inr, ℕ, zero, suc, ◌+◌, ◌-◌, ◌≤◌, ◌<◌, List, [], ◌∷◌, ◌++◌, length, take, drop, replicate, get_or, Some, Result, Ok, Err, refl, sym, ap, ◌∙◌, subst, arith, length-append}
 use Rattle.std.specs.Prelude.{max, slice_get, slice_set, OnOk, IfErr}
 use Rattle.std.proofs.lemmas.List.{append_assoc, append-nil, get_or-set_same, get_or-set_other, length-drop, set-get_or, set-set, take-take}
-use Rattle.om_format.specs.declared.queue.Entry as kept
+use Rattle.om_format.specs.declared.queue.QueueEntry.{QueueEntry}
 use Rattle.om_format.specs.Queues.{QueueRecord}
 use Rattle.om_stable.specs.Content.{Content}
 use Rattle.om_process.specs.declared.queues.Made.{Made}
 use Rattle.om_process.specs.Process.{Process, Program, Received, empty_queue, started}
 use Rattle.om_process.specs.Turns.{Reaches}
 use Rattle.om_process.specs.Parts.{Grow}
-use Rattle.om_process.specs.Core.{CoreState, size_of}
+use Rattle.om_process.specs.Core.{CoreState, cluster_size}
 use Rattle.om_process.specs.Claims.{AtInterval, HasEntry, Makes}
 use Rattle.om_process.specs.Frames.{outputs_of}
 use Rattle.om_process.specs.Kept.{made_as, numbered, queue_at}
@@ -20,8 +20,7 @@ use Rattle.om_recover.specs.Rows.{HasRow}
 use Rattle.om_manager.specs.Notes.{IsDifferent, IsLatest, NotesOutput, Offer, earlier, other, with_output}
 use Rattle.om_manager.specs.Outputs.{HeldOutput}
 use Rattle.om_manager.specs.Sound.{IsManager, KeepsReleased}
-use Rattle.om_manager.specs.State as managers
-use Rattle.om_manager.specs.State.{ManagerState, held_by, released_by}
+use Rattle.om_manager.specs.State.{ManagerState, held_by, process_count, released_by}
 use Rattle.om_manager.specs.declared.answers.OutputNote.{OutputNote}
 use Rattle.om_manager.specs.declared.answers.OutputNote.TheVariants as notes
 use Rattle.om_manager.specs.declared.answers.OutputError.{OutputError}
@@ -59,7 +58,7 @@ zero_along program own n h t a =
     zero_grown b.interval b.queues t.queues (turns_grow own n a.0 b t a.1.2).1 (zero_grown (started program n).interval (started program n).queues b.queues (leads_grow own n h (started program n) b a.1.1).1 (zero_started n))
 
 -- a queue from 0 on has each entry before one that it has
-before_entry : (qs : List QueueRecord) (place i j : ℕ) (e : kept.Entry) → FromZero qs → i ≤ j → HasEntry qs place j e → (d : kept.Entry) × HasEntry qs place i d
+before_entry : (qs : List QueueRecord) (place i j : ℕ) (e : QueueEntry) → FromZero qs → i ≤ j → HasEntry qs place j e → (d : QueueEntry) × HasEntry qs place i d
 before_entry [] place i j e z le h = absurd h
 before_entry (q ∷ qs) zero i j e z le h =
     let lt = inside q.entries h.0 e h.2 in
@@ -75,7 +74,7 @@ length-take [] (suc k) le = absurd (omega arith)
 length-take (x ∷ xs) (suc k) le = ap suc (length-take xs k (omega arith))
 
 -- what has a lower number was made no later
-pub made_in_order : (program : Program) (own n place i j : ℕ) (h : List Received) (d e : kept.Entry) → i ≤ j → AtInterval h d.interval (Makes program own n place i d) → AtInterval h e.interval (Makes program own n place j e) → d.interval ≤ e.interval
+pub made_in_order : (program : Program) (own n place i j : ℕ) (h : List Received) (d e : QueueEntry) → i ≤ j → AtInterval h d.interval (Makes program own n place i d) → AtInterval h e.interval (Makes program own n place j e) → d.interval ≤ e.interval
 made_in_order program own n place i j h d e le a b = elim (less e.interval d.interval) [
   | inr ge ↦ ge
   | inl lt ↦
@@ -88,12 +87,12 @@ made_in_order program own n place i j h d e le a b = elim (less e.interval d.int
       let parts : take d.interval h ≡ take e.interval h ++ s.0 ∷ s.1 = s.2 ∙ ap (λ l. l ++ s.0 ∷ s.1) (take-take e.interval d.interval h (omega arith)) in
       let stays = made_stays program own n place i (take e.interval h) s.1 s.0 f.0 a.1.0 (u.0, u.1, f.1) (subst (λ l. Reaches program own n l a.1.0) parts a.1.1) in
       let same = same_entry program own n place i d.interval d.interval h d f.0 a.0 a.0 (omega arith) (omega arith) a.1 (a.1.0, a.1.1, stays) in
-      let x : d.interval ≡ f.0.interval = ap (λ (k : kept.Entry). k.interval) same in
+      let x : d.interval ≡ f.0.interval = ap (λ (k : QueueEntry). k.interval) same in
       omega arith
 ]
 
 -- ---- what the manager holds
-abbrev IsMade : Past → ℕ → ℕ → kept.Entry → Type 0
+abbrev IsMade : Past → ℕ → ℕ → QueueEntry → Type 0
 IsMade v p number e = AtInterval (history v p) e.interval (Makes (program_at v.programs p) p (length v.programs) (length v.programs) number e)
 
 abbrev with_m : WorldState → ManagerState → WorldState
@@ -136,8 +135,8 @@ more_then a b c p lt f g =
           ∙ ap (λ l. record a { outputs = slice_set a.outputs p l }) (append_assoc h f.0 g.0),
     )
 
-pub handed_more : (old new : ManagerState) (round p : ℕ) (ms : List Made) → p < managers.size_of old → IsManager old → AreHanded old round p ms new → HoldsMore old p new × KeepsReleased old new × IsManager new × (managers.size_of new ≡ managers.size_of old)
-handed_more old new round p [] lt is same = subst (λ m. HoldsMore old p m × KeepsReleased old m × IsManager m × (managers.size_of m ≡ managers.size_of old)) (sym same) (more_none old p, keeps_same old, is, refl)
+pub handed_more : (old new : ManagerState) (round p : ℕ) (ms : List Made) → p < process_count old → IsManager old → AreHanded old round p ms new → HoldsMore old p new × KeepsReleased old new × IsManager new × (process_count new ≡ process_count old)
+handed_more old new round p [] lt is same = subst (λ m. HoldsMore old p m × KeepsReleased old m × IsManager m × (process_count m ≡ process_count old)) (sym same) (more_none old p, keeps_same old, is, refl)
 handed_more old new round p (m ∷ ms) lt is h =
     let mid = h.0 in let t = h.2 in
     let places = t.below.same_places in let many = is.places in
@@ -153,7 +152,7 @@ handed_more old new round p (m ∷ ms) lt is h =
 abbrev IsAfter : WorldState → ℕ → ManagerState → ℕ → Type 0
 IsAfter w p m next = HasShape (with_m w m) × Sound (with_m w m) × (m.round ≡ w.manager.round) × (next ≡ length (held_by m p))
 
-one_handed : (w : WorldState) (mid : ManagerState) (round p next : ℕ) (e : kept.Entry) (note : OutputNote) → HasShape w → Sound w → p < length w.programs → next ≡ length (held_by w.manager p) → IsMade (past_of w) p next e
+one_handed : (w : WorldState) (mid : ManagerState) (round p next : ℕ) (e : QueueEntry) (note : OutputNote) → HasShape w → Sound w → p < length w.programs → next ≡ length (held_by w.manager p) → IsMade (past_of w) p next e
     → IsHanded w.manager round p (made_as next e) (Ok note) mid → IsAfter w p mid (next + 1)
 one_handed w mid round p next e note h s lt at made t = elim (taken w.manager mid (offer_of round p (made_as next e)) note t.answers) [
   | inl known ↦ let short = inside (held_by w.manager p) next (record { interval = e.interval; bytes = e.body }) known.0 in absurd (omega arith)
@@ -181,7 +180,7 @@ at_get (y ∷ xs) zero x d at = once y x at
 at_get (y ∷ xs) (suc i) x d at = at_get xs i x d at
 
 -- and it is refused for want of memory alone
-not_refused : (w : WorldState) (new : ManagerState) (round p next : ℕ) (e : kept.Entry) (fault : OutputError) → HasShape w → Sound w → p < length w.programs → round ≡ w.manager.round → next ≡ length (held_by w.manager p) → IsMade (past_of w) p next e
+not_refused : (w : WorldState) (new : ManagerState) (round p next : ℕ) (e : QueueEntry) (fault : OutputError) → HasShape w → Sound w → p < length w.programs → round ≡ w.manager.round → next ≡ length (held_by w.manager p) → IsMade (past_of w) p next e
     → NotesOutput w.manager (offer_of round p (made_as next e)) (Err fault) new → fault ≡ refused.Memory
 not_refused w new round p next e refused.Memory h s lt now at made n = refl
 not_refused w new round p next e refused.Stranger h s lt now at made n = let le = n.0 in let size = h.size in absurd (omega arith)
@@ -201,16 +200,16 @@ not_refused w new round p next e refused.Differs h s lt now at made n = absurd (
 
 -- ---- outputs in order
 -- these are made, from this number on
-abbrev AreMade : Past → ℕ → ℕ → List kept.Entry → Type 0
-AreMade v p next es = (k : ℕ) (e : kept.Entry) → slice_get es k ≡ Some e → IsMade v p (next + k) e
+abbrev AreMade : Past → ℕ → ℕ → List QueueEntry → Type 0
+AreMade v p next es = (k : ℕ) (e : QueueEntry) → slice_get es k ≡ Some e → IsMade v p (next + k) e
 
-next_made : (v : Past) (p next : ℕ) (d : kept.Entry) (es : List kept.Entry) → AreMade v p next (d ∷ es) → AreMade v p (next + 1) es
+next_made : (v : Past) (p next : ℕ) (d : QueueEntry) (es : List QueueEntry) → AreMade v p next (d ∷ es) → AreMade v p (next + 1) es
 next_made v p next d es all k e at = subst (λ j. IsMade v p j e) (more next k) (all (suc k) e at)
   where
     more : (next k : ℕ) → next + suc k ≡ (next + 1) + k
     more next k = omega arith
 
-all_handed : (w : WorldState) (m : ManagerState) (round p next : ℕ) (es : List kept.Entry) → HasShape w → Sound w → p < length w.programs → next ≡ length (held_by w.manager p) → AreMade (past_of w) p next es
+all_handed : (w : WorldState) (m : ManagerState) (round p next : ℕ) (es : List QueueEntry) → HasShape w → Sound w → p < length w.programs → next ≡ length (held_by w.manager p) → AreMade (past_of w) p next es
     → AreHanded w.manager round p (numbered made_as next es) m → IsAfter w p m (next + length es)
 all_handed w m round p next [] h s lt at all same = subst (λ k. IsAfter w p k (next + 0)) (sym same) (h, s, refl, plain next ∙ at)
   where
@@ -229,12 +228,12 @@ all_handed w m round p next (e ∷ es) h s lt at all handed =
     more : (n k : ℕ) → n + suc k ≡ (n + 1) + k
     more n k = omega arith
 
-take_numbered : (next k : ℕ) (es : List kept.Entry) → take k (numbered made_as next es) ≡ numbered made_as next (take k es)
+take_numbered : (next k : ℕ) (es : List QueueEntry) → take k (numbered made_as next es) ≡ numbered made_as next (take k es)
 take_numbered next zero es = refl
 take_numbered next (suc k) [] = refl
 take_numbered next (suc k) (e ∷ es) = ap (λ l. made_as next e ∷ l) (take_numbered (next + 1) k es)
 
-at_numbered : (next k : ℕ) (es : List kept.Entry) (m : Made) → slice_get (numbered made_as next es) k ≡ Some m → (e : kept.Entry) × (slice_get es k ≡ Some e) × (m ≡ made_as (next + k) e)
+at_numbered : (next k : ℕ) (es : List QueueEntry) (m : Made) → slice_get (numbered made_as next es) k ≡ Some m → (e : QueueEntry) × (slice_get es k ≡ Some e) × (m ≡ made_as (next + k) e)
 at_numbered next k [] m at = absurd (none_in k m at)
 at_numbered next zero (e ∷ es) m at = (e, refl, sym (once (made_as next e) m at) ∙ ap (λ j. made_as j e) (plain next))
   where
@@ -245,13 +244,13 @@ at_numbered next (suc k) (e ∷ es) m at = let r = at_numbered (next + 1) k es m
     more : (n k : ℕ) → (n + 1) + k ≡ n + suc k
     more n k = omega arith
 
-at_take : (es : List kept.Entry) (n k : ℕ) (e : kept.Entry) → slice_get (take n es) k ≡ Some e → slice_get es k ≡ Some e
+at_take : (es : List QueueEntry) (n k : ℕ) (e : QueueEntry) → slice_get (take n es) k ≡ Some e → slice_get es k ≡ Some e
 at_take es zero k e at = absurd (none_in k e at)
 at_take [] (suc n) k e at = at
 at_take (d ∷ es) (suc n) zero e at = at
 at_take (d ∷ es) (suc n) (suc k) e at = at_take es n k e at
 
-at_drop : (es : List kept.Entry) (n k : ℕ) (e : kept.Entry) → slice_get (drop n es) k ≡ Some e → slice_get es (n + k) ≡ Some e
+at_drop : (es : List QueueEntry) (n k : ℕ) (e : QueueEntry) → slice_get (drop n es) k ≡ Some e → slice_get es (n + k) ≡ Some e
 at_drop es zero k e at = ap (slice_get es) (plain k) ∙ at
   where
     plain : (k : ℕ) → 0 + k ≡ k
@@ -287,7 +286,7 @@ behind w p held c h lt own r =
       λ k e at.
           let q = outputs_of c in
           let next = length (held_by w.manager p) in
-          let has : HasEntry c.now.queues (size_of c.now) (next + k) e = has_entry_at c.now.queues (size_of c.now) ((next - q.first) + k) (next + k) e (number q.first next k low) (at_drop q.entries (next - q.first) k e at) in
+          let has : HasEntry c.now.queues (cluster_size c.now) (next + k) e = has_entry_at c.now.queues (cluster_size c.now) ((next - q.first) + k) (next + k) e (number q.first next k low) (at_drop q.entries (next - q.first) k e at) in
           made_at (program_at w.programs p) p n n (next + k) (history (past_of w) p) e (r.state.0, r.state.1, part_has r.state.0.queues c.now.queues n (next + k) e r.state.2.queues (subst (λ j. HasEntry c.now.queues j (next + k) e) own.size has)),
     )
   where

@@ -1,7 +1,7 @@
 -- What is told of a world follows from what it keeps.
 use Rattle.std.proofs.Common.{◌≡◌, ◌⊎◌, inl, inr, ℕ, zero, suc, ◌+◌, ◌-◌, ◌≤◌, ◌<◌, List, [], ◌∷◌, ◌++◌, length, map, take, Some, Bool, true, false, refl, sym, ap, ◌∙◌, subst, arith}
 use Rattle.std.specs.Prelude.{nat_eq, slice_get, slice_index}
-use Rattle.om_format.specs.declared.queue.Entry as kept
+use Rattle.om_format.specs.declared.queue.QueueEntry.{QueueEntry}
 use Rattle.om_format.specs.Queues.{QueueRecord}
 use Rattle.om_stable.specs.Content.{Content}
 use Rattle.om_process.specs.Process.{Received}
@@ -10,7 +10,7 @@ use Rattle.om_process.specs.Parts.{KeepQueues}
 use Rattle.om_process.specs.Dependencies.{count_from}
 use Rattle.om_process.specs.Claims.{AtInterval, HasEntry, Makes}
 use Rattle.om_recover.specs.Cutting.{IsEffective}
-use Rattle.om_recover.specs.declared.row.Row as noted
+use Rattle.om_recover.specs.declared.row.Row.{Row}
 use Rattle.om_recover.specs.declared.row.RowKind.{RowKind}
 use Rattle.om_recover.specs.declared.row.RowKind.TheVariants.{Checkpoint, Log}
 use Rattle.om_manager.specs.State.{held_by, released_by}
@@ -23,7 +23,7 @@ use Rattle.om_world.proofs.Lists.{inside, map_at, none_in, once, there}
 use Rattle.om_world.proofs.Released.{released_first}
 
 -- ---- what a part keeps of the whole
-ahead : (gone rest : List kept.Entry) (i : ℕ) (e : kept.Entry) → length gone ≤ i → slice_get (gone ++ rest) i ≡ Some e → slice_get rest (i - length gone) ≡ Some e
+ahead : (gone rest : List QueueEntry) (i : ℕ) (e : QueueEntry) → length gone ≤ i → slice_get (gone ++ rest) i ≡ Some e → slice_get rest (i - length gone) ≡ Some e
 ahead [] rest i e le h = ap (slice_get rest) (plain i) ∙ h
   where
     plain : (i : ℕ) → i - 0 ≡ i
@@ -34,7 +34,7 @@ ahead (d ∷ gone) rest (suc i) e le h = ap (slice_get rest) (less i (length gon
     less : (i n : ℕ) → suc i - suc n ≡ i - n
     less i n = omega arith
 
-kept_has : (ps qs : List QueueRecord) (place number : ℕ) (e : kept.Entry) → KeepQueues ps qs → ((queue : QueueRecord) → slice_get qs place ≡ Some queue → queue.first ≤ number) → HasEntry ps place number e → HasEntry qs place number e
+kept_has : (ps qs : List QueueRecord) (place number : ℕ) (e : QueueEntry) → KeepQueues ps qs → ((queue : QueueRecord) → slice_get qs place ≡ Some queue → queue.first ≤ number) → HasEntry ps place number e → HasEntry qs place number e
 kept_has [] [] place number e k low h = absurd h
 kept_has [] (q ∷ qs) place number e k low h = absurd k
 kept_has (p ∷ ps) [] place number e k low h = absurd k
@@ -94,7 +94,7 @@ released w p h s lt =
     let all = released_first w.programs p w.live (map output_entry outputs) s.legal (λ i e at.
     let o = before_map output_entry outputs i e at in
     let held : slice_get (held_by w.manager p) i ≡ Some o.0 = ap (λ l. slice_get l i) (sym front.1) ∙ at_front outputs front.0 i o.0 o.1 in
-    subst (λ (d : kept.Entry). AtInterval (history (past_of w) p) d.interval (Makes (program_at w.programs p) p n n i d)) o.2 (s.outputs p i o.0 held)) in
+    subst (λ (d : QueueEntry). AtInterval (history (past_of w) p) d.interval (Makes (program_at w.programs p) p n n i d)) o.2 (s.outputs p i o.0 held)) in
     (all.0, all.1, λ i o at. all.2 i (output_entry o) (map_at output_entry outputs i o at))
 
 -- ---- records
@@ -108,7 +108,7 @@ not_old Log x c d wanted before le = below x c d wanted before le
     below : (x c d : ℕ) → c < x → x ≤ d → d ≤ c → ⊥
     below x c d a b e = omega arith
 
-wanted_has : (w : WorldState) (row : noted.Row) (held : Content) (c : ℕ) → IsEffective w.manager.rows row.pid (recovered w.manager row.pid) c → IsWanted c row.kind row.interval
+wanted_has : (w : WorldState) (row : Row) (held : Content) (c : ℕ) → IsEffective w.manager.rows row.pid (recovered w.manager row.pid) c → IsWanted c row.kind row.interval
     → HasBytes held row.kind row.interval ⊎ IsOld w.manager row.pid row.kind row.interval → HasBytes held row.kind row.interval
 wanted_has w row held c e wanted (inl has) = has
 wanted_has w row held c e wanted (inr old) = absurd (not_old row.kind row.interval c old.checkpoint wanted old.before (e.greatest old.checkpoint old.there old.within))

@@ -1,10 +1,10 @@
 -- What each event leaves.
 use Rattle.std.proofs.Common.{◌≡◌, ℕ, List, [], ◌∷◌, Result, sym, ap, ◌∙◌, subst, arith}
 use Rattle.om_stable.specs.declared.error.StoreError.{StoreError}
-use Rattle.om_process.specs.declared.row.Row.{Row}
+use Rattle.om_process.specs.declared.row.PendingRow.{PendingRow}
 use Rattle.om_recover.specs.declared.row.RowKind.{RowKind}
 use Rattle.om_manager.specs.Sound.{KeepsReleased}
-use Rattle.om_manager.specs.State.{ManagerState, released_by, size_of}
+use Rattle.om_manager.specs.State.{ManagerState, process_count, released_by}
 use Rattle.om_manager.specs.declared.answers.RecordError.{RecordError}
 pub use Rattle.om_member.proofs.KeepLemmas.{prefix_then}
 use Rattle.om_member.proofs.KeepLemmas.{prefix_same}
@@ -16,20 +16,20 @@ use Rattle.om_world.proofs.FailureCounts.{counts_by}
 pub keeps_same : (m : ManagerState) → KeepsReleased m m
 keeps_same m p lt = prefix_same (released_by m p)
 
-told_keeps : (old new : ManagerState) (round p : ℕ) (rows : List Row) → AreTold old round p rows new → KeepsReleased old new
+told_keeps : (old new : ManagerState) (round p : ℕ) (rows : List PendingRow) → AreTold old round p rows new → KeepsReleased old new
 told_keeps old new round p [] same = subst (λ m. KeepsReleased old m) (sym same) (keeps_same old)
 told_keeps old new round p (row ∷ rows) told = λ q lt.
     let places = told.2.below.same_places in
     prefix_then (released_by old q) (released_by told.0 q) (released_by new q) (told.2.released q lt) (told_keeps told.0 new round p rows told.3 q (omega arith))
 
-told_size : (old new : ManagerState) (round p : ℕ) (rows : List Row) → AreTold old round p rows new → size_of new ≡ size_of old
-told_size old new round p [] same = ap size_of same
+told_size : (old new : ManagerState) (round p : ℕ) (rows : List PendingRow) → AreTold old round p rows new → process_count new ≡ process_count old
+told_size old new round p [] same = ap process_count same
 told_size old new round p (row ∷ rows) told = let places = told.2.below.same_places in let rest = told_size told.0 new round p rows told.3 in omega arith
 
 -- an event that leaves the manager and the stores
 pub keeps_by : (old new : WorldState) → new.manager ≡ old.manager → new.health ≡ old.health → new.origins ≡ old.origins → Keeps old new
 keeps_by old new manager health origins = record {
-  size = ap size_of manager;
+  size = ap process_count manager;
   released = subst (λ m. KeepsReleased old.manager m) (sym manager) (keeps_same old.manager);
   clean = λ all. ap all_clean (sym health) ∙ all;
   counts = counts_by old.health new.health health;
@@ -38,7 +38,7 @@ keeps_by old new manager health origins = record {
 
 pub keeps_called : (kind : RowKind) (w v : WorldState) (p : ℕ) (a : Result (Unit {0}) StoreError) → HasCalled kind w p a v → Keeps w v
 keeps_called kind w v p a h = record {
-  size = ap (λ (x : WorldState). size_of x.manager) h.others;
+  size = ap (λ (x : WorldState). process_count x.manager) h.others;
   released = subst (λ m. KeepsReleased w.manager m) (sym (ap (λ (x : WorldState). x.manager) h.others)) (keeps_same w.manager);
   clean = h.was_clean;
   counts = h.counts;
@@ -48,7 +48,7 @@ keeps_called kind w v p a h = record {
 -- a process stored, and its rows were told
 pub keeps_recorded : (kind : RowKind) (w mid v : WorldState) (p count : ℕ) (a : Result (Unit {0}) StoreError) (end : Result (Unit {0}) RecordError) → HasCalled kind w p a mid → HasTold mid p count end v → Keeps w v
 keeps_recorded kind w mid v p count a end h t = record {
-  size = told_size mid.manager v.manager t.core.round p _ t.told.told ∙ ap (λ (x : WorldState). size_of x.manager) h.others;
+  size = told_size mid.manager v.manager t.core.round p _ t.told.told ∙ ap (λ (x : WorldState). process_count x.manager) h.others;
   released = subst (λ m. KeepsReleased m v.manager) (ap (λ (x : WorldState). x.manager) h.others) (told_keeps mid.manager v.manager t.core.round p _ t.told.told);
   clean = λ all. h.was_clean (ap all_clean (sym (ap (λ (x : WorldState). x.health) t.others)) ∙ all);
   counts = subst (λ l. NoneFell w.health l) (sym (ap (λ (x : WorldState). x.health) t.others)) h.counts;

@@ -13,9 +13,8 @@ use Rattle.om_process.specs.Turns.{Turns, Reaches, IsWaiting}
 use Rattle.om_process.specs.Replays.{FitsReceipt, received_of, process_of}
 use Rattle.om_process.specs.Parts.{Grow}
 use Rattle.om_process.specs.Dependencies.{count_from}
-use Rattle.om_process.specs.Core.{CoreState, LoggedRecord, size_of, with_now}
-use Rattle.om_process.specs.Accepts as offers
-use Rattle.om_process.specs.Accepts.{IsDue, taken, receipt_for}
+use Rattle.om_process.specs.Core.{CoreState, LoggedRecord, cluster_size, with_now}
+use Rattle.om_process.specs.Accepts.{as_received, IsDue, taken, receipt_for}
 use Rattle.om_process.specs.Claims.{AtInterval, Makes, RowOf, CheckpointOf, RecordOf, LeadsToWait}
 use Rattle.om_process.specs.Stores.{first_logged}
 use Rattle.om_process.proofs.Runs.{turns_then, turns_grow, leads_more}
@@ -24,8 +23,7 @@ use Rattle.om_process.proofs.Vectors.{row_along, places_at}
 use Rattle.om_process.proofs.Making.{interval_along}
 use Rattle.om_manager.specs.Gatherings.{presence_of, presences_of}
 use Rattle.om_manager.specs.Sound.{IsManager}
-use Rattle.om_manager.specs.State as managers
-use Rattle.om_manager.specs.State.{ManagerState, released_by}
+use Rattle.om_manager.specs.State.{ManagerState, process_count, released_by}
 use Rattle.om_manager.specs.declared.presence.Presence.{Presence}
 use Rattle.om_manager.specs.declared.presence.Presence.TheVariants.{Away, Joined}
 use Rattle.om_world.specs.declared.entry.Entry.{Entry}
@@ -42,12 +40,12 @@ abbrev pub remade : WorldState → List Entry → List Message → List (Option 
 remade w live frames cores manager contents health = record { programs = w.programs; live = live; frames = frames; cores = cores; places = w.places; rounds = w.rounds; manager = manager; contents = contents; health = health; origins = w.origins }
 
 -- ---- the shape
-pub shape_same : (w : WorldState) (live : List Entry) (frames : List Message) (m : ManagerState) (contents : List Content) (health : List Health) → HasShape w → length contents ≡ length w.contents → IsManager m → managers.size_of m ≡ managers.size_of w.manager
+pub shape_same : (w : WorldState) (live : List Entry) (frames : List Message) (m : ManagerState) (contents : List Content) (health : List Health) → HasShape w → length contents ≡ length w.contents → IsManager m → process_count m ≡ process_count w.manager
     → HasShape (remade w live frames w.cores m contents health)
 shape_same w live frames m contents health s long is size = record { few = s.few; stores = long ∙ s.stores; cores = s.cores; places = s.places; own = s.own; rounds = s.rounds; there = s.there; inside = s.inside; manager = is; size = size ∙ s.size }
 
-pub shape_core : (w : WorldState) (p : ℕ) (c d : CoreState) (live : List Entry) (frames : List Message) (m : ManagerState) (contents : List Content) (health : List Health) → HasShape w → slice_get w.cores p ≡ Some (Some c) → d.own ≡ c.own → size_of d.now ≡ size_of c.now
-    → length contents ≡ length w.contents → IsManager m → managers.size_of m ≡ managers.size_of w.manager → HasShape (remade w live frames (set w.cores p (Some d)) m contents health)
+pub shape_core : (w : WorldState) (p : ℕ) (c d : CoreState) (live : List Entry) (frames : List Message) (m : ManagerState) (contents : List Content) (health : List Health) → HasShape w → slice_get w.cores p ≡ Some (Some c) → d.own ≡ c.own → cluster_size d.now ≡ cluster_size c.now
+    → length contents ≡ length w.contents → IsManager m → process_count m ≡ process_count w.manager → HasShape (remade w live frames (set w.cores p (Some d)) m contents health)
 shape_core w p c d live frames m contents health s at own size long is many = record {
   few = s.few;
   stores = long ∙ s.stores;
@@ -142,7 +140,7 @@ running_turns v p k held c t turns r =
       above = record { receipts = λ y le. r.above.receipts y (subst (λ x. x + 1 - length c.log ≤ y) (turns_grow p n k c.now t turns).0 le); checkpoints = r.above.checkpoints };
     }
 
-pub sound_turns : (w : WorldState) (p k : ℕ) (c : CoreState) (t : Process) → HasShape w → Sound w → slice_get w.cores p ≡ Some (Some c) → Turns c.own (size_of c.now) k c.now t
+pub sound_turns : (w : WorldState) (p k : ℕ) (c : CoreState) (t : Process) → HasShape w → Sound w → slice_get w.cores p ≡ Some (Some c) → Turns c.own (cluster_size c.now) k c.now t
     → Sound (remade w w.live w.frames (set w.cores p (Some (with_now c t))) w.manager w.contents w.health)
 sound_turns w p k c t h s at turns =
     let own = h.own p c at in
@@ -268,17 +266,17 @@ row_of program own n c h at =
     let row = row_along program own n h at.0 at.1 in
     (ap (λ (p : Process). p.vec) at.2.same ∙ row.0, ap (λ (p : Process). p.got) at.2.same ∙ row.1)
 
-running_taken : (v : Past) (e : Entry) (held : Content) (c : CoreState) (m : Message) → ((q : ℕ) → recovered v.manager q ≤ length (history v q)) → e ≡ entry_of m → c.own ≡ e.to → size_of c.now ≡ length v.programs → IsDue c m → IsRunning v e.to held c → IsRunning (with_entry v e) e.to held (taken c m)
+running_taken : (v : Past) (e : Entry) (held : Content) (c : CoreState) (m : Message) → ((q : ℕ) → recovered v.manager q ≤ length (history v q)) → e ≡ entry_of m → c.own ≡ e.to → cluster_size c.now ≡ length v.programs → IsDue c m → IsRunning v e.to held c → IsRunning (with_entry v e) e.to held (taken c m)
 running_taken v e held c m within is own size due r =
     let n = length v.programs in
     let program = program_at v.programs e.to in
     let h = history v e.to in
     let known = due.next.no_orphan.no_stranger in
     let waits : IsWaiting e.to n c.now = subst (λ o. IsWaiting o n c.now) own (subst (λ k. IsWaiting c.own k c.now) size due.waits) in
-    let new : receipt_of e ≡ offers.received m = ap receipt_of is in
-    let now : CheckpointOf program e.to n (delivered e.to c.now (offers.received m)) (h ++ offers.received m ∷ []) = delivered_at program e.to n c.now h (offers.received m) r.state waits in
-    let here : CheckpointOf program e.to n (taken c m).now (h ++ offers.received m ∷ []) = subst (λ o. CheckpointOf program e.to n (delivered o c.now (offers.received m)) (h ++ offers.received m ∷ [])) (sym own) now in
-    let same : h ++ offers.received m ∷ [] ≡ history (with_entry v e) e.to = sym (mine v e ∙ ap (λ g. h ++ g ∷ []) new) in
+    let new : receipt_of e ≡ as_received m = ap receipt_of is in
+    let now : CheckpointOf program e.to n (delivered e.to c.now (as_received m)) (h ++ as_received m ∷ []) = delivered_at program e.to n c.now h (as_received m) r.state waits in
+    let here : CheckpointOf program e.to n (taken c m).now (h ++ as_received m ∷ []) = subst (λ o. CheckpointOf program e.to n (delivered o c.now (as_received m)) (h ++ as_received m ∷ [])) (sym own) now in
+    let same : h ++ as_received m ∷ [] ≡ history (with_entry v e) e.to = sym (mine v e ∙ ap (λ g. h ++ g ∷ []) new) in
     let part = r.state.2 in
     let fits : FitsReceipt e.to n r.state.0 (receipt_for c m) = record {
       to = own;
@@ -292,7 +290,7 @@ running_taken v e held c m within is own size due r =
       state = subst (CheckpointOf program e.to n (taken c m).now) same here;
       kept = kept_more v e e.to c.now.queues within r.kept;
       log = subst (LogOf program e.to n (taken c m).log) same
-          (log_of_more program e.to n h c.log (record { receipt = receipt_for c m; vec = (taken c m).now.vec; got = (taken c m).now.got }) r.log (r.state.0, r.state.1, fits) (row_of program e.to n (taken c m).now (h ++ offers.received m ∷ []) here));
+          (log_of_more program e.to n h c.log (record { receipt = receipt_for c m; vec = (taken c m).now.vec; got = (taken c m).now.got }) r.log (r.state.0, r.state.1, fits) (row_of program e.to n (taken c m).now (h ++ as_received m ∷ []) here));
       pending = λ i row at. let old = r.pending i row at in record { row_of = at_entry v e e.to row.x (RowOf e.to n row.vec row.got) old.row_of; begun = old.begun; backed = old.backed };
       above = let le = longer v e e.to in record { receipts = λ y le. r.above.receipts y (same_first c.now.interval (length c.log) (length (c.log ++ record { receipt = receipt_for c m; vec = (taken c m).now.vec; got = (taken c m).now.got } ∷ [])) y (length-append c.log (record { receipt = receipt_for c m; vec = (taken c m).now.vec; got = (taken c m).now.got } ∷ [])) le); checkpoints = λ y lt. r.above.checkpoints y (further (length h) (length (history (with_entry v e) e.to)) y le lt) };
     }

@@ -5,13 +5,13 @@ use Rattle.std.specs.FinMap.{get}
 use Rattle.om_stable.specs.Content.{Content, IsTaken}
 use Rattle.om_stable.specs.declared.error.StoreError.{StoreError}
 use Rattle.om_stable.specs.declared.error.StoreError.TheVariants.{Fault, Present}
-use Rattle.om_process.specs.declared.row.Row.{Row}
+use Rattle.om_process.specs.declared.row.PendingRow.{PendingRow}
 use Rattle.om_process.specs.Claims.{AtInterval, RowOf}
 use Rattle.om_process.specs.Core.{CoreState, with_pending}
 use Rattle.om_process.specs.Stores.{first_logged}
 use Rattle.om_recover.specs.declared.note.Note.{Note}
 use Rattle.om_recover.specs.declared.note.NoteError.TheVariants.{Memory}
-use Rattle.om_recover.specs.declared.row.Row as noted
+use Rattle.om_recover.specs.declared.row.Row.{Row}
 use Rattle.om_recover.specs.declared.row.RowKind.{RowKind}
 use Rattle.om_recover.specs.declared.row.RowKind.TheVariants.{Checkpoint, Log}
 use Rattle.om_manager.specs.State.{ManagerState}
@@ -32,25 +32,25 @@ use Rattle.om_world.proofs.Telling.{told_goes_on, told_outputs, told_rows}
 
 -- ---- one row
 -- what is true of a pending row, as the manager is told it
-abbrev IsTrueRow : WorldState → noted.Row → Type 0
+abbrev IsTrueRow : WorldState → Row → Type 0
 IsTrueRow w row = (AtInterval (history (past_of w) row.pid) row.interval (RowOf row.pid (length w.programs) row.vec row.got))
     × ((held : Content) → slice_get w.contents row.pid ≡ Some held → HasBytes held row.kind row.interval ⊎ IsOld w.manager row.pid row.kind row.interval)
 
-true_row : (w : WorldState) (p : ℕ) (a : Content) (row : Row) → slice_get w.contents p ≡ Some a → IsPending (past_of w) p a row → IsTrueRow w (row_for p row)
+true_row : (w : WorldState) (p : ℕ) (a : Content) (row : PendingRow) → slice_get w.contents p ≡ Some a → IsPending (past_of w) p a row → IsTrueRow w (row_for p row)
 true_row w p a row at k = go row.ckpt refl
   where
     go : (b : Bool) → row.ckpt ≡ b → IsTrueRow w (row_for p row)
     go true e = rw e (k.row_of, λ held f. subst (λ (h : Content). HasBytes h Checkpoint row.x ⊎ IsOld w.manager p Checkpoint row.x) (once a held (sym at ∙ f)) (rw e at k.backed))
     go false e = rw e (k.row_of, λ held f. subst (λ (h : Content). HasBytes h Log row.x ⊎ IsOld w.manager p Log row.x) (once a held (sym at ∙ f)) (rw e at k.backed))
 
-row_pid : (p : ℕ) (row : Row) → (row_for p row).pid ≡ p
+row_pid : (p : ℕ) (row : PendingRow) → (row_for p row).pid ≡ p
 row_pid p row = go row.ckpt refl
   where
     go : (b : Bool) → row.ckpt ≡ b → (row_for p row).pid ≡ p
     go true e = rw e refl
     go false e = rw e refl
 
-row_begun : (v : Past) (p : ℕ) (a : Content) (row : Row) → IsPending v p a row → (row_for p row).kind ≡ Log → 0 < (row_for p row).interval
+row_begun : (v : Past) (p : ℕ) (a : Content) (row : PendingRow) → IsPending v p a row → (row_for p row).kind ≡ Log → 0 < (row_for p row).interval
 row_begun v p a row k = go row.ckpt refl
   where
     apart : Checkpoint ≡ Log → ⊥
@@ -63,21 +63,21 @@ row_begun v p a row k = go row.ckpt refl
 abbrev with_m : WorldState → ManagerState → WorldState
 with_m w m = remade w w.live w.frames w.cores m w.contents w.health
 
-shape_told : (w : WorldState) (m : ManagerState) (round p : ℕ) (row : Row) (note : Note) → HasShape w → IsTold w.manager round p row (Ok note) m → HasShape (with_m w m)
+shape_told : (w : WorldState) (m : ManagerState) (round p : ℕ) (row : PendingRow) (note : Note) → HasShape w → IsTold w.manager round p row (Ok note) m → HasShape (with_m w m)
 shape_told w m round p row note h t = shape_same w w.live w.frames m w.contents w.health h refl t.sound (sym t.below.same_places)
 
-sound_told : (w : WorldState) (m : ManagerState) (round p : ℕ) (a : Content) (row : Row) (note : Note) → HasShape w → Sound w → slice_get w.contents p ≡ Some a → IsPending (past_of w) p a row → IsTold w.manager round p row (Ok note) m → Sound (with_m w m)
+sound_told : (w : WorldState) (m : ManagerState) (round p : ℕ) (a : Content) (row : PendingRow) (note : Note) → HasShape w → Sound w → slice_get w.contents p ≡ Some a → IsPending (past_of w) p a row → IsTold w.manager round p row (Ok note) m → Sound (with_m w m)
 sound_told w m round p a row note h s at k t = sound_manager w m s (told_goes_on w.manager m round p row note h.manager t)
     (λ q i o f. s.outputs q i o (ap (λ outputs. slice_get (slice_index_or outputs q []) i) (sym (told_outputs w.manager m round p row note t)) ∙ f))
     (λ other has. elim (told_rows w.manager m round p row note t other has) [ inl old ↦ inl old | inr new ↦ inr (subst (IsTrueRow w) (sym new) (true_row w p a row at k)) ])
 
-pending_raised : (v : Past) (m : ManagerState) (p : ℕ) (a : Content) (row : Row) → GoesOn v.manager m → IsPending v p a row → IsPending (record { programs = v.programs; live = v.live; manager = m }) p a row
+pending_raised : (v : Past) (m : ManagerState) (p : ℕ) (a : Content) (row : PendingRow) → GoesOn v.manager m → IsPending v p a row → IsPending (record { programs = v.programs; live = v.live; manager = m }) p a row
 pending_raised v m p a row g k = record { row_of = k.row_of; begun = k.begun; backed = elim k.backed [ inl has ↦ inl has | inr is ↦ inr (g.old p (kind_of row) row.x is) ] }
 
 -- ---- rows in order
-pub all_told : (w : WorldState) (m : ManagerState) (round p : ℕ) (a : Content) (rows : List Row) → HasShape w → Sound w → slice_get w.contents p ≡ Some a → ((i : ℕ) (row : Row) → slice_get rows i ≡ Some row → IsPending (past_of w) p a row) → AreTold w.manager round p rows m
-    → HasShape (with_m w m) × Sound (with_m w m) × (m.round ≡ w.manager.round) × ((row : Row) → IsPending (past_of w) p a row → IsPending (past_of (with_m w m)) p a row)
-all_told w m round p a [] h s at all same = subst (λ k. HasShape (with_m w k) × Sound (with_m w k) × (k.round ≡ w.manager.round) × ((row : Row) → IsPending (past_of w) p a row → IsPending (past_of (with_m w k)) p a row)) (sym same) (h, s, refl, λ row k. k)
+pub all_told : (w : WorldState) (m : ManagerState) (round p : ℕ) (a : Content) (rows : List PendingRow) → HasShape w → Sound w → slice_get w.contents p ≡ Some a → ((i : ℕ) (row : PendingRow) → slice_get rows i ≡ Some row → IsPending (past_of w) p a row) → AreTold w.manager round p rows m
+    → HasShape (with_m w m) × Sound (with_m w m) × (m.round ≡ w.manager.round) × ((row : PendingRow) → IsPending (past_of w) p a row → IsPending (past_of (with_m w m)) p a row)
+all_told w m round p a [] h s at all same = subst (λ k. HasShape (with_m w k) × Sound (with_m w k) × (k.round ≡ w.manager.round) × ((row : PendingRow) → IsPending (past_of w) p a row → IsPending (past_of (with_m w k)) p a row)) (sym same) (h, s, refl, λ row k. k)
 all_told w m round p a (row ∷ rows) h s at all told =
     let mid = told.0 in let t = told.2 in
     let g = told_goes_on w.manager mid round p row told.1 h.manager t in
@@ -85,18 +85,18 @@ all_told w m round p a (row ∷ rows) h s at all told =
     let rest = all_told (with_m w mid) m round p a rows (shape_told w mid round p row told.1 h t) (sound_told w mid round p a row told.1 h s at k t) at (λ i r f. pending_raised (past_of w) mid p a r g (all (suc i) r f)) told.3 in
     (rest.0, rest.1, rest.2 ∙ g.round, λ r q. rest.3 r (pending_raised (past_of w) mid p a r g q))
 
-shape_all : (w : WorldState) (m : ManagerState) (round p : ℕ) (rows : List Row) → HasShape w → AreTold w.manager round p rows m → HasShape (with_m w m)
+shape_all : (w : WorldState) (m : ManagerState) (round p : ℕ) (rows : List PendingRow) → HasShape w → AreTold w.manager round p rows m → HasShape (with_m w m)
 shape_all w m round p [] h same = subst (λ k. HasShape (with_m w k)) (sym same) h
 shape_all w m round p (row ∷ rows) h told = shape_all (with_m w told.0) m round p rows (shape_told w told.0 round p row told.1 h told.2) told.3
 
-at_take : (rows : List Row) (k i : ℕ) (row : Row) → slice_get (take k rows) i ≡ Some row → slice_get rows i ≡ Some row
+at_take : (rows : List PendingRow) (k i : ℕ) (row : PendingRow) → slice_get (take k rows) i ≡ Some row → slice_get rows i ≡ Some row
 at_take [] zero i row at = at
 at_take [] (suc k) i row at = at
 at_take (r ∷ rows) zero i row at = absurd (none_in i row at)
 at_take (r ∷ rows) (suc k) zero row at = at
 at_take (r ∷ rows) (suc k) (suc i) row at = at_take rows k i row at
 
-at_drop : (rows : List Row) (k i : ℕ) (row : Row) → slice_get (drop k rows) i ≡ Some row → slice_get rows (k + i) ≡ Some row
+at_drop : (rows : List PendingRow) (k i : ℕ) (row : PendingRow) → slice_get (drop k rows) i ≡ Some row → slice_get rows (k + i) ≡ Some row
 at_drop rows zero i row at = ap (slice_get rows) (plain i) ∙ at
   where
     plain : (i : ℕ) → 0 + i ≡ i
@@ -114,7 +114,7 @@ IsNotedIn w p count end m cs = (c : CoreState) × (slice_get w.cores p ≡ Some 
 
 -- what is known once rows were told
 abbrev IsKnownAfter : WorldState → ℕ → ManagerState → CoreState → Type 0
-IsKnownAfter w p m c = HasShape (with_m w m) × Sound (with_m w m) × (m.round ≡ w.manager.round) × ((i : ℕ) (row : Row) → slice_get c.pending i ≡ Some row → (a : Content) × IsPending (past_of (with_m w m)) p a row)
+IsKnownAfter w p m c = HasShape (with_m w m) × Sound (with_m w m) × (m.round ≡ w.manager.round) × ((i : ℕ) (row : PendingRow) → slice_get c.pending i ≡ Some row → (a : Content) × IsPending (past_of (with_m w m)) p a row)
 
 known_after : (w : WorldState) (p count : ℕ) (end : Result (Unit {0}) RecordError) (m : ManagerState) (c : CoreState) → HasShape w → Sound w → IsUp w p → slice_get w.cores p ≡ Some (Some c) → IsToldUpTo w.manager c.round p c.pending count end m → IsKnownAfter w p m c
 known_after w p count end m c h s up at t =
@@ -152,7 +152,7 @@ refused_memory w p count (Err fault) m c h s up at t =
     let pid = row_pid p f.0 in
     notes_refused (with_m w m) p c.round row fault k.0 k.1 ((s.up p c at up).round ∙ sym k.2) (subst (λ o. o < length w.programs) (sym pid) lt) (pending_claim w p m q.0 f.0 q.1) (row_begun (past_of (with_m w m)) p q.0 f.0 q.1) f.2
   where
-    pending_claim : (w : WorldState) (p : ℕ) (m : ManagerState) (a : Content) (row : Row) → IsPending (past_of (with_m w m)) p a row → AtInterval (history (past_of (with_m w m)) (row_for p row).pid) (row_for p row).interval (RowOf (row_for p row).pid (length w.programs) (row_for p row).vec (row_for p row).got)
+    pending_claim : (w : WorldState) (p : ℕ) (m : ManagerState) (a : Content) (row : PendingRow) → IsPending (past_of (with_m w m)) p a row → AtInterval (history (past_of (with_m w m)) (row_for p row).pid) (row_for p row).interval (RowOf (row_for p row).pid (length w.programs) (row_for p row).vec (row_for p row).got)
     pending_claim w p m a row k = go row.ckpt refl
       where
         go : (b : Bool) → row.ckpt ≡ b → AtInterval (history (past_of (with_m w m)) (row_for p row).pid) (row_for p row).interval (RowOf (row_for p row).pid (length w.programs) (row_for p row).vec (row_for p row).got)

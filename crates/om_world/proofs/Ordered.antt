@@ -11,11 +11,10 @@ use Rattle.om_recover.specs.Offered.{offered}
 use Rattle.om_recover.specs.Rows.{HasRow, HaveSameVectors, IsAtMost, IsFair}
 use Rattle.om_recover.specs.declared.note.NoteError.{NoteError}
 use Rattle.om_recover.specs.declared.note.NoteError.TheVariants.{Stranger, BadVector, Differs, Disorder, Memory}
-use Rattle.om_recover.specs.declared.row.Row as noted
+use Rattle.om_recover.specs.declared.row.Row.{Row}
 use Rattle.om_recover.specs.declared.row.RowKind.TheVariants.{Log}
 use Rattle.om_manager.specs.Notes.{Notes}
-use Rattle.om_manager.specs.State as managers
-use Rattle.om_manager.specs.State.{ManagerState}
+use Rattle.om_manager.specs.State.{ManagerState, process_count}
 use Rattle.om_manager.specs.declared.answers.RecordError.{RecordError}
 use Rattle.om_manager.specs.declared.answers.RecordError.TheVariants.{Stale, Refused}
 use Rattle.om_world.specs.World.{WorldState, past_of, history}
@@ -82,19 +81,19 @@ counts_below n x y h le = record {
 }
 
 -- rows of one list of receipts
-at_most : (n own : ℕ) (h : List Received) (low high : noted.Row) → AtInterval h low.interval (RowOf own n low.vec low.got) → AtInterval h high.interval (RowOf own n high.vec high.got) → low.interval ≤ high.interval → IsAtMost low high
+at_most : (n own : ℕ) (h : List Received) (low high : Row) → AtInterval h low.interval (RowOf own n low.vec low.got) → AtInterval h high.interval (RowOf own n high.vec high.got) → low.interval ≤ high.interval → IsAtMost low high
 at_most n own h low high a b le = record {
   vec = subst (λ v. IsBelow v high.vec) (sym a.1.0) (subst (λ v. IsBelow (Depends n own (take low.interval h)) v) (sym b.1.0) (depends_below n own low.interval high.interval h le b.0));
   got = subst (λ v. IsBelow v high.got) (sym a.1.1) (subst (λ v. IsBelow (Counts n (take low.interval h)) v) (sym b.1.1) (counts_below n low.interval high.interval h le));
 }
 
-same_rows : (n own : ℕ) (h : List Received) (one other : noted.Row) → AtInterval h one.interval (RowOf own n one.vec one.got) → AtInterval h other.interval (RowOf own n other.vec other.got) → one.interval ≡ other.interval → HaveSameVectors one other
+same_rows : (n own : ℕ) (h : List Received) (one other : Row) → AtInterval h one.interval (RowOf own n one.vec one.got) → AtInterval h other.interval (RowOf own n other.vec other.got) → one.interval ≡ other.interval → HaveSameVectors one other
 same_rows n own h one other a b is = record {
   vec = a.1.0 ∙ ap (λ x. Depends n own (take x h)) is ∙ sym b.1.0;
   got = a.1.1 ∙ ap (λ x. Counts n (take x h)) is ∙ sym b.1.1;
 }
 
-fair : (n own : ℕ) (h : List Received) (row : noted.Row) → row.pid ≡ own → own < n → AtInterval h row.interval (RowOf own n row.vec row.got) → (row.kind ≡ Log → 0 < row.interval) → IsFair n row
+fair : (n own : ℕ) (h : List Received) (row : Row) → row.pid ≡ own → own < n → AtInterval h row.interval (RowOf own n row.vec row.got) → (row.kind ≡ Log → 0 < row.interval) → IsFair n row
 fair n own h row is lt a begun = record {
   vec_places = ap length a.1.0 ∙ length-depends n own (take row.interval h);
   got_places = ap length a.1.1 ∙ length-places n (λ j. count_from j (take row.interval h));
@@ -103,8 +102,8 @@ fair n own h row is lt a begun = record {
 }
 
 -- a true row is refused for memory alone
-offers : (w : WorldState) (row : noted.Row) (fault : NoteError) → HasShape w → Sound w → row.pid < length w.programs → AtInterval (history (past_of w) row.pid) row.interval (RowOf row.pid (length w.programs) row.vec row.got) → (row.kind ≡ Log → 0 < row.interval)
-    → offered (managers.size_of w.manager) w.manager.rows row (Err fault) w.manager.rows → fault ≡ Memory
+offers : (w : WorldState) (row : Row) (fault : NoteError) → HasShape w → Sound w → row.pid < length w.programs → AtInterval (history (past_of w) row.pid) row.interval (RowOf row.pid (length w.programs) row.vec row.got) → (row.kind ≡ Log → 0 < row.interval)
+    → offered (process_count w.manager) w.manager.rows row (Err fault) w.manager.rows → fault ≡ Memory
 offers w row fault h s lt true_row begun o = by fault (subst (λ k. offered k w.manager.rows row (Err fault) w.manager.rows) h.size o)
   where
     n : ℕ
@@ -113,7 +112,7 @@ offers w row fault h s lt true_row begun o = by fault (subst (λ k. offered k w.
     g : List Received
     g = history (past_of w) row.pid
 
-    claim : (other : noted.Row) → HasRow w.manager.rows other → other.pid ≡ row.pid → AtInterval g other.interval (RowOf row.pid n other.vec other.got)
+    claim : (other : Row) → HasRow w.manager.rows other → other.pid ≡ row.pid → AtInterval g other.interval (RowOf row.pid n other.vec other.got)
     claim other has is = subst (λ o. AtInterval (history (past_of w) o) other.interval (RowOf o n other.vec other.got)) is (s.rows other has)
 
     by : (fault : NoteError) → offered n w.manager.rows row (Err fault) w.manager.rows → fault ≡ Memory
@@ -126,7 +125,7 @@ offers w row fault h s lt true_row begun o = by fault (subst (λ k. offered k w.
     ]
     by Memory o = refl
 
-pub notes_refused : (w : WorldState) (p round : ℕ) (row : noted.Row) (fault : RecordError) → HasShape w → Sound w → round ≡ w.manager.round → row.pid < length w.programs → AtInterval (history (past_of w) row.pid) row.interval (RowOf row.pid (length w.programs) row.vec row.got) → (row.kind ≡ Log → 0 < row.interval)
+pub notes_refused : (w : WorldState) (p round : ℕ) (row : Row) (fault : RecordError) → HasShape w → Sound w → round ≡ w.manager.round → row.pid < length w.programs → AtInterval (history (past_of w) row.pid) row.interval (RowOf row.pid (length w.programs) row.vec row.got) → (row.kind ≡ Log → 0 < row.interval)
     → Notes w.manager round row (Err fault) w.manager → fault ≡ Refused Memory
 notes_refused w p round row (Stale told) h s is lt true_row begun n = absurd (n.1 is)
 notes_refused w p round row (Refused fault) h s is lt true_row begun n = ap (λ f. Refused f) (offers w row fault h s lt true_row begun n.1)

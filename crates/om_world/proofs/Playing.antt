@@ -2,7 +2,7 @@
 use Rattle.std.proofs.Common.{◌≡◌, ℕ, zero, suc, ◌+◌, List, [], ◌∷◌, ◌++◌, ◌<◌, length, take, get_or, Some, All, true, refl, sym, ap, ◌∙◌, subst, arith, length-append}
 use Rattle.std.specs.Prelude.{slice_get}
 use Rattle.om_manager.specs.Sound.{KeepsReleased}
-use Rattle.om_manager.specs.State.{released_by, size_of}
+use Rattle.om_manager.specs.State.{process_count, released_by}
 use Rattle.om_world.specs.declared.event.Event.{Event}
 use Rattle.om_world.specs.declared.event.Answer.{Answer}
 use Rattle.om_world.specs.Changes.{NoneFell}
@@ -34,7 +34,7 @@ known_before old new k known = (subst (All IsEmpty) k.origins known.0, k.clean k
 -- what was played, up to one event
 pub record IsPlayed (old : WorldState) (events : List Event) (k : ℕ) (answers : List Answer) (new : WorldState) : Type 0 where
   pub long : length answers ≡ k
-  pub size : size_of new.manager ≡ size_of old.manager
+  pub size : process_count new.manager ≡ process_count old.manager
   pub released : KeepsReleased old.manager new.manager
   pub clean : all_clean new.health ≡ true → all_clean old.health ≡ true
   pub counts : NoneFell old.health new.health

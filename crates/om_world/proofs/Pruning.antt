@@ -15,8 +15,7 @@ use Rattle.om_recover.specs.declared.row.RowKind.{RowKind}
 use Rattle.om_recover.specs.declared.row.RowKind.TheVariants.{Checkpoint, Log}
 use Rattle.om_recover.proofs.CuttingLemmas.{has_after_prune, of_pruned}
 use Rattle.om_manager.specs.Sound.{IsManager}
-use Rattle.om_manager.specs.State as managers
-use Rattle.om_manager.specs.State.{ManagerState, held_by, released_by}
+use Rattle.om_manager.specs.State.{ManagerState, held_by, process_count, released_by}
 use Rattle.om_world.specs.declared.event.Event.{Event}
 use Rattle.om_world.specs.declared.event.Answer.TheVariants as answers
 use Rattle.om_world.specs.Changes.{HasFailed, NoneFell, RoseAt}
@@ -43,7 +42,7 @@ lower Log x c e le lt = omega arith
 -- an old row stays old: the effective checkpoint is not below the one that made it so, and stays
 old_pruned : (old new : ManagerState) (p : ℕ) (kind : RowKind) (x : ℕ) → IsManager old → ManagerPruned old new → IsOld old p kind x → IsOld new p kind x
 old_pruned old new p kind x is m o =
-    let small : p < managers.size_of old = subst (λ q. q < managers.size_of old) o.there.pid_is (is.lawful.known o.there.row o.there.there) in
+    let small : p < process_count old = subst (λ q. q < process_count old) o.there.pid_is (is.lawful.known o.there.row o.there.there) in
     let cs = m.rows.checkpoints in
     let e = m.rows.effective.each p small in
     record {
@@ -73,7 +72,7 @@ goes_on old new is m = record {
 
 pub after_pruned : {S : Type 0} (IsSound : S → Type 0) (xs : List S) (w : WorldState) (m : ManagerState) → IsWorld IsSound xs w → ManagerPruned w.manager m → IsManager m → IsWorld IsSound xs (remade w w.live w.frames w.cores m w.contents w.health)
 after_pruned IsSound xs w m i pruned is = record {
-  shape = shape_same w w.live w.frames m w.contents w.health i.shape refl is (ap managers.size_of pruned.others);
+  shape = shape_same w w.live w.frames m w.contents w.health i.shape refl is (ap process_count pruned.others);
   clean = λ all.
       let s = i.clean all in (
         s.0,
@@ -187,9 +186,9 @@ sound_either w p c (Ok done) a b health s at e is = sound_pruned w p c a b healt
 sound_either w p c (Err why) a b health s at e is =
     subst (λ l. Sound (remade w w.live w.frames w.cores w.manager l health)) (sym (ap (set w.contents p) is ∙ set_back w.contents p a at)) (sound_clean w w.contents w.health health s)
 
-pub after_store : {S : Type 0} (content : S → Content) (health : S → Health) (IsSound : S → Type 0) (w : WorldState) (p c : ℕ) (answer : Result (Unit {0}) StoreError) (xs ys : List S)
+pub after_pruned_store : {S : Type 0} (content : S → Content) (health : S → Health) (IsSound : S → Type 0) (w : WorldState) (p c : ℕ) (answer : Result (Unit {0}) StoreError) (xs ys : List S)
     → IsWorld IsSound xs (over content health w xs w.cores) → IsPrunedIn content health IsSound w p c answer xs ys → IsWorld IsSound ys (over content health w ys w.cores)
-after_store content health IsSound w p c answer xs ys i n =
+after_pruned_store content health IsSound w p c answer xs ys i n =
     let k = n.1 in
     subst (λ l. IsWorld IsSound l (over content health w l w.cores)) (sym k.stores) (record {
       shape = shape_same (over content health w xs w.cores) w.live w.frames w.manager (map content (set xs p k.after)) (map health (set xs p k.after)) i.shape
@@ -344,7 +343,7 @@ pub prune_keeps : (w v z : WorldState) (end : Result (Unit {0}) StoreError) → 
 prune_keeps w v z end m e a =
     let n = manager_then w v z m a.pruned.others in
     record {
-      size = ap managers.size_of n.others;
+      size = ap process_count n.others;
       released = λ p lt. subst (λ l. IsPrefix (released_by w.manager p) l) (sym (same_released w.manager z.manager p n)) (keeps_same w.manager p lt);
       clean = λ all. ap all_clean (sym (ap (λ (x : WorldState). x.health) e)) ∙ a.pruned.was_clean all;
       counts = subst (λ l. NoneFell l z.health) (ap (λ (x : WorldState). x.health) e) a.pruned.counts;

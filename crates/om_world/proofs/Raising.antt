@@ -11,7 +11,7 @@ use Rattle.om_process.specs.Dependencies.{count_from}
 use Rattle.om_process.specs.Claims.{AtInterval, Makes, RowOf}
 use Rattle.om_recover.specs.Rows.{HasRow}
 use Rattle.om_recover.specs.Recoverable.{IsStable}
-use Rattle.om_recover.specs.declared.row.Row as noted
+use Rattle.om_recover.specs.declared.row.Row.{Row}
 use Rattle.om_recover.specs.declared.row.RowKind.{RowKind}
 use Rattle.om_manager.specs.Gatherings.{presence_of, presences_of}
 use Rattle.om_manager.specs.Outputs.{HeldOutput}
@@ -31,14 +31,14 @@ pub less : (x y : ℕ) → (x < y) ⊎ (y ≤ x)
 less x y = grind arith
 
 -- a stable interval has a row
-stable_row : (rows : _) (p x : ℕ) → IsStable rows p x → (row : noted.Row) × HasRow rows row × (row.pid ≡ p) × (row.interval ≡ x)
+stable_row : (rows : _) (p x : ℕ) → IsStable rows p x → (row : Row) × HasRow rows row × (row.pid ≡ p) × (row.interval ≡ x)
 stable_row rows p x s = elim (less s.from x) [
   | inl lt ↦ let h = s.logged x lt (omega arith) in (h.row, h.there, h.pid_is, h.interval_is)
   | inr ge ↦ let h = s.checkpoint in let b = s.below in let is : s.from ≡ x = omega arith in (h.row, h.there, h.pid_is, h.interval_is ∙ is)
 ]
 
 -- the manager has a row at each place of the recovery state
-pub recovery_row : (w : WorldState) (p : ℕ) → HasShape w → p < length w.programs → (row : noted.Row) × HasRow w.manager.rows row × (row.pid ≡ p) × (row.interval ≡ recovered w.manager p)
+pub recovery_row : (w : WorldState) (p : ℕ) → HasShape w → p < length w.programs → (row : Row) × HasRow w.manager.rows row × (row.pid ≡ p) × (row.interval ≡ recovered w.manager p)
 recovery_row w p h lt = let size = h.size in stable_row w.manager.rows p (recovered w.manager p) (h.manager.exact.greatest.recoverable.stable p (omega arith))
 
 -- no place of the recovery state is beyond what its process received
@@ -102,7 +102,7 @@ running_raised v m p held c g r = record {
 
 pub sound_manager : (w : WorldState) (m : ManagerState) → Sound w → GoesOn w.manager m
     → ((p i : ℕ) (o : HeldOutput) → slice_get (held_by m p) i ≡ Some o → AtInterval (history (past_of w) p) o.interval (Makes (program_at w.programs p) p (length w.programs) (length w.programs) i (output_entry o)))
-    → ((row : noted.Row) → HasRow m.rows row → HasRow w.manager.rows row
+    → ((row : Row) → HasRow m.rows row → HasRow w.manager.rows row
     ⊎ (AtInterval (history (past_of w) row.pid) row.interval (RowOf row.pid (length w.programs) row.vec row.got) × ((held : Content) → slice_get w.contents row.pid ≡ Some held → HasBytes held row.kind row.interval ⊎ IsOld w.manager row.pid row.kind row.interval)))
     → Sound (remade w w.live w.frames w.cores m w.contents w.health)
 sound_manager w m s g outputs rows = record {

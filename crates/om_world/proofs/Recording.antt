@@ -10,11 +10,8 @@ use Rattle.om_recover.specs.declared.row.RowKind.TheVariants.{Checkpoint, Log}
 use Rattle.om_manager.specs.declared.answers.RecordError.{RecordError}
 use Rattle.om_world.specs.declared.event.Answer.TheVariants as answers
 use Rattle.om_world.specs.declared.event.Refusal.TheVariants as why
-use Rattle.om_world.specs.Changes as changes
-use Rattle.om_world.specs.Happened as happened
-use Rattle.om_world.specs.Changes.{Changes, HasStored, IsSame, IsUp, Stays, stored}
-use Rattle.om_world.specs.Changes.{HasNoted}
-use Rattle.om_world.specs.Happened.{Happened, HasCheckpoint}
+use Rattle.om_world.specs.Changes.{Changes, HasNoted, HasStored, IsSame, IsUp, Stays, StoreStopped, stored}
+use Rattle.om_world.specs.Happened.{Happened, HasCheckpoint, StoreHappened}
 use Rattle.om_world.specs.Played.{IsCounted}
 use Rattle.om_world.specs.World.{WorldState, IsEmpty, IsKnown, all_clean}
 use Rattle.om_world.specs.steps.Moves.{AreTold, HasCalled, HasTold, IsToldUpTo, Gained, event_of, refusal_of_record, refusal_of_store}
@@ -109,7 +106,7 @@ all_noted kind w mid v p count up h t all =
     let n = has_noted kind w mid v p count (Ok tt) up h t in
     by kind (h.core, s, n.0, n.1.all)
   where
-    by : (kind : RowKind) → happened.StoreHappened kind w p count v → Happened w (event_of kind p) (answers.Noted count) v
+    by : (kind : RowKind) → StoreHappened kind w p count v → Happened w (event_of kind p) (answers.Noted count) v
     by Log x = x
     by Checkpoint x = x
 
@@ -121,6 +118,6 @@ some_noted kind w mid v p count fault up h t all =
     let row = n.1.refused in
     subst (λ f. Happened w (event_of kind p) (answers.Refused (refusal_of_record f)) v) (sym (t.memory clean)) (by kind (up, inr (h.core, count, s, n.0, inside (stored kind h.core).pending count row.0 row.1)))
   where
-    by : (kind : RowKind) → IsUp w p × changes.StoreStopped kind w p v → Happened w (event_of kind p) (answers.Refused why.Memory) v
+    by : (kind : RowKind) → IsUp w p × StoreStopped kind w p v → Happened w (event_of kind p) (answers.Refused why.Memory) v
     by Log x = x
     by Checkpoint x = x

@@ -3,7 +3,7 @@ use Rattle.std.proofs.Common.{◌≡◌, ◌⊎◌, inl, inr, ℕ, zero, suc, �
 use Rattle.std.specs.Prelude.{if◌then◌else◌, nat_eq, slice_get}
 use Rattle.std.proofs.lemmas.Bool.Decides.{nat_tests}
 use Rattle.std.proofs.lemmas.List.{take_all}
-use Rattle.om_format.specs.declared.queue.Entry as kept
+use Rattle.om_format.specs.declared.queue.QueueEntry.{QueueEntry}
 use Rattle.om_process.specs.Process.{Process, Program, Received, delivered, started}
 use Rattle.om_process.specs.Turns.{Turns, Leads, Reaches}
 use Rattle.om_process.specs.Claims.{AtInterval, Makes, HasEntry, LeadsToWait}
@@ -20,7 +20,7 @@ split_at zero (r ∷ h) lt = (r, h, refl)
 split_at (suc x) (r ∷ h) lt = let s = split_at x h (omega arith) in (s.0, s.1, ap (λ l. r ∷ l) s.2)
 
 -- what is made along fewer receipts stands in each state along more
-pub made_stays : (program : Program) (own n place number : ℕ) (g rest : List Received) (r : Received) (e : kept.Entry) (s : Process) → Makes program own n place number e g → Reaches program own n (g ++ r ∷ rest) s → HasEntry s.queues place number e
+pub made_stays : (program : Program) (own n place number : ℕ) (g rest : List Received) (r : Received) (e : QueueEntry) (s : Process) → Makes program own n place number e g → Reaches program own n (g ++ r ∷ rest) s → HasEntry s.queues place number e
 made_stays program own n place number g rest r e s m a =
     let w = earlier own n (started program n) s g rest r a.0 a.1 in
     let u = m.1.1 in let v = w.2 in
@@ -29,16 +29,16 @@ made_stays program own n place number g rest r e s m a =
     entry_stays (0 + length g + 1) place number w.1.queues s.queues e w.4 (entry_stays m.0.interval place number m.0.queues w.1.queues e (turns_grow own n on.0 m.0 w.1 on.1).1 m.2)
 
 -- the state has these entries, from this number on
-abbrev HasAll : ℕ → ℕ → List kept.Entry → Process → Type 0
-HasAll place base es s = (i : ℕ) (e : kept.Entry) → slice_get es i ≡ Some e → HasEntry s.queues place (base + i) e
+abbrev HasAll : ℕ → ℕ → List QueueEntry → Process → Type 0
+HasAll place base es s = (i : ℕ) (e : QueueEntry) → slice_get es i ≡ Some e → HasEntry s.queues place (base + i) e
 
-once : (a b : kept.Entry) → Some a ≡ Some b → a ≡ b
+once : (a b : QueueEntry) → Some a ≡ Some b → a ≡ b
 once a b e = cc
 
-none_there : (i : ℕ) (e : kept.Entry) → slice_get [] i ≡ Some e → ⊥
+none_there : (i : ℕ) (e : QueueEntry) → slice_get [] i ≡ Some e → ⊥
 none_there i e h = cc
 
-both : (program : Program) (own n place base : ℕ) (h : List Received) (d : kept.Entry) (es : List kept.Entry) (s t : Process) → Reaches program own n h s → Reaches program own n h t → HasAll place (base + 1) es s → HasEntry t.queues place base d
+both : (program : Program) (own n place base : ℕ) (h : List Received) (d : QueueEntry) (es : List QueueEntry) (s t : Process) → Reaches program own n h s → Reaches program own n h t → HasAll place (base + 1) es s → HasEntry t.queues place base d
     → (u : Process) × Reaches program own n h u × HasAll place base (d ∷ es) u
 both program own n place base h d es s t a b all one = go (le_or a.0 b.0)
   where
@@ -66,8 +66,8 @@ both program own n place base h d es s t a b all one = go (le_or a.0 b.0)
         let on = turns_between own n b.0 a.0 b.1.0 t s b.1.2 (subst (λ x. Turns own n a.0 x s) same a.1.2) le in
         (s, a, join s all (entry_stays t.interval place base t.queues s.queues d (turns_grow own n on.0 t s on.1).1 one))
 
-pub made_first : (program : Program) (own n place base : ℕ) (h : List Received) (es : List kept.Entry) → (a : Process) × Reaches program own n h a
-    → ((i : ℕ) (e : kept.Entry) → slice_get es i ≡ Some e → AtInterval h e.interval (Makes program own n place (base + i) e)) → (s : Process) × Reaches program own n h s × HasAll place base es s
+pub made_first : (program : Program) (own n place base : ℕ) (h : List Received) (es : List QueueEntry) → (a : Process) × Reaches program own n h a
+    → ((i : ℕ) (e : QueueEntry) → slice_get es i ≡ Some e → AtInterval h e.interval (Makes program own n place (base + i) e)) → (s : Process) × Reaches program own n h s × HasAll place base es s
 made_first program own n place base h [] a all = (a.0, a.1, λ i e at. absurd (none_there i e at))
 made_first program own n place base h (d ∷ es) a all = go (made_first program own n place (base + 1) h es a (λ i e at. subst (λ k. AtInterval h e.interval (Makes program own n place k e)) (next base i) (all (suc i) e at))) (less d.interval (length h))
   where
@@ -113,9 +113,9 @@ pub reaches_legal : (images : List Program) (p : ℕ) (es : List Entry) → Lega
 reaches_legal images p es l = let a = leads_after images p [] es (started (program_at images p) (length images), refl) l in (a.0, (0, (a.0, a.1, refl)))
 
 -- outputs that are each made at their interval are the first outputs of one state along the process's receipts
-pub released_first : (images : List Program) (p : ℕ) (es : List Entry) (outputs : List kept.Entry) → Legal images es
-    → ((i : ℕ) (e : kept.Entry) → slice_get outputs i ≡ Some e → AtInterval (received p es) e.interval (Makes (program_at images p) p (length images) (length images) i e))
-    → (s : Process) × Reaches (program_at images p) p (length images) (received p es) s × ((i : ℕ) (e : kept.Entry) → slice_get outputs i ≡ Some e → HasEntry s.queues (length images) i e)
+pub released_first : (images : List Program) (p : ℕ) (es : List Entry) (outputs : List QueueEntry) → Legal images es
+    → ((i : ℕ) (e : QueueEntry) → slice_get outputs i ≡ Some e → AtInterval (received p es) e.interval (Makes (program_at images p) p (length images) (length images) i e))
+    → (s : Process) × Reaches (program_at images p) p (length images) (received p es) s × ((i : ℕ) (e : QueueEntry) → slice_get outputs i ≡ Some e → HasEntry s.queues (length images) i e)
 released_first images p es outputs l all =
     let m = made_first (program_at images p) p (length images) (length images) 0 (received p es) outputs (reaches_legal images p es l) (λ i e at. subst (λ k. AtInterval (received p es) e.interval (Makes (program_at images p) p (length images) (length images) k e)) (none i) (all i e at)) in
     (m.0, m.1, λ i e at. subst (λ k. HasEntry m.0.queues (length images) k e) (sym (none i)) (m.2 i e at))

@@ -3,7 +3,7 @@ use Rattle.std.proofs.Common.{◌≡◌, ◌⊎◌, inl, inr, ℕ, zero, suc, �
 use Rattle.std.specs.Prelude.{slice_get}
 use Rattle.om_interval.specs.Starts.{newest_of}
 use Rattle.om_format.specs.declared.message.Message.{Message}
-use Rattle.om_format.specs.declared.queue.Entry as kept
+use Rattle.om_format.specs.declared.queue.QueueEntry.{QueueEntry}
 use Rattle.om_process.specs.Claims.{AtInterval, Makes}
 use Rattle.om_process.specs.Core.{CoreState}
 use Rattle.om_process.specs.Frames.{IsFrameOf, frame_at, frame_of, messages_to}
@@ -23,7 +23,7 @@ either_part (x ∷ a) b zero m at = inl (zero, at)
 either_part (x ∷ a) b (suc i) m at = elim (either_part a b i m at) [ inl f ↦ inl (suc f.0, f.1) | inr f ↦ inr f ]
 
 -- an entry that is kept, as a message
-frame_is : (c : CoreState) (to k : ℕ) (m : Message) (o : Option kept.Entry) → slice_get (messages_to c to).entries k ≡ o → frame_of c to ((messages_to c to).first + k) o ≡ Some m → IsFrameOf c m
+frame_is : (c : CoreState) (to k : ℕ) (m : Message) (o : Option QueueEntry) → slice_get (messages_to c to).entries k ≡ o → frame_of c to ((messages_to c to).first + k) o ≡ Some m → IsFrameOf c m
 frame_is c to k m None at e = absurd (none_some None m refl e)
 frame_is c to k m (Some d) at e =
     let is = once _ m e in
@@ -48,7 +48,7 @@ is_frame w p c m h s at up f =
     let store = there w.contents p (omega arith) in
     let r : IsRunning (past_of w) p store.0 c = s.running p c store.0 at store.1 (inl up) in
     let mine : p ≡ m.from = sym (f.from ∙ own.own) in
-    let e : kept.Entry = record { interval = m.tag.interval; body = m.body } in
+    let e : QueueEntry = record { interval = m.tag.interval; body = m.body } in
     let made : AtInterval (history (past_of w) p) m.tag.interval (Makes (program_at w.programs p) p n m.to m.ssn e) = made_at (program_at w.programs p) p n m.to m.ssn (history (past_of w) p) e (r.state.0, r.state.1, part_has r.state.0.queues c.now.queues m.to m.ssn e r.state.2.queues f.sent) in
     record {
       from = subst (λ o. o < n) mine (omega arith);

@@ -8,8 +8,7 @@ use Rattle.om_process.specs.declared.replay.ReplayFault.TheVariants.{NoCheckpoin
 use Rattle.om_process.specs.Core.{CoreState}
 use Rattle.om_process.specs.Stored.{IsReplay}
 use Rattle.om_manager.specs.Sound.{KeepsReleased}
-use Rattle.om_manager.specs.State as managers
-use Rattle.om_manager.specs.State.{ManagerState}
+use Rattle.om_manager.specs.State.{ManagerState, process_count}
 use Rattle.om_world.specs.declared.event.Answer.TheVariants as answers
 use Rattle.om_world.specs.declared.event.Event.{Event}
 use Rattle.om_world.specs.declared.place.Place.{Place}
@@ -124,7 +123,7 @@ left_keeps : (w mid v : WorldState) (p : ℕ) → IsToComeBack w p → HasLeft w
 left_keeps w mid v p due left manager origins clean counts =
     let a = alike w mid p (from_left w mid p due left) in
     record {
-      size = ap managers.size_of (manager ∙ a.manager);
+      size = ap process_count (manager ∙ a.manager);
       released = subst (λ m. KeepsReleased w.manager m) (sym (manager ∙ a.manager)) (keeps_same w.manager);
       clean = λ all. subst (λ l. all_clean l ≡ true) a.health (clean all);
       counts = subst (λ l. NoneFell l v.health) a.health counts;

@@ -15,7 +15,7 @@ use Rattle.om_process.specs.Process.{Process}
 use Rattle.om_process.specs.Turns.{Reaches}
 use Rattle.om_process.specs.Replays.{FitsReceipt, Replayed, receipts_of, received_of, process_of}
 use Rattle.om_process.specs.Claims.{CheckpointOf, RecordOf, RecordsAlong}
-use Rattle.om_process.specs.Core.{CoreState, size_of}
+use Rattle.om_process.specs.Core.{CoreState, cluster_size}
 use Rattle.om_process.specs.Resumes.{resumed}
 use Rattle.om_process.specs.Stored.{AreReceiptsAfter, CanReplay, IsReceiptAt, IsReplay, TheProcess}
 use Rattle.om_process.proofs.Making.{interval_along}
@@ -23,7 +23,7 @@ use Rattle.om_process.proofs.Replays.{replayed_along, replays}
 use Rattle.om_process.proofs.Runs.{leads_grow, replay_leads}
 use Rattle.om_recover.specs.Rows.{Has, HasRow}
 use Rattle.om_recover.specs.Recoverable.{IsStable}
-use Rattle.om_recover.specs.declared.row.Row as noted
+use Rattle.om_recover.specs.declared.row.Row.{Row}
 use Rattle.om_recover.specs.declared.row.RowKind.{RowKind}
 use Rattle.om_recover.specs.declared.row.RowKind.TheVariants.{Checkpoint, Log}
 use Rattle.om_manager.specs.Gatherings.{presence_of, presences_of}
@@ -288,7 +288,7 @@ can_replay w p held h s lt news at =
     )
 
 -- what is replayed stands at the end of the history, and keeps what others may want again
-pub replayed_at : (w : WorldState) (p : ℕ) (held : Content) (core : CoreState) → HasShape w → Sound w → p < length w.programs → HasNews w p → slice_get w.contents p ≡ Some held → core.own ≡ p → size_of core.now ≡ length w.programs → IsReplay held (slice_index w.manager.last p) core
+pub replayed_at : (w : WorldState) (p : ℕ) (held : Content) (core : CoreState) → HasShape w → Sound w → p < length w.programs → HasNews w p → slice_get w.contents p ≡ Some held → core.own ≡ p → cluster_size core.now ≡ length w.programs → IsReplay held (slice_index w.manager.last p) core
     → CheckpointOf (program_at w.programs p) p (length w.programs) core.now (history (past_of w) p) × KeptWithin (past_of w) p core.now.queues
 replayed_at w p held core h s lt news at own size r =
     let v = past_of w in
@@ -402,7 +402,7 @@ back_running w p a core h s lt news at b r =
       };
     }
 
-pub shape_back : (w : WorldState) (p : ℕ) (core : CoreState) (contents : List Content) (health : List Health) → HasShape w → p < length w.programs → core.own ≡ p → size_of core.now ≡ length w.programs → length contents ≡ length w.contents
+pub shape_back : (w : WorldState) (p : ℕ) (core : CoreState) (contents : List Content) (health : List Health) → HasShape w → p < length w.programs → core.own ≡ p → cluster_size core.now ≡ length w.programs → length contents ≡ length w.contents
     → HasShape (come_back w p core contents health)
 shape_back w p core contents health h lt own size long = record {
   few = h.few;
@@ -428,7 +428,7 @@ shape_back w p core contents health h lt own size long = record {
 
 -- a world whose process p is up with this core, where its claims hold
 up_again : (w : WorldState) (p : ℕ) (core : CoreState) (a b : Content) (health : List Health) → HasShape w → Sound w → p < length w.programs → HasNews w p → slice_get w.contents p ≡ Some a → IsUpIn w.manager p core → IsRunning (past_of w) p b core → IsStored (past_of w) p b
-    → ((row : noted.Row) → HasRow w.manager.rows row → row.pid ≡ p → HasBytes a row.kind row.interval → HasBytes b row.kind row.interval) → Sound (come_back w p core (set w.contents p b) health)
+    → ((row : Row) → HasRow w.manager.rows row → row.pid ≡ p → HasBytes a row.kind row.interval → HasBytes b row.kind row.interval) → Sound (come_back w p core (set w.contents p b) health)
 up_again w p core a b health h s lt news at up run stored keeps =
     let v = past_of w in
     let round = w.manager.round in

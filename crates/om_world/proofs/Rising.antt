@@ -6,7 +6,7 @@ use Rattle.om_interval.specs.Starts.{newest_of}
 use Rattle.om_interval.specs.declared.verdict.Verdict.{Verdict}
 use Rattle.om_format.specs.declared.message.Message.{Message}
 use Rattle.om_stable.specs.Content.{Content, kept_by_cut}
-use Rattle.om_process.specs.Core.{CoreState, size_of}
+use Rattle.om_process.specs.Core.{CoreState, cluster_size}
 use Rattle.om_process.specs.Process.{Program}
 use Rattle.om_process.specs.Resumes.{resumed}
 use Rattle.om_process.specs.Stored.{CanReplay, IsReplay, TheProcess}
@@ -14,15 +14,13 @@ use Rattle.om_process.specs.declared.down.Down.{Down}
 use Rattle.om_process.specs.declared.replay.ReplayFault.{ReplayFault}
 use Rattle.om_process.specs.declared.replay.ReplayFault.TheVariants as replays
 use Rattle.om_manager.specs.Rounds.{Fails, Failing, Gathers, Joining, first, again}
-use Rattle.om_manager.specs.State as managers
-use Rattle.om_manager.specs.State.{ManagerState}
+use Rattle.om_manager.specs.State.{ManagerState, process_count}
 use Rattle.om_manager.specs.declared.answers.FailError.{FailError}
 use Rattle.om_manager.specs.declared.answers.Gathered.{Gathered}
 use Rattle.om_manager.specs.declared.answers.Gathered.TheVariants.{Finished, Waiting}
 use Rattle.om_manager.specs.declared.answers.JoinError.{JoinError}
 use Rattle.om_manager.specs.declared.presence.Presence.{Presence}
-use Rattle.om_member.specs.Members as member
-use Rattle.om_member.specs.Members.{IsNotIn, IsNotUp, WasCalled, core_of}
+use Rattle.om_member.specs.Members.{HasComeBack, HasDeclared, HasJoined, IsNotIn, IsNotUp, StaysDown, WasCalled, core_of}
 use Rattle.om_member.specs.declared.member.Member.{Member}
 use Rattle.om_member.specs.declared.member.NotIn.{NotIn}
 use Rattle.om_member.specs.declared.member.NotUp.{NotUp}
@@ -36,7 +34,7 @@ use Rattle.om_world.specs.Changes.{IsUp}
 use Rattle.om_world.specs.Failures.{HasNews, IsToGoOn, live_after, taken_down}
 use Rattle.om_world.specs.Live.{cut_list}
 use Rattle.om_world.specs.World.{Health, WorldState, health_of}
-use Rattle.om_world.specs.steps.Gathering.{HasDeclared, HasEntered, HasGathered, StandsIn}
+use Rattle.om_world.specs.steps.Gathering.{HasDeclaredAt, HasEntered, HasGathered, StandsIn}
 use Rattle.om_world.specs.steps.Members.{content_in, core_in, health_in, place_in, place_of, round_in, seen, sound_in}
 use Rattle.om_world.specs.steps.Moves.{IsCalled, refusal_of_join, told_of}
 use Rattle.om_world.specs.steps.Returning.{HasGoneOn, IsBackIn, IsRolledBack, KnowsRound, Returns}
@@ -87,7 +85,7 @@ module _ {S : Type 0} (content : S → Content) (health : S → Health) (IsSound
         of_down (stands.In core) d = cc
         of_down (stands.Down declared) d = refl
 
-    module _ (told : Gathered) (h : member.HasDeclared M q m (Ok told) k n) (live : List Entry) (cut : live ≡ live_after told k L) where
+    module _ (told : Gathered) (h : HasDeclared M q m (Ok told) k n) (live : List Entry) (cut : live ≡ live_after told k L) where
       failing : Failing M p m.round (Ok told) k
       failing = subst (λ x. Failing M x m.round (Ok told) k) is h.failing
 
@@ -106,13 +104,13 @@ module _ {S : Type 0} (content : S → Content) (health : S → Health) (IsSound
           (subst (IsWorld (sound_in IsSound) ms) declared_seen
           (after_declare (sound_in IsSound) ms (seen content health P L F ms M O) p m.round told k live i was_down (round_is content health IsSound P L F ms M O p m at) failing gathered))
 
-      pub was_declared : HasDeclared v p (Ok told) (seen content health P live F (set ms p n) k O)
+      pub was_declared : HasDeclaredAt v p (Ok told) (seen content health P live F (set ms p n) k O)
       was_declared =
-          subst (λ (x : WorldState). HasDeclared x p (Ok told) (seen content health P live F (set ms p n) k O)) e
-          (subst (HasDeclared (seen content health P L F ms M O) p (Ok told)) declared_seen (has_declared (sound_in IsSound) ms (seen content health P L F ms M O) p m.round told k live i was_down failing gathered))
+          subst (λ (x : WorldState). HasDeclaredAt x p (Ok told) (seen content health P live F (set ms p n) k O)) e
+          (subst (HasDeclaredAt (seen content health P L F ms M O) p (Ok told)) declared_seen (has_declared (sound_in IsSound) ms (seen content health P L F ms M O) p m.round told k live i was_down failing gathered))
 
-    module _ (fault : FailError) (h : member.HasDeclared M q m (Err fault) k n) where
-      refused : HasDeclared (seen content health P L F ms M O) p (Err fault) (seen content health P L F ms k O)
+    module _ (fault : FailError) (h : HasDeclared M q m (Err fault) k n) where
+      refused : HasDeclaredAt (seen content health P L F ms M O) p (Err fault) (seen content health P L F ms k O)
       refused = not_declared (sound_in IsSound) ms (seen content health P L F ms M O) p m.round fault k L i was_down (round_is content health IsSound P L F ms M O p m at) (subst (λ x. Failing M x m.round (Err fault) k) is h.failing)
           (record { sound = h.keeps.sound; size = h.keeps.size; released = h.keeps.released; live = tt; refused = refl })
 
@@ -121,15 +119,15 @@ module _ {S : Type 0} (content : S → Content) (health : S → Health) (IsSound
           still content health IsSound P L F ms M O p m at n (ap (λ (x : Member S). x.store) h.refused) (seen content health P L F (set ms p n) k O)
           (subst (IsWorld (sound_in IsSound) ms) (sym refused.refused ∙ unchanged content health IsSound P L F ms M O p m at n h.refused k) i)
 
-      pub was_refused : (r : Result Gathered FailError) → r ≡ Err fault → HasDeclared v p r (seen content health P L F (set ms p n) k O)
-      was_refused r told = subst (λ a. HasDeclared v p a (seen content health P L F (set ms p n) k O)) (sym told) (subst (λ (x : WorldState). HasDeclared x p (Err fault) (seen content health P L F (set ms p n) k O)) e (subst (HasDeclared (seen content health P L F ms M O) p (Err fault)) (unchanged content health IsSound P L F ms M O p m at n h.refused k) refused))
+      pub was_refused : (r : Result Gathered FailError) → r ≡ Err fault → HasDeclaredAt v p r (seen content health P L F (set ms p n) k O)
+      was_refused r told = subst (λ a. HasDeclaredAt v p a (seen content health P L F (set ms p n) k O)) (sym told) (subst (λ (x : WorldState). HasDeclaredAt x p (Err fault) (seen content health P L F (set ms p n) k O)) e (subst (HasDeclaredAt (seen content health P L F ms M O) p (Err fault)) (unchanged content health IsSound P L F ms M O p m at n h.refused k) refused))
 
   -- ---- it joined
   module _ (q : ℕ) (is : q ≡ p) (k : ManagerState) (up : IsUp v p) where
     was_up_there : IsUp (seen content health P L F ms M O) p
     was_up_there = subst (λ (x : WorldState). IsUp x p) (sym e) up
 
-    module _ (told : Gathered) (h : member.HasJoined M q m (Ok told) k n) (live : List Entry) (cut : live ≡ live_after told k L) where
+    module _ (told : Gathered) (h : HasJoined M q m (Ok told) k n) (live : List Entry) (cut : live ≡ live_after told k L) where
       stands_so : StandsIn (map core_in ms) p (h.core.round, h.core.now.interval)
       stands_so = (h.core, core_was content health IsSound P L F ms M O p m at n h.core h.up, refl, refl)
 
@@ -155,7 +153,7 @@ module _ {S : Type 0} (content : S → Content) (health : S → Health) (IsSound
           subst (λ (x : WorldState). HasEntered x p (Ok told) (seen content health P live F (set ms p n) k O)) e
           (subst (HasEntered (seen content health P L F ms M O) p (Ok told)) joined_seen (has_entered (seen content health P L F ms M O) p (h.core.round, h.core.now.interval) told k live stands_so joining joined))
 
-    module _ (fault : JoinError) (h : member.HasJoined M q m (Err fault) k n) where
+    module _ (fault : JoinError) (h : HasJoined M q m (Err fault) k n) where
       not_joined : HasEntered (seen content health P L F ms M O) p (Err fault) (seen content health P L F ms k O)
       not_joined = not_entered (sound_in IsSound) ms (seen content health P L F ms M O) p (h.core.round, h.core.now.interval) fault k L i was_up_there (h.core, core_was content health IsSound P L F ms M O p m at n h.core h.up, refl, refl)
           (subst (λ x. Joining M x h.core.round h.core.now.interval (Err fault) k) is h.joining) (record { sound = h.keeps.sound; size = h.keeps.size; released = h.keeps.released; live = tt; refused = refl })
@@ -169,12 +167,12 @@ module _ {S : Type 0} (content : S → Content) (health : S → Health) (IsSound
       was_not_joined = subst (λ (x : WorldState). HasEntered x p (Err fault) (seen content health P L F (set ms p n) k O)) e (subst (HasEntered (seen content health P L F ms M O) p (Err fault)) (unchanged content health IsSound P L F ms M O p m at n h.refused k) not_joined)
 
     -- by its answer
-    module _ (r : Result (Result Gathered JoinError) NotUp) (did : IfOk r (λ a. member.HasJoined M q m a k n)) (not : OnErr r (IsNotUp m.standing)) where
-      asked : (a : Result Gathered JoinError) × (r ≡ Ok a) × member.HasJoined M q m a k n
-      asked = was_up r (λ a. member.HasJoined M q m a k n) m.standing (is_up content health IsSound P L F ms M O p m at v e up) did not
+    module _ (r : Result (Result Gathered JoinError) NotUp) (did : IfOk r (λ a. HasJoined M q m a k n)) (not : OnErr r (IsNotUp m.standing)) where
+      asked : (a : Result Gathered JoinError) × (r ≡ Ok a) × HasJoined M q m a k n
+      asked = was_up r (λ a. HasJoined M q m a k n) m.standing (is_up content health IsSound P L F ms M O p m at v e up) did not
 
-      took : (t : Result Gathered Refusal) (told : Gathered) → t ≡ told_of refusal_of_join r → t ≡ Ok told → member.HasJoined M q m (Ok told) k n
-      took t told is was = subst (λ a. member.HasJoined M q m a k n) (told_ok refusal_of_join asked.0 t told (is ∙ ap (told_of refusal_of_join) asked.1) was) asked.2
+      took : (t : Result Gathered Refusal) (told : Gathered) → t ≡ told_of refusal_of_join r → t ≡ Ok told → HasJoined M q m (Ok told) k n
+      took t told is was = subst (λ a. HasJoined M q m a k n) (told_ok refusal_of_join asked.0 t told (is ∙ ap (told_of refusal_of_join) asked.1) was) asked.2
 
       pub after_enter : (t : Result Gathered Refusal) (told : Gathered) → t ≡ told_of refusal_of_join r → t ≡ Ok told → (live : List Entry) → live ≡ live_after told k L → IsWorld (sound_in IsSound) (set ms p n) (seen content health P live F (set ms p n) k O)
       after_enter t told is was live cut = after_joined told (took t told is was) live cut
@@ -182,10 +180,10 @@ module _ {S : Type 0} (content : S → Content) (health : S → Health) (IsSound
       pub entered : (t : Result Gathered Refusal) (told : Gathered) → t ≡ told_of refusal_of_join r → t ≡ Ok told → (live : List Entry) → live ≡ live_after told k L → (a : Result Gathered JoinError) × HasEntered v p a (seen content health P live F (set ms p n) k O) × (Ok told ≡ told_of refusal_of_join (Ok a))
       entered t told is was live cut = (Ok told, was_joined told (took t told is was) live cut, refl)
 
-      refused_by : (t : Result Gathered Refusal) (reason : Refusal) → t ≡ told_of refusal_of_join r → t ≡ Err reason → (fault : JoinError) × member.HasJoined M q m (Err fault) k n × (reason ≡ refusal_of_join fault)
+      refused_by : (t : Result Gathered Refusal) (reason : Refusal) → t ≡ told_of refusal_of_join r → t ≡ Err reason → (fault : JoinError) × HasJoined M q m (Err fault) k n × (reason ≡ refusal_of_join fault)
       refused_by t reason is was =
           let f = told_err refusal_of_join asked.0 t reason (is ∙ ap (told_of refusal_of_join) asked.1) was in
-          (f.0, subst (λ a. member.HasJoined M q m a k n) f.1 asked.2, f.2)
+          (f.0, subst (λ a. HasJoined M q m a k n) f.1 asked.2, f.2)
 
       pub after_no_entry : (t : Result Gathered Refusal) (reason : Refusal) → t ≡ told_of refusal_of_join r → t ≡ Err reason → IsWorld (sound_in IsSound) (set ms p n) (seen content health P L F (set ms p n) k O)
       after_no_entry t reason is was = let f = refused_by t reason is was in after_not_joined f.0 f.1
@@ -254,21 +252,21 @@ module _ {S : Type 0} (content : S → Content) (health : S → Health) (IsSound
 
 -- the starts have a place for each process
 pub starts_fit : {S : Type 0} (content : S → Content) (health : S → Health) (IsSound : S → Type 0) (P : List Program) (L : List Entry) (F : List Message) (ms : List (Member S)) (M : ManagerState) (O : List Content) (p : ℕ) (m : Member S) → slice_get ms p ≡ Some m → IsWorld (sound_in IsSound) ms (seen content health P L F ms M O)
-    → (core : CoreState) → m.standing ≡ stands.In core → (starts : List (List ℕ)) → starts ≡ M.starts → length starts ≡ size_of core.now
+    → (core : CoreState) → m.standing ≡ stands.In core → (starts : List (List ℕ)) → starts ≡ M.starts → length starts ≡ cluster_size core.now
 starts_fit content health IsSound P L F ms M O p m at i core joined starts is =
     ap length is ∙ i.shape.manager.begun.places ∙ i.shape.size ∙ sym (i.shape.own p core (map_at core_in ms p m at ∙ ap (λ s. Some (core_of s)) joined)).size
 
 -- ---- it is rolled back
 module _ {S : Type 0} (content : S → Content) (is_clean : S → Bool) (failed : S → ℕ) (IsSound : S → Type 0) (P : List Program) (L : List Entry) (F : List Message) (ms : List (Member S)) (M : ManagerState) (O : List Content) (p : ℕ) (m : Member S) (at : slice_get ms p ≡ Some m) (n : Member S) (v : WorldState)
     (i : IsWorld (sound_in IsSound) ms (seen content (health_of is_clean failed) P L F ms M O)) (e : seen content (health_of is_clean failed) P L F ms M O ≡ v) (lt : p < length v.programs) (news : HasNews v p)
-    (who : Down) (pid : who.pid ≡ p) (size : who.n ≡ managers.size_of M) (starts : List (List ℕ)) (same_starts : starts ≡ M.starts) (verdict : Verdict) (same_round : verdict.round ≡ M.round) (same_inc : verdict.inc ≡ newest_of M.starts p) (same_place : verdict.r ≡ slice_index M.last p) where
+    (who : Down) (pid : who.pid ≡ p) (size : who.n ≡ process_count M) (starts : List (List ℕ)) (same_starts : starts ≡ M.starts) (verdict : Verdict) (same_round : verdict.round ≡ M.round) (same_inc : verdict.inc ≡ newest_of M.starts p) (same_place : verdict.r ≡ slice_index M.last p) where
   there : p < length P
   there = subst (λ (x : WorldState). p < length x.programs) (sym e) lt
 
   new_there : HasNews (seen content (health_of is_clean failed) P L F ms M O) p
   new_there = subst (λ (x : WorldState). HasNews x p) (sym e) news
 
-  module _ (told : ℕ × ℕ) (h : member.HasComeBack content failed is_clean IsSound who starts verdict m told n) where
+  module _ (told : ℕ × ℕ) (h : HasComeBack content failed is_clean IsSound who starts verdict m told n) where
     back_in : IsBackIn M p h.core
     back_in = record {
       own = h.own ∙ pid;
@@ -305,7 +303,7 @@ module _ {S : Type 0} (content : S → Content) (is_clean : S → Bool) (failed 
         (subst (Returns (seen content (health_of is_clean failed) P L F ms M O) p (Ok told)) back_seen
         (has_come_back (content_in content) (health_in (health_of is_clean failed)) (sound_in IsSound) (seen content (health_of is_clean failed) P L F ms M O) p verdict.round told.0 told.1 h.core ms (set ms p n) i there new_there back_in back_called same_round h.interval_told h.inc_told))
 
-  module _ (fault : ReplayFault) (h : member.StaysDown content failed is_clean IsSound who verdict m fault n) where
+  module _ (fault : ReplayFault) (h : StaysDown content failed is_clean IsSound who verdict m fault n) where
     fault_called : IsCalled (content_in content) (health_in (health_of is_clean failed)) (sound_in IsSound) (IsFault (Err fault)) ms (set ms p n) p (IsRolledBack M p (Err fault))
     fault_called = called_in content is_clean failed IsSound (IsFault (Err fault)) (IsRolledBack M p (Err fault)) ms p m n at (record {
       counted = λ f. h.called.counted (once_err _ fault replays.Fault refl f);
@@ -316,7 +314,7 @@ module _ {S : Type 0} (content : S → Content) (is_clean : S → Bool) (failed 
         d.0,
         λ can. d.1 (subst (λ x. CanReplay (TheProcess who.pid who.n) (content m.store) x) (sym same_place)
             (subst (λ x. CanReplay (TheProcess who.pid x) (content m.store) (slice_index M.last p)) (sym size)
-            (subst (λ x. CanReplay (TheProcess x (managers.size_of M)) (content m.store) (slice_index M.last p)) (sym pid) can))),
+            (subst (λ x. CanReplay (TheProcess x (process_count M)) (content m.store) (slice_index M.last p)) (sym pid) can))),
       );
     })
 
@@ -331,12 +329,12 @@ module _ {S : Type 0} (content : S → Content) (is_clean : S → Bool) (failed 
         (stays_down (content_in content) (health_in (health_of is_clean failed)) (sound_in IsSound) (seen content (health_of is_clean failed) P L F ms M O) p fault ms (set ms p n) i there new_there fault_called))
 
   -- by its answer
-  pub after_return : (r : Result (ℕ × ℕ) ReplayFault) → IfOk r (λ told. member.HasComeBack content failed is_clean IsSound who starts verdict m told n) → IfErr r (λ fault. member.StaysDown content failed is_clean IsSound who verdict m fault n)
+  pub after_return : (r : Result (ℕ × ℕ) ReplayFault) → IfOk r (λ told. HasComeBack content failed is_clean IsSound who starts verdict m told n) → IfErr r (λ fault. StaysDown content failed is_clean IsSound who verdict m fault n)
       → IsWorld (sound_in IsSound) (set ms p n) (seen content (health_of is_clean failed) P L F (set ms p n) M O)
   after_return (Ok told) back stays = after_come_back told back
   after_return (Err fault) back stays = after_stayed fault stays
 
-  pub returned : (r : Result (ℕ × ℕ) ReplayFault) → IfOk r (λ told. member.HasComeBack content failed is_clean IsSound who starts verdict m told n) → IfErr r (λ fault. member.StaysDown content failed is_clean IsSound who verdict m fault n)
+  pub returned : (r : Result (ℕ × ℕ) ReplayFault) → IfOk r (λ told. HasComeBack content failed is_clean IsSound who starts verdict m told n) → IfErr r (λ fault. StaysDown content failed is_clean IsSound who verdict m fault n)
       → Returns v p r (seen content (health_of is_clean failed) P L F (set ms p n) M O)
   returned (Ok told) back stays = came_back told back
   returned (Err fault) back stays = stayed fault stays

@@ -2,21 +2,20 @@
 use Rattle.std.proofs.Common.{◌≡◌, inr, ℕ, ◌-◌, ◌≤◌, List, ◌++◌, length, Option, Some, Result, Ok, Err, sym, ap, ◌∙◌, subst, arith}
 use Rattle.std.specs.Prelude.{slice_get, slice_index}
 use Rattle.om_process.specs.declared.turns.Ran.{Ran}
-use Rattle.om_process.specs.Core.{CoreState, size_of}
+use Rattle.om_process.specs.Core.{CoreState, cluster_size}
 use Rattle.om_process.specs.Frames.{messages_to, outputs_of}
 use Rattle.om_process.specs.Kept.{queue_at}
 use Rattle.om_process.specs.Parts.{Grow}
 use Rattle.om_process.proofs.Runs.{turns_grow}
 use Rattle.om_manager.specs.declared.answers.OutputError.{OutputError}
 use Rattle.om_manager.specs.Sound.{KeepsReleased}
-use Rattle.om_manager.specs.State as managers
-use Rattle.om_manager.specs.State.{held_by}
+use Rattle.om_manager.specs.State.{held_by, process_count}
 use Rattle.om_world.specs.declared.event.Event.{Event}
 use Rattle.om_world.specs.declared.event.Answer.TheVariants as answers
 use Rattle.om_world.specs.Changes.{Changes, HoldsMore, IsUp, made_by, new_messages}
 use Rattle.om_world.specs.Happened.{Happened, HasRun}
 use Rattle.om_world.specs.World.{WorldState, IsKnown, all_clean}
-use Rattle.om_world.specs.steps.Moves.{GoesOn, HasRunAt, Keeps}
+use Rattle.om_world.specs.steps.Moves.{HasRunAt, Keeps, TakesTurnsAt}
 use Rattle.om_world.specs.steps.Running.{AreKept, HasHandedIn, HasSent, KeepsMore, messages_past, refusal_of_output}
 use Rattle.om_world.proofs.FailureCounts.{counts_by}
 use Rattle.om_world.proofs.Lists.{once, set_there}
@@ -28,7 +27,7 @@ same_core cs p c d a b = once c d (once (Some c) (Some d) (sym a ∙ b))
 -- ---- after the turns
 -- the process that took turns
 abbrev pub HasWent : WorldState → ℕ → ℕ → WorldState → Type 0
-HasWent w p fuel v = GoesOn w.cores p fuel v.cores × (v ≡ record w { cores = v.cores })
+HasWent w p fuel v = TakesTurnsAt w.cores p fuel v.cores × (v ≡ record w { cores = v.cores })
 
 core_after : (w v : WorldState) (p fuel : ℕ) (t : HasWent w p fuel v) → slice_get v.cores p ≡ Some (Some t.0.after)
 core_after w v p fuel t = ap (λ cs. slice_get cs p) t.0.cores ∙ set_there w.cores p (Some t.0.before) (Some t.0.after) t.0.there
@@ -37,7 +36,7 @@ pub up_after : (w v : WorldState) (p fuel : ℕ) → IsUp w p → HasWent w p fu
 up_after w v p fuel up t = ap (λ (x : WorldState). slice_get x.places p) t.1 ∙ up
 
 grows : (w v : WorldState) (p fuel : ℕ) (t : HasWent w p fuel v) → Grow t.0.before.now.interval t.0.before.now.queues t.0.after.now.queues
-grows w v p fuel t = let g = t.0 in (turns_grow g.before.own (size_of g.before.now) g.turns.0 g.before.now g.after.now g.turns.2).1
+grows w v p fuel t = let g = t.0 in (turns_grow g.before.own (cluster_size g.before.now) g.turns.0 g.before.now g.after.now g.turns.2).1
 
 -- what was counted before it, of the same core
 abbrev pub WereKept : WorldState → ℕ → List ℕ → Type 0
@@ -61,7 +60,7 @@ keeps_more w v p fuel few k t = (
 )
 
 past_new : (w v : WorldState) (p fuel : ℕ) (few : List ℕ) → WereKept w p few → (t : HasWent w p fuel v) → messages_past t.0.after few ≡ new_messages t.0.before t.0.after
-past_new w v p fuel few k t = behind_same t.0.after (λ to. slice_index few to) (λ to. length (messages_to t.0.before to).entries) (size_of t.0.after.now)
+past_new w v p fuel few k t = behind_same t.0.after (λ to. slice_index few to) (λ to. length (messages_to t.0.before to).entries) (cluster_size t.0.after.now)
     (λ to lt. few_before w v p fuel few k t to (let size = t.0.size in omega arith))
 
 -- the outputs of the process begin where they did
@@ -69,7 +68,7 @@ same_first : (w v : WorldState) (p fuel : ℕ) (t : HasWent w p fuel v) → ((ou
 same_first w v p fuel t =
     let g = t.0 in
     subst (λ n. ((queue_at g.after.now.queues n).first ≡ (outputs_of g.before).first) × (length (outputs_of g.before).entries ≤ length (queue_at g.after.now.queues n).entries)) (sym g.size)
-    (grown_at g.before.now.interval g.before.now.queues g.after.now.queues (size_of g.before.now) (grows w v p fuel t))
+    (grown_at g.before.now.interval g.before.now.queues g.after.now.queues (cluster_size g.before.now) (grows w v p fuel t))
 
 -- ---- after the messages were put on their way
 sent_there : (w v u : WorldState) (p fuel sent : ℕ) (few : List ℕ) → (t : HasWent w p fuel v) → HasSent v p few sent u → slice_get u.cores p ≡ Some (Some t.0.after)
@@ -113,9 +112,9 @@ changes_by w v u z p fuel up t e f = record {
   };
 }
 
-keeps_by : (w v u z : WorldState) (p fuel : ℕ) → HasWent w p fuel v → u ≡ record v { frames = u.frames } → z ≡ record u { manager = z.manager } → managers.size_of z.manager ≡ managers.size_of u.manager → KeepsReleased u.manager z.manager → Keeps w z
+keeps_by : (w v u z : WorldState) (p fuel : ℕ) → HasWent w p fuel v → u ≡ record v { frames = u.frames } → z ≡ record u { manager = z.manager } → process_count z.manager ≡ process_count u.manager → KeepsReleased u.manager z.manager → Keeps w z
 keeps_by w v u z p fuel t e f size keeps = record {
-  size = size ∙ ap (λ (x : WorldState). managers.size_of x.manager) e ∙ ap (λ (x : WorldState). managers.size_of x.manager) t.1;
+  size = size ∙ ap (λ (x : WorldState). process_count x.manager) e ∙ ap (λ (x : WorldState). process_count x.manager) t.1;
   released = subst (λ m. KeepsReleased m z.manager) (ap (λ (x : WorldState). x.manager) e ∙ ap (λ (x : WorldState). x.manager) t.1) keeps;
   clean = λ all. ap all_clean (sym (ap (λ (x : WorldState). x.health) f ∙ ap (λ (x : WorldState). x.health) e ∙ ap (λ (x : WorldState). x.health) t.1)) ∙ all;
   counts = counts_by w.health z.health (ap (λ (x : WorldState). x.health) f ∙ ap (λ (x : WorldState). x.health) e ∙ ap (λ (x : WorldState). x.health) t.1);
@@ -146,7 +145,7 @@ hand_stopped w v u z p fuel sent few fault up k t s h known =
     })
 
 pub hand_keeps : (w v u z : WorldState) (p fuel sent : ℕ) (few : List ℕ) (end : Result (Unit {0}) OutputError) → HasWent w p fuel v → HasSent v p few sent u → HasHandedIn u p end z → Keeps w z
-hand_keeps w v u z p fuel sent few end t s h = keeps_by w v u z p fuel t (s.3 ∙ ap (λ l. record v { frames = l }) (sym (ap (λ (x : WorldState). x.frames) s.3))) h.others (ap managers.size_of h.more.1) h.released
+hand_keeps w v u z p fuel sent few end t s h = keeps_by w v u z p fuel t (s.3 ∙ ap (λ l. record v { frames = l }) (sym (ap (λ (x : WorldState). x.frames) s.3))) h.others (ap process_count h.more.1) h.released
 
 pub has_run : (w v u z : WorldState) (p fuel sent a b : ℕ) (few : List ℕ) (ran : Ran) → IsUp w p → WereKept w p few → WereMade w p a → HasWent w p fuel v → HasRunAt w.cores p fuel ran v.cores → HasSent v p few sent u → WereMade u p b
     → HasHandedIn u p (Ok tt) z → IsKnown z → Happened w (Event.Run p fuel) (answers.Ran ran.steps ran.status sent (b - a)) z

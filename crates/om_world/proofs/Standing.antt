@@ -2,7 +2,7 @@
 use Rattle.std.proofs.Common.{◌≡◌, ℕ, ◌<◌, List, length, map, Some, sym, ap, subst, arith, ◌∙◌}
 use Rattle.std.specs.Prelude.{slice_get}
 use Rattle.om_interval.specs.declared.pid.TheConstants.{MAX_PROCESSES}
-use Rattle.om_manager.specs.State as managers
+use Rattle.om_manager.specs.State.{process_count}
 use Rattle.om_world.specs.declared.place.Place.{Place}
 use Rattle.om_world.specs.Changes.{IsUp}
 use Rattle.om_process.specs.Core.{CoreState}
@@ -31,7 +31,7 @@ module _ {S : Type 0} (IsSound : S → Type 0) (xs : List S) (w v : WorldState) 
     pub few : p < MAX_PROCESSES
     few = let lt = here in let le = i.shape.few in omega arith
 
-    pub known : p < managers.size_of w.manager
+    pub known : p < process_count w.manager
     known = subst (λ n. p < n) (sym i.shape.size) here
 
   -- who has a place is there

@@ -5,7 +5,7 @@ use Rattle.std.specs.FinMap.{get}
 use Rattle.om_interval.specs.declared.pid.TheConstants.{MAX_PROCESSES}
 use Rattle.om_machine.specs.State.{IsSize}
 use Rattle.om_machine.specs.declared.limits.TheConstants.{MAX_SIZE, MIN_SIZE}
-use Rattle.om_stable.specs.Calls as calls
+use Rattle.om_stable.specs.Calls.{IsCleanCall}
 use Rattle.om_stable.specs.Content.{Content}
 use Rattle.om_stable.specs.Count.{Rose}
 use Rattle.om_process.specs.declared.start.StartFault.{StartFault}
@@ -34,12 +34,12 @@ is_size size = elim (less size MIN_SIZE) [
 -- what a start of a process says
 pub record Says {S : Type 0} (content : S → Content) (failed : S → ℕ) (is_clean : S → Bool) (IsSound : S → Type 0) (program : Program) (p n : ℕ) (before after : S) (result : Result CoreState StartFault) : Type 0 where
   pub started : IfOk result (λ core. core ≡ started_core program p n)
-  pub stored : calls.IsKnown is_clean IsSound before after → IfOk result (λ core. HasGainedCheckpoint core (content before) (content after))
+  pub stored : IsCleanCall is_clean IsSound before after → IfOk result (λ core. HasGainedCheckpoint core (content before) (content after))
   pub bad_place : (result ≡ Err BadPlace) ↔ ¬ IsPlace p n
   pub bad_size : (result ≡ Err BadSize) ↔ (IsPlace p n × ¬ IsSize program.size)
   pub too_long : (result ≡ Err ImageTooLong) ↔ (IsPlace p n × IsSize program.size × (program.size < length program.image))
-  pub free : calls.IsKnown is_clean IsSound before after → OnOk result (get (content before).checkpoints 0 ≡ None)
-  pub present : calls.IsKnown is_clean IsSound before after → IsErrOf result Present → IsSome (get (content before).checkpoints 0)
+  pub free : IsCleanCall is_clean IsSound before after → OnOk result (get (content before).checkpoints 0 ≡ None)
+  pub present : IsCleanCall is_clean IsSound before after → IsErrOf result Present → IsSome (get (content before).checkpoints 0)
   pub fault : IsErrOf result Fault → Rose (failed before) (failed after)
   pub clean : IsTrue (is_clean after) → IsTrue (is_clean before)
   pub sound : IsTrue (is_clean after) → IsSound before → IsSound after

@@ -2,23 +2,22 @@
 use Rattle.std.proofs.Common.{◌≡◌, ◌⊎◌, inl, inr, ℕ, zero, suc, ◌+◌, ◌≤◌, List, [], ◌∷◌, ◌++◌, length, get_or, true, false, Ok, refl, sym, ap, ◌∙◌, subst, arith, length-append}
 use Rattle.std.specs.Prelude.{slice_index, slice_index_or}
 use Rattle.om_interval.specs.Vectors.{IsBelow}
-use Rattle.om_process.specs.declared.row.Row.{Row}
+use Rattle.om_process.specs.declared.row.PendingRow.{PendingRow}
 use Rattle.om_recover.specs.Rows.{HasRow, Rows}
-use Rattle.om_recover.specs.declared.row.Row as noted
+use Rattle.om_recover.specs.declared.row.Row.{Row}
 use Rattle.om_recover.specs.declared.note.Note.{Note}
 use Rattle.om_recover.specs.declared.note.Note.TheVariants.{Noted, Known}
 use Rattle.om_recover.proofs.RowsLemmas.{kept, of_inserted}
 use Rattle.om_manager.specs.Notes.{after_note}
 use Rattle.om_manager.specs.Outputs.{HeldOutput, within}
 use Rattle.om_manager.specs.Sound.{IsManager, KeepsReleased}
-use Rattle.om_manager.specs.State as managers
-use Rattle.om_manager.specs.State.{ManagerState, held_by, released_by}
+use Rattle.om_manager.specs.State.{ManagerState, held_by, process_count, released_by}
 use Rattle.om_world.specs.Changes.{NotesAll, row_for}
 use Rattle.om_world.specs.steps.Moves.{AreTold, IsTold}
 use Rattle.om_world.proofs.Raising.{GoesOn, beyond, less}
 
 -- as the rows are said to be noted
-pub told_notes : (old new : ManagerState) (round p : ℕ) (rows : List Row) → AreTold old round p rows new → NotesAll old p rows new
+pub told_notes : (old new : ManagerState) (round p : ℕ) (rows : List PendingRow) → AreTold old round p rows new → NotesAll old p rows new
 told_notes old new round p [] same = same
 told_notes old new round p (row ∷ rows) told =
     let n = told.2.answers in
@@ -56,11 +55,11 @@ after_outputs m (Noted false) rows state = refl
 after_outputs m Known rows state = refl
 
 -- the rows are those before, with the new one
-pub told_kept : (old new : ManagerState) (round p : ℕ) (row : Row) (note : Note) → IsTold old round p row (Ok note) new → (other : noted.Row) → HasRow old.rows other → HasRow new.rows other
+pub told_kept : (old new : ManagerState) (round p : ℕ) (row : PendingRow) (note : Note) → IsTold old round p row (Ok note) new → (other : Row) → HasRow old.rows other → HasRow new.rows other
 told_kept old new round p row (Noted raised) t other has = subst (λ rows. HasRow rows other) (sym t.answers.1.1) (kept old.rows (row_for p row) other has)
 told_kept old new round p row Known t other has = subst (λ rows. HasRow rows other) (sym t.answers.1.1) has
 
-pub told_rows : (old new : ManagerState) (round p : ℕ) (row : Row) (note : Note) → IsTold old round p row (Ok note) new → (other : noted.Row) → HasRow new.rows other → HasRow old.rows other ⊎ (other ≡ row_for p row)
+pub told_rows : (old new : ManagerState) (round p : ℕ) (row : PendingRow) (note : Note) → IsTold old round p row (Ok note) new → (other : Row) → HasRow new.rows other → HasRow old.rows other ⊎ (other ≡ row_for p row)
 told_rows old new round p row (Noted raised) t other has = elim (of_inserted old.rows (row_for p row) other (subst (λ rows. HasRow rows other) t.answers.1.1 has)) [ inl same ↦ inr same | inr old ↦ inl old ]
 told_rows old new round p row Known t other has = inl (subst (λ rows. HasRow rows other) t.answers.1.1 has)
 
@@ -77,12 +76,12 @@ no_outputs (x ∷ outputs) zero le = absurd (omega arith)
 no_outputs (x ∷ outputs) (suc p) le = no_outputs outputs p (omega arith)
 
 pub released_all : (old new : ManagerState) → IsManager old → KeepsReleased old new → (p : ℕ) → length (released_by old p) ≤ length (released_by new p)
-released_all old new is keeps p = elim (less p (managers.size_of old)) [
+released_all old new is keeps p = elim (less p (process_count old)) [
   | inl lt ↦ let b = keeps p lt in let long : length (released_by old p ++ b.0) ≡ length (released_by old p) + length b.0 = length-append (released_by old p) b.0 in let same = ap length b.1 in omega arith
   | inr ge ↦ let many = is.places in let none : length (released_by old p) ≡ 0 = ap (λ l. length (within l (slice_index old.recovery p))) (no_outputs old.outputs p (omega arith)) in omega arith
 ]
 
-pub goes_on_by : (old new : ManagerState) → IsManager old → IsBelow old.recovery new.recovery → KeepsReleased old new → ((other : noted.Row) → HasRow old.rows other → HasRow new.rows other)
+pub goes_on_by : (old new : ManagerState) → IsManager old → IsBelow old.recovery new.recovery → KeepsReleased old new → ((other : Row) → HasRow old.rows other → HasRow new.rows other)
     → new.starts ≡ old.starts → new.round ≡ old.round → new.gathering ≡ old.gathering → new.backs ≡ old.backs → new.last ≡ old.last → GoesOn old new
 goes_on_by old new is below keeps rows starts round gathering backs last = record {
   starts = starts;
@@ -97,7 +96,7 @@ goes_on_by old new is below keeps rows starts round gathering backs last = recor
       record { checkpoint = o.checkpoint; there = record { row = o.there.row; there = rows o.there.row o.there.there; kind_is = o.there.kind_is; pid_is = o.there.pid_is; interval_is = o.there.interval_is }; within = omega arith; before = o.before };
 }
 
-pub told_goes_on : (old new : ManagerState) (round p : ℕ) (row : Row) (note : Note) → IsManager old → IsTold old round p row (Ok note) new → GoesOn old new
+pub told_goes_on : (old new : ManagerState) (round p : ℕ) (row : PendingRow) (note : Note) → IsManager old → IsTold old round p row (Ok note) new → GoesOn old new
 told_goes_on old new round p row note is t =
     let e = t.answers.3 in
     goes_on_by old new is t.below t.released (told_kept old new round p row note t)
@@ -105,5 +104,5 @@ told_goes_on old new round p row note is t =
     (ap (λ (m : ManagerState). m.gathering) e ∙ after_gathering old note new.rows new.recovery) (ap (λ (m : ManagerState). m.backs) e ∙ after_backs old note new.rows new.recovery)
     (ap (λ (m : ManagerState). m.last) e ∙ after_last old note new.rows new.recovery)
 
-pub told_outputs : (old new : ManagerState) (round p : ℕ) (row : Row) (note : Note) → IsTold old round p row (Ok note) new → new.outputs ≡ old.outputs
+pub told_outputs : (old new : ManagerState) (round p : ℕ) (row : PendingRow) (note : Note) → IsTold old round p row (Ok note) new → new.outputs ≡ old.outputs
 told_outputs old new round p row note t = ap (λ (m : ManagerState). m.outputs) t.answers.3 ∙ after_outputs old note new.rows new.recovery

@@ -5,8 +5,8 @@ use Rattle.om_format.specs.Queues.{queue_end}
 use Rattle.om_stable.specs.Content.{Content}
 use Rattle.om_stable.specs.Count.{Rose}
 pub use Rattle.om_process.specs.Frames.{message_of}
-use Rattle.om_process.specs.declared.row.Row as pending
-use Rattle.om_process.specs.Core.{CoreState, size_of, with_pending}
+use Rattle.om_process.specs.declared.row.PendingRow.{PendingRow}
+use Rattle.om_process.specs.Core.{CoreState, cluster_size, with_pending}
 use Rattle.om_process.specs.Frames.{messages_to, outputs_of}
 use Rattle.om_process.specs.Kept.{numbered}
 use Rattle.om_recover.specs.declared.note.Note.{Note}
@@ -70,10 +70,10 @@ messages_behind c few (suc n) = messages_behind c few n ++ drop (few n) (message
 
 -- what a core that sent more keeps of it
 abbrev pub new_messages : CoreState → CoreState → List Message
-new_messages c d = messages_behind d (λ to. length (messages_to c to).entries) (size_of d.now)
+new_messages c d = messages_behind d (λ to. length (messages_to c to).entries) (cluster_size d.now)
 
 abbrev pub all_messages : CoreState → List Message
-all_messages c = messages_behind c (λ to. 0) (size_of c.now)
+all_messages c = messages_behind c (λ to. 0) (cluster_size c.now)
 
 -- how many outputs the process made
 abbrev pub made_by : CoreState → ℕ
@@ -85,7 +85,7 @@ HoldsMore old p new = (more : List HeldOutput) × (new ≡ record old { outputs 
 
 -- ---- records that are stored and noted
 -- the rows are offered in order, and each is noted or known
-abbrev pub NotesAll : ManagerState → ℕ → List pending.Row → ManagerState → Type 0
+abbrev pub NotesAll : ManagerState → ℕ → List PendingRow → ManagerState → Type 0
 NotesAll old p [] new = new ≡ old
 NotesAll old p (row ∷ rows) new =
     (mid : ManagerState) × (note : Note) × Notes old old.round (row_for p row) (Ok note) mid × NotesAll mid p rows new

@@ -15,7 +15,7 @@ use Rattle.om_recover.specs.declared.row.RowKind.TheVariants.{Checkpoint, Log}
 use Rattle.om_manager.specs.Bounds.{AreGotFrom}
 use Rattle.om_manager.specs.Gatherings.{AreAllIn}
 use Rattle.om_manager.specs.Rounds.{IsSpent, with_failed}
-use Rattle.om_manager.specs.State.{ManagerState, held_by, released_by, size_of}
+use Rattle.om_manager.specs.State.{ManagerState, held_by, process_count, released_by}
 use Rattle.om_world.specs.declared.event.Event.{Event}
 use Rattle.om_world.specs.declared.event.Answer.{Answer}
 use Rattle.om_world.specs.declared.event.Answer.TheVariants as answers
@@ -156,7 +156,7 @@ Refused old (Event.Fail p) refusals.NoProcess new = (length old.programs ≤ p) 
 Refused old (Event.Fail p) refusals.NotUp new = IsDeclared old p × (new ≡ old)
 Refused old (Event.Fail p) refusals.Spent new = FailRefused (λ w. IsSpent w.manager) old p new
 Refused old (Event.Fail p) refusals.Memory new =
-    FailRefused (λ w. AreAllIn (size_of w.manager) (with_failed w.manager p)) old p new
+    FailRefused (λ w. AreAllIn (process_count w.manager) (with_failed w.manager p)) old p new
 Refused old (Event.Fail p) why new = ⊥
 Refused old (Event.Join p) refusals.NoRound new = IsUp old p × (old.manager.gathering ≡ None) × (new ≡ old)
 Refused old (Event.Join p) refusals.Memory new = IsUp old p × (old.manager.gathering ≢ None) × JoinStopped old p new

@@ -1,7 +1,7 @@
 -- What holds of a world at each point, whatever was refused or lost: it is a point of a run without failures.
 use Rattle.std.specs.Prelude.{◌≡◌, ℕ, ◌<◌, ◌≤◌, List, length, slice_get, slice_index, Some}
 use Rattle.std.specs.FinMap.{get}
-use Rattle.om_format.specs.declared.queue.Entry as kept
+use Rattle.om_format.specs.declared.queue.QueueEntry.{QueueEntry}
 use Rattle.om_format.specs.Receipts.{ReceiptRecord, SpellsReceipt}
 use Rattle.om_format.specs.Checkpoints.{CheckpointRecord, IsSpelled}
 use Rattle.om_stable.specs.Content.{Content}
@@ -30,7 +30,7 @@ pub record StandsAt (w : WorldState) (p : ℕ) (c : CoreState) : Type 0 where
   pub reaches : Reaches (program_at w.programs p) p (length w.programs) (history (past_of w) p) whole
   pub keeps : Keeps whole c.now
   pub row : RowOf p (length w.programs) c.now.vec c.now.got (history (past_of w) p)
-  pub undelivered : (q number : ℕ) (e : kept.Entry) → q < length w.programs → count_from p (history (past_of w) q) ≤ number
+  pub undelivered : (q number : ℕ) (e : QueueEntry) → q < length w.programs → count_from p (history (past_of w) q) ≤ number
       → HasEntry whole.queues q number e → HasEntry c.now.queues q number e
 
 -- the released outputs are the first of those that the process makes along its receipts

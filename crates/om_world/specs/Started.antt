@@ -3,7 +3,7 @@ use Rattle.std.specs.Prelude.{◌≡◌, ℕ, ◌<◌, ◌≤◌, ◌↔◌, Lis
 use Rattle.std.specs.FinMap.{get}
 use Rattle.om_interval.specs.declared.pid.TheConstants.{MAX_PROCESSES}
 use Rattle.om_machine.specs.State.{IsSize}
-use Rattle.om_stable.specs.Calls as calls
+use Rattle.om_stable.specs.Calls.{IsCleanCall}
 use Rattle.om_stable.specs.Content.{Content}
 use Rattle.om_stable.specs.Count.{Rose}
 use Rattle.om_process.specs.declared.start.StartFault.{StartFault}
@@ -60,7 +60,7 @@ IsWhy content failed is_clean IsSound program BadPlace before after = ⊥
 IsWhy content failed is_clean IsSound program BadSize before after = ¬ IsSize program.size
 IsWhy content failed is_clean IsSound program ImageTooLong before after = IsSize program.size × (program.size < length program.image)
 IsWhy content failed is_clean IsSound program Present before after =
-    calls.IsKnown is_clean IsSound before after → IsSome (get (content before).checkpoints 0)
+    IsCleanCall is_clean IsSound before after → IsSome (get (content before).checkpoints 0)
 IsWhy content failed is_clean IsSound program Fault before after = Rose (failed before) (failed after)
 IsWhy content failed is_clean IsSound program Memory before after = Unit {0}
 

@@ -2,7 +2,7 @@
 use Rattle.std.specs.Prelude.{◌≡◌, ℕ, List, All, slice_index, Bool, true, Option}
 use Rattle.std.specs.List.{list_all}
 use Rattle.om_format.specs.declared.message.Message.{Message}
-use Rattle.om_format.specs.declared.queue.Entry as kept
+use Rattle.om_format.specs.declared.queue.QueueEntry.{QueueEntry}
 use Rattle.om_stable.specs.Content.{Content, nothing}
 pub use Rattle.om_process.specs.Images.{program_of}
 use Rattle.om_process.specs.Process.{Program, Received}
@@ -68,5 +68,5 @@ abbrev pub recovered : ManagerState → ℕ → ℕ
 recovered m p = slice_index m.recovery p
 
 -- an output that was handed in, as the entry of a queue
-abbrev pub output_entry : HeldOutput → kept.Entry
+abbrev pub output_entry : HeldOutput → QueueEntry
 output_entry o = record { interval = o.interval; body = o.bytes }

@@ -7,7 +7,7 @@ ghost use Rattle.om_world.specs.Played.{IsFaultless};
 ghost use Rattle.om_world.specs.World.{IsKnown};
 ghost use Rattle.om_world.specs.declared.event.Event.{Event};
 ghost use Rattle.om_world.specs.declared.place.Place.{Place};
-ghost use Rattle.om_world.specs.steps.Gathering.{HasDeclared, IsFailure};
+ghost use Rattle.om_world.specs.steps.Gathering.{HasDeclaredAt, IsFailure};
 ghost use Rattle.om_world.specs.steps.Moves.{Keeps, answered};
 
 use crate::event::{Answer, Refusal};
@@ -67,7 +67,7 @@ impl<S: Stable> World<S> {
     // Declares the failure of a process that is down.
     fn declare(&mut self, alloc: Global, p: usize) -> Result<Gathered, FailError>
         requires { slice_get self.old.places p ≡ Some (Place.Down false) }
-        ensures { HasDeclared self.old p result self.new }
+        ensures { HasDeclaredAt self.old p result self.new }
     {
         let member = &mut self.members[p];
         let told = member.declare(&mut self.manager, alloc, Pid::at(p))?;

@@ -5,7 +5,7 @@ ghost use Rattle.om_world.specs.declared.event.Event.{Event};
 ghost use Rattle.om_world.specs.Played.{IsFaultless};
 ghost use Rattle.om_world.specs.steps.Moves.{Keeps, answered};
 ghost use Rattle.om_world.specs.steps.Running.{HasSent, KeepsMore, messages_past};
-ghost use Rattle.om_process.specs.Core.{CoreState, size_of};
+ghost use Rattle.om_process.specs.Core.{CoreState, cluster_size};
 ghost use Rattle.om_process.specs.Frames.{messages_to};
 ghost use Rattle.om_world.specs.Changes.{IsUp, messages_behind, messages_in};
 ghost use Rattle.om_world.specs.Happened.{Happened};
@@ -26,7 +26,7 @@ fn add_frames(
     to: Pid,
     few: usize,
 ) -> Result<(), AllocError>
-    requires there { to < size_of core.now.now }
+    requires there { to < cluster_size core.now.now }
     requires few { few ≤ length (messages_to core.now to).entries }
     ensures { OnOk result (frames.new.items ≡ frames.old.items ++ drop few (messages_in core.now to)) }
 {
@@ -45,8 +45,8 @@ fn frames_behind(
     core: &ProcCore,
     few: &[usize; MAX_PROCESSES],
 ) -> Result<Vec<Message>, AllocError>
-    requires { (to : ℕ) → to < size_of core.now.now → slice_index few.now to ≤ length (messages_to core.now to).entries }
-    ensures { IfOk result (λ frames. frames.items ≡ messages_behind core.now (λ to. slice_index few.now to) (size_of core.now.now)) }
+    requires { (to : ℕ) → to < cluster_size core.now.now → slice_index few.now to ≤ length (messages_to core.now to).entries }
+    ensures { IfOk result (λ frames. frames.items ≡ messages_behind core.now (λ to. slice_index few.now to) (cluster_size core.now.now)) }
 {
     let mut frames = Vec::new(alloc);
     for to in 0..core.vec().n() {

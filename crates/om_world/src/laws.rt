@@ -2,7 +2,7 @@
 
 ghost use Rattle.std.specs.Prelude.{◌≡◌, ◌≢◌, ◌⊎◌, ℕ, ◌+◌, ◌<◌, ◌≤◌, List, [], ◌∷◌, ◌++◌, length, take, slice_get, slice_index, Bool, false, Some};
 ghost use Rattle.om_interval.specs.Starts.{BeginIncarnations, IsOrphan, is_named, newest_of, starts_of};
-ghost use Rattle.om_format.specs.declared.queue.Entry as kept;
+ghost use Rattle.om_format.specs.declared.queue.QueueEntry.{QueueEntry};
 ghost use Rattle.om_process.specs.Claims.{AtInterval, HasEntry, Makes};
 ghost use Rattle.om_process.specs.Dependencies.{greatest_from};
 ghost use Rattle.om_process.specs.Process.{Process, Program, Received};
@@ -31,17 +31,17 @@ pub fn closed()
 
 /// Outputs that are each made at their interval are the first outputs of one state.
 pub fn released_first()
-    ensures { (programs : List Program) (p : ℕ) (es : List Entry) (outputs : List kept.Entry) → Legal programs es
-        → ((i : ℕ) (e : kept.Entry) → slice_get outputs i ≡ Some e
+    ensures { (programs : List Program) (p : ℕ) (es : List Entry) (outputs : List QueueEntry) → Legal programs es
+        → ((i : ℕ) (e : QueueEntry) → slice_get outputs i ≡ Some e
         → AtInterval (received p es) e.interval (Makes (program_at programs p) p (length programs) (length programs) i e))
         → (s : Process) × Reaches (program_at programs p) p (length programs) (received p es) s
-        × ((i : ℕ) (e : kept.Entry) → slice_get outputs i ≡ Some e → HasEntry s.queues (length programs) i e) }
+        × ((i : ℕ) (e : QueueEntry) → slice_get outputs i ≡ Some e → HasEntry s.queues (length programs) i e) }
 {}
 
 /// After a finished round a message that is no orphan was sent within the recovery state.
 pub fn frames_cut()
     ensures { (who : List Bool) (state : List ℕ) (old new : List (List ℕ)) (program : Program) (q n inc y place number : ℕ)
-        (h : List Received) (e : kept.Entry)
+        (h : List Received) (e : QueueEntry)
         → BeginIncarnations who state old new → q < length old → 0 < length (starts_of old q) → inc ≤ newest_of old q
         → ((i : ℕ) → i < length (starts_of old q) → slice_index (starts_of old q) i ≤ slice_index state q + 1)
         → (is_named who q ≡ false → length h ≤ slice_index state q)

@@ -2,7 +2,7 @@
 
 ghost use Rattle.std.specs.Prelude.{◌≡◌, All, IfOk, IsTrue, OnErr, length, true};
 ghost use Rattle.om_manager.specs.Sound.{KeepsReleased};
-ghost use Rattle.om_manager.specs.State.{size_of};
+ghost use Rattle.om_manager.specs.State.{process_count};
 ghost use Rattle.om_world.specs.Changes.{NoneFell};
 ghost use Rattle.om_world.specs.Happened.{Happened};
 ghost use Rattle.om_world.specs.Holds.{Holds};
@@ -77,7 +77,7 @@ impl<S: Stable> World<S> {
             → IfOk result (λ answers. All IsFaultless answers.items) }
         ensures holds { IsKnown self.new → Holds self.new }
         ensures released { KeepsReleased self.old.manager self.new.manager }
-        ensures size { size_of self.new.manager ≡ size_of self.old.manager }
+        ensures size { process_count self.new.manager ≡ process_count self.old.manager }
         ensures clean { all_clean self.new.health ≡ true → all_clean self.old.health ≡ true }
         ensures always { ((store : S) → IsTrue (S.is_clean store)) → all_clean self.new.health ≡ true }
         ensures origins { self.new.origins ≡ self.old.origins }

@@ -10,7 +10,7 @@ ghost use Rattle.om_world.specs.Played.{IsFaultless};
 ghost use Rattle.om_world.specs.World.{IsKnown};
 ghost use Rattle.om_world.specs.declared.event.Event.{Event};
 ghost use Rattle.om_world.specs.declared.event.Refusal.{Refusal};
-ghost use Rattle.om_world.specs.steps.Moves.{GoesOn, HasRunAt, Keeps, answered, told_of};
+ghost use Rattle.om_world.specs.steps.Moves.{HasRunAt, Keeps, TakesTurnsAt, answered, told_of};
 ghost use Rattle.om_world.specs.steps.Running.{AreKept, HasHandedIn, refusal_of_output};
 
 use crate::event::{Answer, Refusal};
@@ -52,7 +52,7 @@ impl<S: Stable> World<S> {
     // Runs a process that is up.
     pub(crate) fn turns(&mut self, alloc: Global, p: usize, fuel: u64) -> Result<Ran, Refusal>
         requires { IsUp self.old p }
-        ensures goes_on { GoesOn self.old.cores p fuel self.new.cores }
+        ensures goes_on { TakesTurnsAt self.old.cores p fuel self.new.cores }
         ensures rest { self.new ≡ record self.old { cores = self.new.cores } }
         ensures ran { IfOk result (λ ran. HasRunAt self.old.cores p fuel ran self.new.cores) }
         ensures stopped { IfErr result (λ why. why ≡ Refusal.Memory) }

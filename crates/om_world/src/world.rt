@@ -1,7 +1,7 @@
 //! The world.
 
 ghost use Rattle.std.specs.Prelude.{◌≡◌, ◌<◌, length, map, slice_get, IfOk, IfErr, IfNone, IfSome, IsTrue, Some, true};
-ghost use Rattle.om_process.specs.Core.{CoreState, size_of};
+ghost use Rattle.om_process.specs.Core.{CoreState, cluster_size};
 ghost use Rattle.om_world.specs.Changes.{IsUp};
 ghost use Rattle.om_world.specs.Happened.{NotRunning};
 ghost use Rattle.om_world.specs.Holds.{Holds};
@@ -74,7 +74,7 @@ impl<S: Stable> World<S> {
     pub fn core(&self, pid: Pid) -> Option<&ProcCore>
         ensures some { IfSome result (λ core. slice_get self.now.cores pid ≡ Some (Some core.now)) }
         ensures own { IfSome result (λ core. core.now.own ≡ pid) }
-        ensures size { IfSome result (λ core. size_of core.now.now ≡ length self.now.programs) }
+        ensures size { IfSome result (λ core. cluster_size core.now.now ≡ length self.now.programs) }
         ensures none { IfNone result ((core : CoreState) → slice_get self.now.cores pid ≡ Some (Some core) → ⊥) }
     {
         match self.members.get(pid.index()) {

@@ -12,8 +12,8 @@ abbrev pub IsOfPair : ℕ → ℕ → Message → Type 0
 IsOfPair from to message = (message.from ≡ from) × (message.to ≡ to)
 
 -- one pass puts, and knows all that was put; one takes, and knows all that was taken
-abbrev pub Fits : ℕ → ℕ → ℕ → ℕ → List Message → List Message → ℕ → Hand → Type 0
-Fits putter taker from to put taken port v =
+abbrev pub FitsLine : ℕ → ℕ → ℕ → ℕ → List Message → List Message → ℕ → Hand → Type 0
+FitsLine putter taker from to put taken port v =
     (v.puts ≡ true → (port ≡ putter) × (v.put ≡ put) × (v.from ≡ from) × (v.to ≡ to))
     × (v.takes ≡ true → (port ≡ taker) × (v.taken ≡ taken) × (v.from ≡ from) × (v.to ≡ to))
 
@@ -22,7 +22,7 @@ abbrev pub Relayed : List Message → List Hand → Type 0
 Relayed items views =
     (putter : ℕ) × (taker : ℕ) × (from : ℕ) × (to : ℕ) × (put : List Message) × (taken : List Message)
     × (put ≡ taken ++ items) × All (IsOfPair from to) put
-    × ((port : ℕ) (v : Hand) → get_elem? views port ≡ some v → Fits putter taker from to put taken port v)
+    × ((port : ℕ) (v : Hand) → get_elem? views port ≡ some v → FitsLine putter taker from to put taken port v)
 
 -- the pass has put one message more
 abbrev pub Puts : Hand → Message → Hand → Type 0

@@ -1,6 +1,5 @@
 -- The rule of a frontier's cell, over the words that stand in it.
-use Rattle.std.specs.Prelude.{◌≡◌, ℕ, ◌^◌, ◌<◌, ◌≤◌, List, [], ◌∷◌, ◌++◌, All, AllPairs, length, take, drop, map, replicate}
-use Rattle.std.specs.Prelude.{slice_index, true, false}
+use Rattle.std.specs.Prelude.{◌≡◌, ℕ, ◌^◌, ◌<◌, ◌≤◌, List, [], ◌∷◌, ◌++◌, All, AllPairs, length, take, drop, map, replicate, slice_index, true, false}
 use mathlib.Core.Option.{some}
 use mathlib.Core.List.{IsPrefix}
 use lib.ListN.{get_elem?}
@@ -52,15 +51,15 @@ abbrev pub zero_words : List ℕ
 zero_words = replicate WORDS 0
 
 -- one pass writes, and knows the whole list; what each pass has seen, or was shown, begins the list
-abbrev pub Fits : ℕ → List (List ℕ) → ℕ → View → Type 0
-Fits seat log by v = (v.writes ≡ true → (by ≡ seat) × (v.seen ≡ log)) × IsPrefix v.seen log × IsPrefix v.shown log
+abbrev pub FitsLog : ℕ → List (List ℕ) → ℕ → View → Type 0
+FitsLog seat log by v = (v.writes ≡ true → (by ≡ seat) × (v.seen ≡ log)) × IsPrefix v.seen log × IsPrefix v.shown log
 
 -- the words in the cell are the last of the list
 abbrev pub Kept : List ℕ → List View → Type 0
 Kept words views =
     (seat : ℕ) × (log : List (List ℕ))
     × IsLastOf log words × IsLog log
-    × ((by : ℕ) (v : View) → get_elem? views by ≡ some v → Fits seat log by v)
+    × ((by : ℕ) (v : View) → get_elem? views by ≡ some v → FitsLog seat log by v)
 
 -- a reader's load: it has seen the list whose last words were read
 abbrev pub Loads : View → List ℕ → List ℕ → View → Type 0

@@ -4,7 +4,7 @@ use Rattle.std.specs.List.{flat_map}
 use Rattle.std.specs.Int.{w16, w32, w64, to_le_bytes}
 use Rattle.om_format.specs.declared.version.Version.TheVariants.{V2}
 use Rattle.om_format.specs.declared.head.Head.{Head}
-use Rattle.om_format.specs.declared.queue.Entry.{Entry}
+use Rattle.om_format.specs.declared.queue.QueueEntry.{QueueEntry}
 use Rattle.om_format.specs.Formats.{four}
 use Rattle.om_format.specs.Spelling.{numbers}
 use Rattle.om_format.specs.Queues.{QueueRecord}
@@ -33,7 +33,7 @@ memory_bytes made memory =
     ++ flat_map page_bytes (kept_pages memory)
 
 -- an entry
-abbrev pub entry_bytes : Entry → List ℕ
+abbrev pub entry_bytes : QueueEntry → List ℕ
 entry_bytes e = to_le_bytes w32 e.interval ++ to_le_bytes w16 (length e.body) ++ e.body
 
 -- a queue of messages

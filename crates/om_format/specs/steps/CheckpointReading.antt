@@ -7,7 +7,7 @@ use Rattle.om_isa.specs.declared.registers.TheConstants.{WRITABLE_REGISTERS}
 use Rattle.om_format.specs.declared.version.Version.{Version}
 use Rattle.om_format.specs.declared.version.Version.TheVariants.{V1, V2}
 use Rattle.om_format.specs.declared.checkpoint_reading.Front.{Front}
-use Rattle.om_format.specs.declared.queue.Entry.{Entry}
+use Rattle.om_format.specs.declared.queue.QueueEntry.{QueueEntry}
 use Rattle.om_format.specs.Formats.{Size, one, two, four, eight, bytes_in}
 use Rattle.om_format.specs.Queues.{QueueRecord, is_between}
 use Rattle.om_format.specs.Pages.{Page, page_count, page_size, is_kept}
@@ -84,8 +84,8 @@ front_at bytes = do
   )
 
 -- a page of a memory of this size, and the bytes after it
-unfoldable pub page_at : ℕ → ℕ → ℕ → List ℕ → Result (Page × List ℕ) DecodeError
-page_at size low offset bytes = do
+unfoldable pub next_page_at : ℕ → ℕ → ℕ → List ℕ → Result (Page × List ℕ) DecodeError
+next_page_at size low offset bytes = do
   index ← number_at two bytes
   fine ← allow (nat_le low index.0 && nat_lt index.0 (page_count size)) (Field offset)
   page ← bytes_at (page_size size index.0) index.1
@@ -96,7 +96,7 @@ page_at size low offset bytes = do
 unfoldable pub pages_at : ℕ → ℕ → ℕ → ℕ → List ℕ → Result (List ℕ × ℕ × List ℕ) DecodeError
 pages_at size low zero offset bytes = Ok (replicate (size - low * PAGE) 0, offset, bytes)
 pages_at size low (suc count) offset bytes = do
-  page ← page_at size low offset bytes
+  page ← next_page_at size low offset bytes
   more ← pages_at size (page.0.index + 1) count (offset + (2 + length page.0.bytes)) page.1
   Ok (replicate ((page.0.index - low) * PAGE) 0 ++ (page.0.bytes ++ more.0), more.1, more.2)
 
@@ -119,7 +119,7 @@ before_memory_at V2 size offset bytes = do
   Ok count
 
 -- an entry, the offset after it, and the bytes after it
-unfoldable pub entry_at : ℕ → ℕ → ℕ → List ℕ → Result (Entry × ℕ × List ℕ) DecodeError
+unfoldable pub entry_at : ℕ → ℕ → ℕ → List ℕ → Result (QueueEntry × ℕ × List ℕ) DecodeError
 entry_at newest low offset bytes = do
   interval ← number_at four bytes
   fine ← allow (is_between low newest interval.0) (Field offset)
@@ -127,7 +127,7 @@ entry_at newest low offset bytes = do
   Ok (record { interval = interval.0; body = content.0 }, offset + 4 + 2 + length content.0, content.1)
 
 -- so many entries
-unfoldable pub entries_at : ℕ → ℕ → ℕ → ℕ → List ℕ → Result (List Entry × ℕ × List ℕ) DecodeError
+unfoldable pub entries_at : ℕ → ℕ → ℕ → ℕ → List ℕ → Result (List QueueEntry × ℕ × List ℕ) DecodeError
 entries_at newest low zero offset bytes = Ok ([], offset, bytes)
 entries_at newest low (suc count) offset bytes = do
   e ← entry_at newest low offset bytes

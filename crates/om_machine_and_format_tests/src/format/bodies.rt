@@ -2,7 +2,7 @@
 
 use crate::format::records::assert_bytes;
 use crate::same::assert_same;
-use om_format::{Body, Entry, MAX_BODY, MemoryBytes, Message, Queue};
+use om_format::{Body, QueueEntry, MAX_BODY, MemoryBytes, Message, Queue};
 use om_interval::{Pid, Tag};
 use std::alloc::Global;
 use std::process::Abort;
@@ -68,13 +68,13 @@ fn messages_are_copied_whole(rt: HostRuntime) {
     assert_copied(&rt, &copy, &message);
 }
 
-fn entry(rt: &impl Abort, alloc: Global, interval: u32, bytes: &[u8]) -> Entry {
+fn entry(rt: &impl Abort, alloc: Global, interval: u32, bytes: &[u8]) -> QueueEntry {
     let body = body(rt, alloc, bytes);
-    Entry { interval, body }
+    QueueEntry { interval, body }
 }
 
 // A copy of the first entry is that entry, and the last one is another.
-fn assert_compared(rt: &impl Abort, alloc: Global, first: &Entry, last: &Entry) {
+fn assert_compared(rt: &impl Abort, alloc: Global, first: &QueueEntry, last: &QueueEntry) {
     let copy = first.copy(alloc).expect(rt, "memory");
     let told = (copy == *first, first != last, first.body != last.body);
     assert_same(rt, &told, &(true, true, true));

@@ -1,7 +1,7 @@
 -- Marks that are added to a picture, one step of its drawing at a time.
 use Rattle.std.specs.Prelude.{◌≡◌, ◌≢◌, ℕ, zero, suc, ◌+◌, ◌^◌, ◌<◌, ◌≤◌, ◌-◌, ◌==◌, Bool, true, false, not, ◌&&◌, ◌||◌, if◌then◌else◌, is_some, max, nat_le, nat_lt, List, [], ◌∷◌, ◌++◌, Option, None, Some, length, slice_index, slice_set}
-use Rattle.om_picture.specs.Drawing.{Edge, Lane, Sketch, all_marks, held_in, lane_in, lane_marks, lane_of, new_lane, waiting_marks}
-use Rattle.om_picture.specs.Fates.{Entry, Fate, Row, cuts, has_ended, highest, interval_behind, is_cut, is_loose, is_stored, next_place, process_of}
+use Rattle.om_picture.specs.Drawing.{Edge, LaneState, Sketch, all_marks, held_in, lane_in, lane_marks, lane_of, new_lane, waiting_marks}
+use Rattle.om_picture.specs.Fates.{EventAt, EventRow, Fate, cuts, has_ended, highest, interval_behind, is_cut, is_loose, is_stored, next_place, process_of}
 use Rattle.om_picture.specs.Marks.{AreTheSame, EventMark, Kind, Saved, Taken, Worked, fated_marks, log_marks, marks_on, released_at, sure_marks, title_entry}
 use Rattle.om_picture.specs.Held.{covered_by, held_behind, is_any_elsewhere, left_by, left_behind, may_wait}
 use Rattle.om_picture.specs.Places.{is_shown}
@@ -10,50 +10,50 @@ use Rattle.om_picture.specs.declared.column.TheConstants.{WIDEST}
 use Rattle.om_picture.specs.declared.history.History.{History}
 use Rattle.om_picture.specs.declared.history.Mark.{Mark}
 use Rattle.om_picture.specs.declared.history.Next.{Next}
-use Rattle.om_picture.specs.declared.settle.Fate as settle
+use Rattle.om_picture.specs.declared.settle.FateNow.{FateNow}
 use Rattle.om_picture.specs.declared.shown.Shown.{Shown}
 use Rattle.om_picture.specs.declared.shown.Shown.TheVariants as shows
 
 -- ---- a lane
 -- one mark more waits
-pub record IsMore (mark : Mark) (old new : Lane) : Type 0 where
+pub record IsMore (mark : Mark) (old new : LaneState) : Type 0 where
   pub few : old.stored ≤ length old.waiting
   pub lane : new ≡ record old { waiting = old.waiting ++ mark ∷ [] }
 
 -- the first mark waits no more
-pub record Takes (mark : Mark) (old new : Lane) : Type 0 where
+pub record Takes (mark : Mark) (old new : LaneState) : Type 0 where
   pub was : old.waiting ≡ mark ∷ new.waiting
   pub lane : new ≡ record old { stored = old.stored - 1; waiting = new.waiting }
 
-pub record TakesFirst (next : Next) (old new : Lane) : Type 0 where
+pub record TakesFirst (next : Next) (old new : LaneState) : Type 0 where
   pub takes : Takes next.mark old new
   pub covered : next.covered ≡ nat_le next.mark.interval old.reached
   pub stored : next.stored ≡ nat_lt 0 old.stored
 
-pub record TakesCovered (mark : Mark) (old new : Lane) : Type 0 where
+pub record TakesCovered (mark : Mark) (old new : LaneState) : Type 0 where
   pub takes : Takes mark old new
   pub covered : mark.interval ≤ old.reached
 
-abbrev pub Ends : Bool → Lane → Lane → Type 0
+abbrev pub Ends : Bool → LaneState → LaneState → Type 0
 Ends ended old new = new ≡ record old { ended = old.ended || ended }
 
-abbrev pub Receives : ℕ → Lane → Lane → Type 0
+abbrev pub Receives : ℕ → LaneState → LaneState → Type 0
 Receives interval old new = new ≡ record old { interval = interval; loose = true }
 
-abbrev pub Stores : Lane → Lane → Type 0
+abbrev pub Stores : LaneState → LaneState → Type 0
 Stores old new = new ≡ record old { stored = length old.waiting; loose = false }
 
-abbrev pub Loses : Lane → Lane → Type 0
+abbrev pub Loses : LaneState → LaneState → Type 0
 Loses old new = new ≡ record old { loose = false }
 
-abbrev pub GoesBack : ℕ → Lane → Lane → Type 0
+abbrev pub GoesBack : ℕ → LaneState → LaneState → Type 0
 GoesBack interval old new = new ≡ record old { interval = interval; ended = false }
 
-abbrev pub Raises : ℕ → Lane → Lane → Type 0
+abbrev pub Raises : ℕ → LaneState → LaneState → Type 0
 Raises place old new = new ≡ record old { reached = max old.reached place }
 
 -- a mark waits of an event that shows this, at a place
-abbrev pub Waits : ℕ → Shown → ℕ → Entry → Lane → Lane → Type 0
+abbrev pub Waits : ℕ → Shown → ℕ → EventAt → LaneState → LaneState → Type 0
 Waits x shown fresh entry old new =
     (mark : Mark) × IsMore mark old new × (mark.at.x ≡ x) × (mark.interval ≡ old.interval) × (mark.shown ≡ shown) × (mark.fresh ≡ fresh)
     × (title_entry mark.title mark.at ≡ entry)
@@ -67,7 +67,7 @@ pub record Settles (old new : Sketch) (more : List EventMark) : Type 0 where
   pub drawn : new.drawn ≡ old.drawn ++ more
 
 -- the lane of a process changes so, and nothing else
-pub record Turns (Turn : Lane → Lane → Type 0) (old new : Sketch) (p : ℕ) : Type 0 where
+pub record Turns (Turn : LaneState → LaneState → Type 0) (old new : Sketch) (p : ℕ) : Type 0 where
   pub on : new.on ≡ old.on
   pub edge : new.edge ≡ old.edge
   pub drawn : new.drawn ≡ old.drawn
@@ -76,7 +76,7 @@ pub record Turns (Turn : Lane → Lane → Type 0) (old new : Sketch) (p : ℕ) 
   pub turn : Turn (lane_of old p) (lane_of new p)
 
 -- the receipts of a process are stored, and the event that does so is drawn, if there are some in memory only
-pub record Logs (entry : Entry) (old new : Sketch) (p : ℕ) : Type 0 where
+pub record Logs (entry : EventAt) (old new : Sketch) (p : ℕ) : Type 0 where
   pub stored : Sketch
   pub turns : Turns Stores old stored p
   pub settles : Settles stored new (if old.on then log_marks (lane_of old p).loose entry else [])
@@ -121,13 +121,13 @@ pub record Places (shows : Bool) (x : ℕ) (old new : Sketch) : Type 0 where
   pub room : new.edge.right ≤ old.edge.right + WIDEST
 
 -- an event of this process shows something, if there is the process
-abbrev pub shows_at : Option ℕ → Sketch → Row → Bool
+abbrev pub shows_at : Option ℕ → Sketch → EventRow → Bool
 shows_at None sketch row = false
 shows_at (Some p) sketch row =
     nat_lt p (length sketch.lanes) && is_shown (shown (lane_of sketch p).ended row.entry.event row.entry.answer)
 
 -- an event stands where it says
-pub record PlacesEvent (old new : Sketch) (row : Row) : Type 0 where
+pub record PlacesEvent (old new : Sketch) (row : EventRow) : Type 0 where
   pub places : Places (shows_at (process_of row.entry.event) old row) row.entry.at.x old new
   pub lane : (p : ℕ) → process_of row.entry.event ≡ Some p → row.entry.at.lane ≡ lane_number p
 
@@ -155,7 +155,7 @@ is_stored_by shows.Join = true
 is_stored_by _ = false
 
 -- what the lane of its process is behind it, and what its marks come to: the new one among them
-pub record LaneShows (on : Bool) (shown : Shown) (fresh : ℕ) (entry : Entry) (old new : Lane) : Type 0 where
+pub record LaneShows (on : Bool) (shown : Shown) (fresh : ℕ) (entry : EventAt) (old new : LaneState) : Type 0 where
   pub interval : new.interval ≡ interval_shown old.interval shown
   pub ended : new.ended ≡ ended_shown old.ended shown
   pub loose : new.loose ≡ loose_shown old.loose shown
@@ -167,7 +167,7 @@ pub record LaneShows (on : Bool) (shown : Shown) (fresh : ℕ) (entry : Entry) (
       ≡ waiting_marks fate new.stored old.waiting ++ (if on then fated_marks shown fresh (fate new.interval false) entry else [])
 
 -- an event of a process shows this
-pub record Shows (old new : Sketch) (p : ℕ) (shown : Shown) (fresh : ℕ) (entry : Entry) : Type 0 where
+pub record Shows (old new : Sketch) (p : ℕ) (shown : Shown) (fresh : ℕ) (entry : EventAt) : Type 0 where
   pub on : new.on ≡ old.on
   pub edge : new.edge ≡ old.edge
   pub drawn : new.drawn ≡ old.drawn ++ (if old.on then sure_marks (lane_of old p).loose shown entry else [])
@@ -176,20 +176,20 @@ pub record Shows (old new : Sketch) (p : ℕ) (shown : Shown) (fresh : ℕ) (ent
   pub lane : LaneShows old.on shown fresh entry (lane_of old p) (lane_of new p)
 
 -- an event of this process shows what its answer says, if there is the process
-pub record ShowsAt (p : ℕ) (old new : Sketch) (row : Row) : Type 0 where
+pub record ShowsAt (p : ℕ) (old new : Sketch) (row : EventRow) : Type 0 where
   pub shows : p < length old.lanes → Shows old new p (shown (lane_of old p).ended row.entry.event row.entry.answer) row.fresh row.entry
   pub past : length old.lanes ≤ p → new ≡ old
 
-abbrev pub ShowsOn : Option ℕ → Sketch → Sketch → Row → Type 0
+abbrev pub ShowsOn : Option ℕ → Sketch → Sketch → EventRow → Type 0
 ShowsOn None old new row = new ≡ old
 ShowsOn (Some p) old new row = ShowsAt p old new row
 
-abbrev pub ShowsEvent : Sketch → Sketch → Row → Type 0
+abbrev pub ShowsEvent : Sketch → Sketch → EventRow → Type 0
 ShowsEvent old new row = ShowsOn (process_of row.entry.event) old new row
 
 -- ---- what waits
 -- the fate of an interval, where only the recovery state and the round of this event are still to come, and all behind it
-abbrev pub fate_amid : Row → List Row → ℕ → ℕ → Bool → ℕ → Fate
+abbrev pub fate_amid : EventRow → List EventRow → ℕ → ℕ → Bool → ℕ → Fate
 fate_amid row later p interval stored was =
     let now = cuts interval (next_place p was row) row in
     let cut = now || is_cut p interval (next_place p was row) later in
@@ -200,7 +200,7 @@ fate_amid row later p interval stored was =
       stored = covered || (stored || (not now && is_stored p interval (next_place p was row) later));
     }
 
-abbrev pub amid_marks : Row → List Row → ℕ → Lane → List EventMark
+abbrev pub amid_marks : EventRow → List EventRow → ℕ → LaneState → List EventMark
 amid_marks row later p lane =
     waiting_marks (λ interval stored. fate_amid row later p interval stored lane.reached) lane.stored lane.waiting
 
@@ -208,7 +208,7 @@ amid_marks row later p lane =
 abbrev pub fate_now : Bool → Bool → Bool → Fate
 fate_now finished covered stored = record { cut = finished && not covered; covered = covered; stored = covered || stored }
 
-abbrev pub now_marks : Bool → ℕ → Lane → List EventMark
+abbrev pub now_marks : Bool → ℕ → LaneState → List EventMark
 now_marks finished p lane =
     waiting_marks (λ interval stored. fate_now finished (nat_le interval lane.reached) stored) lane.stored lane.waiting
 
@@ -217,7 +217,7 @@ abbrev pub kept : Fate
 kept = record { cut = false; covered = true; stored = true }
 
 -- a fate, and what a mark that waits says by it
-abbrev pub fate_in : settle.Fate → Fate
+abbrev pub fate_in : FateNow → Fate
 fate_in fate = record { cut = fate.cut; covered = fate.covered; stored = fate.stored }
 
 abbrev pub kind_late : Shown → Fate → Kind
@@ -230,51 +230,51 @@ made_by (shows.Run sent made ends) = made
 made_by _ = 0
 
 -- what is known of a process stays
-pub record Stays (old new : Lane) : Type 0 where
+pub record Stays (old new : LaneState) : Type 0 where
   pub interval : new.interval ≡ old.interval
   pub ended : new.ended ≡ old.ended
   pub loose : new.loose ≡ old.loose
   pub reached : new.reached ≡ old.reached
 
 -- the same, where its place in a recovery state is told
-pub record Told (place : ℕ) (old new : Lane) : Type 0 where
+pub record Told (place : ℕ) (old new : LaneState) : Type 0 where
   pub interval : new.interval ≡ old.interval
   pub ended : new.ended ≡ old.ended
   pub loose : new.loose ≡ old.loose
   pub reached : new.reached ≡ max old.reached place
 
 -- and what that covers waits no more
-pub record Learns (place : ℕ) (old new : Lane) : Type 0 where
+pub record Learns (place : ℕ) (old new : LaneState) : Type 0 where
   pub told : Told place old new
   pub held : held_in new ≡ left_behind new.reached (held_in old)
 
 -- all marks come to the same
-pub record Keeps (value : ℕ → Lane → List EventMark) (old new : Sketch) : Type 0 where
+pub record Keeps (value : ℕ → LaneState → List EventMark) (old new : Sketch) : Type 0 where
   pub on : new.on ≡ old.on
   pub edge : new.edge ≡ old.edge
   pub count : length new.lanes ≡ length old.lanes
   pub marks : AreTheSame (all_marks value new) (all_marks value old)
 
 -- all marks come to the same, and to some more
-pub record KeepsWith (more : List EventMark) (value : ℕ → Lane → List EventMark) (old new : Sketch) : Type 0 where
+pub record KeepsWith (more : List EventMark) (value : ℕ → LaneState → List EventMark) (old new : Sketch) : Type 0 where
   pub on : new.on ≡ old.on
   pub edge : new.edge ≡ old.edge
   pub count : length new.lanes ≡ length old.lanes
   pub marks : AreTheSame (all_marks value new) (all_marks value old ++ more)
 
 -- outputs are released that a lane holds, with this event
-abbrev pub frees : Row → ℕ → Lane → Bool
+abbrev pub frees : EventRow → ℕ → LaneState → Bool
 frees row p lane = is_any_elsewhere row.entry.at.x (covered_by (next_place p lane.reached row) (held_in lane))
 
 -- so it is told on the lanes below one
-abbrev pub freed_below : Row → Sketch → ℕ → List EventMark
+abbrev pub freed_below : EventRow → Sketch → ℕ → List EventMark
 freed_below row old zero = []
 freed_below row old (suc p) =
     freed_below row old p ++ (if old.on then released_at (frees row p (lane_of old p)) (lane_number p) row.entry else [])
 
 -- a lane is learning its place: what waits first goes while that covers it; found: there were outputs among that from elsewhere
-pub record Learning (row : Row) (found : Bool) (old new : Sketch) (p : ℕ) : Type 0 where
-  pub keeps : (later : List Row) → Keeps (amid_marks row later) old new
+pub record Learning (row : EventRow) (found : Bool) (old new : Sketch) (p : ℕ) : Type 0 where
+  pub keeps : (later : List EventRow) → Keeps (amid_marks row later) old new
   pub here : Told (slice_index row.recovery p) (lane_of old p) (lane_of new p)
   pub left : left_behind (lane_of new p).reached (held_in (lane_of old p)) ≡ left_behind (lane_of new p).reached (held_in (lane_of new p))
   pub freed : is_any_elsewhere row.entry.at.x (covered_by (lane_of new p).reached (held_in (lane_of old p)))
@@ -282,20 +282,20 @@ pub record Learning (row : Row) (found : Bool) (old new : Sketch) (p : ℕ) : Ty
   pub others : (q : ℕ) → q ≢ p → lane_of new q ≡ lane_of old q
 
 -- a lane learns its place in a recovery state
-pub record LearnsAt (row : Row) (old new : Sketch) (p : ℕ) : Type 0 where
-  pub keeps : (later : List Row) → Keeps (amid_marks row later) old new
+pub record LearnsAt (row : EventRow) (old new : Sketch) (p : ℕ) : Type 0 where
+  pub keeps : (later : List EventRow) → Keeps (amid_marks row later) old new
   pub here : Learns (slice_index row.recovery p) (lane_of old p) (lane_of new p)
   pub others : (q : ℕ) → q ≢ p → lane_of new q ≡ lane_of old q
 
 -- the lanes below one do, and the others are as they were
-pub record LearnsBelow (row : Row) (old new : Sketch) (p : ℕ) : Type 0 where
-  pub keeps : (later : List Row) → KeepsWith (freed_below row old p) (amid_marks row later) old new
+pub record LearnsBelow (row : EventRow) (old new : Sketch) (p : ℕ) : Type 0 where
+  pub keeps : (later : List EventRow) → KeepsWith (freed_below row old p) (amid_marks row later) old new
   pub learned : (q : ℕ) → q < p → Learns (slice_index row.recovery q) (lane_of old q) (lane_of new q)
   pub others : (q : ℕ) → p ≤ q → lane_of new q ≡ lane_of old q
 
 -- all lanes do
-pub record LearnsAll (row : Row) (old new : Sketch) : Type 0 where
-  pub keeps : (later : List Row) → KeepsWith (freed_below row old (length old.lanes)) (amid_marks row later) old new
+pub record LearnsAll (row : EventRow) (old new : Sketch) : Type 0 where
+  pub keeps : (later : List EventRow) → KeepsWith (freed_below row old (length old.lanes)) (amid_marks row later) old new
   pub lanes : (p : ℕ) → p < length old.lanes → Learns (slice_index row.recovery p) (lane_of old p) (lane_of new p)
 
 -- some of what waits on a lane is settled
@@ -327,7 +327,7 @@ SettlesIf false old new = new ≡ old
 SettlesIf true old new = SettlesAll true old new
 
 -- a picture of these events, once the next one is drawn, where its recovery state and its round are not told
-pub record IsAmid (n : ℕ) (before : List Row) (row : Row) (old new : Sketch) : Type 0 where
+pub record IsAmid (n : ℕ) (before : List EventRow) (row : EventRow) (old new : Sketch) : Type 0 where
   pub on : new.on ≡ old.on
   pub edge : new.edge ≡ old.edge
   pub count : length new.lanes ≡ n
@@ -336,7 +336,7 @@ pub record IsAmid (n : ℕ) (before : List Row) (row : Row) (old new : Sketch) :
   pub loose : (p : ℕ) → p < n → (lane_of new p).loose ≡ is_loose p (before ++ row ∷ [])
   pub held : (p : ℕ) → p < n → held_in (lane_of new p) ≡ held_behind p before ++ left_by p before row
   pub reached : (p : ℕ) → p < n → (lane_of new p).reached ≡ highest p 0 before
-  pub marks : (later : List Row) → AreTheSame (all_marks (amid_marks row later) new)
+  pub marks : (later : List EventRow) → AreTheSame (all_marks (amid_marks row later) new)
       (all_marks (lane_marks (row ∷ later)) old
       ++ (if old.on then marks_on n (process_of row.entry.event) before row later else []))
 

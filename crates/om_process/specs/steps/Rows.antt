@@ -10,7 +10,7 @@ use Rattle.om_process.specs.declared.replay.ReplayFault.{ReplayFault}
 use Rattle.om_process.specs.declared.replay.ReplayFault.TheVariants.{NoCheckpoint, Damaged, MissingReceipt, Mismatch, Fault, Memory}
 use Rattle.om_process.specs.Process.{Process}
 use Rattle.om_process.specs.Replays.{Replayed, process_of}
-use Rattle.om_process.specs.Core.{CoreState, size_of}
+use Rattle.om_process.specs.Core.{CoreState, cluster_size}
 use Rattle.om_process.specs.Stored.{Anyone, AreReceiptsAfter, DoesNotFit, IsDamagedCheckpoint, IsReceiptAt}
 
 -- rows rise from above an interval to x at most
@@ -103,7 +103,7 @@ RefusesFrom held x c Memory = Unit {0}
 pub record IsReplayFrom (held : Content) (x : ℕ) (c : CheckpointRecord) (core : CoreState) : Type 0 where
   pub all : HasReceipts held x c
   pub own : core.own ≡ c.head.pid
-  pub size : size_of core.now ≡ c.n
+  pub size : cluster_size core.now ≡ c.n
   pub receipts : List ReceiptRecord
   pub stored : AreReceiptsAfter held.receipts c.head.interval receipts
   pub last : x ≡ c.head.interval + length receipts

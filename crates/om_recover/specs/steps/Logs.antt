@@ -1,6 +1,5 @@
 -- What the runs and the tree of the logs hold.
-use Rattle.std.specs.Prelude.{◌≡◌, ℕ, ◌+◌, ◌<◌, ◌≤◌, ◌⊎◌, Bool, true, false, cond, List, [], ◌∷◌, ◌++◌, length}
-use Rattle.std.specs.Prelude.{slice_get, Some, None, IsSome}
+use Rattle.std.specs.Prelude.{◌≡◌, ℕ, ◌+◌, ◌<◌, ◌≤◌, ◌⊎◌, Bool, true, false, cond, List, [], ◌∷◌, ◌++◌, length, slice_get, Some, None, IsSome}
 use Rattle.om_recover.specs.steps.Nearest.{at, AreSorted}
 use Rattle.om_recover.specs.declared.rows.trees.Vectors.{Vectors}
 use Rattle.om_recover.specs.declared.rows.trees.Run.{Run}

@@ -28,13 +28,13 @@ abbrev pub part_of : Memory → Memory
 part_of memory = record memory { reached = memory.passed; from = 0 }
 
 -- a memory, and what is left of it
-pub record IsKnown (n : ℕ) (rows : Rows) (state : List ℕ) (p : ℕ) (memory : Memory) : Type 0 where
+pub record IsTrueMemory (n : ℕ) (rows : Rows) (state : List ℕ) (p : ℕ) (memory : Memory) : Type 0 where
   pub whole : IsRemembered n rows state p memory
   pub part : IsRemembered n rows state p (part_of memory)
 
 -- each process's memory, if it has one
 abbrev pub AreRemembered : ℕ → Rows → List ℕ → List (Option Memory) → Type 0
-AreRemembered n rows state places = (p : ℕ) → p < n → MatchOption (slice_index_or places p None) ⊤ (IsKnown n rows state p)
+AreRemembered n rows state places = (p : ℕ) → p < n → MatchOption (slice_index_or places p None) ⊤ (IsTrueMemory n rows state p)
 
 -- at most the one process's memory became the given one
 abbrev pub IsKept : List (Option Memory) → List (Option Memory) → ℕ → Memory → Type 0

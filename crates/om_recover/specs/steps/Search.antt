@@ -14,12 +14,12 @@ IsQuiet (Ok Known) = Unit {0}
 IsQuiet (Err fault) = Unit {0}
 
 -- the process of the row has no row below it
-abbrev pub HasNoneBelow : Rows → Row → Type 0
-HasNoneBelow rows row = (low : Row) → HasRow rows low → low.pid ≡ row.pid → low.interval < row.interval → ⊥
+abbrev pub HasNoRowBelow : Rows → Row → Type 0
+HasNoRowBelow rows row = (low : Row) → HasRow rows low → low.pid ≡ row.pid → low.interval < row.interval → ⊥
 
 -- the process of the row has no row above it
-abbrev pub HasNoneAbove : Rows → Row → Type 0
-HasNoneAbove rows row = (high : Row) → HasRow rows high → high.pid ≡ row.pid → row.interval < high.interval → ⊥
+abbrev pub HasNoRowAbove : Rows → Row → Type 0
+HasNoRowAbove rows row = (high : Row) → HasRow rows high → high.pid ≡ row.pid → row.interval < high.interval → ⊥
 
 -- the row has that answer, and is not added
 abbrev pub IsAnswered : ℕ → Rows → Row → Result Note NoteError → Type 0

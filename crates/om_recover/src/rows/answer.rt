@@ -1,7 +1,7 @@
 ghost use Rattle.std.specs.Prelude.{◌≡◌, ℕ, ◌<◌, ◌≤◌, ◌↔◌, ◌⊎◌, length, false, slice_index, IsTrue, IfSome, MatchOption};
 ghost use Rattle.om_recover.specs.Rows.{HasRow, IsFair, IsAtMost, HaveSameVectors, IsLawful};
 ghost use Rattle.om_recover.specs.Offered.{AreOfOneInterval, IsNearestBelow, IsNearestAbove, IsNew, IsInOrderBelow, IsInOrderAbove, BreaksBelow, BreaksAbove, Agrees};
-ghost use Rattle.om_recover.specs.steps.Search.{IsAnswered, IsQuiet, HasNoneBelow, HasNoneAbove, FollowsRow};
+ghost use Rattle.om_recover.specs.steps.Search.{IsAnswered, IsQuiet, HasNoRowBelow, HasNoRowAbove, FollowsRow};
 ghost use Rattle.om_recover.specs.steps.Held.{AreTrees, HasDifferent, AgreesOfKind, held, row_of};
 
 use crate::note::{Note, NoteError};
@@ -139,7 +139,7 @@ fn follows_a_log(trees: &Trees, row: &Row) -> bool
 // Whether the process has no row above the row's interval.
 fn is_last(trees: &Trees, row: &Row) -> bool
     requires { AreTrees trees.now }
-    ensures { IsTrue result → HasNoneAbove (held trees.now) row.now }
+    ensures { IsTrue result → HasNoRowAbove (held trees.now) row.now }
 {
     let Some(from) = row.interval.checked_add(1) else {
         return false;
@@ -156,7 +156,7 @@ fn is_last(trees: &Trees, row: &Row) -> bool
 // Of the process's rows below the row's interval, the nearest.
 fn nearest_below(trees: &Trees, row: &Row) -> Option<Row>
     requires { AreTrees trees.now }
-    ensures { MatchOption result (HasNoneBelow (held trees.now) row.now) (IsNearestBelow (held trees.now) row.now) }
+    ensures { MatchOption result (HasNoRowBelow (held trees.now) row.now) (IsNearestBelow (held trees.now) row.now) }
 {
     let to = row.interval.checked_sub(1)?;
     let Some(log) = record_to(trees, RowKind::Log, row.pid, to) else {
@@ -176,7 +176,7 @@ fn nearest_below(trees: &Trees, row: &Row) -> Option<Row>
 fn nearest_above(trees: &Trees, row: &Row) -> Option<Row>
     requires in_order { AreTrees trees.now }
     requires lawful { (n : ℕ) × IsLawful n (held trees.now) }
-    ensures { MatchOption result (HasNoneAbove (held trees.now) row.now) (IsNearestAbove (held trees.now) row.now) }
+    ensures { MatchOption result (HasNoRowAbove (held trees.now) row.now) (IsNearestAbove (held trees.now) row.now) }
 {
     let from = row.interval.checked_add(1)?;
     let Some(log) = record_from(trees, RowKind::Log, row.pid, from) else {

@@ -1,7 +1,6 @@
 ghost use Rattle.std.specs.Prelude.{◌≡◌, ◌+◌, None, IfSome, OnOk, OnErr, IsTrue};
 ghost use Rattle.om_recover.specs.steps.Nearest.{at};
-ghost use Rattle.om_recover.specs.steps.Logs.{AreLogs, AreSame, IsLaid, log_entries};
-ghost use Rattle.om_recover.specs.steps.Logs.{IsNextIn, IsNextInRuns, IsLonger, IsSameRun, ArePushed, AreSameRuns};
+ghost use Rattle.om_recover.specs.steps.Logs.{AreLogs, ArePushed, AreSame, AreSameRuns, IsLaid, IsLonger, IsNextIn, IsNextInRuns, IsSameRun, log_entries};
 
 use crate::rows::trees::{Logs, Run, Vectors};
 use om_interval::Pid;

@@ -1,7 +1,6 @@
 ghost use Rattle.std.specs.Prelude.{◌≡◌, ℕ, None, Some, MatchOption};
 ghost use Rattle.om_recover.specs.steps.Nearest.{at, IsNearestTo, IsNearestFrom, HasNoneTo, HasNoneFrom};
-ghost use Rattle.om_recover.specs.steps.Logs.{AreLogs, IsInRun, IsOutside, IsInRuns, IsOutsideRuns, log_entries};
-ghost use Rattle.om_recover.specs.steps.Logs.{IsRunTo, IsRunFrom, HasNoRunTo, HasNoRunFrom};
+ghost use Rattle.om_recover.specs.steps.Logs.{AreLogs, IsInRun, IsOutside, IsInRuns, IsOutsideRuns, log_entries, IsRunTo, IsRunFrom, HasNoRunTo, HasNoRunFrom};
 
 use crate::rows::nearest::{nearest_from, nearest_to};
 use crate::rows::trees::{Logs, Run, Vectors};

@@ -1,7 +1,6 @@
 ghost use Rattle.std.specs.Prelude.{◌≡◌, ◌<◌, None, Some, OnOk, OnErr, IsSome, IsTrue, false, length, slice_get, slice_set, ℕ};
 ghost use Rattle.om_recover.specs.steps.Nearest.{at, IsPut};
-ghost use Rattle.om_recover.specs.steps.Bases.{AreBases, AreSameBases, IsNewest, HasNoNewest, IsStored, base_entries};
-ghost use Rattle.om_recover.specs.steps.Bases.{IsShelved, IsTop, newest_of};
+ghost use Rattle.om_recover.specs.steps.Bases.{AreBases, AreSameBases, IsNewest, HasNoNewest, IsStored, base_entries, IsShelved, IsTop, newest_of};
 ghost use Rattle.om_recover.specs.declared.rows.trees.Base.{Base};
 
 use crate::rows::bases::{base_from, newest_of};

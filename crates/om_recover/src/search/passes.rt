@@ -3,9 +3,8 @@ ghost use Rattle.om_interval.specs.Vectors.{IsBelow};
 ghost use Rattle.om_recover.specs.Rows.{IsLawful};
 ghost use Rattle.om_recover.specs.Recoverable.{IsStable, IsRecoverable, IsGreatest};
 ghost use Rattle.om_recover.specs.Climb.{IsLeastStable, IsOutOfReach};
-ghost use Rattle.om_recover.specs.steps.Climbing.{AreWithinOrStarted, IsAtRest, TellsLeast};
+ghost use Rattle.om_recover.specs.steps.Climbing.{ArePassed, AreWithinOrStarted, IsAtRest, TellsLeast};
 ghost use Rattle.om_recover.specs.steps.Memory.{AreRemembered};
-ghost use Rattle.om_recover.specs.steps.Climbing.{ArePassed};
 ghost use Rattle.om_recover.specs.Counted.{IsSearched};
 
 use crate::search::climb::climb;

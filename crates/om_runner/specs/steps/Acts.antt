@@ -7,7 +7,7 @@ use Rattle.om_recover.specs.Cutting.{IsEffective, IsPruned}
 use Rattle.om_manager.specs.Bounds.{AreGotFrom}
 use Rattle.om_manager.specs.Outputs.{held_of}
 use Rattle.om_manager.specs.Rounds.{Failing, Joining}
-use Rattle.om_manager.specs.State.{ManagerState, held_by, released_by, size_of}
+use Rattle.om_manager.specs.State.{ManagerState, held_by, process_count, released_by}
 use Rattle.om_manager.specs.declared.answers.Gathered.{Gathered}
 use Rattle.om_manager.specs.declared.output_log.Output.{Output}
 use Rattle.om_board.specs.Boards.{AreAllQuiet, BoardState, DoAllWait, IsBoard, MayRest, MayWait, all_owe, told_by}
@@ -44,8 +44,8 @@ pub record IsStanding (old : BoardState) (p round : ℕ) (ended : Bool) (standin
   pub closed : old.manager.gathering ≡ None → standing ≢ Gathers
   pub reported : IsTrue ended → MayRest old round → new ≡ record old { quiet = slice_set old.quiet p true }
   pub passed_over : (IsTrue ended → MayRest old round → ⊥) → new ≡ old
-  pub quiet : standing ≡ Quiet → IsTrue ended × AreAllQuiet (size_of new.manager) new.quiet
-  pub all_quiet : IsTrue ended → old.manager.gathering ≡ None → AreAllQuiet (size_of new.manager) new.quiet → standing ≡ Quiet
+  pub quiet : standing ≡ Quiet → IsTrue ended × AreAllQuiet (process_count new.manager) new.quiet
+  pub all_quiet : IsTrue ended → old.manager.gathering ≡ None → AreAllQuiet (process_count new.manager) new.quiet → standing ≡ Quiet
 
 -- a process handed over all that it had, and was told how the manager stands; and where a checkpoint was among its rows, the
 -- manager was pruned and said what need not be kept any longer
@@ -88,7 +88,7 @@ pub record HasOffered (before : BoardState) (p round : ℕ) (after : BoardState)
 pub record HasWaited (before : BoardState) (p round put taken : ℕ) (told_all : Bool) (after : BoardState) : Type 0 where
   pub told : MayWait before p round → after ≡ record before { waiting = slice_set before.waiting p (Waits put taken) }
   pub passed_over : (MayWait before p round → ⊥) → after ≡ before
-  pub all : IsTrue told_all ↔ DoAllWait (size_of after.manager) after
+  pub all : IsTrue told_all ↔ DoAllWait (process_count after.manager) after
 
 -- a process took back that it waits
 pub record HasWithdrawn (before : BoardState) (p : ℕ) (after : BoardState) : Type 0 where

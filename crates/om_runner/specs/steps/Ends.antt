@@ -6,7 +6,8 @@ use Rattle.om_process.specs.Images.{program_of}
 use Rattle.om_process.specs.Process.{Program}
 use Rattle.om_process.specs.declared.image.Image.{Image}
 use Rattle.om_process.specs.declared.status.Status.{Status}
-use Rattle.om_runner.specs.Reports.{IsEnd, IsWholeRun, process_of}
+use Rattle.om_runner.specs.Reports.{IsWholeRun, process_of}
+use Rattle.om_process.specs.Core.{IsEnd}
 use Rattle.om_runner.specs.declared.config.Config.{Config}
 use Rattle.om_runner.specs.declared.fault.RunFault.{RunFault}
 use Rattle.om_runner.specs.declared.fault.RunFault.TheVariants.{Turns, GateShut, Memory, Fault, Load, NoThread}

@@ -4,7 +4,7 @@ use Rattle.std.specs.FinMap.{get}
 use Rattle.om_format.specs.Checkpoints.{CheckpointRecord, IsSpelled}
 use Rattle.om_stable.specs.Content.{Content}
 use Rattle.om_process.specs.Claims.{CheckpointOf}
-use Rattle.om_process.specs.Core.{CoreState, size_of}
+use Rattle.om_process.specs.Core.{CoreState, cluster_size}
 use Rattle.om_process.specs.Process.{Process, Program, Received}
 use Rattle.om_process.specs.Replays.{process_of}
 use Rattle.om_manager.specs.Outputs.{HeldOutput}
@@ -40,7 +40,7 @@ pub record IsKept {S : Type 0} (content : S → Content) (is_clean : S → Bool)
 pub record IsNode {S : Type 0} (content : S → Content) (is_clean : S → Bool) (IsSound : S → Type 0) (d : NodeState) (store : S)
     : Type 0 where
   pub own : d.core.own ≡ d.member.own
-  pub size : size_of d.core.now ≡ d.member.n
+  pub size : cluster_size d.core.now ≡ d.member.n
   pub kept : IsKept content is_clean IsSound d.member store
   pub stands : IsTrue (is_clean store) → IsOnWay d.member d.core.now
 

@@ -1,10 +1,9 @@
 -- What a turn of a worker does.
 use Rattle.std.specs.Prelude.{◌≡◌, ◌⊎◌, ◌-◌, ℕ, [], Bool, IsTrue, ◌↔◌, Option, true}
-use Rattle.om_process.specs.Core.{CoreState}
+use Rattle.om_process.specs.Core.{CoreState, IsEnd}
 use Rattle.om_process.specs.Stores.{flushed}
 use Rattle.om_process.specs.declared.status.Status.{Status}
 use Rattle.om_member.specs.Handed.{outputs_from}
-use Rattle.om_runner.specs.Reports.{IsEnd}
 use Rattle.om_runner.specs.declared.manager_link.Limits.{Limits}
 use Rattle.om_runner.specs.declared.manager_link.Standing.{Standing}
 use Rattle.om_runner.specs.declared.manager_link.Standing.TheVariants as standings

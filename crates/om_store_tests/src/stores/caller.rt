@@ -1,6 +1,6 @@
 ghost use Rattle.std.specs.Prelude.{◌≡◌, ℕ, ◌+◌, ◌≤◌, length, IfOk, IfSome, OnOk, IsErrOf, IsSome};
 ghost use Rattle.std.specs.FinMap as map;
-ghost use Rattle.om_stable.specs.Calls.{IsKnown};
+ghost use Rattle.om_stable.specs.Calls.{IsCleanCall};
 ghost use Rattle.om_stable.specs.Content.{Content, between, bytes_of, rows_of, with_all};
 ghost use Rattle.om_stable.specs.Count.{Rose};
 
@@ -22,18 +22,18 @@ fn replace_all<S: Stable>(
     bytes: &[u8],
 ) -> Result<Left, StoreError>
     requires { first + length recs.now ≤ INTERVALS }
-    ensures before { IsKnown S.is_clean S.IsSound store.old store.new
+    ensures before { IsCleanCall S.is_clean S.IsSound store.old store.new
         → IfOk result (λ left. rows_of left.0.items
         ≡ between (with_all (S.content store.old).receipts first (bytes_of recs.now)) 0 x) }
-    ensures kept { IsKnown S.is_clean S.IsSound store.old store.new
+    ensures kept { IsCleanCall S.is_clean S.IsSound store.old store.new
         → IfOk result (λ left. IsSome left.1) }
-    ensures interval { IsKnown S.is_clean S.IsSound store.old store.new
+    ensures interval { IsCleanCall S.is_clean S.IsSound store.old store.new
         → IfOk result (λ left. IfSome left.1 (λ e. e.0 ≡ x)) }
-    ensures bytes { IsKnown S.is_clean S.IsSound store.old store.new
+    ensures bytes { IsCleanCall S.is_clean S.IsSound store.old store.new
         → IfOk result (λ left. IfSome left.1 (λ e. e.1.items ≡ bytes.now)) }
-    ensures receipts { IsKnown S.is_clean S.IsSound store.old store.new
+    ensures receipts { IsCleanCall S.is_clean S.IsSound store.old store.new
         → OnOk result ((S.content store.new).receipts ≡ map.empty) }
-    ensures checkpoints { IsKnown S.is_clean S.IsSound store.old store.new
+    ensures checkpoints { IsCleanCall S.is_clean S.IsSound store.old store.new
         → OnOk result ((S.content store.new).checkpoints ≡ map.insert map.empty x bytes.now) }
     ensures fault { IsErrOf result StoreError.Fault
         → Rose (S.failed store.old) (S.failed store.new) }

@@ -4,7 +4,7 @@ use Rattle.om_process.specs.Core.{CoreState}
 use Rattle.om_manager.specs.Gatherings.{AreAllIn}
 use Rattle.om_manager.specs.Rounds.{Gathers, IsSpent, with_failed, with_joined}
 use Rattle.om_manager.specs.Sound.{IsManager, KeepsReleased}
-use Rattle.om_manager.specs.State.{ManagerState, size_of}
+use Rattle.om_manager.specs.State.{ManagerState, process_count}
 use Rattle.om_manager.specs.declared.answers.Gathered.{Gathered}
 use Rattle.om_manager.specs.declared.answers.FailError.{FailError}
 use Rattle.om_manager.specs.declared.answers.FailError.TheVariants as failing
@@ -21,7 +21,7 @@ use Rattle.om_world.specs.World.{WorldState, IsKnown}
 pub record HasGathered {E : Type 0} (old : ManagerState) (before : List Entry) (answer : Result Gathered E) (new : ManagerState)
     (after : List Entry) : Type 0 where
   pub sound : IsManager new
-  pub size : size_of new ≡ size_of old
+  pub size : process_count new ≡ process_count old
   pub released : KeepsReleased old new
   pub live : IfOk answer (λ gathered. after ≡ live_after gathered old before)
   pub refused : OnErr answer (after ≡ before)
@@ -36,7 +36,7 @@ IsFailure w p New = IsToDeclare w p
 -- why a declaration is refused
 abbrev pub IsWhyNot : FailError → ManagerState → ℕ → Type 0
 IsWhyNot failing.Spent m p = IsSpent m
-IsWhyNot failing.Memory m p = AreAllIn (size_of m) (with_failed m p)
+IsWhyNot failing.Memory m p = AreAllIn (process_count m) (with_failed m p)
 IsWhyNot fault m p = ⊥
 
 -- the failure of the process is declared
@@ -44,8 +44,8 @@ abbrev pub declared : WorldState → ℕ → WorldState
 declared w p = record w { places = slice_set w.places p (Place.Down true) }
 
 -- the failure of a process that is down is declared, or refused
-pub record HasDeclared (old : WorldState) (p : ℕ) (answer : Result Gathered FailError) (new : WorldState) : Type 0 where
-  pub size : size_of new.manager ≡ size_of old.manager
+pub record HasDeclaredAt (old : WorldState) (p : ℕ) (answer : Result Gathered FailError) (new : WorldState) : Type 0 where
+  pub size : process_count new.manager ≡ process_count old.manager
   pub released : KeepsReleased old.manager new.manager
   pub others : IfOk answer (λ told. new ≡ gathered (declared old p) told new.manager)
   pub manager : IsKnown old → IfOk answer (λ told. Gathers (with_failed old.manager p) old.manager told new.manager)
@@ -59,7 +59,7 @@ StandsIn cores p at = (c : CoreState) × (slice_get cores p ≡ Some (Some c)) �
 
 -- a process that was up is in, or it was refused for want of memory
 pub record HasEntered (old : WorldState) (p : ℕ) (answer : Result Gathered JoinError) (new : WorldState) : Type 0 where
-  pub size : size_of new.manager ≡ size_of old.manager
+  pub size : process_count new.manager ≡ process_count old.manager
   pub released : KeepsReleased old.manager new.manager
   pub core : CoreState
   pub there : slice_get old.cores p ≡ Some (Some core)

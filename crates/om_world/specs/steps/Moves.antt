@@ -8,7 +8,7 @@ use Rattle.om_stable.specs.declared.error.StoreError.TheVariants as store_errors
 use Rattle.om_recover.specs.declared.row.RowKind.{RowKind}
 use Rattle.om_recover.specs.declared.row.RowKind.TheVariants.{Checkpoint, Log}
 use Rattle.om_manager.specs.Sound.{KeepsReleased}
-use Rattle.om_manager.specs.State.{size_of}
+use Rattle.om_manager.specs.State.{process_count}
 use Rattle.om_recover.specs.declared.note.NoteError.TheVariants as refusals
 use Rattle.om_manager.specs.declared.answers.RecordError.{RecordError}
 use Rattle.om_manager.specs.declared.answers.FailError.{FailError}
@@ -41,7 +41,7 @@ abbrev pub HasCore : List (Option CoreState) → ℕ → Type 0
 HasCore cores p = (c : CoreState) × (slice_get cores p ≡ Some (Some c))
 
 -- the core at this place takes some turns, and no other core changes
-pub record GoesOn (old : List (Option CoreState)) (p fuel : ℕ) (new : List (Option CoreState)) : Type 0 where
+pub record TakesTurnsAt (old : List (Option CoreState)) (p fuel : ℕ) (new : List (Option CoreState)) : Type 0 where
   pub before : CoreState
   pub after : CoreState
   pub there : slice_get old p ≡ Some (Some before)
@@ -62,7 +62,7 @@ after_offer old p c m (accepts.Taken x) = slice_set old p (Some (taken c m))
 after_offer old p c m answer = old
 
 -- the core at this place answers to a message
-pub record IsOffered (old : List (Option CoreState)) (p : ℕ) (m : Message) (answer : Accept) (new : List (Option CoreState)) : Type 0 where
+pub record IsOfferedAt (old : List (Option CoreState)) (p : ℕ) (m : Message) (answer : Accept) (new : List (Option CoreState)) : Type 0 where
   pub core : CoreState
   pub there : slice_get old p ≡ Some (Some core)
   pub answers : Answers core m answer
@@ -133,7 +133,7 @@ event_of Checkpoint p = Event.Checkpoint p
 
 -- what each event leaves: what was released still is; where what the stores hold is known, it was; and counts do not fall
 pub record Keeps (old new : WorldState) : Type 0 where
-  pub size : size_of new.manager ≡ size_of old.manager
+  pub size : process_count new.manager ≡ process_count old.manager
   pub released : KeepsReleased old.manager new.manager
   pub clean : all_clean new.health ≡ true → all_clean old.health ≡ true
   pub counts : NoneFell old.health new.health

@@ -4,11 +4,10 @@ use Rattle.om_interval.specs.Starts.{is_named, newest_of}
 use Rattle.om_stable.specs.Content.{Content, kept_by_cut}
 use Rattle.om_process.specs.declared.replay.ReplayFault.{ReplayFault}
 use Rattle.om_process.specs.declared.replay.ReplayFault.TheVariants.{Fault}
-use Rattle.om_process.specs.Core.{CoreState, size_of}
+use Rattle.om_process.specs.Core.{CoreState, cluster_size}
 use Rattle.om_process.specs.Resumes.{resumed}
 use Rattle.om_process.specs.Stored.{CanReplay, IsNoMatterOfContent, IsReplay, TheProcess}
-use Rattle.om_manager.specs.State as managers
-use Rattle.om_manager.specs.State.{ManagerState}
+use Rattle.om_manager.specs.State.{ManagerState, process_count}
 use Rattle.om_world.specs.declared.place.Place.{Place}
 use Rattle.om_world.specs.Changes.{HasFailed, NoneFell}
 use Rattle.om_world.specs.Failures.{HasNews, IsToComeBack, IsToGoOn, put_up, taken_down}
@@ -17,7 +16,7 @@ use Rattle.om_world.specs.World.{WorldState, IsKnown, all_clean, recovered}
 -- a core of process p that keeps nothing volatile, and knows what the last round said of it
 pub record IsBackIn (m : ManagerState) (p : ℕ) (core : CoreState) : Type 0 where
   pub own : core.own ≡ p
-  pub size : size_of core.now ≡ managers.size_of m
+  pub size : cluster_size core.now ≡ process_count m
   pub log : core.log ≡ []
   pub pending : core.pending ≡ []
   pub inc : core.inc ≡ newest_of m.starts p
@@ -29,7 +28,7 @@ abbrev pub IsRolledBack : ManagerState → ℕ → Result CoreState ReplayFault 
 IsRolledBack m p (Ok core) before after =
     IsReplay before (slice_index m.last p) core × (after ≡ kept_by_cut before (slice_index m.last p))
 IsRolledBack m p (Err fault) before after =
-    (after ≡ before) × (CanReplay (TheProcess p (managers.size_of m)) before (slice_index m.last p) → IsNoMatterOfContent fault)
+    (after ≡ before) × (CanReplay (TheProcess p (process_count m)) before (slice_index m.last p) → IsNoMatterOfContent fault)
 
 -- a process that was down is up again with this core, and its store is cut
 pub record HasComeBack (old : WorldState) (p : ℕ) (core : CoreState) (new : WorldState) : Type 0 where

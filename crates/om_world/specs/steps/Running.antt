@@ -1,7 +1,7 @@
 -- What the calls of a run do.
 use Rattle.std.specs.Prelude.{◌≡◌, ℕ, ◌<◌, ◌≤◌, List, ◌++◌, length, slice_get, slice_index, Option, Some, Result, OnOk, IfErr}
 use Rattle.om_format.specs.declared.message.Message.{Message}
-use Rattle.om_process.specs.Core.{CoreState, size_of}
+use Rattle.om_process.specs.Core.{CoreState, cluster_size}
 use Rattle.om_process.specs.Frames.{messages_to}
 use Rattle.om_manager.specs.Sound.{KeepsReleased}
 use Rattle.om_manager.specs.State.{held_by}
@@ -16,17 +16,17 @@ pub use Rattle.om_member.specs.Handed.{AreHanded, AreHandedUpTo, IsHanded, offer
 -- ---- messages
 -- these are how many messages to each process a core keeps
 abbrev pub AreKept : CoreState → List ℕ → Type 0
-AreKept c counts = (to : ℕ) → to < size_of c.now → slice_index counts to ≡ length (messages_to c to).entries
+AreKept c counts = (to : ℕ) → to < cluster_size c.now → slice_index counts to ≡ length (messages_to c to).entries
 
 -- the core at this place keeps so many messages to each process, or more
 abbrev pub KeepsMore : List (Option CoreState) → ℕ → List ℕ → Type 0
 KeepsMore cores p few =
     (c : CoreState) × (slice_get cores p ≡ Some (Some c))
-    × ((to : ℕ) → to < size_of c.now → slice_index few to ≤ length (messages_to c to).entries)
+    × ((to : ℕ) → to < cluster_size c.now → slice_index few to ≤ length (messages_to c to).entries)
 
 -- its messages behind the first few to each process
 abbrev pub messages_past : CoreState → List ℕ → List Message
-messages_past c few = messages_behind c (λ to. slice_index few to) (size_of c.now)
+messages_past c few = messages_behind c (λ to. slice_index few to) (cluster_size c.now)
 
 -- they became frames
 abbrev pub HasSent : WorldState → ℕ → List ℕ → ℕ → WorldState → Type 0

@@ -9,23 +9,22 @@ use Rattle.om_format.specs.Queues.{QueueRecord}
 use Rattle.om_format.specs.Receipts.{ReceiptRecord, SpellsReceipt}
 use Rattle.om_format.specs.Checkpoints.{CheckpointRecord, IsSpelled}
 use Rattle.om_stable.specs.Content.{Content}
-use Rattle.om_process.specs.declared.row.Row as pending
+use Rattle.om_process.specs.declared.row.PendingRow.{PendingRow}
 use Rattle.om_process.specs.Process.{Program, Process, Received}
-use Rattle.om_process.specs.Core.{CoreState, LoggedRecord, size_of}
+use Rattle.om_process.specs.Core.{CoreState, LoggedRecord, cluster_size}
 use Rattle.om_process.specs.Turns.{Reaches}
 use Rattle.om_process.specs.Replays.{FitsReceipt, received_of, process_of}
 use Rattle.om_process.specs.Dependencies.{count_from}
 use Rattle.om_process.specs.Claims.{AtInterval, Makes, RowOf, CheckpointOf, RecordOf}
 use Rattle.om_process.specs.Stores.{first_logged}
 use Rattle.om_recover.specs.Rows.{HasRow, Has}
-use Rattle.om_recover.specs.declared.row.Row as noted
+use Rattle.om_recover.specs.declared.row.Row.{Row}
 use Rattle.om_recover.specs.declared.row.RowKind.{RowKind}
 use Rattle.om_recover.specs.declared.row.RowKind.TheVariants.{Checkpoint, Log}
 use Rattle.om_manager.specs.Gatherings.{presence_of, presences_of}
 use Rattle.om_manager.specs.Outputs.{HeldOutput}
 use Rattle.om_manager.specs.Sound.{IsManager}
-use Rattle.om_manager.specs.State as managers
-use Rattle.om_manager.specs.State.{ManagerState, held_by, released_by}
+use Rattle.om_manager.specs.State.{ManagerState, held_by, process_count, released_by}
 use Rattle.om_manager.specs.declared.presence.Presence.TheVariants.{Away, Failed, Joined}
 use Rattle.om_world.specs.declared.place.Place.{Place}
 use Rattle.om_world.specs.Live.{program_at, Legal}
@@ -97,11 +96,11 @@ abbrev pub LogOf : Program → ℕ → ℕ → List LoggedRecord → List Receiv
 LogOf program own n log h = (front : List Received) × (h ≡ front ++ receipts_in log) × LogAlong program own n front log
 
 -- a pending row as the manager is told it
-abbrev pub kind_of : pending.Row → RowKind
+abbrev pub kind_of : PendingRow → RowKind
 kind_of row = if row.ckpt then Checkpoint else Log
 
 -- a pending row is true, and its record stands in the store or is not wanted
-pub record IsPending (w : Past) (p : ℕ) (held : Content) (row : pending.Row) : Type 0 where
+pub record IsPending (w : Past) (p : ℕ) (held : Content) (row : PendingRow) : Type 0 where
   pub row_of : AtInterval (history w p) row.x (RowOf p (length w.programs) row.vec row.got)
   pub begun : row.ckpt ≡ false → 0 < row.x
   pub backed : HasBytes held (kind_of row) row.x ⊎ IsOld w.manager p (kind_of row) row.x
@@ -109,14 +108,14 @@ pub record IsPending (w : Past) (p : ℕ) (held : Content) (row : pending.Row) :
 -- a core is one of this cluster's
 pub record IsCoreOf (n p : ℕ) (c : CoreState) : Type 0 where
   pub own : c.own ≡ p
-  pub size : size_of c.now ≡ n
+  pub size : cluster_size c.now ≡ n
 
 -- a process that runs
 pub record IsRunning (w : Past) (p : ℕ) (held : Content) (c : CoreState) : Type 0 where
   pub state : CheckpointOf (program_at w.programs p) p (length w.programs) c.now (history w p)
   pub kept : KeptWithin w p c.now.queues
   pub log : LogOf (program_at w.programs p) p (length w.programs) c.log (history w p)
-  pub pending : (i : ℕ) (row : pending.Row) → slice_get c.pending i ≡ Some row → IsPending w p held row
+  pub pending : (i : ℕ) (row : PendingRow) → slice_get c.pending i ≡ Some row → IsPending w p held row
   pub above : NothingAbove held c (length (history w p))
 
 -- a process that is up knows what the manager knows, and is in no gathering
@@ -142,7 +141,7 @@ pub record HasShape (w : WorldState) : Type 0 where
   pub there : (p : ℕ) → slice_get w.places p ≡ Some Place.Up → (c : CoreState) × (slice_get w.cores p ≡ Some (Some c))
   pub inside : (p : ℕ) → slice_get w.places p ≡ Some Place.In → (c : CoreState) × (slice_get w.cores p ≡ Some (Some c))
   pub manager : IsManager w.manager
-  pub size : managers.size_of w.manager ≡ length w.programs
+  pub size : process_count w.manager ≡ length w.programs
 
 -- what holds where they are, and held nothing before the start
 pub record Sound (w : WorldState) : Type 0 where
@@ -151,10 +150,10 @@ pub record Sound (w : WorldState) : Type 0 where
   pub outputs : (p i : ℕ) (o : HeldOutput) → slice_get (held_by w.manager p) i ≡ Some o
       → AtInterval (history (past_of w) p) o.interval
       (Makes (program_at w.programs p) p (length w.programs) (length w.programs) i (output_entry o))
-  pub rows : (row : noted.Row) → HasRow w.manager.rows row
+  pub rows : (row : Row) → HasRow w.manager.rows row
       → AtInterval (history (past_of w) row.pid) row.interval (RowOf row.pid (length w.programs) row.vec row.got)
   pub stored : (p : ℕ) (held : Content) → slice_get w.contents p ≡ Some held → IsStored (past_of w) p held
-  pub backed : (row : noted.Row) (held : Content) → HasRow w.manager.rows row → slice_get w.contents row.pid ≡ Some held
+  pub backed : (row : Row) (held : Content) → HasRow w.manager.rows row → slice_get w.contents row.pid ≡ Some held
       → HasBytes held row.kind row.interval ⊎ IsOld w.manager row.pid row.kind row.interval
   pub running : (p : ℕ) (c : CoreState) (held : Content) → slice_get w.cores p ≡ Some (Some c)
       → slice_get w.contents p ≡ Some held → Runs w p → IsRunning (past_of w) p held c

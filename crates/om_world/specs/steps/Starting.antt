@@ -1,8 +1,7 @@
 -- What each process's start does.
-use Rattle.std.specs.Prelude.{◌≡◌, ℕ, ◌<◌, ◌≤◌, List, length, ◌++◌, drop, map, replicate, slice_get, Bool, IsTrue, Option, None, Some}
-use Rattle.std.specs.Prelude.{Result, IfOk, IfErr, OnOk}
+use Rattle.std.specs.Prelude.{◌≡◌, ℕ, ◌<◌, ◌≤◌, List, length, ◌++◌, drop, map, replicate, slice_get, Bool, IsTrue, Option, None, Some, Result, IfOk, IfErr, OnOk}
 use Rattle.std.specs.FinMap.{get}
-use Rattle.om_stable.specs.Calls as calls
+use Rattle.om_stable.specs.Calls.{IsCleanCall}
 use Rattle.om_stable.specs.Content.{Content}
 use Rattle.om_process.specs.declared.start.StartFault.{StartFault}
 use Rattle.om_process.specs.Process.{Program}
@@ -17,8 +16,8 @@ use Rattle.om_world.specs.steps.Members.{core_in, place_in, round_in, store_in}
 -- a core was started over this store
 pub record IsStartedOver {S : Type 0} (content : S → Content) (is_clean : S → Bool) (IsSound : S → Type 0)
     (core : CoreState) (before after : S) : Type 0 where
-  pub stored : calls.IsKnown is_clean IsSound before after → HasGainedCheckpoint core (content before) (content after)
-  pub free : calls.IsKnown is_clean IsSound before after → get (content before).checkpoints 0 ≡ None
+  pub stored : IsCleanCall is_clean IsSound before after → HasGainedCheckpoint core (content before) (content after)
+  pub free : IsCleanCall is_clean IsSound before after → get (content before).checkpoints 0 ≡ None
   pub clean : IsTrue (is_clean after) → IsTrue (is_clean before)
   pub sound : IsTrue (is_clean after) → IsSound before → IsSound after
 

@@ -1,13 +1,13 @@
 use Rattle.std.proofs.Common.{◌≡◌, ℕ, ◌<◌, length, map, arith, subst}
 use Rattle.std.proofs.lemmas.List.{length-map}
 use Rattle.om_process.specs.Images.{program_of}
-use Rattle.om_manager.specs.State.{size_of}
+use Rattle.om_manager.specs.State.{process_count}
 use Rattle.om_check.proofs.playing.played.Goals as goal
 
 pub all_done-requires-clause-managed : goal.all_done-requires-clause-managed
 all_done-requires-clause-managed c =
     let way = c.in_ok-play.ensures (map program_of c.args.images.now) c.in_ok-begin.ensures in
-    let e : size_of c.play.new.self.world.manager ≡ length (map program_of c.args.images.now) = way.managed in
+    let e : process_count c.play.new.self.world.manager ≡ length (map program_of c.args.images.now) = way.managed in
     let l = length-map c.args.images.now program_of in
     omega (arith, e, l)
 

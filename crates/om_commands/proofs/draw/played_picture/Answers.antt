@@ -1,12 +1,12 @@
 use Rattle.std.proofs.Common.{◌≡◌, ◌∙◌, ℕ, List, ap, length, string_bytes, take}
-use Rattle.om_manager.specs.State.{ManagerState, size_of}
+use Rattle.om_manager.specs.State.{ManagerState, process_count}
 use Rattle.om_picture.specs.Drawing.{sketch_of}
 use Rattle.om_commands.proofs.DrawLemmas.{is_played_picture}
 use Rattle.om_commands.proofs.draw.played_picture.Goals as goal
 
 pub returns : goal.returns
 returns c =
-    let size : length c.recovery-recovery.result ≡ size_of c.args.world.now.manager =
+    let size : length c.recovery-recovery.result ≡ process_count c.args.world.now.manager =
     ap (λ (places : List ℕ). length places)
     (c.recovery-recovery.ensures.recovery ∙ ap (λ (m : ManagerState). m.recovery) c.manager.ensures) in
     is_played_picture string_bytes c.args.script.now c.programs-programs.result.now c.first_of-events.result.now c.args.lines.now

@@ -1,7 +1,7 @@
 use Rattle.std.proofs.Common.{◌≡◌, ◌++◌, ◌∷◌, [], inr, sym, subst, string_bytes}
 use Rattle.std.specs.Prelude.{Some}
 use Rattle.std.specs.FinMap.{get}
-use Rattle.om_stable.specs.Calls.{IsKnown}
+use Rattle.om_stable.specs.Calls.{IsCleanCall}
 use Rattle.om_stable.specs.Content.{Content, IsEffective}
 use Rattle.om_look.specs.Lines.{IsCheckpointLine}
 use Rattle.om_look.specs.Stops.{StopsAt}
@@ -13,8 +13,8 @@ returns-clause-finds g c known =
     let held = g.S.Stable.content c.args.store.now in
     let x = c.in-Some.x in
     let f = c.in_ok-found_at.field-0 in
-    let first : IsKnown g.S.Stable.is_clean g.S.Stable.IsSound c.args.store.now c.effective_of.new.store = (c.found_at.ensures.reads.clean known.0, known.1) in
-    let second : IsKnown g.S.Stable.is_clean g.S.Stable.IsSound c.effective_of.new.store c.found_at.new.store = (known.0, c.in_ok-x.ensures.reads.sound first.0 known.1) in
+    let first : IsCleanCall g.S.Stable.is_clean g.S.Stable.IsSound c.args.store.now c.effective_of.new.store = (c.found_at.ensures.reads.clean known.0, known.1) in
+    let second : IsCleanCall g.S.Stable.is_clean g.S.Stable.IsSound c.effective_of.new.store c.found_at.new.store = (known.0, c.in_ok-x.ensures.reads.sound first.0 known.1) in
     let same : g.S.Stable.content c.effective_of.new.store ≡ held = c.in_ok-x.ensures.reads.same first in
     let effective : IsEffective held.checkpoints c.args.to x = rw c.in-Some.is at (c.in_ok-x.ensures.effective first) in
     let stands : get held.checkpoints x ≡ Some c.in-Some.bytes.items = rw c.in-Some.is at (c.in_ok-x.ensures.bytes first) in

@@ -1,5 +1,5 @@
 use Rattle.std.proofs.Common.{◌≡◌, ◌+◌, ◌-◌, subst, arith, inl}
-use Rattle.om_process.specs.Core.{size_of}
+use Rattle.om_process.specs.Core.{cluster_size}
 use Rattle.om_process.specs.Stored.{Anyone, CanReplay, Refuses}
 use Rattle.om_look.specs.Stops.{StopsAt}
 use Rattle.om_look.proofs.Stopping.{stops_behind, told_stops}
@@ -12,7 +12,7 @@ returns-in_default-clause-stops g c known k above e all =
     let to : c.saturating_sub.result ≡ c.args.y - 1 = omega arith in
     let stop : c.args.y - 1 + 1 ≡ c.from.result = omega arith in
     let replay = c.in_default.ensures.replayed known in
-    let can : CanReplay Anyone held (c.args.y - 1) = subst (CanReplay Anyone held) to (core.own, size_of core.now, core.now, replay) in
+    let can : CanReplay Anyone held (c.args.y - 1) = subst (CanReplay Anyone held) to (core.own, cluster_size core.now, core.now, replay) in
     subst (StopsAt held k (c.args.y - 1)) stop (stops_behind held (c.args.y - 1) k e can)
 
 pub returns-clause-stops : goal.returns-clause-stops

@@ -1,5 +1,5 @@
 use Rattle.std.proofs.Common.{◌≡◌, ◌<◌, ◌≤◌, ◌+◌, ◌++◌, true, false, ◌∙◌, ap, sym, subst, arith, rules, append_assoc}
-use Rattle.om_process.specs.Core.{CoreState, size_of, with_now}
+use Rattle.om_process.specs.Core.{CoreState, cluster_size, with_now}
 use Rattle.om_process.specs.Turns.{Turns}
 use Rattle.om_look.proofs.TurnLemmas.{core_traced, core_turns, traced_turns}
 use Rattle.om_look.proofs.tracing.trace.Goals as goal
@@ -15,7 +15,7 @@ returns-in_err-turn-clause-at_most c =
     let room : k < c.args.fuel = c.loop-steps-test.true in (
       k + more.0,
       omega arith,
-      core_turns start mid k more.0 c.turn.new.core.now inv.rest inv.size (traced_turns start.own (size_of start.now) k start.now mid.now inv.traced.0 inv.traced.1) more.2,
+      core_turns start mid k more.0 c.turn.new.core.now inv.rest inv.size (traced_turns start.own (cluster_size start.now) k start.now mid.now inv.traced.0 inv.traced.1) more.2,
     )
 
 pub returns-then-not-branch-clause-turns : goal.returns-then-not-branch-clause-turns
@@ -24,7 +24,7 @@ returns-then-not-branch-clause-turns c =
     let inv = c.loop-steps.invariant in
     let stood : c.in_ok-turn.field-0 ≡ false = search rules in
     let same : c.turn.new.core.now ≡ c.loop-steps.core.now = (c.in_ok-turn.ensures.stands stood).1 in
-    subst (Turns start.own (size_of start.now) c.loop-steps.steps start.now) (sym same) (traced_turns start.own (size_of start.now) c.loop-steps.steps start.now c.loop-steps.core.now inv.traced.0 inv.traced.1)
+    subst (Turns start.own (cluster_size start.now) c.loop-steps.steps start.now) (sym same) (traced_turns start.own (cluster_size start.now) c.loop-steps.steps start.now c.loop-steps.core.now inv.traced.0 inv.traced.1)
 
 pub returns-then-not-branch-clause-at_most : goal.returns-then-not-branch-clause-at_most
 returns-then-not-branch-clause-at_most c = (c.loop-steps.steps, c.loop-steps.invariant.within, returns-then-not-branch-clause-turns c)
@@ -53,7 +53,7 @@ pub returns-clause-turns : goal.returns-clause-turns
 returns-clause-turns c =
     let start = c.args.core.now in
     let inv = c.loop-steps.invariant in
-    traced_turns start.own (size_of start.now) c.loop-steps.steps start.now c.loop-steps.core.now inv.traced.0 inv.traced.1
+    traced_turns start.own (cluster_size start.now) c.loop-steps.steps start.now c.loop-steps.core.now inv.traced.0 inv.traced.1
 
 pub returns-clause-at_most : goal.returns-clause-at_most
 returns-clause-at_most c = (c.loop-steps.steps, c.loop-steps.invariant.within, returns-clause-turns c)

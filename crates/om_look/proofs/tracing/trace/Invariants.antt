@@ -1,5 +1,5 @@
 use Rattle.std.proofs.Common.{◌≡◌, ◌≤◌, ◌-◌, ◌++◌, ℕ, List}
-use Rattle.om_process.specs.Core.{size_of, with_now}
+use Rattle.om_process.specs.Core.{cluster_size, with_now}
 use Rattle.om_look.specs.Trace.{IsTrace}
 use Rattle.om_look.proofs.tracing.trace.Given as goal
 
@@ -7,9 +7,9 @@ use Rattle.om_look.proofs.tracing.trace.Given as goal
 abbrev pub invariant-loop-steps : goal.invariant-loop-steps
 invariant-loop-steps l = record {
   within : l.steps ≤ l.fuel;
-  traced : (lines : List ℕ) × IsTrace l.fn.core.own (size_of l.fn.core.now) l.steps l.fn.core.now l.core.now lines × (l.text.items ≡ l.fn.text.items ++ lines);
+  traced : (lines : List ℕ) × IsTrace l.fn.core.own (cluster_size l.fn.core.now) l.steps l.fn.core.now l.core.now lines × (l.text.items ≡ l.fn.text.items ++ lines);
   rest : l.core ≡ with_now l.fn.core l.core.now;
-  size : size_of l.core.now ≡ size_of l.fn.core.now;
+  size : cluster_size l.core.now ≡ cluster_size l.fn.core.now;
 }
 
 abbrev pub decreases-loop-steps : goal.decreases-loop-steps

@@ -1,6 +1,6 @@
 use Rattle.std.proofs.Common.{◌≡◌, ◌++◌, ◌∙◌, ap, refl, subst, arith}
 use Rattle.om_machine.specs.State.{State}
-use Rattle.om_process.specs.Core.{size_of}
+use Rattle.om_process.specs.Core.{cluster_size}
 use Rattle.om_process.specs.Turns.{Turns}
 use Rattle.om_look.specs.Trace.{line_text, made_text, place_of}
 use Rattle.om_look.specs.steps.Before.{IsBefore}
@@ -11,13 +11,13 @@ pub returns-in_default-clause-stands : goal.returns-in_default-clause-stands
 returns-in_default-clause-stands c same =
     let core = c.args.core.now in
     let trap = rw c.machine.ensures at c.in_default.ensures.none in
-    (no_turn core.own (size_of core.now) core.now trap.0 trap.1, refl, refl)
+    (no_turn core.own (cluster_size core.now) core.now trap.0 trap.1, refl, refl)
 
 pub returns-clause-turn : goal.returns-clause-turn
 returns-clause-turn c same =
     let core = c.args.core.now in
     let after = c.run.new.self in
-    let n = size_of core.now in
+    let n = cluster_size core.now in
     let b = c.in-Some.before in
     let once : c.in_ok-ran.ran.steps ≡ 1 = omega (arith, c.in_ok-ran.ensures.within, c.if-ran-eq0.false) in
     let turns : Turns core.own n 1 core.now after.now = subst (λ k. Turns core.own n k core.now after.now) once c.in_ok-ran.ensures.turns in

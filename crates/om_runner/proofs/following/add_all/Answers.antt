@@ -4,7 +4,7 @@ use Rattle.std.specs.Prelude.{slice_get, slice_index}
 use Rattle.om_board.proofs.MadeLemmas.{released_made}
 use Rattle.om_board.proofs.ReleasedLemmas.{released_at}
 use Rattle.om_manager.specs.Outputs.{held_of}
-use Rattle.om_manager.specs.State.{released_by, size_of}
+use Rattle.om_manager.specs.State.{process_count, released_by}
 use Rattle.om_runner.proofs.FollowLemmas.{kept_where, made_where, same_where}
 use Rattle.om_runner.proofs.following.add_all.Goals as goal
 
@@ -28,7 +28,7 @@ returns-in_err-add_new-clause-made c = λ programs n holds are.
     let old = c.index_mut.result.now in
     let at : slice_get lanes p ≡ Some old = slice_get_read lanes (length lanes) p old refl (search rules) c.index_mut.ensures.value in
     let held : map held_of c.released.result.now ≡ released_by m p = c.released.ensures.outputs ∙ ap (released_by m) c.at.ensures in
-    let within : p < size_of m = search rules in
+    let within : p < process_count m = search rules in
     made_where programs n lanes p old c.add_new.new.lane at
     (λ was. c.add_new.ensures.made programs n p was (released_made programs n m p c.released.result.now c.recovery.ensures.sound within held c.released.ensures.numbered holds))
     (c.loop-p.invariant.made programs n holds are)
@@ -41,7 +41,7 @@ loop-p-preserved c =
     let old = c.index_mut.result.now in
     let at : slice_get lanes p ≡ Some old = slice_get_read lanes (length lanes) p old refl (search rules) c.index_mut.ensures.value in
     let held : map held_of c.released.result.now ≡ released_by m p = c.released.ensures.outputs ∙ ap (released_by m) c.at.ensures in
-    let within : p < size_of m = search rules in
+    let within : p < process_count m = search rules in
     record {
       many = search rules;
       same = λ q. same_where lanes p old c.add_new.new.lane at c.add_new.ensures.same q ∙ c.loop-p.invariant.same q;

@@ -1,5 +1,5 @@
-use Rattle.om_check.specs.Whole.{GoesOn}
+use Rattle.om_check.specs.Whole.{StaysUnderWay}
 use Rattle.om_check.proofs.player.Player.receive_all.Given as goal
 
 abbrev pub invariant-loop-k : goal.invariant-loop-k
-invariant-loop-k l = GoesOn l.fn.self.world l.self.world
+invariant-loop-k l = StaysUnderWay l.fn.self.world l.self.world

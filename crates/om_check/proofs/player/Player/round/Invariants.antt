@@ -1,5 +1,5 @@
-use Rattle.om_check.specs.Whole.{GoesOn}
+use Rattle.om_check.specs.Whole.{StaysUnderWay}
 use Rattle.om_check.proofs.player.Player.round.Given as goal
 
 abbrev pub invariant-loop-p : goal.invariant-loop-p
-invariant-loop-p l = GoesOn l.fn.self.world l.self.world
+invariant-loop-p l = StaysUnderWay l.fn.self.world l.self.world

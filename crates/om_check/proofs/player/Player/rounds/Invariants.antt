@@ -1,5 +1,5 @@
-use Rattle.om_check.specs.Whole.{GoesOn}
+use Rattle.om_check.specs.Whole.{StaysUnderWay}
 use Rattle.om_check.proofs.player.Player.rounds.Given as goal
 
 abbrev pub invariant-loop : goal.invariant-loop
-invariant-loop l = GoesOn l.fn.self.world l.self.world
+invariant-loop l = StaysUnderWay l.fn.self.world l.self.world

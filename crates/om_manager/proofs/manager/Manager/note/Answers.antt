@@ -1,5 +1,4 @@
-use Rattle.std.proofs.Common.{◌≡◌, ◌≢◌, ◌<◌, ◌+◌, subst, sym, refl, ◌∙◌, arith, rules}
-use Rattle.std.proofs.Common.{Ok, Err, true}
+use Rattle.std.proofs.Common.{◌≡◌, ◌≢◌, ◌<◌, ◌+◌, subst, sym, refl, ◌∙◌, arith, rules, Ok, Err, true}
 use Rattle.om_interval.specs.Vectors.{IsBelow}
 use Rattle.om_recover.specs.Offered.{TellsChange}
 use Rattle.om_recover.specs.declared.note.Note.TheVariants.{Noted}
@@ -7,7 +6,7 @@ use Rattle.om_manager.proofs.ManagerLemmas.{room_for_version, parts_level, parts
 use Rattle.om_manager.specs.Notes.{Notes}
 use Rattle.om_manager.specs.declared.answers.RecordError.TheVariants.{Refused}
 use Rattle.om_manager.specs.Sound.{IsManager, GoesOn, Changes, KeepsReleased}
-use Rattle.om_manager.specs.State.{ManagerState, size_of}
+use Rattle.om_manager.specs.State.{ManagerState, process_count}
 use Rattle.om_manager.proofs.manager.Manager.note.Goals as goal
 
 pub overflow_add-self : goal.overflow_add-self
@@ -20,7 +19,7 @@ pub returns-in-Err-clause-answer : goal.returns-in-Err-clause-answer
 returns-in-Err-clause-answer c =
     let i = c.self.inside in
     let new = made_of c.note.new.self i.logs.items i.starts i.round i.gathering i.last i.backs i.version in
-    let current = subst (λ (m : ManagerState). c.args.row.pid < size_of m → c.args.round ≡ m.round) (sym c.self.view_is) (c.is_stale.ensures.current c.if-is_stale.false) in
+    let current = subst (λ (m : ManagerState). c.args.row.pid < process_count m → c.args.round ≡ m.round) (sym c.self.view_is) (c.is_stale.ensures.current c.if-is_stale.false) in
     subst (λ (m : ManagerState). Notes m c.args.round c.args.row (Err (Refused c.in-Err.fault)) new) c.self.view_is (note_refused _ _ _ _ _ _ _ _ _ _ _ _ current c.in-Err.ensures.answer c.in-Err.ensures.raised)
 
 pub invariant_of-self : goal.invariant_of-self
@@ -49,7 +48,7 @@ pub returns-else-eq-clause-answer : goal.returns-else-eq-clause-answer
 returns-else-eq-clause-answer c =
     let i = c.self.inside in
     let new = made_of c.note.new.self i.logs.items i.starts i.round i.gathering i.last i.backs i.version in
-    let current = subst (λ (m : ManagerState). c.args.row.pid < size_of m → c.args.round ≡ m.round) (sym c.self.view_is) (c.is_stale.ensures.current c.if-is_stale.false) in
+    let current = subst (λ (m : ManagerState). c.args.row.pid < process_count m → c.args.round ≡ m.round) (sym c.self.view_is) (c.is_stale.ensures.current c.if-is_stale.false) in
     let level : c.in-Ok.note ≢ Noted true = search rules in
     subst (λ (m : ManagerState). Notes m c.args.round c.args.row (Ok c.in-Ok.note) new) c.self.view_is (note_level _ _ _ _ _ _ _ _ _ _ _ _ current c.in-Ok.ensures.answer c.in-Ok.ensures.raised level)
 
@@ -88,7 +87,7 @@ pub returns-then-eq-clause-answer : goal.returns-then-eq-clause-answer
 returns-then-eq-clause-answer c =
     let i = c.self.inside in
     let new = made_of c.note.new.self c.raise_all.new.logs.items i.starts i.round i.gathering i.last i.backs (i.version + 1) in
-    let current = subst (λ (m : ManagerState). c.args.row.pid < size_of m → c.args.round ≡ m.round) (sym c.self.view_is) (c.is_stale.ensures.current c.if-is_stale.false) in
+    let current = subst (λ (m : ManagerState). c.args.row.pid < process_count m → c.args.round ≡ m.round) (sym c.self.view_is) (c.is_stale.ensures.current c.if-is_stale.false) in
     let is : c.in-Ok.note ≡ Noted true = search rules in
     subst (λ (m : ManagerState). Notes m c.args.round c.args.row (Ok c.in-Ok.note) new) c.self.view_is (note_raised _ _ _ _ _ _ _ _ _ _ _ _ _ current c.in-Ok.ensures.answer c.in-Ok.ensures.raised is c.raise_all.ensures.held)
 

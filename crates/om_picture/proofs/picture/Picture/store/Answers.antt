@@ -1,5 +1,5 @@
 use Rattle.std.proofs.Common.{◌∙◌, ap, sym}
-use Rattle.om_picture.specs.Drawing.{Lane}
+use Rattle.om_picture.specs.Drawing.{LaneState}
 use Rattle.om_picture.proofs.LaneLemmas.{lane_at, turned}
 use Rattle.om_picture.specs.steps.Adding.{Stores}
 use Rattle.om_picture.proofs.picture.Picture.store.Goals as goal
@@ -12,5 +12,5 @@ returns-clause-turn c =
 pub returns-clause-loose : goal.returns-clause-loose
 returns-clause-loose c =
     c.store.ensures.loose
-    ∙ sym (ap (λ (l : Lane). l.loose)
+    ∙ sym (ap (λ (l : LaneState). l.loose)
     (lane_at c.args.self.now.histories.items c.args.p c.index_mut-history.result.now c.requires c.index_mut-history.ensures.value))

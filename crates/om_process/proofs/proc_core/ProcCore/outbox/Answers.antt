@@ -1,5 +1,5 @@
 use Rattle.std.proofs.Common.{rules, ◌≡◌, ◌<◌, length, get_or, refl, sym, ap, ◌∙◌, subst}
-use Rattle.om_process.specs.Core.{CoreState, size_of}
+use Rattle.om_process.specs.Core.{CoreState, cluster_size}
 use Rattle.om_process.specs.Frames.{messages_to}
 use Rattle.om_process.specs.Kept.{numbered, sent_as, sent_entry}
 use Rattle.om_process.specs.declared.queues.Sent.{Sent}
@@ -12,7 +12,7 @@ pub returns-clause-sent : goal.returns-clause-sent
 returns-clause-sent c =
     let box = c.self.inside.outbox.items in
     let here = c.index-2.result.now in
-    let place : c.args.to < length c.self.inside.vec = subst (λ (s : CoreState). c.args.to < size_of s.now) (sym c.self.view_is) c.requires in
+    let place : c.args.to < length c.self.inside.vec = subst (λ (s : CoreState). c.args.to < cluster_size s.now) (sym c.self.view_is) c.requires in
     let within : c.args.to < length box = subst (λ k. c.args.to < k) (sym (box_long _ c.self.invariant)) place in
     let at : here ≡ get_or box c.args.to here = search rules in
     let kept : c.as_slice.result.now ≡ numbered sent_as (messages_to c.args.self.now c.args.to).first (messages_to c.args.self.now c.args.to).entries =

@@ -1,5 +1,5 @@
 use Rattle.std.proofs.Common.{◌≡◌, ◌-◌, length, drop, max, refl, sym, ap, ◌∙◌}
-use Rattle.om_process.specs.Core.{CoreState, size_of}
+use Rattle.om_process.specs.Core.{CoreState, cluster_size}
 use Rattle.om_process.specs.Frames.{outputs_of}
 use Rattle.om_process.specs.Kept.{made_as, made_entry, numbered}
 use Rattle.om_process.specs.declared.queues.Made.{Made}
@@ -14,4 +14,4 @@ returns-clause-made c =
     let kept : c.above.result.now ≡ numbered made_as (max (outputs_of c.args.self.now).first c.args.seq) (drop (c.args.seq - (outputs_of c.args.self.now).first) (outputs_of c.args.self.now).entries) =
     c.above.ensures ∙ ap (λ q. numbered made_as (max q.first c.args.seq) (drop (c.args.seq - q.first) q.entries)) (sym last)
     ∙ ap (λ (s : CoreState). numbered made_as (max (outputs_of s).first c.args.seq) (drop (c.args.seq - (outputs_of s).first) (outputs_of s).entries)) c.self.view_is in
-    λ i m at. has_numbered made_as (λ (x : Made). x.seq) made_entry c.args.self.now.now.queues (size_of c.args.self.now.now) c.args.seq i c.above.result.now m (λ k e. (refl, refl)) kept at
+    λ i m at. has_numbered made_as (λ (x : Made). x.seq) made_entry c.args.self.now.now.queues (cluster_size c.args.self.now.now) c.args.seq i c.above.result.now m (λ k e. (refl, refl)) kept at

@@ -3,7 +3,7 @@ use Rattle.om_machine.specs.Finishing.{TakesWord}
 use Rattle.om_machine.specs.derived.NextStep.{next_of}
 use Rattle.om_machine.specs.declared.limits.TheConstants.{LAST_COUNT}
 use Rattle.om_machine.proofs.Stops.{room_at_word}
-use Rattle.om_format.specs.declared.queue.Entry.{Entry}
+use Rattle.om_format.specs.declared.queue.QueueEntry.{QueueEntry}
 use Rattle.om_format.specs.Queues.{queue_end}
 use Rattle.om_process.specs.Core.{CoreState}
 use Rattle.om_process.proofs.CoreLemmas.{core_put_out, box_long, same_process, queues_put_out}
@@ -21,7 +21,7 @@ invariant_of-self-2 c =
 
 pub returns-clause-ok : goal.returns-clause-ok
 returns-clause-ok c =
-    let d : Entry = record { interval = c.self.inside.interval; body = c.in_ok-body.body } in
+    let d : QueueEntry = record { interval = c.self.inside.interval; body = c.in_ok-body.body } in
     let boxes = c.self.inside.outbox.items in
     rw (← c.self.view_is)
     (same_process c.self.inside.interval c.self.inside.vec c.self.inside.got _ c.finish_word.new.self _ _ (sym c.finish_word.ensures.state) (queues_put_out _ d _ boxes _ _ (box_long _ c.self.invariant) (ap (λ b. record { interval = c.self.inside.interval; body = b }) c.in_ok-body.ensures.bytes) c.in_ok-push.ensures.ok))

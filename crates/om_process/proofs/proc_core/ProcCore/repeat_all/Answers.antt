@@ -2,7 +2,7 @@ use Rattle.std.proofs.Common.{◌≡◌, ◌+◌, ◌<◌, ◌++◌, ◌∷◌, 
 use Rattle.std.specs.Prelude.{IfErr, Err}
 use Rattle.om_format.specs.Receipts.{SpellsReceipt}
 use Rattle.om_stable.specs.Content.{rows_of}
-use Rattle.om_process.specs.Core.{size_of, with_now}
+use Rattle.om_process.specs.Core.{cluster_size, with_now}
 use Rattle.om_process.specs.Replays.{Replayed}
 use Rattle.om_process.specs.steps.Rows.{RefusesRow, RefusesRows}
 use Rattle.om_process.proofs.RowLemmas.{gapless_at, replayed_interval, replayed_more, rows_from, rows_long, rows_parted, spelled_more, taken_long}
@@ -29,9 +29,9 @@ returns-in_err-repeat-clause-refused c =
     let same : c.from_residual.result ≡ Err c.in_err-repeat.field-0.0 = search rules in
     let found = c.args.found.now.items in
     let refused = subst (λ n. RefusesRow c.args.self.now.own n c.loop-y.self.now (c.loop-y-item.result.0, c.loop-y-item.result.1.items) c.in_err-repeat.field-0.0) c.loop-y.invariant.size
-    (subst (λ o. RefusesRow o (size_of c.loop-y.self.now) c.loop-y.self.now (c.loop-y-item.result.0, c.loop-y-item.result.1.items) c.in_err-repeat.field-0.0) own
-    (subst (λ bs. RefusesRow c.loop-y.self.own (size_of c.loop-y.self.now) c.loop-y.self.now (c.loop-y-item.result.0, bs) c.in_err-repeat.field-0.0) c.deref.ensures.value c.in_err-repeat.ensures.refused)) in
-    subst (λ r. IfErr r (λ fault. RefusesRows c.args.self.now.own (size_of c.args.self.now.now) c.args.self.now.now (rows_of found) fault)) (sym same) (
+    (subst (λ o. RefusesRow o (cluster_size c.loop-y.self.now) c.loop-y.self.now (c.loop-y-item.result.0, c.loop-y-item.result.1.items) c.in_err-repeat.field-0.0) own
+    (subst (λ bs. RefusesRow c.loop-y.self.own (cluster_size c.loop-y.self.now) c.loop-y.self.now (c.loop-y-item.result.0, bs) c.in_err-repeat.field-0.0) c.deref.ensures.value c.in_err-repeat.ensures.refused)) in
+    subst (λ r. IfErr r (λ fault. RefusesRows c.args.self.now.own (cluster_size c.args.self.now.now) c.args.self.now.now (rows_of found) fault)) (sym same) (
       rows_of (take c.loop-y.y-index found),
       (c.loop-y-item.result.0, c.loop-y-item.result.1.items),
       rows_of (drop (c.loop-y.y-index + 1) found),
@@ -54,9 +54,9 @@ loop-y-preserved c =
       replayed = (
         before.0 ++ one.0 ∷ [],
         spelled_more c.args.found.now.items c.loop-y.y-index c.loop-y-item.result before.0 one.0 within here before.1 (subst (SpellsReceipt one.0) c.deref.ensures.value one.1) one.2,
-        replayed_more c.args.self.now.own (size_of c.args.self.now.now) before.0 c.args.self.now.now c.loop-y.self.now c.repeat.new.self.now one.0 before.2
+        replayed_more c.args.self.now.own (cluster_size c.args.self.now.now) before.0 c.args.self.now.now c.loop-y.self.now c.repeat.new.self.now one.0 before.2
             (subst (λ n. Replayed c.args.self.now.own n c.loop-y.self.now (one.0 ∷ []) c.repeat.new.self.now) c.loop-y.invariant.size
-            (subst (λ o. Replayed o (size_of c.loop-y.self.now) c.loop-y.self.now (one.0 ∷ []) c.repeat.new.self.now) own one.3)),
+            (subst (λ o. Replayed o (cluster_size c.loop-y.self.now) c.loop-y.self.now (one.0 ∷ []) c.repeat.new.self.now) own one.3)),
       );
       rest = c.in_ok-repeat.ensures.rest ∙ ap (λ s. with_now s c.repeat.new.self.now) c.loop-y.invariant.rest;
       size = c.in_ok-repeat.ensures.size ∙ c.loop-y.invariant.size;

@@ -1,6 +1,6 @@
 use Rattle.std.proofs.Common.{◌≡◌, ℕ, ◌+◌, ◌-◌, ◌++◌, ◌∷◌, [], rules, List, length, map, sym, ap, ◌∙◌, refl, arith}
 use Rattle.std.proofs.lemmas.List.{append_assoc, append-nil, length-append, nil_from_length}
-use Rattle.om_format.specs.declared.queue.Entry.{Entry}
+use Rattle.om_format.specs.declared.queue.QueueEntry.{QueueEntry}
 use Rattle.om_format.specs.Queues.{QueueRecord}
 use Rattle.om_process.specs.Kept.{sent_as, sent_entry}
 use Rattle.om_process.specs.declared.limits.TheConstants.{LAST_NUMBER}
@@ -32,7 +32,7 @@ returns c =
     let entries = ap (λ ks. map sent_entry ks) (c.of.ensures ∙ c.loop-entry.invariant.kept) ∙ numbered_entries sent_as sent_entry (c.args.stop - c.len.result) c.loop-entry.yielded (λ k e. refl) ∙ sym all in
     let counted : c.len.result ≡ length c.args.queue.entries.items = search rules in
     let first : c.args.stop - c.len.result ≡ c.args.queue.first = omega arith in
-    ap (λ (es : List Entry). let q : QueueRecord = record { first = c.args.stop - c.len.result; entries = es } in q) entries
+    ap (λ (es : List QueueEntry). let q : QueueRecord = record { first = c.args.stop - c.len.result; entries = es } in q) entries
     ∙ ap (λ (n : ℕ). let q : QueueRecord = record { first = n; entries = c.args.queue.entries.items } in q) first
 
 pub overflow_add-ssn : goal.overflow_add-ssn

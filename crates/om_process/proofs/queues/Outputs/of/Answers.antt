@@ -1,6 +1,6 @@
 use Rattle.std.proofs.Common.{◌≡◌, ◌+◌, ◌++◌, ◌∷◌, [], List, length, map, sym, ap, ◌∙◌, refl, arith}
 use Rattle.std.proofs.lemmas.List.{append_assoc, append-nil, length-append, nil_from_length}
-use Rattle.om_format.specs.declared.queue.Entry.{Entry}
+use Rattle.om_format.specs.declared.queue.QueueEntry.{QueueEntry}
 use Rattle.om_format.specs.Queues.{QueueRecord}
 use Rattle.om_process.specs.Kept.{made_as, made_entry}
 use Rattle.om_process.specs.declared.limits.TheConstants.{LAST_OUTPUT}
@@ -29,7 +29,7 @@ returns c =
     let none : c.loop-entry.entry-iterator.rest.items ≡ [] = nil_from_length _ (sym c.loop-entry.entry-iterator.rest.ok.0 ∙ c.in-None.ensures.steps.0) in
     let all : c.args.queue.entries.items ≡ c.loop-entry.yielded = c.loop-entry.invariant.rest ∙ ap (λ es. c.loop-entry.yielded ++ es) none ∙ append-nil c.loop-entry.yielded in
     let entries = ap (λ ks. map made_entry ks) (c.of.ensures ∙ c.loop-entry.invariant.kept) ∙ numbered_entries made_as made_entry c.args.queue.first c.loop-entry.yielded (λ k e. refl) ∙ sym all in
-    ap (λ (es : List Entry). let q : QueueRecord = record { first = c.args.queue.first; entries = es } in q) entries
+    ap (λ (es : List QueueEntry). let q : QueueRecord = record { first = c.args.queue.first; entries = es } in q) entries
 
 pub overflow_add-seq : goal.overflow_add-seq
 overflow_add-seq c =

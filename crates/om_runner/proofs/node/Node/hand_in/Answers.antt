@@ -1,7 +1,7 @@
 use Rattle.std.proofs.Common.{subst, sym}
 use Rattle.om_member.specs.Handed.{held_as}
 use Rattle.om_process.specs.Claims.{HasEntry}
-use Rattle.om_process.specs.Core.{CoreState, size_of}
+use Rattle.om_process.specs.Core.{CoreState, cluster_size}
 use Rattle.om_process.specs.Kept.{made_entry}
 use Rattle.om_runner.specs.steps.Nodes.{NodeState, TakesFrom}
 use Rattle.om_runner.proofs.OnWay.{node_output}
@@ -11,5 +11,5 @@ pub hand_in-requires-clause-taken : goal.hand_in-requires-clause-taken
 hand_in-requires-clause-taken g c =
     let taken = subst (λ (d : NodeState). TakesFrom g.O.Office.Takes g.S.Stable.is_clean d.member) (sym c.self.view_is) c.requires.taken in
     λ made has.
-    let kept = subst (λ (d : CoreState). HasEntry d.now.queues (size_of d.now) made.seq (made_entry made)) c.deref.ensures has in
+    let kept = subst (λ (d : CoreState). HasEntry d.now.queues (cluster_size d.now) made.seq (made_entry made)) c.deref.ensures has in
     taken made.seq (held_as made) (λ always. node_output _ _ _ _ _ c.self.inside.store.value made c.self.invariant (always c.self.inside.store.value) kept)

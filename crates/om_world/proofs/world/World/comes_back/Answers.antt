@@ -8,7 +8,7 @@ use Rattle.om_world.specs.steps.Members.{place_in}
 use Rattle.om_world.proofs.Lists.{length-map}
 use Rattle.om_world.proofs.Resuming.{due_in, no_news, world_beyond}
 use Rattle.om_world.proofs.Standing.{few, known, size_seen}
-use Rattle.om_manager.specs.State.{size_of}
+use Rattle.om_manager.specs.State.{process_count}
 use Rattle.om_world.proofs.world.World.comes_back.Goals as goal
 
 not_both : (b : Bool) → b ≡ false → b ≡ true → ⊥
@@ -68,7 +68,7 @@ pub at-requires : goal.at-requires
 at-requires g c = few _ _ _ _ c.args.p c.self.invariant c.self.view_is (subst (λ n. c.args.p < n) (size_seen _ _ _ _ c.self.view_is refl (c.len.ensures ∙ c.self.inside.images.ok.0)) c.if-p-len.false)
 
 pub verdict-requires : goal.verdict-requires
-verdict-requires g c = subst (λ q. q < size_of c.self.inside.manager) (sym c.at.ensures) (known _ _ _ _ c.args.p c.self.invariant c.self.view_is (subst (λ n. c.args.p < n) (size_seen _ _ _ _ c.self.view_is refl (c.len.ensures ∙ c.self.inside.images.ok.0)) c.if-p-len.false))
+verdict-requires g c = subst (λ q. q < process_count c.self.inside.manager) (sym c.at.ensures) (known _ _ _ _ c.args.p c.self.invariant c.self.view_is (subst (λ n. c.args.p < n) (size_seen _ _ _ _ c.self.view_is refl (c.len.ensures ∙ c.self.inside.images.ok.0)) c.if-p-len.false))
 
 pub returns-in-In-clause-there : goal.returns-in-In-clause-there
 returns-in-In-clause-there g c = subst (λ n. c.args.p < n) (size_seen _ _ _ _ c.self.view_is refl (c.len.ensures ∙ c.self.inside.images.ok.0)) c.if-p-len.false

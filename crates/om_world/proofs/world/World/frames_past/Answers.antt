@@ -1,6 +1,6 @@
 use Rattle.std.proofs.Common.{◌<◌, ◌≤◌, ◌∙◌, ℕ, length, subst, sym}
 use Rattle.std.specs.Prelude.{slice_index}
-use Rattle.om_process.specs.Core.{CoreState, size_of}
+use Rattle.om_process.specs.Core.{CoreState, cluster_size}
 use Rattle.om_process.specs.Frames.{messages_to}
 use Rattle.om_world.specs.World.{health_of}
 use Rattle.om_world.proofs.Lists.{lent_at, once}
@@ -15,7 +15,7 @@ pub frames_behind-requires : goal.frames_behind-requires
 frames_behind-requires g c =
     let at = lent_at _ c.args.p _ (core_here g.S.Stable.content (health_of g.S.Stable.is_clean g.S.Stable.failed) g.S.Stable.IsSound _ _ _ _ _ _ c.args.p _ _ c.self.view_is c.requires.1) c.index-member.ensures in
     let there = core_at g.S.Stable.content (health_of g.S.Stable.is_clean g.S.Stable.failed) g.S.Stable.IsSound _ _ _ _ _ _ c.args.p _ at _ c.in-Some.core.now c.self.view_is c.in-Some.ensures.some in
-    subst (λ (core : CoreState). (to : ℕ) → to < size_of core.now → slice_index c.args.few.now to ≤ length (messages_to core to).entries) (once _ _ (once _ _ (sym c.requires.1 ∙ there))) c.requires.2
+    subst (λ (core : CoreState). (to : ℕ) → to < cluster_size core.now → slice_index c.args.few.now to ≤ length (messages_to core to).entries) (once _ _ (once _ _ (sym c.requires.1 ∙ there))) c.requires.2
 
 pub returns-in-Some : goal.returns-in-Some
 returns-in-Some g c =

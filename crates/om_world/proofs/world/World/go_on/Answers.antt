@@ -1,5 +1,5 @@
 use Rattle.std.proofs.Common.{◌<◌, subst, sym}
-use Rattle.om_manager.specs.State.{size_of}
+use Rattle.om_manager.specs.State.{process_count}
 use Rattle.om_world.specs.World.{health_of}
 use Rattle.om_world.proofs.Lists.{lent_at}
 use Rattle.om_world.proofs.Rising.{after_go_on, gone_on, starts_fit}
@@ -11,7 +11,7 @@ pub at-requires : goal.at-requires
 at-requires g c = few _ _ _ _ c.args.p c.self.invariant c.self.view_is c.requires.there
 
 pub verdict-verdict-requires : goal.verdict-verdict-requires
-verdict-verdict-requires g c = subst (λ q. q < size_of c.self.inside.manager) (sym c.at.ensures) (known _ _ _ _ c.args.p c.self.invariant c.self.view_is c.requires.there)
+verdict-verdict-requires g c = subst (λ q. q < process_count c.self.inside.manager) (sym c.at.ensures) (known _ _ _ _ c.args.p c.self.invariant c.self.view_is c.requires.there)
 
 pub index_mut-member-requires : goal.index_mut-member-requires
 index_mut-member-requires g c = subst (λ n. c.args.p < n) (sym c.self.inside.members.ok.0) (here g.S.Stable.content (health_of g.S.Stable.is_clean g.S.Stable.failed) g.S.Stable.IsSound _ _ _ _ _ _ c.args.p _ c.self.invariant c.self.view_is c.requires.there)

@@ -1,5 +1,5 @@
 use Rattle.std.proofs.Common.{◌<◌, ◌∙◌, ap, subst, sym}
-use Rattle.om_manager.specs.State.{size_of}
+use Rattle.om_manager.specs.State.{process_count}
 use Rattle.om_world.specs.World.{health_of}
 use Rattle.om_world.specs.steps.Moves.{told_of}
 use Rattle.om_world.specs.steps.Running.{refusal_of_output}
@@ -16,7 +16,7 @@ pub index-member-requires : goal.index-member-requires
 index-member-requires g c = subst (λ n. c.args.p < n) (sym c.self.inside.members.ok.0) (up_here g.S.Stable.content (health_of g.S.Stable.is_clean g.S.Stable.failed) g.S.Stable.IsSound _ _ _ _ _ _ c.args.p _ c.self.view_is c.requires)
 
 pub hand_in-requires-clause-known : goal.hand_in-requires-clause-known
-hand_in-requires-clause-known g c = subst (λ q. q < size_of c.self.inside.manager) (sym c.at.ensures) (known _ _ _ _ c.args.p c.self.invariant c.self.view_is (there_at _ _ _ _ c.args.p c.self.invariant c.self.view_is _ c.requires))
+hand_in-requires-clause-known g c = subst (λ q. q < process_count c.self.inside.manager) (sym c.at.ensures) (known _ _ _ _ c.args.p c.self.invariant c.self.view_is (there_at _ _ _ _ c.args.p c.self.invariant c.self.view_is _ c.requires))
 
 pub hand_in-requires-clause-taken : goal.hand_in-requires-clause-taken
 hand_in-requires-clause-taken g c = λ core up made has. tt

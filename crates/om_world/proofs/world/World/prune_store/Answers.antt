@@ -1,6 +1,6 @@
 use Rattle.std.proofs.Common.{◌<◌, subst, sym}
 use Rattle.om_recover.specs.Cutting.{IsEffective}
-use Rattle.om_manager.specs.State.{size_of}
+use Rattle.om_manager.specs.State.{process_count}
 use Rattle.om_world.specs.World.{health_of, recovered}
 use Rattle.om_world.proofs.Acting.{after_prune, was_pruned}
 use Rattle.om_world.proofs.Lists.{lent_at}
@@ -15,7 +15,7 @@ pub at-requires : goal.at-requires
 at-requires g c = few _ _ _ _ c.args.p c.self.invariant c.self.view_is c.requires
 
 pub effective-requires : goal.effective-requires
-effective-requires g c = subst (λ q. q < size_of c.self.inside.manager) (sym c.at.ensures) (known _ _ _ _ c.args.p c.self.invariant c.self.view_is c.requires)
+effective-requires g c = subst (λ q. q < process_count c.self.inside.manager) (sym c.at.ensures) (known _ _ _ _ c.args.p c.self.invariant c.self.view_is c.requires)
 
 pub invariant_of-self : goal.invariant_of-self
 invariant_of-self g c =

@@ -1,7 +1,7 @@
 use Rattle.std.proofs.Common.{◌++◌, ◌∙◌, List, Some, ap, arith, length, replicate, subst, sym, ◌≡◌, Err, refl, rules}
 use Rattle.std.specs.Prelude.{slice_get, slice_index}
 use Rattle.om_format.specs.declared.message.Message.{Message}
-use Rattle.om_process.specs.Core.{size_of}
+use Rattle.om_process.specs.Core.{cluster_size}
 use Rattle.om_world.specs.Changes.{IsUp}
 use Rattle.om_world.specs.World.{WorldState}
 use Rattle.om_world.proofs.Resending.{after_frames, frames_stay, resent}
@@ -21,7 +21,7 @@ invariant_of-self g c = frames_stay _ _ _ _ c.self.invariant c.in_err-append.ens
 pub invariant_of-self-2 : goal.invariant_of-self-2
 invariant_of-self-2 g c =
     let core = c.in_ok-frames.ensures in
-    after_frames _ _ _ c.args.p core.0 (λ to. slice_index (replicate 16 0) to) (size_of core.0.now) c.append.new.self.items c.self.invariant (subst (λ (v : WorldState). IsUp v c.args.p) (sym c.self.view_is) c.in_ok-is_up.ensures.up) (subst (λ (v : WorldState). slice_get v.cores c.args.p ≡ Some (Some core.0)) (sym c.self.view_is) core.1)
+    after_frames _ _ _ c.args.p core.0 (λ to. slice_index (replicate 16 0) to) (cluster_size core.0.now) c.append.new.self.items c.self.invariant (subst (λ (v : WorldState). IsUp v c.args.p) (sym c.self.view_is) c.in_ok-is_up.ensures.up) (subst (λ (v : WorldState). slice_get v.cores c.args.p ≡ Some (Some core.0)) (sym c.self.view_is) core.1)
     (c.in_ok-append.ensures.items ∙ ap (λ (l : List Message). c.self.inside.frames.items ++ l) core.2)
 
 pub returns-in_err-is_up-clause-happened : goal.returns-in_err-is_up-clause-happened
@@ -54,5 +54,5 @@ returns-clause-keeps g c = keeps_seen _ _ _ c.self.view_is refl refl refl
 pub returns-clause-happened : goal.returns-clause-happened
 returns-clause-happened g c =
     let f = c.in_ok-frames.ensures in
-    let is = f.2 ∙ messages_same f.0 (λ to. slice_index (replicate 16 0) to) (λ to. 0) (size_of f.0.now) (zero_at 16) in
+    let is = f.2 ∙ messages_same f.0 (λ to. slice_index (replicate 16 0) to) (λ to. 0) (cluster_size f.0.now) (zero_at 16) in
     (c.in_ok-is_up.ensures.up, f.0, f.1, c.len-count.ensures ∙ c.in_ok-frames.frames.ok.0 ∙ ap length is, resent _ _ _ _ _ c.self.view_is c.in_ok-append.ensures.items is)

@@ -1,6 +1,6 @@
 use Rattle.std.proofs.Common.{◌≡◌, ◌<◌, ◌∙◌, ap, length, set, subst, sym, Err, Some, refl, rules}
 use Rattle.om_manager.specs.Bounds.{AreGotFrom}
-use Rattle.om_manager.specs.State.{released_by, size_of}
+use Rattle.om_manager.specs.State.{process_count, released_by}
 use Rattle.om_world.specs.World.{WorldState, health_of}
 use Rattle.om_world.specs.steps.Moves.{trimmed_core}
 use Rattle.om_world.proofs.Acting.{after_trimmed, bounds_fit, has_trimmed}
@@ -67,7 +67,7 @@ pub at-requires : goal.at-requires
 at-requires g c = few _ _ _ _ c.args.p c.self.invariant c.self.view_is c.in_ok-is_up.ensures.there
 
 pub bounds-bounds-requires : goal.bounds-bounds-requires
-bounds-bounds-requires g c = subst (λ q. q < size_of c.self.inside.manager) (sym c.at.ensures) (known _ _ _ _ c.args.p c.self.invariant c.self.view_is c.in_ok-is_up.ensures.there)
+bounds-bounds-requires g c = subst (λ q. q < process_count c.self.inside.manager) (sym c.at.ensures) (known _ _ _ _ c.args.p c.self.invariant c.self.view_is c.in_ok-is_up.ensures.there)
 
 pub returns-clause-keeps : goal.returns-clause-keeps
 returns-clause-keeps g c =
