@@ -3,20 +3,12 @@ use Rattle.std.specs.Prelude.{◌≡◌, ℕ, List, Some, length, map, slice_get
 use Rattle.om_process.specs.Kept.{queue_at}
 use Rattle.om_process.specs.Process.{Process, Program, Received, made}
 use Rattle.om_process.specs.Turns.{Reaches, next_move}
-use Rattle.om_process.specs.Core.{status_of}
+use Rattle.om_process.specs.Core.{IsEnd, status_of}
 use Rattle.om_process.specs.declared.status.Status.{Status}
-use Rattle.om_process.specs.declared.status.Status.TheVariants.{Ready, Waiting, Ended, Trapped}
 use Rattle.om_manager.specs.Outputs.{HeldOutput}
 use Rattle.om_world.specs.declared.entry.Entry.{Entry}
 use Rattle.om_world.specs.Live.{Legal, received}
 use Rattle.om_world.specs.World.{output_entry}
-
--- the process has come to an end
-abbrev pub IsEnd : Status → Type 0
-IsEnd (Ended code) = Unit {0}
-IsEnd (Trapped cause) = Unit {0}
-IsEnd Ready = ⊥
-IsEnd Waiting = ⊥
 
 -- by these receipts process `own` of n comes to an end with this status, and has put out exactly this
 pub record ComesTo (program : Program) (own n : ℕ) (h : List Received) (outputs : List HeldOutput) (status : Status) : Type 0 where
@@ -34,7 +26,3 @@ pub record IsRunBy (programs : List Program) (live : List Entry) (outputs : List
   pub each : (p : ℕ) (program : Program) (out : List HeldOutput) (status : Status)
       → slice_get programs p ≡ Some program → slice_get outputs p ≡ Some out → slice_get statuses p ≡ Some status
       → ComesTo program p (length programs) (received p live) out status
-
--- the same in some run without failures
-abbrev pub IsFailureFree : List Program → List (List HeldOutput) → List Status → Type 0
-IsFailureFree programs outputs statuses = (live : List Entry) × IsRunBy programs live outputs statuses

@@ -1,2 +1,3 @@
 pub mod FailureFree
 pub mod Whole
+pub mod steps

@@ -18,10 +18,6 @@ pub record IsUnderWay (programs : List Program) (w : WorldState) : Type 0 where
   pub holds : Holds w
   pub managed : process_count w.manager ≡ length programs
 
--- so is the one world where the other was
-abbrev pub StaysUnderWay : WorldState → WorldState → Type 0
-StaysUnderWay old new = (programs : List Program) → IsUnderWay programs old → IsUnderWay programs new
-
 -- the process has come to an end, and all that it put out is released
 abbrev pub IsDone : WorldState → ℕ → Type 0
 IsDone w p = (c : CoreState) × (slice_get w.cores p ≡ Some (Some c)) × (c.own ≡ p) × (cluster_size c.now ≡ length w.programs)

@@ -1,7 +1,7 @@
 //! The events of a run without failures, each by itself.
 
 ghost use Rattle.std.specs.Prelude.{OnOk};
-ghost use Rattle.om_check.specs.Whole.{StaysUnderWay};
+ghost use Rattle.om_check.specs.steps.Playing.{StaysUnderWay};
 
 use crate::fault::PlayFault;
 use om_interval::Pid;

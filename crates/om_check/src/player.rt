@@ -2,7 +2,7 @@
 
 ghost use Rattle.std.specs.Prelude.{◌≡◌, ◌≤◌, OnOk};
 ghost use Rattle.om_interval.specs.declared.pid.TheConstants.{MAX_PROCESSES};
-ghost use Rattle.om_check.specs.Whole.{StaysUnderWay};
+ghost use Rattle.om_check.specs.steps.Playing.{StaysUnderWay};
 
 use crate::events::{checkpoint, flush, give, prune, run, trim};
 use crate::fault::PlayFault;

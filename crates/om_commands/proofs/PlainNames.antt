@@ -5,7 +5,7 @@ use Rattle.std.specs.Str.{bytes_eq}
 use Rattle.om_interval.specs.declared.pid.TheConstants.{MAX_PROCESSES}
 use Rattle.om_isa.specs.declared.ext.Ext.{Ext}
 use Rattle.om_isa.specs.declared.ext.Ext.TheVariants.{I, Im}
-use Rattle.om_format.specs.Checkpoints.{is_memory_size}
+use Rattle.om_isa.specs.Memory.{is_memory_size}
 use Rattle.om_text.specs.Lines.{lines_of}
 use Rattle.om_text.specs.Numbers.{number_of}
 use Rattle.om_text.specs.Reading.{◌>>=◌, or_error, refused}

@@ -8,14 +8,13 @@ use Rattle.std.proofs.lemmas.Option.{none-some}
 use Rattle.std.proofs.lemmas.List.{get_or-map}
 use Rattle.std.proofs.lemmas.List.Elements.{All-map}
 use Rattle.om_stable.specs.Count.{Rose}
-use Rattle.om_machine.specs.State.{IsSize}
+use Rattle.om_isa.specs.Memory.{IsMemorySize, is_memory_size}
 use Rattle.om_manager.specs.Outputs.{held_of}
 use Rattle.om_manager.specs.declared.output_log.Output.{Output}
-use Rattle.om_format.specs.Checkpoints.{is_memory_size}
 use Rattle.om_process.specs.Process.{Program}
 use Rattle.om_process.specs.declared.start.StartFault.{StartFault}
 use Rattle.om_process.specs.declared.start.StartFault.TheVariants.{BadPlace, BadSize, ImageTooLong, Present, Fault, Memory}
-use Rattle.om_scripts.specs.Programs.{Cluster, IsProgram, programs_of}
+use Rattle.om_scripts.specs.Programs.{Cluster, IsProgram, LacksProcesses, programs_of}
 use Rattle.om_stable.specs.Content.{Content}
 use Rattle.om_world.proofs.Beginning.{all_at}
 use Rattle.om_world.specs.Started.{IsRefusedAt, IsWhy}
@@ -23,8 +22,8 @@ use Rattle.om_world.specs.Played.{IsFaultless, Played}
 use Rattle.om_world.specs.World.{WorldState, IsEmpty, IsKnown}
 use Rattle.om_world.specs.declared.event.Answer.{Answer}
 use Rattle.om_world.specs.declared.event.Event.{Event}
-use Rattle.om_commands.specs.Command.{IsErrorOf, IsScript}
-use Rattle.om_commands.specs.Sim.{IsBegun, IsPlayed, IsSim, IsSimAnswer, LacksProcesses}
+use Rattle.om_commands.specs.Command.{IsScript}
+use Rattle.om_commands.specs.Sim.{IsBegun, IsErrorOfSim, IsPlayed, IsSim, IsSimAnswer}
 use Rattle.om_commands.specs.SimScript.{EventScript, event_script_line, no_events}
 use Rattle.om_commands.specs.SimText.{answers_text, bytes_at, end_text}
 use Rattle.om_commands.specs.declared.error.CommandError.{CommandError}
@@ -41,7 +40,7 @@ both : (a b : Bool) → (a && b) ≡ true → (a ≡ true) × (b ≡ true)
 both true b h = (refl, h)
 both false b h = cc
 
-is_size : (size : ℕ) → is_memory_size size ≡ true → IsSize size
+is_size : (size : ℕ) → is_memory_size size ≡ true → IsMemorySize size
 is_size size h =
     let outer = both (nat_le 4 size && nat_le size 65536) (size % 4 == 0) h in
     let inner = both (nat_le 4 size) (nat_le size 65536) outer.0 in
@@ -117,16 +116,16 @@ text_of_answer spelled (Some bytes) start script (Err e) is read answer = tt
 
 -- the error of a script is that of the bytes that it is read from
 of_script : (bytes : List ℕ) (script : EventScript) (error : CommandError) → IsScript event_script_line no_events bytes script
-    → (error ≡ NoMemory) ⊎ ((error ≡ EmptyScript) × LacksProcesses script) → IsErrorOf event_script_line no_events LacksProcesses bytes error
+    → (error ≡ NoMemory) ⊎ ((error ≡ EmptyScript) × LacksProcesses script.cluster) → IsErrorOfSim bytes error
 of_script bytes script error read told = ⊎_elim
-    (λ memory. subst (IsErrorOf event_script_line no_events LacksProcesses bytes) (sym memory) tt)
-    (λ none. subst (IsErrorOf event_script_line no_events LacksProcesses bytes) (sym none.0) (record { script = script; is_script = read; is_empty = none.1 }))
+    (λ memory. subst (IsErrorOfSim bytes) (sym memory) tt)
+    (λ none. subst (IsErrorOfSim bytes) (sym none.0) (record { script = script; is_script = read; is_empty = none.1 }))
     told
 
 pub error_of_answer : {A : Type 0} (remaining : Option (List ℕ)) (start script : EventScript) (r : Result A CommandError) → start ≡ no_events
     → IfSome remaining (λ bytes. IsScript event_script_line start bytes script)
-    → IfErr r (λ error. (error ≡ NoMemory) ⊎ ((error ≡ EmptyScript) × LacksProcesses script))
-    → IfSome remaining (λ bytes. IfErr r (IsErrorOf event_script_line no_events LacksProcesses bytes))
+    → IfErr r (λ error. (error ≡ NoMemory) ⊎ ((error ≡ EmptyScript) × LacksProcesses script.cluster))
+    → IfSome remaining (λ bytes. IfErr r (IsErrorOfSim bytes))
 error_of_answer None start script r is read error = tt
 error_of_answer (Some bytes) start script (Ok x) is read error = tt
 error_of_answer (Some bytes) start script (Err e) is read error =

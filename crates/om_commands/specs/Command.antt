@@ -34,30 +34,9 @@ IsErrorOf meaning start IsEmpty bytes errors.NoMemory = Unit {0}
 IsErrorOf meaning start IsEmpty bytes errors.EmptyScript = IsEmptyScript meaning start IsEmpty bytes
 IsErrorOf meaning start IsEmpty bytes (errors.Script error) =
     (length bytes ≤ MAX_BYTES) × (script_of meaning start bytes ≡ Err error)
-IsErrorOf meaning start IsEmpty bytes errors.NoCheckpoint = ⊥
-IsErrorOf meaning start IsEmpty bytes (errors.Damaged y) = ⊥
-IsErrorOf meaning start IsEmpty bytes (errors.MissingReceipt y) = ⊥
-IsErrorOf meaning start IsEmpty bytes (errors.Mismatch y) = ⊥
-IsErrorOf meaning start IsEmpty bytes errors.StoreFault = ⊥
-IsErrorOf meaning start IsEmpty bytes errors.OutOfTurns = ⊥
-IsErrorOf meaning start IsEmpty bytes errors.GateShut = ⊥
-IsErrorOf meaning start IsEmpty bytes errors.NoThread = ⊥
-IsErrorOf meaning start IsEmpty bytes errors.Unlike = ⊥
+IsErrorOf meaning start IsEmpty bytes _ = ⊥
 
 -- no error but a writer's leaves anything written
 abbrev pub IsSilent : CommandError → Type 0 → Type 0
 IsSilent errors.CannotWrite kept = Unit {0}
-IsSilent errors.TooLong kept = kept
-IsSilent errors.CannotRead kept = kept
-IsSilent errors.NoMemory kept = kept
-IsSilent errors.EmptyScript kept = kept
-IsSilent (errors.Script error) kept = kept
-IsSilent errors.NoCheckpoint kept = kept
-IsSilent (errors.Damaged y) kept = kept
-IsSilent (errors.MissingReceipt y) kept = kept
-IsSilent (errors.Mismatch y) kept = kept
-IsSilent errors.StoreFault kept = kept
-IsSilent errors.OutOfTurns kept = kept
-IsSilent errors.GateShut kept = kept
-IsSilent errors.NoThread kept = kept
-IsSilent errors.Unlike kept = kept
+IsSilent _ kept = kept

@@ -23,29 +23,11 @@ IsReplayError held x (errors.Mismatch y) = Refuses Anyone held x (replaying.Mism
 IsReplayError held x errors.StoreFault = Unit {0}
 IsReplayError held x errors.NoMemory = Unit {0}
 IsReplayError held x errors.CannotWrite = CanReplay Anyone held x
-IsReplayError held x errors.CannotRead = ⊥
-IsReplayError held x errors.TooLong = ⊥
-IsReplayError held x errors.EmptyScript = ⊥
-IsReplayError held x (errors.Script error) = ⊥
-IsReplayError held x errors.OutOfTurns = ⊥
-IsReplayError held x errors.GateShut = ⊥
-IsReplayError held x errors.NoThread = ⊥
-IsReplayError held x errors.Unlike = ⊥
+IsReplayError held x _ = ⊥
 
 -- the errors that the content does not tell
 abbrev pub IsNoMatterOfContent : CommandError → Type 0
 IsNoMatterOfContent errors.StoreFault = Unit {0}
 IsNoMatterOfContent errors.NoMemory = Unit {0}
 IsNoMatterOfContent errors.CannotWrite = Unit {0}
-IsNoMatterOfContent errors.NoCheckpoint = ⊥
-IsNoMatterOfContent (errors.Damaged y) = ⊥
-IsNoMatterOfContent (errors.MissingReceipt y) = ⊥
-IsNoMatterOfContent (errors.Mismatch y) = ⊥
-IsNoMatterOfContent errors.CannotRead = ⊥
-IsNoMatterOfContent errors.TooLong = ⊥
-IsNoMatterOfContent errors.EmptyScript = ⊥
-IsNoMatterOfContent (errors.Script error) = ⊥
-IsNoMatterOfContent errors.OutOfTurns = ⊥
-IsNoMatterOfContent errors.GateShut = ⊥
-IsNoMatterOfContent errors.NoThread = ⊥
-IsNoMatterOfContent errors.Unlike = ⊥
+IsNoMatterOfContent _ = ⊥

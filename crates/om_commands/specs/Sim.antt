@@ -1,19 +1,20 @@
 -- What the command `sim` answers to the bytes of its input.
 use Rattle.std.specs.Prelude.{◌≡◌, ℕ, List, ◌++◌, All, length}
 use Rattle.om_process.specs.Process.{Program}
-use Rattle.om_scripts.specs.Programs.{programs_of}
+use Rattle.om_scripts.specs.Programs.{LacksProcesses, programs_of}
 use Rattle.om_world.specs.Played.{IsFaultless, Played}
 use Rattle.om_world.specs.Holds.{Holds}
 use Rattle.om_world.specs.Started.{IsStarted}
 use Rattle.om_world.specs.World.{WorldState, IsKnown}
 use Rattle.om_world.specs.declared.event.Answer.{Answer}
-use Rattle.om_commands.specs.Command.{IsScript}
+use Rattle.om_commands.specs.Command.{IsErrorOf, IsScript}
 use Rattle.om_commands.specs.SimScript.{EventScript, event_script_line, no_events}
 use Rattle.om_commands.specs.SimText.{answers_text, end_text}
+use Rattle.om_commands.specs.declared.error.CommandError.{CommandError}
 
--- a script without a process is empty
-abbrev pub LacksProcesses : EventScript → Type 0
-LacksProcesses script = length script.cluster.processes ≡ 0
+-- the error is that of these bytes, where a script without a process is empty
+abbrev pub IsErrorOfSim : List ℕ → CommandError → Type 0
+IsErrorOfSim bytes error = IsErrorOf event_script_line no_events (λ script. LacksProcesses script.cluster) bytes error
 
 -- a world of these programs at its start, over stores that held nothing
 pub record IsBegun (programs : List Program) (w : WorldState) : Type 0 where

@@ -4,13 +4,14 @@ ghost use Rattle.std.specs.Prelude.{◌≡◌, ◌≤◌, ◌⊎◌, ◌∷◌, 
 ghost use Rattle.std.specs.Io.KnownBytes.{Appends, Keeps};
 ghost use Rattle.om_world.specs.Played.{Played};
 ghost use Rattle.om_world.specs.World.{IsKnown};
+ghost use Rattle.om_scripts.specs.Programs.{LacksProcesses};
 ghost use Rattle.om_commands.specs.Command.{IsErrorOf, IsScript, IsSilent};
 ghost use Rattle.om_picture.specs.Drawing.{IsSketchOf, sketch_of};
 ghost use Rattle.om_picture.specs.Reading.{newly_handed};
 ghost use Rattle.om_picture.specs.declared.column.TheConstants.{MOST_COLUMNS};
 ghost use Rattle.om_text.specs.declared.text.TheConstants.{MAX_BYTES};
 ghost use Rattle.om_commands.specs.Draw.{AreDrawn, IsDrawn, IsPictureOf, IsPlayedPicture, count_within, event_lines};
-ghost use Rattle.om_commands.specs.Sim.{LacksProcesses};
+ghost use Rattle.om_commands.specs.Sim.{IsErrorOfSim};
 ghost use Rattle.om_commands.specs.SimScript.{event_script_line, no_events};
 
 use crate::command::write_answer;
@@ -46,7 +47,7 @@ pub fn draw<R: Read, W: Write>(
     ensures text { IfSome (R.remaining reader.old) (λ bytes. OnOk result ((text : List ℕ) × IsDrawn window.from window.to bytes text
         × Appends (W.contents writer.old) (W.contents writer.new) text)) }
     ensures error { IfSome (R.remaining reader.old) (λ bytes.
-        IfErr result (IsErrorOf event_script_line no_events LacksProcesses bytes)) }
+        IfErr result (IsErrorOfSim bytes)) }
     ensures silent { IfErr result (λ error. IsSilent error (Keeps (W.contents writer.old) (W.contents writer.new))) }
 {
     let text = picture_of(alloc, reader, window)?;
@@ -61,7 +62,7 @@ fn picture_of<R: Read>(
 ) -> Result<String, CommandError>
     ensures text { IfSome (R.remaining reader.old) (λ bytes. IfOk result (λ text. IsDrawn window.from window.to bytes (string_bytes text))) }
     ensures error { IfSome (R.remaining reader.old) (λ bytes.
-        IfErr result (IsErrorOf event_script_line no_events LacksProcesses bytes)) }
+        IfErr result (IsErrorOfSim bytes)) }
 {
     let input = read_events(alloc, reader)?;
     let lines = event_lines(alloc, &input)?;
@@ -116,7 +117,7 @@ fn draw_script(
     requires { count ≤ MOST_COLUMNS }
     ensures text { IfOk result (λ text. IsPictureOf script.now lines.now from count (string_bytes text)) }
     ensures error { IfErr result (λ error. (error ≡ CommandError.NoMemory)
-        ⊎ ((error ≡ CommandError.EmptyScript) × LacksProcesses script.now)) }
+        ⊎ ((error ≡ CommandError.EmptyScript) × LacksProcesses script.now.cluster)) }
 {
     let programs = script.programs();
     if programs.n() == 0 {

@@ -1,10 +1,9 @@
 //! The command `frontier`: the recovery state after each note of a record script.
 
-ghost use Rattle.std.specs.Prelude.{◌≡◌, ◌⊎◌, ℕ, List, IfSome, IfOk, IfErr, OnOk, string_bytes};
+ghost use Rattle.std.specs.Prelude.{◌≡◌, ◌⊎◌, ℕ, List, None, IfSome, IfOk, IfErr, OnOk, string_bytes};
 ghost use Rattle.std.specs.Io.KnownBytes.{Appends, Keeps};
-ghost use Rattle.om_commands.specs.Command.{IsErrorOf, IsSilent};
-ghost use Rattle.om_commands.specs.Frontier.{IsFrontier, IsFrontierAnswer, LacksProcesses};
-ghost use Rattle.om_commands.specs.RecordScript.{no_records, record_script_line};
+ghost use Rattle.om_commands.specs.Command.{IsSilent};
+ghost use Rattle.om_commands.specs.Frontier.{IsErrorOfFrontier, IsFrontier, IsFrontierAnswer};
 
 use crate::command::write_answer;
 use crate::error::CommandError;
@@ -23,7 +22,7 @@ pub fn frontier<R: Read, W: Write>(
     ensures text { IfSome (R.remaining reader.old) (λ bytes. OnOk result ((text : List ℕ) × IsFrontier bytes text
         × Appends (W.contents writer.old) (W.contents writer.new) text)) }
     ensures error { IfSome (R.remaining reader.old) (λ bytes.
-        IfErr result (IsErrorOf record_script_line no_records LacksProcesses bytes)) }
+        IfErr result (IsErrorOfFrontier bytes)) }
     ensures silent { IfErr result (λ error. IsSilent error (Keeps (W.contents writer.old) (W.contents writer.new))) }
 {
     // The script's bytes are kept to the end: once so large a block is freed, the allocator grows others by copies.
@@ -37,7 +36,7 @@ pub fn frontier<R: Read, W: Write>(
 fn answer(alloc: Global, script: &RecordScript) -> Result<String, CommandError>
     ensures text { IfOk result (λ text. IsFrontierAnswer script.now (string_bytes text)) }
     ensures error { IfErr result (λ error. (error ≡ CommandError.NoMemory)
-        ⊎ ((error ≡ CommandError.EmptyScript) × LacksProcesses script.now)) }
+        ⊎ ((error ≡ CommandError.EmptyScript) × (script.now.processes ≡ None))) }
 {
     let Some(n) = script.processes() else {
         return Err(CommandError::EmptyScript);

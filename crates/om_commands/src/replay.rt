@@ -1,9 +1,8 @@
 //! The command `replay`: the state of a process in an interval, from what its store holds.
 
-ghost use Rattle.std.specs.Prelude.{◌≡◌, ◌≤◌, ℕ, List, IsTrue, IfOk, IfErr, OnOk, IsErrOf, Err, ◌≢◌, string_bytes};
+ghost use Rattle.std.specs.Prelude.{◌≡◌, ℕ, List, IfOk, IfErr, OnOk, IsErrOf, Err, ◌≢◌, string_bytes};
 ghost use Rattle.std.specs.Io.KnownBytes.{Appends, Keeps};
-ghost use Rattle.om_stable.specs.Calls.{IsCleanCall};
-ghost use Rattle.om_stable.specs.Count.{Rose};
+ghost use Rattle.om_stable.specs.Calls.{IsCleanCall, UsesStore};
 ghost use Rattle.om_process.specs.Stored.{Anyone, CanReplay};
 ghost use Rattle.om_commands.specs.Command.{IsSilent};
 ghost use Rattle.om_commands.specs.Replay.{IsNoMatterOfContent, IsReplayError, IsReplayText};
@@ -34,10 +33,7 @@ pub fn replay<S: Stable, W: Write>(
         → IfErr result IsNoMatterOfContent }
     ensures silent { IfErr result (λ error. IsSilent error (Keeps (W.contents writer.old) (W.contents writer.new))) }
     ensures same { IsCleanCall S.is_clean S.IsSound store.old store.new → S.content store.new ≡ S.content store.old }
-    ensures fault { IsErrOf result CommandError.StoreFault → Rose (S.failed store.old) (S.failed store.new) }
-    ensures count { S.failed store.old ≤ S.failed store.new }
-    ensures clean { IsTrue (S.is_clean store.new) → IsTrue (S.is_clean store.old) }
-    ensures sound { IsTrue (S.is_clean store.new) → S.IsSound store.old → S.IsSound store.new }
+    ensures used { UsesStore S.failed S.is_clean S.IsSound store.old (IsErrOf result CommandError.StoreFault) store.new }
 {
     let text = replayed(alloc, store, interval)?;
     write_answer(writer, text.as_bytes())
@@ -53,10 +49,7 @@ fn replayed<S: Stable>(alloc: Global, store: &mut S, interval: u32) -> Result<St
         → IfErr result IsNoMatterOfContent }
     ensures silent { result ≢ Err CommandError.CannotWrite }
     ensures same { IsCleanCall S.is_clean S.IsSound store.old store.new → S.content store.new ≡ S.content store.old }
-    ensures fault { IsErrOf result CommandError.StoreFault → Rose (S.failed store.old) (S.failed store.new) }
-    ensures count { S.failed store.old ≤ S.failed store.new }
-    ensures clean { IsTrue (S.is_clean store.new) → IsTrue (S.is_clean store.old) }
-    ensures sound { IsTrue (S.is_clean store.new) → S.IsSound store.old → S.IsSound store.new }
+    ensures used { UsesStore S.failed S.is_clean S.IsSound store.old (IsErrOf result CommandError.StoreFault) store.new }
 {
     let core = ProcCore::replay(alloc, store, interval)?;
     Ok(state_text(alloc, &core)?)

@@ -1,10 +1,9 @@
 //! The command `show`: what a store holds, and to where it can be replayed.
 
-ghost use Rattle.std.specs.Prelude.{◌≡◌, ◌≤◌, ℕ, List, IsTrue, IfErr, OnOk, IsErrOf};
+ghost use Rattle.std.specs.Prelude.{◌≡◌, ℕ, List, IfErr, OnOk, IsErrOf};
 ghost use Rattle.std.specs.Io.KnownBytes.{Appends, Keeps};
 ghost use Rattle.om_look.specs.Show.{IsShown};
-ghost use Rattle.om_stable.specs.Calls.{IsCleanCall};
-ghost use Rattle.om_stable.specs.Count.{Rose};
+ghost use Rattle.om_stable.specs.Calls.{IsCleanCall, UsesStore};
 ghost use Rattle.om_commands.specs.Command.{IsSilent};
 ghost use Rattle.om_commands.specs.Replay.{IsNoMatterOfContent};
 ghost use Rattle.om_commands.specs.Show.{error_of_look};
@@ -30,10 +29,7 @@ pub fn show<S: Stable, W: Write>(
     ensures error { IfErr result IsNoMatterOfContent }
     ensures silent { IfErr result (λ error. IsSilent error (Keeps (W.contents writer.old) (W.contents writer.new))) }
     ensures same { IsCleanCall S.is_clean S.IsSound store.old store.new → S.content store.new ≡ S.content store.old }
-    ensures fault { IsErrOf result CommandError.StoreFault → Rose (S.failed store.old) (S.failed store.new) }
-    ensures count { S.failed store.old ≤ S.failed store.new }
-    ensures clean { IsTrue (S.is_clean store.new) → IsTrue (S.is_clean store.old) }
-    ensures sound { IsTrue (S.is_clean store.new) → S.IsSound store.old → S.IsSound store.new }
+    ensures used { UsesStore S.failed S.is_clean S.IsSound store.old (IsErrOf result CommandError.StoreFault) store.new }
 {
     let text = content_text(alloc, store)?;
     write_answer(writer, text.as_bytes())

@@ -6,12 +6,11 @@ ghost use Rattle.om_interval.specs.declared.pid.TheConstants.{MAX_PROCESSES};
 ghost use Rattle.om_manager.specs.State.{process_count};
 ghost use Rattle.om_process.specs.Images.{program_of};
 ghost use Rattle.om_process.specs.declared.start.StartFault.{StartFault};
-ghost use Rattle.om_scripts.specs.Programs.{IsProgram, programs_of};
+ghost use Rattle.om_scripts.specs.Programs.{IsProgram, LacksProcesses, programs_of};
 ghost use Rattle.om_world.specs.Played.{IsFaultless, Played};
 ghost use Rattle.om_world.specs.World.{IsEmpty, IsKnown};
-ghost use Rattle.om_commands.specs.Command.{IsErrorOf, IsSilent};
-ghost use Rattle.om_commands.specs.Sim.{IsBegun, IsPlayed, IsSim, IsSimAnswer, LacksProcesses};
-ghost use Rattle.om_commands.specs.SimScript.{event_script_line, no_events};
+ghost use Rattle.om_commands.specs.Command.{IsSilent};
+ghost use Rattle.om_commands.specs.Sim.{IsBegun, IsErrorOfSim, IsPlayed, IsSim, IsSimAnswer};
 
 use crate::command::{read_input, write_answer};
 use crate::error::CommandError;
@@ -34,7 +33,7 @@ pub fn sim<R: Read, W: Write>(
     ensures text { IfSome (R.remaining reader.old) (λ bytes. OnOk result ((text : List ℕ) × IsSim bytes text
         × Appends (W.contents writer.old) (W.contents writer.new) text)) }
     ensures error { IfSome (R.remaining reader.old) (λ bytes.
-        IfErr result (IsErrorOf event_script_line no_events LacksProcesses bytes)) }
+        IfErr result (IsErrorOfSim bytes)) }
     ensures silent { IfErr result (λ error. IsSilent error (Keeps (W.contents writer.old) (W.contents writer.new))) }
 {
     let text = answer_to(alloc, reader)?;
@@ -45,7 +44,7 @@ pub fn sim<R: Read, W: Write>(
 fn answer_to<R: Read>(alloc: Global, reader: &mut R) -> Result<String, CommandError>
     ensures text { IfSome (R.remaining reader.old) (λ bytes. IfOk result (λ text. IsSim bytes (string_bytes text))) }
     ensures error { IfSome (R.remaining reader.old) (λ bytes.
-        IfErr result (IsErrorOf event_script_line no_events LacksProcesses bytes)) }
+        IfErr result (IsErrorOfSim bytes)) }
 {
     let script = read_input(alloc, reader, SimScript::new(alloc))?;
     answer(alloc, &script)
@@ -55,7 +54,7 @@ fn answer_to<R: Read>(alloc: Global, reader: &mut R) -> Result<String, CommandEr
 fn answer(alloc: Global, script: &SimScript) -> Result<String, CommandError>
     ensures text { IfOk result (λ text. IsSimAnswer script.now (string_bytes text)) }
     ensures error { IfErr result (λ error. (error ≡ CommandError.NoMemory)
-        ⊎ ((error ≡ CommandError.EmptyScript) × LacksProcesses script.now)) }
+        ⊎ ((error ≡ CommandError.EmptyScript) × LacksProcesses script.now.cluster)) }
 {
     let programs = script.programs();
     if programs.n() == 0 {

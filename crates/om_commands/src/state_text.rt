@@ -1,7 +1,7 @@
 //! The text of a process as it stands in an interval.
 
 ghost use Rattle.std.specs.Prelude.{◌≡◌, ◌++◌, ◌∷◌, ◌≤◌, [], length, slice_index, IfOk, OnOk, string_bytes};
-ghost use Rattle.om_machine.specs.declared.limits.TheConstants.{MAX_SIZE};
+ghost use Rattle.om_isa.specs.declared.memory.TheConstants.{MAX_MEMORY};
 ghost use Rattle.om_commands.specs.Hex.{word_text};
 ghost use Rattle.om_commands.specs.StateText.{head_text, memory_line, memory_text, register_line, registers_text, state_text, status_text};
 
@@ -76,7 +76,7 @@ fn push_register(alloc: Global, text: &mut String, r: usize, value: u32) -> Resu
 
 // Writes the memory in lines.
 fn push_memory(alloc: Global, text: &mut String, memory: &[u8]) -> Result<(), AllocError>
-    requires size { length memory.now ≤ MAX_SIZE }
+    requires size { length memory.now ≤ MAX_MEMORY }
     ensures { OnOk result (string_bytes text.new ≡ string_bytes text.old ++ memory_text memory.now) }
 {
     for row in 0..memory.len().div_ceil(ROW_BYTES) {
@@ -93,7 +93,7 @@ fn push_row(
     address: usize,
 ) -> Result<(), AllocError>
     requires within { address ≤ length memory.now }
-    requires size { length memory.now ≤ MAX_SIZE }
+    requires size { length memory.now ≤ MAX_MEMORY }
     ensures { OnOk result (string_bytes text.new ≡ string_bytes text.old ++ memory_line memory.now address) }
 {
     let end = memory.len().min(address + ROW_BYTES);

@@ -9,7 +9,8 @@ use Rattle.std.proofs.lemmas.Bool.{and_parts, and_from, leb-true, le-leb, lt-ltb
 use Rattle.std.proofs.lemmas.List.{append-nil, length-drop, length-take}
 use Rattle.om_interval.specs.declared.pid.TheConstants.{MAX_PROCESSES}
 use Rattle.om_format.specs.declared.queue.QueueEntry.{QueueEntry}
-use Rattle.om_format.specs.declared.limits.TheConstants.{MAX_MEMORY, MAX_BODY, PAGE}
+use Rattle.om_format.specs.declared.limits.TheConstants.{MAX_BODY, PAGE}
+use Rattle.om_isa.specs.declared.memory.TheConstants.{MAX_MEMORY}
 use Rattle.om_isa.specs.declared.registers.TheConstants.{WRITABLE_REGISTERS}
 use Rattle.om_isa.specs.declared.ext.Ext.{Ext}
 use Rattle.om_isa.specs.declared.ext.Ext.TheVariants.{I, Im}

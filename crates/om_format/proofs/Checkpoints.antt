@@ -10,6 +10,7 @@ use Rattle.om_format.specs.declared.checkpoint_reading.Front.{Front}
 use Rattle.om_format.specs.declared.head.Head.{Head}
 use Rattle.om_format.specs.declared.error.DecodeError.{DecodeError}
 use Rattle.om_format.specs.declared.error.DecodeError.TheVariants.{Field}
+use Rattle.om_format.specs.declared.offsets.TheConstants.{VECTOR}
 use Rattle.om_format.specs.declared.queue.QueueEntry.{QueueEntry}
 use Rattle.om_format.specs.declared.version.Version.{Version}
 use Rattle.om_format.specs.declared.version.Version.TheVariants.{V1, V2}
@@ -18,6 +19,7 @@ use Rattle.om_format.specs.Pages.{Page, page_count, kept_pages, page_values}
 use Rattle.om_format.specs.Queues.{QueueRecord, queue_end, entry_values, queue_values, queue, queues}
 use Rattle.om_format.specs.Versions.{kind_of, is_kind, ext_of, version_number, is_version, version_of, memory_in, before_memory, memory_values}
 use Rattle.om_format.specs.Checkpoints.{CheckpointRecord, front, checkpoint_format, checkpoint_values, checkpoint_fault, AreEnded, SpellsCheckpoint, IsSpelled, IsFrontRead, IsCheckpoint}
+use Rattle.om_format.specs.steps.Offsets.{got_offset, made_offset, memory_offset}
 use Rattle.om_format.specs.steps.Reading.{◌>>=◌, allow, number_at, fields_at, opening_at, end_at}
 use Rattle.om_format.specs.steps.CheckpointReading.{place_at, progress_at, vectors_at, made_at, front_at, before_memory_at, memory_at, rest_at, checkpoint_of, checkpoint_at}
 use Rattle.om_format.proofs.Numbers.{IsBytes}
@@ -61,20 +63,11 @@ same_number V2 V2 h = refl
 
 -- ---- fields
 
-at_vec : (n : ℕ) → 144 + n * 4 ≡ 144 + 4 * n
-at_vec n = omega arith
-
-at_got : (n : ℕ) → 144 + 4 * n + n * 4 ≡ 144 + 8 * n
+at_got : (n : ℕ) → VECTOR + n * 4 ≡ got_offset n
 at_got n = omega arith
 
-at_made : (n : ℕ) → 144 + 8 * n + n * 4 ≡ 144 + 12 * n
+at_made : (n : ℕ) → got_offset n + n * 4 + n * 4 ≡ made_offset n
 at_made n = omega arith
-
-at_size : (n : ℕ) → 144 + 12 * n + 8 ≡ 152 + 12 * n
-at_size n = omega arith
-
-at_memory : (n : ℕ) → 152 + 12 * n + 4 ≡ 156 + 12 * n
-at_memory n = omega arith
 
 -- the values of the fields before the memory
 abbrev front_values : Front → List (List ℕ)
@@ -82,17 +75,17 @@ front_values f =
     (kind_of f.head.ext ∷ []) ∷ (version_number f.version ∷ []) ∷ (f.n ∷ []) ∷ (f.head.pid ∷ []) ∷ (f.head.interval ∷ []) ∷ (f.head.count ∷ []) ∷ (f.head.pc ∷ []) ∷ f.head.regs ∷ f.head.vec ∷ f.head.got ∷ f.head.sent ∷ (f.head.made ∷ []) ∷ (f.size ∷ []) ∷ []
 
 front_is : (behind : Version → ℕ → List ℕ → ℕ → ℕ → Format) (bytes : List ℕ)
-    → fields_at (front behind) 0 bytes ≡ (front_at bytes >>= λ f. fields_at (behind f.0.version f.0.head.interval f.0.head.sent f.0.head.made f.0.size) (156 + 12 * f.0.n) f.1 >>= λ vs. Ok (front_values f.0 ++ vs))
+    → fields_at (front behind) 0 bytes ≡ (front_at bytes >>= λ f. fields_at (behind f.0.version f.0.head.interval f.0.head.sent f.0.head.made f.0.size) (memory_offset f.0.n) f.1 >>= λ vs. Ok (front_values f.0 ++ vs))
 unfolding front front_at place_at progress_at vectors_at made_at
 front_is behind bytes =
-    simp (opening_is, one_number, bind_assoc, at_vec, at_got, at_made, at_size, at_memory) (holding_same (λ x. (is_kind x.0 ≡ true) × (is_version x.1 ≡ true)) (opening_at is_kind is_version bytes) _ _ (opening_hold is_kind is_version bytes) (λ x h. rw (kind_again x.0 h.0, number_again x.1 h.1) refl))
+    simp (opening_is, one_number, bind_assoc, at_got, at_made) (holding_same (λ x. (is_kind x.0 ≡ true) × (is_version x.1 ≡ true)) (opening_at is_kind is_version bytes) _ _ (opening_hold is_kind is_version bytes) (λ x h. rw (kind_again x.0 h.0, number_again x.1 h.1) refl))
 
 rest_is : (f : Front) (bytes : List ℕ)
-    → (fields_at (memory_in f.version f.size (queues f.head.interval f.head.sent (queue eight f.head.interval f.head.made end))) (156 + 12 * f.n) bytes >>= λ vs. Ok (front_values f ++ vs))
+    → (fields_at (memory_in f.version f.size (queues f.head.interval f.head.sent (queue eight f.head.interval f.head.made end))) (memory_offset f.n) bytes >>= λ vs. Ok (front_values f ++ vs))
     ≡ (rest_at f bytes >>= λ r. Ok (checkpoint_values f.version (checkpoint_of f r.0 r.1 r.2)))
 unfolding rest_at
 rest_is f bytes =
-    simp (memory_is, queues_is, last_queue_is, bind_assoc) (holding_same (λ x. length x.0 ≡ f.size) (memory_at f.version f.size (156 + 12 * f.n) bytes) _ _ (memory_hold f.version f.size (156 + 12 * f.n) bytes) (λ x whole. rw whole refl))
+    simp (memory_is, queues_is, last_queue_is, bind_assoc) (holding_same (λ x. length x.0 ≡ f.size) (memory_at f.version f.size (memory_offset f.n) bytes) _ _ (memory_hold f.version f.size (memory_offset f.n) bytes) (λ x whole. rw whole refl))
 
 pub checkpoint_is : (bytes : List ℕ) → fields_at checkpoint_format 0 bytes ≡ (checkpoint_at bytes >>= λ r. Ok (checkpoint_values r.0 r.1))
 unfolding checkpoint_format checkpoint_at
@@ -115,18 +108,18 @@ before_read V2 size offset bytes x e =
     (a.0.1, (a.0.0 ∷ []) ∷ [], before_fields size offset bytes a.0 a.1 (allow_ok (nat_le a.0.0 (page_count size)) (Field offset) b.0 b.1))
 
 -- the fields before the bytes of the memory are read
-front_read_from : (bytes behind : List ℕ) (f : Front) (r : Result (ℕ × List ℕ) DecodeError) → front_at bytes ≡ Ok (f, behind) → before_memory_at f.version f.size (156 + 12 * f.n) behind ≡ r → IsOk r → IsFrontRead bytes
+front_read_from : (bytes behind : List ℕ) (f : Front) (r : Result (ℕ × List ℕ) DecodeError) → front_at bytes ≡ Ok (f, behind) → before_memory_at f.version f.size (memory_offset f.n) behind ≡ r → IsOk r → IsFrontRead bytes
 front_read_from bytes behind f (Err d) e g ok = absurd (false≢true ok)
 front_read_from bytes behind f (Ok x) e g ok =
-    let m = before_read f.version f.size (156 + 12 * f.n) behind x g in
+    let m = before_read f.version f.size (memory_offset f.n) behind x g in
     read_all (front (λ version interval sent made size. before_memory version size)) bytes m.0 (front_values f ++ m.1) (
     front_is (λ version interval sent made size. before_memory version size) bytes
-    ∙ ap (λ (r : Result (Front × List ℕ) DecodeError). r >>= λ g. fields_at (before_memory g.0.version g.0.size) (156 + 12 * g.0.n) g.1 >>= λ vs. Ok (front_values g.0 ++ vs)) e
+    ∙ ap (λ (r : Result (Front × List ℕ) DecodeError). r >>= λ g. fields_at (before_memory g.0.version g.0.size) (memory_offset g.0.n) g.1 >>= λ vs. Ok (front_values g.0 ++ vs)) e
     ∙ ap (λ (r : Result (List (List ℕ)) DecodeError). r >>= λ vs. Ok (front_values f ++ vs)) m.2
     ∙ bind_assoc (end_at m.0) _ _)
 
-pub front_read : (bytes behind : List ℕ) (f : Front) → front_at bytes ≡ Ok (f, behind) → IsOk (before_memory_at f.version f.size (156 + 12 * f.n) behind) → IsFrontRead bytes
-front_read bytes behind f e ok = front_read_from bytes behind f (before_memory_at f.version f.size (156 + 12 * f.n) behind) e refl ok
+pub front_read : (bytes behind : List ℕ) (f : Front) → front_at bytes ≡ Ok (f, behind) → IsOk (before_memory_at f.version f.size (memory_offset f.n) behind) → IsFrontRead bytes
+front_read bytes behind f e ok = front_read_from bytes behind f (before_memory_at f.version f.size (memory_offset f.n) behind) e refl ok
 
 -- ---- values that are the same
 

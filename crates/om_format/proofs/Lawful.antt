@@ -11,7 +11,9 @@ use Rattle.om_format.specs.declared.version.Version.TheVariants.{V1, V2}
 use Rattle.om_format.specs.Formats.{Size, one, two, four, eight, bytes_in, is_body_size}
 use Rattle.om_format.specs.Queues.{QueueRecord, queue_end, is_between, are_entries, all_entries}
 use Rattle.om_format.specs.Versions.{is_kind, is_version, version_of, is_cluster_size}
-use Rattle.om_format.specs.Checkpoints.{IsCheckpoint, is_memory_size}
+use Rattle.om_format.specs.Checkpoints.{IsCheckpoint}
+use Rattle.om_isa.specs.Memory.{is_memory_size}
+use Rattle.om_format.specs.steps.Offsets.{memory_offset}
 use Rattle.om_format.specs.steps.Reading.{number_at, numbers_at, opening_at, counted_at, end_at}
 use Rattle.om_format.specs.steps.CheckpointReading.{place_at, progress_at, vectors_at, made_at, front_at, memory_at, entry_at, entries_at, queue_at, queues_at, rest_at, checkpoint_of, checkpoint_at}
 use Rattle.om_format.proofs.Holding.{Holds, of_ok, then_holds, any_holds, allow_holds, numbers_hold, counted_hold}
@@ -140,7 +142,7 @@ rest_hold : (f : Front) (bytes : List ℕ) → Holds (λ x. FitsRest f x.0 x.1 x
 unfolding rest_at
 rest_hold f bytes =
     let P : List ℕ × List QueueRecord × QueueRecord → Type 0 = λ x. FitsRest f x.0 x.1 x.2 in
-    then_holds P (λ x. length x.0 ≡ f.size) (memory_at f.version f.size (156 + 12 * f.n) bytes) _ (memory_hold f.version f.size (156 + 12 * f.n) bytes) (λ memory size.
+    then_holds P (λ x. length x.0 ≡ f.size) (memory_at f.version f.size (memory_offset f.n) bytes) _ (memory_hold f.version f.size (memory_offset f.n) bytes) (λ memory size.
     then_holds P (λ x. (map queue_end x.0 ≡ f.head.sent) × (all_entries f.head.interval x.0 ≡ true)) (queues_at f.head.interval f.head.sent memory.1 memory.2) _ (queues_hold f.head.interval f.head.sent memory.1 memory.2) (λ kept k.
     then_holds P (λ x. (queue_end x.0 ≡ f.head.made) × (are_entries f.head.interval 0 x.0.entries ≡ true)) (queue_at eight f.head.interval f.head.made kept.1 kept.2) _ (queue_hold eight f.head.interval f.head.made kept.1 kept.2) (λ outputs o.
     any_holds P (end_at outputs.2) _ (λ ended. record { size = size; kept_end = k.0; messages = k.1; outputs_end = o.0; out = o.1 }))))

@@ -4,7 +4,7 @@ use Rattle.std.specs.List.{flat_map}
 use Rattle.om_format.specs.declared.head.Head.{Head}
 use Rattle.om_format.specs.declared.error.DecodeError.{DecodeError}
 use Rattle.om_format.specs.declared.error.DecodeError.TheVariants.{Field}
-use Rattle.om_format.specs.declared.limits.TheConstants.{MIN_MEMORY, MAX_MEMORY}
+use Rattle.om_isa.specs.Memory.{is_memory_size}
 use Rattle.om_isa.specs.declared.registers.TheConstants.{WRITABLE_REGISTERS}
 use Rattle.om_format.specs.declared.version.Version.{Version}
 use Rattle.om_format.specs.declared.version.Version.TheVariants.{V2}
@@ -21,10 +21,6 @@ pub record CheckpointRecord : Type 0 where
   pub memory : List ℕ
   pub kept : List QueueRecord
   pub outputs : QueueRecord
-
--- lengths of a memory
-abbrev pub is_memory_size : ℕ → Bool
-is_memory_size size = nat_le MIN_MEMORY size && nat_le size MAX_MEMORY && size % MIN_MEMORY == 0
 
 -- The fields of a checkpoint from the left, up to the size of its memory. What comes behind depends on the version, the
 -- interval, the numbers of messages sent and of outputs made, and that size.

@@ -1,14 +1,15 @@
 //! The fields of a checkpoint before its memory, from the left.
 
 ghost use Rattle.std.specs.Prelude.{◌≡◌, ◌+◌, ◌*◌, ◌<◌, ◌≤◌, ◌^◌, IfOk, length, sum, true};
-ghost use Rattle.om_format.specs.declared.limits.TheConstants.{MAX_MEMORY};
+ghost use Rattle.om_isa.specs.declared.memory.TheConstants.{MAX_MEMORY};
 ghost use Rattle.om_isa.specs.declared.registers.TheConstants.{WRITABLE_REGISTERS};
 ghost use Rattle.om_format.specs.Formats.{four};
-ghost use Rattle.om_format.specs.Checkpoints.{is_memory_size};
+ghost use Rattle.om_isa.specs.Memory.{is_memory_size};
 ghost use Rattle.om_format.specs.FirstFault.{values_at};
 ghost use Rattle.om_format.specs.Outcomes.{Tells};
 ghost use Rattle.om_format.specs.Versions.{is_kind, kind_of, is_version, version_number, is_cluster_size};
 ghost use Rattle.om_format.specs.steps.Reading.{numbers_at, opening_at};
+ghost use Rattle.om_format.specs.steps.Offsets.{memory_offset};
 ghost use Rattle.om_format.specs.steps.CheckpointReading.{place_at, progress_at, vectors_at, made_at, front_at};
 ghost use Rattle.om_interval.specs.declared.pid.TheConstants.{MAX_PROCESSES};
 
@@ -18,11 +19,11 @@ use crate::limits::{
     CHECKPOINT_KIND, CHECKPOINT_KIND_M, CHECKPOINT_VERSION_1, CHECKPOINT_VERSION_2,
     MAX_PROCESSES_OF_VERSION_1,
 };
-use crate::memory::MemoryBytes;
+use crate::offsets::{CLUSTER, COUNT, OWN, PC, VECTOR, got_offset, made_offset, size_offset};
 use crate::reading::{u8_at, u32_at, u64_at};
 use crate::version::Version;
 use om_interval::{DepVec, MAX_PROCESSES, Pid};
-use om_isa::{Ext, WRITABLE_REGISTERS};
+use om_isa::{Ext, WRITABLE_REGISTERS, is_memory_size};
 
 // The kind of a checkpoint, and its version.
 #[tactic(auto, unfolding(crate::specs::steps::Reading::opening_at))]
@@ -71,12 +72,12 @@ fn place_at(version: Version, bytes: &[u8]) -> Result<(usize, usize, &[u8]), Dec
     let (n, rest) = u8_at(bytes)?;
     let n = n as usize;
     if !is_cluster_size(version, n) {
-        return Err(DecodeError::Field(2));
+        return Err(DecodeError::Field(CLUSTER));
     }
     let (pid, rest) = u8_at(rest)?;
     let pid = pid as usize;
     if pid >= n {
-        return Err(DecodeError::Field(3));
+        return Err(DecodeError::Field(OWN));
     }
     Ok((n, pid, rest))
 }
@@ -90,11 +91,11 @@ fn progress_at(bytes: &[u8]) -> Result<(u32, u64, u32, &[u8]), DecodeError>
     let (interval, rest) = u32_at(bytes)?;
     let (count, rest) = u64_at(rest)?;
     if count < u64::from(interval) {
-        return Err(DecodeError::Field(8));
+        return Err(DecodeError::Field(COUNT));
     }
     let (pc, rest) = u32_at(rest)?;
     if pc % 4 != 0 {
-        return Err(DecodeError::Field(16));
+        return Err(DecodeError::Field(PC));
     }
     Ok((interval, count, pc, rest))
 }
@@ -178,12 +179,12 @@ fn vectors_at(
     let (front, rest) = words_at(n, bytes)?;
     let vec = vector_of(n, front);
     if vec.get(pid) != interval {
-        return Err(DecodeError::Field(144));
+        return Err(DecodeError::Field(VECTOR));
     }
     let (front, rest) = words_at(n, rest)?;
     let got = vector_of(n, front);
     if sum_of(&got) != u64::from(interval) {
-        return Err(DecodeError::Field(144 + 4 * n));
+        return Err(DecodeError::Field(got_offset(n)));
     }
     let (front, rest) = words_at(n, rest)?;
     let sent = vector_of(n, front);
@@ -200,12 +201,12 @@ fn made_at(n: usize, count: u64, bytes: &[u8]) -> Result<(u64, usize, &[u8]), De
 {
     let (made, rest) = u64_at(bytes)?;
     if made > count {
-        return Err(DecodeError::Field(144 + 12 * n));
+        return Err(DecodeError::Field(made_offset(n)));
     }
     let (size, rest) = u32_at(rest)?;
     let size = size as usize;
-    if !MemoryBytes::is_size(size) {
-        return Err(DecodeError::Field(152 + 12 * n));
+    if !is_memory_size(size) {
+        return Err(DecodeError::Field(size_offset(n)));
     }
     Ok((made, size, rest))
 }
@@ -224,7 +225,7 @@ pub(crate) fn front_at(bytes: &[u8]) -> Result<(Front, &[u8]), DecodeError>
     ensures exact { Tells (λ x. (x.0, x.1.now)) result (front_at bytes.now) }
     ensures within { IfOk result (λ x. x.0.n ≤ MAX_PROCESSES) }
     ensures size { IfOk result (λ x. is_memory_size x.0.size ≡ true) }
-    ensures left { IfOk result (λ x. 156 + 12 * x.0.n + length x.1.now ≡ length bytes.now) }
+    ensures left { IfOk result (λ x. memory_offset x.0.n + length x.1.now ≡ length bytes.now) }
 {
     let (ext, version, rest) = kind_at(bytes)?;
     let (n, pid, rest) = place_at(version, rest)?;

@@ -8,7 +8,7 @@ ghost use Rattle.om_format.specs.Queues.{queue_record};
 ghost use Rattle.om_format.specs.Spelling.{numbers};
 ghost use Rattle.om_format.specs.Pages.{page_count, kept_pages};
 ghost use Rattle.om_format.specs.Versions.{kind_of};
-ghost use Rattle.om_format.specs.declared.limits.TheConstants.{MAX_MEMORY};
+ghost use Rattle.om_isa.specs.declared.memory.TheConstants.{MAX_MEMORY};
 
 use crate::checkpoint::Checkpoint;
 use crate::head::Head;

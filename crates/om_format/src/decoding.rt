@@ -2,12 +2,14 @@
 
 ghost use Rattle.std.specs.Prelude.{◌≡◌, ◌⊎◌, ◌+◌, ◌*◌, ◌<◌, ◌^◌, Some, Ok, IfOk, IfErr, IsOk, length, map, true};
 ghost use Rattle.om_format.specs.CheckpointViews.{checkpoint_record};
-ghost use Rattle.om_format.specs.Checkpoints.{CheckpointRecord, IsCheckpoint, IsFrontRead, IsSpelled, SpellsCheckpoint, checkpoint_fault, is_memory_size};
+ghost use Rattle.om_format.specs.Checkpoints.{CheckpointRecord, IsCheckpoint, IsFrontRead, IsSpelled, SpellsCheckpoint, checkpoint_fault};
+ghost use Rattle.om_isa.specs.Memory.{is_memory_size};
 ghost use Rattle.om_format.specs.FirstFault.{AreRead};
 ghost use Rattle.om_format.specs.Outcomes.{Gives, Tells};
 ghost use Rattle.om_format.specs.Queues.{queue_record};
 ghost use Rattle.om_format.specs.Receipts.{ReceiptRecord, receipt_record, receipt_fault, receipt_format, SpellsReceipt};
 ghost use Rattle.om_format.specs.steps.CheckpointReading.{before_memory_at, rest_at, checkpoint_of};
+ghost use Rattle.om_format.specs.steps.Offsets.{memory_offset};
 ghost use Rattle.om_format.specs.steps.Reading.{ends_at, order_at, receipt_fields_at, receipt_at};
 ghost use Rattle.om_format.specs.declared.version.Version.{Version};
 ghost use Rattle.om_interval.specs.declared.pid.TheConstants.{MAX_PROCESSES};
@@ -19,6 +21,7 @@ use crate::error::DecodeError;
 use crate::limits::{RECEIPT_KIND, RECEIPT_VERSION};
 use crate::memory::MemoryBytes;
 use crate::memory_reading::memory_at;
+use crate::offsets::memory_offset;
 use crate::queue::Queue;
 use crate::queue_reading::{outputs_at, queues_at};
 use crate::reading::{body_at, end_at, pid_at, u8_at, u32_at, u64_at};
@@ -108,14 +111,14 @@ struct Rest {
 #[tactic(auto, unfolding(crate::specs::steps::CheckpointReading::rest_at))]
 fn rest_at(alloc: Global, front: &Front, bytes: &[u8]) -> Result<Rest, DecodeError>
     requires size { is_memory_size front.now.size ≡ true }
-    requires room { 156 + 12 * front.now.n + length bytes.now < 2 ^ 64 }
+    requires room { memory_offset front.now.n + length bytes.now < 2 ^ 64 }
     ensures exact { Gives (λ x. (x.memory, map queue_record x.kept.items, queue_record x.outputs)) result
         (rest_at front.now bytes.now) }
     ensures memory { IfErr result (λ e. e ≡ DecodeError.Memory
-        → IsOk (before_memory_at front.now.version front.now.size (156 + 12 * front.now.n) bytes.now)) }
+        → IsOk (before_memory_at front.now.version front.now.size (memory_offset front.now.n) bytes.now)) }
 {
     let head = front.head;
-    let memory = memory_at(alloc, front.version, front.size, 156 + 12 * front.n, bytes)?;
+    let memory = memory_at(alloc, front.version, front.size, memory_offset(front.n), bytes)?;
     let stops = head.sent.as_slice();
     let kept = queues_at(alloc, head.interval, stops, memory.offset, memory.rest)?;
     let outputs = outputs_at(alloc, head.interval, head.made, kept.offset, kept.rest)?;

@@ -9,7 +9,8 @@
 //! - what is recorded: `body`, `message`, `queue`, `memory`, `receipt`, `head` and `checkpoint`
 //! - the formats: `limits` (kinds, versions, limits), `version`, `error` (why bytes are no record), `laws`
 //! - to bytes: `encoding`, `checkpoint_writing`, `pages`
-//! - from bytes: `decoding`, `reading` (fields from the left), `checkpoint_reading`, `queue_reading`, `memory_reading`
+//! - from bytes: `decoding`, `reading` (fields from the left), `offsets` (where the parts of a checkpoint begin),
+//!   `checkpoint_reading`, `queue_reading`, `memory_reading`
 #![tactic(auto)]
 
 pub use body::Body;
@@ -18,10 +19,10 @@ pub use decoding::{decode_checkpoint, decode_receipt};
 pub use encoding::{encode_checkpoint, encode_receipt};
 pub use error::DecodeError;
 pub use head::Head;
-pub use limits::{MAX_BODY, MAX_MEMORY, MAX_PROCESSES_OF_VERSION_1, MIN_MEMORY, PAGE};
+pub use limits::{MAX_BODY, MAX_PROCESSES_OF_VERSION_1, PAGE};
 pub use memory::MemoryBytes;
 pub use message::Message;
-pub use queue::{QueueEntry, Queue};
+pub use queue::{Queue, QueueEntry};
 pub use receipt::Receipt;
 pub use version::Version;
 
@@ -38,6 +39,7 @@ mod limits;
 mod memory;
 mod memory_reading;
 mod message;
+mod offsets;
 mod pages;
 mod queue;
 mod queue_reading;

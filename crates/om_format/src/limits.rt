@@ -26,9 +26,3 @@ pub const MAX_PROCESSES_OF_VERSION_1: usize = 8;
 
 /// The number of bytes in a page of a memory.
 pub const PAGE: usize = 256;
-
-/// The least number of bytes in a memory. Each number of bytes is a multiple of it.
-pub const MIN_MEMORY: usize = 4;
-
-/// The greatest number of bytes in a memory.
-pub const MAX_MEMORY: usize = 65_536;

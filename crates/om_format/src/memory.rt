@@ -1,10 +1,9 @@
 ghost use Rattle.std.specs.Prelude.{◌≡◌, ◌↔◌, ℕ, List, length, vec_len, true};
-ghost use Rattle.om_format.specs.Checkpoints.{is_memory_size};
+ghost use Rattle.om_isa.specs.Memory.{is_memory_size};
 
-use crate::limits::{MAX_MEMORY, MIN_MEMORY};
 use std::marker::Model;
 
-/// The bytes of a machine's memory: at least `MIN_MEMORY`, at most `MAX_MEMORY`, and a multiple of `MIN_MEMORY`.
+/// The bytes of a machine's memory, as many as `om_isa::is_memory_size` allows.
 #[derive(Debug, Drop)]
 pub struct MemoryBytes {
     bytes: Vec<u8>,
@@ -19,13 +18,6 @@ impl Model for MemoryBytes {
 }
 
 impl MemoryBytes {
-    /// Whether a memory can have so many bytes.
-    pub fn is_size(len: usize) -> bool
-        ensures { result ≡ is_memory_size len }
-    {
-        MIN_MEMORY <= len && len <= MAX_MEMORY && len % MIN_MEMORY == 0
-    }
-
     /// The memory of these bytes.
     pub fn from_vec(bytes: Vec<u8>) -> MemoryBytes
         requires { is_memory_size (vec_len bytes) ≡ true }

@@ -1,8 +1,8 @@
 //! The memory of a checkpoint.
 
 ghost use Rattle.std.specs.Prelude.{◌≡◌, ◌+◌, ◌<◌, ◌≤◌, ◌^◌, IfOk, IfErr, IsOk, length, true};
-ghost use Rattle.om_format.specs.declared.limits.TheConstants.{MAX_MEMORY};
-ghost use Rattle.om_format.specs.Checkpoints.{is_memory_size};
+ghost use Rattle.om_isa.specs.declared.memory.TheConstants.{MAX_MEMORY};
+ghost use Rattle.om_isa.specs.Memory.{is_memory_size};
 ghost use Rattle.om_format.specs.Outcomes.{Gives, Tells};
 ghost use Rattle.om_format.specs.Pages.{page_count, page_size};
 ghost use Rattle.om_format.specs.steps.CheckpointReading.{next_page_at, pages_at, memory_at, before_memory_at};

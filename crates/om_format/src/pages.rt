@@ -2,7 +2,7 @@
 
 ghost use Rattle.std.specs.Prelude.{◌≡◌, ◌<◌, ◌≤◌, length};
 ghost use Rattle.om_format.specs.Pages.{page_count, page_size, page_at, is_kept, kept_pages};
-ghost use Rattle.om_format.specs.declared.limits.TheConstants.{MAX_MEMORY};
+ghost use Rattle.om_isa.specs.declared.memory.TheConstants.{MAX_MEMORY};
 
 use crate::limits::PAGE;
 

@@ -7,7 +7,7 @@ use Rattle.std.specs.Char.{is_digit}
 use Rattle.std.proofs.lemmas.Bool.Decides.{nat_tests}
 use Rattle.std.proofs.lemmas.List.Elements.{All-cons, All-nil}
 use Rattle.om_isa.specs.declared.ext.Ext.{Ext}
-use Rattle.om_format.specs.Checkpoints.{is_memory_size}
+use Rattle.om_isa.specs.Memory.{is_memory_size}
 use Rattle.om_text.specs.Numbers.{number_of, below, are_digits}
 use Rattle.om_text.specs.Reading.{◌>>=◌, refused, or_error}
 use Rattle.om_text.specs.declared.error.LineError.{LineError}

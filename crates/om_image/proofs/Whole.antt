@@ -11,8 +11,8 @@ use Rattle.std.proofs.lemmas.List.{take_all, length-replicate, length-take}
 use Rattle.std.proofs.lemmas.List.Elements.{All-cons, All-nil}
 use Rattle.om_isa.specs.declared.ext.Ext.{Ext}
 use Rattle.om_isa.specs.declared.ext.Ext.TheVariants.{I, Im}
-use Rattle.om_format.specs.Checkpoints.{is_memory_size}
-use Rattle.om_format.specs.declared.limits.TheConstants.{MAX_MEMORY}
+use Rattle.om_isa.specs.Memory.{is_memory_size}
+use Rattle.om_isa.specs.declared.memory.TheConstants.{MAX_MEMORY}
 use Rattle.om_text.specs.Lines.{lines_of}
 use Rattle.om_text.specs.Reading.{Gives}
 use Rattle.om_text.specs.declared.error.BuildError.{BuildError}

@@ -2,7 +2,7 @@
 use Rattle.std.specs.Prelude.{◌≡◌, ℕ, ◌+◌, ◌<◌, List, [], ◌∷◌, ◌++◌, codes, flat_map, map, replicate, take, Some, Ok, Err}
 use Rattle.std.specs.Int.{to_be_bytes, to_le_bytes, w32}
 use Rattle.hex.specs.Hex.{encode_lower}
-use Rattle.om_format.specs.declared.limits.TheConstants.{MAX_MEMORY}
+use Rattle.om_isa.specs.declared.memory.TheConstants.{MAX_MEMORY}
 use Rattle.om_isa.specs.declared.ext.Ext.{Ext}
 use Rattle.om_isa.specs.declared.ext.Ext.TheVariants.{I, Im}
 use Rattle.om_process.specs.Process.{Program}

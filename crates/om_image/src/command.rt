@@ -6,8 +6,7 @@ ghost use Rattle.om_image.specs.Image.{IsErrorOf, IsImageLine, IsSilent, most_re
 
 use crate::error::ImageError;
 use crate::line::line_of;
-use om_format::MAX_MEMORY;
-use om_isa::Ext;
+use om_isa::{Ext, MAX_MEMORY};
 use om_text::{ReadError, read_text};
 use std::alloc::Global;
 use std::io::{Read, Write};

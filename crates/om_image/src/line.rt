@@ -1,7 +1,7 @@
 //! The line of a program.
 
 ghost use Rattle.std.specs.Prelude.{◌≡◌, ◌≤◌, ◌∷◌, ◌++◌, [], IfOk, IfErr, OnOk, length, map, string_bytes};
-ghost use Rattle.om_format.specs.declared.limits.TheConstants.{MAX_MEMORY};
+ghost use Rattle.om_isa.specs.declared.memory.TheConstants.{MAX_MEMORY};
 ghost use Rattle.om_image.specs.Image.{IsImageLine, keyword, word_text};
 ghost use Rattle.om_image.specs.steps.Lines.{IsErrorOfLine, IsTaken, spaced};
 

@@ -12,7 +12,7 @@ use Rattle.om_process.specs.Replays.{Replayed, process_of, received_of}
 use Rattle.om_process.specs.Stored.{Anyone, AreReceiptsAfter, CanReplay, ComesTo, HasAll, IsNoMatterOfContent, Refuses, StandsAfter}
 use Rattle.om_process.proofs.Exactly.{only_refused}
 use Rattle.om_look.specs.declared.fault.LookFault.{LookFault}
-use Rattle.om_look.specs.Stops.{StopsAt}
+use Rattle.om_look.specs.steps.Stops.{StopsAt}
 use Rattle.om_look.specs.steps.Told.{NoneMissing, stop_told}
 
 effective_below : (held : Records) (x z c : ℕ) → IsEffective held x c → c ≤ z → z ≤ x → IsEffective held z c

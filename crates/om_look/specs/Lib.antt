@@ -1,7 +1,6 @@
 pub mod Lines
 pub mod Spans
 pub mod Show
-pub mod Stops
 pub mod Trace
 pub mod Writes
 pub mod steps

@@ -2,4 +2,5 @@ pub mod Adding
 pub mod Before
 pub mod Found
 pub mod Reading
+pub mod Stops
 pub mod Told

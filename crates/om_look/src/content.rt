@@ -1,13 +1,12 @@
 //! The text of what a store holds.
 
-ghost use Rattle.std.specs.Prelude.{◌≡◌, ◌≤◌, ◌++◌, ℕ, List, IfOk, IsErrOf, IsTrue, OnOk, string_bytes};
+ghost use Rattle.std.specs.Prelude.{◌≡◌, ◌++◌, ℕ, List, IfOk, IsErrOf, OnOk, string_bytes};
 ghost use Rattle.om_look.specs.Lines.{AreLines, IsReceiptLine};
 ghost use Rattle.om_look.specs.Show.{IsShown};
 ghost use Rattle.om_look.specs.declared.fault.LookFault.{LookFault};
 ghost use Rattle.om_look.specs.steps.Found.{IsTextOf, lines_text};
-ghost use Rattle.om_stable.specs.Calls.{IsCleanCall};
+ghost use Rattle.om_stable.specs.Calls.{IsCleanCall, UsesStore};
 ghost use Rattle.om_stable.specs.Content.{rows_of};
-ghost use Rattle.om_stable.specs.Count.{Rose};
 
 use crate::fault::LookFault;
 use crate::gathering::{Found, gather};
@@ -26,10 +25,7 @@ pub fn content_text<S: Stable>(alloc: Global, store: &mut S) -> Result<String, L
     ensures text { IsCleanCall S.is_clean S.IsSound store.old store.new
         → IfOk result (λ text. IsShown (S.content store.old) (string_bytes text)) }
     ensures same { IsCleanCall S.is_clean S.IsSound store.old store.new → S.content store.new ≡ S.content store.old }
-    ensures fault { IsErrOf result LookFault.Fault → Rose (S.failed store.old) (S.failed store.new) }
-    ensures count { S.failed store.old ≤ S.failed store.new }
-    ensures clean { IsTrue (S.is_clean store.new) → IsTrue (S.is_clean store.old) }
-    ensures sound { IsTrue (S.is_clean store.new) → S.IsSound store.old → S.IsSound store.new }
+    ensures used { UsesStore S.failed S.is_clean S.IsSound store.old (IsErrOf result LookFault.Fault) store.new }
 {
     let found = gather(alloc, store)?;
     let receipts = receipts_of(alloc, store)?;

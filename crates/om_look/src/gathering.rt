@@ -3,7 +3,7 @@
 ghost use Rattle.std.specs.Prelude.{◌≡◌, ◌<◌, ◌≤◌, ℕ, IfOk, IfSome, IsErrOf, string_bytes};
 ghost use Rattle.om_look.specs.declared.fault.LookFault.{LookFault};
 ghost use Rattle.om_look.specs.Lines.{IsCheckpointLine};
-ghost use Rattle.om_look.specs.Stops.{StopsAt};
+ghost use Rattle.om_look.specs.steps.Stops.{StopsAt};
 ghost use Rattle.om_look.specs.steps.Found.{AreFound, Finds, before};
 ghost use Rattle.om_look.specs.steps.Reading.{IsReading};
 ghost use Rattle.om_process.specs.declared.limits.TheConstants.{LAST_INTERVAL};

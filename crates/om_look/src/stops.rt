@@ -2,7 +2,7 @@
 
 ghost use Rattle.std.specs.Prelude.{◌≡◌, ◌-◌, ◌<◌, ℕ, IfOk, IsErrOf};
 ghost use Rattle.om_look.specs.declared.fault.LookFault.{LookFault};
-ghost use Rattle.om_look.specs.Stops.{StopsAt};
+ghost use Rattle.om_look.specs.steps.Stops.{StopsAt};
 ghost use Rattle.om_look.specs.steps.Reading.{IsReading};
 ghost use Rattle.om_look.specs.steps.Told.{NoneMissing, stop_told};
 ghost use Rattle.om_stable.specs.Calls.{IsCleanCall};

@@ -2,7 +2,8 @@
 
 ghost use Rattle.std.specs.Prelude.{◌≡◌, ◌≢◌, ◌↔◌, ◌∷◌, ◌+◌, ◌<◌, ◌≤◌, ◌^◌, All, List, drop, length, ℕ};
 ghost use Rattle.om_isa.specs.declared.ext.Ext.{Ext};
-ghost use Rattle.om_machine.specs.State.{State, IsSize, IsMachine, IsMachineAfter, loaded, restored};
+ghost use Rattle.om_machine.specs.State.{State, IsMachine, IsMachineAfter, loaded, restored};
+ghost use Rattle.om_isa.specs.Memory.{IsMemorySize};
 ghost use Rattle.om_machine.specs.Step.{Steps, StepsOn};
 ghost use Rattle.om_machine.specs.derived.NextStep.{next_of};
 ghost use Rattle.om_machine.specs.Finishing.{TakesBody, finished_word, finished_who, finished_receive};
@@ -12,7 +13,7 @@ ghost use Rattle.om_machine.specs.declared.limits.TheConstants.{LAST_COUNT};
 
 /// A machine at its start is one.
 pub fn loading_makes_a_machine()
-    ensures { (image : List ℕ) (size : ℕ) (ext : Ext) → IsSize size → length image ≤ size → All (λ b. b < 2 ^ 8) image
+    ensures { (image : List ℕ) (size : ℕ) (ext : Ext) → IsMemorySize size → length image ≤ size → All (λ b. b < 2 ^ 8) image
         → IsMachine (loaded image size ext) }
 {}
 

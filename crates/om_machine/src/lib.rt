@@ -15,7 +15,6 @@
 
 pub use event::{Cause, EnvCall, Event};
 pub use fault::LoadFault;
-pub use limits::{MAX_SIZE, MIN_SIZE, is_size};
 pub use machine::Machine;
 pub use run::Ran;
 

@@ -1,10 +1,10 @@
 use crate::same::{assert_same, assert_same_at};
-use om_isa::{Ext, Reg, WRITABLE_REGISTERS};
+use om_isa::{Ext, MAX_MEMORY, MIN_MEMORY, Reg, WRITABLE_REGISTERS, is_memory_size};
 use om_machine::Cause::{
     Break, DataMisaligned, DataOutside, FetchOutside, Illegal, TargetMisaligned, UnknownCall,
 };
 use om_machine::{
-    Cause, EnvCall, Event, LoadFault, MAX_SIZE, MIN_SIZE, Machine, Ran, is_size, laws,
+    Cause, EnvCall, Event, LoadFault, Machine, Ran, laws,
 };
 use std::alloc::Global;
 use std::process::Abort;
@@ -210,9 +210,9 @@ fn loaded_size(alloc: Global, words: &[u32], size: u32) -> Result<u32, LoadFault
 #[test]
 fn machines_are_as_large_as_they_were_asked_to_be(rt: HostRuntime) {
     let alloc = rt.alloc();
-    assert_same(&rt, &(MIN_SIZE, MAX_SIZE), &(4, 65_536));
+    assert_same(&rt, &(MIN_MEMORY, MAX_MEMORY), &(4, 65_536));
     for (words, size, wanted) in &LOADS {
-        let told = (is_size(*size), loaded_size(alloc, words, *size));
+        let told = (is_memory_size(*size as usize), loaded_size(alloc, words, *size));
         assert_same_at(&rt, size, &told, wanted);
     }
 }

@@ -22,7 +22,8 @@ use Rattle.om_process.specs.Turns.{next_move, next_turn, after_event, emits, Tur
 use Rattle.om_process.specs.steps.Planned.{planned, stopped}
 use Rattle.om_process.specs.Core.{CoreParts, IsCore, CoreState, cluster_size, move_of, status_of, LoggedRecord, AreLast}
 use Rattle.om_isa.specs.declared.ext.Ext.{Ext}
-use Rattle.om_format.specs.Checkpoints.{IsCheckpoint, is_memory_size}
+use Rattle.om_format.specs.Checkpoints.{IsCheckpoint}
+use Rattle.om_isa.specs.Memory.{is_memory_size}
 use Rattle.om_format.specs.Versions.{is_cluster_size}
 use Rattle.om_format.specs.declared.version.Version.TheVariants.{V2}
 use Rattle.om_format.proofs.Entries.{are_entries-drop, are_entries-push, are_entries_later, all_entries_later}

@@ -45,6 +45,13 @@ status_of (Traps cause) = Trapped cause
 status_of (Goes next) = Ready
 status_of (Emits place body next) = Ready
 
+-- the process has come to an end
+abbrev pub IsEnd : Status → Type 0
+IsEnd (Ended code) = Unit {0}
+IsEnd (Trapped cause) = Unit {0}
+IsEnd Ready = ⊥
+IsEnd Waiting = ⊥
+
 -- what comes next in a core
 abbrev pub move_of : CoreState → Move
 move_of c = next_move c.own (cluster_size c.now) c.now.machine (made c.now.queues)

@@ -1,9 +1,8 @@
 //! Processes that are down, and how processes go on after a round of recovery.
 
-ghost use Rattle.std.specs.Prelude.{◌≡◌, ◌≤◌, [], IfErr, IfOk, IsTrue, OnErr, OnOk, length};
-ghost use Rattle.om_stable.specs.Calls.{IsCleanCall};
+ghost use Rattle.std.specs.Prelude.{◌≡◌, [], IfErr, IfOk, IsErrOf, OnErr, OnOk, length};
+ghost use Rattle.om_stable.specs.Calls.{IsCleanCall, UsesStore};
 ghost use Rattle.om_stable.specs.Content.{kept_by_cut};
-ghost use Rattle.om_stable.specs.Count.{Rose};
 ghost use Rattle.om_process.specs.Core.{cluster_size};
 ghost use Rattle.om_process.specs.Resumes.{resumed};
 ghost use Rattle.om_process.specs.Stored.{CanReplay, IsNoMatterOfContent, IsReplay, Refuses, TheProcess};
@@ -85,10 +84,7 @@ impl Down {
             → IfErr result (λ refusal. IsNoMatterOfContent refusal.1) }
         ensures same { IsCleanCall S.is_clean S.IsSound store.old store.new
             → OnErr result (S.content store.new ≡ S.content store.old) }
-        ensures fault { IfErr result (λ refusal. refusal.1 ≡ ReplayFault.Fault → Rose (S.failed store.old) (S.failed store.new)) }
-        ensures count { S.failed store.old ≤ S.failed store.new }
-        ensures clean { IsTrue (S.is_clean store.new) → IsTrue (S.is_clean store.old) }
-        ensures sound { IsTrue (S.is_clean store.new) → S.IsSound store.old → S.IsSound store.new }
+        ensures used { UsesStore S.failed S.is_clean S.IsSound store.old (IsErrOf result (self, ReplayFault.Fault)) store.new }
     {
         match self.come_back(alloc, store, starts, verdict) {
             Ok(core) => Ok(core),
@@ -120,10 +116,7 @@ impl Down {
             → IfErr result (λ fault. Refuses (TheProcess self.now.pid self.now.n) (S.content store.old) verdict.now.r fault) }
         ensures same { IsCleanCall S.is_clean S.IsSound store.old store.new
             → OnErr result (S.content store.new ≡ S.content store.old) }
-        ensures fault { IfErr result (λ fault. fault ≡ ReplayFault.Fault → Rose (S.failed store.old) (S.failed store.new)) }
-        ensures count { S.failed store.old ≤ S.failed store.new }
-        ensures clean { IsTrue (S.is_clean store.new) → IsTrue (S.is_clean store.old) }
-        ensures sound { IsTrue (S.is_clean store.new) → S.IsSound store.old → S.IsSound store.new }
+        ensures used { UsesStore S.failed S.is_clean S.IsSound store.old (IsErrOf result ReplayFault.Fault) store.new }
     {
         let mut core = self.replayed(alloc, store, verdict.r)?;
         core.resume(alloc, starts, verdict)?;
@@ -150,10 +143,7 @@ impl Down {
         ensures refused { IsCleanCall S.is_clean S.IsSound store.old store.new
             → IfErr result (λ fault. Refuses (TheProcess self.now.pid self.now.n) (S.content store.old) x fault) }
         ensures same { IsCleanCall S.is_clean S.IsSound store.old store.new → S.content store.new ≡ S.content store.old }
-        ensures fault { IfErr result (λ fault. fault ≡ ReplayFault.Fault → Rose (S.failed store.old) (S.failed store.new)) }
-        ensures count { S.failed store.old ≤ S.failed store.new }
-        ensures clean { IsTrue (S.is_clean store.new) → IsTrue (S.is_clean store.old) }
-        ensures sound { IsTrue (S.is_clean store.new) → S.IsSound store.old → S.IsSound store.new }
+        ensures used { UsesStore S.failed S.is_clean S.IsSound store.old (IsErrOf result ReplayFault.Fault) store.new }
     {
         let checkpoint = beginning(alloc, store, x)?;
         if checkpoint.head.pid != self.pid {

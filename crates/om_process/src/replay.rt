@@ -1,10 +1,9 @@
 //! Replays: a process as it was right after a receipt, from what its store holds.
 
-ghost use Rattle.std.specs.Prelude.{◌≡◌, ◌≢◌, ◌≤◌, ◌∷◌, [], IfErr, IfOk, IsErrOf, IsTrue, length, replicate};
+ghost use Rattle.std.specs.Prelude.{◌≡◌, ◌≢◌, ◌≤◌, ◌∷◌, [], IfErr, IfOk, IsErrOf, length, replicate};
 ghost use Rattle.om_format.specs.CheckpointViews.{checkpoint_record};
 ghost use Rattle.om_format.specs.Checkpoints.{IsSpelled};
-ghost use Rattle.om_stable.specs.Calls.{IsCleanCall};
-ghost use Rattle.om_stable.specs.Count.{Rose};
+ghost use Rattle.om_stable.specs.Calls.{IsCleanCall, UsesStore};
 ghost use Rattle.om_stable.specs.declared.error.StoreError.{StoreError};
 ghost use Rattle.om_process.specs.Core.{cluster_size};
 ghost use Rattle.om_process.specs.Stored.{Anyone, BeginsWith, CanReplay, IsNoMatterOfContent, IsReplay, Refuses};
@@ -103,10 +102,7 @@ pub(crate) fn beginning<S: Stable>(
     ensures refused { IsCleanCall S.is_clean S.IsSound store.old store.new
         → IfErr result (λ fault. RefusesStart (S.content store.old) x fault) }
     ensures same { IsCleanCall S.is_clean S.IsSound store.old store.new → S.content store.new ≡ S.content store.old }
-    ensures fault { IsErrOf result ReplayFault.Fault → Rose (S.failed store.old) (S.failed store.new) }
-    ensures count { S.failed store.old ≤ S.failed store.new }
-    ensures clean { IsTrue (S.is_clean store.new) → IsTrue (S.is_clean store.old) }
-    ensures sound { IsTrue (S.is_clean store.new) → S.IsSound store.old → S.IsSound store.new }
+    ensures used { UsesStore S.failed S.is_clean S.IsSound store.old (IsErrOf result ReplayFault.Fault) store.new }
 {
     match store.effective(alloc, x) {
         Ok(Some((c, bytes))) => checkpoint_at(alloc, c, &bytes),
@@ -135,10 +131,7 @@ impl ProcCore {
         ensures round { IfOk result (λ core. core.round ≡ 0) }
         ensures starts { IfOk result (λ core. core.starts ≡ replicate (cluster_size core.now) (0 ∷ [])) }
         ensures same { IsCleanCall S.is_clean S.IsSound store.old store.new → S.content store.new ≡ S.content store.old }
-        ensures fault { IsErrOf result ReplayFault.Fault → Rose (S.failed store.old) (S.failed store.new) }
-        ensures count { S.failed store.old ≤ S.failed store.new }
-        ensures clean { IsTrue (S.is_clean store.new) → IsTrue (S.is_clean store.old) }
-        ensures sound { IsTrue (S.is_clean store.new) → S.IsSound store.old → S.IsSound store.new }
+        ensures used { UsesStore S.failed S.is_clean S.IsSound store.old (IsErrOf result ReplayFault.Fault) store.new }
     {
         let found = match store.receipts(alloc, checkpoint.head.interval, x) {
             Ok(found) => found,
@@ -171,10 +164,7 @@ impl ProcCore {
         ensures round { IfOk result (λ core. core.round ≡ 0) }
         ensures starts { IfOk result (λ core. core.starts ≡ replicate (cluster_size core.now) (0 ∷ [])) }
         ensures same { IsCleanCall S.is_clean S.IsSound store.old store.new → S.content store.new ≡ S.content store.old }
-        ensures fault { IsErrOf result ReplayFault.Fault → Rose (S.failed store.old) (S.failed store.new) }
-        ensures count { S.failed store.old ≤ S.failed store.new }
-        ensures clean { IsTrue (S.is_clean store.new) → IsTrue (S.is_clean store.old) }
-        ensures sound { IsTrue (S.is_clean store.new) → S.IsSound store.old → S.IsSound store.new }
+        ensures used { UsesStore S.failed S.is_clean S.IsSound store.old (IsErrOf result ReplayFault.Fault) store.new }
     {
         let checkpoint = beginning(alloc, store, x)?;
         ProcCore::replay_from(alloc, store, x, checkpoint)

@@ -1,10 +1,9 @@
 //! Processes at their start.
 
-ghost use Rattle.std.specs.Prelude.{◌≡◌, ◌≢◌, ◌<◌, ◌≤◌, ◌↔◌, ◌++◌, ◌∷◌, [], IfOk, IsErrOf, IsSome, IsTrue, None, OnErr, OnOk, length, map, replicate};
+ghost use Rattle.std.specs.Prelude.{◌≡◌, ◌≢◌, ◌<◌, ◌≤◌, ◌↔◌, ◌++◌, ◌∷◌, [], IfOk, IsErrOf, IsSome, None, OnErr, OnOk, length, map, replicate};
 ghost use Rattle.std.specs.FinMap.{get};
-ghost use Rattle.om_machine.specs.State.{IsSize};
-ghost use Rattle.om_stable.specs.Calls.{IsCleanCall};
-ghost use Rattle.om_stable.specs.Count.{Rose};
+ghost use Rattle.om_isa.specs.Memory.{IsMemorySize};
+ghost use Rattle.om_stable.specs.Calls.{IsCleanCall, UsesStore};
 ghost use Rattle.om_stable.specs.declared.error.StoreError.{StoreError};
 ghost use Rattle.om_process.specs.Process.{empty_queue, started_with};
 ghost use Rattle.om_process.specs.Starting.{IsPlace, fault_of_loading, fault_of_storing, started_core};
@@ -97,18 +96,15 @@ impl ProcCore {
         ensures stored { IsCleanCall S.is_clean S.IsSound store.old store.new
             → IfOk result (λ core. HasGainedCheckpoint core (S.content store.old) (S.content store.new)) }
         ensures bad_place { (result ≡ Err StartFault.BadPlace) ↔ ¬ IsPlace pid n }
-        ensures bad_size { (result ≡ Err StartFault.BadSize) ↔ (IsPlace pid n × ¬ IsSize size) }
-        ensures too_long { (result ≡ Err StartFault.ImageTooLong) ↔ (IsPlace pid n × IsSize size × (size < length image.now)) }
+        ensures bad_size { (result ≡ Err StartFault.BadSize) ↔ (IsPlace pid n × ¬ IsMemorySize size) }
+        ensures too_long { (result ≡ Err StartFault.ImageTooLong) ↔ (IsPlace pid n × IsMemorySize size × (size < length image.now)) }
         ensures free { IsCleanCall S.is_clean S.IsSound store.old store.new
             → OnOk result (get (S.content store.old).checkpoints 0 ≡ None) }
         ensures present { IsCleanCall S.is_clean S.IsSound store.old store.new
             → IsErrOf result StartFault.Present → IsSome (get (S.content store.old).checkpoints 0) }
         ensures refused { IsCleanCall S.is_clean S.IsSound store.old store.new
             → OnErr result (S.content store.new ≡ S.content store.old) }
-        ensures fault { IsErrOf result StartFault.Fault → Rose (S.failed store.old) (S.failed store.new) }
-        ensures count { S.failed store.old ≤ S.failed store.new }
-        ensures clean { IsTrue (S.is_clean store.new) → IsTrue (S.is_clean store.old) }
-        ensures sound { IsTrue (S.is_clean store.new) → S.IsSound store.old → S.IsSound store.new }
+        ensures used { UsesStore S.failed S.is_clean S.IsSound store.old (IsErrOf result StartFault.Fault) store.new }
     {
         let core = ProcCore::at_start(alloc, image, size, ext, pid, n)?;
         core.store_checkpoint(alloc, store)?;
@@ -126,8 +122,8 @@ impl ProcCore {
     ) -> Result<ProcCore, StartFault>
         ensures started { IfOk result (λ core. core ≡ started_core (record { image = image.now; size = size; ext = ext }) pid n) }
         ensures bad_place { (result ≡ Err StartFault.BadPlace) ↔ ¬ IsPlace pid n }
-        ensures bad_size { (result ≡ Err StartFault.BadSize) ↔ (IsPlace pid n × ¬ IsSize size) }
-        ensures too_long { (result ≡ Err StartFault.ImageTooLong) ↔ (IsPlace pid n × IsSize size × (size < length image.now)) }
+        ensures bad_size { (result ≡ Err StartFault.BadSize) ↔ (IsPlace pid n × ¬ IsMemorySize size) }
+        ensures too_long { (result ≡ Err StartFault.ImageTooLong) ↔ (IsPlace pid n × IsMemorySize size × (size < length image.now)) }
         ensures not_present { result ≢ Err StartFault.Present }
         ensures no_fault { result ≢ Err StartFault.Fault }
     {

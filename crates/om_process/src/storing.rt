@@ -1,12 +1,11 @@
 //! What a process puts into its store.
 
-ghost use Rattle.std.specs.Prelude.{◌≡◌, ◌+◌, ◌≤◌, ◌++◌, ℕ, IfOk, IsErrOf, IsSome, IsTrue, None, OnErr, OnOk, Some, length, map, slice_get, vec_capacity, vec_len};
+ghost use Rattle.std.specs.Prelude.{◌≡◌, ◌+◌, ◌≤◌, ◌++◌, ℕ, IfOk, IsErrOf, IsSome, None, OnErr, OnOk, Some, length, map, slice_get, vec_capacity, vec_len};
 ghost use Rattle.std.specs.FinMap.{get};
 ghost use Rattle.om_format.specs.CheckpointViews.{checkpoint_record};
 ghost use Rattle.om_format.specs.Queues.{queue_record};
-ghost use Rattle.om_stable.specs.Calls.{IsCleanCall};
+ghost use Rattle.om_stable.specs.Calls.{IsCleanCall, UsesStore};
 ghost use Rattle.om_stable.specs.Content.{IsFree, IsTaken, bytes_of};
-ghost use Rattle.om_stable.specs.Count.{Rose};
 ghost use Rattle.om_process.specs.Core.{LoggedRecord};
 ghost use Rattle.om_process.specs.Stores.{HasGainedCheckpoint, HasGainedLog, IsLogged, IsOf, SpellLog, checkpointed, first_logged, flushed, log_row};
 ghost use Rattle.om_process.specs.Views.{logged_record};
@@ -36,10 +35,7 @@ impl ProcCore {
             → IsTaken (S.content store.old).receipts (first_logged self.old) (length self.old.log) }
         ensures refused { IsCleanCall S.is_clean S.IsSound store.old store.new
             → OnErr result (S.content store.new ≡ S.content store.old) }
-        ensures fault { IsErrOf result StoreError.Fault → Rose (S.failed store.old) (S.failed store.new) }
-        ensures count { S.failed store.old ≤ S.failed store.new }
-        ensures clean { IsTrue (S.is_clean store.new) → IsTrue (S.is_clean store.old) }
-        ensures sound { IsTrue (S.is_clean store.new) → S.IsSound store.old → S.IsSound store.new }
+        ensures used { UsesStore S.failed S.is_clean S.IsSound store.old (IsErrOf result StoreError.Fault) store.new }
     {
         let Some(oldest) = self.log.first() else {
             return Ok(());
@@ -67,10 +63,7 @@ impl ProcCore {
             → IsSome (get (S.content store.old).checkpoints self.old.now.interval) }
         ensures refused { IsCleanCall S.is_clean S.IsSound store.old store.new
             → OnErr result (S.content store.new ≡ S.content store.old) }
-        ensures fault { IsErrOf result StoreError.Fault → Rose (S.failed store.old) (S.failed store.new) }
-        ensures count { S.failed store.old ≤ S.failed store.new }
-        ensures clean { IsTrue (S.is_clean store.new) → IsTrue (S.is_clean store.old) }
-        ensures sound { IsTrue (S.is_clean store.new) → S.IsSound store.old → S.IsSound store.new }
+        ensures used { UsesStore S.failed S.is_clean S.IsSound store.old (IsErrOf result StoreError.Fault) store.new }
     {
         self.pending.try_reserve(1)?;
         self.store_checkpoint(alloc, store)?;
@@ -97,10 +90,7 @@ impl ProcCore {
             → IsErrOf result StoreError.Present → IsSome (get (S.content store.old).checkpoints self.now.now.interval) }
         ensures refused { IsCleanCall S.is_clean S.IsSound store.old store.new
             → OnErr result (S.content store.new ≡ S.content store.old) }
-        ensures fault { IsErrOf result StoreError.Fault → Rose (S.failed store.old) (S.failed store.new) }
-        ensures count { S.failed store.old ≤ S.failed store.new }
-        ensures clean { IsTrue (S.is_clean store.new) → IsTrue (S.is_clean store.old) }
-        ensures sound { IsTrue (S.is_clean store.new) → S.IsSound store.old → S.IsSound store.new }
+        ensures used { UsesStore S.failed S.is_clean S.IsSound store.old (IsErrOf result StoreError.Fault) store.new }
     {
         let bytes = encode_checkpoint(alloc, &self.picture(alloc)?)?;
         store.put_checkpoint(alloc, self.interval, &bytes)

@@ -7,7 +7,7 @@
 //! file 304 of RV32M, 38 of each instruction. None of them traps.
 
 ghost use Rattle.std.specs.Prelude.{◌≡◌, ◌↔◌, length, IfSome, true};
-ghost use Rattle.om_machine.specs.State.{IsSize};
+ghost use Rattle.om_isa.specs.Memory.{IsMemorySize};
 ghost use Rattle.om_machine.specs.derived.NextStep.{next_of};
 
 use om_isa::{Ext, WRITABLE_REGISTERS};

@@ -22,7 +22,8 @@ use Rattle.om_world.specs.World.{WorldState}
 use Rattle.om_world.specs.declared.entry.Entry.{Entry}
 use Rattle.om_run_commands.specs.ClusterScript.{ClusterFile, cluster_file_line, no_settings}
 use Rattle.om_commands.specs.Command.{IsScript}
-use Rattle.om_run_commands.specs.Check.{IsErrorOfCheckedRun, IsErrorOfCheckedScript, IsFailureFreeText, IsTextBy}
+use Rattle.om_run_commands.specs.Check.{IsErrorOfCheckedRun, IsFailureFreeText, IsTextBy}
+use Rattle.om_run_commands.specs.steps.Scripts.{IsErrorOfCheckedScript}
 use Rattle.om_run_commands.specs.RunText.{run_text}
 use Rattle.om_commands.specs.declared.error.CommandError.{CommandError}
 use Rattle.om_commands.specs.declared.error.CommandError.TheVariants as errors

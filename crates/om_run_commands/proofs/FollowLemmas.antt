@@ -11,7 +11,7 @@ use Rattle.om_process.specs.declared.status.Status.{Status}
 use Rattle.om_scripts.specs.Programs.{Cluster, programs_of}
 use Rattle.om_board.specs.Released.{AreAllReleased}
 use Rattle.om_board.specs.declared.report.Report.{Report}
-use Rattle.om_runner.specs.Reports.{AreOutputsOf, AreStatusesAlong, HaveAllOf}
+use Rattle.om_runner.specs.Reports.{AreAlongOf, AreOutputsOf, HaveAllOf}
 use Rattle.om_process.specs.Core.{IsEnd}
 use Rattle.om_runner.specs.Telling.{AreInOrder, AreToldMade, Told, TellsAll}
 use Rattle.om_runner.specs.declared.follower.FollowFault.{FollowFault}
@@ -23,7 +23,7 @@ use Rattle.om_run_commands.specs.ClusterScript.{ClusterFile, cluster_file_line, 
 use Rattle.om_commands.specs.Command.{IsErrorOf, IsScript}
 use Rattle.om_run_commands.specs.Errors.{error_of_run}
 use Rattle.om_run_commands.specs.Follow.{AreMadeBy, IsFollowedAnswer, IsFollowedRun, IsPart, IsPartOf, IsPartly, told_line, told_text}
-use Rattle.om_run_commands.specs.Run.{IsErrorOfFollowed}
+use Rattle.om_run_commands.specs.steps.Scripts.{IsErrorOfFollowed}
 use Rattle.om_run_commands.specs.RunText.{ends_text}
 use Rattle.om_commands.specs.declared.error.CommandError.{CommandError}
 use Rattle.om_commands.specs.declared.error.CommandError.TheVariants as errors
@@ -42,7 +42,7 @@ pub is_followed : (over_clean : Type 0) (script : ClusterFile) (images : List Im
     → AreAllReleased report.front.vec report.released.items → (over_clean → AreOutputsOf images report.released.items)
     → length report.released.items ≡ length images
     → length report.statuses.items ≡ length images → All IsEnd report.statuses.items
-    → (over_clean → AreStatusesAlong images report.statuses.items)
+    → (over_clean → AreAlongOf images report.statuses.items)
     → (over_clean → HaveAllOf images report.statuses.items report.released.items)
     → statuses ≡ report.statuses.items
     → (told : List Told) × Appends a b (told_text script.cluster told) × TellsAll told report.released.items
@@ -67,7 +67,7 @@ pub text_of_report : {A E : Type 0} (over_clean : Type 0) (script : ClusterFile)
     → IfOk r (λ report. AreAllReleased report.front.vec report.released.items)
     → (over_clean → IfOk r (λ report. AreOutputsOf images report.released.items)) → IfOk r (λ report. length report.released.items ≡ length images)
     → IfOk r (λ report. length report.statuses.items ≡ length images) → IfOk r (λ report. All IsEnd report.statuses.items)
-    → (over_clean → IfOk r (λ report. AreStatusesAlong images report.statuses.items))
+    → (over_clean → IfOk r (λ report. AreAlongOf images report.statuses.items))
     → (over_clean → IfOk r (λ report. HaveAllOf images report.statuses.items report.released.items))
     → IfOk r (λ report. (told : List Told) × (same_after × Appends a b (told_text cluster told)) × TellsAll told report.released.items)
     → statuses ≡ report.statuses.items → OnOk w (Appends b c (ends_text cluster statuses))
@@ -81,7 +81,7 @@ text_of_report over_clean script cluster images r report statuses (Ok x) a b c s
     (ok_at (λ report. length report.released.items ≡ length images) r report is processes)
     (ok_at (λ report. length report.statuses.items ≡ length images) r report is number)
     (ok_at (λ report. All IsEnd report.statuses.items) r report is ended)
-    (λ clean. ok_at (λ report. AreStatusesAlong images report.statuses.items) r report is (along clean))
+    (λ clean. ok_at (λ report. AreAlongOf images report.statuses.items) r report is (along clean))
     (λ clean. ok_at (λ report. HaveAllOf images report.statuses.items report.released.items) r report is (have clean))
     same_statuses (all.0, subst (λ k. Appends a b (told_text k all.0)) same all.1.1, all.2)
     (subst (λ k. Appends b c (ends_text k statuses)) same ends)

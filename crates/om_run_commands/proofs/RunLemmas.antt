@@ -1,10 +1,8 @@
 -- What is read of the report of a run, and why a run of a script is refused.
 use Rattle.std.proofs.Common.{◌≡◌, ℕ, ◌<◌, ◌≤◌, Option, None, Some, Result, Ok, Err, List, [], length, get_or, map, refl, sym, ap, subst, ◌∙◌, arith}
-use Rattle.std.specs.Prelude.{All, Vec, IfErr, IfOk, IfSome, slice_get}
-use Rattle.std.specs.Option.{option_map}
+use Rattle.std.specs.Prelude.{All, Vec, IfErr, IfOk, IfSome}
 use Rattle.std.specs.declared.alloc.Global.{Global}
 use Rattle.std.proofs.lemmas.List.{get_or-map, length-map}
-use Rattle.std.proofs.lemmas.Option.{slice_get-map}
 use Rattle.om_manager.specs.Outputs.{held_of}
 use Rattle.om_manager.specs.declared.output_log.Output.{Output}
 use Rattle.om_process.specs.Images.{program_of}
@@ -14,7 +12,7 @@ use Rattle.om_process.specs.declared.status.Status.{Status}
 use Rattle.om_scripts.specs.Programs.{Cluster, programs_of}
 use Rattle.om_board.specs.Made.{AreAllMade}
 use Rattle.om_board.specs.Released.{AreAllReleased}
-use Rattle.om_runner.specs.Reports.{AreOutputsOf, AreStatusesAlong, AreWholeOf, HaveAll, HaveAllOf, IsStatusAlong}
+use Rattle.om_runner.specs.Reports.{AreAllAlong, AreAlongOf, AreOutputsOf, AreWholeOf, HaveAll, HaveAllOf}
 use Rattle.om_process.specs.Core.{IsEnd}
 use Rattle.om_board.specs.declared.report.Report.{Report}
 use Rattle.om_runner.specs.declared.fault.RunFault.{RunFault}
@@ -22,7 +20,8 @@ use Rattle.om_runner.specs.declared.fault.RunFault.TheVariants as running
 use Rattle.om_run_commands.specs.Errors.{error_of_run}
 use Rattle.om_run_commands.specs.ClusterScript.{ClusterFile, cluster_file_line, no_settings}
 use Rattle.om_commands.specs.Command.{IsScript}
-use Rattle.om_run_commands.specs.Run.{AreAlong, IsRunAnswer, IsReport, IsErrorOfFollowed, IsErrorOfRun, IsErrorOfScript}
+use Rattle.om_run_commands.specs.Run.{IsRunAnswer, IsReport, IsErrorOfRun}
+use Rattle.om_run_commands.specs.steps.Scripts.{IsErrorOfFollowed, IsErrorOfScript}
 use Rattle.om_run_commands.specs.RunText.{run_text}
 use Rattle.om_commands.specs.declared.error.CommandError.{CommandError}
 use Rattle.om_commands.specs.declared.error.CommandError.TheVariants as errors
@@ -36,26 +35,19 @@ outputs-at released p outputs own lt same there =
     ∙ ap {A = Vec Output Global} (λ os. map held_of os.items) there
     ∙ sym (get_or-map (λ os. map held_of os.items) released p outputs [] lt)
 
--- the image of a program that is there
-image-of : (o : Option Image) (program : Program) → option_map program_of o ≡ Some program
-    → (image : Image) × (o ≡ Some image) × (program_of image ≡ program)
-image-of None program is = cc
-image-of (Some image) program is = (image, refl, cc)
-
--- along the images is along their programs
-along-programs : (images : List Image) (statuses : List Status) → AreStatusesAlong images statuses
-    → AreAlong (map program_of images) statuses
-along-programs images statuses along p program status is_program is_status =
-    let found = image-of (slice_get images p) program (sym (slice_get-map program_of images p) ∙ is_program) in
-    subst (λ n. IsStatusAlong program p n status) (sym (length-map images program_of))
-    (subst (λ program. IsStatusAlong program p (length images) status) found.2 (along p found.0 status found.1 is_status))
-
 -- outputs of images are those of their programs
 made-by-programs : (programs : List Program) (images : List Image) (released : List (Vec Output Global)) → map program_of images ≡ programs
     → AreOutputsOf images released → AreAllMade programs (length programs) released
 made-by-programs programs images released same made =
     subst (λ ps. AreAllMade ps (length ps) released) same
     (subst (λ n. AreAllMade (map program_of images) n released) (sym (length-map images program_of)) made)
+
+-- along the images is along their programs
+along-by-programs : (programs : List Program) (images : List Image) (statuses : List Status) → map program_of images ≡ programs
+    → AreAlongOf images statuses → AreAllAlong programs (length programs) statuses
+along-by-programs programs images statuses same along =
+    subst (λ ps. AreAllAlong ps (length ps) statuses) same
+    (subst (λ n. AreAllAlong (map program_of images) n statuses) (sym (length-map images program_of)) along)
 
 -- where the outputs are as many as were made, none is left out
 all-of-whole : (images : List Image) (statuses : List Status) (released : List (Vec Output Global)) → AreWholeOf images statuses released
@@ -75,7 +67,7 @@ pub is_report : (over_clean : Type 0) (programs : List Program) (images : List I
     → AreAllReleased report.front.vec report.released.items → (over_clean → AreOutputsOf images report.released.items)
     → length report.released.items ≡ length images
     → length report.statuses.items ≡ length images → All IsEnd report.statuses.items
-    → (over_clean → AreStatusesAlong images report.statuses.items)
+    → (over_clean → AreAlongOf images report.statuses.items)
     → (over_clean → HaveAllOf images report.statuses.items report.released.items)
     → IsReport over_clean programs report
 is_report over_clean programs images report same_programs are_released made processes number ended along all =
@@ -85,8 +77,7 @@ is_report over_clean programs images report same_programs are_released made proc
       processes = processes ∙ long;
       statuses = number ∙ long;
       ended = ended;
-      along = λ clean. subst (λ programs. AreAlong programs report.statuses.items) same_programs
-          (along-programs images report.statuses.items (along clean));
+      along = λ clean. along-by-programs programs images report.statuses.items same_programs (along clean);
       all = λ clean. all-by-programs programs images report.statuses.items report.released.items same_programs (all clean);
     }
 
@@ -97,7 +88,7 @@ pub is_answer : (over_clean : Type 0) (script : ClusterFile) (cluster : Cluster)
     → AreAllReleased report.front.vec report.released.items → (over_clean → AreOutputsOf images report.released.items)
     → length report.released.items ≡ length images
     → length report.statuses.items ≡ length images → All IsEnd report.statuses.items
-    → (over_clean → AreStatusesAlong images report.statuses.items)
+    → (over_clean → AreAlongOf images report.statuses.items)
     → (over_clean → AreWholeOf images report.statuses.items report.released.items)
     → released ≡ report.released.items → statuses ≡ report.statuses.items
     → text ≡ run_text cluster (map (λ os. map held_of os.items) released) statuses → IsRunAnswer over_clean script text
@@ -123,7 +114,7 @@ pub answer_of : {E : Type 0} (over_clean : Type 0) (script : ClusterFile) (clust
     → IfOk r (λ report. AreAllReleased report.front.vec report.released.items)
     → (over_clean → IfOk r (λ report. AreOutputsOf images report.released.items)) → IfOk r (λ report. length report.released.items ≡ length images)
     → IfOk r (λ report. length report.statuses.items ≡ length images) → IfOk r (λ report. All IsEnd report.statuses.items)
-    → (over_clean → IfOk r (λ report. AreStatusesAlong images report.statuses.items))
+    → (over_clean → IfOk r (λ report. AreAlongOf images report.statuses.items))
     → (over_clean → IfOk r (λ report. AreWholeOf images report.statuses.items report.released.items))
     → released ≡ report.released.items → statuses ≡ report.statuses.items
     → text ≡ run_text cluster (map (λ os. map held_of os.items) released) statuses → IsRunAnswer over_clean script text
@@ -135,7 +126,7 @@ answer_of over_clean script cluster images r report released statuses text is sa
     (ok_at (λ report. length report.released.items ≡ length images) r report is processes)
     (ok_at (λ report. length report.statuses.items ≡ length images) r report is number)
     (ok_at (λ report. All IsEnd report.statuses.items) r report is ended)
-    (λ clean. ok_at (λ report. AreStatusesAlong images report.statuses.items) r report is (along clean))
+    (λ clean. ok_at (λ report. AreAlongOf images report.statuses.items) r report is (along clean))
     (λ clean. ok_at (λ report. AreWholeOf images report.statuses.items report.released.items) r report is (whole clean))
     same_released same_statuses written
 

@@ -1,5 +1,5 @@
 -- What the command `run --check` answers to the bytes of its input.
-use Rattle.std.specs.Prelude.{◌≡◌, ℕ, ◌≤◌, List, length}
+use Rattle.std.specs.Prelude.{◌≡◌, ℕ, List}
 use Rattle.om_check.specs.FailureFree.{IsRunBy}
 use Rattle.om_manager.specs.Outputs.{HeldOutput}
 use Rattle.om_process.specs.declared.status.Status.{Status}
@@ -7,7 +7,7 @@ use Rattle.om_scripts.specs.Programs.{Cluster, programs_of}
 use Rattle.om_world.specs.declared.entry.Entry.{Entry}
 use Rattle.om_commands.specs.Command.{IsScript}
 use Rattle.om_run_commands.specs.ClusterScript.{ClusterFile, cluster_file_line, no_settings}
-use Rattle.om_run_commands.specs.Run.{IsClusterFile, IsErrorOfRun, IsErrorOfScript}
+use Rattle.om_run_commands.specs.Run.{IsClusterFile, IsErrorOfRun}
 use Rattle.om_run_commands.specs.RunText.{run_text}
 use Rattle.om_commands.specs.declared.error.CommandError.{CommandError}
 use Rattle.om_commands.specs.declared.error.CommandError.TheVariants as errors
@@ -30,10 +30,6 @@ pub record IsCheckedRun (bytes text : List ℕ) : Type 0 where
   pub failure_free : IsFailureFreeText script.cluster text
 
 -- the errors are those of a run, and that it is unlike its check
-abbrev pub IsErrorOfCheckedScript : ClusterFile → CommandError → Type 0
-IsErrorOfCheckedScript script errors.Unlike = 1 ≤ length script.cluster.processes
-IsErrorOfCheckedScript script error = IsErrorOfScript script error
-
 abbrev pub IsErrorOfCheckedRun : List ℕ → CommandError → Type 0
 IsErrorOfCheckedRun bytes errors.Unlike = IsClusterFile bytes
 IsErrorOfCheckedRun bytes error = IsErrorOfRun bytes error

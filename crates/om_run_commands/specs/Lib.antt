@@ -6,3 +6,4 @@ pub mod EventText
 pub mod Follow
 pub mod Run
 pub mod RunText
+pub mod steps

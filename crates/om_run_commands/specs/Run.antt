@@ -3,10 +3,10 @@ use Rattle.std.specs.Prelude.{◌≡◌, ℕ, ◌≤◌, List, All, Some, length
 use Rattle.om_manager.specs.Outputs.{HeldOutput, held_of}
 use Rattle.om_process.specs.Process.{Program}
 use Rattle.om_process.specs.declared.status.Status.{Status}
-use Rattle.om_scripts.specs.Programs.{programs_of}
+use Rattle.om_scripts.specs.Programs.{LacksProcesses, programs_of}
 use Rattle.om_board.specs.Made.{AreAllMade}
 use Rattle.om_board.specs.Released.{AreAllReleased}
-use Rattle.om_runner.specs.Reports.{HaveAll, IsStatusAlong}
+use Rattle.om_runner.specs.Reports.{AreAllAlong, HaveAll}
 use Rattle.om_process.specs.Core.{IsEnd}
 use Rattle.om_board.specs.declared.report.Report.{Report}
 use Rattle.om_commands.specs.Command.{IsErrorOf, IsScript}
@@ -14,15 +14,6 @@ use Rattle.om_run_commands.specs.ClusterScript.{ClusterFile, cluster_file_line, 
 use Rattle.om_run_commands.specs.RunText.{run_text}
 use Rattle.om_commands.specs.declared.error.CommandError.{CommandError}
 use Rattle.om_commands.specs.declared.error.CommandError.TheVariants as errors
-
--- a script without a process is empty
-abbrev pub LacksProcesses : ClusterFile → Type 0
-LacksProcesses script = length script.cluster.processes ≡ 0
-
--- by process: its status is that of a state along its program, for some receipts and turns
-abbrev pub AreAlong : List Program → List Status → Type 0
-AreAlong programs statuses = (p : ℕ) (program : Program) (status : Status)
-    → slice_get programs p ≡ Some program → slice_get statuses p ≡ Some status → IsStatusAlong program p (length programs) status
 
 -- What a run of these programs ends with: the outputs that are released of each process are numbered from 0 without a gap,
 -- each made within the front, and over clean stores each is the one of its number that its program makes; and each process
@@ -33,7 +24,7 @@ pub record IsReport (over_clean : Type 0) (programs : List Program) (report : Re
   pub processes : length report.released.items ≡ length programs
   pub statuses : length report.statuses.items ≡ length programs
   pub ended : All IsEnd report.statuses.items
-  pub along : over_clean → AreAlong programs report.statuses.items
+  pub along : over_clean → AreAllAlong programs (length programs) report.statuses.items
   pub all : over_clean → HaveAll programs (length programs) report.statuses.items report.released.items
 
 -- the outputs of each process, each at the place that is its number
@@ -51,29 +42,6 @@ pub record IsRun (over_clean : Type 0) (bytes text : List ℕ) : Type 0 where
   pub is_script : IsScript cluster_file_line no_settings bytes script
   pub answer : IsRunAnswer over_clean script text
 
--- A script without a process is told, and so is it where a run comes to no end. Nothing else of the script is.
-abbrev pub IsErrorOfScript : ClusterFile → CommandError → Type 0
-IsErrorOfScript script errors.EmptyScript = LacksProcesses script
-IsErrorOfScript script errors.NoMemory = Unit {0}
-IsErrorOfScript script errors.OutOfTurns = 1 ≤ length script.cluster.processes
-IsErrorOfScript script errors.GateShut = 1 ≤ length script.cluster.processes
-IsErrorOfScript script errors.StoreFault = 1 ≤ length script.cluster.processes
-IsErrorOfScript script errors.NoThread = 1 ≤ length script.cluster.processes
-IsErrorOfScript script errors.Unlike = ⊥
-IsErrorOfScript script errors.TooLong = ⊥
-IsErrorOfScript script errors.CannotRead = ⊥
-IsErrorOfScript script errors.CannotWrite = ⊥
-IsErrorOfScript script (errors.Script error) = ⊥
-IsErrorOfScript script errors.NoCheckpoint = ⊥
-IsErrorOfScript script (errors.Damaged y) = ⊥
-IsErrorOfScript script (errors.MissingReceipt y) = ⊥
-IsErrorOfScript script (errors.Mismatch y) = ⊥
-
--- the error of a script whose outputs are written while it runs, or the writer's
-abbrev pub IsErrorOfFollowed : ClusterFile → CommandError → Type 0
-IsErrorOfFollowed script errors.CannotWrite = Unit {0}
-IsErrorOfFollowed script error = IsErrorOfScript script error
-
 -- the bytes are a cluster file of a process or more
 pub record IsClusterFile (bytes : List ℕ) : Type 0 where
   pub script : ClusterFile
@@ -86,4 +54,4 @@ IsErrorOfRun bytes errors.OutOfTurns = IsClusterFile bytes
 IsErrorOfRun bytes errors.GateShut = IsClusterFile bytes
 IsErrorOfRun bytes errors.StoreFault = IsClusterFile bytes
 IsErrorOfRun bytes errors.NoThread = IsClusterFile bytes
-IsErrorOfRun bytes error = IsErrorOf cluster_file_line no_settings LacksProcesses bytes error
+IsErrorOfRun bytes error = IsErrorOf cluster_file_line no_settings (λ script. LacksProcesses script.cluster) bytes error

@@ -2,9 +2,9 @@
 
 ghost use Rattle.std.specs.Prelude.{◌≡◌, ◌≤◌, ℕ, List, length, IfSome, IfOk, IfErr, OnOk, string_bytes};
 ghost use Rattle.std.specs.Io.KnownBytes.{Appends, Keeps};
-ghost use Rattle.om_run_commands.specs.Check.{IsCheckedRun, IsErrorOfCheckedRun, IsErrorOfCheckedScript, IsFailureFreeText};
+ghost use Rattle.om_run_commands.specs.Check.{IsCheckedRun, IsErrorOfCheckedRun, IsFailureFreeText};
+ghost use Rattle.om_run_commands.specs.steps.Scripts.{IsErrorOfCheckedScript, IsErrorOfScript};
 ghost use Rattle.om_commands.specs.Command.{IsSilent};
-ghost use Rattle.om_run_commands.specs.Run.{IsErrorOfScript};
 
 use crate::checked::{checked_events, checked_text};
 use crate::cluster_script::ClusterScript;

@@ -3,7 +3,8 @@
 ghost use Rattle.std.specs.Prelude.{◌≡◌, ◌≤◌, IfSome, IfOk, IfErr, length};
 ghost use Rattle.om_interval.specs.declared.pid.TheConstants.{MAX_PROCESSES};
 ghost use Rattle.om_run_commands.specs.ClusterSize.{HasProcesses};
-ghost use Rattle.om_run_commands.specs.Run.{IsErrorOfRun, IsErrorOfScript};
+ghost use Rattle.om_run_commands.specs.Run.{IsErrorOfRun};
+ghost use Rattle.om_run_commands.specs.steps.Scripts.{IsErrorOfScript};
 
 use crate::cluster_script::ClusterScript;
 use om_commands::{CommandError, read_input};

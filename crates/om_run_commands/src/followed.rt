@@ -6,7 +6,8 @@ ghost use Rattle.om_runner.specs.Telling.{told_of};
 ghost use Rattle.om_run_commands.specs.ClusterScript.{ClusterFile};
 ghost use Rattle.om_run_commands.specs.Errors.{error_of_run};
 ghost use Rattle.om_run_commands.specs.Follow.{IsFollowedAnswer, IsFollowedRun, IsPart, IsPartOf, IsPartly, told_line, told_text};
-ghost use Rattle.om_run_commands.specs.Run.{IsErrorOfFollowed, IsErrorOfRun};
+ghost use Rattle.om_run_commands.specs.Run.{IsErrorOfRun};
+ghost use Rattle.om_run_commands.specs.steps.Scripts.{IsErrorOfFollowed};
 ghost use Rattle.om_run_commands.specs.RunText.{ends_text};
 ghost use Rattle.om_commands.specs.SimText.{name_at};
 

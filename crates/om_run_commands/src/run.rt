@@ -5,7 +5,8 @@ ghost use Rattle.std.specs.Io.KnownBytes.{Appends, Keeps};
 ghost use Rattle.om_process.specs.Images.{program_of};
 ghost use Rattle.om_scripts.specs.Programs.{programs_of};
 ghost use Rattle.om_commands.specs.Command.{IsSilent};
-ghost use Rattle.om_run_commands.specs.Run.{IsErrorOfRun, IsErrorOfScript, IsRun, IsRunAnswer};
+ghost use Rattle.om_run_commands.specs.Run.{IsErrorOfRun, IsRun, IsRunAnswer};
+ghost use Rattle.om_run_commands.specs.steps.Scripts.{IsErrorOfScript};
 
 use crate::cluster_script::ClusterScript;
 use crate::error::error_of_run;

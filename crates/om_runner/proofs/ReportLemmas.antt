@@ -12,7 +12,7 @@ use Rattle.om_manager.specs.declared.output_log.Output.{Output}
 use Rattle.om_process.specs.Process.{Program}
 use Rattle.om_board.specs.Made.{AreAllMade}
 use Rattle.std.proofs.lemmas.Result.{IfOk-weaker}
-use Rattle.om_runner.specs.Reports.{AreAlong, AreOutputsOf, AreStatusesAlong, AreWholeOf, HaveAllOf, IsWholeRun}
+use Rattle.om_runner.specs.Reports.{AreAlongOf, AreAlongOver, AreOutputsOf, AreWholeOf, HaveAllOf, IsStatusAlong, IsWholeRun}
 use Rattle.om_process.specs.Core.{IsEnd}
 use Rattle.om_board.specs.Inboxes.{Traffic, Takings}
 use Rattle.om_runner.specs.declared.results.Finished.{Finished}
@@ -170,7 +170,7 @@ have_more is_clean images statuses few released stores many less whole p image s
 
 -- and the statuses are those of states along the images
 pub all_along : {S : Type 0} (is_clean : S → Bool) (images : List Image) (statuses : List Status) (released : List (Vec Output Global)) (stores : List S)
-    → length released ≡ length images → HaveAllOver is_clean images statuses released stores → AreAlong is_clean images statuses stores
+    → length released ≡ length images → HaveAllOver is_clean images statuses released stores → AreAlongOver is_clean images statuses stores
 all_along is_clean images statuses released stores many all p image status store at_image at_status at_store clean =
     elim (slice_get_cases released p).1 [
       | inl outputs ↦ let run = all p image status outputs.0 store at_image at_status outputs.2 at_store clean in (run.1.0, run.1.1, run.1.2, run.1.3)
@@ -203,11 +203,15 @@ all_always is_clean images statuses released stores many all always p program st
     ]
 
 pub along_always : {S : Type 0} (is_clean : S → Bool) (images : List Image) (statuses : List Status) (stores : List S) → length stores ≡ length images
-    → AreAlong is_clean images statuses stores → ((s : S) → IsTrue (is_clean s)) → AreStatusesAlong images statuses
-along_always is_clean images statuses stores many along always p image status at_image at_status = elim (slice_get_cases stores p).1 [
-  | inl store ↦ along p image status store.0 at_image at_status store.2 (always store.0)
-  | inr past ↦ let l = past.0 in let lt = slice_get_within images p image at_image in absurd (omega arith)
-]
+    → AreAlongOver is_clean images statuses stores → ((s : S) → IsTrue (is_clean s)) → AreAlongOf images statuses
+along_always is_clean images statuses stores many along always p program status at_program at_status =
+    let image = map_had program_of images p program at_program in
+    elim (slice_get_cases stores p).1 [
+      | inl store ↦
+          subst (λ q. IsStatusAlong q p (length images) status) image.2
+          (along p image.0 status store.0 image.1 at_status store.2 (always store.0))
+      | inr past ↦ let l = past.0 in let lt = slice_get_within images p image.0 image.1 in absurd (omega arith)
+    ]
 
 -- where the programs are those of the images, the outputs are theirs
 pub made_of_images : {A E : Type 0} (released : A → List (Vec Output Global)) (programs : List Program) (n : ℕ) (images : List Image) (result : Result A E)

@@ -12,16 +12,8 @@ use Rattle.om_process.specs.Process.{Process, Program, Received, made}
 use Rattle.om_process.specs.Turns.{Reaches, next_move}
 use Rattle.om_process.specs.declared.image.Image.{Image}
 use Rattle.om_process.specs.declared.status.Status.{Status}
-use Rattle.om_process.specs.declared.status.Status.TheVariants.{Ready, Waiting, Ended, Trapped}
 use Rattle.om_runner.specs.declared.fault.RunFault.{RunFault}
 use Rattle.om_runner.specs.declared.fault.RunFault.TheVariants.{Turns, GateShut, Memory, Fault, Load, NoThread}
-
--- the process has come to an end
-abbrev pub IsEnd : Status → Type 0
-IsEnd (Ended code) = Unit {0}
-IsEnd (Trapped cause) = Unit {0}
-IsEnd Ready = ⊥
-IsEnd Waiting = ⊥
 
 -- the status is that of a state of process `own` of n along the program, for some receipts and turns
 abbrev pub IsStatusAlong : Program → ℕ → ℕ → Status → Type 0
@@ -29,16 +21,19 @@ IsStatusAlong program own n status = (h : List Received) × (s : Process) × Rea
     × (status ≡ status_of (next_move own n s.machine (made s.queues)))
 
 -- by process: where its store is clean, its status is that of a state along its image
-abbrev pub AreAlong : {S : Type 0} → (S → Bool) → List Image → List Status → List S → Type 0
-AreAlong is_clean images statuses stores = (p : ℕ) (image : Image) (status : Status) (store : _)
+abbrev pub AreAlongOver : {S : Type 0} → (S → Bool) → List Image → List Status → List S → Type 0
+AreAlongOver is_clean images statuses stores = (p : ℕ) (image : Image) (status : Status) (store : _)
     → slice_get images p ≡ Some image → slice_get statuses p ≡ Some status → slice_get stores p ≡ Some store
     → IsTrue (is_clean store) → IsStatusAlong (program_of image) p (length images) status
 
--- by process: its status is that of a state along its image
-abbrev pub AreStatusesAlong : List Image → List Status → Type 0
-AreStatusesAlong images statuses = (p : ℕ) (image : Image) (status : Status)
-    → slice_get images p ≡ Some image → slice_get statuses p ≡ Some status
-    → IsStatusAlong (program_of image) p (length images) status
+-- by process: its status is that of a state of a process of n along its program
+abbrev pub AreAllAlong : List Program → ℕ → List Status → Type 0
+AreAllAlong programs n statuses = (p : ℕ) (program : Program) (status : Status)
+    → slice_get programs p ≡ Some program → slice_get statuses p ≡ Some status → IsStatusAlong program p n status
+
+-- the same of images
+abbrev pub AreAlongOf : List Image → List Status → Type 0
+AreAlongOf images statuses = AreAllAlong (map program_of images) (length images) statuses
 
 -- by process: each of its outputs is the one of its number that its image makes along some receipts
 abbrev pub AreOutputsOf : List Image → List (Vec Output Global) → Type 0

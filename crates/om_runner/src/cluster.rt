@@ -7,7 +7,7 @@ ghost use Rattle.om_board.specs.Released.{AreAllReleased};
 ghost use Rattle.om_interval.specs.declared.pid.TheConstants.{MAX_PROCESSES};
 ghost use Rattle.om_process.specs.Images.{program_of};
 ghost use Rattle.om_process.specs.declared.image.Image.{Image};
-ghost use Rattle.om_runner.specs.Reports.{AreAlong, AreOutputsOf, AreStatusesAlong, AreWholeOf, IsFaultOf, IsWholeRun};
+ghost use Rattle.om_runner.specs.Reports.{AreAlongOf, AreAlongOver, AreOutputsOf, AreWholeOf, IsFaultOf, IsWholeRun};
 ghost use Rattle.om_process.specs.Core.{IsEnd};
 ghost use Rattle.om_runner.specs.declared.fault.RunFault.TheVariants.{Memory};
 ghost use Rattle.om_runner.specs.steps.Acts.{UnderLock};
@@ -686,7 +686,7 @@ pub fn run_and_keep_stores<R: Threads + Wait + Clock + Sync, G: Gate + Sync, O: 
     ensures statuses { IfOk result (λ r. length r.0.statuses.items ≡ length config.now.images.items) }
     ensures stores { IfOk result (λ r. length r.1.items ≡ length config.now.images.items) }
     ensures ended { IfOk result (λ r. All IsEnd r.0.statuses.items) }
-    ensures along { IfOk result (λ r. AreAlong O.Store.is_clean config.now.images.items r.0.statuses.items r.1.items) }
+    ensures along { IfOk result (λ r. AreAlongOver O.Store.is_clean config.now.images.items r.0.statuses.items r.1.items) }
     ensures whole { ((store : O.Store) → IsTrue (O.Store.is_clean store))
         → IfOk result (λ r. AreWholeOf config.now.images.items r.0.statuses.items r.0.released.items) }
     ensures turns { OnOk result (1 ≤ config.now.turns) }
@@ -730,7 +730,7 @@ pub fn run_and_keep_witnesses<
     ensures statuses { IfOk result (λ r. length r.0.statuses.items ≡ length config.now.images.items) }
     ensures ended { IfOk result (λ r. All IsEnd r.0.statuses.items) }
     ensures along { ((store : O.Store) → IsTrue (O.Store.is_clean store))
-        → IfOk result (λ r. AreStatusesAlong config.now.images.items r.0.statuses.items) }
+        → IfOk result (λ r. AreAlongOf config.now.images.items r.0.statuses.items) }
     ensures whole { ((store : O.Store) → IsTrue (O.Store.is_clean store))
         → IfOk result (λ r. AreWholeOf config.now.images.items r.0.statuses.items r.0.released.items) }
     ensures turns { OnOk result (1 ≤ config.now.turns) }
@@ -772,7 +772,7 @@ pub fn run_and_record<R: Threads + Wait + Clock + Sync, G: Gate + Sync, O: Opene
     ensures statuses { IfOk result (λ report. length report.statuses.items ≡ length config.now.images.items) }
     ensures ended { IfOk result (λ report. All IsEnd report.statuses.items) }
     ensures along { ((store : O.Store) → IsTrue (O.Store.is_clean store))
-        → IfOk result (λ report. AreStatusesAlong config.now.images.items report.statuses.items) }
+        → IfOk result (λ report. AreAlongOf config.now.images.items report.statuses.items) }
     ensures whole { ((store : O.Store) → IsTrue (O.Store.is_clean store))
         → IfOk result (λ report. AreWholeOf config.now.images.items report.statuses.items report.released.items) }
     ensures turns { OnOk result (1 ≤ config.now.turns) }
@@ -820,7 +820,7 @@ pub fn run_cluster<R: Threads + Wait + Clock + Sync, G: Gate + Sync, O: Opener<R
     ensures statuses { IfOk result (λ report. length report.statuses.items ≡ length config.now.images.items) }
     ensures ended { IfOk result (λ report. All IsEnd report.statuses.items) }
     ensures along { ((store : O.Store) → IsTrue (O.Store.is_clean store))
-        → IfOk result (λ report. AreStatusesAlong config.now.images.items report.statuses.items) }
+        → IfOk result (λ report. AreAlongOf config.now.images.items report.statuses.items) }
     ensures whole { ((store : O.Store) → IsTrue (O.Store.is_clean store))
         → IfOk result (λ report. AreWholeOf config.now.images.items report.statuses.items report.released.items) }
     ensures turns { OnOk result (1 ≤ config.now.turns) }

@@ -5,7 +5,7 @@ ghost use Rattle.om_board.specs.Made.{AreAllMade};
 ghost use Rattle.om_board.specs.Released.{AreAllReleased};
 ghost use Rattle.om_interval.specs.declared.pid.TheConstants.{MAX_PROCESSES};
 ghost use Rattle.om_process.specs.Images.{program_of};
-ghost use Rattle.om_runner.specs.Reports.{AreOutputsOf, AreStatusesAlong, HaveAllOf};
+ghost use Rattle.om_runner.specs.Reports.{AreAlongOf, AreOutputsOf, HaveAllOf};
 ghost use Rattle.om_process.specs.Core.{IsEnd};
 ghost use Rattle.om_runner.specs.Telling.{AreInOrder, AreToldMade, TellsAll, Told};
 ghost use Rattle.om_runner.specs.declared.follower.FollowFault.TheVariants.{Unwanted};
@@ -186,7 +186,7 @@ pub fn run_and_follow<
     ensures statuses { IfOk result.0 (λ report. length report.statuses.items ≡ length config.now.images.items) }
     ensures ended { IfOk result.0 (λ report. All IsEnd report.statuses.items) }
     ensures along { ((store : O.Store) → IsTrue (O.Store.is_clean store))
-        → IfOk result.0 (λ report. AreStatusesAlong config.now.images.items report.statuses.items) }
+        → IfOk result.0 (λ report. AreAlongOf config.now.images.items report.statuses.items) }
     ensures all { ((store : O.Store) → IsTrue (O.Store.is_clean store))
         → IfOk result.0 (λ report. HaveAllOf config.now.images.items report.statuses.items report.released.items) }
     ensures told { IfOk result.0 (λ report. (told : List Told) × F.Tells follower result.1 told × TellsAll told report.released.items) }

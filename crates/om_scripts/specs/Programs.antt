@@ -4,7 +4,7 @@ use Rattle.std.specs.Int.{to_le_bytes, w32}
 use Rattle.om_interval.specs.declared.pid.TheConstants.{MAX_PROCESSES}
 use Rattle.om_isa.specs.declared.ext.Ext.{Ext}
 use Rattle.om_isa.specs.declared.ext.Ext.TheVariants.{I}
-use Rattle.om_format.specs.Checkpoints.{is_memory_size}
+use Rattle.om_isa.specs.Memory.{is_memory_size}
 use Rattle.om_process.specs.Process.{Program}
 use Rattle.om_text.specs.Numbers.{number_of, hex_word}
 use Rattle.om_text.specs.Reading.{◌>>=◌, refused, or_error}
@@ -41,6 +41,10 @@ program_at cluster place = (slice_index_or cluster.programs place ([], record { 
 -- the name of the program at a place
 abbrev pub program_name : Cluster → ℕ → List ℕ
 program_name cluster place = (slice_index_or cluster.programs place ([], record { image = []; size = 0; ext = I })).0
+
+-- no line of a process was read
+abbrev pub LacksProcesses : Cluster → Type 0
+LacksProcesses cluster = length cluster.processes ≡ 0
 
 -- the program of each process
 abbrev pub programs_of : Cluster → List Program

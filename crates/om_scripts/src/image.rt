@@ -2,7 +2,7 @@
 
 ghost use Rattle.std.specs.Prelude.{◌≡◌, ◌*◌, ◌^◌, ◌<◌, ◌≤◌, length, map, flat_map, true, IfOk, OnOk};
 ghost use Rattle.std.specs.Int.{to_le_bytes, w32};
-ghost use Rattle.om_format.specs.Checkpoints.{is_memory_size};
+ghost use Rattle.om_isa.specs.Memory.{is_memory_size};
 ghost use Rattle.om_process.specs.Images.{program_of};
 ghost use Rattle.om_scripts.specs.Programs.{IsProgram, program_in, words_in};
 ghost use Rattle.om_text.specs.Reading.{Gives};

@@ -11,9 +11,8 @@ ghost use Rattle.om_scripts.specs.Programs.{IsProgram, no_programs, program_at, 
 use crate::image::{image_of, words_in};
 use crate::named::Named;
 use crate::names::name_of;
-use om_format::MemoryBytes;
 use om_interval::MAX_PROCESSES;
-use om_isa::Ext;
+use om_isa::{Ext, is_memory_size};
 use om_process::Image;
 use om_text::{BuildError, LineError, number_of};
 use std::alloc::{AllocError, Global};
@@ -171,7 +170,7 @@ impl Programs {
         if self.is_closed {
             return Err(LineError::OutOfPlace.into());
         }
-        if !MemoryBytes::is_size(size as usize) {
+        if !is_memory_size(size as usize) {
             return Err(LineError::BadSize.into());
         }
         if (size as usize) < 4 * words.len() {

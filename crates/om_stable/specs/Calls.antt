@@ -4,7 +4,7 @@ use Rattle.om_stable.specs.Count.{Rose}
 use Rattle.om_stable.specs.declared.error.StoreError.{StoreError}
 use Rattle.om_stable.specs.declared.error.StoreError.TheVariants.{Fault}
 
--- what a call does to the content is known: the store is clean as it ends, and was sound as it began
+-- the store is clean as the call ends, and was sound as it began: so what the call does to the content is known
 abbrev pub IsCleanCall : {S : Type 0} → (S → Bool) → (S → Type 0) → S → S → Type 0
 IsCleanCall is_clean IsSound old new = IsTrue (is_clean new) × IsSound old
 
@@ -14,5 +14,12 @@ pub record IsCall {S : Type 0} (failed : S → ℕ) (is_clean : S → Bool) (IsS
   pub fault : error ≡ Some Fault → Rose (failed old) (failed new)
   pub count : failed old ≤ failed new
   pub gives : call_gives old error new
+  pub clean : IsTrue (is_clean new) → IsTrue (is_clean old)
+  pub sound : IsTrue (is_clean new) → IsSound old → IsSound new
+
+-- what a call leaves and counts of a store that it uses, by the store before, whether it answers a fault of it, and the store after
+pub record UsesStore {S : Type 0} (failed : S → ℕ) (is_clean : S → Bool) (IsSound : S → Type 0) (old : S) (IsFault : Type 0) (new : S) : Type 0 where
+  pub fault : IsFault → Rose (failed old) (failed new)
+  pub count : failed old ≤ failed new
   pub clean : IsTrue (is_clean new) → IsTrue (is_clean old)
   pub sound : IsTrue (is_clean new) → IsSound old → IsSound new

@@ -3,8 +3,8 @@ use Rattle.std.proofs.Common.{◌≡◌, ◌≢◌, ◌↔◌, ◌⊎◌, inl, i
 use Rattle.std.specs.Prelude.{IfOk, IsErrOf, IsSome, IsTrue, OnOk, slice_get}
 use Rattle.std.specs.FinMap.{get}
 use Rattle.om_interval.specs.declared.pid.TheConstants.{MAX_PROCESSES}
-use Rattle.om_machine.specs.State.{IsSize}
-use Rattle.om_machine.specs.declared.limits.TheConstants.{MAX_SIZE, MIN_SIZE}
+use Rattle.om_isa.specs.Memory.{IsMemorySize}
+use Rattle.om_isa.specs.declared.memory.TheConstants.{MAX_MEMORY, MIN_MEMORY}
 use Rattle.om_stable.specs.Calls.{IsCleanCall}
 use Rattle.om_stable.specs.Content.{Content}
 use Rattle.om_stable.specs.Count.{Rose}
@@ -19,10 +19,10 @@ use Rattle.om_world.specs.steps.Starting.{AreStarted, IsStart, IsStartedOver}
 use Rattle.om_world.proofs.Lists.{either, none_in, once, set_apart}
 use Rattle.om_world.proofs.Raising.{less}
 
-is_size : (size : ℕ) → IsSize size ⊎ ¬ IsSize size
-is_size size = elim (less size MIN_SIZE) [
+is_size : (size : ℕ) → IsMemorySize size ⊎ ¬ IsMemorySize size
+is_size size = elim (less size MIN_MEMORY) [
   | inl lt ↦ inr (λ s. let a = s.least in absurd (omega arith))
-  | inr least ↦ elim (less MAX_SIZE size) [
+  | inr least ↦ elim (less MAX_MEMORY size) [
     | inl lt ↦ inr (λ s. let a = s.greatest in absurd (omega arith))
     | inr greatest ↦ elim (either (size % 4) 0) [
       | inl in_words ↦ inl (record { least = least; greatest = greatest; in_words = in_words })
@@ -36,8 +36,8 @@ pub record Says {S : Type 0} (content : S → Content) (failed : S → ℕ) (is_
   pub started : IfOk result (λ core. core ≡ started_core program p n)
   pub stored : IsCleanCall is_clean IsSound before after → IfOk result (λ core. HasGainedCheckpoint core (content before) (content after))
   pub bad_place : (result ≡ Err BadPlace) ↔ ¬ IsPlace p n
-  pub bad_size : (result ≡ Err BadSize) ↔ (IsPlace p n × ¬ IsSize program.size)
-  pub too_long : (result ≡ Err ImageTooLong) ↔ (IsPlace p n × IsSize program.size × (program.size < length program.image))
+  pub bad_size : (result ≡ Err BadSize) ↔ (IsPlace p n × ¬ IsMemorySize program.size)
+  pub too_long : (result ≡ Err ImageTooLong) ↔ (IsPlace p n × IsMemorySize program.size × (program.size < length program.image))
   pub free : IsCleanCall is_clean IsSound before after → OnOk result (get (content before).checkpoints 0 ≡ None)
   pub present : IsCleanCall is_clean IsSound before after → IsErrOf result Present → IsSome (get (content before).checkpoints 0)
   pub fault : IsErrOf result Fault → Rose (failed before) (failed after)

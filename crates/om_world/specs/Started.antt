@@ -2,7 +2,7 @@
 use Rattle.std.specs.Prelude.{◌≡◌, ℕ, ◌<◌, ◌≤◌, ◌↔◌, List, [], ◌∷◌, length, replicate, slice_get, Bool, IsSome, IsTrue, false, None, Some}
 use Rattle.std.specs.FinMap.{get}
 use Rattle.om_interval.specs.declared.pid.TheConstants.{MAX_PROCESSES}
-use Rattle.om_machine.specs.State.{IsSize}
+use Rattle.om_isa.specs.Memory.{IsMemorySize}
 use Rattle.om_stable.specs.Calls.{IsCleanCall}
 use Rattle.om_stable.specs.Content.{Content}
 use Rattle.om_stable.specs.Count.{Rose}
@@ -50,15 +50,15 @@ HaveFirst w = (p : ℕ) (c : CoreState) (before : Content) → slice_get w.cores
 
 -- a machine is loaded with the program
 pub record IsLoadable (program : Program) : Type 0 where
-  pub size : IsSize program.size
+  pub size : IsMemorySize program.size
   pub fits : length program.image ≤ program.size
 
 -- why a process of this program was not started over a store, by the store before and after
 abbrev pub IsWhy : {S : Type 0} → (S → Content) → (S → ℕ) → (S → Bool) → (S → Type 0)
     → Program → StartFault → S → S → Type 0
 IsWhy content failed is_clean IsSound program BadPlace before after = ⊥
-IsWhy content failed is_clean IsSound program BadSize before after = ¬ IsSize program.size
-IsWhy content failed is_clean IsSound program ImageTooLong before after = IsSize program.size × (program.size < length program.image)
+IsWhy content failed is_clean IsSound program BadSize before after = ¬ IsMemorySize program.size
+IsWhy content failed is_clean IsSound program ImageTooLong before after = IsMemorySize program.size × (program.size < length program.image)
 IsWhy content failed is_clean IsSound program Present before after =
     IsCleanCall is_clean IsSound before after → IsSome (get (content before).checkpoints 0)
 IsWhy content failed is_clean IsSound program Fault before after = Rose (failed before) (failed after)

@@ -3,6 +3,7 @@ use Rattle.std.specs.Prelude.{ℕ, zero, suc, ◌+◌, ◌-◌, ◌*◌, ◌%◌
 use Rattle.om_format.specs.declared.error.DecodeError.{DecodeError}
 use Rattle.om_format.specs.declared.error.DecodeError.TheVariants.{Field}
 use Rattle.om_format.specs.declared.limits.TheConstants.{PAGE}
+use Rattle.om_format.specs.declared.offsets.TheConstants.{CLUSTER, COUNT, OWN, PC, VECTOR}
 use Rattle.om_isa.specs.declared.registers.TheConstants.{WRITABLE_REGISTERS}
 use Rattle.om_format.specs.declared.version.Version.{Version}
 use Rattle.om_format.specs.declared.version.Version.TheVariants.{V1, V2}
@@ -12,16 +13,18 @@ use Rattle.om_format.specs.Formats.{Size, one, two, four, eight, bytes_in}
 use Rattle.om_format.specs.Queues.{QueueRecord, is_between}
 use Rattle.om_format.specs.Pages.{Page, page_count, page_size, is_kept}
 use Rattle.om_format.specs.Versions.{is_kind, ext_of, is_version, version_of, is_cluster_size}
-use Rattle.om_format.specs.Checkpoints.{CheckpointRecord, is_memory_size}
+use Rattle.om_format.specs.Checkpoints.{CheckpointRecord}
+use Rattle.om_isa.specs.Memory.{is_memory_size}
+use Rattle.om_format.specs.steps.Offsets.{got_offset, made_offset, memory_offset, size_offset}
 use Rattle.om_format.specs.steps.Reading.{◌>>=◌, allow, number_at, numbers_at, bytes_at, opening_at, body_at, end_at}
 
 -- how many processes there are, which one this is, and the bytes after that
 unfoldable pub place_at : Version → List ℕ → Result (ℕ × ℕ × List ℕ) DecodeError
 place_at version bytes = do
   n ← number_at one bytes
-  is_cluster ← allow (is_cluster_size version n.0) (Field 2)
+  is_cluster ← allow (is_cluster_size version n.0) (Field CLUSTER)
   pid ← number_at one n.1
-  is_below ← allow (nat_lt pid.0 n.0) (Field 3)
+  is_below ← allow (nat_lt pid.0 n.0) (Field OWN)
   Ok (n.0, pid.0, pid.1)
 
 -- the interval, how many instructions were finished, the address of the next one, and the bytes after that
@@ -29,18 +32,18 @@ unfoldable pub progress_at : List ℕ → Result (ℕ × ℕ × ℕ × List ℕ)
 progress_at bytes = do
   interval ← number_at four bytes
   count ← number_at eight interval.1
-  is_counted ← allow (nat_le interval.0 count.0) (Field 8)
+  is_counted ← allow (nat_le interval.0 count.0) (Field COUNT)
   pc ← number_at four count.1
-  is_aligned ← allow (pc.0 % 4 == 0) (Field 16)
+  is_aligned ← allow (pc.0 % 4 == 0) (Field PC)
   Ok (interval.0, count.0, pc.0, pc.1)
 
 -- the dependency vector, the numbers got and the numbers sent, and the bytes after them
 unfoldable pub vectors_at : ℕ → ℕ → ℕ → List ℕ → Result (List ℕ × List ℕ × List ℕ × List ℕ) DecodeError
 vectors_at n pid interval bytes = do
   vec ← numbers_at four n bytes
-  is_own ← allow (slice_index vec.0 pid == interval) (Field 144)
+  is_own ← allow (slice_index vec.0 pid == interval) (Field VECTOR)
   got ← numbers_at four n vec.1
-  is_sum ← allow (sum got.0 == interval) (Field (144 + 4 * n))
+  is_sum ← allow (sum got.0 == interval) (Field (got_offset n))
   sent ← numbers_at four n got.1
   Ok (vec.0, got.0, sent.0, sent.1)
 
@@ -48,9 +51,9 @@ vectors_at n pid interval bytes = do
 unfoldable pub made_at : ℕ → ℕ → List ℕ → Result (ℕ × ℕ × List ℕ) DecodeError
 made_at n count bytes = do
   made ← number_at eight bytes
-  is_made ← allow (nat_le made.0 count) (Field (144 + 12 * n))
+  is_made ← allow (nat_le made.0 count) (Field (made_offset n))
   size ← number_at four made.1
-  is_size ← allow (is_memory_size size.0) (Field (152 + 12 * n))
+  is_size ← allow (is_memory_size size.0) (Field (size_offset n))
   Ok (made.0, size.0, size.1)
 
 -- the fields before the memory
@@ -153,7 +156,7 @@ queues_at newest (stop ∷ stops) offset bytes = do
 -- the memory and the queues behind these fields
 unfoldable pub rest_at : Front → List ℕ → Result (List ℕ × List QueueRecord × QueueRecord) DecodeError
 rest_at f bytes = do
-  memory ← memory_at f.version f.size (156 + 12 * f.n) bytes
+  memory ← memory_at f.version f.size (memory_offset f.n) bytes
   kept ← queues_at f.head.interval f.head.sent memory.1 memory.2
   outputs ← queue_at eight f.head.interval f.head.made kept.1 kept.2
   ended ← end_at outputs.2

@@ -8,7 +8,7 @@ use Rattle.om_process.specs.declared.limits.TheConstants.{LAST_INTERVAL}
 use Rattle.om_look.specs.Lines.{AreLines, IsCheckpointLine, IsReceiptLine}
 use Rattle.om_look.specs.Show.{up_to}
 use Rattle.om_look.specs.Spans.{AreApart, IsCovered, spans_text}
-use Rattle.om_look.specs.Stops.{StopsAt}
+use Rattle.om_look.specs.steps.Stops.{StopsAt}
 use Rattle.om_look.specs.declared.gathering.Found.{Found}
 use Rattle.om_look.specs.declared.spans.Span.{Span}
 

@@ -5,8 +5,9 @@ use crate::format::records::{
     respelled,
 };
 use crate::same::{assert_same, assert_same_at};
-use om_format::{DecodeError, MAX_BODY, MAX_PROCESSES_OF_VERSION_1, MemoryBytes, PAGE};
+use om_format::{DecodeError, MAX_BODY, MAX_PROCESSES_OF_VERSION_1, PAGE};
 use om_interval::MAX_PROCESSES;
+use om_isa::is_memory_size;
 use std::alloc::Global;
 use std::process::Abort;
 
@@ -23,7 +24,7 @@ fn limits_and_sizes_are_these(rt: HostRuntime) {
     let limits = (MAX_BODY, MAX_PROCESSES_OF_VERSION_1, MAX_PROCESSES, PAGE);
     assert_same(&rt, &limits, &(256, 8, 16, 256));
     for (len, wanted) in &SIZES {
-        assert_same_at(&rt, len, &MemoryBytes::is_size(*len), wanted);
+        assert_same_at(&rt, len, &is_memory_size(*len), wanted);
     }
 }
 

@@ -1,7 +1,7 @@
 use Rattle.std.proofs.Common.{◌≤◌, length, subst}
 use Rattle.std.specs.Prelude.{OnOk}
 use Rattle.std.specs.Io.KnownBytes.{Appends}
-use Rattle.om_format.specs.declared.limits.TheConstants.{MAX_MEMORY}
+use Rattle.om_isa.specs.declared.memory.TheConstants.{MAX_MEMORY}
 use Rattle.om_image.specs.Image.{IsImageLine}
 use Rattle.om_image.proofs.Whole.{line_written}
 use Rattle.om_image.proofs.command.image.Goals as goal

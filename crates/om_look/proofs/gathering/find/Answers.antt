@@ -4,7 +4,7 @@ use Rattle.std.specs.FinMap.{get}
 use Rattle.om_stable.specs.Calls.{IsCleanCall}
 use Rattle.om_stable.specs.Content.{Content, IsEffective}
 use Rattle.om_look.specs.Lines.{IsCheckpointLine}
-use Rattle.om_look.specs.Stops.{StopsAt}
+use Rattle.om_look.specs.steps.Stops.{StopsAt}
 use Rattle.om_look.specs.steps.Found.{before}
 use Rattle.om_look.proofs.gathering.find.Goals as goal
 

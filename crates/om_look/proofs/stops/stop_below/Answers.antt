@@ -1,7 +1,7 @@
 use Rattle.std.proofs.Common.{◌≡◌, ◌+◌, ◌-◌, subst, arith, inl}
 use Rattle.om_process.specs.Core.{cluster_size}
 use Rattle.om_process.specs.Stored.{Anyone, CanReplay, Refuses}
-use Rattle.om_look.specs.Stops.{StopsAt}
+use Rattle.om_look.specs.steps.Stops.{StopsAt}
 use Rattle.om_look.proofs.Stopping.{stops_behind, told_stops}
 use Rattle.om_look.proofs.stops.stop_below.Goals as goal
 

@@ -5,7 +5,7 @@ use Rattle.om_process.specs.Stored.{Anyone, CanReplay, Refuses}
 use Rattle.om_process.specs.declared.replay.ReplayFault.TheVariants.{MissingReceipt}
 use Rattle.om_stable.specs.Calls.{IsCleanCall}
 use Rattle.om_stable.specs.Content.{Content, IsEffective}
-use Rattle.om_look.specs.Stops.{StopsAt}
+use Rattle.om_look.specs.steps.Stops.{StopsAt}
 use Rattle.om_look.specs.steps.Told.{NoneMissing}
 use Rattle.om_look.proofs.Stopping.{stops_behind, told_stops, stops_missing, missing_above, missing_effective, none_missing}
 use Rattle.om_look.proofs.stops.stop_of.Goals as goal
@@ -23,7 +23,7 @@ returns-in-MissingReceipt-clause-stops g c known k e =
     let held = g.S.Stable.content c.args.store.now in
     let y = c.in-MissingReceipt.y in
     let first : IsCleanCall g.S.Stable.is_clean g.S.Stable.IsSound c.args.store.now c.replay.new.store = (c.stop_below.ensures.reads.clean known.0, known.1) in
-    let second : IsCleanCall g.S.Stable.is_clean g.S.Stable.IsSound c.replay.new.store c.stop_below.new.store = (known.0, c.in-Err.ensures.sound first.0 known.1) in
+    let second : IsCleanCall g.S.Stable.is_clean g.S.Stable.IsSound c.replay.new.store c.stop_below.new.store = (known.0, c.in-Err.ensures.used.sound first.0 known.1) in
     let same : g.S.Stable.content c.replay.new.store ≡ held = c.in-Err.ensures.same first in
     let why : Refuses Anyone held c.args.x (MissingReceipt y) = subst (Refuses Anyone held c.args.x) c.in-MissingReceipt.is (c.in-Err.ensures.refused first) in
     let effective = subst (λ (h : Content). IsEffective h.checkpoints (y - 1) k) (sym same) (missing_effective held c.args.x k y e why) in

@@ -1,4 +1,4 @@
-use Rattle.om_check.specs.Whole.{StaysUnderWay}
+use Rattle.om_check.specs.steps.Playing.{StaysUnderWay}
 use Rattle.om_check.proofs.player.Player.rounds.Given as goal
 
 abbrev pub invariant-loop : goal.invariant-loop

@@ -37,9 +37,9 @@ returns-clause-refused g c =
     λ known.
     let held = g.S.Stable.content c.args.store.now in
     let checkpoint = checkpoint_record c.in_ok-checkpoint.checkpoint in
-    let first = c.replay_from.ensures.clean known.0 in
+    let first = c.replay_from.ensures.used.clean known.0 in
     let begins = c.in_ok-checkpoint.ensures.begins (first, known.1) in
     let same = c.in_ok-checkpoint.ensures.same (first, known.1) in
     let meant = meant_begins Meant held c.args.x checkpoint begins (own, size) in
     IfErr-weaker c.replay_from.result _ _ (λ fault why. refused_from Meant held c.args.x checkpoint fault meant (subst (λ h. RefusesFrom h c.args.x checkpoint fault) same why))
-    (c.replay_from.ensures.refused (known.0, c.in_ok-checkpoint.ensures.sound first known.1) begins.effective.within)
+    (c.replay_from.ensures.refused (known.0, c.in_ok-checkpoint.ensures.used.sound first known.1) begins.effective.within)

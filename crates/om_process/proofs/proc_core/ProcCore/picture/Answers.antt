@@ -1,5 +1,5 @@
 use Rattle.std.proofs.Common.{◌≡◌, true, sym, subst, length, rules}
-use Rattle.om_format.specs.Checkpoints.{is_memory_size}
+use Rattle.om_isa.specs.Memory.{is_memory_size}
 use Rattle.om_process.proofs.CoreLemmas.{core_lawful}
 use Rattle.om_process.proofs.proc_core.ProcCore.picture.Goals as goal
 

@@ -1,0 +1,26 @@
+-- The errors of a script that was read, before it is known of which bytes.
+use Rattle.std.specs.Prelude.{◌≤◌, length}
+use Rattle.om_scripts.specs.Programs.{LacksProcesses}
+use Rattle.om_commands.specs.declared.error.CommandError.{CommandError}
+use Rattle.om_commands.specs.declared.error.CommandError.TheVariants as errors
+use Rattle.om_run_commands.specs.ClusterScript.{ClusterFile}
+
+-- A script without a process is told, and so is it where a run comes to no end. Nothing else of the script is.
+abbrev pub IsErrorOfScript : ClusterFile → CommandError → Type 0
+IsErrorOfScript script errors.EmptyScript = LacksProcesses script.cluster
+IsErrorOfScript script errors.NoMemory = Unit {0}
+IsErrorOfScript script errors.OutOfTurns = 1 ≤ length script.cluster.processes
+IsErrorOfScript script errors.GateShut = 1 ≤ length script.cluster.processes
+IsErrorOfScript script errors.StoreFault = 1 ≤ length script.cluster.processes
+IsErrorOfScript script errors.NoThread = 1 ≤ length script.cluster.processes
+IsErrorOfScript script _ = ⊥
+
+-- the error of a script whose outputs are written while it runs, or the writer's
+abbrev pub IsErrorOfFollowed : ClusterFile → CommandError → Type 0
+IsErrorOfFollowed script errors.CannotWrite = Unit {0}
+IsErrorOfFollowed script error = IsErrorOfScript script error
+
+-- the errors are those of a run, and that it is unlike its check
+abbrev pub IsErrorOfCheckedScript : ClusterFile → CommandError → Type 0
+IsErrorOfCheckedScript script errors.Unlike = 1 ≤ length script.cluster.processes
+IsErrorOfCheckedScript script error = IsErrorOfScript script error
