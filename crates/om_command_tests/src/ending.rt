@@ -2,7 +2,6 @@
 
 use om_arguments::end;
 use om_commands::CommandError;
-use om_commands::draw::{Window, draw};
 use om_text::{LineError, ScriptError};
 use std::alloc::Global;
 use std::cell::RefCell;
@@ -89,16 +88,4 @@ fn every_refusal_has_its_line(rt: HostRuntime) {
         check_end(&rt, rt.alloc(), Err(*error), Some(line));
     }
     check_end(&rt, rt.alloc(), Ok(()), None);
-}
-
-#[test]
-fn a_picture_that_is_refused(rt: HostRuntime) {
-    let whole = Window {
-        from: 1,
-        to: usize::MAX,
-    };
-    let mut text = Vec::new(rt.alloc());
-    let told = draw(rt.alloc(), &mut b"program a 6".as_slice(), &mut text, whole);
-    check_end(&rt, rt.alloc(), told, Some("line 1: bad size"));
-    assert_eq!(rt; text.len(), 0);
 }

@@ -1,6 +1,5 @@
 pub mod Command
 pub mod Decode
-pub mod Draw
 pub mod Errors
 pub mod Events
 pub mod Frontier

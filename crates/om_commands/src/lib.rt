@@ -1,26 +1,23 @@
 //! The commands on message logs, checkpoints and recovery states of message-passing programs: text in, text out. Those that run a
-//! cluster stand in a crate above.
+//! cluster stand in a crate above, and so does `draw`.
 //!
 //! A command reads the whole of its input, then computes, then writes. Only what the reader, the writer and the stores answer
 //! is trusted.
 //!
 //! In an order of reading:
 //!
-//! - what all share: `command` (reads the input, writes the answer), `error`, `laws` (theorems over the definitions)
+//! - what all share: `command` (reads the input, writes the answer), `error`
 //! - `frontier`: with `record_script` (its lines), `report` (the texts of answers)
 //! - `decode`: with `word_script`
 //! - `sim`: with `sim_script` and `events` (its lines), `sim_text` (the texts of answers)
-//! - `draw`: the same scripts, as a picture
 //! - `replay` with `state_text`, and `steps`; `show`
 #![tactic(auto)]
 
 mod command;
 pub mod decode;
-pub mod draw;
 mod error;
 mod events;
 pub mod frontier;
-pub mod laws;
 mod record_script;
 pub mod replay;
 mod report;
@@ -35,5 +32,6 @@ mod word_script;
 pub use command::{read_input, write_answer};
 pub use error::CommandError;
 pub use report::push_state;
+pub use sim_script::SimScript;
 pub use sim_text::{name_of, push_output, push_outputs};
 pub use state_text::push_status;

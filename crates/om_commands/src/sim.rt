@@ -64,8 +64,8 @@ fn answer(alloc: Global, script: &SimScript) -> Result<String, CommandError>
     Ok(told(alloc, script, &mut world)?)
 }
 
-// The world of these programs at its start, over stores that hold nothing.
-pub(crate) fn start(alloc: Global, programs: &Programs) -> Result<World<MemStable>, AllocError>
+/// The world of these programs at its start, over stores that hold nothing. Refused where memory runs out.
+pub fn start(alloc: Global, programs: &Programs) -> Result<World<MemStable>, AllocError>
     requires some { 1 ≤ length programs.now.processes }
     requires few { length programs.now.processes ≤ MAX_PROCESSES }
     ensures begun { IfOk result (IsBegun (programs_of programs.now)) }

@@ -25,6 +25,7 @@ impl Model for SimScript {
 }
 
 impl SimScript {
+    /// Of no line yet.
     pub fn new(alloc: Global) -> SimScript
         ensures { result ≡ no_events }
     {

@@ -1,7 +1,9 @@
 //! Each script with the MD5 digest of its picture, as another program drew it.
 
 use md5::{Digest, Md5};
-use om_commands::draw::{Window, draw};
+use om_commands::CommandError;
+use om_draw_command::draw::{Window, draw};
+use om_text::{LineError, ScriptError};
 use std::alloc::Global;
 use std::process::Abort;
 
@@ -373,4 +375,16 @@ fn sent_again(rt: HostRuntime) {
             69, 51, 210, 123, 148, 197, 61, 145, 67, 118, 16, 245, 13, 113, 62, 164
         ]
     );
+}
+
+#[test]
+fn a_picture_that_is_refused(rt: HostRuntime) {
+    let mut picture = Vec::new(rt.alloc());
+    let told = draw(rt.alloc(), &mut b"program a 6".as_slice(), &mut picture, WHOLE);
+    let refused = ScriptError {
+        line: 1,
+        error: LineError::BadSize,
+    };
+    assert_eq!(rt; told, Err(CommandError::Script(refused)));
+    assert_eq!(rt; picture.len(), 0);
 }

@@ -1,6 +1,6 @@
 use Rattle.std.proofs.Common.{string_bytes}
-use Rattle.om_commands.proofs.DrawLemmas.{is_picture_of}
-use Rattle.om_commands.proofs.draw.draw_script.Goals as goal
+use Rattle.om_draw_command.proofs.DrawLemmas.{is_picture_of}
+use Rattle.om_draw_command.proofs.draw.draw_script.Goals as goal
 
 pub returns-clause-text : goal.returns-clause-text
 returns-clause-text c =

@@ -16,12 +16,12 @@ use Rattle.om_picture.specs.declared.ending.Drawn.{Drawn}
 use Rattle.om_world.specs.World.{WorldState, IsKnown}
 use Rattle.om_world.specs.declared.event.Event.{Event}
 use Rattle.om_commands.specs.Command.{IsScript}
-use Rattle.om_commands.specs.Draw.{AreDrawn, ArePlayed, IsDrawn, IsPictureOf, IsPlayedPicture, IsPlayedRow, count_within, event_lines}
+use Rattle.om_draw_command.specs.Draw.{AreDrawn, ArePlayed, IsDrawn, IsPictureOf, IsPlayedPicture, IsPlayedRow, count_within, event_lines}
 use Rattle.om_commands.specs.Sim.{IsBegun, IsErrorOfSim}
 use Rattle.om_commands.specs.declared.error.CommandError.{CommandError}
 use Rattle.om_commands.specs.declared.error.CommandError.TheVariants.{EmptyScript, NoMemory}
-use Rattle.om_commands.proofs.LineLemmas.{lines_few}
-use Rattle.om_commands.proofs.PlainNames.{names_are_plain}
+use Rattle.om_draw_command.proofs.LineLemmas.{lines_few}
+use Rattle.om_draw_command.proofs.PlainNames.{names_are_plain}
 use Rattle.om_commands.proofs.SimLemmas.{error_of_answer}
 use Rattle.om_commands.specs.SimScript.{EventScript, event_script_line, no_events}
 

@@ -3,9 +3,9 @@ use Rattle.std.proofs.lemmas.List.{length-take, take_all, take_more}
 use Rattle.om_world.specs.declared.event.Event.{Event}
 use Rattle.om_picture.specs.Drawing.{sketch_of}
 use Rattle.om_picture.specs.Fates.{step_row}
-use Rattle.om_commands.specs.Draw.{AreDrawn}
-use Rattle.om_commands.proofs.DrawLemmas.{drawn_then, none_drawn}
-use Rattle.om_commands.proofs.draw.play.Goals as goal
+use Rattle.om_draw_command.specs.Draw.{AreDrawn}
+use Rattle.om_draw_command.proofs.DrawLemmas.{drawn_then, none_drawn}
+use Rattle.om_draw_command.proofs.draw.play.Goals as goal
 
 pub loop-k-init : goal.loop-k-init
 loop-k-init c = record { drawn = λ n first begun. none_drawn c.args.lines.now n first c.args.world.now _ begun; known = c.requires.known }

@@ -1,7 +1,7 @@
 use Rattle.std.proofs.Common.{ℕ, List, ◌∙◌, ap, sym, string_bytes}
-use Rattle.om_commands.specs.Draw.{count_within}
-use Rattle.om_commands.proofs.DrawLemmas.{error_of_drawing, few_within, is_drawn}
-use Rattle.om_commands.proofs.draw.picture_of.Goals as goal
+use Rattle.om_draw_command.specs.Draw.{count_within}
+use Rattle.om_draw_command.proofs.DrawLemmas.{error_of_drawing, few_within, is_drawn}
+use Rattle.om_draw_command.proofs.draw.picture_of.Goals as goal
 
 pub returns-clause-text : goal.returns-clause-text
 returns-clause-text g c =

@@ -1,8 +1,8 @@
 use Rattle.std.proofs.Common.{◌≡◌, ◌∙◌, ℕ, List, ap, length, string_bytes, take}
 use Rattle.om_manager.specs.State.{ManagerState, process_count}
 use Rattle.om_picture.specs.Drawing.{sketch_of}
-use Rattle.om_commands.proofs.DrawLemmas.{is_played_picture}
-use Rattle.om_commands.proofs.draw.played_picture.Goals as goal
+use Rattle.om_draw_command.proofs.DrawLemmas.{is_played_picture}
+use Rattle.om_draw_command.proofs.draw.played_picture.Goals as goal
 
 pub returns : goal.returns
 returns c =

@@ -10,14 +10,12 @@ ghost use Rattle.om_picture.specs.Drawing.{IsSketchOf, sketch_of};
 ghost use Rattle.om_picture.specs.Reading.{newly_handed};
 ghost use Rattle.om_picture.specs.declared.column.TheConstants.{MOST_COLUMNS};
 ghost use Rattle.om_text.specs.declared.text.TheConstants.{MAX_BYTES};
-ghost use Rattle.om_commands.specs.Draw.{AreDrawn, IsDrawn, IsPictureOf, IsPlayedPicture, count_within, event_lines};
+ghost use Rattle.om_draw_command.specs.Draw.{AreDrawn, IsDrawn, IsPictureOf, IsPlayedPicture, count_within, event_lines};
 ghost use Rattle.om_commands.specs.Sim.{IsErrorOfSim};
 ghost use Rattle.om_commands.specs.SimScript.{event_script_line, no_events};
 
-use crate::command::write_answer;
-use crate::error::CommandError;
-use crate::sim::start;
-use crate::sim_script::SimScript;
+use om_commands::sim::start;
+use om_commands::{CommandError, SimScript, write_answer};
 use om_picture::reading::{play_step, standings_of};
 use om_picture::{Picture, Step, picture_text};
 use om_scripts::Programs;

@@ -8,7 +8,7 @@ use Rattle.std.proofs.lemmas.List.Sums.{count_by-le-length}
 use Rattle.om_text.specs.Lines.{last_line, lines_of, lines_of_parts}
 use Rattle.om_text.specs.Numbered.{numbered}
 use Rattle.om_text.specs.Words.{is_passed_over, words_of}
-use Rattle.om_commands.specs.Draw.{event_lines}
+use Rattle.om_draw_command.specs.Draw.{event_lines}
 
 -- none is below the first
 first_below : (b : Bool) (number : ℕ) (rest : List ℕ) → ((i : ℕ) → i < length rest → number + 1 ≤ get_or rest i 0)

@@ -1,0 +1,3 @@
+pub mod DrawLemmas
+pub mod LineLemmas
+pub mod PlainNames
