@@ -6,12 +6,16 @@ use crate::frontier::{Blank, Frontier, Naming, Pass, Writer};
 use om_manager::Manager;
 use std::alloc::{AllocError, Global};
 use std::sync::Mutex;
+use std::sync::atomic::AtomicU64;
 
 /// What the threads of a cluster share: the board, under a lock, and the frontier beside it.
 #[derive(Drop)]
 pub struct Shared<K: Naming> {
     pub board: Mutex<Board<K>>,
     pub frontier: Frontier<K>,
+    /// How many failures were declared: raised by whoever declares one, while it holds the lock. Where it stands still no
+    /// gathering was opened, so nobody has to take the lock to look for one.
+    pub failures: AtomicU64,
 }
 
 // As many reading passes, each with all that was posted.
@@ -44,6 +48,7 @@ impl<K: Naming> Shared<K> {
         let shared = Shared {
             board: Mutex::new(Board::new(manager, writer)),
             frontier,
+            failures: AtomicU64::new(0),
         };
         Ok((shared, passes))
     }

@@ -1,5 +1,6 @@
 //! By which a worker that sleeps is woken.
 
+use crossbeam_utils::CachePadded;
 use std::sync::Wait;
 use std::sync::atomic::AtomicU64;
 use std::sync::atomic::Ordering::SeqCst;
@@ -34,15 +35,16 @@ pub(crate) enum Look {
 
 // One worker sleeps by it, and any rings it. Rung while its worker is awake, it ends the next sleep: so a worker that looks
 // before it sleeps misses nothing.
+// Each stands on cache lines of its own, since workers that wait look at theirs all the time.
 #[derive(Drop)]
 pub(crate) struct Bell {
-    state: AtomicU64,
+    state: CachePadded<AtomicU64>,
 }
 
 impl Bell {
     pub(crate) fn new() -> Bell {
         Bell {
-            state: AtomicU64::new(SILENT),
+            state: CachePadded::new(AtomicU64::new(SILENT)),
         }
     }
 
@@ -81,9 +83,11 @@ impl Bell {
 
     // Whether it was rung. Then it is silent again.
     fn is_rung(&self) -> bool {
-        self.state
-            .compare_exchange(RUNG, SILENT, SeqCst, SeqCst)
-            .is_ok()
+        self.state.load(SeqCst) == RUNG
+            && self
+                .state
+                .compare_exchange(RUNG, SILENT, SeqCst, SeqCst)
+                .is_ok()
     }
 
     // Sleeps until it is rung, for no longer than this, and says whether it was. It may be shorter for no reason.

@@ -1,6 +1,6 @@
 //! What a worker has to do with the manager.
 
-ghost use Rattle.std.specs.Prelude.{◌≡◌, ◌<◌, ◌↔◌, [], Any, IfNone, IfOk, IfSome, IsTrue, OnOk, Some, false, is_some, length, slice_get};
+ghost use Rattle.std.specs.Prelude.{◌≡◌, ◌<◌, ◌↔◌, ◌⊎◌, [], Any, IfNone, IfOk, IfSome, IsTrue, OnOk, Some, false, is_some, length, slice_get};
 ghost use Rattle.om_board.specs.Boards.{IsBoard};
 ghost use Rattle.om_member.specs.Handed.{outputs_from};
 ghost use Rattle.om_runner.specs.steps.Nodes.{AreAlwaysClean};
@@ -18,6 +18,7 @@ use om_process::{ProcCore, PendingRow};
 use om_stable::Stable;
 use std::alloc::Global;
 use std::sync::Wait;
+use std::sync::atomic::Ordering::SeqCst;
 
 // How the manager stands.
 #[derive(Clone, Copy)]
@@ -54,6 +55,8 @@ pub(crate) struct ManagerLink<'a, K: Naming> {
     round: u32,
     // The version when it last looked for an open gathering.
     seen: u64,
+    // How many failures were declared then.
+    failures: u64,
     // How many outputs the manager had of the process then.
     handed: u64,
     ghost place: { pid < K.cell.n },
@@ -82,6 +85,7 @@ impl<'a, K: Naming> ManagerLink<'a, K> {
             shared,
             round: 0,
             seen: 0,
+            failures: 0,
             handed: 0,
         }
     }
@@ -96,16 +100,22 @@ impl<'a, K: Naming> ManagerLink<'a, K> {
         front.round > self.round
     }
 
-    // Whether there is something to hand in or to learn.
-    pub(crate) fn is_due(&self, core: &ProcCore, front: &Front, ended: bool) -> bool
+    // Whether a failure was declared since it last looked for an open gathering.
+    pub(crate) fn is_called(&self) -> bool {
+        self.shared.failures.load(SeqCst) != self.failures
+    }
+
+    // Whether there is something to hand in or to learn. A gathering may be open where the front is new and a failure was
+    // declared; a state that was only raised says nothing to a process.
+    pub(crate) fn is_due(&self, core: &ProcCore, front: &Front, ended: bool, called: bool) -> bool
         ensures running { result ≡ false → ended ≡ false }
         ensures told { result ≡ false → core.now.pending ≡ [] }
         ensures handed { result ≡ false → outputs_from core.now self.now.handed ≡ [] }
-        ensures nothing { (IsTrue ended → ⊥) → front.now.version ≡ self.now.seen → core.now.pending ≡ []
+        ensures nothing { (IsTrue ended → ⊥) → (called ≡ false) ⊎ (front.now.version ≡ self.now.seen) → core.now.pending ≡ []
             → outputs_from core.now self.now.handed ≡ [] → result ≡ false }
     {
         ended
-            || front.version != self.seen
+            || (called && front.version != self.seen)
             || !core.pending().is_empty()
             || !core.outputs_from(self.handed).is_empty()
     }
@@ -206,6 +216,7 @@ impl<'a, K: Naming> ManagerLink<'a, K> {
         let standing = self.ask(&mut desk, ended);
         let (front, pass) = desk.frontier.meet(rt, desk.board, pass);
         self.seen = front.version;
+        self.failures = self.shared.failures.load(SeqCst);
         Ok((standing, limits, pass))
     }
 
@@ -239,6 +250,7 @@ impl<'a, K: Naming> ManagerLink<'a, K> {
         desk.join(alloc, self.pid, core.round(), core.interval())?;
         let (front, pass) = desk.frontier.meet(rt, desk.board, pass);
         self.seen = front.version;
+        self.failures = self.shared.failures.load(SeqCst);
         let is_finished = front.round > self.round;
         diary.joined(rt, &front, is_finished)?;
         diary.announce(rt, desk.board.manager())?;
@@ -310,6 +322,7 @@ impl<'a, K: Naming> ManagerLink<'a, K> {
         board.fail(rt, alloc, self.pid, self.round, frontier)?;
         let (front, pass) = frontier.meet(rt, board, pass);
         self.seen = front.version;
+        self.failures = self.shared.failures.fetch_add(1, SeqCst).wrapping_add(1);
         diary.failed(rt, &front, front.round > self.round)?;
         diary.announce(rt, board.manager())?;
         Ok(pass)

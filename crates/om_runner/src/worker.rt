@@ -453,7 +453,8 @@ impl<'a, K: Naming> Worker<'a, K> {
             → IfOk result (λ r. HasNothingToSay link.handed status node.old.core r.0 node.new.core) }
     {
         let ended = has_ended(status);
-        if !self.manager_link.is_due(node.core(), front, ended) {
+        let called = self.manager_link.is_called();
+        if !self.manager_link.is_due(node.core(), front, ended, called) {
             return Ok((Standing::Closed, pass));
         }
         let (standing, limits, pass) = self
