@@ -4,7 +4,7 @@ use Rattle.std.specs.FinMap.{get}
 use Rattle.om_interval.specs.declared.verdict.Verdict.{Verdict}
 use Rattle.om_format.specs.declared.message.Message.{Message}
 use Rattle.om_stable.specs.Content.{Content, IsTaken, kept_by_cut, kept_by_prune}
-use Rattle.om_stable.specs.Count.{Rose}
+use Rattle.om_stable.specs.Calls.{UsesStore}
 use Rattle.om_stable.specs.declared.error.StoreError.{StoreError}
 use Rattle.om_stable.specs.declared.error.StoreError.TheVariants.{Fault, Present}
 use Rattle.om_process.specs.Accepts.{Answers, taken}
@@ -48,10 +48,7 @@ IsNotIn standing = (core : CoreState) → standing ≢ stands.In core
 -- a store took a call, which did this to its content where that is known; where the call failed, the store counts it
 pub record WasCalled {S : Type 0} (content : S → Content) (failed : S → ℕ) (is_clean : S → Bool) (IsSound : S → Type 0)
     (HasFailed : Type 0) (before after : S) (Did : Content → Content → Type 0) : Type 0 where
-  pub counted : HasFailed → Rose (failed before) (failed after)
-  pub count : failed before ≤ failed after
-  pub clean : IsTrue (is_clean after) → IsTrue (is_clean before)
-  pub sound : IsTrue (is_clean after) → IsSound before → IsSound after
+  pub used : UsesStore failed is_clean IsSound before HasFailed after
   pub did : IsTrue (is_clean after) → IsSound before → Did (content before) (content after)
 
 -- the store has gained what the core keeps of a kind: the receipts of its log, or a checkpoint of now, where none was

@@ -207,9 +207,9 @@ called_in content is_clean failed IsSound HasFailed Did ms p m n at c = record {
   after = n;
   there = at;
   stores = refl;
-  counted = c.counted;
-  count = c.count;
-  clean = c.clean;
-  sound = c.sound;
+  counted = c.used.fault;
+  count = c.used.count;
+  clean = c.used.clean;
+  sound = c.used.sound;
   did = c.did;
 }
