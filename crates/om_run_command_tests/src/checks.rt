@@ -1,6 +1,5 @@
-//! Checked runs: what a witness may name, what a check refuses, and the texts of clusters over both kinds of store.
+//! Checked runs: what a witness may name, what a check refuses, and the texts of rings.
 
-mod examples;
 mod follows;
 mod plays;
 mod records;

@@ -1,10 +1,8 @@
-//! Tests of the commands that run a cluster, and of what they stand on, also over stores in tables.
+//! Tests of the commands that run a cluster, and of what they stand on, over stores in memory.
 #![tactic(auto)]
 
 #[cfg(test)]
 mod checks;
-#[cfg(test)]
-mod clusters;
 #[cfg(test)]
 mod rows;
 #[cfg(test)]
