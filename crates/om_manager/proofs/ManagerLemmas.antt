@@ -9,7 +9,6 @@ use Rattle.om_interval.specs.Vectors.{IsBelow}
 use Rattle.om_interval.specs.Starts.{AreStarts, starts_of, newest_of, is_named, MayBegin, BeginIncarnations}
 use Rattle.om_interval.specs.declared.pid.TheConstants.{MAX_PROCESSES}
 use Rattle.om_recover.specs.Records.{Kept, IsSound}
-use Rattle.om_recover.specs.Cutting.{IsGotAt}
 use Rattle.om_recover.proofs.LawLemmas.{unique_greatest}
 use Rattle.om_recover.proofs.StableLemmas.{record_of_stable}
 use Rattle.om_interval.proofs.VectorLemmas.{sum_falls, below_through, below_itself}
@@ -221,10 +220,6 @@ may_begin who state starts round begun room = record {
       begun.within p (newest_of starts p) in_state (let some = (begun.lawful p in_state).some in omega arith);
   numbered = λ p here _. let few = begun.few p (omega (arith, here, begun.places)) in omega arith;
 }
-
--- what a process got is counted by as many senders as there are processes
-pub got_places : (kept : Kept) (p x : ℕ) (got : List ℕ) → IsSound kept → IsGotAt kept.rows p x got → length got ≡ length kept.state
-got_places kept p x got sound at = ap length (sym at.got_is) ∙ (sound.lawful.fair at.row at.there).got_places
 
 pub get_or-map : {X Y : Type 0} (f : X → Y) (xs : List X) (k : ℕ) (d : Y) (e : X) → k < length xs → get_or (map f xs) k d ≡ f (get_or xs k e)
 get_or-map f [] k d e below = absurd (omega arith)

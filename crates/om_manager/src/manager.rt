@@ -216,7 +216,7 @@ fn got_from(records: &Records, pid: Pid) -> DepVec
     let mut by_receiver = records.recovery();
     for q in 0..by_receiver.n() {
         let receiver = Pid::at(q);
-        by_receiver.set(receiver, records.got(receiver).get(pid));
+        by_receiver.set(receiver, records.got_from(receiver, pid));
     }
     by_receiver
 }

@@ -1,15 +1,16 @@
-use Rattle.std.proofs.Common.{◌≡◌, ℕ, ◌+◌, ◌<◌, ◌≤◌, ◌^◌, inl, inr, subst, ap, arith, IsSome, is_some}
+use Rattle.std.proofs.Common.{◌≡◌, ℕ, ◌+◌, ◌<◌, ◌≤◌, ◌^◌, inl, inr, subst, ap, arith, IsSome, Some, is_some}
 use Rattle.std.specs.FinSet as set
 use Rattle.om_recover.specs.Rows.{Rows, Has, IsLawful}
 use Rattle.om_recover.specs.Recoverable.{IsStable}
 use Rattle.om_recover.specs.Climb.{IsLeastStable}
 use Rattle.om_recover.specs.steps.Nearest.{at, IsNearestTo, IsNearestFrom, HasNoneFrom}
-use Rattle.om_recover.specs.steps.Bases.{base_entries}
+use Rattle.om_recover.specs.steps.Bases.{base_entries, IsNewest}
 use Rattle.om_recover.specs.steps.Held.{held, AreTrees, AreIndexed, Reaches, IsRun}
 use Rattle.om_recover.specs.declared.rows.trees.Base.{Base}
 use Rattle.om_recover.specs.declared.rows.trees.Trees.{Trees}
 use Rattle.om_recover.specs.declared.row.RowKind.TheVariants.{Checkpoint, Log}
 use Rattle.om_recover.specs.declared.row.Row.{Row}
+use Rattle.om_recover.proofs.BaseLemmas.{newest_at, to_newest}
 use Rattle.om_recover.proofs.HeldLemmas.{some_base, has_base}
 use Rattle.om_recover.proofs.StableLemmas.{has_kept, has_inserted, has_before, stable_kept}
 use Rattle.om_recover.proofs.NewLemmas.{stable_at_checkpoint, stable_by_log, nothing_new_again, stable_run, stable_by_checkpoint, stable_by_new_log}
@@ -69,6 +70,16 @@ stable_outside rows row q x y has above apart stable = elim (at_most_or_more sta
 -- a checkpoint reaches itself
 reaches_itself : (rows : Rows) (q x last : ℕ) → Has rows Checkpoint q x → Reaches rows q x last → x ≤ last
 reaches_itself rows q x last has reaches = reaches.whole x (omega arith) (stable_at_checkpoint rows q x has) (λ other _ below. below)
+
+-- no interval is stable above where the newest checkpoint reaches
+pub ends_with_newest : (trees : Trees) (p x : ℕ) (base : Base) → AreIndexed trees → IsNewest trees.bases.newest.items p x base → (z : ℕ) → IsStable (held trees) p z → z ≤ base.last
+ends_with_newest trees p x base indexed own z stable =
+    let there : at (base_entries trees.bases) p x ≡ Some base = newest_at trees.bases p x base own in
+    let reaches : Reaches (held trees) p x base.last = indexed.reaches p x base there in
+    elim (at_most_or_more x z) [
+      | inl above ↦ reaches.whole z above stable (λ other has _. to_newest trees.bases p x other base indexed.sorted.bases own (some_base trees p other indexed.sorted has))
+      | inr below ↦ omega (arith, below, reaches_itself (held trees) p x base.last (has_base trees p x (ap is_some there)) reaches)
+    ]
 
 -- a checkpoint more: the others reach as far as they did
 pub reaches_with_checkpoint : (rows : Rows) (row : Row) (q x last : ℕ) → row.kind ≡ Checkpoint → Has rows Checkpoint q x → Reaches rows q x last → Reaches (set.insert rows row) q x last

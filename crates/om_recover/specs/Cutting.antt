@@ -23,6 +23,12 @@ pub record IsGotAt (rows : Rows) (p x : ℕ) (got : List ℕ) : Type 0 where
   pub interval_is : row.interval ≡ x
   pub got_is : row.got ≡ got
 
+-- how many messages from the sender the receiver had got in an interval
+pub record IsGotFrom (rows : Rows) (receiver x sender count : ℕ) : Type 0 where
+  pub got : List ℕ
+  pub there : IsGotAt rows receiver x got
+  pub count_is : count ≡ slice_index got sender
+
 -- the rows that are no later than the state
 abbrev pub cut_to : Rows → List ℕ → Rows
 cut_to rows state = set.retain rows (λ row. nat_le row.interval (slice_index state row.pid))

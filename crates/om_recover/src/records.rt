@@ -1,7 +1,7 @@
 ghost use Rattle.std.specs.Prelude.{◌≡◌, ℕ, ◌+◌, ◌<◌, ◌≤◌, ◌↔◌, length, replicate, slice_index, IfOk};
 ghost use Rattle.om_interval.specs.Vectors.{IsBelow};
 ghost use Rattle.om_interval.specs.declared.pid.TheConstants.{MAX_PROCESSES};
-ghost use Rattle.om_recover.specs.Cutting.{IsEffective, IsGotAt, IsPruned, cut_to};
+ghost use Rattle.om_recover.specs.Cutting.{IsEffective, IsGotAt, IsGotFrom, IsPruned, cut_to};
 ghost use Rattle.om_recover.specs.Rows.{HasRow};
 ghost use Rattle.om_recover.specs.Offered.{offered, TellsChange};
 ghost use Rattle.om_recover.specs.Counted.{IsCountedNote};
@@ -146,7 +146,7 @@ impl Records {
             &mut self.memories,
             work,
         );
-        let raised = state != self.state;
+        let raised = !state.leq(&self.state);
         self.state = state;
         Ok(Note::Noted { raised })
     }
@@ -173,6 +173,16 @@ impl Records {
         ensures { IsGotAt self.now.rows pid (slice_index self.now.state pid) result }
     {
         self.index.got(pid, self.state.get(pid))
+    }
+
+    /// How many messages from the sender the receiver had got in the recovery state.
+    pub fn got_from(&self, receiver: Pid, sender: Pid) -> u32
+        requires receiver { receiver < length self.now.state }
+        requires sender { sender < length self.now.state }
+        ensures { IsGotFrom self.now.rows receiver (slice_index self.now.state receiver) sender result }
+    {
+        self.index
+            .got_from(receiver, self.state.get(receiver), sender)
     }
 
     /// Drops the rows above the recovery state, which stays.

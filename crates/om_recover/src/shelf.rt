@@ -1,9 +1,9 @@
 //! What lies between the search and the rows.
 
-ghost use Rattle.std.specs.Prelude.{◌≡◌, ℕ, ◌<◌, length};
+ghost use Rattle.std.specs.Prelude.{◌≡◌, ℕ, ◌<◌, length, IsTrue};
 ghost use Rattle.om_recover.specs.Rows.{Rows, HasRow, Has, IsLawful};
 ghost use Rattle.om_recover.specs.Attempts.{with_look};
-ghost use Rattle.om_recover.specs.steps.Climbing.{TellsLeast};
+ghost use Rattle.om_recover.specs.steps.Climbing.{EndsBy, TellsLeast};
 
 use crate::work::Work;
 use om_interval::{DepVec, Pid};
@@ -19,6 +19,10 @@ pub trait Shelf {
         requires there { (kind : _) × Has (rows self.now) kind pid x }
         ensures vec { (row : _) → HasRow (rows self.now) row → row.pid ≡ pid → row.interval ≡ x → row.vec ≡ result }
         ensures counted { work.new.attempts ≡ with_look work.old.attempts pid x };
+
+    /// Whether it is seen at once that no stable interval of a process is above this one.
+    fn ends_by(&self, pid: Pid, x: u32) -> bool
+        ensures { IsTrue result → EndsBy (rows self.now) pid x };
 
     /// The least stable interval of a process at or above an interval.
     fn least_stable(&self, pid: Pid, from: u32) -> Option<u32>

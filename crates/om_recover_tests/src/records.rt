@@ -94,7 +94,24 @@ fn has_used(records: &Records, number: u32, effective: u32, got: &[u32]) -> Opti
     if records.n() <= pid.index() {
         return None;
     }
-    Some(records.effective(pid) == effective && records.got(pid).as_slice() == got)
+    Some(
+        records.effective(pid) == effective
+            && records.got(pid).as_slice() == got
+            && has_got_from_each(records, pid, got),
+    )
+}
+
+// The same counts, read one at a time.
+fn has_got_from_each(records: &Records, pid: Pid, got: &[u32]) -> bool {
+    if records.n() <= pid.index() || records.n() != got.len() {
+        return false;
+    }
+    for q in 0..got.len() {
+        if records.got_from(pid, Pid::at(q)) != got[q] {
+            return false;
+        }
+    }
+    true
 }
 
 // Whether the step holds: its call is made. None where it names no process or vector.

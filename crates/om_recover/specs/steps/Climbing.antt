@@ -78,6 +78,10 @@ pub record IsPassing (n : ℕ) (rows : Rows) (state : List ℕ) (p x : ℕ) (rea
 abbrev pub TellsLeast : Rows → ℕ → ℕ → Option ℕ → Type 0
 TellsLeast rows p from told = MatchOption told ((z : ℕ) → IsStable rows p z → from ≤ z → ⊥) (IsLeastStable rows p from)
 
+-- no stable interval of the process is above this one
+abbrev pub EndsBy : Rows → ℕ → ℕ → Type 0
+EndsBy rows p x = (z : ℕ) → IsStable rows p z → z ≤ x
+
 -- what comes of a climb
 abbrev pub TellsClimb : ℕ → Rows → List ℕ → ℕ → ℕ → Option (List ℕ) → Type 0
 TellsClimb n rows state p x told = MatchOption told (IsOutOfReach n rows p x) (IsClimbed n rows state p x)

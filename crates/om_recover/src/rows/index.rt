@@ -5,7 +5,7 @@ ghost use Rattle.om_recover.specs.Rows.{HasRow, IsLawful};
 ghost use Rattle.om_recover.specs.Records.{first_row};
 ghost use Rattle.om_recover.specs.Recoverable.{IsStable, IsRecoverable};
 ghost use Rattle.om_recover.specs.Offered.{IsNew};
-ghost use Rattle.om_recover.specs.Cutting.{IsEffective, IsGotAt, IsPruned, cut_to};
+ghost use Rattle.om_recover.specs.Cutting.{IsEffective, IsGotAt, IsGotFrom, IsPruned, cut_to};
 ghost use Rattle.om_recover.specs.steps.Search.{IsAnswered, IsQuiet};
 ghost use Rattle.om_recover.specs.steps.Held.{IsFree};
 ghost use Rattle.om_recover.specs.steps.Indexed.{MakesStable, MakesNothingStable};
@@ -17,8 +17,8 @@ use crate::rows::adding::add;
 use crate::rows::answer::answer_without_change;
 use crate::rows::cutting::{cut_rows, effective_of_all, prune_rows};
 use crate::rows::first::{add_first, no_rows};
-use crate::rows::lookup::{effective_of, got_at, vec_at};
-use crate::rows::stable::{is_stable_in, least_stable_of};
+use crate::rows::lookup::{effective_of, got_at, got_from, vec_at};
+use crate::rows::stable::{ends_in, is_stable_in, least_stable_of};
 use crate::rows::trees::Trees;
 use crate::shelf::Shelf;
 use crate::work::Work;
@@ -53,6 +53,10 @@ impl Shelf for Index {
     fn look(&self, pid: Pid, x: u32, work: &mut Work) -> DepVec {
         work.add_look(pid, x);
         vec_at(&self.trees, pid, x)
+    }
+
+    fn ends_by(&self, pid: Pid, x: u32) -> bool {
+        ends_in(&self.trees, pid, x)
     }
 
     fn least_stable(&self, pid: Pid, from: u32) -> Option<u32> {
@@ -131,6 +135,15 @@ impl Index {
         ensures { IsGotAt self.now pid x result }
     {
         got_at(&self.trees, pid, x)
+    }
+
+    /// How many messages from the sender the receiver had got in a stable interval.
+    pub fn got_from(&self, receiver: Pid, x: u32, sender: Pid) -> u32
+        requires stable { IsStable self.now receiver x }
+        requires lawful { (n : ℕ) × IsLawful n self.now × (sender < n) }
+        ensures { IsGotFrom self.now receiver x sender result }
+    {
+        got_from(&self.trees, receiver, x, sender)
     }
 
     /// Drops the rows above a state.

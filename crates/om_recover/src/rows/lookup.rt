@@ -1,5 +1,5 @@
-ghost use Rattle.std.specs.Prelude.{◌≡◌, ℕ, ◌≤◌, MatchOption};
-ghost use Rattle.om_recover.specs.Cutting.{IsEffective, IsGotAt};
+ghost use Rattle.std.specs.Prelude.{◌≡◌, ℕ, ◌<◌, ◌≤◌, MatchOption};
+ghost use Rattle.om_recover.specs.Cutting.{IsEffective, IsGotAt, IsGotFrom};
 ghost use Rattle.om_recover.specs.Recoverable.{IsStable};
 ghost use Rattle.om_recover.specs.Rows.{HasRow, Has, IsLawful};
 ghost use Rattle.om_recover.specs.steps.Held.{AreTrees, IsRecordTo, IsRecordFrom, held, row_of};
@@ -107,6 +107,17 @@ pub fn got_at(trees: &Trees, pid: Pid, x: u32) -> DepVec
     ensures { IsGotAt (held trees.now) pid x result }
 {
     vectors_at(trees, pid, x).got
+}
+
+/// How many messages from the sender the receiver had got in a stable interval.
+pub fn got_from(trees: &Trees, receiver: Pid, x: u32, sender: Pid) -> u32
+    requires in_order { AreTrees trees.now }
+    requires stable { IsStable (held trees.now) receiver x }
+    requires lawful { (n : ℕ) × IsLawful n (held trees.now) × (sender < n) }
+    ensures { IsGotFrom (held trees.now) receiver x sender result }
+{
+    let vectors = vectors_at(trees, receiver, x);
+    vectors.got.get(sender)
 }
 
 /// The checkpoint that is used for a stable interval of a process.

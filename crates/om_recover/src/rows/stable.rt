@@ -1,10 +1,10 @@
 ghost use Rattle.std.specs.Prelude.{◌≡◌, ℕ, false, ◌<◌, ◌≤◌, ◌+◌, IsTrue, MatchOption};
 ghost use Rattle.om_recover.specs.Recoverable.{IsStable};
 ghost use Rattle.om_recover.specs.Climb.{IsLeastStable};
-ghost use Rattle.om_recover.specs.steps.Climbing.{TellsLeast};
+ghost use Rattle.om_recover.specs.steps.Climbing.{EndsBy, TellsLeast};
 ghost use Rattle.om_recover.specs.steps.Held.{AreIndexed, held};
 
-use crate::rows::bases::{base_from, base_to};
+use crate::rows::bases::{base_from, base_to, newest_of};
 use crate::rows::trees::Trees;
 use om_interval::Pid;
 
@@ -17,6 +17,17 @@ pub fn is_stable_in(trees: &Trees, pid: Pid, x: u32) -> bool
     match base_to(&trees.bases, pid, x) {
         None => false,
         Some((_, base)) => x <= base.last,
+    }
+}
+
+/// Whether a process's newest checkpoint tells that no stable interval is above this one.
+pub fn ends_in(trees: &Trees, pid: Pid, x: u32) -> bool
+    requires { AreIndexed trees.now }
+    ensures { IsTrue result → EndsBy (held trees.now) pid x }
+{
+    match newest_of(&trees.bases.newest, pid) {
+        None => false,
+        Some(newest) => newest.base.last <= x,
     }
 }
 

@@ -39,7 +39,7 @@ pub fn greatest_from<S: Shelf>(
     let mut raised = climbed;
     loop {
         let higher = pass(shelf, &raised, memories, work);
-        if higher == raised {
+        if higher.leq(&raised) {
             return raised;
         }
         raised = higher;
@@ -60,7 +60,10 @@ fn pass<S: Shelf>(shelf: &S, state: &DepVec, memories: &mut Memories, work: &mut
 {
     let mut higher = *state;
     for p in 0..state.n() {
-        higher = raised_at(shelf, &higher, Pid::at(p), memories, work);
+        let pid = Pid::at(p);
+        if !shelf.ends_by(pid, higher.get(pid)) {
+            higher = raised_at(shelf, &higher, pid, memories, work);
+        }
     }
     higher
 }

@@ -1,5 +1,5 @@
 use Rattle.std.proofs.Common.{◌≡◌, ℕ, ◌<◌, length, slice_index}
-use Rattle.om_manager.specs.Bounds.{IsGotFrom}
+use Rattle.om_recover.specs.Cutting.{IsGotFrom}
 use Rattle.om_manager.proofs.manager.got_from.Given as goal
 
 abbrev pub invariant-loop-q : goal.invariant-loop-q

@@ -1,11 +1,11 @@
-use Rattle.std.proofs.Common.{◌≡◌, ℕ, ◌+◌, List, sym, ◌∙◌, refl, subst, arith, length, slice_index}
-use Rattle.std.proofs.lemmas.Slice.Eq.{bytes_eq-Decides}
+use Rattle.std.proofs.Common.{◌≡◌, ℕ, ◌+◌, List, sym, ◌∙◌, refl, subst, arith, length, slice_index, true≢false}
+use Rattle.om_interval.specs.Vectors.{IsBelow}
 use Rattle.om_recover.specs.Recoverable.{IsRecoverable}
 use Rattle.om_recover.specs.Climb.{IsOutOfReach}
 use Rattle.om_recover.specs.steps.Memory.{AreRemembered}
 use Rattle.om_recover.proofs.MemoryLemmas.{all_raised}
 use Rattle.om_recover.specs.steps.Climbing.{ArePassed}
-use Rattle.om_interval.proofs.VectorLemmas.{apart_of_eq}
+use Rattle.om_interval.proofs.VectorLemmas.{below_each_other, below_itself}
 use Rattle.om_recover.proofs.SearchLemmas.{searching_start, searching_step, searching_ends, searched_at_once, state_rises, greatest_at_rest}
 use Rattle.om_recover.proofs.search.passes.greatest_from.Goals as goal
 
@@ -18,18 +18,18 @@ loop-higher-init g c = record {
   remembered = all_raised _ _ _ _ _ c.requires.lawful c.in-Some.ensures.climbed.recoverable c.in-Some.ensures.climbed.above c.climb.ensures.remembered;
 }
 
-pub returns-then-eq-clause-greatest : goal.returns-then-eq-clause-greatest
-returns-then-eq-clause-greatest g c =
+pub returns-then-leq-clause-greatest : goal.returns-then-leq-clause-greatest
+returns-then-leq-clause-greatest g c =
     let places : length c.loop-higher.raised ≡ length c.args.state.now = c.loop-higher.invariant.searching.recoverable.places in
-    let rest : c.pass-higher.result ≡ c.loop-higher.raised = (bytes_eq-Decides _ _).0 (sym c.eq.ensures ∙ c.if-eq.true) in
+    let rest : c.pass-higher.result ≡ c.loop-higher.raised = below_each_other _ _ (c.leq.ensures.0 c.if-leq.true) c.pass-higher.ensures.above in
     greatest_at_rest _ _ _ c.loop-higher.invariant.searching.recoverable (λ p within.
     subst (λ n. IsOutOfReach n (g.S.Shelf.rows c.args.shelf.now) p (slice_index c.loop-higher.raised p + 1)) places
     (c.pass-higher.ensures.at_rest rest p (omega (arith, within, places))))
 
-pub returns-then-eq-clause-counted : goal.returns-then-eq-clause-counted
-returns-then-eq-clause-counted g c =
+pub returns-then-leq-clause-counted : goal.returns-then-leq-clause-counted
+returns-then-leq-clause-counted g c =
     let places : length c.loop-higher.raised ≡ length c.args.state.now = c.loop-higher.invariant.searching.recoverable.places in
-    let rest : c.pass-higher.result ≡ c.loop-higher.raised = (bytes_eq-Decides _ _).0 (sym c.eq.ensures ∙ c.if-eq.true) in
+    let rest : c.pass-higher.result ≡ c.loop-higher.raised = below_each_other _ _ (c.leq.ensures.0 c.if-leq.true) c.pass-higher.ensures.above in
     searching_ends _ _ _ _ _ _ _ _ _ c.loop-higher.invariant.searching
     (subst (λ n. ArePassed n (g.S.Shelf.rows c.args.shelf.now) c.loop-higher.raised c.loop-higher.raised n c.loop-higher.work.attempts c.pass-higher.new.work.attempts) places
     (subst (λ (higher : List ℕ). ArePassed (length c.loop-higher.raised) (g.S.Shelf.rows c.args.shelf.now) c.loop-higher.raised higher (length c.loop-higher.raised) c.loop-higher.work.attempts c.pass-higher.new.work.attempts) rest c.pass-higher.ensures.counted))
@@ -38,7 +38,7 @@ pub loop-higher-smaller : goal.loop-higher-smaller
 loop-higher-smaller g c =
     let places : length c.loop-higher.raised ≡ length c.args.state.now = c.loop-higher.invariant.searching.recoverable.places in
     state_rises _ _ _ _ c.requires.lawful (subst (λ n. IsRecoverable n (g.S.Shelf.rows c.args.shelf.now) c.pass-higher.result) places c.pass-higher.ensures.recoverable) c.pass-higher.ensures.above
-    (apart_of_eq _ _ (sym c.eq.ensures ∙ c.if-eq.false))
+    (λ same. true≢false (sym (c.leq.ensures.1 (subst (λ (v : List ℕ). IsBelow v c.loop-higher.raised) (sym same) (below_itself c.loop-higher.raised))) ∙ c.if-leq.false))
 
 pub loop-higher-preserved : goal.loop-higher-preserved
 loop-higher-preserved g c =
@@ -46,7 +46,7 @@ loop-higher-preserved g c =
     record {
       searching = searching_step _ _ _ _ _ _ _ _ _ _ c.loop-higher.invariant.searching
           (subst (λ n. IsRecoverable n (g.S.Shelf.rows c.args.shelf.now) c.pass-higher.result) places c.pass-higher.ensures.recoverable) c.pass-higher.ensures.above
-          (apart_of_eq _ _ (sym c.eq.ensures ∙ c.if-eq.false))
+          (λ same. true≢false (sym (c.leq.ensures.1 (subst (λ (v : List ℕ). IsBelow v c.loop-higher.raised) (sym same) (below_itself c.loop-higher.raised))) ∙ c.if-leq.false))
           (subst (λ n. ArePassed n (g.S.Shelf.rows c.args.shelf.now) c.loop-higher.raised c.pass-higher.result n c.loop-higher.work.attempts c.pass-higher.new.work.attempts) places c.pass-higher.ensures.counted);
       remembered = subst (λ n. AreRemembered n (g.S.Shelf.rows c.args.shelf.now) c.pass-higher.result c.pass-higher.new.memories.places) places c.pass-higher.ensures.remembered;
     }
@@ -55,9 +55,9 @@ pub pass-higher-requires-clause-remembered : goal.pass-higher-requires-clause-re
 pass-higher-requires-clause-remembered g c =
     subst (λ n. AreRemembered n (g.S.Shelf.rows c.args.shelf.now) c.loop-higher.raised c.loop-higher.memories.places) (sym c.loop-higher.invariant.searching.recoverable.places) c.loop-higher.invariant.remembered
 
-pub returns-then-eq-clause-remembered : goal.returns-then-eq-clause-remembered
-returns-then-eq-clause-remembered g c =
+pub returns-then-leq-clause-remembered : goal.returns-then-leq-clause-remembered
+returns-then-leq-clause-remembered g c =
     let places : length c.loop-higher.raised ≡ length c.args.state.now = c.loop-higher.invariant.searching.recoverable.places in
-    let rest : c.pass-higher.result ≡ c.loop-higher.raised = (bytes_eq-Decides _ _).0 (sym c.eq.ensures ∙ c.if-eq.true) in
+    let rest : c.pass-higher.result ≡ c.loop-higher.raised = below_each_other _ _ (c.leq.ensures.0 c.if-leq.true) c.pass-higher.ensures.above in
     subst (λ (higher : List ℕ). AreRemembered (length c.args.state.now) (g.S.Shelf.rows c.args.shelf.now) higher c.pass-higher.new.memories.places) rest
     (subst (λ n. AreRemembered n (g.S.Shelf.rows c.args.shelf.now) c.pass-higher.result c.pass-higher.new.memories.places) places c.pass-higher.ensures.remembered)
