@@ -11,6 +11,7 @@ use crate::proc_core::ProcCore;
 use crate::status::Status;
 use om_format::{Message, Receipt};
 use std::alloc::{AllocError, Global};
+use std::mem;
 
 /// The answer to a message that was offered.
 #[derive(Clone, Copy, Debug, PartialEq, Eq)]
@@ -88,35 +89,33 @@ impl ProcCore {
         None
     }
 
-    // Takes a message that is due.
+    // Takes a message that is due. What may run out of memory comes first: what is delivered stays.
     fn take(&mut self, alloc: Global, message: &Message) -> Result<(), AllocError>
         requires due { IsDue self.old message.now }
         requires room { self.old.now.interval < LAST_INTERVAL }
         ensures ok { OnOk result (self.new ≡ taken self.old message.now) }
         ensures err { OnErr result (self.new ≡ self.old) }
     {
-        let from = message.from;
-        let interval = self.interval + 1;
-        let mut vec = self.vec;
-        vec.join_tag(from, message.tag.interval);
-        vec.set(self.pid, interval);
-        let mut got = self.got;
-        got.set(from, got.get(from) + 1);
+        let body = message.body.copy(alloc)?;
+        self.log.try_reserve(1)?;
+        let count = self.machine.count();
+        let mut log = mem::replace(&mut self.log, Vec::new(alloc));
+        self.deliver(message.from, message.tag.interval, message.body.as_slice());
         let receipt = Receipt {
             to: self.pid,
-            from,
-            interval,
+            from: message.from,
+            interval: self.interval,
             sender_interval: message.tag.interval,
             ssn: message.ssn,
-            count: self.machine.count(),
-            body: message.body.copy(alloc)?,
+            count,
+            body,
         };
-        self.log.push(Logged { receipt, vec, got })?;
-        self.machine
-            .finish_receive(from.index() as u32, message.body.as_slice());
-        self.interval = interval;
-        self.vec = vec;
-        self.got = got;
+        log.push_reserved(Logged {
+            receipt,
+            vec: self.vec,
+            got: self.got,
+        });
+        self.log = log;
         Ok(())
     }
 }

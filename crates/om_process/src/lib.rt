@@ -6,13 +6,13 @@
 //! In an order of reading:
 //!
 //! - a process: `proc_core` (its parts, and the reads), `image`, `status`, `row`, `limits`, `laws` (theorems over the definitions)
-//! - what it does: `start`, `plan` (at an event of the machine) and `turns`, `accept` (a message), `fifo`, `queues` and `outbox` (what it
-//!   made), `trim`
+//! - what it does: `start`, `plan` (at an event of the machine) and `turns`, `accept` (a message), `delivering` (for the first time, or
+//!   once more), `fifo`, `queues` and `outbox` (what it made), `trim`
 //! - what it stores: `log` (receipts that are not stored yet), `storing`
 //! - how it comes back: `replay`, `restoring` (from a checkpoint), `repeating` (one receipt after another), `down` (after a round)
 //!
-//! The methods of `ProcCore` stand in the files of what they do: `start`, `turns`, `accept`, `outbox`, `trim`, `storing`, `replay`,
-//! `restoring`, `repeating` and `down`.
+//! The methods of `ProcCore` stand in the files of what they do: `start`, `turns`, `accept`, `delivering`, `outbox`, `trim`, `storing`,
+//! `replay`, `restoring`, `repeating` and `down`.
 #![tactic(auto)]
 
 pub use accept::Accept;
@@ -29,6 +29,7 @@ pub use turns::Ran;
 pub use witness::Witness;
 
 mod accept;
+mod delivering;
 mod down;
 mod fifo;
 mod image;

@@ -4,10 +4,8 @@ ghost use Rattle.std.specs.Prelude.{◌≡◌, ◌+◌, ◌<◌, ◌∷◌, [], 
 ghost use Rattle.om_format.specs.Receipts.{ReceiptRecord, SpellsReceipt, receipt_record};
 ghost use Rattle.om_stable.specs.Content.{rows_of};
 ghost use Rattle.om_process.specs.Core.{cluster_size, with_now};
-ghost use Rattle.om_process.specs.Process.{delivered};
 ghost use Rattle.om_process.specs.Replays.{Replayed};
 ghost use Rattle.om_process.specs.Stored.{DoesNotFit};
-ghost use Rattle.om_process.specs.Turns.{IsWaiting};
 ghost use Rattle.om_process.specs.declared.limits.TheConstants.{LAST_INTERVAL};
 ghost use Rattle.om_process.specs.steps.Fitting.{MayTake};
 ghost use Rattle.om_process.specs.steps.Rows.{AreGapless, Ascend, IsFirstGap, RefusesBytes, RefusesRow, RefusesRows, SpellRows};
@@ -16,7 +14,6 @@ use crate::proc_core::ProcCore;
 use crate::replay::{ReplayFault, damaged};
 use crate::status::Status;
 use om_format::{Receipt, decode_receipt};
-use om_interval::Pid;
 use std::alloc::{AllocError, Global};
 
 // The receipt that these bytes spell, which names interval `y`.
@@ -37,23 +34,6 @@ fn receipt_at(alloc: Global, y: u32, bytes: &[u8]) -> Result<Receipt, ReplayFaul
 }
 
 impl ProcCore {
-    // Delivers what the process waits for.
-    fn deliver(&mut self, from: Pid, interval: u32, body: &[u8])
-        requires from { from < cluster_size self.old.now }
-        requires waits { IsWaiting self.old.own (cluster_size self.old.now) self.old.now }
-        requires room { self.old.now.interval < LAST_INTERVAL }
-        requires unlogged { self.old.log ≡ [] }
-        ensures { self.new ≡ with_now self.old
-            (delivered self.old.own self.old.now (record { from = from; interval = interval; body = body.now })) }
-    {
-        let next = self.interval + 1;
-        self.machine.finish_receive(from.index() as u32, body);
-        self.interval = next;
-        self.vec.join_tag(from, interval);
-        self.vec.set(self.pid, next);
-        self.got.set(from, self.got.get(from) + 1);
-    }
-
     // Whether a receipt is this process's, of a sender that is there and the next of its sender, at a count not yet passed.
     fn may_take(&self, receipt: &Receipt) -> bool
         ensures yes { result ≡ true → MayTake self.now (receipt_record receipt.now) }

@@ -14,7 +14,7 @@ invariant_of-self c =
     let log = map logged_record c.self.inside.log.items in
     let empty : log ≡ [] = ap (λ s. s.log) c.self.view_is ∙ c.requires.unlogged in
     let last : AreLast (c.self.inside.interval + 1) log = subst (AreLast (c.self.inside.interval + 1)) (sym empty) (last_of_none (c.self.inside.interval + 1)) in
-    core_delivered _ c.finish_receive.new.self.count (c.self.inside.interval + 1) c.args.from c.args.interval log c.set.new.self c.set-2.new.self c.finish_receive.ensures.counted refl from last
+    core_delivered _ c.finish_receive.new.self.count (c.self.inside.interval + 1) c.args.from c.args.sender_interval log c.set.new.self c.set-2.new.self c.finish_receive.ensures.counted refl from last
     (c.set.ensures ∙ ap (λ v. set v c.self.inside.pid (c.self.inside.interval + 1)) c.join_tag.ensures)
     (c.set-2.ensures ∙ ap (λ g. set c.self.inside.got c.args.from (g + 1)) c.get.ensures)
     c.self.invariant

@@ -1,22 +1,35 @@
-use Rattle.std.proofs.Common.{subst, sym, ap, set, map, ◌∙◌, ◌+◌, ◌<◌, length, refl}
+use Rattle.std.proofs.Common.{subst, sym, ap, map, refl, ◌≡◌, ◌∙◌, ◌+◌, List}
 use Rattle.std.proofs.lemmas.List.{map-append}
-use Rattle.om_process.specs.Core.{AreLast, CoreState, cluster_size}
-use Rattle.om_process.specs.Turns.{IsWaiting}
+use Rattle.om_process.specs.Core.{AreLast, CoreParts, CoreState, IsCore, LoggedRecord}
 use Rattle.om_process.specs.Views.{logged_record}
-use Rattle.om_process.proofs.CoreLemmas.{takes_body, core_delivered, last_more}
+use Rattle.om_process.proofs.CoreLemmas.{last_more}
 use Rattle.om_process.proofs.proc_core.ProcCore.take.Goals as goal
 
-pub finish_receive-requires : goal.finish_receive-requires
-finish_receive-requires c = takes_body _ _ c.self.inside.machine _ (subst (λ (s : CoreState). IsWaiting s.own (cluster_size s.now) s.now) (sym c.self.view_is) c.requires.due.waits)
+-- another log of the last intervals
+with_log : (c : CoreParts) (log : List LoggedRecord) → AreLast c.interval log → IsCore c → IsCore (record c { log = log })
+with_log c log last is = record {
+  cluster = is.cluster;
+  own = is.own;
+  counted = is.counted;
+  own_place = is.own_place;
+  got = is.got;
+  received = is.received;
+  sent = is.sent;
+  ends = is.ends;
+  outputs_end = is.outputs_end;
+  made = is.made;
+  messages = is.messages;
+  outputs = is.outputs;
+  logged = last;
+  starts = is.starts;
+}
 
-pub invariant_of-self-2 : goal.invariant_of-self-2
-invariant_of-self-2 c =
-    let from : c.args.message.now.from < length c.self.inside.vec = subst (λ (s : CoreState). c.args.message.now.from < cluster_size s.now) (sym c.self.view_is) c.requires.due.next.no_orphan.no_stranger.from in
-    let log = c.self.inside.log.items in
-    let more = ap (map logged_record) c.in_ok-push.ensures.items ∙ map-append logged_record log _ in
-    let last : AreLast (c.self.inside.interval + 1) (map logged_record c.push.new.self.items) =
-    subst (AreLast (c.self.inside.interval + 1)) (sym more) (last_more c.self.inside.interval (c.self.inside.interval + 1) (map logged_record log) _ refl refl c.self.invariant.logged) in
-    core_delivered _ c.finish_receive.new.self.count (c.self.inside.interval + 1) c.args.message.now.from c.args.message.now.tag.interval (map logged_record c.push.new.self.items) c.set.new.self c.set-2.new.self c.finish_receive.ensures.counted refl from last
-    (c.set.ensures ∙ ap (λ v. set v c.self.inside.pid (c.self.inside.interval + 1)) c.join_tag.ensures)
-    (c.set-2.ensures ∙ ap (λ g. set c.self.inside.got c.args.message.now.from (g + 1)) c.get.ensures)
-    c.self.invariant
+pub invariant_of-self-3 : goal.invariant_of-self-3
+invariant_of-self-3 c =
+    let x = c.self.inside.interval in
+    let log = c.replace-log.result.items in
+    let next : c.self-2.inside.interval ≡ x + 1 = ap (λ (s : CoreState). s.now.interval) (c.self-2.view_is ∙ c.deliver.ensures) in
+    let kept : log ≡ c.self.inside.log.items = ap (λ v. v.items) c.replace-log.ensures.value ∙ c.try_reserve.ensures.items in
+    let last : AreLast x (map logged_record log) = subst (λ ls. AreLast x (map logged_record ls)) (sym kept) c.self.invariant.logged in
+    let more = ap (map logged_record) c.push_reserved.ensures.items ∙ map-append logged_record log _ in
+    with_log _ _ (subst (AreLast c.self-2.inside.interval) (sym more) (last_more x c.self-2.inside.interval (map logged_record log) _ next refl last)) c.self-2.invariant
