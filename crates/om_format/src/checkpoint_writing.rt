@@ -14,7 +14,7 @@ use crate::checkpoint::Checkpoint;
 use crate::head::Head;
 use crate::limits::{CHECKPOINT_KIND, CHECKPOINT_KIND_M, CHECKPOINT_VERSION_2, PAGE};
 use crate::pages::{count_kept, is_kept, page_count, page_of};
-use crate::queue::{QueueEntry, Queue};
+use crate::queue::{Queue, QueueEntry};
 use om_isa::Ext;
 use std::alloc::AllocError;
 

@@ -118,7 +118,13 @@ fn rest_at(alloc: Global, front: &Front, bytes: &[u8]) -> Result<Rest, DecodeErr
         → IsOk (before_memory_at front.now.version front.now.size (memory_offset front.now.n) bytes.now)) }
 {
     let head = front.head;
-    let memory = memory_at(alloc, front.version, front.size, memory_offset(front.n), bytes)?;
+    let memory = memory_at(
+        alloc,
+        front.version,
+        front.size,
+        memory_offset(front.n),
+        bytes,
+    )?;
     let stops = head.sent.as_slice();
     let kept = queues_at(alloc, head.interval, stops, memory.offset, memory.rest)?;
     let outputs = outputs_at(alloc, head.interval, head.made, kept.offset, kept.rest)?;

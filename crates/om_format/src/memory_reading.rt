@@ -17,7 +17,7 @@ use crate::version::Version;
 use std::alloc::Global;
 
 // The index of a page of a memory of this size, from `low` on, its bytes, and those after it.
-#[tactic(auto, unfolding(crate::specs::steps::CheckpointReading::page_at))]
+#[tactic(auto, unfolding(crate::specs::steps::CheckpointReading::next_page_at))]
 fn page_at(
     size: usize,
     low: usize,

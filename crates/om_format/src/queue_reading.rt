@@ -8,7 +8,7 @@ ghost use Rattle.om_format.specs.Queues.{queue_record};
 
 use crate::body::Body;
 use crate::error::DecodeError;
-use crate::queue::{QueueEntry, Queue};
+use crate::queue::{Queue, QueueEntry};
 use crate::reading::{Taken, body_at, u32_at, u64_at};
 use std::alloc::Global;
 

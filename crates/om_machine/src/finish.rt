@@ -13,7 +13,7 @@ use crate::memory::overwrite;
 
 impl Machine {
     /// Finishes the send or the output at which the machine stands: its result goes into x10.
-    #[tactic(auto, using(crate::proofs::Stops::room_at_word), unfolding(crate::specs::Finishing::finished_word, crate::specs::State::put, crate::specs::State::moved))]
+    #[tactic(auto, using(crate::proofs::Stops::room_at_word), unfolding(crate::specs::Finishing::finished_word, crate::specs::State::put, crate::specs::State::moved_to))]
     pub fn finish_word(&mut self, v: u32)
         requires { TakesWord (next_of self.old).0 }
         ensures state { self.new ≡ finished_word v self.old }
@@ -25,7 +25,7 @@ impl Machine {
 
     /// Finishes the call at which the machine stands, the question who it is: the process's own number goes into x10, the
     /// number of processes into x11.
-    #[tactic(auto, using(crate::proofs::Stops::room_at_who), unfolding(crate::specs::Finishing::finished_who, crate::specs::State::put, crate::specs::State::moved))]
+    #[tactic(auto, using(crate::proofs::Stops::room_at_who), unfolding(crate::specs::Finishing::finished_who, crate::specs::State::put, crate::specs::State::moved_to))]
     pub fn finish_who(&mut self, own: u32, n: u32)
         requires { (next_of self.old).0 ≡ Event.Call EnvCall.Who }
         ensures state { self.new ≡ finished_who own n self.old }
@@ -38,7 +38,7 @@ impl Machine {
 
     /// Finishes the receive at which the machine stands, whose buffer lies in memory: the first bytes of the body go there,
     /// as many as there is room for, the body's length modulo 2^32 goes into x10 and the sender's number into x11.
-    #[tactic(auto, using(crate::proofs::Stops::room_at_body, crate::proofs::Stops::buffer_at_body), unfolding(crate::specs::Finishing::finished_receive, crate::specs::State::put, crate::specs::State::moved, crate::specs::State::written))]
+    #[tactic(auto, using(crate::proofs::Stops::room_at_body, crate::proofs::Stops::buffer_at_body), unfolding(crate::specs::Finishing::finished_receive, crate::specs::State::put, crate::specs::State::moved_to, crate::specs::State::written))]
     pub fn finish_receive(&mut self, from: u32, body: &[u8])
         requires { TakesBody self.old (next_of self.old).0 }
         ensures state { self.new ≡ finished_receive from body.now self.old }

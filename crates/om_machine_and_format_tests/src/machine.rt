@@ -3,9 +3,7 @@ use om_isa::{Ext, MAX_MEMORY, MIN_MEMORY, Reg, WRITABLE_REGISTERS, is_memory_siz
 use om_machine::Cause::{
     Break, DataMisaligned, DataOutside, FetchOutside, Illegal, TargetMisaligned, UnknownCall,
 };
-use om_machine::{
-    Cause, EnvCall, Event, LoadFault, Machine, Ran, laws,
-};
+use om_machine::{Cause, EnvCall, Event, LoadFault, Machine, Ran, laws};
 use std::alloc::Global;
 use std::process::Abort;
 
@@ -212,7 +210,10 @@ fn machines_are_as_large_as_they_were_asked_to_be(rt: HostRuntime) {
     let alloc = rt.alloc();
     assert_same(&rt, &(MIN_MEMORY, MAX_MEMORY), &(4, 65_536));
     for (words, size, wanted) in &LOADS {
-        let told = (is_memory_size(*size as usize), loaded_size(alloc, words, *size));
+        let told = (
+            is_memory_size(*size as usize),
+            loaded_size(alloc, words, *size),
+        );
         assert_same_at(&rt, size, &told, wanted);
     }
 }

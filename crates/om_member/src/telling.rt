@@ -8,7 +8,7 @@ ghost use Rattle.om_member.specs.Told.{IsTold, IsToldUpTo};
 use crate::office::Office;
 use om_interval::Pid;
 use om_manager::RecordError;
-use om_process::{ProcCore, PendingRow};
+use om_process::{PendingRow, ProcCore};
 use om_recover::Note;
 use std::alloc::Global;
 

@@ -88,7 +88,7 @@ pub const LEGEND: &str = "\
 <path class=\"j\" d=\"M602 99l4 18\"/><text x=\"622\" y=\"111\">round; recovery line of it, of the end</text>
 ";
 
-#[tactic(auto, unfolding(crate::specs::PictureText::style_text))]
+#[tactic(auto, unfolding(crate::specs::PictureText::styles_text))]
 fn style() -> &'static str
     ensures { result.now ≡ styles_text }
 {

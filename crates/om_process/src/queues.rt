@@ -8,7 +8,7 @@ ghost use Rattle.om_process.specs.Trims.{trimmed_queue};
 ghost use Rattle.om_process.specs.declared.limits.TheConstants.{LAST_NUMBER, LAST_OUTPUT};
 
 use crate::fifo::Fifo;
-use om_format::{Body, QueueEntry, Queue};
+use om_format::{Body, Queue, QueueEntry};
 use std::alloc::{AllocError, Global};
 use std::marker::Model;
 

@@ -1,7 +1,7 @@
 use super::parts::{RECEIPT, bytes_of, checkpoint, first_stored, flush, replayed};
 use om_interval::Pid;
 use om_isa::Ext;
-use om_process::{ProcCore, PendingRow};
+use om_process::{PendingRow, ProcCore};
 use om_stable::{MemStable, Stable, StoreError};
 use std::alloc::Global;
 use std::process::Abort;

@@ -14,7 +14,7 @@ use crate::worker_fault::WorkerFault;
 use om_board::{Front, Naming, Pass, Shared};
 use om_interval::{Bounds, Pid, Starts, Verdict};
 use om_member::Office;
-use om_process::{ProcCore, PendingRow};
+use om_process::{PendingRow, ProcCore};
 use om_stable::Stable;
 use std::alloc::Global;
 use std::sync::Wait;

@@ -2,7 +2,7 @@
 
 use crate::format::records::assert_bytes;
 use crate::same::assert_same;
-use om_format::{Body, QueueEntry, MAX_BODY, MemoryBytes, Message, Queue};
+use om_format::{Body, MAX_BODY, MemoryBytes, Message, Queue, QueueEntry};
 use om_interval::{Pid, Tag};
 use std::alloc::Global;
 use std::process::Abort;
