@@ -380,7 +380,12 @@ fn sent_again(rt: HostRuntime) {
 #[test]
 fn a_picture_that_is_refused(rt: HostRuntime) {
     let mut picture = Vec::new(rt.alloc());
-    let told = draw(rt.alloc(), &mut b"program a 6".as_slice(), &mut picture, WHOLE);
+    let told = draw(
+        rt.alloc(),
+        &mut b"program a 6".as_slice(),
+        &mut picture,
+        WHOLE,
+    );
     let refused = ScriptError {
         line: 1,
         error: LineError::BadSize,

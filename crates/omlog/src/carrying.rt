@@ -10,9 +10,9 @@ use crate::watching::run_watched;
 use om_arguments::{Asked, Lines, Look, Request, Running, end, end_unasked, end_unread, parse};
 use om_commands::CommandError;
 use om_commands::decode::decode;
-use om_draw_command::draw::{Window, draw};
 use om_commands::frontier::frontier;
 use om_commands::sim::sim;
+use om_draw_command::draw::{Window, draw};
 use om_files::{
     Files, PlaceError, Places, first_unusable, replay_file, settle, show_file, steps_file,
 };
