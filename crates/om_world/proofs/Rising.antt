@@ -280,10 +280,12 @@ module _ {S : Type 0} (content : S → Content) (is_clean : S → Bool) (failed 
 
     back_called : IsCalled (content_in content) (health_in (health_of is_clean failed)) (sound_in IsSound) (IsFault (Ok h.core)) ms (set ms p n) p (IsRolledBack M p (Ok h.core))
     back_called = called_in content is_clean failed IsSound (IsFault (Ok h.core)) (IsRolledBack M p (Ok h.core)) ms p m n at (record {
-      counted = λ fault. absurd (apart h.core fault);
-      count = h.called.used.count;
-      clean = h.called.used.clean;
-      sound = h.called.used.sound;
+      used = record {
+        fault = λ fault. absurd (apart h.core fault);
+        count = h.called.used.count;
+        clean = h.called.used.clean;
+        sound = h.called.used.sound;
+      };
       did = λ clean sound. let d = h.called.did clean sound in (subst (λ r. IsReplay (content m.store) r h.core) same_place d.0, d.1 ∙ ap (kept_by_cut (content m.store)) same_place);
     })
       where
@@ -306,10 +308,12 @@ module _ {S : Type 0} (content : S → Content) (is_clean : S → Bool) (failed 
   module _ (fault : ReplayFault) (h : StaysDown content failed is_clean IsSound who verdict m fault n) where
     fault_called : IsCalled (content_in content) (health_in (health_of is_clean failed)) (sound_in IsSound) (IsFault (Err fault)) ms (set ms p n) p (IsRolledBack M p (Err fault))
     fault_called = called_in content is_clean failed IsSound (IsFault (Err fault)) (IsRolledBack M p (Err fault)) ms p m n at (record {
-      counted = λ f. h.called.used.fault (once_err _ fault replays.Fault refl f);
-      count = h.called.used.count;
-      clean = h.called.used.clean;
-      sound = h.called.used.sound;
+      used = record {
+        fault = λ f. h.called.used.fault (once_err _ fault replays.Fault refl f);
+        count = h.called.used.count;
+        clean = h.called.used.clean;
+        sound = h.called.used.sound;
+      };
       did = λ clean sound. let d = h.called.did clean sound in (
         d.0,
         λ can. d.1 (subst (λ x. CanReplay (TheProcess who.pid who.n) (content m.store) x) (sym same_place)

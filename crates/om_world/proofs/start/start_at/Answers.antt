@@ -21,9 +21,9 @@ returns g c =
       too_long = e.too_long;
       free = e.free;
       present = e.present;
-      fault = e.fault;
-      clean = e.clean;
-      sound = e.sound;
+      fault = e.used.fault;
+      clean = e.used.clean;
+      sound = e.used.sound;
     } in (
       image,
       at,

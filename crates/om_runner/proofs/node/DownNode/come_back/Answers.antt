@@ -8,4 +8,4 @@ invariant_of-result g c =
     let e = c.in-Ok.ensures in
     let kept = subst (IsKept _ _ _ _) (sym c.deref_mut.ensures.value) c.self.invariant in
     node_through _ _ _ _ _ _ _ _ c.in_ok-core-in-Ok.ensures refl
-    (node_back _ _ _ _ _ _ _ c.args.verdict.now.r kept e.own e.size e.clean e.sound e.back e.cut)
+    (node_back _ _ _ _ _ _ _ c.args.verdict.now.r kept e.own e.size e.used.clean e.used.sound e.back e.cut)

@@ -4,9 +4,9 @@ use Rattle.om_runner.proofs.node.Node.flush.Goals as goal
 pub invariant_of-self : goal.invariant_of-self
 invariant_of-self g c =
     let e = c.in_err-flush.ensures in
-    node_refused _ _ _ _ _ _ _ _ (node_through _ _ _ _ _ _ _ _ c.deref_mut.ensures.value c.deref_mut-2.ensures.value c.self.invariant) e.same e.clean e.sound e.refused
+    node_refused _ _ _ _ _ _ _ _ (node_through _ _ _ _ _ _ _ _ c.deref_mut.ensures.value c.deref_mut-2.ensures.value c.self.invariant) e.same e.used.clean e.used.sound e.refused
 
 pub invariant_of-self-2 : goal.invariant_of-self-2
 invariant_of-self-2 g c =
     let e = c.in_ok-flush.ensures in
-    node_flushed _ _ _ _ _ _ _ _ (node_through _ _ _ _ _ _ _ _ c.deref_mut.ensures.value c.deref_mut-2.ensures.value c.self.invariant) e.core e.clean e.sound e.stored
+    node_flushed _ _ _ _ _ _ _ _ (node_through _ _ _ _ _ _ _ _ c.deref_mut.ensures.value c.deref_mut-2.ensures.value c.self.invariant) e.core e.used.clean e.used.sound e.stored

@@ -16,4 +16,4 @@ invariant_of-result g c =
     let started = subst (λ x. c.in_ok-core.core ≡ started_core (record { image = x; size = i.size; ext = i.ext }) c.args.pid c.args.n) c.deref.ensures.value e.started in
     let along = subst (λ x. Along (record { image = x; size = i.size; ext = i.ext }) c.args.pid c.args.n [] 0 c.in_ok-core.core.now) c.deref.ensures.value e.along in
     node_through _ _ _ _ _ _ _ _ c.in_ok-core-2.ensures refl
-    (node_started _ _ _ _ _ c.deref_mut.result.now _ started along sound empty e.clean e.sound e.stored)
+    (node_started _ _ _ _ _ c.deref_mut.result.now _ started along sound empty e.used.clean e.used.sound e.stored)
