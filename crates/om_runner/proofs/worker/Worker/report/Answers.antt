@@ -18,7 +18,7 @@ returns-clause-idle g c = λ runs seen told made.
     let link = c.args.self.now.manager_link in
     let core = c.core.ensures.core in
     let none : c.is_due.result ≡ false =
-    c.is_due.ensures.nothing (λ yes. runs (c.has_ended-ended.ensures.0 yes)) seen
+    c.is_due.ensures.nothing (λ yes. runs (c.has_ended-ended.ensures.0 yes)) (inr seen)
     (subst (λ (d : CoreState). d.pending ≡ []) (sym core) told)
     (subst (λ (d : CoreState). outputs_from d link.handed ≡ []) (sym core) made) in
     let due = c.if-not-is_due.false in cc
