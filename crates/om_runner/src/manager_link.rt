@@ -53,9 +53,7 @@ pub(crate) struct ManagerLink<'a, K: Naming> {
     shared: &'a Shared<K>,
     // The round that the process is in.
     round: u32,
-    // The version when it last looked for an open gathering.
-    seen: u64,
-    // How many failures were declared then.
+    // How many failures were declared when it last looked for an open gathering.
     failures: u64,
     // How many outputs the manager had of the process then.
     handed: u64,
@@ -84,7 +82,6 @@ impl<'a, K: Naming> ManagerLink<'a, K> {
             pid,
             shared,
             round: 0,
-            seen: 0,
             failures: 0,
             handed: 0,
         }
@@ -105,17 +102,17 @@ impl<'a, K: Naming> ManagerLink<'a, K> {
         self.shared.failures.load(SeqCst) != self.failures
     }
 
-    // Whether there is something to hand in or to learn. A gathering may be open where the front is new and a failure was
-    // declared; a state that was only raised says nothing to a process.
-    pub(crate) fn is_due(&self, core: &ProcCore, front: &Front, ended: bool, called: bool) -> bool
+    // Whether there is something to hand in or to learn. A gathering may be open where a failure was declared; a state that was
+    // only raised says nothing to a process.
+    pub(crate) fn is_due(&self, core: &ProcCore, ended: bool, called: bool) -> bool
         ensures running { result ≡ false → ended ≡ false }
         ensures told { result ≡ false → core.now.pending ≡ [] }
         ensures handed { result ≡ false → outputs_from core.now self.now.handed ≡ [] }
-        ensures nothing { (IsTrue ended → ⊥) → (called ≡ false) ⊎ (front.now.version ≡ self.now.seen) → core.now.pending ≡ []
-            → outputs_from core.now self.now.handed ≡ [] → result ≡ false }
+        ensures nothing { (IsTrue ended → ⊥) → called ≡ false → core.now.pending ≡ [] → outputs_from core.now self.now.handed ≡ []
+            → result ≡ false }
     {
         ended
-            || (called && front.version != self.seen)
+            || called
             || !core.pending().is_empty()
             || !core.outputs_from(self.handed).is_empty()
     }
@@ -188,8 +185,7 @@ impl<'a, K: Naming> ManagerLink<'a, K> {
         node: &mut Node<'_, S>,
         ended: bool,
         diary: &mut Diary<'_>,
-        pass: Pass<K>,
-    ) -> Result<(Standing, Option<Limits>, Pass<K>), WorkerFault>
+    ) -> Result<(Standing, Option<Limits>), WorkerFault>
         requires own { node.old.member.own ≡ self.old.pid }
         requires program { slice_get K.programs node.old.member.own ≡ Some node.old.member.program }
         requires size { node.old.member.n ≡ K.cell.n }
@@ -214,10 +210,8 @@ impl<'a, K: Naming> ManagerLink<'a, K> {
         diary.announce(rt, desk.board.manager())?;
         let limits = self.prune(&mut desk, has_checkpoint);
         let standing = self.ask(&mut desk, ended);
-        let (front, pass) = desk.frontier.meet(rt, desk.board, pass);
-        self.seen = front.version;
         self.failures = self.shared.failures.load(SeqCst);
-        Ok((standing, limits, pass))
+        Ok((standing, limits))
     }
 
     // Hands over all that the process has, and joins the open gathering. Says whether that finished the round.
@@ -249,7 +243,6 @@ impl<'a, K: Naming> ManagerLink<'a, K> {
         let core = node.core();
         desk.join(alloc, self.pid, core.round(), core.interval())?;
         let (front, pass) = desk.frontier.meet(rt, desk.board, pass);
-        self.seen = front.version;
         self.failures = self.shared.failures.load(SeqCst);
         let is_finished = front.round > self.round;
         diary.joined(rt, &front, is_finished)?;
@@ -321,7 +314,6 @@ impl<'a, K: Naming> ManagerLink<'a, K> {
         let frontier = &self.shared.frontier;
         board.fail(rt, alloc, self.pid, self.round, frontier)?;
         let (front, pass) = frontier.meet(rt, board, pass);
-        self.seen = front.version;
         self.failures = self.shared.failures.fetch_add(1, SeqCst).wrapping_add(1);
         diary.failed(rt, &front, front.round > self.round)?;
         diary.announce(rt, board.manager())?;

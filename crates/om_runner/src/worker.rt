@@ -1,6 +1,6 @@
 //! What the thread of a process does.
 
-ghost use Rattle.std.specs.Prelude.{◌≡◌, ◌<◌, ◌+◌, ◌⊎◌, ◌↔◌, [], Contains, IfOk, IfSome, IsTrue, Ok, OnOk, Some, length, slice_get};
+ghost use Rattle.std.specs.Prelude.{◌≡◌, ◌<◌, ◌+◌, ◌⊎◌, ◌↔◌, [], Contains, false, IfOk, IfSome, IsTrue, Ok, OnOk, Some, length, slice_get};
 ghost use Rattle.om_member.specs.Handed.{outputs_from};
 ghost use Rattle.om_process.specs.Stores.{flushed};
 ghost use Rattle.om_process.specs.Core.{IsEnd};
@@ -286,15 +286,13 @@ impl<'a, K: Naming> Worker<'a, K> {
         ensures place { IfOk result (λ r. member_of r.0 ≡ member_of place.entry) }
         ensures turned { IfOk result (λ r. IsTurnOf K.cell.n self.old.manager_link.round place.entry r.0) }
     {
-        let mut pass = pass;
         self.extra = 0;
-        let front = self.manager_link.read(rt, &mut pass);
         match place {
-            Place::Up(node) => self.go_on(rt, alloc, &front, node, pass),
+            Place::Up(node) => self.go_on(rt, alloc, node, pass),
             Place::Called(node) => self.join(rt, alloc, node, pass),
-            Place::In(node) => self.wait_in(rt, alloc, &front, node, pass),
+            Place::In(node) => self.wait_in(rt, alloc, node, pass),
             Place::Failed(down_node) => self.declare(rt, alloc, down_node, pass),
-            Place::Down(down_node) => self.wait_down(rt, alloc, &front, down_node, pass),
+            Place::Down(down_node) => self.wait_down(rt, alloc, down_node, pass),
             Place::Over(node) => Ok((Place::Over(node), pass)),
         }
     }
@@ -351,7 +349,6 @@ impl<'a, K: Naming> Worker<'a, K> {
         &mut self,
         rt: &R,
         alloc: Global,
-        front: &Front,
         node: Node<'a, S>,
         pass: Pass<K>,
     ) -> Result<(Place<'a, S>, Pass<K>), WorkerFault>
@@ -363,8 +360,8 @@ impl<'a, K: Naming> Worker<'a, K> {
         ensures place { IfOk result (λ r. member_of r.0 ≡ node.entry.member) }
     {
         let mut node = node;
-        match self.advance(rt, alloc, front, &mut node, pass) {
-            Ok((step, pass)) => Ok((step.place_of(node), pass)),
+        match self.advance(rt, alloc, &mut node) {
+            Ok(step) => Ok((step.place_of(node), pass)),
             Err(worker_fault) => {
                 drop(node);
                 Err(worker_fault)
@@ -378,10 +375,8 @@ impl<'a, K: Naming> Worker<'a, K> {
         &mut self,
         rt: &R,
         alloc: Global,
-        front: &Front,
         node: &mut Node<'a, S>,
-        pass: Pass<K>,
-    ) -> Result<(Step, Pass<K>), WorkerFault>
+    ) -> Result<Step, WorkerFault>
         requires own { node.old.member.own ≡ self.old.links.own }
         requires program { slice_get K.programs node.old.member.own ≡ Some node.old.member.program }
         requires size { node.old.member.n ≡ K.cell.n }
@@ -390,16 +385,16 @@ impl<'a, K: Naming> Worker<'a, K> {
         ensures member { node.new.member ≡ node.old.member }
     {
         let status = self.run(rt, alloc, node)?;
-        let (standing, pass) = self.report(rt, alloc, front, node, status, pass)?;
-        let step = match standing {
-            Standing::Closed => self.receive(rt, alloc, node, status)?,
-            Standing::Gathers => Step::Called,
+        let called = self.manager_link.is_called();
+        let standing = self.report(rt, alloc, node, status, called)?;
+        match standing {
+            Standing::Closed => self.receive(rt, alloc, node, status),
+            Standing::Gathers => Ok(Step::Called),
             Standing::Quiet => {
                 self.links.wake_all();
-                Step::Over
+                Ok(Step::Over)
             }
-        };
-        Ok((step, pass))
+        }
     }
 
     // Runs the process, and puts what it sends. One that has ended stores all that it received.
@@ -435,33 +430,31 @@ impl<'a, K: Naming> Worker<'a, K> {
         &mut self,
         rt: &R,
         alloc: Global,
-        front: &Front,
         node: &mut Node<'a, S>,
         status: Status,
-        pass: Pass<K>,
-    ) -> Result<(Standing, Pass<K>), WorkerFault>
+        called: bool,
+    ) -> Result<Standing, WorkerFault>
         requires own { node.old.member.own ≡ self.old.links.own }
         requires program { slice_get K.programs node.old.member.own ≡ Some node.old.member.program }
         requires size { node.old.member.n ≡ K.cell.n }
         requires clean { K.OverClean → AreAlwaysClean S.is_clean }
         ensures same { self.new.links ≡ self.old.links }
         ensures member { node.new.member ≡ node.old.member }
-        ensures reported { IfOk result (λ r. HasNothingToSay self.old.manager_link.handed status node.old.core r.0 node.new.core
-            ⊎ HasReported K.cell.n self.old.manager_link.pid self.old.manager_link.round status node.old.core r.0) }
-        ensures idle { let link = self.old.manager_link in (IsEnd status → ⊥) → front.now.version ≡ link.seen → node.old.core.pending ≡ []
+        ensures reported { IfOk result (λ standing. HasNothingToSay self.old.manager_link.handed status node.old.core standing node.new.core
+            ⊎ HasReported K.cell.n self.old.manager_link.pid self.old.manager_link.round status node.old.core standing) }
+        ensures idle { let link = self.old.manager_link in (IsEnd status → ⊥) → called ≡ false → node.old.core.pending ≡ []
             → outputs_from node.old.core link.handed ≡ []
-            → IfOk result (λ r. HasNothingToSay link.handed status node.old.core r.0 node.new.core) }
+            → IfOk result (λ standing. HasNothingToSay link.handed status node.old.core standing node.new.core) }
     {
         let ended = has_ended(status);
-        let called = self.manager_link.is_called();
-        if !self.manager_link.is_due(node.core(), front, ended, called) {
-            return Ok((Standing::Closed, pass));
+        if !self.manager_link.is_due(node.core(), ended, called) {
+            return Ok(Standing::Closed);
         }
-        let (standing, limits, pass) = self
+        let (standing, limits) = self
             .manager_link
-            .meet(rt, alloc, node, ended, &mut self.diary, pass)?;
+            .meet(rt, alloc, node, ended, &mut self.diary)?;
         shed(node, alloc, limits)?;
-        Ok((standing, pass))
+        Ok(standing)
     }
 
     // Takes a message, where the process waits for one. What comes to one that has ended is dropped: a round that rolls it back
@@ -714,7 +707,6 @@ impl<'a, K: Naming> Worker<'a, K> {
         &mut self,
         rt: &R,
         alloc: Global,
-        front: &Front,
         node: Node<'a, S>,
         pass: Pass<K>,
     ) -> Result<(Place<'a, S>, Pass<K>), WorkerFault>
@@ -722,7 +714,7 @@ impl<'a, K: Naming> Worker<'a, K> {
         ensures same { self.new.links ≡ self.old.links }
         ensures place { IfOk result (λ r. member_of r.0 ≡ node.entry.member) }
     {
-        let (round_outcome, pass) = match self.listen(rt, alloc, front, pass) {
+        let (round_outcome, pass) = match self.listen(rt, alloc, pass) {
             Ok(round_outcome) => round_outcome,
             Err(worker_fault) => {
                 drop(node);
@@ -771,7 +763,6 @@ impl<'a, K: Naming> Worker<'a, K> {
         &mut self,
         rt: &R,
         alloc: Global,
-        front: &Front,
         down_node: DownNode<'a, S>,
         pass: Pass<K>,
     ) -> Result<(Place<'a, S>, Pass<K>), WorkerFault>
@@ -779,7 +770,7 @@ impl<'a, K: Naming> Worker<'a, K> {
         ensures same { self.new.links ≡ self.old.links }
         ensures place { IfOk result (λ r. member_of r.0 ≡ down_node.entry) }
     {
-        let (round_outcome, pass) = self.listen(rt, alloc, front, pass)?;
+        let (round_outcome, pass) = self.listen(rt, alloc, pass)?;
         let place = match round_outcome {
             None => Place::Down(down_node),
             Some(round_outcome) => {
@@ -801,13 +792,14 @@ impl<'a, K: Naming> Worker<'a, K> {
         &mut self,
         rt: &R,
         alloc: Global,
-        front: &Front,
         pass: Pass<K>,
     ) -> Result<(Option<RoundOutcome>, Pass<K>), WorkerFault>
         ensures same { self.new.links ≡ self.old.links }
         ensures starts { IfOk result (λ r. IfSome r.0 (λ round_outcome. length round_outcome.starts ≡ K.cell.n)) }
     {
-        if !self.manager_link.is_behind(front) {
+        let mut pass = pass;
+        let front = self.manager_link.read(rt, &mut pass);
+        if !self.manager_link.is_behind(&front) {
             self.doze(rt);
             return Ok((None, pass));
         }

@@ -14,11 +14,11 @@ pub returns-clause-reported : goal.returns-clause-reported
 returns-clause-reported g c = inr (c.has_ended-ended.result, c.has_ended-ended.ensures, c.in_ok-standing.limits, c.meet.new.node.core, c.in_ok-standing.ensures.met)
 
 pub returns-clause-idle : goal.returns-clause-idle
-returns-clause-idle g c = λ runs seen told made.
+returns-clause-idle g c = λ runs calm told made.
     let link = c.args.self.now.manager_link in
     let core = c.core.ensures.core in
     let none : c.is_due.result ≡ false =
-    c.is_due.ensures.nothing (λ yes. runs (c.has_ended-ended.ensures.0 yes)) (inr seen)
+    c.is_due.ensures.nothing (λ yes. runs (c.has_ended-ended.ensures.0 yes)) calm
     (subst (λ (d : CoreState). d.pending ≡ []) (sym core) told)
     (subst (λ (d : CoreState). outputs_from d link.handed ≡ []) (sym core) made) in
     let due = c.if-not-is_due.false in cc
