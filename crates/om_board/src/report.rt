@@ -33,7 +33,7 @@ pub fn copy_of(alloc: Global, output: &Output) -> Result<Output, AllocError>
     Ok(Output {
         seq: output.seq,
         interval: output.interval,
-        bytes: Vec::from_slice(alloc, &output.bytes)?,
+        bytes: output.bytes.copy(alloc)?,
     })
 }
 

@@ -31,7 +31,7 @@ use Rattle.om_commands.specs.declared.error.CommandError.TheVariants.{EmptyScrip
 
 -- the bytes of an output at its place
 pub held-bytes : (outputs : List Output) (number : ℕ) (o : Output) (bytes : List ℕ) → number < length outputs
-    → bytes ≡ (get_or outputs number o).bytes.items → bytes ≡ bytes_at (map held_of outputs) number
+    → bytes ≡ (get_or outputs number o).bytes → bytes ≡ bytes_at (map held_of outputs) number
 held-bytes outputs number o bytes lt same =
     same
     ∙ ap (λ held. held.bytes) (sym (get_or-map held_of outputs number o (record { interval = 0; bytes = [] }) lt))

@@ -1,37 +1,35 @@
-ghost use Rattle.std.specs.Prelude.{◌≡◌, ℕ, ◌≤◌, List, IfOk, length, vec_len, nat_eq};
+ghost use Rattle.std.specs.Prelude.{◌≡◌, ℕ, ◌≤◌, [], List, IfOk, length, nat_eq};
 ghost use Rattle.std.specs.Cmp.Lexicographic.{pointwise};
 ghost use Rattle.std.specs.Cmp.Rules.{comparing};
 ghost use Rattle.std.proofs.Common.{rules};
 ghost use Rattle.om_format.specs.declared.limits.TheConstants.{MAX_BODY};
-ghost use Rattle.smallvec.specs.SmallVec.{small_vec_len};
 
 use crate::limits::MAX_BODY;
-use smallvec::SmallVec;
+use om_bytes::Bytes;
 use std::alloc::{AllocError, Global};
 use std::marker::Model;
 
-/// The bytes of a message or of an output: at most `MAX_BODY`. Up to 16 stand in place, and take no memory of their own.
+/// The bytes of a message or of an output: at most `MAX_BODY`.
 #[derive(Debug, Drop)]
 pub struct Body {
-    bytes: SmallVec<u8, 16>,
+    bytes: Bytes,
 }
 
 impl Model for Body {
     ghost Value = { List ℕ };
 
-    ghost view = { λ b. b.bytes.items };
+    ghost view = { λ b. b.bytes };
 
-    ghost invariant = { λ b. small_vec_len b.bytes ≤ MAX_BODY };
+    ghost invariant = { λ b. length b.bytes ≤ MAX_BODY };
 }
 
 impl Body {
-    /// The body of these bytes.
-    pub fn from_vec(bytes: Vec<u8>) -> Body
-        requires { vec_len bytes ≤ MAX_BODY }
-        ensures { result ≡ bytes.items }
+    /// The body without bytes.
+    pub fn empty() -> Body
+        ensures { result ≡ [] }
     {
         Body {
-            bytes: SmallVec::from_vec(bytes),
+            bytes: Bytes::empty(),
         }
     }
 
@@ -40,7 +38,7 @@ impl Body {
         requires { length bytes.now ≤ MAX_BODY }
         ensures { IfOk result (λ body. body ≡ bytes.now) }
     {
-        let bytes = SmallVec::from_slice(alloc, bytes)?;
+        let bytes = Bytes::from_slice(alloc, bytes)?;
         Ok(Body { bytes })
     }
 
@@ -56,7 +54,8 @@ impl Body {
     pub fn copy(&self, alloc: Global) -> Result<Body, AllocError>
         ensures { IfOk result (λ copy. copy ≡ self.now) }
     {
-        Body::from_slice(alloc, self.as_slice())
+        let bytes = self.bytes.copy(alloc)?;
+        Ok(Body { bytes })
     }
 }
 

@@ -136,7 +136,7 @@ at_place (x ∷ items) zero d below = refl
 at_place (x ∷ items) (suc seq) d below = at_place items seq d (omega arith)
 
 pub is_at_place : (items : List Output) (seq interval : ℕ) (bytes : List ℕ) (d : Output) → seq < length items
-    → (((get_or items seq d).interval ≡ interval) × ((get_or items seq d).bytes.items ≡ bytes)) ↔ (slice_get (map held_of items) seq ≡ Some (record { interval = interval; bytes = bytes }))
+    → (((get_or items seq d).interval ≡ interval) × ((get_or items seq d).bytes ≡ bytes)) ↔ (slice_get (map held_of items) seq ≡ Some (record { interval = interval; bytes = bytes }))
 is_at_place items seq interval bytes d below =
     let here = at_place items seq d below in (
       λ both. here ∙ ap Some (λ i. record { interval = both.0 i; bytes = both.1 i }),

@@ -9,7 +9,7 @@ pub record HeldOutput : Type 0 where
 
 -- an output without its number
 abbrev pub held_of : Output → HeldOutput
-held_of output = record { interval = output.interval; bytes = output.bytes.items }
+held_of output = record { interval = output.interval; bytes = output.bytes }
 
 -- the outputs that were made no later than an interval, in order
 abbrev pub within : List HeldOutput → ℕ → List HeldOutput

@@ -3,6 +3,7 @@ ghost use Rattle.om_manager.specs.Outputs.{held_of, within, AreNumbered};
 ghost use Rattle.om_manager.specs.steps.OutputLog.{log_with, log_to, log_within, IsUpTo, LogNotes};
 
 use crate::answers::{OutputError, OutputNote};
+use om_bytes::Bytes;
 use std::alloc::{AllocError, Global};
 use std::marker::Model;
 
@@ -13,7 +14,7 @@ pub struct Output {
     pub seq: u64,
     /// The interval in which it was made.
     pub interval: u32,
-    pub bytes: Vec<u8>,
+    pub bytes: Bytes,
 }
 
 /// The outputs of one process that were handed in and not cut. Those up to its place of the recovery state are released:
@@ -113,7 +114,7 @@ impl OutputLog {
         ensures err { OnErr result (self.new ≡ self.old) }
     {
         let seq = self.items.len() as u64;
-        let bytes = Vec::from_slice(alloc, bytes)?;
+        let bytes = Bytes::from_slice(alloc, bytes)?;
         self.items.push(Output {
             seq,
             interval,
@@ -153,7 +154,7 @@ impl OutputLog {
 }
 
 fn is_output(output: &Output, interval: u32, bytes: &[u8]) -> bool
-    ensures { IsTrue result ↔ ((output.now.interval ≡ interval) × (output.now.bytes.items ≡ bytes.now)) }
+    ensures { IsTrue result ↔ ((output.now.interval ≡ interval) × (output.now.bytes ≡ bytes.now)) }
 {
     output.interval == interval && output.bytes.as_slice() == bytes
 }

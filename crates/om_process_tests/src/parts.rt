@@ -34,7 +34,7 @@ fn process(rt: &impl Abort, number: u32) -> Pid {
 fn body(rt: &impl Abort, alloc: Global, text: &str) -> Body {
     let bytes = bytes_of(rt, alloc, text);
     assert!(rt; bytes.len() <= MAX_BODY);
-    Body::from_vec(bytes)
+    Body::from_slice(alloc, &bytes).expect(rt, "memory")
 }
 
 pub fn message(

@@ -64,7 +64,7 @@ fn line_of(
         &mut text,
         name_in(programs, pid),
         output.seq,
-        &output.bytes,
+        output.bytes.as_slice(),
     )?;
     Ok(text)
 }

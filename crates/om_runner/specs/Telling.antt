@@ -14,7 +14,7 @@ pub record Told : Type 0 where
 
 -- what is told of an output
 abbrev pub told_of : ℕ → Output → Told
-told_of p output = record { process = p; number = output.seq; bytes = output.bytes.items }
+told_of p output = record { process = p; number = output.seq; bytes = output.bytes }
 
 -- what was told of one process, in order
 abbrev pub of_process : ℕ → List Told → List Told

@@ -11,14 +11,18 @@ use crate::diary::Diary;
 use crate::harvest::Harvest;
 use crate::node::Node;
 use crate::worker_fault::WorkerFault;
-use om_board::{Front, Naming, Pass, Shared};
+use om_board::{Board, Front, Naming, Pass, Shared};
 use om_interval::{Bounds, Pid, Starts, Verdict};
 use om_member::Office;
 use om_process::{PendingRow, ProcCore};
 use om_stable::Stable;
 use std::alloc::Global;
-use std::sync::Wait;
 use std::sync::atomic::Ordering::SeqCst;
+use std::sync::{MutexGuard, Wait};
+use std::thread::yield_now;
+
+// How often a worker tries to have the board's lock before it sleeps for it.
+const TRIES: u32 = 32;
 
 // How the manager stands.
 #[derive(Clone, Copy)]
@@ -111,10 +115,19 @@ impl<'a, K: Naming> ManagerLink<'a, K> {
         ensures nothing { (IsTrue ended → ⊥) → called ≡ false → core.now.pending ≡ [] → outputs_from core.now self.now.handed ≡ []
             → result ≡ false }
     {
-        ended
-            || called
-            || !core.pending().is_empty()
-            || !core.outputs_from(self.handed).is_empty()
+        ended || called || !core.pending().is_empty() || !core.outputs_from(self.handed).is_empty()
+    }
+
+    // The board's lock. Where another has it, the worker tries for a while before it sleeps: what is done under it takes some
+    // microseconds, and a lock that is handed on to one that sleeps is free of use until that is awake.
+    fn lock<R: Wait>(&self, rt: &R) -> MutexGuard<'a, Board<K>> {
+        for _ in 0..TRIES {
+            if let Some(guard) = self.shared.board.try_lock() {
+                return guard;
+            }
+            yield_now();
+        }
+        self.shared.board.lock(rt)
     }
 
     // Hands over all that the process has: its pending rows, and the outputs that the manager has not.
@@ -199,7 +212,7 @@ impl<'a, K: Naming> ManagerLink<'a, K> {
     {
         let has_checkpoint = have_checkpoint(node.core().pending());
         let has_receipt = have_receipt(node.core().pending());
-        let mut guard = self.shared.board.lock(rt);
+        let mut guard = self.lock(rt);
         let mut desk = Desk {
             rt,
             board: &mut *guard,

@@ -9,7 +9,7 @@ use std::process::Abort;
 use std::sync::Wait;
 
 // A message of an inbox.
-fn message_of(alloc: Global, inbox: &Inbox, ssn: u32) -> Message
+fn message_of(inbox: &Inbox, ssn: u32) -> Message
     ensures { IsOfLine inbox.now result }
 {
     Message {
@@ -20,7 +20,7 @@ fn message_of(alloc: Global, inbox: &Inbox, ssn: u32) -> Message
             interval: 0,
         },
         ssn,
-        body: Body::from_vec(Vec::new(alloc)),
+        body: Body::empty(),
     }
 }
 
@@ -39,11 +39,11 @@ enum Told {
 }
 
 // Puts a message of this number.
-fn put_back(rt: &impl Wait, alloc: Global, inbox: &Inbox, pass: &mut PutPass, ssn: u32) -> Told
+fn put_back(rt: &impl Wait, inbox: &Inbox, pass: &mut PutPass, ssn: u32) -> Told
     requires { pass.old.line ≡ inbox.now }
     ensures { pass.new.line ≡ pass.old.line }
 {
-    let message = message_of(alloc, inbox, ssn);
+    let message = message_of(inbox, ssn);
     match inbox.put(rt, pass, message) {
         PutAnswer::Put => Told::Put,
         PutAnswer::Full(back) => Told::Full(number_of(back)),
@@ -52,13 +52,13 @@ fn put_back(rt: &impl Wait, alloc: Global, inbox: &Inbox, pass: &mut PutPass, ss
 }
 
 // How many of the messages from number 0 on, as many as an inbox holds, are put.
-fn fill(rt: &impl Wait, alloc: Global, inbox: &Inbox, pass: &mut PutPass) -> usize
+fn fill(rt: &impl Wait, inbox: &Inbox, pass: &mut PutPass) -> usize
     requires { pass.old.line ≡ inbox.now }
     ensures { pass.new.line ≡ pass.old.line }
 {
     let mut filled = 0;
     for ssn in 0..CAPACITY {
-        if put_back(rt, alloc, inbox, pass, ssn as u32) == Told::Put {
+        if put_back(rt, inbox, pass, ssn as u32) == Told::Put {
             filled += 1;
         }
     }
@@ -101,10 +101,10 @@ fn assert_filled(
     ensures put { put.new.line ≡ put.old.line }
     ensures take { take.new.line ≡ take.old.line }
 {
-    assert!(rt; fill(rt, alloc, inbox, put) == 64);
-    assert!(rt; put_back(rt, alloc, inbox, put, 64) == Told::Full(64));
+    assert!(rt; fill(rt, inbox, put) == 64);
+    assert!(rt; put_back(rt, inbox, put, 64) == Told::Full(64));
     assert!(rt; taken(rt, inbox, take) == Some(0));
-    assert!(rt; put_back(rt, alloc, inbox, put, 64) == Told::Put);
+    assert!(rt; put_back(rt, inbox, put, 64) == Told::Put);
 }
 
 // What was put is taken in order.

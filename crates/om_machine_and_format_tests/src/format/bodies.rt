@@ -9,18 +9,34 @@ use std::process::Abort;
 
 // A body of these bytes.
 fn body(rt: &impl Abort, alloc: Global, bytes: &[u8]) -> Body {
-    let bytes = Vec::from_slice(alloc, bytes).expect(rt, "memory");
     assert!(rt; bytes.len() <= MAX_BODY);
-    Body::from_vec(bytes)
+    Body::from_slice(alloc, bytes).expect(rt, "memory")
 }
+
+// Bytes of the numbers from 1 on.
+fn numbered(rt: &impl Abort, alloc: Global, count: usize) -> Vec<u8> {
+    let mut bytes = Vec::new(alloc);
+    for number in 1..=count {
+        bytes.push((number % 251) as u8).expect(rt, "memory");
+    }
+    bytes
+}
+
+// How many bytes bodies have: none, few, as many as stand in place and one more, and as many as there may be.
+const LENGTHS: [usize; 5] = [0, 2, 14, 15, 256];
 
 #[test]
 fn bodies_are_copied_and_give_their_bytes_back(rt: HostRuntime) {
     let alloc = rt.alloc();
-    let body = body(&rt, alloc, &[1, 2]);
-    let copy = body.copy(alloc).expect(&rt, "memory");
-    assert_same(&rt, &copy, &body);
-    assert_bytes(&rt, body.as_slice(), &[1, 2]);
+    assert_bytes(&rt, Body::empty().as_slice(), &[]);
+    for count in LENGTHS {
+        let bytes = numbered(&rt, alloc, count);
+        let body = body(&rt, alloc, &bytes);
+        let copy = body.copy(alloc).expect(&rt, "memory");
+        assert_same(&rt, &copy, &body);
+        assert_bytes(&rt, body.as_slice(), &bytes);
+        assert_bytes(&rt, copy.as_slice(), &bytes);
+    }
 }
 
 const WORD: [u8; 4] = [1, 2, 3, 4];

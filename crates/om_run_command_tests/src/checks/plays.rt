@@ -2,6 +2,7 @@
 
 ghost use Rattle.std.specs.Prelude.{◌≡◌, ◌≤◌, IfOk, length};
 
+use om_bytes::Bytes;
 use om_check::{PlayFault, play};
 use om_commands::CommandError;
 use om_interval::Pid;
@@ -155,15 +156,24 @@ enum Damage {
     OneStatusMore,
 }
 
-fn spoil_first(released: &mut Vec<Vec<Output>>, keeps: bool) {
+// The bytes, of which the first is another.
+fn spoiled(alloc: Global, bytes: &Bytes) -> Result<Bytes, AllocError> {
+    let mut changed = Vec::from_slice(alloc, bytes.as_slice())?;
+    if let Some(byte) = changed.get_mut(0) {
+        *byte ^= 1;
+    }
+    Bytes::from_slice(alloc, &changed)
+}
+
+fn spoil_first(alloc: Global, released: &mut Vec<Vec<Output>>, keeps: bool) {
     let Some(outputs) = released.get_mut(0) else {
         return;
     };
     let Some(mut output) = outputs.pop() else {
         return;
     };
-    if let Some(byte) = output.bytes.get_mut(0) {
-        *byte ^= 1;
+    if let Ok(bytes) = spoiled(alloc, &output.bytes) {
+        output.bytes = bytes;
     }
     if keeps {
         let _ = outputs.push(output);
@@ -176,11 +186,11 @@ fn spoil_status(statuses: &mut [Status]) {
     }
 }
 
-fn spoil(report: &mut Report, how: Damage) {
+fn spoil(alloc: Global, report: &mut Report, how: Damage) {
     match how {
         Damage::Nothing => {}
-        Damage::Byte => spoil_first(&mut report.released, true),
-        Damage::Output => spoil_first(&mut report.released, false),
+        Damage::Byte => spoil_first(alloc, &mut report.released, true),
+        Damage::Output => spoil_first(alloc, &mut report.released, false),
         Damage::Outputs => {
             let _ = report.released.pop();
         }
@@ -259,7 +269,7 @@ fn checked(
     requires some { 1 ≤ length programs.now.processes }
 {
     let mut report = gathered(alloc, images)?;
-    spoil(&mut report, how);
+    spoil(alloc, &mut report, how);
     let witnesses = gather_witnesses(alloc, senders, 1_000)?;
     checked_text(alloc, programs, &report, &witnesses)
 }
