@@ -591,6 +591,7 @@ fn close<K: Naming, R: Wait, G: Gate, O: Opener<R>>(
     requires whole { AreWholeOver O.Store.is_clean cluster.now.plan.now.images.items parts.statuses.items
         (harvested parts.harvests.items) parts.stores.items }
     ensures outputs { IfOk result (λ r. r.0.released.items ≡ harvested parts.harvests.items) }
+    ensures each { IfOk result (λ r. r.0.statuses ≡ parts.statuses) }
     ensures released { IfOk result (λ r. AreAllReleased r.0.front.vec r.0.released.items) }
     ensures last { IfOk result (λ r. UnderLock K.cell.n (λ before after. (r.0.front ≡ front_of before.manager) × (after ≡ before))) }
     ensures made { K.OverClean → IfOk result (λ r. AreAllMade K.programs K.cell.n r.0.released.items) }
