@@ -258,7 +258,7 @@ impl<'a, K: Naming> Worker<'a, K> {
         ensures own { IfOk result (λ r. IfSome r (λ h. h.own ≡ self.now.links.own)) }
         ensures many { IfOk result (λ r. IfSome r (λ h. length h.outputs.items ≡ made)) }
         ensures none { IfOk result (λ r. IfNone r (UnderLock K.cell.n (λ before after.
-            HasReleasedAnother before.manager self.now.links.own made × (after ≡ before)))) }
+            HasReleasedAnother before.manager self.now.manager_link.pid made × (after ≡ before)))) }
     {
         self.manager_link.harvest(rt, alloc, made)
     }
