@@ -4,4 +4,3 @@ pub mod BoardLemmas
 pub mod MadeLemmas
 pub mod FrontLemmas
 pub mod ListLemmas
-pub mod ReleasedLemmas

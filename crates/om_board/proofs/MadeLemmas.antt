@@ -1,17 +1,16 @@
 -- What a manager holds stays what the programs make.
-use Rattle.std.proofs.Common.{◌≡◌, inl, inr, ℕ, zero, suc, ◌<◌, ◌≤◌, List, [], ◌∷◌, ◌++◌, Some, refl, sym, ap, ◌∙◌, subst, arith, get_or, length, map, set}
-use Rattle.std.specs.Prelude.{Err, Ok, Result, Vec, false, replicate, slice_get, slice_index_or, true}
-use Rattle.std.specs.declared.alloc.Global.{Global}
+use Rattle.std.proofs.Common.{◌≡◌, inl, inr, ℕ, zero, suc, ◌<◌, ◌≤◌, List, [], ◌∷◌, ◌++◌, Some, refl, sym, ap, ◌∙◌, subst, arith, get_or, length, set}
+use Rattle.std.specs.Prelude.{Err, Ok, Result, false, replicate, slice_get, slice_index_or, true}
 use Rattle.std.proofs.lemmas.Bool.{cases_eq}
 use Rattle.std.proofs.lemmas.List.{get_or-replicate, get_or-set_other, get_or-set_same, get_or_past, length-replicate}
-use Rattle.std.proofs.lemmas.Option.{get_or_from_slice_get, slice_get_cases, slice_get_within}
+use Rattle.std.proofs.lemmas.Option.{slice_get_cases}
 use Rattle.om_process.specs.Process.{Program}
 use Rattle.om_recover.specs.Rows.{Rows}
 use Rattle.om_recover.specs.declared.note.Note.{Note}
 use Rattle.om_recover.specs.declared.note.Note.TheVariants.{Known, Noted}
 use Rattle.om_recover.specs.declared.row.Row.{Row}
 use Rattle.om_manager.specs.Notes.{IsNext, Notes, NotesOutput, Offer, after_note, with_output}
-use Rattle.om_manager.specs.Outputs.{AreNumbered, HeldOutput, held_of}
+use Rattle.om_manager.specs.Outputs.{HeldOutput}
 use Rattle.om_manager.specs.Rounds.{Fails, Failing, Finishes, Gathers, Joining}
 use Rattle.om_manager.specs.Sound.{IsManager}
 use Rattle.om_manager.specs.State.{ManagerState, held_by, process_count, released_by}
@@ -23,12 +22,10 @@ use Rattle.om_manager.specs.declared.answers.OutputError.{OutputError}
 use Rattle.om_manager.specs.declared.answers.OutputNote.{OutputNote}
 use Rattle.om_manager.specs.declared.answers.OutputNote.TheVariants as kept
 use Rattle.om_manager.specs.declared.answers.RecordError.{RecordError}
-use Rattle.om_manager.specs.declared.output_log.Output.{Output}
 use Rattle.om_manager.specs.declared.presence.Presence.{Presence}
-use Rattle.om_board.specs.Made.{AreAllMade, AreMade, HoldsMade, IsMade}
-use Rattle.om_board.specs.Released.{AreReleasedBy}
+use Rattle.om_board.specs.Made.{HoldsMade, IsMade}
 use Rattle.om_board.proofs.BoardLemmas.{refused_fail, refused_join, refused_note, refused_output}
-use Rattle.om_board.proofs.ListLemmas.{map_get, more_had, none_in}
+use Rattle.om_board.proofs.ListLemmas.{more_had, none_in}
 
 -- an element of the front of a list
 at_front : {A : Type 0} (xs ys : List A) (i : ℕ) (x : A) → slice_get xs i ≡ Some x → slice_get (xs ++ ys) i ≡ Some x
@@ -136,18 +133,3 @@ pub joined_made : (programs : List Program) (n : ℕ) (old new : ManagerState) (
     → Joining old p round current result new → HoldsMade programs n old → HoldsMade programs n new
 joined_made programs n old new p round current (Ok answer) is joining made = gathered_made programs n _ old new answer is joining.1 made
 joined_made programs n old new p round current (Err error) is joining made = subst (HoldsMade programs n) (sym (refused_join old new p round current error joining)) made
-
--- ---- what is read off a manager
-pub released_made : (programs : List Program) (n : ℕ) (m : ManagerState) (p : ℕ) (outputs : List Output) → IsManager m → p < process_count m
-    → map held_of outputs ≡ released_by m p → AreNumbered outputs → HoldsMade programs n m → AreMade programs n p outputs
-released_made programs n m p outputs is within held numbered made i o at =
-    let there : slice_get (released_by m p) i ≡ Some (held_of o) = subst (λ hs. slice_get hs i ≡ Some (held_of o)) held (map_get held_of outputs i o at) in
-    let number : o.seq ≡ i =
-    subst (λ (x : Output). x.seq ≡ i) (get_or_from_slice_get outputs i o o at) (numbered i o (slice_get_within outputs i o at)) in
-    subst (λ k. IsMade programs n p k (held_of o)) (sym number) (made p i (held_of o) (released_had m p i (held_of o) is within there))
-
-pub all_made : (programs : List Program) (n : ℕ) (m : ManagerState) (released : List (Vec Output Global)) → IsManager m → length released ≡ process_count m → AreReleasedBy m released
-    → HoldsMade programs n m → AreAllMade programs n released
-all_made programs n m released is many are made p outputs at =
-    let lt = slice_get_within released p outputs at in let both = are p outputs at in
-    released_made programs n m p outputs.items is (omega arith) both.0 both.1 made

@@ -3,6 +3,5 @@ pub mod Fronts
 pub mod CellNames
 pub mod Waits
 pub mod Boards
-pub mod Released
 pub mod Made
 pub mod steps

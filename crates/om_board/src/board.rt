@@ -2,7 +2,6 @@ ghost use Rattle.std.specs.Prelude.{◌≡◌, ◌≢◌, ◌≤◌, ◌<◌, �
 ghost use mathlib.Core.List.{IsPrefix};
 ghost use Rattle.om_interval.specs.Vectors.{IsBelow};
 ghost use Rattle.om_interval.specs.declared.pid.TheConstants.{MAX_PROCESSES};
-ghost use Rattle.om_recover.specs.Records.{log_of, checkpoint_of};
 ghost use Rattle.om_recover.specs.Cutting.{IsPruned};
 ghost use Rattle.om_manager.specs.State.{process_count};
 ghost use Rattle.om_manager.specs.Sound.{KeepsReleased};
@@ -16,9 +15,9 @@ ghost use Rattle.om_board.specs.declared.waiting.Waiting.TheVariants.{Owes, Offe
 use crate::front::Front;
 use crate::frontier::{Frontier, Naming, Pass, Writer};
 use crate::waiting::{Waiting, all_wait, are_matched};
-use om_interval::{DepVec, MAX_PROCESSES, Pid};
+use om_interval::{MAX_PROCESSES, Pid};
 use om_manager::{FailError, Gathered, JoinError, Manager, OutputError, OutputNote, RecordError};
-use om_recover::Note;
+use om_recover::{Note, Row};
 use std::alloc::Global;
 use std::marker::Model;
 use std::sync::Wait;
@@ -89,19 +88,16 @@ impl<K: Naming> Board<K> {
         self.writer.pass(frontier)
     }
 
-    /// [`Manager::note_logged`](om_manager::Manager::note_logged), with the front that comes of it posted.
-    pub fn note_logged<R: Wait>(
+    /// [`Manager::note`](om_manager::Manager::note), with the front that comes of it posted.
+    pub fn note<R: Wait>(
         &mut self,
         rt: &R,
         alloc: Global,
-        pid: Pid,
         round: u32,
-        x: u32,
-        vec: &DepVec,
-        got: &DepVec,
+        row: Row,
         frontier: &Frontier<K>,
     ) -> Result<Note, RecordError>
-        ensures answer { Notes self.old.manager round (log_of pid x vec.now got.now) result self.new.manager }
+        ensures answer { Notes self.old.manager round row result self.new.manager }
         ensures posted { Follows self.old.posted (front_of self.new.manager) self.new.posted }
         ensures sound { IsBoard K.cell.n self.new }
         ensures not_lowered { IsBelow self.old.manager.recovery self.new.manager.recovery }
@@ -110,33 +106,7 @@ impl<K: Naming> Board<K> {
         ensures waiting { self.new.waiting ≡ self.old.waiting }
         ensures refused { OnErr result (self.new ≡ self.old) }
     {
-        let told = self.manager.note_logged(alloc, pid, round, x, vec, got);
-        self.writer.post(rt, &Front::of(&self.manager), frontier);
-        told
-    }
-
-    /// [`Manager::note_checkpoint`](om_manager::Manager::note_checkpoint), with the front that comes of it posted.
-    pub fn note_checkpoint<R: Wait>(
-        &mut self,
-        rt: &R,
-        alloc: Global,
-        pid: Pid,
-        round: u32,
-        x: u32,
-        vec: &DepVec,
-        got: &DepVec,
-        frontier: &Frontier<K>,
-    ) -> Result<Note, RecordError>
-        ensures answer { Notes self.old.manager round (checkpoint_of pid x vec.now got.now) result self.new.manager }
-        ensures posted { Follows self.old.posted (front_of self.new.manager) self.new.posted }
-        ensures sound { IsBoard K.cell.n self.new }
-        ensures not_lowered { IsBelow self.old.manager.recovery self.new.manager.recovery }
-        ensures released { KeepsReleased self.old.manager self.new.manager }
-        ensures quiet { self.new.quiet ≡ self.old.quiet }
-        ensures waiting { self.new.waiting ≡ self.old.waiting }
-        ensures refused { OnErr result (self.new ≡ self.old) }
-    {
-        let told = self.manager.note_checkpoint(alloc, pid, round, x, vec, got);
+        let told = self.manager.note(alloc, round, row);
         self.writer.post(rt, &Front::of(&self.manager), frontier);
         told
     }

@@ -17,7 +17,8 @@ pub struct Front {
 }
 
 impl Front {
-    pub(crate) fn of(manager: &Manager) -> Front
+    /// The front of a manager.
+    pub fn of(manager: &Manager) -> Front
         ensures front { result ≡ front_of manager.now }
         ensures sound { IsManager manager.now }
     {

@@ -1,5 +1,5 @@
 //! What the threads of a cluster share: the board, which is the manager under a lock; the frontier, which shows the manager's
-//! front without it; the inboxes, by which messages go from one thread to another; and the report, read off the board.
+//! front without it; and the inboxes, by which messages go from one thread to another.
 //!
 //! A call of the board costs what the manager's call costs, a copy of the front, and the lock; a reading of the frontier copies
 //! the front and takes no lock. The kit's locks, atomic tables and channels are trusted.
@@ -10,7 +10,6 @@
 //!   their waiting)
 //! - the front: `front` (what is shown), `frontier` (the readings), `cell` (the words in which it is posted), `laws`
 //! - between threads: `inbox`, with `order` and `hand` (the rule that its messages keep, in proofs alone)
-//! - at the end: `report`
 #![tactic(auto)]
 
 mod board;
@@ -21,7 +20,6 @@ mod hand;
 mod inbox;
 pub mod laws;
 mod order;
-mod report;
 mod shared;
 mod waiting;
 
@@ -29,6 +27,5 @@ pub use board::Board;
 pub use front::Front;
 pub use frontier::{Blank, Frontier, Naming, Pass};
 pub use inbox::{CAPACITY, Inbox, PutAnswer, PutPass, TakePass};
-pub use report::{Report, copy_of};
 pub use shared::Shared;
 pub use waiting::Waiting;

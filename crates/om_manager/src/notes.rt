@@ -69,7 +69,8 @@ impl Manager {
         self.note(alloc, round, row)
     }
 
-    fn note(&mut self, alloc: Global, round: u32, row: Row) -> Result<Note, RecordError>
+    /// Notes a row. The refusals are those of [`Manager::note_logged`], in the same order.
+    pub fn note(&mut self, alloc: Global, round: u32, row: Row) -> Result<Note, RecordError>
         ensures answer { Notes self.old round row result self.new }
         ensures sound { IsManager self.new }
         ensures front { GoesOn self.old self.new }

@@ -2,7 +2,6 @@
 
 ghost use Rattle.std.specs.Prelude.{◌≡◌, ℕ};
 ghost use Rattle.om_interval.specs.Vectors.{IsBelow};
-ghost use Rattle.om_recover.specs.Records.{log_of, checkpoint_of};
 ghost use Rattle.om_recover.specs.Cutting.{IsPruned};
 ghost use Rattle.om_manager.specs.Outputs.{HeldOutput};
 ghost use Rattle.om_manager.specs.State.{ManagerState};
@@ -10,9 +9,9 @@ ghost use Rattle.om_manager.specs.Sound.{IsManager, KeepsReleased};
 ghost use Rattle.om_manager.specs.Notes.{Notes, NotesOutput};
 ghost use Rattle.om_manager.specs.Rounds.{Failing, Joining};
 
-use om_interval::{DepVec, Pid};
+use om_interval::Pid;
 use om_manager::{FailError, Gathered, JoinError, Manager, OutputError, OutputNote, RecordError};
-use om_recover::Note;
+use om_recover::{Note, Row};
 use std::alloc::Global;
 
 /// The manager as a process reaches it: itself, or on a board under its lock. A call that is refused leaves it as it was.
@@ -28,32 +27,9 @@ pub trait Office {
         ensures manager { result.now ≡ state self.now }
         ensures sound { IsManager (state self.now) };
 
-    /// [`Manager::note_logged`](om_manager::Manager::note_logged).
-    fn note_logged(
-        &mut self,
-        alloc: Global,
-        pid: Pid,
-        round: u32,
-        x: u32,
-        vec: &DepVec,
-        got: &DepVec,
-    ) -> Result<Note, RecordError>
-        ensures answer { Notes (state self.old) round (log_of pid x vec.now got.now) result (state self.new) }
-        ensures sound { IsManager (state self.new) }
-        ensures not_lowered { IsBelow (state self.old).recovery (state self.new).recovery }
-        ensures released { KeepsReleased (state self.old) (state self.new) };
-
-    /// [`Manager::note_checkpoint`](om_manager::Manager::note_checkpoint).
-    fn note_checkpoint(
-        &mut self,
-        alloc: Global,
-        pid: Pid,
-        round: u32,
-        x: u32,
-        vec: &DepVec,
-        got: &DepVec,
-    ) -> Result<Note, RecordError>
-        ensures answer { Notes (state self.old) round (checkpoint_of pid x vec.now got.now) result (state self.new) }
+    /// [`Manager::note`](om_manager::Manager::note).
+    fn note(&mut self, alloc: Global, round: u32, row: Row) -> Result<Note, RecordError>
+        ensures answer { Notes (state self.old) round row result (state self.new) }
         ensures sound { IsManager (state self.new) }
         ensures not_lowered { IsBelow (state self.old).recovery (state self.new).recovery }
         ensures released { KeepsReleased (state self.old) (state self.new) };
@@ -114,28 +90,8 @@ impl Office for Manager {
         self
     }
 
-    fn note_logged(
-        &mut self,
-        alloc: Global,
-        pid: Pid,
-        round: u32,
-        x: u32,
-        vec: &DepVec,
-        got: &DepVec,
-    ) -> Result<Note, RecordError> {
-        self.note_logged(alloc, pid, round, x, vec, got)
-    }
-
-    fn note_checkpoint(
-        &mut self,
-        alloc: Global,
-        pid: Pid,
-        round: u32,
-        x: u32,
-        vec: &DepVec,
-        got: &DepVec,
-    ) -> Result<Note, RecordError> {
-        self.note_checkpoint(alloc, pid, round, x, vec, got)
+    fn note(&mut self, alloc: Global, round: u32, row: Row) -> Result<Note, RecordError> {
+        self.note(alloc, round, row)
     }
 
     fn note_output(

@@ -3,14 +3,31 @@
 ghost use Rattle.std.specs.Prelude.{◌≡◌, drop};
 ghost use Rattle.om_process.specs.Core.{with_pending};
 ghost use Rattle.om_member.specs.Keeps.{Keeps};
-ghost use Rattle.om_member.specs.Told.{IsTold, IsToldUpTo};
+ghost use Rattle.om_member.specs.Told.{IsTold, IsToldUpTo, row_for};
 
 use crate::office::Office;
 use om_interval::Pid;
 use om_manager::RecordError;
 use om_process::{PendingRow, ProcCore};
-use om_recover::Note;
+use om_recover::{Note, Row, RowKind};
 use std::alloc::Global;
+
+// A pending row of a process, as the manager is told it.
+fn row_of(pid: Pid, row: &PendingRow) -> Row
+    ensures { result ≡ row_for pid row.now }
+{
+    Row {
+        kind: if row.ckpt {
+            RowKind::Checkpoint
+        } else {
+            RowKind::Log
+        },
+        pid,
+        interval: row.x,
+        vec: row.vec,
+        got: row.got,
+    }
+}
 
 // Offers a row to the manager.
 fn tell<O: Office>(
@@ -22,11 +39,7 @@ fn tell<O: Office>(
 ) -> Result<Note, RecordError>
     ensures { IsTold (O.state office.old) round pid row.now result (O.state office.new) }
 {
-    if row.ckpt {
-        office.note_checkpoint(alloc, pid, round, row.x, &row.vec, &row.got)
-    } else {
-        office.note_logged(alloc, pid, round, row.x, &row.vec, &row.got)
-    }
+    office.note(alloc, round, row_of(pid, row))
 }
 
 // Offers rows in order, up to the first that is refused, and says how many were not.

@@ -1,9 +1,9 @@
 //! Rows of the commands that run a cluster: what a command is given, and what it must write or be refused with.
 
 use om_commands::CommandError;
-use om_run_commands::InMemory;
 use om_run_commands::check::run_checked;
 use om_run_commands::run::run;
+use om_runner::InMemory;
 use std::alloc::Global;
 use std::io::{Read, Write};
 use std::process::Abort;

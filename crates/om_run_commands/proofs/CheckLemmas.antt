@@ -5,8 +5,7 @@ use Rattle.std.specs.Option.{option_map}
 use Rattle.std.specs.declared.alloc.Global.{Global}
 use Rattle.std.proofs.lemmas.List.{length-map}
 use Rattle.std.proofs.lemmas.Option.{slice_get-map}
-use Rattle.om_board.specs.Released.{AreReleasedBy}
-use Rattle.om_board.specs.declared.report.Report.{Report}
+use Rattle.om_runner.specs.declared.report.Report.{Report}
 use Rattle.om_check.specs.Whole.{AreReleasedIn, AreStatusesOf, IsWhole}
 use Rattle.om_check.proofs.Ending.{whole_run}
 use Rattle.om_check.proofs.OneRun.{one_run}
@@ -17,6 +16,7 @@ use Rattle.om_interval.specs.declared.pid.TheConstants.{MAX_PROCESSES}
 use Rattle.om_process.specs.Images.{program_of}
 use Rattle.om_process.specs.declared.image.Image.{Image}
 use Rattle.om_process.specs.declared.status.Status.{Status}
+use Rattle.om_runner.specs.Released.{AreReleasedBy}
 use Rattle.om_scripts.specs.Programs.{Cluster, program_at, programs_of}
 use Rattle.om_world.specs.World.{WorldState}
 use Rattle.om_world.specs.declared.entry.Entry.{Entry}

@@ -9,8 +9,8 @@ use Rattle.om_process.specs.Images.{program_of}
 use Rattle.om_process.specs.declared.image.Image.{Image}
 use Rattle.om_process.specs.declared.status.Status.{Status}
 use Rattle.om_scripts.specs.Programs.{Cluster, programs_of}
-use Rattle.om_board.specs.Released.{AreAllReleased}
-use Rattle.om_board.specs.declared.report.Report.{Report}
+use Rattle.om_runner.specs.declared.report.Report.{Report}
+use Rattle.om_runner.specs.Released.{AreAllReleased}
 use Rattle.om_runner.specs.Reports.{AreAlongOf, AreOutputsOf, HaveAllOf}
 use Rattle.om_process.specs.Core.{IsEnd}
 use Rattle.om_runner.specs.Telling.{AreInOrder, AreToldMade, Told, TellsAll}

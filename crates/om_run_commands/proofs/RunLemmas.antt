@@ -10,11 +10,10 @@ use Rattle.om_process.specs.Process.{Program}
 use Rattle.om_process.specs.declared.image.Image.{Image}
 use Rattle.om_process.specs.declared.status.Status.{Status}
 use Rattle.om_scripts.specs.Programs.{Cluster, programs_of}
-use Rattle.om_board.specs.Made.{AreAllMade}
-use Rattle.om_board.specs.Released.{AreAllReleased}
+use Rattle.om_runner.specs.Released.{AreAllMade, AreAllReleased}
 use Rattle.om_runner.specs.Reports.{AreAllAlong, AreAlongOf, AreOutputsOf, AreWholeOf, HaveAll, HaveAllOf}
 use Rattle.om_process.specs.Core.{IsEnd}
-use Rattle.om_board.specs.declared.report.Report.{Report}
+use Rattle.om_runner.specs.declared.report.Report.{Report}
 use Rattle.om_runner.specs.declared.fault.RunFault.{RunFault}
 use Rattle.om_runner.specs.declared.fault.RunFault.TheVariants as running
 use Rattle.om_run_commands.specs.Errors.{error_of_run}

@@ -2,7 +2,7 @@
 use Rattle.std.specs.Prelude.{◌≡◌, ℕ, List, ◌++◌, Option, length}
 use Rattle.std.specs.Io.KnownBytes.{Appends}
 use Rattle.std.specs.List.{flat_map}
-use Rattle.om_board.specs.declared.report.Report.{Report}
+use Rattle.om_runner.specs.declared.report.Report.{Report}
 use Rattle.om_process.specs.Process.{Program}
 use Rattle.om_scripts.specs.Programs.{Cluster, programs_of}
 use Rattle.om_runner.specs.Telling.{AreInOrder, AreToldMade, TellsAll, Told}

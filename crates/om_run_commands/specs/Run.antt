@@ -4,11 +4,10 @@ use Rattle.om_manager.specs.Outputs.{HeldOutput, held_of}
 use Rattle.om_process.specs.Process.{Program}
 use Rattle.om_process.specs.declared.status.Status.{Status}
 use Rattle.om_scripts.specs.Programs.{LacksProcesses, programs_of}
-use Rattle.om_board.specs.Made.{AreAllMade}
-use Rattle.om_board.specs.Released.{AreAllReleased}
+use Rattle.om_runner.specs.Released.{AreAllMade, AreAllReleased}
 use Rattle.om_runner.specs.Reports.{AreAllAlong, HaveAll}
 use Rattle.om_process.specs.Core.{IsEnd}
-use Rattle.om_board.specs.declared.report.Report.{Report}
+use Rattle.om_runner.specs.declared.report.Report.{Report}
 use Rattle.om_commands.specs.Command.{IsErrorOf, IsScript}
 use Rattle.om_run_commands.specs.ClusterScript.{ClusterFile, cluster_file_line, no_settings}
 use Rattle.om_run_commands.specs.RunText.{run_text}

@@ -5,7 +5,7 @@
 //!
 //! In an order of reading:
 //!
-//! - what all share: `cluster_script` (the lines), `in_memory` (stores), `run_text` (the text of a run), `error`, `laws`
+//! - what all share: `cluster_script` (the lines), `run_text` (the text of a run), `error`, `laws`
 //! - `run`; `cluster_size` (how many processes), `waiting` (what they wait for)
 //! - `check`: `run --check`, with `checked` (the comparison), `kept_script` and `event_text` (the run without failures as a
 //!   script)
@@ -20,7 +20,6 @@ mod cluster_size;
 mod error;
 mod event_text;
 pub mod followed;
-mod in_memory;
 mod kept_script;
 pub mod laws;
 mod record_text;
@@ -31,5 +30,4 @@ mod waiting;
 
 pub use checked::{checked_events, checked_text};
 pub use cluster_size::count_processes;
-pub use in_memory::InMemory;
 pub use waiting::waiting_text;

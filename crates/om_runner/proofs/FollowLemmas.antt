@@ -12,16 +12,16 @@ use Rattle.om_interval.specs.Vectors.{IsBelow}
 use Rattle.om_manager.specs.Outputs.{held_of}
 use Rattle.om_manager.specs.declared.output_log.Output.{Output}
 use Rattle.om_process.specs.Process.{Program}
-use Rattle.om_board.specs.Made.{AreAllMade, AreMade, IsMade}
+use Rattle.om_board.specs.Made.{IsMade}
 use Rattle.om_board.proofs.ListLemmas.{map_get, map_had, more_had, none_in}
 use Rattle.om_board.proofs.FrontLemmas.{ends_rise}
 use mathlib.Core.List.{IsPrefix}
 use Rattle.om_board.specs.Boards.{BoardState, IsBoard}
 use Rattle.om_board.specs.Fronts.{EndsWith, front_of}
 use Rattle.om_board.specs.declared.front.Front.{Front}
-use Rattle.om_board.specs.Released.{AreAllReleased, AreReleased}
 use Rattle.om_runner.proofs.HarvestLemmas.{within_above}
 use Rattle.om_runner.proofs.WireLemmas.{set_apart, set_here}
+use Rattle.om_runner.specs.Released.{AreAllMade, AreAllReleased, AreMade, AreReleased}
 use Rattle.om_runner.specs.Telling.{AreInOrder, AreToldMade, Told, TellsAll, of_process, outputs_in, told_of}
 use Rattle.om_runner.specs.declared.lane.Lane.{Lane}
 use Rattle.om_runner.specs.steps.Harvests.{AreNoFewer}

@@ -6,13 +6,12 @@ use Rattle.std.proofs.lemmas.List.{get_or_past}
 use Rattle.std.proofs.lemmas.Option.{slice_get_cases}
 use Rattle.om_interval.specs.Vectors.{IsBelow}
 use Rattle.om_board.specs.Fronts.{EndsWith}
-use Rattle.om_board.specs.Made.{AreAllMade, AreMade}
-use Rattle.om_board.specs.Released.{AreAllReleased, AreReleased}
 use Rattle.om_board.specs.declared.front.Front.{Front}
 use Rattle.om_board.proofs.FrontLemmas.{ends_rise}
 use Rattle.om_board.proofs.ListLemmas.{more_had}
 use Rattle.om_manager.specs.declared.output_log.Output.{Output}
 use Rattle.om_process.specs.Process.{Program}
+use Rattle.om_runner.specs.Released.{AreAllMade, AreAllReleased, AreMade, AreReleased}
 use Rattle.om_runner.specs.steps.Harvests.{HarvestState, StayReleased}
 
 -- what is within a place of a vector is within that of a higher one

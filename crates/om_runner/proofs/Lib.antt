@@ -1,4 +1,5 @@
 mod OnWay
+mod ReleasedLemmas
 mod HarvestLemmas
 mod LinkLemmas
 mod ReportLemmas

@@ -10,8 +10,8 @@ use Rattle.om_process.specs.declared.status.Status.{Status}
 use Rattle.om_board.proofs.ListLemmas.{map_get, map_had, more_had}
 use Rattle.om_manager.specs.declared.output_log.Output.{Output}
 use Rattle.om_process.specs.Process.{Program}
-use Rattle.om_board.specs.Made.{AreAllMade}
 use Rattle.std.proofs.lemmas.Result.{IfOk-weaker}
+use Rattle.om_runner.specs.Released.{AreAllMade}
 use Rattle.om_runner.specs.Reports.{AreAlongOf, AreAlongOver, AreOutputsOf, AreWholeOf, HaveAllOf, IsStatusAlong, IsWholeRun}
 use Rattle.om_process.specs.Core.{IsEnd}
 use Rattle.om_board.specs.Inboxes.{Traffic, Takings}

@@ -1,3 +1,4 @@
+pub mod Released
 pub mod Reports
 pub mod Telling
 pub mod Watching

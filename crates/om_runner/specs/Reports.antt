@@ -3,7 +3,6 @@ use Rattle.std.specs.Prelude.{◌≡◌, ℕ, ◌<◌, ◌≤◌, List, Option, 
 use Rattle.std.specs.declared.alloc.Global.{Global}
 pub use Rattle.om_stable.specs.Content.{nothing}
 use Rattle.om_manager.specs.declared.output_log.Output.{Output}
-use Rattle.om_board.specs.Made.{AreAllMade}
 use Rattle.om_format.specs.Queues.{queue_end}
 use Rattle.om_process.specs.Core.{status_of}
 use Rattle.om_process.specs.Images.{program_of}
@@ -12,6 +11,7 @@ use Rattle.om_process.specs.Process.{Process, Program, Received, made}
 use Rattle.om_process.specs.Turns.{Reaches, next_move}
 use Rattle.om_process.specs.declared.image.Image.{Image}
 use Rattle.om_process.specs.declared.status.Status.{Status}
+use Rattle.om_runner.specs.Released.{AreAllMade}
 use Rattle.om_runner.specs.declared.fault.RunFault.{RunFault}
 use Rattle.om_runner.specs.declared.fault.RunFault.TheVariants.{Turns, GateShut, Memory, Fault, Load, NoThread}
 

@@ -2,11 +2,10 @@
 
 ghost use Rattle.std.specs.Prelude.{◌≡◌, ◌<◌, ◌≤◌, ℕ, All, IfErr, IfOk, IfSome, IsTrue, OnOk, Some, length, map, slice_get, slice_index_or, vec_capacity, vec_len};
 ghost use Rattle.om_board.specs.Fronts.{front_of};
-ghost use Rattle.om_board.specs.Made.{AreAllMade};
-ghost use Rattle.om_board.specs.Released.{AreAllReleased};
 ghost use Rattle.om_interval.specs.declared.pid.TheConstants.{MAX_PROCESSES};
 ghost use Rattle.om_process.specs.Images.{program_of};
 ghost use Rattle.om_process.specs.declared.image.Image.{Image};
+ghost use Rattle.om_runner.specs.Released.{AreAllMade, AreAllReleased};
 ghost use Rattle.om_runner.specs.Reports.{AreAlongOf, AreAlongOver, AreOutputsOf, AreWholeOf, IsFaultOf, IsWholeRun};
 ghost use Rattle.om_process.specs.Core.{IsEnd};
 ghost use Rattle.om_runner.specs.declared.fault.RunFault.TheVariants.{Memory};
@@ -28,12 +27,13 @@ use crate::network::Ends;
 use crate::node::Node;
 use crate::opener::{Gate, OpenFault, Opener};
 use crate::recorder::Recorder;
+use crate::report::Report;
 use crate::results::{Finished, Parts, gathered};
 use crate::settle::settle_all;
 use crate::witness::Past;
 use crate::worker::{Place, Worker};
 use crate::worker_fault::load_fault;
-use om_board::{Blank, Inbox, Naming, Pass, Report, TakePass};
+use om_board::{Blank, Inbox, Naming, Pass, TakePass};
 use om_interval::{MAX_PROCESSES, Pid};
 use om_process::{Image, Status, Witness};
 use om_stable::Stable;
@@ -591,6 +591,7 @@ fn close<K: Naming, R: Wait, G: Gate, O: Opener<R>>(
     requires whole { AreWholeOver O.Store.is_clean cluster.now.plan.now.images.items parts.statuses.items
         (harvested parts.harvests.items) parts.stores.items }
     ensures outputs { IfOk result (λ r. r.0.released.items ≡ harvested parts.harvests.items) }
+    ensures each { IfOk result (λ r. r.0.statuses ≡ parts.statuses) }
     ensures released { IfOk result (λ r. AreAllReleased r.0.front.vec r.0.released.items) }
     ensures last { IfOk result (λ r. UnderLock K.cell.n (λ before after. (r.0.front ≡ front_of before.manager) × (after ≡ before))) }
     ensures made { K.OverClean → IfOk result (λ r. AreAllMade K.programs K.cell.n r.0.released.items) }

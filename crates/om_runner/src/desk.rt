@@ -1,10 +1,10 @@
 //! The board under its lock, as a process reaches its manager.
 
 use om_board::{Board, Frontier, Naming};
-use om_interval::{DepVec, Pid};
+use om_interval::Pid;
 use om_manager::{FailError, Gathered, JoinError, Manager, OutputError, OutputNote, RecordError};
 use om_member::Office;
-use om_recover::Note;
+use om_recover::{Note, Row};
 use std::alloc::Global;
 use std::sync::Wait;
 
@@ -27,30 +27,8 @@ impl<'a, K: Naming, R: Wait> Office for Desk<'a, K, R> {
         self.board.manager()
     }
 
-    fn note_logged(
-        &mut self,
-        alloc: Global,
-        pid: Pid,
-        round: u32,
-        x: u32,
-        vec: &DepVec,
-        got: &DepVec,
-    ) -> Result<Note, RecordError> {
-        self.board
-            .note_logged(self.rt, alloc, pid, round, x, vec, got, self.frontier)
-    }
-
-    fn note_checkpoint(
-        &mut self,
-        alloc: Global,
-        pid: Pid,
-        round: u32,
-        x: u32,
-        vec: &DepVec,
-        got: &DepVec,
-    ) -> Result<Note, RecordError> {
-        self.board
-            .note_checkpoint(self.rt, alloc, pid, round, x, vec, got, self.frontier)
+    fn note(&mut self, alloc: Global, round: u32, row: Row) -> Result<Note, RecordError> {
+        self.board.note(self.rt, alloc, round, row, self.frontier)
     }
 
     fn note_output(

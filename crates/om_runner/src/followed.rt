@@ -1,10 +1,9 @@
 //! A cluster whose outputs are told as they are released.
 
 ghost use Rattle.std.specs.Prelude.{◌≡◌, ◌≢◌, ◌≤◌, [], All, IfErr, IfOk, IsTrue, List, length, map};
-ghost use Rattle.om_board.specs.Made.{AreAllMade};
-ghost use Rattle.om_board.specs.Released.{AreAllReleased};
 ghost use Rattle.om_interval.specs.declared.pid.TheConstants.{MAX_PROCESSES};
 ghost use Rattle.om_process.specs.Images.{program_of};
+ghost use Rattle.om_runner.specs.Released.{AreAllMade, AreAllReleased};
 ghost use Rattle.om_runner.specs.Reports.{AreAlongOf, AreOutputsOf, HaveAllOf};
 ghost use Rattle.om_process.specs.Core.{IsEnd};
 ghost use Rattle.om_runner.specs.Telling.{AreInOrder, AreToldMade, TellsAll, Told};
@@ -24,8 +23,9 @@ use crate::following::Following;
 use crate::ground::{Beside, Cluster, ground_of, stop_all};
 use crate::herald::Herald;
 use crate::opener::{Gate, Opener};
+use crate::report::Report;
 use crate::results::Parts;
-use om_board::{Blank, Naming, Report};
+use om_board::{Blank, Naming};
 use om_interval::MAX_PROCESSES;
 use std::alloc::Global;
 use std::marker::Brand;

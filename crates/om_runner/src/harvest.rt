@@ -1,16 +1,16 @@
 //! What a process leaves when its run is over.
 
-ghost use Rattle.std.specs.Prelude.{◌≡◌, ◌<◌, IfOk, map, slice_index};
+ghost use Rattle.std.specs.Prelude.{◌≡◌, ◌<◌, IfOk, slice_index};
 ghost use Rattle.om_board.specs.Boards.{IsBoard};
 ghost use Rattle.om_board.specs.Fronts.{EndsWith, front_of};
-ghost use Rattle.om_board.specs.Made.{AreAllMade, AreMade, HoldsMade};
-ghost use Rattle.om_board.specs.Released.{AreAllReleased, AreReleased};
-ghost use Rattle.om_manager.specs.Outputs.{held_of};
+ghost use Rattle.om_board.specs.Made.{HoldsMade};
 ghost use Rattle.om_manager.specs.State.{process_count};
+ghost use Rattle.om_runner.specs.Released.{AreAllMade, AreAllReleased, AreMade, AreReleased};
 ghost use Rattle.om_runner.specs.steps.Acts.{AreAllOf, UnderLock};
 ghost use Rattle.om_runner.specs.steps.Harvests.{AreOwn, harvested};
 
-use om_board::{Board, Front, Frontier, Naming, Pass, Shared, copy_of};
+use crate::report::released_of;
+use om_board::{Board, Front, Frontier, Naming, Pass, Shared};
 use om_interval::Pid;
 use om_manager::{Manager, Output};
 use std::alloc::{AllocError, Global};
@@ -35,18 +35,6 @@ impl<K: Naming> Model for Harvest<K> {
     ghost invariant = { λ h. IsHarvest K.programs K.cell.n K.OverClean (record { own = h.pid; outputs = h.outputs; seen = h.pass }) };
 }
 
-// A copy of outputs.
-fn copies_of(alloc: Global, outputs: &[Output]) -> Result<Vec<Output>, AllocError>
-    ensures held { IfOk result (λ copies. map held_of copies.items ≡ map held_of outputs.now) }
-    ensures numbers { IfOk result (λ copies. map (λ o. o.seq) copies.items ≡ map (λ o. o.seq) outputs.now) }
-{
-    let mut copies = Vec::with_capacity(alloc, outputs.len())?;
-    for output in outputs {
-        copies.push(copy_of(alloc, output)?)?;
-    }
-    Ok(copies)
-}
-
 impl<K: Naming> Harvest<K> {
     // Of all that the manager has released of a process, with a pass that has seen all that was posted.
     pub(crate) fn of(
@@ -63,7 +51,7 @@ impl<K: Naming> Harvest<K> {
     {
         // The read tells what holds of every manager.
         let _ = manager.recovery();
-        let outputs = copies_of(alloc, manager.released(pid))?;
+        let outputs = released_of(alloc, manager, pid)?;
         Ok(Harvest { pid, outputs, pass })
     }
 

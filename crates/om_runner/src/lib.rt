@@ -6,8 +6,8 @@
 //!
 //! In an order of reading:
 //!
-//! - what a run is given and what it answers: `config`, `opener` (who makes the stores), `fault`, `witness` (what each process
-//!   did)
+//! - what a run is given and what it answers: `config`, `opener` (who makes the stores), `in_memory` (one who makes them in
+//!   memory), `report`, `fault`, `witness` (what each process did)
 //! - `cluster`: the threads, from the first store to the report; `network` (the inboxes of all), `settle` (what is left in
 //!   them), `results` (what the workers bring back), `harvest` (the outputs among it)
 //! - `worker`: what a thread does, turn by turn; `idle`, `patience` and `bell` (how it yields, sleeps and is woken),
@@ -33,6 +33,7 @@ mod ground;
 mod harvest;
 mod herald;
 mod idle;
+mod in_memory;
 mod lane;
 mod links;
 mod manager_link;
@@ -43,6 +44,7 @@ mod patience;
 mod progress;
 mod received;
 mod recorder;
+mod report;
 mod results;
 mod settle;
 mod sight;
@@ -58,13 +60,15 @@ pub use fault::RunFault;
 pub use followed::run_and_follow;
 pub use follower::{FollowFault, Follower};
 pub use idle::IDLE_TURNS;
+pub use in_memory::InMemory;
 pub use om_board::{
-    Blank, Board, CAPACITY, Front, Frontier, Inbox, Naming, Pass, PutAnswer, PutPass, Report,
-    Shared, TakePass, laws,
+    Blank, Board, CAPACITY, Front, Frontier, Inbox, Naming, Pass, PutAnswer, PutPass, Shared,
+    TakePass, laws,
 };
 pub use opener::{Gate, OpenFault, Opener};
 pub use progress::Progress;
 pub use recorder::{Act, Letter, Record, Recorder};
+pub use report::Report;
 pub use sight::{Doing, Sight};
 pub use watch::Watch;
 pub use watched::Watched;

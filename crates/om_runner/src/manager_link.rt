@@ -4,7 +4,7 @@ ghost use Rattle.std.specs.Prelude.{◌≡◌, ◌<◌, ◌↔◌, ◌⊎◌, []
 ghost use Rattle.om_board.specs.Boards.{IsBoard};
 ghost use Rattle.om_member.specs.Handed.{outputs_from};
 ghost use Rattle.om_runner.specs.steps.Nodes.{AreAlwaysClean};
-ghost use Rattle.om_runner.specs.steps.Acts.{AreAllOf, AreLimits, HasDeclared, HasHandedOver, HasJoined, HasMet, HasOffered, HasPruned, HasRefused, HasWaited, HasWithdrawn, IsStanding, IsVerdictOf, UnderLock};
+ghost use Rattle.om_runner.specs.steps.Acts.{AreAllOf, AreLimits, HasDeclared, HasHandedOver, HasJoined, HasMet, HasOffered, HasPruned, HasRefused, HasReleasedAnother, HasWaited, HasWithdrawn, IsStanding, IsVerdictOf, UnderLock};
 
 use crate::desk::Desk;
 use crate::diary::Diary;
@@ -344,6 +344,8 @@ impl<'a, K: Naming> ManagerLink<'a, K> {
         ensures many { IfOk result (λ r. IfSome r (λ h. length h.outputs.items ≡ made)) }
         ensures all { IfOk result (λ r. IfSome r (λ h. UnderLock K.cell.n (λ before after.
             AreAllOf before.manager self.now.pid h.outputs.items × (after ≡ before)))) }
+        ensures none { IfOk result (λ r. IfNone r (UnderLock K.cell.n (λ before after.
+            HasReleasedAnother before.manager self.now.pid made × (after ≡ before)))) }
     {
         let mut guard = self.shared.board.lock(rt);
         let board = &mut *guard;

@@ -1,10 +1,10 @@
 //! What the thread of a process does.
 
-ghost use Rattle.std.specs.Prelude.{◌≡◌, ◌<◌, ◌+◌, ◌⊎◌, ◌↔◌, [], Contains, false, IfOk, IfSome, IsTrue, Ok, OnOk, Some, length, slice_get};
+ghost use Rattle.std.specs.Prelude.{◌≡◌, ◌<◌, ◌+◌, ◌⊎◌, ◌↔◌, [], Contains, false, IfNone, IfOk, IfSome, IsTrue, Ok, OnOk, Some, length, slice_get};
 ghost use Rattle.om_member.specs.Handed.{outputs_from};
 ghost use Rattle.om_process.specs.Stores.{flushed};
 ghost use Rattle.om_process.specs.Core.{IsEnd};
-ghost use Rattle.om_runner.specs.steps.Acts.{HasDeclared, HasJoined, UnderLock};
+ghost use Rattle.om_runner.specs.steps.Acts.{HasDeclared, HasJoined, HasReleasedAnother, UnderLock};
 ghost use Rattle.om_runner.specs.steps.Nodes.{AreAlwaysClean};
 ghost use Rattle.om_runner.specs.steps.Places.{member_of};
 ghost use Rattle.om_runner.specs.steps.Sights.{doing_at};
@@ -257,6 +257,8 @@ impl<'a, K: Naming> Worker<'a, K> {
     ) -> Result<Option<Harvest<K>>, WorkerFault>
         ensures own { IfOk result (λ r. IfSome r (λ h. h.own ≡ self.now.links.own)) }
         ensures many { IfOk result (λ r. IfSome r (λ h. length h.outputs.items ≡ made)) }
+        ensures none { IfOk result (λ r. IfNone r (UnderLock K.cell.n (λ before after.
+            HasReleasedAnother before.manager self.now.manager_link.pid made × (after ≡ before)))) }
     {
         self.manager_link.harvest(rt, alloc, made)
     }

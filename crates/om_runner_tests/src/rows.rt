@@ -1,5 +1,5 @@
 use om_interval::{DepVec, Pid};
-use om_recover::Note;
+use om_recover::{Note, Row, RowKind};
 use om_runner::{Board, Front, Frontier, Naming, Pass};
 use std::alloc::Global;
 use std::process::Abort;
@@ -37,8 +37,14 @@ pub fn noted<K: Naming, R: Wait + Abort>(
     board: &mut Board<K>,
     frontier: &Frontier<K>,
 ) {
-    let (vec, got) = (vector(rt, &[1, 0]), vector(rt, &[0, 1]));
-    let told = board.note_logged(rt, alloc, process(rt, 0), 0, 1, &vec, &got, frontier);
+    let row = Row {
+        kind: RowKind::Log,
+        pid: process(rt, 0),
+        interval: 1,
+        vec: vector(rt, &[1, 0]),
+        got: vector(rt, &[0, 1]),
+    };
+    let told = board.note(rt, alloc, 0, row, frontier);
     assert!(rt; told == Ok(Note::Noted { raised: true }));
 }
 

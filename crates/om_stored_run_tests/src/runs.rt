@@ -6,10 +6,9 @@ use crate::examples::{BANK, BANK_ENDS, PIPELINE, PIPELINE_ENDS, QUEUE, QUEUE_END
 use om_commands::CommandError;
 use om_files::{Connects, InTables};
 use om_interval::Pid;
-use om_run_commands::InMemory;
 use om_run_commands::check::run_checked;
 use om_run_commands::run::run;
-use om_runner::{OpenFault, Opener};
+use om_runner::{InMemory, OpenFault, Opener};
 use sqlite::{Connection, MemStore};
 use std::alloc::Global;
 use std::process::Abort;

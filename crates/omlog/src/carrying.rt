@@ -18,7 +18,8 @@ use om_files::{
 };
 use om_image::{ImageError, image};
 use om_isa::Ext;
-use om_run_commands::{InMemory, count_processes};
+use om_run_commands::count_processes;
+use om_runner::InMemory;
 use om_text::{ScriptError, read_text};
 use std::alloc::Global;
 use std::io::{Read, Write};

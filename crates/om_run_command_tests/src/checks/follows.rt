@@ -2,8 +2,8 @@
 
 use super::rings::{ring, ring_ends};
 use om_commands::CommandError;
-use om_run_commands::InMemory;
 use om_run_commands::followed::run_followed;
+use om_runner::InMemory;
 use std::alloc::Global;
 use std::io;
 use std::io::Write;

@@ -2,9 +2,9 @@
 
 use super::rings::{ring, ring_ends};
 use om_commands::CommandError;
-use om_run_commands::InMemory;
 use om_run_commands::check::run_checked;
 use om_run_commands::run::run;
+use om_runner::InMemory;
 use std::alloc::Global;
 use std::process::Abort;
 use std::sync::Wait;

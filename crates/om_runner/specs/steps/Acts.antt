@@ -103,6 +103,10 @@ HasRefused before after = after ≡ record before { waiting = all_owe }
 abbrev pub AreAllOf : ManagerState → ℕ → List Output → Type 0
 AreAllOf m p outputs = map held_of outputs ≡ released_by m p
 
+-- this manager has released more outputs of a process than so many, or fewer
+abbrev pub HasReleasedAnother : ManagerState → ℕ → ℕ → Type 0
+HasReleasedAnother m p made = length (released_by m p) ≢ made
+
 -- between a board of n processes as its lock was had and as the lock went, this was done
 abbrev pub UnderLock : ℕ → (BoardState → BoardState → Type 0) → Type 0
 UnderLock n Did = (before after : BoardState) × IsBoard n before × Did before after

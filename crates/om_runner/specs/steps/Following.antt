@@ -2,10 +2,9 @@
 use Rattle.std.specs.Prelude.{◌≡◌, ◌≢◌, ℕ, List, [], Option, None, Some, map, slice_get, slice_index, take, vec_len}
 use mathlib.Core.List.{IsPrefix}
 use Rattle.om_board.specs.Fronts.{EndsWith, IsPosted}
-use Rattle.om_board.specs.Made.{AreMade}
-use Rattle.om_board.specs.Released.{AreReleased}
 use Rattle.om_board.specs.declared.front.Front.{Front}
 use Rattle.om_process.specs.Process.{Program}
+use Rattle.om_runner.specs.Released.{AreMade, AreReleased}
 use Rattle.om_runner.specs.Telling.{Told, of_process, told_of}
 use Rattle.om_runner.specs.declared.follower.FollowFault.{FollowFault}
 use Rattle.om_runner.specs.declared.follower.FollowFault.TheVariants.{Unwanted}

@@ -3,11 +3,10 @@ use Rattle.std.specs.Prelude.{◌≡◌, ℕ, ◌≤◌, List, Some, Vec, length
 use Rattle.std.specs.declared.alloc.Global.{Global}
 use mathlib.Core.List.{IsPrefix}
 use Rattle.om_board.specs.Fronts.{EndsWith, IsPosted}
-use Rattle.om_board.specs.Made.{AreMade}
-use Rattle.om_board.specs.Released.{AreReleased}
 use Rattle.om_board.specs.declared.front.Front.{Front}
 use Rattle.om_manager.specs.declared.output_log.Output.{Output}
 use Rattle.om_process.specs.Process.{Program}
+use Rattle.om_runner.specs.Released.{AreMade, AreReleased}
 
 -- the outputs of a process, and the fronts that were posted when they were copied
 pub record HarvestState : Type 0 where

@@ -2,8 +2,8 @@ use Rattle.std.proofs.Common.{◌≡◌, ◌≢◌, ◌∙◌, List, length, sub
 use Rattle.std.specs.Prelude.{IfErr, IfOk, Vec}
 use Rattle.std.specs.declared.alloc.Global.{Global}
 use Rattle.std.proofs.lemmas.List.{length-map}
-use Rattle.om_board.specs.Made.{AreAllMade}
 use Rattle.om_process.specs.declared.status.Status.{Status}
+use Rattle.om_runner.specs.Released.{AreAllMade}
 use Rattle.om_runner.specs.Telling.{AreInOrder, AreToldMade, Told, TellsAll}
 use Rattle.om_runner.specs.declared.follower.FollowFault.TheVariants.{Unwanted}
 use Rattle.om_runner.specs.steps.Ends.{AreWholeOver, HaveAllOver}

@@ -1,11 +1,10 @@
 use Rattle.std.proofs.Common.{◌≡◌, ◌∙◌, ◌<◌, Some, ap, length, map, refl, rules}
 use Rattle.std.proofs.lemmas.Option.{slice_get_read}
 use Rattle.std.specs.Prelude.{slice_get, slice_index}
-use Rattle.om_board.proofs.MadeLemmas.{released_made}
-use Rattle.om_board.proofs.ReleasedLemmas.{released_at}
 use Rattle.om_manager.specs.Outputs.{held_of}
 use Rattle.om_manager.specs.State.{process_count, released_by}
 use Rattle.om_runner.proofs.FollowLemmas.{kept_where, made_where, same_where}
+use Rattle.om_runner.proofs.ReleasedLemmas.{released_at, released_made}
 use Rattle.om_runner.proofs.following.add_all.Goals as goal
 
 pub returns-in_err-add_new-clause-kept : goal.returns-in_err-add_new-clause-kept

@@ -1,8 +1,7 @@
 use Rattle.std.proofs.Common.{◌≡◌, ◌≤◌, Some, length, refl, rules, subst, sym, ◌∙◌, arith}
 use Rattle.std.proofs.lemmas.Option.{slice_get_read}
 use Rattle.std.specs.Prelude.{slice_get, slice_index}
-use Rattle.om_board.specs.Made.{AreMade}
-use Rattle.om_board.specs.Released.{AreReleased}
+use Rattle.om_runner.specs.Released.{AreMade, AreReleased}
 use Rattle.om_runner.proofs.FollowLemmas.{fewer_all, fewer_next, kept_where, made_where, same_where}
 use Rattle.om_runner.proofs.following.add_brought.Goals as goal
 

@@ -3,8 +3,7 @@ use Rattle.std.specs.Prelude.{Vec, slice_get, vec_len}
 use Rattle.std.specs.declared.alloc.Global.{Global}
 use Rattle.om_manager.specs.declared.output_log.Output.{Output}
 use Rattle.om_process.specs.Process.{Program}
-use Rattle.om_board.specs.Made.{AreAllMade}
-use Rattle.om_board.specs.Released.{AreAllReleased}
+use Rattle.om_runner.specs.Released.{AreAllMade, AreAllReleased}
 use Rattle.om_runner.specs.declared.lane.Lane.{Lane}
 use Rattle.om_runner.specs.steps.Following.{AreKept, AreLanesMade, told_in}
 use Rattle.om_runner.proofs.following.add_brought.Given as goal

@@ -1,5 +1,5 @@
 use Rattle.std.proofs.Common.{subst, sym}
-use Rattle.om_board.specs.Released.{AreAllReleased}
+use Rattle.om_runner.specs.Released.{AreAllReleased}
 use Rattle.om_runner.proofs.following.add_harvests.Goals as goal
 
 pub returns-clause-kept : goal.returns-clause-kept

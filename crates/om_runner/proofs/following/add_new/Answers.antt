@@ -2,8 +2,8 @@ use Rattle.std.proofs.Common.{◌≡◌, ◌≤◌, ◌∷◌, [], Some, ap, len
 use Rattle.std.proofs.lemmas.Option.{slice_get_read}
 use Rattle.std.specs.Prelude.{slice_get}
 use Rattle.om_manager.specs.Outputs.{HeldOutput, held_of}
-use Rattle.om_board.specs.Made.{AreMade, IsMade}
-use Rattle.om_board.specs.Released.{AreReleased}
+use Rattle.om_board.specs.Made.{IsMade}
+use Rattle.om_runner.specs.Released.{AreMade, AreReleased}
 use Rattle.om_runner.proofs.FollowLemmas.{made_next, released_next, same_told}
 use Rattle.om_runner.proofs.following.add_new.Goals as goal
 

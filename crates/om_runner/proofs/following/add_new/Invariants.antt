@@ -1,8 +1,7 @@
 use Rattle.std.proofs.Common.{◌≡◌, ℕ, List, Some}
 use Rattle.std.specs.Prelude.{vec_len}
 use Rattle.om_process.specs.Process.{Program}
-use Rattle.om_board.specs.Made.{AreMade}
-use Rattle.om_board.specs.Released.{AreReleased}
+use Rattle.om_runner.specs.Released.{AreMade, AreReleased}
 use Rattle.om_runner.specs.steps.Following.{told_in}
 use Rattle.om_runner.proofs.following.add_new.Given as goal
 

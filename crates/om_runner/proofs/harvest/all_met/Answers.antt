@@ -1,8 +1,7 @@
 use Rattle.std.proofs.Common.{◌≡◌, ◌∙◌, ◌+◌, ◌++◌, [], ◌∷◌, ap, arith, length, rules, subst, sym}
 use Rattle.std.specs.Prelude.{slice_index, vec_len}
 use Rattle.om_board.specs.Boards.{BoardState}
-use Rattle.om_board.specs.Made.{AreAllMade}
-use Rattle.om_board.specs.Released.{AreAllReleased, AreReleased}
+use Rattle.om_runner.specs.Released.{AreAllMade, AreAllReleased, AreReleased}
 use Rattle.om_runner.specs.steps.Harvests.{HarvestState}
 use Rattle.om_runner.proofs.HarvestLemmas.{made_grown, own_later, own_next, released_grown}
 use Rattle.om_runner.proofs.ReportLemmas.{moved}

@@ -1,8 +1,7 @@
 use Rattle.std.proofs.Common.{◌≡◌, ◌+◌, ◌≤◌, ◌++◌, ℕ, Some}
 use Rattle.std.specs.Prelude.{slice_get, vec_capacity, vec_len}
 use Rattle.std.specs.Vec.Iter.{into_iter_items, into_iter_len}
-use Rattle.om_board.specs.Made.{AreAllMade}
-use Rattle.om_board.specs.Released.{AreAllReleased}
+use Rattle.om_runner.specs.Released.{AreAllMade, AreAllReleased}
 use Rattle.om_runner.specs.steps.Harvests.{HarvestState, harvested}
 use Rattle.om_runner.proofs.harvest.all_met.Given as goal
 

@@ -1,8 +1,8 @@
 use Rattle.std.proofs.Common.{◌≡◌, ◌∙◌, ap, refl, subst, sym}
 use Rattle.om_board.specs.Boards.{BoardState}
 use Rattle.om_board.specs.Fronts.{front_of}
-use Rattle.om_board.specs.Released.{AreAllReleased}
 use Rattle.om_board.specs.declared.front.Front.{Front}
+use Rattle.om_runner.specs.Released.{AreAllReleased}
 use Rattle.om_runner.proofs.harvest.gathered_in.Goals as goal
 
 pub returns-clause-released : goal.returns-clause-released

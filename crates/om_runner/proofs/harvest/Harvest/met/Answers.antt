@@ -1,8 +1,7 @@
 use Rattle.std.proofs.Common.{subst}
 use Rattle.std.specs.Prelude.{slice_index}
 use Rattle.om_board.specs.Fronts.{front_of}
-use Rattle.om_board.specs.Made.{AreMade}
-use Rattle.om_board.specs.Released.{AreReleased}
+use Rattle.om_runner.specs.Released.{AreMade, AreReleased}
 use Rattle.om_runner.specs.steps.Harvests.{HarvestState}
 use Rattle.om_runner.proofs.harvest.Harvest.met.Goals as goal
 

@@ -1,6 +1,8 @@
-use Rattle.std.proofs.Common.{refl, subst}
+use Rattle.std.proofs.Common.{ap, arith, length, refl, subst}
+use Rattle.std.proofs.lemmas.List.{length-map}
+use Rattle.om_manager.specs.Outputs.{held_of}
 use Rattle.om_manager.specs.State.{ManagerState}
-use Rattle.om_runner.specs.steps.Acts.{AreAllOf}
+use Rattle.om_runner.specs.steps.Acts.{AreAllOf, HasReleasedAnother}
 use Rattle.om_runner.proofs.manager_link.ManagerLink.harvest.Goals as goal
 
 pub returns-in-Ok-clause-all : goal.returns-in-Ok-clause-all
@@ -13,3 +15,15 @@ returns-in-Ok-clause-all g c = (
     refl,
   ),
 )
+
+pub returns-then-released-made-clause-none : goal.returns-then-released-made-clause-none
+returns-then-released-made-clause-none g c =
+    let p = c.args.self.now.pid in
+    let many = ap length c.released.ensures.outputs in
+    let mapped = length-map c.released.result.now held_of in
+    let others : HasReleasedAnother c.manager-manager.result.now p c.args.made = λ e. c.if-released-made.true (omega (arith, c.len.ensures)) in (
+      _,
+      _,
+      c.manager-manager.ensures.sound,
+      (subst (λ (m : ManagerState). HasReleasedAnother m p c.args.made) c.manager-manager.ensures.manager others, refl),
+    )

@@ -1,9 +1,8 @@
 use Rattle.std.proofs.Common.{sym, subst}
-use Rattle.om_board.specs.Released.{AreAllReleased}
+use Rattle.om_runner.specs.Released.{AreAllReleased}
 use Rattle.om_board.specs.declared.front.Front.{Front}
-use Rattle.om_board.proofs.MadeLemmas.{all_made}
-use Rattle.om_board.proofs.ReleasedLemmas.{all_released}
-use Rattle.om_board.proofs.report.Report.of.Goals as goal
+use Rattle.om_runner.proofs.ReleasedLemmas.{all_made, all_released}
+use Rattle.om_runner.proofs.report.Report.of.Goals as goal
 
 pub returns-clause-released : goal.returns-clause-released
 returns-clause-released c =

@@ -2,13 +2,13 @@
 
 ghost use Rattle.std.specs.Prelude.{◌≡◌, ◌<◌, ℕ, IfOk, List, length, map};
 ghost use Rattle.om_board.specs.Fronts.{front_of};
-ghost use Rattle.om_board.specs.Made.{AreAllMade, HoldsMade};
-ghost use Rattle.om_board.specs.Released.{AreAllReleased, AreReleasedBy};
+ghost use Rattle.om_board.specs.Made.{HoldsMade};
 ghost use Rattle.om_manager.specs.Outputs.{AreNumbered, held_of};
 ghost use Rattle.om_manager.specs.State.{process_count, released_by as held_within};
 ghost use Rattle.om_process.specs.Process.{Program};
+ghost use Rattle.om_runner.specs.Released.{AreAllMade, AreAllReleased, AreReleasedBy};
 
-use crate::front::Front;
+use om_board::Front;
 use om_interval::Pid;
 use om_manager::{Manager, Output};
 use om_process::Status;
@@ -25,8 +25,8 @@ pub struct Report {
     pub front: Front,
 }
 
-/// A copy of an output.
-pub fn copy_of(alloc: Global, output: &Output) -> Result<Output, AllocError>
+// A copy of an output.
+pub(crate) fn copy_of(alloc: Global, output: &Output) -> Result<Output, AllocError>
     ensures held { IfOk result (λ copy. held_of copy ≡ held_of output.now) }
     ensures seq { IfOk result (λ copy. copy.seq ≡ output.now.seq) }
 {
@@ -38,7 +38,7 @@ pub fn copy_of(alloc: Global, output: &Output) -> Result<Output, AllocError>
 }
 
 // A copy of outputs.
-fn copied(alloc: Global, outputs: &[Output]) -> Result<Vec<Output>, AllocError>
+fn copies_of(alloc: Global, outputs: &[Output]) -> Result<Vec<Output>, AllocError>
     ensures held { IfOk result (λ copies. map held_of copies.items ≡ map held_of outputs.now) }
     ensures numbers { IfOk result (λ copies. map (λ o. o.seq) copies.items ≡ map (λ o. o.seq) outputs.now) }
 {
@@ -50,12 +50,16 @@ fn copied(alloc: Global, outputs: &[Output]) -> Result<Vec<Output>, AllocError>
 }
 
 // The released outputs of a process.
-fn released_of(alloc: Global, manager: &Manager, pid: Pid) -> Result<Vec<Output>, AllocError>
+pub(crate) fn released_of(
+    alloc: Global,
+    manager: &Manager,
+    pid: Pid,
+) -> Result<Vec<Output>, AllocError>
     requires { pid < process_count manager.now }
     ensures held { IfOk result (λ outputs. map held_of outputs.items ≡ held_within manager.now pid) }
     ensures numbered { IfOk result (λ outputs. AreNumbered outputs.items) }
 {
-    copied(alloc, manager.released(pid))
+    copies_of(alloc, manager.released(pid))
 }
 
 // The released outputs of each process.

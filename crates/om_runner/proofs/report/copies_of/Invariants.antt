@@ -1,6 +1,6 @@
 use Rattle.std.proofs.Common.{◌≡◌, map, take}
 use Rattle.om_manager.specs.Outputs.{held_of}
-use Rattle.om_runner.proofs.harvest.copies_of.Given as goal
+use Rattle.om_runner.proofs.report.copies_of.Given as goal
 
 abbrev pub invariant-loop-output : goal.invariant-loop-output
 invariant-loop-output l = record {

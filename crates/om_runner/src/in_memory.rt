@@ -1,5 +1,5 @@
+use crate::opener::{OpenFault, Opener};
 use om_interval::Pid;
-use om_runner::{OpenFault, Opener};
 use om_stable::MemStable;
 use std::alloc::Global;
 

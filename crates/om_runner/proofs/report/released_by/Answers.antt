@@ -1,8 +1,8 @@
 use Rattle.std.proofs.Common.{◌+◌, [], ◌∷◌, sym, ap, ◌∙◌, subst, length, length-append}
 use Rattle.om_manager.specs.State.{released_by}
-use Rattle.om_board.specs.Released.{AreReleasedBy}
-use Rattle.om_board.proofs.ReleasedLemmas.{released_more}
-use Rattle.om_board.proofs.report.released_by.Goals as goal
+use Rattle.om_runner.specs.Released.{AreReleasedBy}
+use Rattle.om_runner.proofs.ReleasedLemmas.{released_more}
+use Rattle.om_runner.proofs.report.released_by.Goals as goal
 
 pub loop-p-preserved : goal.loop-p-preserved
 loop-p-preserved c =

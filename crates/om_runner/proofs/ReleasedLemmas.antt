@@ -6,10 +6,14 @@ use Rattle.std.proofs.lemmas.Bool.{cases_order, le-leb, lt-leb}
 use Rattle.std.proofs.lemmas.List.{get_or-map, length-map}
 use Rattle.std.proofs.lemmas.Option.{get_or_from_slice_get, same_Some, slice_get_within}
 use Rattle.om_manager.specs.Outputs.{AreNumbered, HeldOutput, held_of, within}
-use Rattle.om_manager.specs.State.{ManagerState, held_by, released_by}
+use Rattle.om_manager.specs.State.{ManagerState, held_by, process_count, released_by}
 use Rattle.om_manager.specs.declared.output_log.Output.{Output}
-use Rattle.om_board.specs.Released.{AreAllReleased, AreReleased, AreReleasedBy}
+use Rattle.om_manager.specs.Sound.{IsManager}
+use Rattle.om_process.specs.Process.{Program}
+use Rattle.om_board.specs.Made.{HoldsMade, IsMade}
 use Rattle.om_board.proofs.ListLemmas.{map_get, more_had, none_in}
+use Rattle.om_board.proofs.MadeLemmas.{released_had}
+use Rattle.om_runner.specs.Released.{AreAllMade, AreAllReleased, AreMade, AreReleased, AreReleasedBy}
 
 cases_le_lt : (x y : ℕ) → (x ≤ y) ⊎ (y < x)
 cases_le_lt x y = elim (cases_order y x) [
@@ -56,3 +60,18 @@ released_more m released outputs are held numbered p found at = elim (more_had r
   )
   | inr there ↦ are p found there
 ]
+
+-- over a manager that holds what the programs make, what is released is made by them
+pub released_made : (programs : List Program) (n : ℕ) (m : ManagerState) (p : ℕ) (outputs : List Output) → IsManager m → p < process_count m
+    → map held_of outputs ≡ released_by m p → AreNumbered outputs → HoldsMade programs n m → AreMade programs n p outputs
+released_made programs n m p outputs is within held numbered made i o at =
+    let there : slice_get (released_by m p) i ≡ Some (held_of o) = subst (λ hs. slice_get hs i ≡ Some (held_of o)) held (map_get held_of outputs i o at) in
+    let number : o.seq ≡ i =
+    subst (λ (x : Output). x.seq ≡ i) (get_or_from_slice_get outputs i o o at) (numbered i o (slice_get_within outputs i o at)) in
+    subst (λ k. IsMade programs n p k (held_of o)) (sym number) (made p i (held_of o) (released_had m p i (held_of o) is within there))
+
+pub all_made : (programs : List Program) (n : ℕ) (m : ManagerState) (released : List (Vec Output Global)) → IsManager m → length released ≡ process_count m → AreReleasedBy m released
+    → HoldsMade programs n m → AreAllMade programs n released
+all_made programs n m released is many are made p outputs at =
+    let lt = slice_get_within released p outputs at in let both = are p outputs at in
+    released_made programs n m p outputs.items is (omega arith) both.0 both.1 made
