@@ -21,7 +21,7 @@ use std::sync::atomic::Ordering::SeqCst;
 use std::sync::{MutexGuard, Wait};
 use std::thread::yield_now;
 
-// How often a worker tries to have the board's lock before it sleeps for it.
+// How often a worker that has the patience yields for the board's lock before it sleeps for it.
 const TRIES: u32 = 32;
 
 // How the manager stands.
@@ -118,14 +118,16 @@ impl<'a, K: Naming> ManagerLink<'a, K> {
         ended || called || !core.pending().is_empty() || !core.outputs_from(self.handed).is_empty()
     }
 
-    // The board's lock. Where another has it, the worker tries for a while before it sleeps: what is done under it takes some
-    // microseconds, and a lock that is handed on to one that sleeps is free of use until that is awake.
-    fn lock<R: Wait>(&self, rt: &R) -> MutexGuard<'a, Board<K>> {
-        for _ in 0..TRIES {
-            if let Some(guard) = self.shared.board.try_lock() {
-                return guard;
+    // The board's lock. Where another has it, a worker that has the patience yields a few times before it sleeps for it: what is
+    // done under it takes some microseconds, and a lock that is left to one that sleeps is nobody's until that is awake.
+    fn lock<R: Wait>(&self, rt: &R, is_patient: bool) -> MutexGuard<'a, Board<K>> {
+        if is_patient {
+            for _ in 0..TRIES {
+                if let Some(guard) = self.shared.board.try_lock() {
+                    return guard;
+                }
+                yield_now();
             }
-            yield_now();
         }
         self.shared.board.lock(rt)
     }
@@ -197,6 +199,7 @@ impl<'a, K: Naming> ManagerLink<'a, K> {
         alloc: Global,
         node: &mut Node<'_, S>,
         ended: bool,
+        is_patient: bool,
         diary: &mut Diary<'_>,
     ) -> Result<(Standing, Option<Limits>), WorkerFault>
         requires own { node.old.member.own ≡ self.old.pid }
@@ -212,7 +215,7 @@ impl<'a, K: Naming> ManagerLink<'a, K> {
     {
         let has_checkpoint = have_checkpoint(node.core().pending());
         let has_receipt = have_receipt(node.core().pending());
-        let mut guard = self.lock(rt);
+        let mut guard = self.lock(rt, is_patient);
         let mut desk = Desk {
             rt,
             board: &mut *guard,

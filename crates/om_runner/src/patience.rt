@@ -23,6 +23,13 @@ impl Patience {
         Patience { rests: 0 }
     }
 
+    // Whether the worker would yield before it sleeps.
+    pub(crate) fn is_patient(&self) -> bool
+        ensures { IsTrue result ↔ self.now.rests ≡ 0 }
+    {
+        self.rests == 0
+    }
+
     // A wait begins. Says whether the worker yields first.
     pub(crate) fn begin(&mut self) -> bool
         ensures yields { IsTrue result ↔ self.old.rests ≡ 0 }

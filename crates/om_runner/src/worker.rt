@@ -452,9 +452,10 @@ impl<'a, K: Naming> Worker<'a, K> {
         if !self.manager_link.is_due(node.core(), ended, called) {
             return Ok(Standing::Closed);
         }
+        let is_patient = self.patience.is_patient();
         let (standing, limits) = self
             .manager_link
-            .meet(rt, alloc, node, ended, &mut self.diary)?;
+            .meet(rt, alloc, node, ended, is_patient, &mut self.diary)?;
         shed(node, alloc, limits)?;
         Ok(standing)
     }
