@@ -1,7 +1,7 @@
 use Rattle.std.proofs.Common.{◌≡◌, ℕ, ◌+◌, ◌≤◌, refl, arith, Option, None, Some, MatchOption}
 use Rattle.om_recover.specs.Rows.{Rows, HasRow, Has}
-use Rattle.om_recover.specs.Offered.{IsNearestBelow, IsNearestAbove}
-use Rattle.om_recover.specs.steps.Search.{HasNoRowBelow, HasNoRowAbove}
+use Rattle.om_recover.specs.Offered.{IsNearestBelow, IsNearestAbove, IsInOrderAbove, Agrees}
+use Rattle.om_recover.specs.steps.Search.{HasNoRowBelow, HasNoRowAbove, HasNoRowFrom}
 use Rattle.om_recover.specs.steps.Held.{IsRecordTo, IsRecordFrom}
 use Rattle.om_recover.specs.declared.row.RowKind.{RowKind}
 use Rattle.om_recover.specs.declared.row.RowKind.TheVariants.{Checkpoint, Log}
@@ -66,3 +66,18 @@ pub above_without_log : (rows : Rows) (row : Row) (from : ℕ) (told : Option Ro
 above_without_log rows row from None next no_log none = λ high there same above. of_either (λ kind. Has rows kind row.pid high.interval → ⊥)
     (λ has. none high.interval has (omega (arith, above, next))) (λ has. no_log high.interval has (omega (arith, above, next))) high.kind (itself rows row high there same)
 above_without_log rows row from (Some checkpoint) next no_log near = above_by_checkpoint rows row checkpoint from next near (λ x has above. absurd (no_log x has above))
+
+-- the process has no row at the row's interval or above, where it has neither a log nor a checkpoint there
+pub none_at_or_above : (rows : Rows) (row : Row) → ((x : ℕ) → Has rows Log row.pid x → row.interval ≤ x → ⊥) → ((x : ℕ) → Has rows Checkpoint row.pid x → row.interval ≤ x → ⊥) → HasNoRowFrom rows row
+none_at_or_above rows row no_log no_checkpoint high there same above = of_either (λ kind. Has rows kind row.pid high.interval → ⊥)
+    (λ has. no_checkpoint high.interval has above) (λ has. no_log high.interval has above) high.kind (itself rows row high there same)
+
+-- so the row agrees with each record of its interval, is not there, and is in order with those above
+pub agrees_beyond : (rows : Rows) (row : Row) → HasNoRowFrom rows row → Agrees rows row
+agrees_beyond rows row none other there same = absurd (none other there same.pid (omega (arith, same.interval)))
+
+pub absent_beyond : (rows : Rows) (row : Row) → HasNoRowFrom rows row → HasRow rows row → ⊥
+absent_beyond rows row none there = none row there refl (omega arith)
+
+pub in_order_beyond : (rows : Rows) (row : Row) → HasNoRowFrom rows row → IsInOrderAbove rows row
+in_order_beyond rows row none high there same above = absurd (none high there same (omega (arith, above)))

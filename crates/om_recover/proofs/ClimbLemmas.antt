@@ -1,14 +1,15 @@
-use Rattle.std.proofs.Common.{◌≡◌, ℕ, ◌+◌, ◌-◌, ◌*◌, ◌^◌, ◌<◌, ◌≤◌, ◌⊎◌, inl, inr, sym, ◌∙◌, ap, subst, arith, List, [], ◌∷◌, All, length, sum, slice_index, slice_index_or, slice_set, length-set, get_or-set_same, get_or-set_other, zero, suc}
+use Rattle.std.proofs.Common.{◌≡◌, ℕ, ◌+◌, ◌-◌, ◌*◌, ◌^◌, ◌<◌, ◌≤◌, ◌⊎◌, inl, inr, refl, sym, ◌∙◌, ap, subst, arith, List, [], ◌∷◌, All, length, sum, slice_index, slice_index_or, slice_set, length-set, get_or-set_same, get_or-set_other, zero, suc}
 use Rattle.std.proofs.lemmas.Bool.{cases_order}
-use Rattle.std.proofs.lemmas.List.{get_or_past}
+use Rattle.std.proofs.lemmas.List.{get_or_past, set-get_or}
 use Rattle.std.proofs.lemmas.List.Elements.{All-cons, All-nil}
 use Rattle.std.proofs.lemmas.List.Kept.{AllPairs-cons}
 use Rattle.std.proofs.lemmas.List.Sums.{sum_by-cons}
 use Rattle.om_interval.specs.Vectors.{IsBelow}
 use Rattle.om_recover.specs.Rows.{Rows, HasRow, Has, IsLawful}
 use Rattle.om_recover.specs.Recoverable.{IsStable, IsRecoverable, maximum_of}
-use Rattle.om_recover.specs.Climb.{IsLeastStable, IsNeeded, starts, follows, AreLooks, IsClimbed, IsOutOfReach}
-use Rattle.om_recover.specs.steps.Climbing.{IsForced, IsBlocked, IsNeededWithin, begins, leads, IsClimbing}
+use Rattle.om_recover.specs.Attempts.{Attempt, with_attempt, with_look}
+use Rattle.om_recover.specs.Climb.{IsLeastStable, IsNeeded, starts, follows, IsClimbed, IsOutOfReach}
+use Rattle.om_recover.specs.steps.Climbing.{HasLooked, IsUnderWay, IsAttempted, without_newest, IsForced, IsBlocked, IsNeededWithin, begins, leads, IsClimbing}
 use Rattle.om_recover.specs.declared.row.RowKind.{RowKind}
 use Rattle.om_recover.specs.declared.row.Row.{Row}
 use Rattle.om_interval.proofs.VectorLemmas.{below_itself, below_through}
@@ -64,11 +65,6 @@ below_everywhere a b below k = elim (at_most_or_more (length a) k) [
   | inl past ↦ omega (arith, get_or_past a k 0 past)
   | inr within ↦ below.each k within
 ]
-
--- and of its looks
-pub record HasLooked (rows : Rows) (state : List ℕ) (p x : ℕ) (looked : List ℕ) (looks : List (ℕ × ℕ)) : Type 0 where
-  pub lawful : AreLooks rows state p x looks
-  pub seen : All (λ look. look.1 ≤ slice_index looked look.0) looks
 
 -- before the first look
 pub climbing_start : (n : ℕ) (rows : Rows) (state : List ℕ) (p x : ℕ) → length state ≡ n → IsRecoverable n rows state → p < n → IsStable rows p x → slice_index state p < x
@@ -273,6 +269,51 @@ looked_step n rows state p x q y reached looked looks climbing in_cluster at beh
       };
       seen = All-cons (λ look. look.1 ≤ slice_index (slice_set looked q y) look.0) (q, y) looks (omega (arith, get_or-set_same looked q y 0 within)) (λ k d in_looks. risen (slice_index_or looks k d) (before.seen k d in_looks));
     }
+
+-- an attempt that has no looks yet
+pub under_way_start : (rows : Rows) (state : List ℕ) (p x : ℕ) (old new : List Attempt) → new ≡ with_attempt old p x state → IsUnderWay rows state p x state old new
+under_way_start rows state p x old new attempted = record { looks = []; added = attempted; looked_at = looked_nothing rows state p x }
+
+-- and with one look more
+pub under_way_step : (n : ℕ) (rows : Rows) (state : List ℕ) (p x q y : ℕ) (reached looked : List ℕ) (older old new : List Attempt) → IsClimbing n rows state p x reached looked
+    → q < n → y ≡ slice_index reached q → slice_index looked q < y → IsUnderWay rows state p x looked older old → new ≡ with_look old q y
+    → IsUnderWay rows state p x (slice_set looked q y) older new
+under_way_step n rows state p x q y reached looked older old new climbing in_cluster at behind before counted = record {
+  looks = (q, y) ∷ before.looks;
+  added = counted ∙ ap (λ attempts. with_look attempts q y) before.added;
+  looked_at = looked_step n rows state p x q y reached looked before.looks climbing in_cluster at behind before.looked_at;
+}
+
+-- the attempts before it are those without the newest
+pub older_of : (rows : Rows) (state : List ℕ) (p x : ℕ) (looked : List ℕ) (older new : List Attempt) → IsUnderWay rows state p x looked older new → without_newest new ≡ older
+older_of rows state p x looked older new under_way = ap without_newest under_way.added
+
+pub under_way_anew : (rows : Rows) (state : List ℕ) (p x : ℕ) (looked : List ℕ) (older new : List Attempt) → IsUnderWay rows state p x looked older new → IsUnderWay rows state p x looked (without_newest new) new
+under_way_anew rows state p x looked older new under_way =
+    subst (λ earlier. IsUnderWay rows state p x looked earlier new) (sym (older_of rows state p x looked older new under_way)) under_way
+
+pub attempted_by : (rows : Rows) (state : List ℕ) (p x : ℕ) (looked : List ℕ) (older new : List Attempt) → IsUnderWay rows state p x looked older new → IsAttempted rows state p x older new
+attempted_by rows state p x looked older new under_way = record { looks = under_way.looks; added = under_way.added; lawful = under_way.looked_at.lawful }
+
+-- a vector within what was reached forces nothing
+pub forced_nothing : (rows : Rows) (state vec : List ℕ) → IsBelow vec state → IsForced rows state vec state
+forced_nothing rows state vec within = record {
+  places = refl;
+  kept = λ j _ _. refl;
+  raised = λ j in_state more. absurd (omega (arith, more, within.each j (omega (arith, in_state, within.same_places))));
+}
+
+-- where a climb begins with nothing remembered: at the state, raised at a process
+pub climbing_anew : (rows : Rows) (state begun : List ℕ) (p x : ℕ) → IsRecoverable (length state) rows state → p < length state → IsStable rows p x → slice_index state p < x
+    → begun ≡ slice_set state p x → IsClimbing (length state) rows state p x begun state
+climbing_anew rows state begun p x recoverable process start above is =
+    subst (λ (reached : List ℕ). IsClimbing (length state) rows state p x reached state) (sym is) (climbing_start (length state) rows state p x refl recoverable process start above)
+
+pub raised_here : (state begun : List ℕ) (p x : ℕ) → p < length state → begun ≡ slice_set state p x → x ≡ slice_index begun p
+raised_here state begun p x within is = sym (ap (λ v. slice_index v p) is ∙ get_or-set_same state p x 0 within)
+
+pub raised_again : (state begun : List ℕ) (p x : ℕ) → p < length state → begun ≡ slice_set state p x → slice_set begun p x ≡ begun
+raised_again state begun p x within is = ap (slice_set begun p) (raised_here state begun p x within is) ∙ set-get_or begun p 0
 
 -- the sum of a vector of numbers within a bound
 pub sum_within : (bound : ℕ) (v : List ℕ) → ((k : ℕ) → k < length v → slice_index v k ≤ bound) → sum v ≤ length v * bound

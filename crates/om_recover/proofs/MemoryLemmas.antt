@@ -1,4 +1,4 @@
-use Rattle.std.proofs.Common.{◌≡◌, ℕ, ◌<◌, ◌≤◌, ◌⊎◌, inl, inr, sym, ◌∙◌, ap, subst, arith, List, length, slice_index, slice_index_or, max, Option, Some, None, MatchOption, ◌+◌, slice_set, length-set}
+use Rattle.std.proofs.Common.{◌≡◌, ℕ, ◌<◌, ◌≤◌, ◌⊎◌, inl, inr, refl, sym, ◌∙◌, ap, subst, arith, List, length, slice_index, slice_index_or, max, Option, Some, None, MatchOption, ◌+◌, slice_set, length-set}
 use Rattle.std.specs.Prelude.{⊤}
 use Rattle.std.specs.FinSet as set
 use Rattle.std.proofs.lemmas.Bool.{cases_order}
@@ -233,6 +233,11 @@ all_raised n rows state higher places lawful recoverable above known p in_cluste
     match_map (IsTrueMemory n rows state p) (IsTrueMemory n rows higher p) (slice_index_or places p None) (λ memory. known_raised n rows state higher p memory lawful recoverable above) (known p in_cluster)
 
 -- where one is kept
+-- what is remembered of a process
+pub remembered_of : (n : ℕ) (rows : Rows) (state : List ℕ) (places : List (Option Memory)) (p : ℕ) (memory : Memory) → AreRemembered n rows state places → p < n
+    → slice_index_or places p None ≡ Some memory → IsRemembered n rows state p memory
+remembered_of n rows state places p memory known within is = (subst (λ (o : Option Memory). MatchOption o ⊤ (IsTrueMemory n rows state p)) is (known p within)).whole
+
 pub all_with : (n : ℕ) (rows : Rows) (state : List ℕ) (old new : List (Option Memory)) (p : ℕ) (memory : Memory) → AreRemembered n rows state old → IsTrueMemory n rows state p memory → IsKept old new p memory → AreRemembered n rows state new
 all_with n rows state old new p memory known one is q in_cluster = elim (is q) [
   | inl same ↦ subst (λ (o : Option Memory). MatchOption o ⊤ (IsTrueMemory n rows state q)) (sym same) (known q in_cluster)
@@ -400,3 +405,7 @@ pub maximum_whole : (one other greater : List ℕ) (p : ℕ) → length one ≡ 
 maximum_whole one other greater p same past so_far =
     same_number_lists greater (maximum_of one other) (so_far.places ∙ sym (length-maximum_of one other same)) (λ k within.
     so_far.before k (omega (arith, within, so_far.places, past)) ∙ sym (place-maximum_of one other k same (omega (arith, within, so_far.places))))
+
+-- where nothing is remembered, there is nothing to forget
+pub without_any : (n : ℕ) (places : List (Option Memory)) (p x : ℕ) → ((q : ℕ) → slice_index_or places q None ≡ None) → IsWithout n places places p x
+without_any n places p x none q _ = inr (refl, subst (λ (o : Option Memory). MatchOption o ⊤ (IsUpTo p x)) (sym (none q)) tt)

@@ -1,11 +1,16 @@
-use Rattle.std.proofs.Common.{◌≡◌, ℕ, Bool, true, false, ◌<◌, ◌≤◌, ◌⊎◌, sym, subst, List, slice_index}
+use Rattle.std.proofs.Common.{◌≡◌, ℕ, Bool, true, false, true≢false, IsTrue, ◌<◌, ◌≤◌, ◌⊎◌, ◌↔◌, inl, inr, refl, sym, ap, subst, arith, Ok, List, slice_index}
 use Rattle.std.specs.FinSet as set
 use Rattle.om_interval.specs.Vectors.{IsBelow}
 use Rattle.om_recover.specs.Rows.{Rows}
 use Rattle.om_recover.specs.Recoverable.{IsStable, IsRecoverable, IsGreatest}
 use Rattle.om_recover.specs.Counted.{IsLeastNew}
+use Rattle.om_recover.specs.Offered.{TellsChange}
 use Rattle.om_recover.specs.steps.Indexed.{IsAdded}
 use Rattle.om_recover.specs.declared.row.Row.{Row}
+use Rattle.om_recover.specs.declared.note.Note.TheVariants.{Noted}
+use Rattle.om_interval.proofs.VectorLemmas.{below_each_other}
+use Rattle.om_recover.proofs.ClimbLemmas.{at_most_or_more}
+use Rattle.om_recover.proofs.LawLemmas.{unique_greatest}
 use Rattle.om_recover.proofs.SearchLemmas.{below_or_started, greatest_stays}
 use Rattle.om_recover.proofs.NewLemmas.{nothing_new_above, least_new}
 
@@ -51,3 +56,22 @@ pub least : (n : ℕ) (before after : Rows) (row : Row) (state : List ℕ) (is_n
 least n before after row state is_new all is above =
     let made = all.new is in
     least_of_note before after row (slice_index state row.pid) all.added above made.before (subst (λ rows. IsStable rows row.pid row.interval) (sym all.added) made.after)
+
+-- a search from the row's interval changes nothing where it does not raise the row's process
+pub same_unless_raised : (n : ℕ) (before after : Rows) (row : Row) (state raised : List ℕ) (is_new : Bool) → IsAdded n before after row state is_new → IsGreatest n after raised
+    → slice_index raised row.pid ≤ slice_index state row.pid → state ≡ raised
+same_unless_raised n before after row state raised true all greatest at_most = elim (at_most_or_more row.interval (slice_index state row.pid)) [
+  | inl low ↦ unique_greatest n after state raised (stays n before after row state true all (quiet_above n before after row state true all low)) greatest
+  | inr above ↦ elim (others_of_note n before after row state row.interval all.added all.greatest all.still (least n before after row state true all refl above) all.process raised greatest.recoverable) [
+    | inl within ↦ below_each_other state raised (greatest.above_all state all.still) within
+    | inr started ↦ absurd (omega (arith, started, above, at_most))
+  ]
+]
+same_unless_raised n before after row state raised false all greatest at_most =
+    unique_greatest n after state raised (stays n before after row state false all (λ y stable _. quiet n before after row state false all refl y stable)) greatest
+
+-- a note tells a change where its process stands higher
+pub tells_higher : (old new : List ℕ) (p : ℕ) (higher : Bool) → (IsTrue higher ↔ (slice_index old p < slice_index new p)) → (slice_index new p ≤ slice_index old p → old ≡ new)
+    → TellsChange (Ok (Noted higher)) old new
+tells_higher old new p true tells same = λ is. absurd (omega (arith, tells.0 refl, ap (λ v. slice_index v p) is))
+tells_higher old new p false tells same = elim (at_most_or_more (slice_index new p) (slice_index old p)) [ inl at_most ↦ same at_most | inr more ↦ absurd (true≢false (sym (tells.1 more))) ]

@@ -1,4 +1,4 @@
-ghost use Rattle.std.specs.Prelude.{◌≡◌, ℕ, ◌+◌, ◌<◌, ◌≤◌, ◌↔◌, length, replicate, slice_index, IfOk};
+ghost use Rattle.std.specs.Prelude.{◌≡◌, ℕ, ◌+◌, ◌<◌, ◌≤◌, ◌↔◌, length, replicate, slice_index, IfOk, IsTrue};
 ghost use Rattle.om_interval.specs.Vectors.{IsBelow};
 ghost use Rattle.om_interval.specs.declared.pid.TheConstants.{MAX_PROCESSES};
 ghost use Rattle.om_recover.specs.Cutting.{IsEffective, IsGotAt, IsGotFrom, IsPruned, cut_to};
@@ -146,7 +146,7 @@ impl Records {
             &mut self.memories,
             work,
         );
-        let raised = !state.leq(&self.state);
+        let raised = is_higher(&state, &self.state, row.pid);
         self.state = state;
         Ok(Note::Noted { raised })
     }
@@ -203,4 +203,13 @@ impl Records {
     {
         self.index.prune(&self.state);
     }
+}
+
+// Whether a process stands higher in one state than in another.
+fn is_higher(one: &DepVec, other: &DepVec, pid: Pid) -> bool
+    requires one { pid < length one.now }
+    requires other { pid < length other.now }
+    ensures { IsTrue result ↔ (slice_index other.now pid < slice_index one.now pid) }
+{
+    other.get(pid) < one.get(pid)
 }

@@ -3,7 +3,7 @@
 ghost use Rattle.std.specs.Prelude.{◌≡◌, ℕ, ◌<◌, length, IsTrue};
 ghost use Rattle.om_recover.specs.Rows.{Rows, HasRow, Has, IsLawful};
 ghost use Rattle.om_recover.specs.Attempts.{with_look};
-ghost use Rattle.om_recover.specs.steps.Climbing.{EndsBy, TellsLeast};
+ghost use Rattle.om_recover.specs.steps.Climbing.{AllEndBy, EndsBy, TellsLeast};
 
 use crate::work::Work;
 use om_interval::{DepVec, Pid};
@@ -23,6 +23,10 @@ pub trait Shelf {
     /// Whether it is seen at once that no stable interval of a process is above this one.
     fn ends_by(&self, pid: Pid, x: u32) -> bool
         ensures { IsTrue result → EndsBy (rows self.now) pid x };
+
+    /// Whether it is seen at once that no process has a stable interval above its place of a state.
+    fn all_end_by(&self, state: &DepVec) -> bool
+        ensures { IsTrue result → AllEndBy (rows self.now) state.now };
 
     /// The least stable interval of a process at or above an interval.
     fn least_stable(&self, pid: Pid, from: u32) -> Option<u32>

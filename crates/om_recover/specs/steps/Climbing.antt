@@ -1,5 +1,5 @@
 -- What a climb and its steps promise.
-use Rattle.std.specs.Prelude.{◌≡◌, ℕ, ◌+◌, ◌<◌, ◌≤◌, ◌⊎◌, Option, MatchOption, List, ◌∷◌, ◌++◌, All, length, slice_index}
+use Rattle.std.specs.Prelude.{◌≡◌, ℕ, ◌+◌, ◌<◌, ◌≤◌, ◌⊎◌, Option, MatchOption, List, [], ◌∷◌, ◌++◌, All, length, slice_index}
 use Rattle.om_interval.specs.Vectors.{IsBelow}
 use Rattle.om_recover.specs.Rows.{Rows, HasRow}
 use Rattle.om_recover.specs.Recoverable.{IsStable, IsRecoverable}
@@ -13,6 +13,22 @@ pub record IsAttempted (rows : Rows) (state : List ℕ) (p x : ℕ) (old new : L
   pub looks : List (ℕ × ℕ)
   pub added : new ≡ record { pid = p; interval = x; state = state; looks = looks } ∷ old
   pub lawful : AreLooks rows state p x looks
+
+-- the attempts before the newest
+abbrev pub without_newest : List Attempt → List Attempt
+without_newest [] = []
+without_newest (newest ∷ older) = older
+
+-- the looks of an attempt so far: each is at most what its process's look came to
+pub record HasLooked (rows : Rows) (state : List ℕ) (p x : ℕ) (looked : List ℕ) (looks : List (ℕ × ℕ)) : Type 0 where
+  pub lawful : AreLooks rows state p x looks
+  pub seen : All (λ look. look.1 ≤ slice_index looked look.0) looks
+
+-- an attempt of that start and state is under way, and has looked so far
+pub record IsUnderWay (rows : Rows) (state : List ℕ) (p x : ℕ) (looked : List ℕ) (old new : List Attempt) : Type 0 where
+  pub looks : List (ℕ × ℕ)
+  pub added : new ≡ record { pid = p; interval = x; state = state; looks = looks } ∷ old
+  pub looked_at : HasLooked rows state p x looked looks
 
 -- each place of the vector that is beyond the state is raised to its process's least stable interval there
 pub record IsForced (rows : Rows) (state vec higher : List ℕ) : Type 0 where
@@ -81,6 +97,10 @@ TellsLeast rows p from told = MatchOption told ((z : ℕ) → IsStable rows p z 
 -- no stable interval of the process is above this one
 abbrev pub EndsBy : Rows → ℕ → ℕ → Type 0
 EndsBy rows p x = (z : ℕ) → IsStable rows p z → z ≤ x
+
+-- no process has a stable interval above its place of the state
+abbrev pub AllEndBy : Rows → List ℕ → Type 0
+AllEndBy rows state = (p : ℕ) → p < length state → EndsBy rows p (slice_index state p)
 
 -- what comes of a climb
 abbrev pub TellsClimb : ℕ → Rows → List ℕ → ℕ → ℕ → Option (List ℕ) → Type 0

@@ -1,5 +1,5 @@
 -- What the steps of the search and of a note promise.
-use Rattle.std.specs.Prelude.{◌≡◌, ℕ, ◌<◌, Result, Ok, Err}
+use Rattle.std.specs.Prelude.{◌≡◌, ℕ, ◌<◌, ◌≤◌, Result, Ok, Err}
 use Rattle.om_recover.specs.Rows.{Rows, HasRow, IsAtMost}
 use Rattle.om_recover.specs.Offered.{offered, IsNearestBelow}
 use Rattle.om_recover.specs.declared.row.Row.{Row}
@@ -20,6 +20,10 @@ HasNoRowBelow rows row = (low : Row) → HasRow rows low → low.pid ≡ row.pid
 -- the process of the row has no row above it
 abbrev pub HasNoRowAbove : Rows → Row → Type 0
 HasNoRowAbove rows row = (high : Row) → HasRow rows high → high.pid ≡ row.pid → row.interval < high.interval → ⊥
+
+-- the process of the row has no row at its interval or above
+abbrev pub HasNoRowFrom : Rows → Row → Type 0
+HasNoRowFrom rows row = (high : Row) → HasRow rows high → high.pid ≡ row.pid → row.interval ≤ high.interval → ⊥
 
 -- the row has that answer, and is not added
 abbrev pub IsAnswered : ℕ → Rows → Row → Result Note NoteError → Type 0

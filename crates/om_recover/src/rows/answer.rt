@@ -1,7 +1,7 @@
 ghost use Rattle.std.specs.Prelude.{◌≡◌, ℕ, ◌<◌, ◌≤◌, ◌↔◌, ◌⊎◌, length, false, slice_index, IsTrue, IfSome, MatchOption};
 ghost use Rattle.om_recover.specs.Rows.{HasRow, IsFair, IsAtMost, HaveSameVectors, IsLawful};
-ghost use Rattle.om_recover.specs.Offered.{AreOfOneInterval, IsNearestBelow, IsNearestAbove, IsNew, IsInOrderBelow, IsInOrderAbove, BreaksBelow, BreaksAbove, Agrees};
-ghost use Rattle.om_recover.specs.steps.Search.{IsAnswered, IsQuiet, HasNoRowBelow, HasNoRowAbove, FollowsRow};
+ghost use Rattle.om_recover.specs.Offered.{AreOfOneInterval, IsNearestBelow, IsNearestAbove, IsNew, IsOffer, IsInOrderBelow, IsInOrderAbove, BreaksBelow, BreaksAbove, Agrees};
+ghost use Rattle.om_recover.specs.steps.Search.{IsAnswered, IsQuiet, HasNoRowBelow, HasNoRowAbove, HasNoRowFrom, FollowsRow};
 ghost use Rattle.om_recover.specs.steps.Held.{AreTrees, HasDifferent, AgreesOfKind, held, row_of};
 
 use crate::note::{Note, NoteError};
@@ -24,6 +24,35 @@ pub fn answer_without_change(trees: &Trees, n: usize, row: &Row) -> Option<Resul
     if !is_fair(row, n) {
         return Some(Err(NoteError::BadVector));
     }
+    if is_beyond(trees, row) {
+        return answer_beyond(trees, n, row);
+    }
+    answer_amid(trees, n, row)
+}
+
+// The answer to a row above all of its process's.
+fn answer_beyond(trees: &Trees, n: usize, row: &Row) -> Option<Result<Note, NoteError>>
+    requires in_order { AreTrees trees.now }
+    requires lawful { IsLawful n (held trees.now) }
+    requires offer { IsOffer n row.now }
+    requires beyond { HasNoRowFrom (held trees.now) row.now }
+    ensures answer { MatchOption result (IsNew n (held trees.now) row.now) (IsAnswered n (held trees.now) row.now) }
+    ensures quiet { IfSome result IsQuiet }
+{
+    match fault_below(trees, n, row) {
+        None => None,
+        Some(y) => Some(Err(NoteError::Disorder(y))),
+    }
+}
+
+// The answer to a row with others of its process at its interval or above.
+fn answer_amid(trees: &Trees, n: usize, row: &Row) -> Option<Result<Note, NoteError>>
+    requires in_order { AreTrees trees.now }
+    requires lawful { IsLawful n (held trees.now) }
+    requires offer { IsOffer n row.now }
+    ensures answer { MatchOption result (IsNew n (held trees.now) row.now) (IsAnswered n (held trees.now) row.now) }
+    ensures quiet { IfSome result IsQuiet }
+{
     if has_different(trees, row) {
         return Some(Err(NoteError::Differs));
     }
@@ -119,6 +148,20 @@ fn fault_above(trees: &Trees, n: usize, row: &Row) -> Option<u32>
     match nearest_above(trees, row) {
         Some(high) if !is_at_most(row, &high) => Some(high.interval),
         _ => None,
+    }
+}
+
+// Whether the process is seen to have no row at the row's interval or above.
+fn is_beyond(trees: &Trees, row: &Row) -> bool
+    requires { AreTrees trees.now }
+    ensures { IsTrue result → HasNoRowFrom (held trees.now) row.now }
+{
+    let None = log_from(&trees.logs, row.pid, row.interval) else {
+        return false;
+    };
+    match base_from(&trees.bases, row.pid, row.interval) {
+        None => true,
+        Some(_) => false,
     }
 }
 

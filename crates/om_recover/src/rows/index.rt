@@ -18,7 +18,7 @@ use crate::rows::answer::answer_without_change;
 use crate::rows::cutting::{cut_rows, effective_of_all, prune_rows};
 use crate::rows::first::{add_first, no_rows};
 use crate::rows::lookup::{effective_of, got_at, got_from, vec_at};
-use crate::rows::stable::{ends_in, is_stable_in, least_stable_of};
+use crate::rows::stable::{all_end_in, ends_in, is_stable_in, least_stable_of};
 use crate::rows::trees::Trees;
 use crate::shelf::Shelf;
 use crate::work::Work;
@@ -57,6 +57,10 @@ impl Shelf for Index {
 
     fn ends_by(&self, pid: Pid, x: u32) -> bool {
         ends_in(&self.trees, pid, x)
+    }
+
+    fn all_end_by(&self, state: &DepVec) -> bool {
+        all_end_in(&self.trees, state)
     }
 
     fn least_stable(&self, pid: Pid, from: u32) -> Option<u32> {

@@ -1,12 +1,13 @@
-ghost use Rattle.std.specs.Prelude.{◌≡◌, ℕ, false, ◌<◌, ◌≤◌, ◌+◌, IsTrue, MatchOption};
+ghost use Rattle.std.specs.Prelude.{◌≡◌, ℕ, false, ◌<◌, ◌≤◌, ◌+◌, Some, IsTrue, MatchOption};
 ghost use Rattle.om_recover.specs.Recoverable.{IsStable};
 ghost use Rattle.om_recover.specs.Climb.{IsLeastStable};
-ghost use Rattle.om_recover.specs.steps.Climbing.{EndsBy, TellsLeast};
+ghost use Rattle.om_recover.specs.steps.Climbing.{AllEndBy, EndsBy, TellsLeast};
 ghost use Rattle.om_recover.specs.steps.Held.{AreIndexed, held};
+ghost use Rattle.om_recover.specs.declared.rows.trees.Newest.{Newest};
 
 use crate::rows::bases::{base_from, base_to, newest_of};
-use crate::rows::trees::Trees;
-use om_interval::Pid;
+use crate::rows::trees::{Newest, Trees};
+use om_interval::{DepVec, Pid};
 
 /// Whether an interval of a process is stable: whether its nearest checkpoint reaches it.
 pub fn is_stable_in(trees: &Trees, pid: Pid, x: u32) -> bool
@@ -28,6 +29,33 @@ pub fn ends_in(trees: &Trees, pid: Pid, x: u32) -> bool
     match newest_of(&trees.bases.newest, pid) {
         None => false,
         Some(newest) => newest.base.last <= x,
+    }
+}
+
+/// Whether the newest checkpoints tell that no process has a stable interval above its place of a state.
+pub fn all_end_in(trees: &Trees, state: &DepVec) -> bool
+    requires { AreIndexed trees.now }
+    ensures { IsTrue result → AllEndBy (held trees.now) state.now }
+{
+    let numbers = state.as_slice();
+    let newest = trees.bases.newest.as_slice();
+    if newest.len() < numbers.len() {
+        return false;
+    }
+    for p in 0..numbers.len() {
+        if !reaches_to(&newest[p], numbers[p]) {
+            return false;
+        }
+    }
+    true
+}
+
+fn reaches_to(slot: &Option<Newest>, x: u32) -> bool
+    ensures { IsTrue result → (newest : Newest) × (slot.now ≡ Some newest) × (newest.base.last ≤ x) }
+{
+    match slot {
+        None => false,
+        Some(Newest { base, .. }) => base.last <= x,
     }
 }
 

@@ -2,7 +2,7 @@ ghost use Rattle.std.specs.Prelude.{◌≡◌, ◌<◌, ◌≤◌, length, slice
 ghost use Rattle.om_interval.specs.Vectors.{IsBelow};
 ghost use Rattle.om_recover.specs.Rows.{IsLawful};
 ghost use Rattle.om_recover.specs.Recoverable.{IsStable, IsRecoverable, maximum_of};
-ghost use Rattle.om_recover.specs.steps.Climbing.{TellsClimb, TellsBegin, TellsBehind, IsAttempted, IsForced, IsBlocked};
+ghost use Rattle.om_recover.specs.steps.Climbing.{TellsClimb, TellsBegin, TellsBehind, IsAttempted, IsUnderWay, IsClimbing, IsPassing, IsForced, IsBlocked, without_newest};
 ghost use Rattle.om_recover.specs.steps.Memory.{IsRemembered, AreRemembered};
 
 use crate::search::memory::{Memories, Memory};
@@ -30,12 +30,105 @@ pub fn climb<S: Shelf>(
     ensures remembered { AreRemembered (length state.now) (S.rows shelf.now) state.now memories.new.places }
 {
     work.attempt(pid, x, state);
-    let Some(begun) = begin(shelf, state, pid, x, memories) else {
-        return None;
-    };
-    let mut reached = begun;
-    let mut passed = begun;
-    let mut looked = *state;
+    match memories.get(pid) {
+        Some(memory) if memory.start <= x => {
+            let Some(begun) = begin_known(shelf, state, pid, x, memory) else {
+                return None;
+            };
+            let way = Way {
+                reached: begun,
+                passed: begun,
+                looked: *state,
+            };
+            climb_on(shelf, state, pid, x, &way, memories, work)
+        }
+        _ => climb_anew(shelf, state, pid, x, memories, work),
+    }
+}
+
+// Climbs with nothing remembered: most climbs end with the first look, which names nothing beyond the state.
+fn climb_anew<S: Shelf>(
+    shelf: &S,
+    state: &DepVec,
+    pid: Pid,
+    x: u32,
+    memories: &mut Memories,
+    work: &mut Work,
+) -> Option<DepVec>
+    requires lawful { IsLawful (length state.now) (S.rows shelf.now) }
+    requires state { IsRecoverable (length state.now) (S.rows shelf.now) state.now }
+    requires process { pid < length state.now }
+    requires start { IsStable (S.rows shelf.now) pid x }
+    requires above { slice_index state.now pid < x }
+    requires attempted { IsUnderWay (S.rows shelf.now) state.now pid x state.now (without_newest work.old.attempts) work.old.attempts }
+    requires remembered { AreRemembered (length state.now) (S.rows shelf.now) state.now memories.old.places }
+    ensures climbed { TellsClimb (length state.now) (S.rows shelf.now) state.now pid x result }
+    ensures counted { IsAttempted (S.rows shelf.now) state.now pid x (without_newest work.old.attempts) work.new.attempts }
+    ensures remembered { AreRemembered (length state.now) (S.rows shelf.now) state.now memories.new.places }
+{
+    let begun = raised_to(state, pid, x);
+    let vec = shelf.look(pid, x, work);
+    if vec.leq(&begun) {
+        return Some(begun);
+    }
+    match forced(shelf, &begun, &vec) {
+        Err(lacking) => {
+            let memory = Memory {
+                start: x,
+                reached: begun,
+                passed: begun,
+                waits: lacking,
+                from: vec.get(lacking),
+            };
+            memories.keep(pid, state.get(pid), memory);
+            None
+        }
+        Ok(higher) => {
+            let way = Way {
+                reached: higher,
+                passed: begun,
+                looked: begun,
+            };
+            climb_on(shelf, state, pid, x, &way, memories, work)
+        }
+    }
+}
+
+// How far a climb has come.
+#[derive(Clone, Copy)]
+struct Way {
+    /// The state that is reached.
+    reached: DepVec,
+    /// How far it comes by what was read before the last.
+    passed: DepVec,
+    /// By process the interval whose vector was read last.
+    looked: DepVec,
+}
+
+// Climbs on, until each interval that was reached is read, or one names what no stable interval reaches.
+fn climb_on<S: Shelf>(
+    shelf: &S,
+    state: &DepVec,
+    pid: Pid,
+    x: u32,
+    way: &Way,
+    memories: &mut Memories,
+    work: &mut Work,
+) -> Option<DepVec>
+    requires lawful { IsLawful (length state.now) (S.rows shelf.now) }
+    requires state { IsRecoverable (length state.now) (S.rows shelf.now) state.now }
+    requires process { pid < length state.now }
+    requires climbing { IsClimbing (length state.now) (S.rows shelf.now) state.now pid x way.now.reached way.now.looked }
+    requires passing { IsPassing (length state.now) (S.rows shelf.now) state.now pid x way.now.reached way.now.passed }
+    requires attempted { IsUnderWay (S.rows shelf.now) state.now pid x way.now.looked (without_newest work.old.attempts) work.old.attempts }
+    requires remembered { AreRemembered (length state.now) (S.rows shelf.now) state.now memories.old.places }
+    ensures climbed { TellsClimb (length state.now) (S.rows shelf.now) state.now pid x result }
+    ensures counted { IsAttempted (S.rows shelf.now) state.now pid x (without_newest work.old.attempts) work.new.attempts }
+    ensures remembered { AreRemembered (length state.now) (S.rows shelf.now) state.now memories.new.places }
+{
+    let mut reached = way.reached;
+    let mut passed = way.passed;
+    let mut looked = way.looked;
     while let Some(q) = first_behind(&looked, &reached) {
         let y = reached.get(q);
         looked.set(q, y);
@@ -59,28 +152,6 @@ pub fn climb<S: Shelf>(
         }
     }
     Some(reached)
-}
-
-// Where a climb begins: at what is remembered of one from the same start, or at the start. None where it is known to fail.
-fn begin<S: Shelf>(
-    shelf: &S,
-    state: &DepVec,
-    pid: Pid,
-    x: u32,
-    memories: &Memories,
-) -> Option<DepVec>
-    requires lawful { IsLawful (length state.now) (S.rows shelf.now) }
-    requires state { IsRecoverable (length state.now) (S.rows shelf.now) state.now }
-    requires process { pid < length state.now }
-    requires start { IsStable (S.rows shelf.now) pid x }
-    requires above { slice_index state.now pid < x }
-    requires remembered { AreRemembered (length state.now) (S.rows shelf.now) state.now memories.now.places }
-    ensures { TellsBegin (length state.now) (S.rows shelf.now) state.now pid x result }
-{
-    match memories.get(pid) {
-        Some(memory) if memory.start <= x => begin_known(shelf, state, pid, x, &memory),
-        _ => Some(raised_to(state, pid, x)),
-    }
 }
 
 // Where a climb begins that is remembered from its start or a lower one.

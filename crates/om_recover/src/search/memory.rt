@@ -38,6 +38,9 @@ impl Memory {
 #[derive(Clone, Copy, Debug)]
 pub struct Memories {
     pub(crate) places: [Option<Memory>; MAX_PROCESSES],
+    // Whether there may be one.
+    any: bool,
+    ghost nothing: { any ≡ false → (p : ℕ) → slice_index_or places p None ≡ None },
 }
 
 impl Memories {
@@ -47,19 +50,25 @@ impl Memories {
     {
         Memories {
             places: [None; MAX_PROCESSES],
+            any: false,
         }
     }
 
-    pub(crate) fn get(&self, pid: Pid) -> Option<Memory>
-        ensures { result ≡ slice_index_or self.now.places pid None }
+    pub(crate) fn get(&self, pid: Pid) -> Option<&Memory>
+        ensures { MatchOption result (slice_index_or self.now.places pid None ≡ None)
+            (λ memory. slice_index_or self.now.places pid None ≡ Some memory.now) }
     {
-        self.places[pid.index()]
+        match &self.places[pid.index()] {
+            None => None,
+            Some(memory) => Some(memory),
+        }
     }
 
     fn put(&mut self, pid: Pid, memory: Option<Memory>)
         ensures here { slice_index_or self.new.places pid None ≡ memory }
         ensures others { (q : ℕ) → (q ≡ pid → ⊥) → slice_index_or self.new.places q None ≡ slice_index_or self.old.places q None }
     {
+        self.any = true;
         self.places[pid.index()] = memory;
     }
 
@@ -81,6 +90,9 @@ impl Memories {
         requires places { (q : ℕ) → q < n → MatchOption (slice_index_or self.old.places q None) ⊤ (HasPlace pid) }
         ensures { IsWithout n self.old.places self.new.places pid x }
     {
+        if !self.any {
+            return;
+        }
         for p in 0..n {
             let q = Pid::at(p);
             if self.is_beyond(q, pid, x) {

@@ -38,6 +38,9 @@ pub fn greatest_from<S: Shelf>(
     };
     let mut raised = climbed;
     loop {
+        if shelf.all_end_by(&raised) {
+            return raised;
+        }
         let higher = pass(shelf, &raised, memories, work);
         if higher.leq(&raised) {
             return raised;
