@@ -58,7 +58,7 @@ fn push_ran(
     write!(text, " sent {sent} made {made}")
 }
 
-/// Writes an answer.
+/// Writes the answer to an event.
 pub fn push_answer(text: &mut String, answer: Answer) -> Result<(), AllocError>
     ensures { OnOk result (string_bytes text.new ≡ string_bytes text.old ++ answer_text answer) }
 {

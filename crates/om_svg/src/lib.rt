@@ -7,6 +7,7 @@
 //! `laws` (no byte of a title, a state, a word or a script's name needs an escape).
 #![tactic(auto)]
 
+pub use answer_text::push_answer;
 pub use text::picture_text;
 
 mod answer_text;
