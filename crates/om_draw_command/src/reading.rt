@@ -113,6 +113,17 @@ fn makes(event: Event, answer: Answer) -> bool
     }
 }
 
+// How many outputs an event handed in, of a process that had handed in so many before it and has so many now.
+fn fresh_of(event: Event, answer: Answer, before: u64, now: u64) -> u64
+    ensures { result ≡ (if makes event answer then now - before else 0) }
+{
+    if makes(event, answer) {
+        now.saturating_sub(before)
+    } else {
+        0
+    }
+}
+
 /// What an event of a line showed, by its answer: `old` is the world before it, as far as it is read.
 fn step_of<S: Stable>(
     world: &World<S>,
@@ -129,18 +140,13 @@ fn step_of<S: Stable>(
     ensures fresh { result.fresh ≡ (if makes event answer then handed_by world.now.manager p - old.now.next else 0) }
 {
     let new = before(world, p);
-    let fresh = if makes(event, answer) {
-        new.next.saturating_sub(old.next)
-    } else {
-        0
-    };
     Step {
         line,
         event,
         answer,
         frames: new_frames(answer, &old.kept, &new.kept),
         first: old.next,
-        fresh,
+        fresh: fresh_of(event, answer, old.next, new.next),
         label: label_at(world, p, old.next),
         recovery: world.manager().recovery(),
     }
