@@ -14,7 +14,8 @@ use om_isa::Ext;
 use std::alloc::{AllocError, Global};
 use std::convert::AsStr;
 
-const HELP: &str = "\
+/// What `omlog --help` tells of all subcommands, behind their list.
+pub const HELP: &str = "\
 A process takes the messages that are sent to it one at a time. With each a new
 interval begins: 0 at its start, 1 with the first message, and so on. Now and
 then it logs the messages that it received, and stores its state. A recovery
@@ -65,7 +66,8 @@ const M: &str = "m";
 
 const FRONTIER: &str = "frontier";
 
-const FRONTIER_HELP: &str = "\
+/// What `--help` tells of `frontier`.
+pub const FRONTIER_HELP: &str = "\
 Reads a record script and writes a line for each note: what was answered, and
 the recovery state after it. The last line is the recovery state in the end.
 
@@ -99,7 +101,8 @@ process 2, of which there is no record.
 
 const SIM: &str = "sim";
 
-const SIM_HELP: &str = "\
+/// What `--help` tells of `sim`.
+pub const SIM_HELP: &str = "\
 Reads programs, processes and events, plays the events in order over stores in
 memory, and writes a line for each: what was answered. Then it writes how all
 stands in the end.
@@ -160,7 +163,8 @@ be released once it has stored the message.
 
 const RUN: &str = "run";
 
-const RUN_HELP: &str = "\
+/// What `--help` tells of `run`.
+pub const RUN_HELP: &str = "\
 Reads a cluster file and runs the cluster: each process in a thread, with a log
 of what it receives and with checkpoints. A process that fails comes back from
 what it stored. Written is what may be released, and how each process ended.
@@ -233,7 +237,8 @@ const STORE: &str = "store";
 
 const IMAGE: &str = "image";
 
-const IMAGE_HELP: &str = "\
+/// What `--help` tells of `image`.
+pub const IMAGE_HELP: &str = "\
 Reads a raw image from standard input, as objcopy -O binary writes one, and
 writes its line for a script or a cluster file:
 

@@ -11,7 +11,9 @@ mod ending;
 mod look_requests;
 mod mistake;
 
-pub use arguments::{Asked, Checking, Request, Running, parse};
+pub use arguments::{
+    Asked, Checking, FRONTIER_HELP, HELP, IMAGE_HELP, RUN_HELP, Request, Running, SIM_HELP, parse,
+};
 pub use draw_request::Lines;
 pub use ending::{end, end_unasked, end_unread};
-pub use look_requests::Look;
+pub use look_requests::{Look, REPLAY_HELP};

@@ -39,7 +39,8 @@ Example: omlog show s1.db, behind omlog run --store s with the example of run.
 
 pub(crate) const REPLAY: &str = "replay";
 
-const REPLAY_HELP: &str = "\
+/// What `--help` tells of `replay`.
+pub const REPLAY_HELP: &str = "\
 Writes the state that a process had right after its receipt INTERVAL, from the
 checkpoints and receipts that its store FILE holds:
 

@@ -9,10 +9,10 @@ use Rattle.om_text.specs.declared.text.TheConstants.{MAX_BYTES}
 use Rattle.om_picture.specs.Drawing.{IsSketchOf, Sketch}
 use Rattle.om_picture.specs.Fates.{EventRow}
 use Rattle.om_picture.specs.Marks.{IsDrawingOf}
-use Rattle.om_picture.specs.PictureText.{picture_text}
+use Rattle.om_svg.specs.PictureText.{picture_text}
 use Rattle.om_picture.specs.Places.{ArePlaced}
 use Rattle.om_picture.specs.declared.column.TheConstants.{MOST_COLUMNS}
-use Rattle.om_picture.specs.declared.ending.Drawn.{Drawn}
+use Rattle.om_sheet.specs.declared.sheet.Drawn.{Drawn}
 use Rattle.om_world.specs.World.{WorldState, IsKnown}
 use Rattle.om_world.specs.declared.event.Event.{Event}
 use Rattle.om_commands.specs.Command.{IsScript}

@@ -1,3 +1,4 @@
+pub mod AnswerWords
 pub mod DrawLemmas
 pub mod LineLemmas
 pub mod PlainNames

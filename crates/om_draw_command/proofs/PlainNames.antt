@@ -16,8 +16,8 @@ use Rattle.om_text.specs.declared.error.LineError.TheVariants.{BadNumber, BadNam
 use Rattle.om_scripts.specs.Named.{is_name, place_of}
 use Rattle.om_scripts.specs.Programs.{Cluster, process_line, program_in, program_line, words_in}
 use Rattle.om_world.specs.declared.event.Event.{Event}
-use Rattle.om_picture.specs.Plain.{HasPlainNames, is_plain_text}
-use Rattle.om_picture.proofs.PlainLemmas.{plain-name}
+use Rattle.om_svg.specs.Plain.{HasPlainNames, is_plain_text}
+use Rattle.om_svg.proofs.PlainLemmas.{plain-name}
 use Rattle.om_commands.specs.Command.{IsScript}
 use Rattle.om_commands.specs.Events.{event_line}
 use Rattle.om_commands.specs.SimScript.{EventScript, cluster_line, event_script_line, no_events, with_event}

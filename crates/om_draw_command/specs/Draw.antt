@@ -12,12 +12,12 @@ use Rattle.om_world.specs.declared.event.Event.{Event}
 use Rattle.om_picture.specs.Drawing.{IsSketchOf, Sketch}
 use Rattle.om_picture.specs.Fates.{EventRow}
 use Rattle.om_picture.specs.Marks.{IsDrawingOf}
-use Rattle.om_picture.specs.PictureText.{picture_text}
+use Rattle.om_svg.specs.PictureText.{picture_text}
 use Rattle.om_picture.specs.Places.{ArePlaced}
-use Rattle.om_picture.specs.Plain.{HasPlainNames}
-use Rattle.om_picture.specs.Reading.{newly_handed}
+use Rattle.om_svg.specs.Plain.{HasPlainNames}
+use Rattle.om_draw_command.specs.Reading.{newly_handed}
 use Rattle.om_picture.specs.declared.column.TheConstants.{MOST_COLUMNS}
-use Rattle.om_picture.specs.declared.ending.Drawn.{Drawn}
+use Rattle.om_sheet.specs.declared.sheet.Drawn.{Drawn}
 use Rattle.om_commands.specs.Command.{IsScript}
 use Rattle.om_commands.specs.Sim.{IsBegun}
 use Rattle.om_commands.specs.SimScript.{EventScript, event_script_line, no_events}

@@ -1,1 +1,2 @@
 pub mod Draw
+pub mod Reading

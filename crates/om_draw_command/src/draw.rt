@@ -7,23 +7,28 @@ ghost use Rattle.om_world.specs.World.{IsKnown};
 ghost use Rattle.om_scripts.specs.Programs.{LacksProcesses};
 ghost use Rattle.om_commands.specs.Command.{IsErrorOf, IsScript, IsSilent};
 ghost use Rattle.om_picture.specs.Drawing.{IsSketchOf, sketch_of};
-ghost use Rattle.om_picture.specs.Reading.{newly_handed};
+ghost use Rattle.om_draw_command.specs.Reading.{newly_handed};
 ghost use Rattle.om_picture.specs.declared.column.TheConstants.{MOST_COLUMNS};
 ghost use Rattle.om_text.specs.declared.text.TheConstants.{MAX_BYTES};
 ghost use Rattle.om_draw_command.specs.Draw.{AreDrawn, IsDrawn, IsPictureOf, IsPlayedPicture, count_within, event_lines};
 ghost use Rattle.om_commands.specs.Sim.{IsErrorOfSim};
 ghost use Rattle.om_commands.specs.SimScript.{event_script_line, no_events};
 
+use crate::reading::{play_step, standings_of};
 use om_commands::sim::start;
 use om_commands::{CommandError, SimScript, write_answer};
-use om_picture::reading::{play_step, standings_of};
-use om_picture::{Picture, Step, picture_text};
-use om_scripts::Programs;
+use om_picture::{MOST_NAME, Picture};
+use om_scripts::{MAX_NAME, Programs};
+use om_sheet::Step;
 use om_stable::MemStable;
+use om_svg::picture_text;
 use om_text::{numbered_lines, read_script, read_text};
 use om_world::{Event, World};
 use std::alloc::{AllocError, Global};
 use std::io::{Read, Write};
+
+// Each name has room.
+const _: () = prove!(MAX_NAME <= MOST_NAME as usize);
 
 /// The lines of a script whose events a picture shows.
 #[derive(Clone, Copy)]

@@ -3,8 +3,9 @@
 //!
 //! It costs what the script costs to play, and the text of each mark. Only what the reader and the writer answer is trusted.
 //!
-//! In an order of reading: `draw`, `laws` (theorems over the definitions).
+//! In an order of reading: `draw`, `reading` (what is read of a world that plays an event), `laws` (theorems over the definitions).
 #![tactic(auto)]
 
 pub mod draw;
 pub mod laws;
+pub mod reading;

@@ -13,18 +13,18 @@ use Rattle.om_world.specs.declared.event.Answer.{Answer}
 use Rattle.om_world.specs.declared.event.Event.{Event}
 use Rattle.om_interval.specs.declared.pid.TheConstants.{MAX_PROCESSES}
 use Rattle.om_picture.specs.Drawing.{Edge, IsLaneOf, IsSketchOf, LaneState, Sketch, all_marks, held_in, held_of, lane_in, lane_marks, lane_of, lanes_marks, new_lane, waiting_marks}
-use Rattle.om_picture.specs.Fates.{EventRow, Fate, ended_after, fate_behind, fate_of, has_ended, highest, interval_after, interval_behind, is_loose, is_of, is_process, is_store, loose_after, next_ended, next_interval, next_loose, next_place, process_of, step_row, stores}
+use Rattle.om_picture.specs.Fates.{EventRow, Fate, ended_after, fate_behind, fate_of, has_ended, highest, interval_after, interval_behind, is_loose, is_of, is_process, is_store, loose_after, next_ended, next_interval, next_loose, next_place, step_row, stores}
 use Rattle.om_picture.specs.Held.{Held, covered_by, held_behind, is_any_elsewhere, left_by, may_wait, releases, left_behind}
 use Rattle.om_picture.specs.Marks.{AreTheSame, EventMark, event_marks, fated_marks, is_reached, marks_among, marks_on, released_at, released_below, row_marks, shape_marks, sure_marks}
 use Rattle.om_picture.specs.Places.{ArePlaced, IsPlacedBehind, has_column, is_shown, rightmost, shows_on}
-use Rattle.om_picture.specs.Shows.{is_finished, shown}
+use Rattle.om_sheet.specs.Shows.{is_finished, process_of, shown}
 use Rattle.om_picture.specs.declared.column.TheConstants.{MOST_COLUMNS, MOST_LEFT, WIDEST}
 use Rattle.om_picture.specs.declared.history.History.{History}
 use Rattle.om_picture.specs.declared.history.Mark.{Mark}
-use Rattle.om_picture.specs.declared.sheet.Shape.{Shape}
-use Rattle.om_picture.specs.declared.sheet.Spot.{Spot}
-use Rattle.om_picture.specs.declared.shown.Shown.{Shown}
-use Rattle.om_picture.specs.declared.step.Step.{Step}
+use Rattle.om_sheet.specs.declared.sheet.Shape.{Shape}
+use Rattle.om_sheet.specs.declared.sheet.Spot.{Spot}
+use Rattle.om_sheet.specs.declared.shown.Shown.{Shown}
+use Rattle.om_sheet.specs.declared.step.Step.{Step}
 use Rattle.om_picture.specs.steps.Adding.{AreNew, IsAmid, LaneShows, LearnsAll, PlacesEvent, Reaches, SettlesAll, SettlesIf, Shows, ShowsEvent, ShowsOn, Stays, amid_marks, fate_amid, fate_now, freed_below, frees, is_stored_by, lane_number, now_marks, shows_at}
 use Rattle.om_picture.proofs.FateLemmas.{end_fate, ended_more, ended_told, fated_same, first_fate, highest_more, interval_more, interval_told, loose_more, loose_told, open_fate, place_again, round_fate, store_shown, waiting_alike, waiting_all}
 use Rattle.om_picture.proofs.HeldLemmas.{held_more, left_none, left_own}

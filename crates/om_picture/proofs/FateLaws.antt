@@ -4,7 +4,7 @@ use Rattle.std.specs.Prelude.{nat_le}
 use Rattle.std.proofs.lemmas.Bool.{false≢true, or_parts}
 use Rattle.std.proofs.lemmas.Bool.Decides.{leb_tells}
 use Rattle.om_picture.specs.Fates.{EventRow, IsCutBy, IsStoredBy, cuts, highest, is_cut, is_stored, next_place, stores}
-use Rattle.om_picture.specs.Shows.{is_finished}
+use Rattle.om_sheet.specs.Shows.{is_finished}
 
 -- a round that cuts
 cuts_beyond : (finished : Bool) (i place : ℕ) → (finished && not (nat_le i place)) ≡ true → (finished ≡ true) × (place < i)

@@ -15,10 +15,10 @@ use Rattle.om_world.specs.declared.event.Refusal.TheVariants as refusals
 use Rattle.om_picture.specs.Drawing.{mark_marks, waiting_marks}
 use Rattle.om_picture.specs.Fates.{EventAt, EventRow, Fate, cuts, ended_after, ended_from, fate_behind, highest, interval_after, interval_from, is_cut, is_store, is_stored, loose_after, loose_from, next_ended, next_interval, next_loose, next_place, stores}
 use Rattle.om_picture.specs.Marks.{EventMark, fated_marks}
-use Rattle.om_picture.specs.Shows.{end_of, is_finished, new_end, shown}
+use Rattle.om_sheet.specs.Shows.{end_of, is_finished, new_end, shown}
 use Rattle.om_picture.specs.declared.history.Mark.{Mark}
-use Rattle.om_picture.specs.declared.shown.Shown.{Shown}
-use Rattle.om_picture.specs.declared.shown.Shown.TheVariants as shows
+use Rattle.om_sheet.specs.declared.shown.Shown.{Shown}
+use Rattle.om_sheet.specs.declared.shown.Shown.TheVariants as shows
 use Rattle.om_picture.specs.steps.Adding.{ended_shown, fate_amid, fate_now, interval_shown, is_stored_by, kept, loose_shown}
 
 -- ---- places

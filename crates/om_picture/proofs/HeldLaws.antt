@@ -6,7 +6,7 @@ use Rattle.std.proofs.lemmas.Bool.Decides.{leb_tells}
 use Rattle.std.proofs.lemmas.List.{append-nil}
 use Rattle.om_picture.specs.Fates.{EventRow, has_ended, highest, interval_behind, is_of}
 use Rattle.om_picture.specs.Held.{Held, WereHeld, covered_by, held_behind, held_from, is_any_elsewhere, is_elsewhere, left_behind, left_by, may_wait, next_held, releases}
-use Rattle.om_picture.specs.Shows.{is_finished, shown}
+use Rattle.om_sheet.specs.Shows.{is_finished, shown}
 use Rattle.om_picture.proofs.HeldLemmas.{covered_first, covered_none}
 
 -- an event of the process left this

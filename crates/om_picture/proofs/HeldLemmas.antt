@@ -6,7 +6,7 @@ use Rattle.std.proofs.lemmas.Bool.{le-leb, lt-leb}
 use Rattle.std.proofs.lemmas.List.{append-nil}
 use Rattle.om_picture.specs.Fates.{EventRow, has_ended, interval_behind, is_of}
 use Rattle.om_picture.specs.Held.{Held, covered_by, held_from, left_by, may_wait, next_held, left_behind}
-use Rattle.om_picture.specs.Shows.{shown}
+use Rattle.om_sheet.specs.Shows.{shown}
 
 -- ---- what is covered
 uncovered_one : (b : Bool) (held : Held) (more some left : List Held) → (if b then held ∷ some else []) ≡ []

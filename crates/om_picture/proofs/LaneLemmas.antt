@@ -14,16 +14,16 @@ use Rattle.om_picture.specs.Drawing.{Edge, LaneState, Sketch, all_marks, held_in
 use Rattle.om_picture.specs.Fates.{EventAt, EventRow, Fate}
 use Rattle.om_picture.specs.Held.{Held, covered_by, is_any_elsewhere, is_elsewhere, left_behind}
 use Rattle.om_picture.specs.Marks.{EventMark, Kind, Made, Stands, kind_drawn, mark_of, output_marks, released_at, shape_marks, title_entry}
-use Rattle.om_picture.specs.Shows.{shown}
+use Rattle.om_sheet.specs.Shows.{shown}
 use Rattle.om_picture.specs.declared.history.History.{History}
 use Rattle.om_picture.specs.declared.history.Mark.{Mark}
 use Rattle.om_picture.specs.declared.history.Next.{Next}
-use Rattle.om_picture.specs.declared.sheet.Form.{Form}
-use Rattle.om_picture.specs.declared.sheet.Shape.{Shape}
-use Rattle.om_picture.specs.declared.sheet.Spot.{Spot}
-use Rattle.om_picture.specs.declared.sheet.Title.{Title}
-use Rattle.om_picture.specs.declared.shown.Shown.{Shown}
-use Rattle.om_picture.specs.declared.shown.Shown.TheVariants as shows
+use Rattle.om_sheet.specs.declared.sheet.Form.{Form}
+use Rattle.om_sheet.specs.declared.sheet.Shape.{Shape}
+use Rattle.om_sheet.specs.declared.sheet.Spot.{Spot}
+use Rattle.om_sheet.specs.declared.sheet.Title.{Title}
+use Rattle.om_sheet.specs.declared.shown.Shown.{Shown}
+use Rattle.om_sheet.specs.declared.shown.Shown.TheVariants as shows
 use Rattle.om_picture.specs.steps.Adding.{IsMore, Keeps, KeepsWith, Learning, Learns, LearnsAll, LearnsAt, LearnsBelow, Raises, Settles, SettlesAll, SettlesBelow, SettlesLane, SettlesSome, Shows, ShowsAt, Stays, Takes, TakesCovered, TakesFirst, Told, Turns, Waits, amid_marks, fate_amid, fate_now, freed_below, frees, kept, kind_late, lane_number, made_by, now_marks}
 use Rattle.om_picture.proofs.FateLemmas.{amid_again, kept_amid, waiting_alike}
 use Rattle.om_picture.proofs.HeldLemmas.{covered_first, covered_none, uncovered_all, uncovered_first}

@@ -6,5 +6,4 @@ pub mod HeldLemmas
 pub mod LaneLemmas
 pub mod PlaceLaws
 pub mod PlaceLemmas
-pub mod PlainLemmas
 pub mod ShowLemmas

@@ -4,14 +4,14 @@ use Rattle.std.specs.declared.alloc.AllocError.{AllocError}
 use Rattle.std.proofs.lemmas.Bool.{eq-eqb, le-ltb, lt-ltb}
 use Rattle.std.proofs.lemmas.List.{length-map}
 use Rattle.om_picture.specs.Drawing.{Edge, LaneState, Sketch, lane_in, new_lane}
-use Rattle.om_picture.specs.Fates.{EventRow, process_of, step_row}
+use Rattle.om_picture.specs.Fates.{EventRow, step_row}
 use Rattle.om_picture.specs.Marks.{EventMark}
 use Rattle.om_picture.specs.Places.{is_shown}
-use Rattle.om_picture.specs.Shows.{shown}
+use Rattle.om_sheet.specs.Shows.{process_of, shown}
 use Rattle.om_picture.specs.declared.history.History.{History}
-use Rattle.om_picture.specs.declared.sheet.Spot.{Spot}
-use Rattle.om_picture.specs.declared.shown.Shown.{Shown}
-use Rattle.om_picture.specs.declared.step.Step.{Step}
+use Rattle.om_sheet.specs.declared.sheet.Spot.{Spot}
+use Rattle.om_sheet.specs.declared.shown.Shown.{Shown}
+use Rattle.om_sheet.specs.declared.step.Step.{Step}
 use Rattle.om_picture.specs.steps.Adding.{MovesTo, Places, PlacesEvent, lane_number, shows_at}
 use Rattle.om_picture.proofs.LaneLemmas.{lane_at, not_zero}
 

@@ -9,11 +9,11 @@ use Rattle.om_picture.specs.Fates.{EventAt, Fate, step_entry}
 use Rattle.om_picture.specs.Held.{Held, may_wait}
 use Rattle.om_picture.specs.Marks.{CameBack, EventMark, Failed, Joined, Logged, Released, fated_marks, log_marks, mark_of, released_at, sure_marks, title_entry}
 use Rattle.om_picture.specs.declared.history.Mark.{Mark}
-use Rattle.om_picture.specs.declared.sheet.Spot.{Spot}
-use Rattle.om_picture.specs.declared.sheet.Title.{Title}
-use Rattle.om_picture.specs.declared.shown.Shown.{Shown}
-use Rattle.om_picture.specs.declared.shown.Shown.TheVariants as shows
-use Rattle.om_picture.specs.declared.step.Step.{Step}
+use Rattle.om_sheet.specs.declared.sheet.Spot.{Spot}
+use Rattle.om_sheet.specs.declared.sheet.Title.{Title}
+use Rattle.om_sheet.specs.declared.shown.Shown.{Shown}
+use Rattle.om_sheet.specs.declared.shown.Shown.TheVariants as shows
+use Rattle.om_sheet.specs.declared.step.Step.{Step}
 use Rattle.om_picture.specs.steps.Adding.{Ends, GoesBack, IsMore, LaneShows, Logs, Loses, Receives, Settles, Shows, Stores, Turns, Waits, ended_shown, interval_shown, is_stored_by, loose_shown}
 use Rattle.om_picture.proofs.FateLemmas.{waiting_more}
 use Rattle.om_picture.proofs.LaneLemmas.{settled_lane, settles_none, settles_then}

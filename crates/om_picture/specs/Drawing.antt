@@ -10,8 +10,8 @@ use Rattle.om_picture.specs.declared.column.TheConstants.{MOST_LEFT, WIDEST}
 use Rattle.om_picture.specs.declared.history.History.{History}
 use Rattle.om_picture.specs.declared.history.Mark.{Mark}
 use Rattle.om_picture.specs.declared.picture.Picture.{Picture}
-use Rattle.om_picture.specs.declared.shown.Shown.{Shown}
-use Rattle.om_picture.specs.declared.shown.Shown.TheVariants as shows
+use Rattle.om_sheet.specs.declared.shown.Shown.{Shown}
+use Rattle.om_sheet.specs.declared.shown.Shown.TheVariants as shows
 
 -- what a mark that waits comes to, of an event that showed this
 abbrev pub late_marks : Shown → ℕ → Fate → EventAt → List EventMark

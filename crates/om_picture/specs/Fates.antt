@@ -5,9 +5,9 @@ use Rattle.om_world.specs.declared.event.Answer.{Answer}
 use Rattle.om_world.specs.declared.event.Answer.TheVariants as answers
 use Rattle.om_world.specs.declared.event.Event.{Event}
 use Rattle.om_world.specs.declared.event.Event.TheVariants as events
-use Rattle.om_picture.specs.Shows.{end_of, is_finished}
-use Rattle.om_picture.specs.declared.sheet.Spot.{Spot}
-use Rattle.om_picture.specs.declared.step.Step.{Step}
+use Rattle.om_sheet.specs.Shows.{end_of, is_finished, process_of}
+use Rattle.om_sheet.specs.declared.sheet.Spot.{Spot}
+use Rattle.om_sheet.specs.declared.step.Step.{Step}
 
 -- an event of a script, the number of its line, its answer, and where it stands in a picture
 pub record EventAt : Type 0 where
@@ -27,19 +27,6 @@ step_entry step at = record { line = step.line; event = step.event; answer = ste
 
 abbrev pub step_row : Step → Spot → EventRow
 step_row step at = record { entry = step_entry step at; fresh = step.fresh; recovery = step.recovery }
-
--- the process of an event
-abbrev pub process_of : Event → Option ℕ
-process_of (events.Run process fuel) = Some process
-process_of (events.Give process frame) = Some process
-process_of (events.Flush process) = Some process
-process_of (events.Checkpoint process) = Some process
-process_of (events.Resend process) = Some process
-process_of (events.Trim process) = Some process
-process_of (events.Fail process) = Some process
-process_of (events.Join process) = Some process
-process_of (events.Resume process) = Some process
-process_of events.Prune = None
 
 abbrev pub is_process : ℕ → Option ℕ → Bool
 is_process p None = false

@@ -1,9 +1,9 @@
 -- What waits on the lane of a process until a recovery state covers it or a round cuts it, and with which event its outputs are released.
 use Rattle.std.specs.Prelude.{◌≡◌, ◌≢◌, ◌<◌, ◌≤◌, ℕ, ◌==◌, Bool, true, false, not, ◌&&◌, ◌||◌, if◌then◌else◌, nat_le, nat_lt, List, [], ◌∷◌, ◌++◌}
 use Rattle.om_picture.specs.Fates.{EventRow, has_ended, highest, interval_behind, is_of}
-use Rattle.om_picture.specs.Shows.{is_finished, shown}
-use Rattle.om_picture.specs.declared.shown.Shown.{Shown}
-use Rattle.om_picture.specs.declared.shown.Shown.TheVariants as shows
+use Rattle.om_sheet.specs.Shows.{is_finished, shown}
+use Rattle.om_sheet.specs.declared.shown.Shown.{Shown}
+use Rattle.om_sheet.specs.declared.shown.Shown.TheVariants as shows
 
 -- what an event left on its lane: its interval, how many new outputs it handed in, and where it stands
 pub record Held : Type 0 where

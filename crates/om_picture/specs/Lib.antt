@@ -1,13 +1,6 @@
-pub mod AnswerText
 pub mod Drawing
 pub mod Fates
 pub mod Held
 pub mod Marks
-pub mod PictureText
 pub mod Places
-pub mod Plain
-pub mod Reading
-pub mod ShapeText
-pub mod Shows
-pub mod WordText
 pub mod steps

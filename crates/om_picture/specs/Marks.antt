@@ -1,17 +1,17 @@
 -- Which marks stand for which events.
 use Rattle.std.specs.Prelude.{◌≡◌, ℕ, zero, suc, ◌==◌, Bool, false, ◌||◌, if◌then◌else◌, nat_le, nat_lt, List, [], ◌∷◌, ◌++◌, Option, None, Some}
 use Rattle.std.specs.List.{flat_map, sum_by}
-use Rattle.om_picture.specs.Fates.{EventAt, EventRow, Fate, fate_of, has_ended, interval_behind, is_loose, process_of}
+use Rattle.om_picture.specs.Fates.{EventAt, EventRow, Fate, fate_of, has_ended, interval_behind, is_loose}
 use Rattle.om_picture.specs.Held.{releases}
-use Rattle.om_picture.specs.Shows.{shown}
-use Rattle.om_picture.specs.declared.ending.Drawn.{Drawn}
-use Rattle.om_picture.specs.declared.sheet.Form.{Form}
-use Rattle.om_picture.specs.declared.sheet.Form.TheVariants as forms
-use Rattle.om_picture.specs.declared.sheet.Shape.{Shape}
-use Rattle.om_picture.specs.declared.sheet.Spot.{Spot}
-use Rattle.om_picture.specs.declared.sheet.Title.{Title}
-use Rattle.om_picture.specs.declared.shown.Shown.{Shown}
-use Rattle.om_picture.specs.declared.shown.Shown.TheVariants as shows
+use Rattle.om_sheet.specs.Shows.{process_of, shown}
+use Rattle.om_sheet.specs.declared.sheet.Drawn.{Drawn}
+use Rattle.om_sheet.specs.declared.sheet.Form.{Form}
+use Rattle.om_sheet.specs.declared.sheet.Form.TheVariants as forms
+use Rattle.om_sheet.specs.declared.sheet.Shape.{Shape}
+use Rattle.om_sheet.specs.declared.sheet.Spot.{Spot}
+use Rattle.om_sheet.specs.declared.sheet.Title.{Title}
+use Rattle.om_sheet.specs.declared.shown.Shown.{Shown}
+use Rattle.om_sheet.specs.declared.shown.Shown.TheVariants as shows
 
 abbrev pub title_entry : Title → Spot → EventAt
 title_entry title at = record { line = title.line; event = title.event; answer = title.answer; at = at }

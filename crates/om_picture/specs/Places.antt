@@ -1,11 +1,11 @@
 -- Where events stand in a picture: in their order from left to right, each on the lane of its process.
 use Rattle.std.specs.Prelude.{◌≡◌, ℕ, ◌<◌, ◌&&◌, Bool, true, false, max, nat_lt, List, [], ◌∷◌, ◌++◌, Option, None, Some, length}
-use Rattle.om_picture.specs.Fates.{EventRow, has_ended, process_of}
+use Rattle.om_picture.specs.Fates.{EventRow, has_ended}
 use Rattle.om_picture.specs.Marks.{is_reached}
-use Rattle.om_picture.specs.Shows.{shown}
+use Rattle.om_sheet.specs.Shows.{process_of, shown}
 use Rattle.om_picture.specs.declared.column.TheConstants.{MOST_COLUMNS}
-use Rattle.om_picture.specs.declared.shown.Shown.{Shown}
-use Rattle.om_picture.specs.declared.shown.Shown.TheVariants as shows
+use Rattle.om_sheet.specs.declared.shown.Shown.{Shown}
+use Rattle.om_sheet.specs.declared.shown.Shown.TheVariants as shows
 
 abbrev pub is_shown : Shown → Bool
 is_shown shows.Nothing = false

@@ -4,7 +4,7 @@ ghost use Rattle.std.specs.Prelude.{◌≡◌, ◌+◌, ◌-◌, ◌^◌, ◌<�
 
 use crate::measure::digits;
 use crate::page::{AGAIN, Page};
-use crate::sheet::{Road, Style, What};
+use om_sheet::{Road, Style, What};
 use std::alloc::AllocError;
 
 /// The height of the numbers of lines.
@@ -79,7 +79,7 @@ impl Page {
         right: u32,
         line: usize,
     ) -> Result<(), AllocError> {
-        self.counts.shown = self.counts.shown.saturating_add(1);
+        self.count_shown();
         self.tick(x, line)?;
         self.name_again(right)
     }

@@ -1,73 +1,69 @@
-//! The counts of the head.
+//! What is counted for the head; `on`: the window is reached.
 
-#[derive(Clone, Copy)]
-pub struct Counts {
-    pub events: u64,
-    pub shown: u64,
-    pub rounds: u64,
-    pub sent: u64,
-    pub resent: u64,
-    pub taken: u64,
-    pub refused: u64,
-    pub failures: u64,
-    pub made: u64,
-    pub released: u64,
-    pub cut: u64,
-}
+use crate::history::Mark;
+use crate::page::Page;
 
-impl Counts {
-    pub(crate) fn new() -> Counts {
-        Counts {
-            events: 0,
-            shown: 0,
-            rounds: 0,
-            sent: 0,
-            resent: 0,
-            taken: 0,
-            refused: 0,
-            failures: 0,
-            made: 0,
-            released: 0,
-            cut: 0,
+impl Page {
+    /// An event of the window is counted.
+    pub(crate) fn count_event(&mut self, on: bool) {
+        if on {
+            self.counts.events = self.counts.events.saturating_add(1);
         }
     }
 
-    /// A run that made so many outputs and sent so many messages.
-    pub(crate) fn add_run(&mut self, made: u64, sent: usize) {
-        self.made = self.made.saturating_add(made);
-        self.sent = self.sent.saturating_add(sent as u64);
+    /// An event of the window showed something.
+    pub(crate) fn count_shown(&mut self) {
+        self.counts.shown = self.counts.shown.saturating_add(1);
     }
 
-    pub(crate) fn add_resend(&mut self, sent: usize) {
-        self.resent = self.resent.saturating_add(sent as u64);
+    /// A run made so many outputs and sent so many messages.
+    pub(crate) fn count_run(&mut self, on: bool, made: u64, sent: usize) {
+        if on {
+            self.counts.made = self.counts.made.saturating_add(made);
+            self.counts.sent = self.counts.sent.saturating_add(sent as u64);
+        }
     }
 
-    pub(crate) fn add_receipt(&mut self) {
-        self.taken = self.taken.saturating_add(1);
+    pub(crate) fn count_resend(&mut self, on: bool, sent: usize) {
+        if on {
+            self.counts.resent = self.counts.resent.saturating_add(sent as u64);
+        }
     }
 
-    pub(crate) fn add_refusal(&mut self) {
-        self.refused = self.refused.saturating_add(1);
+    pub(crate) fn count_receipt(&mut self, on: bool) {
+        if on {
+            self.counts.taken = self.counts.taken.saturating_add(1);
+        }
     }
 
-    pub(crate) fn add_failure(&mut self) {
-        self.failures = self.failures.saturating_add(1);
+    /// A message was refused in the window.
+    pub(crate) fn count_refusal(&mut self) {
+        self.counts.refused = self.counts.refused.saturating_add(1);
     }
 
-    pub(crate) fn add_round(&mut self) {
-        self.rounds = self.rounds.saturating_add(1);
+    pub(crate) fn count_failure(&mut self, on: bool) {
+        if on {
+            self.counts.failures = self.counts.failures.saturating_add(1);
+        }
     }
 
-    pub(crate) fn add_event(&mut self) {
-        self.events = self.events.saturating_add(1);
+    /// A round was finished in the window.
+    pub(crate) fn count_round(&mut self) {
+        self.counts.rounds = self.counts.rounds.saturating_add(1);
     }
 
-    /// Outputs that are released, or cut.
-    pub(crate) fn add_fate(&mut self, outputs: u64, cut: bool) {
+    /// The outputs of a mark of the window are released, or cut.
+    pub(crate) fn count_fate(&mut self, on: bool, mark: &Mark, cut: bool) {
+        if on && mark.at.x != 0 {
+            self.add_fate(mark.fresh, cut);
+        }
+    }
+
+    fn add_fate(&mut self, outputs: u64, cut: bool) {
         if cut {
-            self.cut = self.cut.saturating_add(outputs);
+            self.counts.cut = self.counts.cut.saturating_add(outputs);
         } else {
-            self.released = self.released.saturating_add(outputs);
+            self.counts.released = self.counts.released.saturating_add(outputs);
         }
     }
 }

@@ -7,7 +7,6 @@ ghost use Rattle.om_picture.specs.Marks.{IsDrawingOf};
 ghost use Rattle.om_picture.specs.steps.Adding.{Settles, SettlesAll, SettlesLane, fate_now};
 
 use crate::column::AXIS;
-use crate::counts::Counts;
 use crate::frame::Frame;
 use crate::history::Next;
 use crate::lane::{Stand, lane_y};
@@ -16,27 +15,12 @@ use crate::page::{Page, count_of};
 use crate::picture::Picture;
 use crate::rounds::before;
 use crate::settle::{fate_now, place_of};
-use crate::sheet::{Crossed, Crossing, Shape, Sheet, Spot, Style, Way, What};
-use crate::step::Standing;
 use om_interval::DepVec;
+use om_sheet::{Crossed, Crossing, Drawn, Spot, Standing, Style, Way, What};
 use std::alloc::{AllocError, Global};
 
 // The least width: that of the legend.
 const LEAST: u32 = 880;
-
-/// A picture that is whole.
-#[derive(Drop)]
-pub struct Drawn {
-    pub sheet: Sheet,
-    pub marks: Vec<Shape>,
-    pub counts: Counts,
-    pub width: u32,
-    pub height: u32,
-    /// How many lanes it has, where their bands end, and where the legend begins.
-    pub lanes: u32,
-    pub bottom: u32,
-    pub legend: u32,
-}
 
 // Frames of one place and one receiver that follow each other, and how many of them were never given.
 #[derive(Clone, Copy)]

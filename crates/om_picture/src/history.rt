@@ -2,9 +2,7 @@
 
 ghost use Rattle.std.specs.Prelude.{◌≡◌, ◌≤◌, [], is_some, length, max, OnOk, MatchOption};
 
-use crate::sheet::{Spot, Title};
-use crate::shown::Shown;
-use crate::step::Label;
+use om_sheet::{Label, Shown, Spot, Title};
 use std::alloc::{AllocError, Global};
 use std::slice;
 

@@ -1,6 +1,6 @@
 //! A lane, and where its next words may stand.
 
-use crate::sheet::{Road, Stretch};
+use om_sheet::{Road, Stretch};
 use om_world::Answer;
 use std::alloc::AllocError;
 

@@ -1,38 +1,10 @@
-//! What holds of a picture and its texts: each function stands for a theorem over the definitions alone.
+//! What holds of a picture: each function stands for a theorem over the definitions alone.
 
 ghost use Rattle.std.specs.Prelude.{◌≡◌, ◌<◌, ◌↔◌, [], ◌∷◌, ◌++◌, ℕ, List, length, true};
-ghost use Rattle.om_scripts.specs.Named.{is_name};
-ghost use Rattle.om_scripts.specs.Programs.{Cluster};
-ghost use Rattle.om_picture.specs.AnswerText.{recovery_text};
 ghost use Rattle.om_picture.specs.Fates.{EventRow, IsCutBy, IsStoredBy, highest, is_cut, is_stored};
 ghost use Rattle.om_picture.specs.Held.{WereHeld, releases};
 ghost use Rattle.om_picture.specs.Places.{ArePlaced, has_column};
-ghost use Rattle.om_picture.specs.Plain.{HasPlainNames, is_plain_text};
-ghost use Rattle.om_picture.specs.ShapeText.{told_text};
-ghost use Rattle.om_picture.specs.WordText.{what_text};
 ghost use Rattle.om_picture.specs.declared.column.TheConstants.{MOST_COLUMNS};
-ghost use Rattle.om_picture.specs.declared.sheet.Title.{Title};
-ghost use Rattle.om_picture.specs.declared.sheet.What.{What};
-
-/// What is told of a mark needs no escape.
-pub fn titles_are_plain()
-    ensures { (title : Title) → is_plain_text (told_text title) ≡ true }
-{}
-
-/// Nor does a recovery state.
-pub fn states_are_plain()
-    ensures { (state : List ℕ) → is_plain_text (recovery_text state) ≡ true }
-{}
-
-/// Nor do words, if the names of processes and programs need none.
-pub fn words_are_plain()
-    ensures { (cluster : Cluster) → HasPlainNames cluster → (what : What) → is_plain_text (what_text cluster what) ≡ true }
-{}
-
-/// Names that a script may give need none.
-pub fn names_are_plain()
-    ensures { (name : List ℕ) → is_name name ≡ true → is_plain_text name ≡ true }
-{}
 
 /// An interval is cut exactly where a round is finished and no recovery state up to it had the process as high.
 pub fn cut_by_a_round()

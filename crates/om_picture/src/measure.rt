@@ -1,10 +1,7 @@
 //! How long words are.
 
-ghost use Rattle.std.specs.Prelude.{◌≡◌};
-ghost use Rattle.om_picture.specs.AnswerText.{accept_word, refusal_word, why_word};
-
-use crate::step::{LABEL_BYTES, Label, Standing};
 use om_process::{Accept, Status};
+use om_sheet::{LABEL_BYTES, Label, Standing};
 use om_world::{Answer, Refusal};
 
 /// How wide a character counts.
@@ -57,49 +54,6 @@ pub fn recovery_length(state: &[u32]) -> u32 {
             .saturating_add(digits(u64::from(*place)));
     }
     length
-}
-
-/// The word for why a frame was refused: empty where it was taken.
-pub fn why_word(answer: Answer) -> &'static str
-    ensures { result.now ≡ why_word answer }
-{
-    match answer {
-        Answer::Given(accept) => accept_word(accept),
-        Answer::Refused(why) => refusal_word(why),
-        _ => "",
-    }
-}
-
-pub fn accept_word(accept: Accept) -> &'static str
-    ensures { result.now ≡ accept_word accept }
-{
-    match accept {
-        Accept::Taken(_) => "",
-        Accept::Repeat => "repeat",
-        Accept::Ahead => "ahead",
-        Accept::Orphan => "orphan",
-        Accept::NotWaiting => "not-waiting",
-        Accept::Stranger => "stranger",
-        Accept::Full => "full",
-        Accept::Memory => "memory",
-    }
-}
-
-pub fn refusal_word(why: Refusal) -> &'static str
-    ensures { result.now ≡ refusal_word why }
-{
-    match why {
-        Refusal::NoProcess => "no-process",
-        Refusal::NotUp => "not-up",
-        Refusal::NoFrame => "no-frame",
-        Refusal::NotIn => "not-in",
-        Refusal::NoRound => "no-round",
-        Refusal::Spent => "spent",
-        Refusal::Present => "present",
-        Refusal::Fault => "fault",
-        Refusal::Damaged => "damaged",
-        Refusal::Memory => "memory",
-    }
 }
 
 pub fn why_length(answer: Answer) -> u32 {

@@ -4,17 +4,15 @@ ghost use Rattle.std.specs.Prelude.{◌≡◌, ◌==◌, ◌<◌, not, length, O
 ghost use Rattle.om_picture.specs.Drawing.{sketch_of};
 ghost use Rattle.om_picture.specs.Fates.{step_entry};
 ghost use Rattle.om_picture.specs.steps.Adding.{Logs, Shows};
-ghost use Rattle.om_picture.specs.declared.shown.Shown.TheVariants as shows;
+ghost use Rattle.om_sheet.specs.declared.shown.Shown.TheVariants as shows;
 
 use crate::frame::Frame;
 use crate::lane::{Stand, or_left};
 use crate::page::{Page, numbers};
 use crate::picture::Picture;
 use crate::placing::FAILURE;
-use crate::sheet::{Form, More, Spot, Style, Way, What};
-use crate::shown::Shown;
-use crate::step::Step;
 use om_process::Status;
+use om_sheet::{Form, More, Shown, Spot, Step, Style, Way, What};
 use std::alloc::AllocError;
 
 // The longest way of a refused message.
@@ -53,7 +51,7 @@ impl Page {
             return Ok(());
         }
         self.trail(frame, at)?;
-        self.counts.add_refusal();
+        self.count_refusal();
         Ok(())
     }
 

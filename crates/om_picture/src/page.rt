@@ -1,12 +1,9 @@
 //! The page: all pieces but the marks, and the room for words.
 
-use crate::counts::Counts;
 use crate::frame::{Frame, add_frames};
-use crate::history::Mark;
 use crate::lane::{Lane, Stand, add_stretch, lane_y, or_left};
 use crate::measure::{CHARACTER, digits};
-use crate::sheet::{Band, Numbers, Sheet, Spot, Stretch, Style, What, Word};
-use crate::step::Step;
+use om_sheet::{Band, Counts, Numbers, Sheet, Spot, Step, Stretch, Style, What, Word};
 use std::alloc::{AllocError, Global};
 
 /// How far apart the names of the lanes are told again.
@@ -30,6 +27,16 @@ pub(crate) struct Page {
     pub frames: Vec<Frame>,
     pub counts: Counts,
     pub sheet: Sheet,
+}
+
+fn no_pieces(alloc: Global) -> Sheet {
+    Sheet {
+        back: Vec::new(alloc),
+        road: Vec::new(alloc),
+        send: Vec::new(alloc),
+        line: Vec::new(alloc),
+        text: Vec::new(alloc),
+    }
 }
 
 /// So many numbers from the first on.
@@ -59,47 +66,9 @@ impl Page {
             opened: None,
             lanes,
             frames: Vec::new(alloc),
-            counts: Counts::new(),
-            sheet: Sheet::new(alloc),
+            counts: Counts::default(),
+            sheet: no_pieces(alloc),
         })
-    }
-
-    /// An event of the window is counted.
-    pub(crate) fn count_event(&mut self, on: bool) {
-        if on {
-            self.counts.add_event();
-        }
-    }
-
-    pub(crate) fn count_run(&mut self, on: bool, made: u64, sent: usize) {
-        if on {
-            self.counts.add_run(made, sent);
-        }
-    }
-
-    pub(crate) fn count_resend(&mut self, on: bool, sent: usize) {
-        if on {
-            self.counts.add_resend(sent);
-        }
-    }
-
-    pub(crate) fn count_receipt(&mut self, on: bool) {
-        if on {
-            self.counts.add_receipt();
-        }
-    }
-
-    pub(crate) fn count_failure(&mut self, on: bool) {
-        if on {
-            self.counts.add_failure();
-        }
-    }
-
-    /// The outputs of a mark of the window are released, or cut.
-    pub(crate) fn count_fate(&mut self, on: bool, mark: &Mark, cut: bool) {
-        if on && mark.at.x != 0 {
-            self.counts.add_fate(mark.fresh, cut);
-        }
     }
 
     /// Adds a word.

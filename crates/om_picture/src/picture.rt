@@ -5,20 +5,20 @@ ghost use Rattle.om_picture.specs.Drawing.{IsSketchOf, held_in, lane_of, sketch_
 ghost use Rattle.om_picture.specs.Fates.{EventRow, step_entry, step_row};
 ghost use Rattle.om_picture.specs.Held.{covered_by};
 ghost use Rattle.om_picture.specs.Marks.{kind_drawn, mark_of, shape_marks, title_entry};
-ghost use Rattle.om_picture.specs.Shows.{is_finished};
-ghost use Rattle.om_picture.specs.declared.sheet.Spot.{Spot};
+ghost use Rattle.om_sheet.specs.Shows.{is_finished};
+ghost use Rattle.om_sheet.specs.declared.sheet.Spot.{Spot};
 ghost use Rattle.om_picture.specs.steps.Adding.{AreNew, Ends, GoesBack, Loses, Raises, Reaches, Receives, Settles, SettlesIf, Shows, ShowsEvent, ShowsOn, Stores, TakesCovered, TakesFirst, Turns, Waits};
 
 use crate::column::{Columns, MOST_LEFT};
 use crate::history::{History, Mark, Next};
 use crate::page::Page;
-use crate::sheet::{Form, More, Shape, Spot, Title};
-use crate::shown::{Shown, is_finished, shown_of};
-use crate::step::{Step, process_of};
 use om_interval::DepVec;
-use om_scripts::MAX_NAME;
+use om_sheet::{Form, More, Shape, Shown, Spot, Step, Title, is_finished, process_of, shown_of};
 use std::alloc::{AllocError, Global};
 use std::slice;
+
+/// The most characters of a name that have room at the left side.
+pub const MOST_NAME: u32 = 32;
 
 /// What has been drawn, and what is known of the marks that are drawn later.
 #[derive(Drop)]
@@ -40,7 +40,7 @@ fn left_side(longest: u32) -> u32
     ensures some { 0 < result }
     ensures most { result ≤ MOST_LEFT }
 {
-    let characters = longest.min(MAX_NAME as u32);
+    let characters = longest.min(MOST_NAME);
     (24 + 7 * characters).max(56)
 }
 
@@ -57,7 +57,7 @@ fn new_histories(alloc: Global, count: usize) -> Result<Vec<History>, AllocError
 
 impl Picture {
     /// The picture of so many processes, whose window begins at a line. `longest`: the characters of the longest name, of which at
-    /// most [`MAX_NAME`] have room.
+    /// most [`MOST_NAME`] have room.
     pub fn new(
         alloc: Global,
         recovery: DepVec,

@@ -11,10 +11,8 @@ use crate::lane::{Extent, NOTHING, Wanted};
 use crate::measure::{CHARACTER, digits, label_length, status_length, why_length};
 use crate::page::Page;
 use crate::picture::Picture;
-use crate::sheet::{Spot, Style, What};
-use crate::shown::{Shown, shown_of};
-use crate::step::{Step, process_of};
 use om_process::Status;
+use om_sheet::{Shown, Spot, Step, Style, What, process_of, shown_of};
 use om_world::Answer;
 use std::alloc::AllocError;
 

@@ -10,9 +10,8 @@ use crate::measure::{CHARACTER, recovery_length};
 use crate::page::Page;
 use crate::picture::{Picture, state_if, title_of};
 use crate::settle::fate_now;
-use crate::sheet::{Crossed, Crossing, More, Spot, Stretch, Style, What};
-use crate::step::Step;
 use om_interval::DepVec;
+use om_sheet::{Crossed, Crossing, More, Spot, Step, Stretch, Style, What};
 use std::alloc::{AllocError, Global};
 
 // From a mark to the recovery line beside it.
@@ -69,7 +68,7 @@ impl Page {
         changed: bool,
         places: Vec<Spot>,
     ) -> Result<(), AllocError> {
-        self.counts.add_round();
+        self.count_round();
         let opened = self.opened.unwrap_or(self.left);
         self.band(opened, right, What::Round(self.round))?;
         let state = step.recovery;

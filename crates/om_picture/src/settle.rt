@@ -12,11 +12,9 @@ use crate::lane::{lane_y, or_left};
 use crate::page::Page;
 use crate::picture::{Picture, state_if, title_of};
 use crate::placing::lane_number;
-use crate::sheet::{Form, More, Shape, Spot, Style, Way, What};
-use crate::shown::Shown;
-use crate::step::Step;
 use om_interval::DepVec;
 use om_process::Status;
+use om_sheet::{Form, More, Shape, Shown, Spot, Step, Style, Way, What};
 use std::alloc::AllocError;
 
 /// How a mark is settled: cut by a round or not; covered by a recovery state, its outputs are released; stored.

@@ -1,18 +1,18 @@
 -- Marks that are added to a picture, one step of its drawing at a time.
 use Rattle.std.specs.Prelude.{◌≡◌, ◌≢◌, ℕ, zero, suc, ◌+◌, ◌^◌, ◌<◌, ◌≤◌, ◌-◌, ◌==◌, Bool, true, false, not, ◌&&◌, ◌||◌, if◌then◌else◌, is_some, max, nat_le, nat_lt, List, [], ◌∷◌, ◌++◌, Option, None, Some, length, slice_index, slice_set}
 use Rattle.om_picture.specs.Drawing.{Edge, LaneState, Sketch, all_marks, held_in, lane_in, lane_marks, lane_of, new_lane, waiting_marks}
-use Rattle.om_picture.specs.Fates.{EventAt, EventRow, Fate, cuts, has_ended, highest, interval_behind, is_cut, is_loose, is_stored, next_place, process_of}
+use Rattle.om_picture.specs.Fates.{EventAt, EventRow, Fate, cuts, has_ended, highest, interval_behind, is_cut, is_loose, is_stored, next_place}
 use Rattle.om_picture.specs.Marks.{AreTheSame, EventMark, Kind, Saved, Taken, Worked, fated_marks, log_marks, marks_on, released_at, sure_marks, title_entry}
 use Rattle.om_picture.specs.Held.{covered_by, held_behind, is_any_elsewhere, left_by, left_behind, may_wait}
 use Rattle.om_picture.specs.Places.{is_shown}
-use Rattle.om_picture.specs.Shows.{shown}
+use Rattle.om_sheet.specs.Shows.{process_of, shown}
 use Rattle.om_picture.specs.declared.column.TheConstants.{WIDEST}
 use Rattle.om_picture.specs.declared.history.History.{History}
 use Rattle.om_picture.specs.declared.history.Mark.{Mark}
 use Rattle.om_picture.specs.declared.history.Next.{Next}
 use Rattle.om_picture.specs.declared.settle.FateNow.{FateNow}
-use Rattle.om_picture.specs.declared.shown.Shown.{Shown}
-use Rattle.om_picture.specs.declared.shown.Shown.TheVariants as shows
+use Rattle.om_sheet.specs.declared.shown.Shown.{Shown}
+use Rattle.om_sheet.specs.declared.shown.Shown.TheVariants as shows
 
 -- ---- a lane
 -- one mark more waits

@@ -1,7 +1,7 @@
 use Rattle.std.proofs.Common.{refl}
 use Rattle.om_picture.specs.Drawing.{sketch_of}
 use Rattle.om_picture.specs.Fates.{step_entry}
-use Rattle.om_picture.specs.declared.shown.Shown.TheVariants as shows
+use Rattle.om_sheet.specs.declared.shown.Shown.TheVariants as shows
 use Rattle.om_picture.proofs.LaneLemmas.{lane_there}
 use Rattle.om_picture.proofs.ShowLemmas.{sure_shown}
 use Rattle.om_picture.proofs.picture.Picture.draw_goes_on.Goals as goal

@@ -1,7 +1,7 @@
 use Rattle.std.proofs.Common.{sym, subst}
 use Rattle.om_picture.specs.Drawing.{sketch_of}
 use Rattle.om_picture.specs.Fates.{step_entry}
-use Rattle.om_picture.specs.declared.shown.Shown.{Shown}
+use Rattle.om_sheet.specs.declared.shown.Shown.{Shown}
 use Rattle.om_picture.specs.steps.Adding.{Shows}
 use Rattle.om_picture.proofs.LaneLemmas.{lane_there}
 use Rattle.om_picture.proofs.ShowLemmas.{nothing_shown}

@@ -1,7 +1,7 @@
 use Rattle.std.proofs.Common.{◌≤◌, ◌<◌, Bool, length, rules, subst, sym}
 use Rattle.om_picture.specs.Drawing.{sketch_of}
 use Rattle.om_picture.specs.Fates.{step_row}
-use Rattle.om_picture.specs.declared.sheet.Spot.{Spot}
+use Rattle.om_sheet.specs.declared.sheet.Spot.{Spot}
 use Rattle.om_picture.specs.steps.Adding.{Places}
 use Rattle.om_picture.proofs.PlaceLemmas.{placed_here, shows_here, shows_past}
 use Rattle.om_picture.proofs.picture.Picture.place_of_own.Goals as goal

@@ -1,7 +1,7 @@
 use Rattle.std.proofs.Common.{◌≡◌, ℕ, ap, is_some}
 use Rattle.om_picture.specs.Drawing.{sketch_of}
 use Rattle.om_picture.specs.Fates.{step_entry}
-use Rattle.om_picture.specs.declared.sheet.Spot.{Spot}
+use Rattle.om_sheet.specs.declared.sheet.Spot.{Spot}
 use Rattle.om_picture.specs.steps.Adding.{lane_number}
 use Rattle.om_picture.proofs.ShowLemmas.{freed_none, freed_shown, off_mark}
 use Rattle.om_picture.proofs.picture.Picture.release.Goals as goal

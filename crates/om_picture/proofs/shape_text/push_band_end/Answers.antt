@@ -1,6 +1,0 @@
-use Rattle.om_picture.specs.ShapeText.{band_end}
-use Rattle.om_picture.proofs.shape_text.push_band_end.Goals as goal
-
-pub returns : goal.returns
-unfolding band_end
-returns c = c.write.ensures.bytes

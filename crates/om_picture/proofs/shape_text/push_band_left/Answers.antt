@@ -1,6 +1,0 @@
-use Rattle.om_picture.specs.ShapeText.{band_left}
-use Rattle.om_picture.proofs.shape_text.push_band_left.Goals as goal
-
-pub returns : goal.returns
-unfolding band_left
-returns c = c.write.ensures.bytes

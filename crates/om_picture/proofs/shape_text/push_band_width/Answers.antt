@@ -1,6 +1,0 @@
-use Rattle.om_picture.specs.ShapeText.{band_width}
-use Rattle.om_picture.proofs.shape_text.push_band_width.Goals as goal
-
-pub returns : goal.returns
-unfolding band_width
-returns c = c.write.ensures.bytes

@@ -1,6 +1,0 @@
-use Rattle.om_picture.specs.ShapeText.{circle_end}
-use Rattle.om_picture.proofs.shape_text.push_circle_end.Goals as goal
-
-pub returns : goal.returns
-unfolding circle_end
-returns c = c.write.ensures.bytes

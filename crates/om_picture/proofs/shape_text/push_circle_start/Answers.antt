@@ -1,6 +1,0 @@
-use Rattle.om_picture.specs.ShapeText.{circle_start}
-use Rattle.om_picture.proofs.shape_text.push_circle_start.Goals as goal
-
-pub returns : goal.returns
-unfolding circle_start
-returns c = c.write.ensures.bytes

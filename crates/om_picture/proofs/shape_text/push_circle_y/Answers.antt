@@ -1,6 +1,0 @@
-use Rattle.om_picture.specs.ShapeText.{circle_y}
-use Rattle.om_picture.proofs.shape_text.push_circle_y.Goals as goal
-
-pub returns : goal.returns
-unfolding circle_y
-returns c = c.write.ensures.bytes

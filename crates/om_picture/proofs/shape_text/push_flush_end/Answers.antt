@@ -1,6 +1,0 @@
-use Rattle.om_picture.specs.ShapeText.{flush_end}
-use Rattle.om_picture.proofs.shape_text.push_flush_end.Goals as goal
-
-pub returns : goal.returns
-unfolding flush_end
-returns c = c.write.ensures.bytes

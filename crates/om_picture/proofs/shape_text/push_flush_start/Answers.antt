@@ -1,6 +1,0 @@
-use Rattle.om_picture.specs.ShapeText.{flush_start}
-use Rattle.om_picture.proofs.shape_text.push_flush_start.Goals as goal
-
-pub returns : goal.returns
-unfolding flush_start
-returns c = c.write.ensures.bytes

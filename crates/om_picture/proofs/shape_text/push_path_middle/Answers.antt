@@ -1,6 +1,0 @@
-use Rattle.om_picture.specs.ShapeText.{path_middle}
-use Rattle.om_picture.proofs.shape_text.push_path_middle.Goals as goal
-
-pub returns : goal.returns
-unfolding path_middle
-returns c = c.write.ensures.bytes

@@ -1,6 +1,0 @@
-use Rattle.om_picture.specs.ShapeText.{path_start}
-use Rattle.om_picture.proofs.shape_text.push_path_start.Goals as goal
-
-pub returns : goal.returns
-unfolding path_start
-returns c = c.write.ensures.bytes

@@ -1,6 +1,0 @@
-use Rattle.om_picture.specs.ShapeText.{square_class}
-use Rattle.om_picture.proofs.shape_text.push_square_class.Goals as goal
-
-pub returns : goal.returns
-unfolding square_class
-returns c = c.write.ensures.bytes

@@ -1,6 +1,0 @@
-use Rattle.om_picture.specs.ShapeText.{turning_end}
-use Rattle.om_picture.proofs.shape_text.push_turning_end.Goals as goal
-
-pub returns : goal.returns
-unfolding turning_end
-returns c = c.write.ensures.bytes

@@ -1,6 +1,0 @@
-use Rattle.om_picture.specs.ShapeText.{turning_start}
-use Rattle.om_picture.proofs.shape_text.push_turning_start.Goals as goal
-
-pub returns : goal.returns
-unfolding turning_start
-returns c = c.write.ensures.bytes

@@ -1,6 +1,0 @@
-use Rattle.om_picture.specs.PictureText.{failure_count}
-use Rattle.om_picture.proofs.text.push_failure_count.Goals as goal
-
-pub returns : goal.returns
-unfolding failure_count
-returns c = c.write.ensures.bytes

@@ -1,6 +1,0 @@
-use Rattle.om_picture.specs.PictureText.{ground_height}
-use Rattle.om_picture.proofs.text.push_ground_height.Goals as goal
-
-pub returns : goal.returns
-unfolding ground_height
-returns c = c.write.ensures.bytes

@@ -1,6 +1,0 @@
-use Rattle.om_picture.specs.PictureText.{ground_width}
-use Rattle.om_picture.proofs.text.push_ground_width.Goals as goal
-
-pub returns : goal.returns
-unfolding ground_width
-returns c = c.write.ensures.bytes

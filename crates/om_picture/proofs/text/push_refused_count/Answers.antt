@@ -1,6 +1,0 @@
-use Rattle.om_picture.specs.PictureText.{refused_count}
-use Rattle.om_picture.proofs.text.push_refused_count.Goals as goal
-
-pub returns : goal.returns
-unfolding refused_count
-returns c = c.write.ensures.bytes

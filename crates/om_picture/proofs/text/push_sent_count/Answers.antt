@@ -1,6 +1,0 @@
-use Rattle.om_picture.specs.PictureText.{sent_count}
-use Rattle.om_picture.proofs.text.push_sent_count.Goals as goal
-
-pub returns : goal.returns
-unfolding sent_count
-returns c = c.write.ensures.bytes

@@ -1,6 +1,0 @@
-use Rattle.om_picture.specs.PictureText.{shown_count}
-use Rattle.om_picture.proofs.text.push_shown_count.Goals as goal
-
-pub returns : goal.returns
-unfolding shown_count
-returns c = c.write.ensures.bytes

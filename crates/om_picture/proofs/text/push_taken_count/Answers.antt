@@ -1,6 +1,0 @@
-use Rattle.om_picture.specs.PictureText.{taken_count}
-use Rattle.om_picture.proofs.text.push_taken_count.Goals as goal
-
-pub returns : goal.returns
-unfolding taken_count
-returns c = c.write.ensures.bytes

@@ -1,0 +1,179 @@
+//! What an event shows, by its answer.
+
+ghost use Rattle.std.specs.Prelude.{◌≡◌};
+ghost use Rattle.om_sheet.specs.Shows.{checkpoint_shown, end_of, failure_shown, flush_shown, give_shown, is_finished, join_shown, refusal_shown, resend_shown, resume_shown, run_shown, shown};
+
+use crate::step::Step;
+use om_manager::Gathered;
+use om_process::{Accept, Status};
+use om_world::{Answer, Event, Refusal};
+
+/// What an event shows on the lane of its process.
+#[derive(Clone, Copy)]
+pub enum Shown {
+    Nothing,
+    /// The process sent messages, made outputs, or its program came to its end.
+    Run {
+        sent: usize,
+        made: usize,
+        ends: Option<Status>,
+    },
+    /// The messages that it keeps were sent again.
+    Resend {
+        sent: usize,
+    },
+    /// The frame was taken, and the interval began.
+    Receipt {
+        frame: usize,
+        interval: u32,
+    },
+    /// The frame was not taken.
+    Refused {
+        frame: usize,
+    },
+    /// What was received is stored.
+    Flush,
+    Checkpoint,
+    /// The process failed; declared, a gathering is open.
+    Failure {
+        declared: bool,
+    },
+    Join,
+    /// The process is back in this interval and incarnation.
+    Back {
+        interval: u32,
+        inc: u32,
+    },
+    GoesOn,
+}
+
+/// What a step shows. `ended`: it is known already that the program of its process came to its end.
+pub fn shown_of(step: &Step, ended: bool) -> Shown
+    ensures { result ≡ shown ended step.now.event step.now.answer }
+{
+    match step.event {
+        Event::Run { .. } => run_shown(step.answer, ended),
+        Event::Give { frame, .. } => give_shown(step.answer, frame),
+        Event::Flush { .. } => flush_shown(step.answer),
+        Event::Checkpoint { .. } => checkpoint_shown(step.answer),
+        Event::Resend { .. } => resend_shown(step.answer),
+        Event::Fail { .. } => failure_shown(step.answer),
+        Event::Join { .. } => join_shown(step.answer),
+        Event::Resume { .. } => resume_shown(step.answer),
+        Event::Trim { .. } | Event::Prune => Shown::Nothing,
+    }
+}
+
+fn run_shown(answer: Answer, ended: bool) -> Shown
+    ensures { result ≡ run_shown ended answer }
+{
+    let Answer::Ran {
+        status,
+        sent,
+        made,
+        ..
+    } = answer
+    else {
+        return Shown::Nothing;
+    };
+    let ends = if ended { None } else { end_of(status) };
+    if sent == 0 && made == 0 && ends.is_none() {
+        return Shown::Nothing;
+    }
+    Shown::Run { sent, made, ends }
+}
+
+// The status, where it is the end of a program.
+fn end_of(status: Status) -> Option<Status>
+    ensures { result ≡ end_of status }
+{
+    match status {
+        Status::Ended(_) | Status::Trapped(_) => Some(status),
+        Status::Ready | Status::Waiting => None,
+    }
+}
+
+fn give_shown(answer: Answer, frame: usize) -> Shown
+    ensures { result ≡ give_shown frame answer }
+{
+    match answer {
+        Answer::Given(Accept::Taken(interval)) => Shown::Receipt { frame, interval },
+        Answer::Refused(why) => refusal_shown(why, frame),
+        _ => Shown::Refused { frame },
+    }
+}
+
+fn refusal_shown(why: Refusal, frame: usize) -> Shown
+    ensures { result ≡ refusal_shown frame why }
+{
+    match why {
+        Refusal::NoFrame | Refusal::NoProcess => Shown::Nothing,
+        _ => Shown::Refused { frame },
+    }
+}
+
+fn flush_shown(answer: Answer) -> Shown
+    ensures { result ≡ flush_shown answer }
+{
+    match answer {
+        Answer::Noted(count) if count > 0 => Shown::Flush,
+        _ => Shown::Nothing,
+    }
+}
+
+fn checkpoint_shown(answer: Answer) -> Shown
+    ensures { result ≡ checkpoint_shown answer }
+{
+    match answer {
+        Answer::Noted(_) => Shown::Checkpoint,
+        _ => Shown::Nothing,
+    }
+}
+
+fn resend_shown(answer: Answer) -> Shown
+    ensures { result ≡ resend_shown answer }
+{
+    match answer {
+        Answer::Resent(sent) if sent > 0 => Shown::Resend { sent },
+        _ => Shown::Nothing,
+    }
+}
+
+fn failure_shown(answer: Answer) -> Shown
+    ensures { result ≡ failure_shown answer }
+{
+    match answer {
+        Answer::Gathered(_) => Shown::Failure { declared: true },
+        Answer::Down => Shown::Failure { declared: false },
+        _ => Shown::Nothing,
+    }
+}
+
+fn join_shown(answer: Answer) -> Shown
+    ensures { result ≡ join_shown answer }
+{
+    match answer {
+        Answer::Gathered(_) => Shown::Join,
+        _ => Shown::Nothing,
+    }
+}
+
+fn resume_shown(answer: Answer) -> Shown
+    ensures { result ≡ resume_shown answer }
+{
+    match answer {
+        Answer::Back { interval, inc } => Shown::Back { interval, inc },
+        Answer::GoesOn => Shown::GoesOn,
+        _ => Shown::Nothing,
+    }
+}
+
+/// Whether a round is finished with this answer.
+pub fn is_finished(answer: Answer) -> bool
+    ensures { result ≡ is_finished answer }
+{
+    match answer {
+        Answer::Gathered(Gathered::Finished) => true,
+        _ => false,
+    }
+}

@@ -1,0 +1,6 @@
+use Rattle.om_svg.specs.ShapeText.{band_end}
+use Rattle.om_svg.proofs.shape_text.push_band_end.Goals as goal
+
+pub returns : goal.returns
+unfolding band_end
+returns c = c.write.ensures.bytes

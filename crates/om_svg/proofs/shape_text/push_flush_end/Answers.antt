@@ -1,0 +1,6 @@
+use Rattle.om_svg.specs.ShapeText.{flush_end}
+use Rattle.om_svg.proofs.shape_text.push_flush_end.Goals as goal
+
+pub returns : goal.returns
+unfolding flush_end
+returns c = c.write.ensures.bytes

@@ -1,0 +1,6 @@
+use Rattle.om_svg.specs.ShapeText.{flush_start}
+use Rattle.om_svg.proofs.shape_text.push_flush_start.Goals as goal
+
+pub returns : goal.returns
+unfolding flush_start
+returns c = c.write.ensures.bytes

@@ -1,0 +1,6 @@
+use Rattle.om_svg.specs.ShapeText.{square_end}
+use Rattle.om_svg.proofs.shape_text.push_square_end.Goals as goal
+
+pub returns : goal.returns
+unfolding square_end
+returns c = c.write.ensures.bytes

@@ -1,0 +1,6 @@
+use Rattle.om_svg.specs.ShapeText.{square_x}
+use Rattle.om_svg.proofs.shape_text.push_square_x.Goals as goal
+
+pub returns : goal.returns
+unfolding square_x
+returns c = c.write.ensures.bytes

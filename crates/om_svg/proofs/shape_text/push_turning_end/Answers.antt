@@ -1,0 +1,6 @@
+use Rattle.om_svg.specs.ShapeText.{turning_end}
+use Rattle.om_svg.proofs.shape_text.push_turning_end.Goals as goal
+
+pub returns : goal.returns
+unfolding turning_end
+returns c = c.write.ensures.bytes

@@ -1,0 +1,6 @@
+use Rattle.om_svg.specs.PictureText.{failure_count}
+use Rattle.om_svg.proofs.text.push_failure_count.Goals as goal
+
+pub returns : goal.returns
+unfolding failure_count
+returns c = c.write.ensures.bytes

@@ -1,0 +1,6 @@
+use Rattle.om_svg.specs.PictureText.{moved_text}
+use Rattle.om_svg.proofs.text.push_moved.Goals as goal
+
+pub returns : goal.returns
+unfolding moved_text
+returns c = c.write.ensures.bytes

@@ -1,0 +1,6 @@
+use Rattle.om_svg.specs.PictureText.{resent_count}
+use Rattle.om_svg.proofs.text.push_resent_count.Goals as goal
+
+pub returns : goal.returns
+unfolding resent_count
+returns c = c.write.ensures.bytes

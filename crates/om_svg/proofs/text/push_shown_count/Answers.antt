@@ -1,0 +1,6 @@
+use Rattle.om_svg.specs.PictureText.{shown_count}
+use Rattle.om_svg.proofs.text.push_shown_count.Goals as goal
+
+pub returns : goal.returns
+unfolding shown_count
+returns c = c.write.ensures.bytes

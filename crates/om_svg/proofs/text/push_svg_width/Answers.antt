@@ -1,0 +1,6 @@
+use Rattle.om_svg.specs.PictureText.{svg_width}
+use Rattle.om_svg.proofs.text.push_svg_width.Goals as goal
+
+pub returns : goal.returns
+unfolding svg_width
+returns c = c.write.ensures.bytes

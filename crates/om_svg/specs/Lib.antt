@@ -1,0 +1,5 @@
+pub mod AnswerText
+pub mod PictureText
+pub mod Plain
+pub mod ShapeText
+pub mod WordText

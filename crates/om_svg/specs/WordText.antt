@@ -1,0 +1,63 @@
+-- The words of a picture.
+use Rattle.std.specs.Prelude.{ℕ, ◌==◌, ◌-◌, nat_le, if◌then◌else◌, List, [], ◌∷◌, ◌++◌, Option, None, Some, slice_get, take, codes, decimal}
+use Rattle.std.specs.Option.{option_map}
+use Rattle.hex.specs.Hex.{encode_lower}
+use Rattle.om_scripts.specs.Programs.{Cluster, program_name}
+use Rattle.om_svg.specs.AnswerText.{recovery_text, status_text, why_word}
+use Rattle.om_sheet.specs.declared.sheet.Style.{Style}
+use Rattle.om_sheet.specs.declared.sheet.Style.TheVariants as styles
+use Rattle.om_sheet.specs.declared.sheet.What.{What}
+use Rattle.om_sheet.specs.declared.sheet.What.TheVariants as whats
+use Rattle.om_sheet.specs.declared.sheet.Word.{Word}
+use Rattle.om_sheet.specs.declared.step.Label.{Label}
+use Rattle.om_sheet.specs.declared.step.Standing.{Standing}
+use Rattle.om_sheet.specs.declared.step.TheConstants.{LABEL_BYTES}
+
+-- a name, if there is one
+abbrev pub name_text : Option (List ℕ) → List ℕ
+name_text None = []
+name_text (Some name) = name
+
+-- the first bytes of an output in hexadecimal, and a mark where it has none
+abbrev pub bytes_text : Label → List ℕ
+bytes_text label =
+    if label.size == 0 then codes "-"
+    else (if nat_le label.size LABEL_BYTES then encode_lower (take label.size label.bytes)
+    else encode_lower (take (LABEL_BYTES - 1) label.bytes) ++ codes "..")
+
+-- the label of an output, and how many more there are
+abbrev pub label_text : Label → ℕ → List ℕ
+label_text label more = bytes_text label ++ (if more == 0 then [] else codes "+" ++ decimal more)
+
+-- where a process stands
+abbrev pub standing_text : Option Standing → List ℕ
+standing_text None = codes "down"
+standing_text (Some now) =
+    codes "inc " ++ decimal now.inc ++ codes " interval " ++ decimal now.interval ++ 32 ∷ status_text now.status
+
+abbrev pub what_text : Cluster → What → List ℕ
+what_text cluster (whats.Number number) = decimal number
+what_text cluster (whats.Inc inc) = codes "inc " ++ decimal inc
+what_text cluster (whats.Round round) = codes "round " ++ decimal round
+what_text cluster whats.Gathering = codes "gathering"
+what_text cluster (whats.Recovery state) = recovery_text state
+what_text cluster (whats.Place place) = codes "recovery " ++ decimal place
+what_text cluster (whats.Output label more) = label_text label more
+what_text cluster (whats.End status) = status_text status
+what_text cluster (whats.Why answer) = why_word answer
+what_text cluster (whats.Standing standing) = standing_text standing
+what_text cluster (whats.Name p) = name_text (option_map (λ e. e.0) (slice_get cluster.processes p))
+what_text cluster (whats.Program p) = name_text (option_map (λ e. program_name cluster e.1) (slice_get cluster.processes p))
+what_text cluster whats.Line = codes "line"
+
+abbrev pub style_text : Style → List ℕ
+style_text styles.Plain = []
+style_text styles.Small = codes " class=\"s\""
+style_text styles.Grey = codes " class=\"y\""
+style_text styles.Middle = codes " class=\"p\""
+
+-- a word, at its place
+abbrev pub word_text : Cluster → Word → List ℕ
+word_text cluster word =
+    codes "<text" ++ style_text word.style ++ codes " x=\"" ++ decimal word.x ++ codes "\" y=\"" ++ decimal word.y ++ codes "\">"
+    ++ what_text cluster word.what ++ codes "</text>\n"

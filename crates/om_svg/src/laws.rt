@@ -1,0 +1,31 @@
+//! What holds of texts: each function stands for a theorem over the definitions alone.
+
+ghost use Rattle.std.specs.Prelude.{◌≡◌, ℕ, List, true};
+ghost use Rattle.om_scripts.specs.Named.{is_name};
+ghost use Rattle.om_scripts.specs.Programs.{Cluster};
+ghost use Rattle.om_sheet.specs.declared.sheet.Title.{Title};
+ghost use Rattle.om_sheet.specs.declared.sheet.What.{What};
+ghost use Rattle.om_svg.specs.AnswerText.{recovery_text};
+ghost use Rattle.om_svg.specs.Plain.{HasPlainNames, is_plain_text};
+ghost use Rattle.om_svg.specs.ShapeText.{told_text};
+ghost use Rattle.om_svg.specs.WordText.{what_text};
+
+/// What is told of a mark needs no escape.
+pub fn titles_are_plain()
+    ensures { (title : Title) → is_plain_text (told_text title) ≡ true }
+{}
+
+/// Nor does a recovery state.
+pub fn states_are_plain()
+    ensures { (state : List ℕ) → is_plain_text (recovery_text state) ≡ true }
+{}
+
+/// Nor do words, if the names of processes and programs need none.
+pub fn words_are_plain()
+    ensures { (cluster : Cluster) → HasPlainNames cluster → (what : What) → is_plain_text (what_text cluster what) ≡ true }
+{}
+
+/// Names that a script may give need none.
+pub fn names_are_plain()
+    ensures { (name : List ℕ) → is_name name ≡ true → is_plain_text name ≡ true }
+{}
