@@ -1,8 +1,8 @@
 //! A cluster run by threads: a worker for each process, over the board, the frontier and the inboxes that they share.
 //!
-//! A turn of a worker reads the frontier, and takes the lock only where there is something to tell or to learn; a worker that
-//! has nothing to do sleeps. The kit's threads, locks and channels are trusted, and the stores as far as they say that they are
-//! clean.
+//! A turn of a worker takes the lock only where there is something to tell or to learn, and one that waits for a round reads
+//! the frontier without it; a worker that has nothing to do sleeps. The kit's threads, locks and channels are trusted, and the
+//! stores as far as they say that they are clean.
 //!
 //! In an order of reading:
 //!
