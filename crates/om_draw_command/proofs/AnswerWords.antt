@@ -50,7 +50,7 @@ same_gathered Finished = refl
 pub same_answer : (answer : Answer) → told_answer answer ≡ answer_text answer
 same_answer (answers.Ran steps status sent made) =
     ap (λ text. codes "ran " ++ decimal steps ++ 32 ∷ text ++ codes " sent " ++ decimal sent ++ codes " made " ++ decimal made)
-        (same_status status)
+    (same_status status)
 same_answer (answers.Given accept) = same_accept accept
 same_answer (answers.Noted count) = refl
 same_answer (answers.Resent count) = refl

@@ -1,7 +1,6 @@
-//! What is printed, and the form of each.
+//! What is printed, the form of each, and where it is told.
 
-use om_commands::frontier::frontier;
-use om_commands::sim::sim;
+use om_arguments::{HELP, IMAGE_HELP, REPLAY_HELP, RUN_HELP, SIM_HELP};
 use om_commands::{CommandError, push_status};
 use om_machine::Cause;
 use om_manager::Gathered;
@@ -10,240 +9,229 @@ use om_svg::push_answer;
 use om_text::LineError;
 use om_world::{Answer, Refusal};
 use std::alloc::{AllocError, Global};
-use std::fmt::Display;
 
-/// A text as it is printed, and its form.
-#[derive(Drop)]
-pub struct Row {
-    pub printed: String,
-    pub form: &'static str,
+/// What may be printed.
+#[derive(Clone, Copy)]
+pub enum Word {
+    Fault(CommandError),
+    Line(LineError),
+    Status(Status),
+    /// As the titles of pictures tell it: a law of the command `draw` says that `sim` writes the same.
+    Answer(Answer),
 }
 
-static LINES: [(LineError, &str); 11] = [
-    (LineError::UnknownLine, "unknown line"),
-    (LineError::WrongCount, "wrong count of words"),
-    (LineError::BadNumber, "bad number"),
-    (LineError::BadWord, "bad word"),
-    (LineError::BadName, "bad name"),
-    (LineError::NameTaken, "name taken"),
-    (LineError::NoSuchName, "no such name"),
-    (LineError::OutOfPlace, "out of place"),
-    (LineError::TooMany, "too many"),
-    (LineError::BadSize, "bad size"),
-    (LineError::ImageTooLong, "image too long"),
+/// A word and its form.
+pub type Row = (Word, &'static str);
+
+/// Words with their forms, and the sections that tell of them.
+#[derive(Clone, Copy)]
+pub struct Group {
+    pub name: &'static str,
+    /// The line of the formats that begins the section; another heading ends it.
+    pub heading: &'static str,
+    /// Empty, where no help is to tell of them.
+    pub help: &'static str,
+    /// The line of the help that begins the section begins so.
+    pub first: &'static str,
+    /// And the line behind it, if there is one.
+    pub next: &'static str,
+    pub rows: &'static [Row],
+}
+
+static LINE_FAULTS: [Row; 11] = [
+    (Word::Line(LineError::UnknownLine), "unknown line"),
+    (Word::Line(LineError::WrongCount), "wrong count of words"),
+    (Word::Line(LineError::BadNumber), "bad number"),
+    (Word::Line(LineError::BadWord), "bad word"),
+    (Word::Line(LineError::BadName), "bad name"),
+    (Word::Line(LineError::NameTaken), "name taken"),
+    (Word::Line(LineError::NoSuchName), "no such name"),
+    (Word::Line(LineError::OutOfPlace), "out of place"),
+    (Word::Line(LineError::TooMany), "too many"),
+    (Word::Line(LineError::BadSize), "bad size"),
+    (Word::Line(LineError::ImageTooLong), "image too long"),
 ];
 
-static IMAGES: [(LineError, &str); 4] = [
-    (LineError::BadNumber, "bad number"),
-    (LineError::BadName, "bad name"),
-    (LineError::BadSize, "bad size"),
-    (LineError::ImageTooLong, "image too long"),
+static FAULTS: [Row; 4] = [
+    (Word::Fault(CommandError::TooLong), "too long"),
+    (Word::Fault(CommandError::CannotRead), "cannot read"),
+    (Word::Fault(CommandError::CannotWrite), "cannot write"),
+    (Word::Fault(CommandError::NoMemory), "no memory"),
 ];
 
-static COMMANDS: [(CommandError, &str); 4] = [
-    (CommandError::TooLong, "too long"),
-    (CommandError::CannotRead, "cannot read"),
-    (CommandError::CannotWrite, "cannot write"),
-    (CommandError::NoMemory, "no memory"),
+static IMAGE_FAULTS: [Row; 4] = [
+    (Word::Line(LineError::BadNumber), "bad number"),
+    (Word::Line(LineError::BadName), "bad name"),
+    (Word::Line(LineError::BadSize), "bad size"),
+    (Word::Line(LineError::ImageTooLong), "image too long"),
 ];
 
-static RUNS: [(CommandError, &str); 6] = [
-    (CommandError::EmptyScript, "empty script"),
-    (CommandError::OutOfTurns, "out of turns"),
-    (CommandError::StoreFault, "store fault"),
-    (CommandError::NoThread, "no thread"),
-    (CommandError::Unlike, "unlike its check"),
-    (CommandError::CannotWrite, "cannot write"),
+static RUN_FAULTS: [Row; 6] = [
+    (Word::Fault(CommandError::EmptyScript), "empty script"),
+    (Word::Fault(CommandError::OutOfTurns), "out of turns"),
+    (Word::Fault(CommandError::StoreFault), "store fault"),
+    (Word::Fault(CommandError::NoThread), "no thread"),
+    (Word::Fault(CommandError::Unlike), "unlike its check"),
+    (Word::Fault(CommandError::CannotWrite), "cannot write"),
 ];
 
-static REPLAYS: [(CommandError, &str); 5] = [
-    (CommandError::NoCheckpoint, "no checkpoint"),
-    (CommandError::Damaged(7), "damaged Y"),
-    (CommandError::MissingReceipt(8), "missing receipt Y"),
-    (CommandError::Mismatch(9), "mismatch Y"),
-    (CommandError::StoreFault, "store fault"),
-];
-
-static STATUSES: [(Status, &str); 4] = [
-    (Status::Ready, "ready"),
-    (Status::Waiting, "waiting"),
-    (Status::Ended(7), "ended CODE"),
-    (Status::Trapped(Cause::Break), "trapped CAUSE"),
-];
-
-static ANSWERS: [(Answer, &str); 28] = [
+static REPLAY_FAULTS: [Row; 5] = [
+    (Word::Fault(CommandError::NoCheckpoint), "no checkpoint"),
+    (Word::Fault(CommandError::Damaged(7)), "damaged Y"),
     (
-        Answer::Ran {
+        Word::Fault(CommandError::MissingReceipt(8)),
+        "missing receipt Y",
+    ),
+    (Word::Fault(CommandError::Mismatch(9)), "mismatch Y"),
+    (Word::Fault(CommandError::StoreFault), "store fault"),
+];
+
+static STATUSES: [Row; 4] = [
+    (Word::Status(Status::Ready), "ready"),
+    (Word::Status(Status::Waiting), "waiting"),
+    (Word::Status(Status::Ended(7)), "ended CODE"),
+    (Word::Status(Status::Trapped(Cause::Break)), "trapped CAUSE"),
+];
+
+static ANSWERS: [Row; 28] = [
+    (
+        Word::Answer(Answer::Ran {
             steps: 4,
             status: Status::Ready,
             sent: 1,
             made: 2,
-        },
+        }),
         "ran STEPS STATUS sent M made K",
     ),
-    (Answer::Given(Accept::Taken(1)), "taken X"),
-    (Answer::Given(Accept::Stranger), "stranger"),
-    (Answer::Given(Accept::Orphan), "orphan"),
-    (Answer::Given(Accept::Repeat), "repeat"),
-    (Answer::Given(Accept::Ahead), "ahead"),
-    (Answer::Given(Accept::NotWaiting), "not-waiting"),
-    (Answer::Given(Accept::Full), "full"),
-    (Answer::Given(Accept::Memory), "memory"),
-    (Answer::Noted(3), "noted K"),
-    (Answer::Resent(2), "sent M"),
-    (Answer::Trimmed, "trimmed"),
-    (Answer::Pruned, "pruned"),
-    (Answer::Gathered(Gathered::Waiting), "waiting"),
-    (Answer::Gathered(Gathered::Finished), "finished"),
-    (Answer::Down, "down"),
+    (Word::Answer(Answer::Given(Accept::Taken(1))), "taken X"),
+    (Word::Answer(Answer::Given(Accept::Stranger)), "stranger"),
+    (Word::Answer(Answer::Given(Accept::Orphan)), "orphan"),
+    (Word::Answer(Answer::Given(Accept::Repeat)), "repeat"),
+    (Word::Answer(Answer::Given(Accept::Ahead)), "ahead"),
     (
-        Answer::Back {
+        Word::Answer(Answer::Given(Accept::NotWaiting)),
+        "not-waiting",
+    ),
+    (Word::Answer(Answer::Given(Accept::Full)), "full"),
+    (Word::Answer(Answer::Given(Accept::Memory)), "memory"),
+    (Word::Answer(Answer::Noted(3)), "noted K"),
+    (Word::Answer(Answer::Resent(2)), "sent M"),
+    (Word::Answer(Answer::Trimmed), "trimmed"),
+    (Word::Answer(Answer::Pruned), "pruned"),
+    (Word::Answer(Answer::Gathered(Gathered::Waiting)), "waiting"),
+    (
+        Word::Answer(Answer::Gathered(Gathered::Finished)),
+        "finished",
+    ),
+    (Word::Answer(Answer::Down), "down"),
+    (
+        Word::Answer(Answer::Back {
             interval: 5,
             inc: 1,
-        },
+        }),
         "back X inc I",
     ),
-    (Answer::GoesOn, "goes-on"),
-    (Answer::Refused(Refusal::NoProcess), "no-process"),
-    (Answer::Refused(Refusal::NotUp), "not-up"),
-    (Answer::Refused(Refusal::NoFrame), "no-frame"),
-    (Answer::Refused(Refusal::NotIn), "not-in"),
-    (Answer::Refused(Refusal::NoRound), "no-round"),
-    (Answer::Refused(Refusal::Spent), "spent"),
-    (Answer::Refused(Refusal::Present), "present"),
-    (Answer::Refused(Refusal::Fault), "fault"),
-    (Answer::Refused(Refusal::Damaged), "damaged"),
-    (Answer::Refused(Refusal::Memory), "memory"),
+    (Word::Answer(Answer::GoesOn), "goes-on"),
+    (
+        Word::Answer(Answer::Refused(Refusal::NoProcess)),
+        "no-process",
+    ),
+    (Word::Answer(Answer::Refused(Refusal::NotUp)), "not-up"),
+    (Word::Answer(Answer::Refused(Refusal::NoFrame)), "no-frame"),
+    (Word::Answer(Answer::Refused(Refusal::NotIn)), "not-in"),
+    (Word::Answer(Answer::Refused(Refusal::NoRound)), "no-round"),
+    (Word::Answer(Answer::Refused(Refusal::Spent)), "spent"),
+    (Word::Answer(Answer::Refused(Refusal::Present)), "present"),
+    (Word::Answer(Answer::Refused(Refusal::Fault)), "fault"),
+    (Word::Answer(Answer::Refused(Refusal::Damaged)), "damaged"),
+    (Word::Answer(Answer::Refused(Refusal::Memory)), "memory"),
 ];
 
-// Each note is answered otherwise: 1 of 0 depends on 1 of 1, which comes next.
-const NOTES: &str = "\
-procs 2
-log 0 1 1 1
-log 1 1 0 1
-log 1 1 0 1
-log 2 1 0 1
-log 0 2 1 1
-log 1 1 1 1
-log 0 2 2 0
-";
-
-static NOTE_FORMS: [&str; 7] = [
-    "noted",
-    "raised",
-    "known",
-    "stranger",
-    "bad-vector",
-    "differs",
-    "disorder Y",
-];
-
-// The process a puts out what c sends it, and stores that; c fails.
-const EVENTS: &str = "\
-program pc 64 00100893 00100513 00400613 00000073 00000893 00000073
-program pa 128 00200893 04000513 00400593 00000073 00300893 00050593 04000513 00000073 00000893 00000073
-proc c pc
-proc a pa
-run 0 4
-run 1 4
-give 1 0
-run 1 4
-flush 1
-fail 0
-";
-
-// The lines behind the recovery state.
-static END_FORMS: [&str; 3] = [
-    "proc NAME down",
-    "proc NAME inc I interval X STATUS",
-    "out NAME NUMBER HEX",
-];
-
-pub fn line_faults(alloc: Global) -> Result<Vec<Row>, AllocError> {
-    rows_of(alloc, &LINES)
-}
-
-pub fn image_faults(alloc: Global) -> Result<Vec<Row>, AllocError> {
-    rows_of(alloc, &IMAGES)
-}
-
-pub fn command_faults(alloc: Global) -> Result<Vec<Row>, AllocError> {
-    rows_of(alloc, &COMMANDS)
-}
-
-pub fn run_faults(alloc: Global) -> Result<Vec<Row>, AllocError> {
-    rows_of(alloc, &RUNS)
-}
-
-pub fn replay_faults(alloc: Global) -> Result<Vec<Row>, AllocError> {
-    rows_of(alloc, &REPLAYS)
-}
-
-fn rows_of<F: Display>(
-    alloc: Global,
-    faults: &[(F, &'static str)],
-) -> Result<Vec<Row>, AllocError> {
-    let mut rows = Vec::new(alloc);
-    for (fault, form) in faults {
-        let printed = format!(in alloc; "{fault}")?;
-        rows.push(Row { printed, form })?;
+pub fn line_faults() -> Group {
+    Group {
+        name: "line faults",
+        heading: "## Texts in",
+        help: "",
+        first: "",
+        next: "",
+        rows: &LINE_FAULTS,
     }
-    Ok(rows)
 }
 
-pub fn statuses(alloc: Global) -> Result<Vec<Row>, AllocError> {
-    let mut rows = Vec::new(alloc);
-    for (status, form) in &STATUSES {
-        let mut printed = String::new(alloc);
-        push_status(&mut printed, *status)?;
-        rows.push(Row { printed, form })?;
+pub fn faults() -> Group {
+    Group {
+        name: "faults",
+        heading: "## Texts in",
+        help: HELP,
+        first: "Beside what its own help says",
+        next: "Status:",
+        rows: &FAULTS,
     }
-    Ok(rows)
 }
 
-/// The answers to events, as the titles of pictures tell them: a law of the command `draw` says that `sim` writes the same.
-pub fn answers(alloc: Global) -> Result<Vec<Row>, AllocError> {
-    let mut rows = Vec::new(alloc);
-    for (answer, form) in &ANSWERS {
-        let mut printed = String::new(alloc);
-        push_answer(&mut printed, *answer)?;
-        rows.push(Row { printed, form })?;
+pub fn image_faults() -> Group {
+    Group {
+        name: "faults of image",
+        heading: "## `omlog image`",
+        help: IMAGE_HELP,
+        first: "A line that a script would refuse",
+        next: "Example",
+        rows: &IMAGE_FAULTS,
     }
-    Ok(rows)
 }
 
-/// The answers to notes.
-pub fn notes(alloc: Global) -> Result<Vec<Row>, AllocError> {
-    let mut written = Vec::new(alloc);
-    let _ = frontier(alloc, &mut NOTES.as_bytes(), &mut written);
-    let text = String::from_utf8(written).unwrap_or(String::new(alloc));
-    rows_behind(alloc, &text, 0, &NOTE_FORMS)
-}
-
-/// How a process stands in the end, and an output.
-pub fn ends(alloc: Global) -> Result<Vec<Row>, AllocError> {
-    let mut written = Vec::new(alloc);
-    let _ = sim(alloc, &mut EVENTS.as_bytes(), &mut written);
-    let text = String::from_utf8(written).unwrap_or(String::new(alloc));
-    rows_behind(alloc, &text, 7, &END_FORMS)
-}
-
-// The lines of a text behind the first ones, each up to a colon, and their forms.
-fn rows_behind(
-    alloc: Global,
-    text: &str,
-    first: usize,
-    forms: &[&'static str],
-) -> Result<Vec<Row>, AllocError> {
-    let mut rows = Vec::new(alloc);
-    let mut lines = text.lines().skip(first);
-    for form in forms {
-        let line = lines.next().unwrap_or("");
-        let (said, _) = line.split_once(':').unwrap_or((line, ""));
-        rows.push(Row {
-            printed: said.to_string(alloc)?,
-            form,
-        })?;
+pub fn run_faults() -> Group {
+    Group {
+        name: "faults of run",
+        heading: "## `omlog run`",
+        help: RUN_HELP,
+        first: "Answers:",
+        next: "A faulty file",
+        rows: &RUN_FAULTS,
     }
-    Ok(rows)
+}
+
+pub fn replay_faults() -> Group {
+    Group {
+        name: "faults of replay",
+        heading: "## `omlog replay`",
+        help: REPLAY_HELP,
+        first: "Writes the state",
+        next: "Example",
+        rows: &REPLAY_FAULTS,
+    }
+}
+
+pub fn statuses() -> Group {
+    Group {
+        name: "statuses",
+        heading: "## `omlog replay`",
+        help: REPLAY_HELP,
+        first: "Writes the state",
+        next: "Example",
+        rows: &STATUSES,
+    }
+}
+
+pub fn answers() -> Group {
+    Group {
+        name: "answers of sim",
+        heading: "## `omlog sim`",
+        help: SIM_HELP,
+        first: "Answers:",
+        next: "A faulty script",
+        rows: &ANSWERS,
+    }
+}
+
+/// A word as it is printed.
+pub fn printed(alloc: Global, word: Word) -> Result<String, AllocError> {
+    let mut text = String::new(alloc);
+    match word {
+        Word::Fault(fault) => return format!(in alloc; "{fault}"),
+        Word::Line(fault) => return format!(in alloc; "{fault}"),
+        Word::Status(status) => push_status(&mut text, status)?,
+        Word::Answer(answer) => push_answer(&mut text, answer)?,
+    }
+    Ok(text)
 }
