@@ -21,7 +21,7 @@ returns-then-released-made-clause-none g c =
     let p = c.args.self.now.pid in
     let many = ap length c.released.ensures.outputs in
     let mapped = length-map c.released.result.now held_of in
-    let others : HasReleasedAnother c.manager-manager.result.now p c.args.made = λ e. c.if-released-made.true (omega (arith, c.len.ensures)) in (
+    let others : HasReleasedAnother c.manager-manager.result.now p c.args.made = λ e. c.if-released-made.true (omega arith) in (
       _,
       _,
       c.manager-manager.ensures.sound,
