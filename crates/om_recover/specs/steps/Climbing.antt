@@ -19,7 +19,7 @@ abbrev pub without_newest : List Attempt → List Attempt
 without_newest [] = []
 without_newest (newest ∷ older) = older
 
--- the looks of an attempt so far: each is at most what its process's look came to
+-- the looks of an attempt so far: each is at most the interval of its process that was read last
 pub record HasLooked (rows : Rows) (state : List ℕ) (p x : ℕ) (looked : List ℕ) (looks : List (ℕ × ℕ)) : Type 0 where
   pub lawful : AreLooks rows state p x looks
   pub seen : All (λ look. look.1 ≤ slice_index looked look.0) looks
