@@ -208,7 +208,13 @@ pub fn push_outputs(
     ensures { OnOk result (string_bytes text.new ≡ string_bytes text.old ++ outputs_text name.now (map held_of outputs.now)) }
 {
     for number in 0..outputs.len() {
-        push_output(alloc, text, name, number as u64, outputs[number].bytes.as_slice())?;
+        push_output(
+            alloc,
+            text,
+            name,
+            number as u64,
+            outputs[number].bytes.as_slice(),
+        )?;
     }
     Ok(())
 }
