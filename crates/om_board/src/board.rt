@@ -2,6 +2,7 @@ ghost use Rattle.std.specs.Prelude.{◌≡◌, ◌≢◌, ◌≤◌, ◌<◌, �
 ghost use mathlib.Core.List.{IsPrefix};
 ghost use Rattle.om_interval.specs.Vectors.{IsBelow};
 ghost use Rattle.om_interval.specs.declared.pid.TheConstants.{MAX_PROCESSES};
+ghost use Rattle.om_recover.specs.Records.{log_of, checkpoint_of};
 ghost use Rattle.om_recover.specs.Cutting.{IsPruned};
 ghost use Rattle.om_manager.specs.State.{process_count};
 ghost use Rattle.om_manager.specs.Sound.{KeepsReleased};
@@ -15,9 +16,9 @@ ghost use Rattle.om_board.specs.declared.waiting.Waiting.TheVariants.{Owes, Offe
 use crate::front::Front;
 use crate::frontier::{Frontier, Naming, Pass, Writer};
 use crate::waiting::{Waiting, all_wait, are_matched};
-use om_interval::{MAX_PROCESSES, Pid};
+use om_interval::{DepVec, MAX_PROCESSES, Pid};
 use om_manager::{FailError, Gathered, JoinError, Manager, OutputError, OutputNote, RecordError};
-use om_recover::{Note, Row};
+use om_recover::{Note, Row, RowKind};
 use std::alloc::Global;
 use std::marker::Model;
 use std::sync::Wait;
@@ -86,6 +87,68 @@ impl<K: Naming> Board<K> {
         ensures same { self.new ≡ self.old }
     {
         self.writer.pass(frontier)
+    }
+
+    /// [`Manager::note_logged`](om_manager::Manager::note_logged), with the front that comes of it posted.
+    pub fn note_logged<R: Wait>(
+        &mut self,
+        rt: &R,
+        alloc: Global,
+        pid: Pid,
+        round: u32,
+        x: u32,
+        vec: &DepVec,
+        got: &DepVec,
+        frontier: &Frontier<K>,
+    ) -> Result<Note, RecordError>
+        ensures answer { Notes self.old.manager round (log_of pid x vec.now got.now) result self.new.manager }
+        ensures posted { Follows self.old.posted (front_of self.new.manager) self.new.posted }
+        ensures sound { IsBoard K.cell.n self.new }
+        ensures not_lowered { IsBelow self.old.manager.recovery self.new.manager.recovery }
+        ensures released { KeepsReleased self.old.manager self.new.manager }
+        ensures quiet { self.new.quiet ≡ self.old.quiet }
+        ensures waiting { self.new.waiting ≡ self.old.waiting }
+        ensures refused { OnErr result (self.new ≡ self.old) }
+    {
+        let row = Row {
+            kind: RowKind::Log,
+            pid,
+            interval: x,
+            vec: *vec,
+            got: *got,
+        };
+        self.note(rt, alloc, round, row, frontier)
+    }
+
+    /// [`Manager::note_checkpoint`](om_manager::Manager::note_checkpoint), with the front that comes of it posted.
+    pub fn note_checkpoint<R: Wait>(
+        &mut self,
+        rt: &R,
+        alloc: Global,
+        pid: Pid,
+        round: u32,
+        x: u32,
+        vec: &DepVec,
+        got: &DepVec,
+        frontier: &Frontier<K>,
+    ) -> Result<Note, RecordError>
+        ensures answer { Notes self.old.manager round (checkpoint_of pid x vec.now got.now) result self.new.manager }
+        ensures posted { Follows self.old.posted (front_of self.new.manager) self.new.posted }
+        ensures sound { IsBoard K.cell.n self.new }
+        ensures not_lowered { IsBelow self.old.manager.recovery self.new.manager.recovery }
+        ensures released { KeepsReleased self.old.manager self.new.manager }
+        ensures quiet { self.new.quiet ≡ self.old.quiet }
+        ensures waiting { self.new.waiting ≡ self.old.waiting }
+        ensures refused { OnErr result (self.new ≡ self.old) }
+    {
+        let row = Row {
+            kind: RowKind::Checkpoint,
+            pid,
+            interval: x,
+            vec: *vec,
+            got: *got,
+        };
+        self.note(rt, alloc, round, row, frontier)
     }
 
     /// [`Manager::note`](om_manager::Manager::note), with the front that comes of it posted.

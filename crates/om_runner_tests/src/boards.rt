@@ -3,7 +3,7 @@ ghost use Rattle.std.specs.Prelude.{◌≡◌};
 use crate::rows::{front, last, process, vector};
 use om_interval::DepVec;
 use om_manager::{Gathered, JoinError, OutputNote, RecordError};
-use om_recover::{Note, Row, RowKind};
+use om_recover::Note;
 use om_runner::{Blank, Board, Frontier, Naming, Pass, Shared};
 use std::alloc::Global;
 use std::marker::Brand;
@@ -32,14 +32,8 @@ fn assert_logged<K: Naming, R: Wait + Abort>(
     round: u32,
     wanted: Result<Note, RecordError>,
 ) {
-    let row = Row {
-        kind: RowKind::Log,
-        pid: process(rt, 0),
-        interval: 1,
-        vec: vector(rt, &[1, 1]),
-        got: vector(rt, &[0, 1]),
-    };
-    let told = board.note(rt, alloc, round, row, frontier);
+    let (vec, got) = (vector(rt, &[1, 1]), vector(rt, &[0, 1]));
+    let told = board.note_logged(rt, alloc, process(rt, 0), round, 1, &vec, &got, frontier);
     assert!(rt; told == wanted);
 }
 
@@ -63,14 +57,8 @@ fn assert_stored<K: Naming, R: Wait + Abort>(
     board: &mut Board<K>,
     frontier: &Frontier<K>,
 ) {
-    let row = Row {
-        kind: RowKind::Checkpoint,
-        pid: process(rt, 1),
-        interval: 2,
-        vec: vector(rt, &[2, 2]),
-        got: vector(rt, &[1, 1]),
-    };
-    let told = board.note(rt, alloc, 0, row, frontier);
+    let (vec, got) = (vector(rt, &[2, 2]), vector(rt, &[1, 1]));
+    let told = board.note_checkpoint(rt, alloc, process(rt, 1), 0, 2, &vec, &got, frontier);
     assert!(rt; told == Ok(Note::Noted { raised: false }));
 }
 
