@@ -11,8 +11,8 @@ loop-number-preserved c =
     let name = c.args.name.now in
     let number = c.loop-number.number in
     let outputs = c.args.outputs.now in
-    let bytes : c.deref.result.now ≡ bytes_at (map held_of outputs) number =
-    held-bytes outputs number c.index-outputs-number.result c.deref.result.now c.loop-number-test.true c.deref.ensures.value in
+    let bytes : c.as_slice.result.now ≡ bytes_at (map held_of outputs) number =
+    held-bytes outputs number c.index-outputs-number.result c.as_slice.result.now c.loop-number-test.true c.as_slice.ensures in
     text_grows (λ k. output_line name k (bytes_at (map held_of outputs) k)) number (string_bytes c.args.text.now) before
     (string_bytes c.push_output.new.text) c.loop-number.invariant
     (c.in_ok-push_output.ensures ∙ ap (λ bs. before ++ output_line name number bs) bytes)
