@@ -7,7 +7,8 @@ use Rattle.std.proofs.lemmas.List.Sums.{sum_by-cons}
 use Rattle.om_interval.specs.Vectors.{IsBelow}
 use Rattle.om_recover.specs.Rows.{Rows, HasRow, Has, IsLawful}
 use Rattle.om_recover.specs.Recoverable.{IsStable, IsRecoverable, maximum_of}
-use Rattle.om_recover.specs.Attempts.{Attempt, with_attempt, with_look}
+use Rattle.om_recover.specs.Attempts.{Attempt, with_attempt}
+use Rattle.om_recover.specs.steps.Trail.{with_look}
 use Rattle.om_recover.specs.Climb.{IsLeastStable, IsNeeded, starts, follows, IsClimbed, IsOutOfReach}
 use Rattle.om_recover.specs.steps.Climbing.{HasLooked, IsUnderWay, IsAttempted, without_newest, IsForced, IsBlocked, IsNeededWithin, begins, leads, IsClimbing}
 use Rattle.om_recover.specs.declared.row.RowKind.{RowKind}

@@ -4,6 +4,7 @@ pub mod RowsLemmas
 pub mod StableLemmas
 pub mod DroppingLemmas
 pub mod EntryLemmas
+pub mod FlatLemmas
 pub mod LogsLemmas
 pub mod RunLemmas
 pub mod BaseLemmas

@@ -56,17 +56,17 @@ runs_at [] first place p x run vectors own is within = absurd (cc)
 runs_at (r ∷ runs) first zero p x run vectors own is within =
     let same : r ≡ run = cc in
     let at_first_one : first ≡ p = omega (arith, is) in
-    at_first (entries_from first r.first r.logs.items) (run_entries (first + 1) runs) p x vectors
-    (subst (λ (r : Run). at (entries_from first r.first r.logs.items) p x ≡ Some vectors) (sym same)
-    (subst (λ q. at (entries_from q run.first run.logs.items) p x ≡ Some vectors) (sym at_first_one) (from_at run.logs.items p run.first within.place x vectors within.there within.stands_at)))
+    at_first (entries_from first r.first r.logs) (run_entries (first + 1) runs) p x vectors
+    (subst (λ (r : Run). at (entries_from first r.first r.logs) p x ≡ Some vectors) (sym same)
+    (subst (λ q. at (entries_from q run.first run.logs) p x ≡ Some vectors) (sym at_first_one) (from_at run.logs p run.first within.place x vectors within.there within.stands_at)))
 runs_at (r ∷ runs) first (suc place) p x run vectors own is within =
-    at_second (entries_from first r.first r.logs.items) (run_entries (first + 1) runs) p x (from_none r.logs.items first r.first p x (λ same. absurd (omega (arith, same, is))))
+    at_second (entries_from first r.first r.logs) (run_entries (first + 1) runs) p x (from_none r.logs first r.first p x (λ same. absurd (omega (arith, same, is))))
     ∙ runs_at runs (first + 1) place p x run vectors own (omega (arith, is)) within
 
 runs_none : (runs : List Run) (first p x : ℕ) → ((place : ℕ) (run : Run) → slice_get runs place ≡ Some run → p ≡ first + place → IsOutside run x) → at (run_entries first runs) p x ≡ None
 runs_none [] first p x outside = refl
 runs_none (r ∷ runs) first p x outside =
-    at_second (entries_from first r.first r.logs.items) (run_entries (first + 1) runs) p x (from_none r.logs.items first r.first p x (λ same. outside zero r refl (omega (arith, same))))
+    at_second (entries_from first r.first r.logs) (run_entries (first + 1) runs) p x (from_none r.logs first r.first p x (λ same. outside zero r refl (omega (arith, same))))
     ∙ runs_none runs (first + 1) p x (λ place run own is. outside (suc place) run own (omega (arith, is)))
 
 -- what a run has is found
@@ -84,7 +84,7 @@ outside_at logs p x outside =
 run_cases : (run : Run) (x : ℕ) → ((vectors : Vectors) × IsInRun run x vectors) ⊎ IsOutside run x
 run_cases run x = elim (cases_lt x run.first) [
   | inl near ↦ inr (inl near)
-  | inr far ↦ elim (slice_get_cases run.logs.items (x - run.first)).1 [
+  | inr far ↦ elim (slice_get_cases run.logs (x - run.first)).1 [
     | inl found ↦ inl (found.0, record { place = x - run.first; stands_at = omega (arith, far); there = found.2 })
     | inr past ↦ inr (inr (omega (arith, far, past.0)))
   ]
@@ -122,9 +122,9 @@ rows_of_from (v ∷ vs) p first row there = elim (of_inserted (set.from_list (ma
 rows_of_runs : (runs : List Run) (first : ℕ) (row : Row) → HasRow (set.from_list (map log_row (run_entries first runs))) row
     → (place : ℕ) × (p : ℕ) × (x : ℕ) × (vectors : Vectors) × (run : Run) × (slice_get runs place ≡ Some run) × IsInRun run x vectors × (p ≡ first + place) × (row ≡ log_row ((p, x), vectors))
 rows_of_runs [] first row there = absurd (true≢false (sym there ∙ set.contains-empty row_cmp row))
-rows_of_runs (run ∷ runs) first row there = elim (rows_of_both log_row (entries_from first run.first run.logs.items) (run_entries (first + 1) runs) row there) [
+rows_of_runs (run ∷ runs) first row there = elim (rows_of_both log_row (entries_from first run.first run.logs) (run_entries (first + 1) runs) row there) [
   | inl among ↦
-      let found = rows_of_from run.logs.items first run.first row among in
+      let found = rows_of_from run.logs first run.first row among in
       (zero, first, found.1, found.2, run, refl, record { place = found.0; stands_at = found.4; there = found.3 }, omega arith, found.5)
   | inr later ↦
       let found = rows_of_runs runs (first + 1) row later in

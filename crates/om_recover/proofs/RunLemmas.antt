@@ -1,4 +1,4 @@
-use Rattle.std.proofs.Common.{◌≡◌, ℕ, zero, suc, ◌+◌, ◌<◌, ◌≤◌, ◌⊎◌, inl, inr, refl, sym, ◌∙◌, ap, subst, arith, true, true≢false, is_some, IsSome, Option, Some, None, Result, Ok, Err, OnErr, MatchOption, List, [], ◌∷◌, ◌++◌, length, slice_get, slice_index_or, slice_set, nat_lt}
+use Rattle.std.proofs.Common.{◌≡◌, ℕ, zero, suc, ◌+◌, ◌-◌, ◌<◌, ◌≤◌, ◌⊎◌, inl, inr, refl, sym, ◌∙◌, ap, subst, arith, true, true≢false, is_some, IsSome, Option, Some, None, Result, Ok, Err, OnErr, MatchOption, List, [], ◌∷◌, ◌++◌, length, slice_get, slice_index_or, slice_set, nat_lt}
 use Rattle.std.proofs.lemmas.Bool.{cases_order, cases_eq, cases_lt, ltb-true}
 use Rattle.std.proofs.lemmas.Option.{slice_get_read, slice_get_within, get_or_from_slice_get}
 use Rattle.om_recover.specs.steps.Nearest.{at, AreSorted, IsNearestTo, IsNearestFrom, HasNoneTo, HasNoneFrom, IsPut}
@@ -76,20 +76,17 @@ pub one_run : (runs : List Run) (p y : ℕ) (run : Run) (vectors : Vectors) → 
 one_run runs p y run vectors own among = let own_too = among.own in let same : among.run ≡ run = cc in subst (λ (run : Run). IsInRun run y vectors) same among.within
 
 -- a run's logs stand from its first interval on
-pub in_bounds : (run : Run) (y : ℕ) (vectors : Vectors) → IsInRun run y vectors → (run.first ≤ y) × (y < run.first + length run.logs.items)
-in_bounds run y vectors within = let below = slice_get_within run.logs.items within.place vectors within.there in (omega (arith, within.stands_at), omega (arith, within.stands_at, below))
+pub in_bounds : (run : Run) (y : ℕ) (vectors : Vectors) → IsInRun run y vectors → (run.first ≤ y) × (y < run.first + length run.logs)
+in_bounds run y vectors within = let below = slice_get_within run.logs within.place vectors within.there in (omega (arith, within.stands_at), omega (arith, within.stands_at, below))
 
-pub at_place : (run : Run) (place x : ℕ) (vectors : Vectors) → x ≡ run.first + place → place < length run.logs.items → vectors ≡ slice_index_or run.logs.items place vectors → IsInRun run x vectors
-at_place run place x vectors stands_at within is = record { place = place; stands_at = stands_at; there = slice_get_read run.logs.items (length run.logs.items) place vectors refl within is }
-
-pub is_run_to : (runs : List Run) (p to x : ℕ) (run : Run) (vectors : Vectors) → slice_get runs p ≡ Some run → IsInRun run x vectors → x ≤ to → (to < run.first + length run.logs.items → to ≤ x)
-    → (run.first + length run.logs.items ≤ to → run.first + length run.logs.items ≤ x + 1) → IsRunTo runs p to x vectors
+pub is_run_to : (runs : List Run) (p to x : ℕ) (run : Run) (vectors : Vectors) → slice_get runs p ≡ Some run → IsInRun run x vectors → x ≤ to → (to < run.first + length run.logs → to ≤ x)
+    → (run.first + length run.logs ≤ to → run.first + length run.logs ≤ x + 1) → IsRunTo runs p to x vectors
 is_run_to runs p to x run vectors own within below near far = record {
   there = record { run = run; own = own; within = within };
   within = below;
   nearest = λ y other among under.
       let bounds = in_bounds run y other (one_run runs p y run other own among) in
-      elim (cases_lt to (run.first + length run.logs.items)) [
+      elim (cases_lt to (run.first + length run.logs)) [
         | inl inside ↦ omega (arith, near inside, under)
         | inr past ↦ omega (arith, far past, bounds.1)
       ];
@@ -103,6 +100,9 @@ is_run_from runs p from x run vectors own within above least = record {
       let bounds = in_bounds run y other (one_run runs p y run other own among) in
       elim least [ inl at ↦ omega (arith, at, over) | inr first ↦ omega (arith, first, bounds.0) ];
 }
+
+pub no_run_from : (runs : List Run) (p from : ℕ) (run : Run) → slice_get runs p ≡ Some run → length run.logs ≤ from - run.first → HasNoRunFrom runs p from
+no_run_from runs p from run own past y other among above = let bounds = in_bounds run y other (one_run runs p y run other own among) in omega (arith, past, bounds.0, bounds.1, above)
 
 -- a list in which one item was set
 pub get_set_same : {X : Type 0} (xs : List X) (i : ℕ) (x y : X) → slice_get xs i ≡ Some y → slice_get (slice_set xs i x) i ≡ Some x
@@ -156,25 +156,25 @@ length_more (z ∷ xs) x = omega (arith, length_more xs x)
 -- a run with a log more
 longer_here : (old new : Run) (x : ℕ) (vectors : Vectors) → IsLonger old new x vectors → IsInRun new x vectors
 longer_here old new x vectors longer = record {
-  place = length old.logs.items;
+  place = length old.logs;
   stands_at = longer.ends;
-  there = ap (λ items. slice_get items (length old.logs.items)) longer.logs ∙ get_last old.logs.items vectors;
+  there = ap (λ items. slice_get items (length old.logs)) longer.logs ∙ get_last old.logs vectors;
 }
 
 longer_kept : (old new : Run) (x : ℕ) (vectors : Vectors) → IsLonger old new x vectors → (y : ℕ) (other : Vectors) → IsInRun old y other → IsInRun new y other
 longer_kept old new x vectors longer y other within =
-    let some = slice_get_within old.logs.items within.place other within.there in
+    let some = slice_get_within old.logs within.place other within.there in
     let first : new.first ≡ old.first = elim longer.first [ inl none ↦ absurd (omega (arith, none, some)) | inr same ↦ same ] in
     record {
       place = within.place;
       stands_at = omega (arith, first, within.stands_at);
-      there = ap (λ items. slice_get items within.place) longer.logs ∙ get_first old.logs.items (vectors ∷ []) within.place other within.there;
+      there = ap (λ items. slice_get items within.place) longer.logs ∙ get_first old.logs (vectors ∷ []) within.place other within.there;
     }
 
 longer_apart : (old new : Run) (x : ℕ) (vectors : Vectors) → IsLonger old new x vectors → (y : ℕ) → (y ≡ x → ⊥) → IsOutside old y → IsOutside new y
 longer_apart old new x vectors longer y apart outside =
     let ends = longer.ends in
-    let count : length new.logs.items ≡ length old.logs.items + 1 = ap length longer.logs ∙ length_more old.logs.items vectors in
+    let count : length new.logs ≡ length old.logs + 1 = ap length longer.logs ∙ length_more old.logs vectors in
     elim longer.first [
       | inl none ↦ elim (cases_order y x) [
         | inl same ↦ absurd (apart same)
@@ -188,6 +188,12 @@ longer_apart old new x vectors longer y apart outside =
         ]
       ]
     ]
+
+-- what stands at a process's place is its run
+pub own_run : (runs : List Run) (p i : ℕ) (run was : Run) → i ≡ p → slice_get runs p ≡ Some run → was ≡ slice_index_or runs i was → was ≡ run
+own_run runs p i run was same own read =
+    let at_p : was ≡ slice_index_or runs p was = subst (λ i. was ≡ slice_index_or runs i was) same read in
+    at_p ∙ get_or_from_slice_get runs p run was own
 
 -- runs of which one has a log more
 pub pushed : (runs : List Run) (p i x : ℕ) (run was longer : Run) (vectors : Vectors) → i ≡ p → slice_get runs p ≡ Some run → was ≡ slice_index_or runs i was → IsLonger was longer x vectors
@@ -212,7 +218,7 @@ same_kept old new same y other within = record {
 
 same_apart : (old new : Run) → IsSameRun old new → (y : ℕ) → IsOutside old y → IsOutside new y
 same_apart old new same y outside =
-    let count : length new.logs.items ≡ length old.logs.items = ap length same.logs in
+    let count : length new.logs ≡ length old.logs = ap length same.logs in
     elim outside [ inl less ↦ inl (omega (arith, less, same.first)) | inr more ↦ inr (omega (arith, more, same.first, count)) ]
 
 pub not_pushed : (runs : List Run) (p i : ℕ) (run was new : Run) → i ≡ p → slice_get runs p ≡ Some run → was ≡ slice_index_or runs i was → IsSameRun was new → AreSameRuns runs (slice_set runs i new)

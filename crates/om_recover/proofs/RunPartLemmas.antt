@@ -1,8 +1,7 @@
-use Rattle.std.proofs.Common.{◌≡◌, ℕ, zero, suc, ◌+◌, ◌-◌, ◌<◌, ◌≤◌, inl, inr, refl, sym, ◌∙◌, ap, subst, arith, Bool, true, false, true≢false, IsSome, Option, Some, None, List, [], ◌∷◌, ◌++◌, cond, drop, take, min, length, slice_get, slice_index_or, slice_set, nat_le}
+use Rattle.std.proofs.Common.{◌≡◌, ℕ, zero, suc, ◌+◌, ◌-◌, ◌<◌, ◌≤◌, ◌⊎◌, inl, inr, refl, sym, ◌∙◌, ap, subst, arith, Bool, true, false, true≢false, IsSome, Option, Some, None, List, [], ◌∷◌, ◌++◌, cond, drop, take, min, length, slice_get, slice_index_or, slice_set, nat_le}
 use Rattle.std.specs.Option.{option_map}
 use Rattle.std.proofs.lemmas.Bool.{cases_eq, cases_lt, leb-true, leb-false}
-use Rattle.std.proofs.lemmas.List.{length-drop, drop_min}
-use Rattle.std.proofs.Math.Seq.{take-append_seam}
+use Rattle.std.proofs.lemmas.List.{length-drop, length-take, drop_min}
 use Rattle.std.proofs.lemmas.Option.{slice_get_read, slice_get_within}
 use Rattle.om_recover.specs.steps.Nearest.{at, AreSorted}
 use Rattle.om_recover.specs.steps.Logs.{log_entries, IsOutside, IsInRuns, IsOutsideRuns, AreLogs, ArePart, IsRunPart, AreRunsPart, AreEmpty, HaveNone}
@@ -52,16 +51,12 @@ get_drop {X} (suc n) (x ∷ xs) i =
     let moved : suc n + i ≡ suc (n + i) = omega arith in
     get_drop n xs i ∙ ap (slice_get (x ∷ xs)) (sym moved)
 
-pub items_left : {X : Type 0} (xs rotated left : List X) (before count gone : ℕ) → gone ≡ min before (length xs) → rotated ≡ drop gone xs ++ take gone xs → left ≡ take (count - gone) rotated → count ≡ length xs
-    → left ≡ drop before xs
-items_left xs rotated left before count gone gone_is rotated_is left_is count_is =
-    let as_many : count - gone ≡ length (drop gone xs) = ap (λ n. n - gone) count_is ∙ sym (length-drop gone xs) in
-    left_is ∙ ap (take (count - gone)) rotated_is ∙ ap (λ n. take n (drop gone xs ++ take gone xs)) as_many ∙ take-append_seam (drop gone xs) (take gone xs)
-    ∙ ap (λ n. drop n xs) gone_is ∙ drop_min before xs
+pub items_left : {X : Type 0} (xs left : List X) (before gone : ℕ) → gone ≡ min before (length xs) → left ≡ drop gone xs → left ≡ drop before xs
+items_left xs left before gone gone_is left_is = left_is ∙ ap (λ n. drop n xs) gone_is ∙ drop_min before xs
 
-pub pruned_run : (old new : Run) (from before : ℕ) → from ≡ old.first + before → new.first ≡ from → new.logs.items ≡ drop before old.logs.items → IsRunPart (λ y. nat_le from y) old new
+pub pruned_run : (old new : Run) (from before : ℕ) → from ≡ old.first + before → new.first ≡ from → new.logs ≡ drop before old.logs → IsRunPart (λ y. nat_le from y) old new
 pruned_run old new from before from_is first_is items_are =
-    let count : length new.logs.items ≡ length old.logs.items - before = ap length items_are ∙ length-drop before old.logs.items in
+    let count : length new.logs ≡ length old.logs - before = ap length items_are ∙ length-drop before old.logs in
     record {
       kept = λ y other within passes.
           let far : from ≤ y = leb-true from y passes in
@@ -69,7 +64,7 @@ pruned_run old new from before from_is first_is items_are =
           record {
             place = within.place - before;
             stands_at = omega (arith, first_is, from_is, within.stands_at, far);
-            there = ap (λ items. slice_get items (within.place - before)) items_are ∙ get_drop before old.logs.items (within.place - before) ∙ ap (slice_get old.logs.items) place ∙ within.there;
+            there = ap (λ items. slice_get items (within.place - before)) items_are ∙ get_drop before old.logs (within.place - before) ∙ ap (slice_get old.logs) place ∙ within.there;
           };
       apart = λ y outside. elim (cases_lt y new.first) [
         | inl low ↦ inl low
@@ -79,6 +74,37 @@ pruned_run old new from before from_is first_is items_are =
         ]
       ];
       dropped = λ y fails. inl (omega (arith, leb-false from y fails, first_is));
+    }
+
+-- a run without the logs behind an interval
+get_take : {X : Type 0} (n : ℕ) (xs : List X) (i : ℕ) → i < n → slice_get (take n xs) i ≡ slice_get xs i
+get_take zero xs i within = absurd (omega (arith, within))
+get_take (suc n) [] i within = refl
+get_take (suc n) (x ∷ xs) zero within = refl
+get_take (suc n) (x ∷ xs) (suc i) within = get_take n xs i (omega (arith, within))
+
+pub cut_to_interval : (old new : Run) (to kept : ℕ) → ((to < old.first) × (kept ≡ 0)) ⊎ (to + 1 ≡ old.first + kept) → new.first ≡ old.first → new.logs ≡ take kept old.logs → IsRunPart (λ y. nat_le y to) old new
+cut_to_interval old new to kept far first_is items_are =
+    let count : length new.logs ≡ min kept (length old.logs) = ap length items_are ∙ length-take kept old.logs in
+    record {
+      kept = λ y other within passes.
+          let near : y ≤ to = leb-true y to passes in
+          let inside : within.place < kept = elim far [
+            | inl none ↦ absurd (omega (arith, none.0, near, within.stands_at))
+            | inr some ↦ omega (arith, some, near, within.stands_at)
+          ] in
+          record {
+            place = within.place;
+            stands_at = omega (arith, within.stands_at, first_is);
+            there = ap (λ items. slice_get items within.place) items_are ∙ get_take kept old.logs within.place inside ∙ within.there;
+          };
+      apart = λ y outside. elim outside [ inl less ↦ inl (omega (arith, less, first_is)) | inr more ↦ inr (omega (arith, more, first_is, count)) ];
+      dropped = λ y fails.
+          let behind : to < y = leb-false y to fails in
+          elim far [
+            | inl none ↦ elim (cases_lt y new.first) [ inl low ↦ inl low | inr high ↦ inr (omega (arith, high, none.1, count)) ]
+            | inr some ↦ inr (omega (arith, some, behind, first_is, count))
+          ];
     }
 
 -- a run that begins at the interval or above stays
@@ -120,7 +146,7 @@ part_of test old new are sorted others_at runs =
     }
 
 -- runs of nothing
-pub empty_more : (runs : List Run) (run : Run) → length run.logs.items ≡ 0 → AreEmpty runs → AreEmpty (runs ++ run ∷ [])
+pub empty_more : (runs : List Run) (run : Run) → length run.logs ≡ 0 → AreEmpty runs → AreEmpty (runs ++ run ∷ [])
 empty_more [] run none empty zero x other own =
     let same : run ≡ other = cc in
     subst (λ (run : Run). IsOutside run x) same (elim (cases_lt x run.first) [ inl low ↦ inl low | inr high ↦ inr (omega (arith, none, high)) ])

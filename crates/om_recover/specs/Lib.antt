@@ -5,7 +5,6 @@ pub mod Offered
 pub mod Records
 pub mod Cutting
 pub mod Offers
-pub mod Laws
 pub mod Attempts
 pub mod Climb
 pub mod Counted

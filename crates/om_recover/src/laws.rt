@@ -1,32 +1,44 @@
 //! What holds of recoverable states, whatever is recorded: each function stands for a theorem over the definitions alone.
-ghost use Rattle.om_recover.specs.Laws.{MaximumIsRecoverable, GreatestIsUnique, RecoverableHasRows, CutKeepsTheGreatest, PruneKeepsTheGreatest, LaterOffersDoNotTellAPrune};
+
+ghost use Rattle.std.specs.Prelude.{◌≡◌, ◌<◌, ◌^◌, ℕ, List, All, slice_index};
+ghost use Rattle.om_recover.specs.Rows.{Rows, HasRow, IsLawful};
+ghost use Rattle.om_recover.specs.Cutting.{AreEffective, cut_to, pruned_to};
+ghost use Rattle.om_recover.specs.Offers.{Offers};
+ghost use Rattle.om_recover.specs.declared.row.Row.{Row};
+ghost use Rattle.om_recover.specs.Recoverable.{IsRecoverable, IsGreatest, maximum_of};
 
 /// The maximum of two recoverable states, place by place, is recoverable.
 pub fn maximum_is_recoverable()
-    ensures { MaximumIsRecoverable }
+    ensures { (n : ℕ) (rows : Rows) (one other : List ℕ) → IsRecoverable n rows one → IsRecoverable n rows other
+        → IsRecoverable n rows (maximum_of one other) }
 {}
 
 /// The greatest recoverable state is unique.
 pub fn greatest_is_unique()
-    ensures { GreatestIsUnique }
+    ensures { (n : ℕ) (rows : Rows) (one other : List ℕ) → IsGreatest n rows one → IsGreatest n rows other → one ≡ other }
 {}
 
 /// A recoverable state has a row at each place.
 pub fn recoverable_has_rows()
-    ensures { RecoverableHasRows }
+    ensures { (n : ℕ) (rows : Rows) (state : List ℕ) (p : ℕ) → IsRecoverable n rows state → p < n
+        → (row : Row) × HasRow rows row × (row.pid ≡ p) × (row.interval ≡ slice_index state p) }
 {}
 
 /// A cut to the greatest state keeps it the greatest.
 pub fn cut_keeps_the_greatest()
-    ensures { CutKeepsTheGreatest }
+    ensures { (n : ℕ) (rows : Rows) (state : List ℕ) → IsLawful n rows → IsGreatest n rows state → IsGreatest n (cut_to rows state) state }
 {}
 
 /// A prune to the checkpoints that the greatest state uses keeps it the greatest.
 pub fn prune_keeps_the_greatest()
-    ensures { PruneKeepsTheGreatest }
+    ensures { (n : ℕ) (rows : Rows) (state checkpoints : List ℕ) → IsLawful n rows → AreEffective rows state checkpoints
+        → IsGreatest n rows state → IsGreatest n (pruned_to rows checkpoints) state }
 {}
 
 /// Whatever is offered later, a prune does not tell: the greatest states after each offer are the same.
 pub fn later_offers_do_not_tell_a_prune()
-    ensures { LaterOffersDoNotTellAPrune }
+    ensures { (n : ℕ) (rows : Rows) (state checkpoints : List ℕ) (later : List Row) (states states_pruned : List (List ℕ))
+        → IsLawful n rows → IsGreatest n rows state → AreEffective rows state checkpoints
+        → All (λ (row : Row). row.interval < 2 ^ 32) later
+        → Offers n rows later states → Offers n (pruned_to rows checkpoints) later states_pruned → states ≡ states_pruned }
 {}

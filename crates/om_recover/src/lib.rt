@@ -7,12 +7,14 @@
 //! In an order of reading:
 //!
 //! - what is noted: `row`, `note` (the answers), `records` (the calls), `laws` (theorems over the definitions)
-//! - the search: `search`, over rows that it is lent as a `Shelf` (`shelf`); `work` and `step` (what is counted)
+//! - the search: `search`, over rows that it is lent as a `Shelf` (`shelf`); `work` and `step` (what is counted); `numbers`
+//!   (numbers by process, read where they lie)
 //! - the rows: `rows`, whose index is a `Shelf`
 #![tactic(auto)]
 
 pub mod laws;
 mod note;
+mod numbers;
 mod records;
 mod row;
 mod rows;

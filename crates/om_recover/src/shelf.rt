@@ -2,7 +2,7 @@
 
 ghost use Rattle.std.specs.Prelude.{◌≡◌, ℕ, ◌<◌, length, IsTrue};
 ghost use Rattle.om_recover.specs.Rows.{Rows, HasRow, Has, IsLawful};
-ghost use Rattle.om_recover.specs.Attempts.{with_look};
+ghost use Rattle.om_recover.specs.steps.Trail.{with_look};
 ghost use Rattle.om_recover.specs.steps.Climbing.{AllEndBy, EndsBy, TellsLeast};
 
 use crate::work::Work;
@@ -12,12 +12,12 @@ use om_interval::{DepVec, Pid};
 pub trait Shelf {
     ghost rows: { Self → Rows };
 
-    /// The vector of an interval that has a row: the one call that reads it.
-    fn look(&self, pid: Pid, x: u32, work: &mut Work) -> DepVec
+    /// The numbers of the vector of an interval that has a row: the one call that reads it.
+    fn look(&self, pid: Pid, x: u32, work: &mut Work) -> &[u32]
         requires attempted { 0 < length work.old.attempts }
         requires lawful { (n : ℕ) × IsLawful n (rows self.now) }
         requires there { (kind : _) × Has (rows self.now) kind pid x }
-        ensures vec { (row : _) → HasRow (rows self.now) row → row.pid ≡ pid → row.interval ≡ x → row.vec ≡ result }
+        ensures vec { (row : _) → HasRow (rows self.now) row → row.pid ≡ pid → row.interval ≡ x → row.vec ≡ result.now }
         ensures counted { work.new.attempts ≡ with_look work.old.attempts pid x };
 
     /// Whether it is seen at once that no stable interval of a process is above this one.

@@ -1,7 +1,8 @@
 ghost use Rattle.std.specs.Prelude.{◌≡◌, ◌<◌, List, [], ◌∷◌, length};
 ghost use Rattle.std.specs.Borrow.{ftrue};
 ghost use Rattle.std.specs.Coded.{coded_list};
-ghost use Rattle.om_recover.specs.Attempts.{Attempt, coded_attempt, after_step, with_attempt, with_look};
+ghost use Rattle.om_recover.specs.Attempts.{Attempt, with_attempt};
+ghost use Rattle.om_recover.specs.steps.Trail.{coded_attempt, after_step, with_look};
 
 use crate::step::Step;
 use om_interval::{DepVec, Pid};

@@ -1,6 +1,7 @@
 -- What the runs and the tree of the logs hold.
 use Rattle.std.specs.Prelude.{◌≡◌, ℕ, ◌+◌, ◌<◌, ◌≤◌, ◌⊎◌, Bool, true, false, cond, List, [], ◌∷◌, ◌++◌, length, slice_get, Some, None, IsSome}
 use Rattle.om_recover.specs.steps.Nearest.{at, AreSorted}
+use Rattle.om_recover.specs.steps.Flat.{AreAlike}
 use Rattle.om_recover.specs.declared.rows.trees.Vectors.{Vectors}
 use Rattle.om_recover.specs.declared.rows.trees.Run.{Run}
 use Rattle.om_recover.specs.declared.rows.trees.Logs.{Logs}
@@ -13,7 +14,7 @@ entries_from p x (vectors ∷ more) = ((p, x), vectors) ∷ entries_from p (x + 
 -- the logs of runs, which are those of the processes from one on
 abbrev pub run_entries : ℕ → List Run → List ((ℕ × ℕ) × Vectors)
 run_entries p [] = []
-run_entries p (run ∷ runs) = entries_from p run.first run.logs.items ++ run_entries (p + 1) runs
+run_entries p (run ∷ runs) = entries_from p run.first run.logs ++ run_entries (p + 1) runs
 
 -- all logs
 abbrev pub log_entries : Logs → List ((ℕ × ℕ) × Vectors)
@@ -23,11 +24,11 @@ log_entries logs = run_entries 0 logs.runs.items ++ logs.others.entries
 pub record IsInRun (run : Run) (x : ℕ) (vectors : Vectors) : Type 0 where
   pub place : ℕ
   pub stands_at : x ≡ run.first + place
-  pub there : slice_get run.logs.items place ≡ Some vectors
+  pub there : slice_get run.logs place ≡ Some vectors
 
 -- the run has no log of an interval
 abbrev pub IsOutside : Run → ℕ → Type 0
-IsOutside run x = (x < run.first) ⊎ (run.first + length run.logs.items ≤ x)
+IsOutside run x = (x < run.first) ⊎ (run.first + length run.logs ≤ x)
 
 -- the process's run has these vectors at an interval
 pub record IsInRuns (runs : List Run) (p x : ℕ) (vectors : Vectors) : Type 0 where
@@ -80,26 +81,31 @@ pub record ArePart (test : ℕ × ℕ → Bool) (old new : Logs) : Type 0 where
   pub sorted : AreLogs new
   pub part : (p x : ℕ) → at (log_entries new) p x ≡ cond (test (p, x)) (at (log_entries old) p x) None
 
--- the interval may come next in the run
-abbrev pub IsNextIn : Run → ℕ → Type 0
-IsNextIn run x = (length run.logs.items ≡ 0) ⊎ (x ≡ run.first + length run.logs.items)
+-- the interval is the one behind the run's last, or any where it has none
+abbrev pub IsBehind : Run → ℕ → Type 0
+IsBehind run x = (length run.logs ≡ 0) ⊎ (x ≡ run.first + length run.logs)
 
--- the interval may come next in the process's run
-pub record IsNextInRuns (runs : List Run) (p x : ℕ) : Type 0 where
+-- a log of these vectors may come next in the run, at the interval
+pub record IsNextIn (run : Run) (x : ℕ) (vectors : Vectors) : Type 0 where
+  pub behind : IsBehind run x
+  pub alike : AreAlike run.logs vectors
+
+-- a log of these vectors may come next in the process's run, at the interval
+pub record IsNextInRuns (runs : List Run) (p x : ℕ) (vectors : Vectors) : Type 0 where
   pub run : Run
   pub own : slice_get runs p ≡ Some run
-  pub next : IsNextIn run x
+  pub next : IsNextIn run x vectors
 
 -- the run has the vectors at x behind what it had
 pub record IsLonger (old new : Run) (x : ℕ) (vectors : Vectors) : Type 0 where
-  pub ends : x ≡ new.first + length old.logs.items
-  pub first : (length old.logs.items ≡ 0) ⊎ (new.first ≡ old.first)
-  pub logs : new.logs.items ≡ old.logs.items ++ vectors ∷ []
+  pub ends : x ≡ new.first + length old.logs
+  pub first : (length old.logs ≡ 0) ⊎ (new.first ≡ old.first)
+  pub logs : new.logs ≡ old.logs ++ vectors ∷ []
 
 -- the run is as it was
 pub record IsSameRun (old new : Run) : Type 0 where
   pub first : new.first ≡ old.first
-  pub logs : new.logs.items ≡ old.logs.items
+  pub logs : new.logs ≡ old.logs
 
 -- the runs have one log more, and keep the others
 pub record ArePushed (old new : List Run) (p x : ℕ) (vectors : Vectors) : Type 0 where

@@ -10,6 +10,7 @@ ghost use Rattle.om_recover.specs.declared.row.RowKind.TheVariants.{Checkpoint, 
 use crate::row::{Row, RowKind};
 use crate::rows::bases::{base_at, base_to};
 use crate::rows::laying::lay;
+use crate::rows::lent::Lent;
 use crate::rows::logs::log_at;
 use crate::rows::storing::{set_last, store};
 use crate::rows::trees::{Base, Trees, Vectors};
@@ -56,11 +57,8 @@ fn add_log(trees: &mut Trees, row: &Row) -> Result<(), AllocError>
     ensures ok { OnOk result (Hold trees.new (set.insert (held trees.old) row.now)) }
     ensures err { OnErr result (Hold trees.new (held trees.old)) }
 {
-    let vectors = Vectors {
-        vec: row.vec,
-        got: row.got,
-    };
-    lay(&mut trees.logs, row.pid, row.interval, vectors)?;
+    let vectors = Lent::of(&row.vec, &row.got);
+    lay(&mut trees.logs, row.pid, row.interval, &vectors)?;
     if let Some((x, base)) = base_to(&trees.bases, row.pid, row.interval) {
         if is_next(base.last, row.interval) {
             let last = last_of_run(trees, row.pid, row.interval);

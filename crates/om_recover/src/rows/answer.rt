@@ -7,9 +7,10 @@ ghost use Rattle.om_recover.specs.steps.Held.{AreTrees, HasDifferent, AgreesOfKi
 use crate::note::{Note, NoteError};
 use crate::row::{Row, RowKind};
 use crate::rows::bases::base_from;
+use crate::rows::lent::Lent;
 use crate::rows::logs::{log_at, log_from};
 use crate::rows::lookup::{record_from, record_to, vectors_of};
-use crate::rows::trees::{Trees, Vectors};
+use crate::rows::trees::Trees;
 
 // The answer to a row that is not added, or `None` where the row is new.
 pub fn answer_without_change(trees: &Trees, n: usize, row: &Row) -> Option<Result<Note, NoteError>>
@@ -94,7 +95,7 @@ fn is_different(trees: &Trees, kind: RowKind, row: &Row) -> bool
 {
     match vectors_of(trees, kind, row.pid, row.interval) {
         None => false,
-        Some(vectors) => !has_vectors(row, vectors),
+        Some(vectors) => !has_vectors(row, &vectors),
     }
 }
 
@@ -105,14 +106,14 @@ fn has_row(trees: &Trees, row: &Row) -> bool
 {
     match vectors_of(trees, row.kind, row.pid, row.interval) {
         None => false,
-        Some(vectors) => has_vectors(row, vectors),
+        Some(vectors) => has_vectors(row, &vectors),
     }
 }
 
-fn has_vectors(row: &Row, vectors: &Vectors) -> bool
+fn has_vectors(row: &Row, vectors: &Lent<'_>) -> bool
     ensures { IsTrue result ↔ (row_of row.now.kind row.now.pid row.now.interval vectors.now ≡ row.now) }
 {
-    row.vec == vectors.vec && row.got == vectors.got
+    vectors.are(&row.vec, &row.got)
 }
 
 fn is_at_most(low: &Row, high: &Row) -> bool
@@ -175,7 +176,7 @@ fn follows_a_log(trees: &Trees, row: &Row) -> bool
     };
     match log_at(&trees.logs, row.pid, before) {
         None => false,
-        Some(vectors) => vectors.vec.leq(&row.vec) && vectors.got.leq(&row.got),
+        Some(vectors) => vectors.are_at_most(&row.vec, &row.got),
     }
 }
 

@@ -156,8 +156,7 @@ fn prune_run(run: &mut Run, from: u32)
         return;
     };
     let gone = (before as usize).min(run.logs.len());
-    run.logs.rotate_left(gone);
-    run.logs.truncate(run.logs.len() - gone);
+    run.logs.drop_front(gone);
     run.first = from;
 }
 

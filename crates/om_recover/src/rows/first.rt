@@ -9,10 +9,11 @@ ghost use Rattle.om_recover.specs.steps.Held.{AreIndexed, Hold, IsFree, held};
 
 use crate::row::{Row, RowKind};
 use crate::rows::adding::add;
+use crate::rows::run_logs::RunLogs;
 use crate::rows::trees::{Bases, Logs, Newest, Run, Trees};
 use om_interval::{DepVec, Pid};
 use std::alloc::{AllocError, Global};
-use std::collections::{BTreeMap, VecDeque};
+use std::collections::BTreeMap;
 
 /// The trees of no rows of `n` processes.
 pub fn no_rows(alloc: Global, n: usize) -> Result<Trees, AllocError>
@@ -60,7 +61,7 @@ fn no_runs(alloc: Global, n: usize) -> Result<Vec<Run>, AllocError>
     for _ in 0..n {
         runs.push_reserved(Run {
             first: 0,
-            logs: VecDeque::new(alloc),
+            logs: RunLogs::new(alloc),
         });
     }
     Ok(runs)

@@ -50,7 +50,7 @@ impl Model for Index {
 impl Shelf for Index {
     ghost rows = { λ index. index };
 
-    fn look(&self, pid: Pid, x: u32, work: &mut Work) -> DepVec {
+    fn look(&self, pid: Pid, x: u32, work: &mut Work) -> &[u32] {
         work.add_look(pid, x);
         vec_at(&self.trees, pid, x)
     }

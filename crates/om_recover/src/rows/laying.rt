@@ -1,25 +1,26 @@
 ghost use Rattle.std.specs.Prelude.{◌≡◌, ◌+◌, None, IfSome, OnOk, OnErr, IsTrue};
 ghost use Rattle.om_recover.specs.steps.Nearest.{at};
-ghost use Rattle.om_recover.specs.steps.Logs.{AreLogs, ArePushed, AreSame, AreSameRuns, IsLaid, IsLonger, IsNextIn, IsNextInRuns, IsSameRun, log_entries};
+ghost use Rattle.om_recover.specs.steps.Logs.{AreLogs, ArePushed, AreSame, AreSameRuns, IsBehind, IsLaid, IsLonger, IsNextIn, IsNextInRuns, IsSameRun, log_entries};
 
+use crate::rows::lent::Lent;
 use crate::rows::trees::{Logs, Run, Vectors};
 use om_interval::Pid;
 use std::alloc::AllocError;
 use std::collections::BTreeMap;
 
 /// Adds a log of an interval that has none: or none, where memory is refused.
-pub fn lay(logs: &mut Logs, pid: Pid, x: u32, vectors: Vectors) -> Result<(), AllocError>
+pub fn lay(logs: &mut Logs, pid: Pid, x: u32, vectors: &Lent<'_>) -> Result<(), AllocError>
     requires logs { AreLogs logs.old }
     requires free { at (log_entries logs.old) pid x ≡ None }
-    ensures ok { OnOk result (IsLaid logs.old logs.new pid x vectors) }
+    ensures ok { OnOk result (IsLaid logs.old logs.new pid x vectors.now) }
     ensures err { OnErr result (AreSame logs.old logs.new) }
 {
-    if may_follow(&logs.runs, pid, x) {
+    if may_follow(&logs.runs, pid, x, vectors) {
         push(&mut logs.runs, pid, x, vectors)?;
         gather(logs, pid, x);
         return Ok(());
     }
-    logs.others.insert((pid, x), vectors)?;
+    logs.others.insert((pid, x), vectors.kept())?;
     Ok(())
 }
 
@@ -42,10 +43,11 @@ fn move_next(logs: &mut Logs, pid: Pid, last: u32) -> Option<u32>
 {
     let next = last.checked_add(1)?;
     let vectors = other_at(&logs.others, pid, next)?;
-    if !may_follow(&logs.runs, pid, next) {
+    let lent = Lent::of(&vectors.vec, &vectors.got);
+    if !may_follow(&logs.runs, pid, next, &lent) {
         return None;
     }
-    let Ok(()) = push(&mut logs.runs, pid, next, vectors) else {
+    let Ok(()) = push(&mut logs.runs, pid, next, &lent) else {
         return None;
     };
     logs.others.remove(&(pid, next));
@@ -58,18 +60,19 @@ fn other_at(others: &BTreeMap<(Pid, u32), Vectors>, pid: Pid, x: u32) -> Option<
     others.get(&(pid, x)).copied()
 }
 
-// Whether an interval may come next in the process's run.
-fn may_follow(runs: &[Run], pid: Pid, x: u32) -> bool
-    ensures { IsTrue result → IsNextInRuns runs.now pid x }
+// Whether the log of an interval may come next in the process's run.
+fn may_follow(runs: &[Run], pid: Pid, x: u32, vectors: &Lent<'_>) -> bool
+    ensures { IsTrue result → IsNextInRuns runs.now pid x vectors.now }
 {
     match runs.get(pid.index()) {
         None => false,
-        Some(run) => may_follow_in(run, x),
+        Some(run) => is_behind(run, x) && run.logs.takes(vectors),
     }
 }
 
-fn may_follow_in(run: &Run, x: u32) -> bool
-    ensures { IsTrue result → IsNextIn run.now x }
+// Whether an interval is the one behind a run's last, or any where it has none.
+fn is_behind(run: &Run, x: u32) -> bool
+    ensures { IsTrue result → IsBehind run.now x }
 {
     if run.logs.is_empty() {
         return true;
@@ -81,24 +84,24 @@ fn may_follow_in(run: &Run, x: u32) -> bool
 }
 
 // Puts a log behind the process's run.
-fn push(runs: &mut Vec<Run>, pid: Pid, x: u32, vectors: Vectors) -> Result<(), AllocError>
-    requires { IsNextInRuns runs.old.items pid x }
-    ensures ok { OnOk result (ArePushed runs.old.items runs.new.items pid x vectors) }
+fn push(runs: &mut Vec<Run>, pid: Pid, x: u32, vectors: &Lent<'_>) -> Result<(), AllocError>
+    requires { IsNextInRuns runs.old.items pid x vectors.now }
+    ensures ok { OnOk result (ArePushed runs.old.items runs.new.items pid x vectors.now) }
     ensures err { OnErr result (AreSameRuns runs.old.items runs.new.items) }
 {
     push_to(&mut runs[pid.index()], x, vectors)?;
     Ok(())
 }
 
-fn push_to(run: &mut Run, x: u32, vectors: Vectors) -> Result<(), AllocError>
-    requires { IsNextIn run.old x }
-    ensures ok { OnOk result (IsLonger run.old run.new x vectors) }
+fn push_to(run: &mut Run, x: u32, vectors: &Lent<'_>) -> Result<(), AllocError>
+    requires { IsNextIn run.old x vectors.now }
+    ensures ok { OnOk result (IsLonger run.old run.new x vectors.now) }
     ensures err { OnErr result (IsSameRun run.old run.new) }
 {
-    run.logs.try_reserve(1)?;
-    if run.logs.is_empty() {
+    let is_first = run.logs.is_empty();
+    run.logs.push(vectors)?;
+    if is_first {
         run.first = x;
     }
-    run.logs.push_back_reserved(vectors);
     Ok(())
 }

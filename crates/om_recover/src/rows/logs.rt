@@ -2,27 +2,29 @@ ghost use Rattle.std.specs.Prelude.{◌≡◌, ℕ, None, Some, MatchOption};
 ghost use Rattle.om_recover.specs.steps.Nearest.{at, IsNearestTo, IsNearestFrom, HasNoneTo, HasNoneFrom};
 ghost use Rattle.om_recover.specs.steps.Logs.{AreLogs, IsInRun, IsOutside, IsInRuns, IsOutsideRuns, log_entries, IsRunTo, IsRunFrom, HasNoRunTo, HasNoRunFrom};
 
+use crate::rows::lent::Lent;
 use crate::rows::nearest::{nearest_from, nearest_to};
 use crate::rows::trees::{Logs, Run, Vectors};
 use om_interval::Pid;
+use std::collections::BTreeMap;
 
 /// The vectors of the log of an interval of a process.
-pub fn log_at(logs: &Logs, pid: Pid, x: u32) -> Option<&Vectors>
+pub fn log_at(logs: &Logs, pid: Pid, x: u32) -> Option<Lent<'_>>
     ensures { MatchOption result
         (at (log_entries logs.now) pid x ≡ None)
-        (λ vectors. at (log_entries logs.now) pid x ≡ Some vectors.now) }
+        (λ vectors. at (log_entries logs.now) pid x ≡ Some vectors) }
 {
     match in_runs(&logs.runs, pid, x) {
         Some(vectors) => Some(vectors),
         None => match logs.others.get(&(pid, x)) {
             None => None,
-            Some(vectors) => Some(vectors),
+            Some(vectors) => Some(Lent::of(&vectors.vec, &vectors.got)),
         },
     }
 }
 
-fn in_runs(runs: &[Run], pid: Pid, x: u32) -> Option<&Vectors>
-    ensures { MatchOption result (IsOutsideRuns runs.now pid x) (λ vectors. IsInRuns runs.now pid x vectors.now) }
+fn in_runs(runs: &[Run], pid: Pid, x: u32) -> Option<Lent<'_>>
+    ensures { MatchOption result (IsOutsideRuns runs.now pid x) (λ vectors. IsInRuns runs.now pid x vectors) }
 {
     match runs.get(pid.index()) {
         None => None,
@@ -33,8 +35,8 @@ fn in_runs(runs: &[Run], pid: Pid, x: u32) -> Option<&Vectors>
     }
 }
 
-fn in_run(run: &Run, x: u32) -> Option<&Vectors>
-    ensures { MatchOption result (IsOutside run.now x) (λ vectors. IsInRun run.now x vectors.now) }
+fn in_run(run: &Run, x: u32) -> Option<Lent<'_>>
+    ensures { MatchOption result (IsOutside run.now x) (λ vectors. IsInRun run.now x vectors) }
 {
     let place = x.checked_sub(run.first)?;
     match run.logs.get(place as usize) {
@@ -44,19 +46,19 @@ fn in_run(run: &Run, x: u32) -> Option<&Vectors>
 }
 
 /// Of a process's logs at or below an interval, the nearest.
-pub fn log_to(logs: &Logs, pid: Pid, to: u32) -> Option<(u32, &Vectors)>
+pub fn log_to(logs: &Logs, pid: Pid, to: u32) -> Option<(u32, Lent<'_>)>
     requires { AreLogs logs.now }
     ensures { MatchOption result
         (HasNoneTo (log_entries logs.now) pid to)
-        (λ found. IsNearestTo (log_entries logs.now) pid to found.0 found.1.now) }
+        (λ found. IsNearestTo (log_entries logs.now) pid to found.0 found.1) }
 {
     let Some(ran) = run_to(&logs.runs, pid, to) else {
-        return nearest_to(&logs.others, pid, to);
+        return other_to(&logs.others, pid, to);
     };
     if ran.0 == to {
         return Some(ran);
     }
-    let Some(other) = nearest_to(&logs.others, pid, to) else {
+    let Some(other) = other_to(&logs.others, pid, to) else {
         return Some(ran);
     };
     if ran.0 < other.0 {
@@ -67,29 +69,41 @@ pub fn log_to(logs: &Logs, pid: Pid, to: u32) -> Option<(u32, &Vectors)>
 }
 
 // Of the logs of a process's run at or below an interval, the nearest.
-fn run_to(runs: &[Run], pid: Pid, to: u32) -> Option<(u32, &Vectors)>
-    ensures { MatchOption result (HasNoRunTo runs.now pid to) (λ found. IsRunTo runs.now pid to found.0 found.1.now) }
+fn run_to(runs: &[Run], pid: Pid, to: u32) -> Option<(u32, Lent<'_>)>
+    ensures { MatchOption result (HasNoRunTo runs.now pid to) (λ found. IsRunTo runs.now pid to found.0 found.1) }
 {
     let run = runs.get(pid.index())?;
     let place = to.checked_sub(run.first)? as usize;
     let last = run.logs.len().checked_sub(1)?;
     if last < place {
-        return Some((run.first + last as u32, &run.logs[last]));
+        return Some((run.first + last as u32, run.logs.at(last)));
     }
-    Some((to, &run.logs[place]))
+    Some((to, run.logs.at(place)))
+}
+
+// Of a process's logs in the tree at or below an interval, the nearest.
+fn other_to(others: &BTreeMap<(Pid, u32), Vectors>, pid: Pid, to: u32) -> Option<(u32, Lent<'_>)>
+    ensures { MatchOption result
+        (HasNoneTo others.now.entries pid to)
+        (λ found. IsNearestTo others.now.entries pid to found.0 found.1) }
+{
+    match nearest_to(others, pid, to) {
+        None => None,
+        Some((x, vectors)) => Some((x, Lent::of(&vectors.vec, &vectors.got))),
+    }
 }
 
 /// Of a process's logs at or above an interval, the nearest.
-pub fn log_from(logs: &Logs, pid: Pid, from: u32) -> Option<(u32, &Vectors)>
+pub fn log_from(logs: &Logs, pid: Pid, from: u32) -> Option<(u32, Lent<'_>)>
     requires { AreLogs logs.now }
     ensures { MatchOption result
         (HasNoneFrom (log_entries logs.now) pid from)
-        (λ found. IsNearestFrom (log_entries logs.now) pid from found.0 found.1.now) }
+        (λ found. IsNearestFrom (log_entries logs.now) pid from found.0 found.1) }
 {
     let Some(ran) = run_from(&logs.runs, pid, from) else {
-        return nearest_from(&logs.others, pid, from);
+        return other_from(&logs.others, pid, from);
     };
-    let Some(other) = nearest_from(&logs.others, pid, from) else {
+    let Some(other) = other_from(&logs.others, pid, from) else {
         return Some(ran);
     };
     if other.0 < ran.0 {
@@ -100,11 +114,29 @@ pub fn log_from(logs: &Logs, pid: Pid, from: u32) -> Option<(u32, &Vectors)>
 }
 
 // Of the logs of a process's run at or above an interval, the nearest.
-fn run_from(runs: &[Run], pid: Pid, from: u32) -> Option<(u32, &Vectors)>
-    ensures { MatchOption result (HasNoRunFrom runs.now pid from) (λ found. IsRunFrom runs.now pid from found.0 found.1.now) }
+fn run_from(runs: &[Run], pid: Pid, from: u32) -> Option<(u32, Lent<'_>)>
+    ensures { MatchOption result (HasNoRunFrom runs.now pid from) (λ found. IsRunFrom runs.now pid from found.0 found.1) }
 {
     let run = runs.get(pid.index())?;
     let place = from.saturating_sub(run.first) as usize;
-    let vectors = run.logs.get(place)?;
-    Some((from.max(run.first), vectors))
+    match run.logs.get(place) {
+        None => None,
+        Some(vectors) => Some((from.max(run.first), vectors)),
+    }
+}
+
+// Of a process's logs in the tree at or above an interval, the nearest.
+fn other_from(
+    others: &BTreeMap<(Pid, u32), Vectors>,
+    pid: Pid,
+    from: u32,
+) -> Option<(u32, Lent<'_>)>
+    ensures { MatchOption result
+        (HasNoneFrom others.now.entries pid from)
+        (λ found. IsNearestFrom others.now.entries pid from found.0 found.1) }
+{
+    match nearest_from(others, pid, from) {
+        None => None,
+        Some((x, vectors)) => Some((x, Lent::of(&vectors.vec, &vectors.got))),
+    }
 }

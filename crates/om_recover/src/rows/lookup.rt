@@ -6,20 +6,21 @@ ghost use Rattle.om_recover.specs.steps.Held.{AreTrees, IsRecordTo, IsRecordFrom
 
 use crate::row::{Row, RowKind};
 use crate::rows::bases::{base_at, base_from, base_to};
+use crate::rows::lent::Lent;
 use crate::rows::logs::{log_at, log_from, log_to};
 use crate::rows::trees::{Trees, Vectors};
 use om_interval::{DepVec, Pid};
 
 /// The vectors of a record.
-pub fn vectors_of(trees: &Trees, kind: RowKind, pid: Pid, x: u32) -> Option<&Vectors>
+pub fn vectors_of(trees: &Trees, kind: RowKind, pid: Pid, x: u32) -> Option<Lent<'_>>
     requires { AreTrees trees.now }
     ensures { MatchOption result (Has (held trees.now) kind pid x → ⊥)
-        (λ vectors. HasRow (held trees.now) (row_of kind pid x vectors.now)) }
+        (λ vectors. HasRow (held trees.now) (row_of kind pid x vectors)) }
 {
     match kind {
         RowKind::Checkpoint => match base_at(&trees.bases, pid, x) {
             None => None,
-            Some(base) => Some(&base.vectors),
+            Some(base) => Some(Lent::of(&base.vectors.vec, &base.vectors.got)),
         },
         RowKind::Log => match log_at(&trees.logs, pid, x) {
             None => None,
@@ -36,11 +37,11 @@ pub fn record_to(trees: &Trees, kind: RowKind, pid: Pid, to: u32) -> Option<Row>
     match kind {
         RowKind::Checkpoint => match base_to(&trees.bases, pid, to) {
             None => None,
-            Some((x, base)) => Some(row(kind, pid, x, &base.vectors)),
+            Some((x, base)) => Some(row(kind, pid, x, base.vectors)),
         },
         RowKind::Log => match log_to(&trees.logs, pid, to) {
             None => None,
-            Some((x, vectors)) => Some(row(kind, pid, x, vectors)),
+            Some((x, vectors)) => Some(row(kind, pid, x, vectors.kept())),
         },
     }
 }
@@ -54,17 +55,17 @@ pub fn record_from(trees: &Trees, kind: RowKind, pid: Pid, from: u32) -> Option<
     match kind {
         RowKind::Checkpoint => match base_from(&trees.bases, pid, from) {
             None => None,
-            Some((x, base)) => Some(row(kind, pid, x, &base.vectors)),
+            Some((x, base)) => Some(row(kind, pid, x, base.vectors)),
         },
         RowKind::Log => match log_from(&trees.logs, pid, from) {
             None => None,
-            Some((x, vectors)) => Some(row(kind, pid, x, vectors)),
+            Some((x, vectors)) => Some(row(kind, pid, x, vectors.kept())),
         },
     }
 }
 
-fn row(kind: RowKind, pid: Pid, interval: u32, vectors: &Vectors) -> Row
-    ensures { result ≡ row_of kind pid interval vectors.now }
+fn row(kind: RowKind, pid: Pid, interval: u32, vectors: Vectors) -> Row
+    ensures { result ≡ row_of kind pid interval vectors }
 {
     Row {
         kind,
@@ -76,10 +77,10 @@ fn row(kind: RowKind, pid: Pid, interval: u32, vectors: &Vectors) -> Row
 }
 
 // The vectors of an interval that has a record.
-fn vectors_at(trees: &Trees, pid: Pid, x: u32) -> &Vectors
+fn vectors_at(trees: &Trees, pid: Pid, x: u32) -> Lent<'_>
     requires in_order { AreTrees trees.now }
     requires there { (kind : _) × Has (held trees.now) kind pid x }
-    ensures { (kind : _) × HasRow (held trees.now) (row_of kind pid x result.now) }
+    ensures { (kind : _) × HasRow (held trees.now) (row_of kind pid x result) }
 {
     if let Some(vectors) = vectors_of(trees, RowKind::Log, pid, x) {
         return vectors;
@@ -90,14 +91,15 @@ fn vectors_at(trees: &Trees, pid: Pid, x: u32) -> &Vectors
     }
 }
 
-/// The dependency vector of an interval of a process that has a record.
-pub fn vec_at(trees: &Trees, pid: Pid, x: u32) -> DepVec
+/// The numbers of the dependency vector of an interval of a process that has a record.
+pub fn vec_at(trees: &Trees, pid: Pid, x: u32) -> &[u32]
     requires in_order { AreTrees trees.now }
     requires lawful { (n : ℕ) × IsLawful n (held trees.now) }
     requires there { (kind : _) × Has (held trees.now) kind pid x }
-    ensures { (row : _) → HasRow (held trees.now) row → row.pid ≡ pid → row.interval ≡ x → row.vec ≡ result }
+    ensures { (row : _) → HasRow (held trees.now) row → row.pid ≡ pid → row.interval ≡ x → row.vec ≡ result.now }
 {
-    vectors_at(trees, pid, x).vec
+    let vectors = vectors_at(trees, pid, x);
+    vectors.into_vec()
 }
 
 /// What a process had got in a stable interval.
@@ -106,7 +108,8 @@ pub fn got_at(trees: &Trees, pid: Pid, x: u32) -> DepVec
     requires stable { IsStable (held trees.now) pid x }
     ensures { IsGotAt (held trees.now) pid x result }
 {
-    vectors_at(trees, pid, x).got
+    let vectors = vectors_at(trees, pid, x);
+    vectors.got()
 }
 
 /// How many messages from the sender the receiver had got in a stable interval.
@@ -117,7 +120,7 @@ pub fn got_from(trees: &Trees, receiver: Pid, x: u32, sender: Pid) -> u32
     ensures { IsGotFrom (held trees.now) receiver x sender result }
 {
     let vectors = vectors_at(trees, receiver, x);
-    vectors.got.get(sender)
+    vectors.got_from(sender)
 }
 
 /// The checkpoint that is used for a stable interval of a process.

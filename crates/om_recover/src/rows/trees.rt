@@ -1,5 +1,6 @@
+use crate::rows::run_logs::RunLogs;
 use om_interval::{DepVec, Pid};
-use std::collections::{BTreeMap, VecDeque};
+use std::collections::BTreeMap;
 
 /// The vectors of an interval.
 #[derive(Clone, Copy, Debug, PartialEq, Eq)]
@@ -30,12 +31,12 @@ pub struct Bases {
     pub others: BTreeMap<(Pid, u32), Base>,
 }
 
-/// Logs of a process that follow on one another, as most of them come. What goes first is dropped first, and nothing moves.
+/// Logs of a process that follow on one another, as most of them come.
 #[derive(Debug, Drop)]
 pub struct Run {
     /// The interval of the first.
     pub first: u32,
-    pub logs: VecDeque<Vectors>,
+    pub logs: RunLogs,
 }
 
 /// Logs: of each process a run, and the others by process and interval.

@@ -5,6 +5,7 @@ ghost use Rattle.om_recover.specs.Recoverable.{IsStable, IsRecoverable, maximum_
 ghost use Rattle.om_recover.specs.steps.Climbing.{TellsClimb, TellsBegin, TellsBehind, IsAttempted, IsUnderWay, IsClimbing, IsPassing, IsForced, IsBlocked, without_newest};
 ghost use Rattle.om_recover.specs.steps.Memory.{IsRemembered, AreRemembered};
 
+use crate::numbers::{is_below, number_of};
 use crate::search::memory::{Memories, Memory};
 use crate::shelf::Shelf;
 use crate::work::Work;
@@ -68,17 +69,17 @@ fn climb_anew<S: Shelf>(
 {
     let begun = raised_to(state, pid, x);
     let vec = shelf.look(pid, x, work);
-    if vec.leq(&begun) {
+    if is_below(vec, &begun) {
         return Some(begun);
     }
-    match forced(shelf, &begun, &vec) {
+    match forced(shelf, &begun, vec) {
         Err(lacking) => {
             let memory = Memory {
                 start: x,
                 reached: begun,
                 passed: begun,
                 waits: lacking,
-                from: vec.get(lacking),
+                from: number_of(vec, lacking),
             };
             memories.keep(pid, state.get(pid), memory);
             None
@@ -133,14 +134,14 @@ fn climb_on<S: Shelf>(
         let y = reached.get(q);
         looked.set(q, y);
         let vec = shelf.look(q, y, work);
-        match forced(shelf, &reached, &vec) {
+        match forced(shelf, &reached, vec) {
             Err(lacking) => {
                 let memory = Memory {
                     start: x,
                     reached,
                     passed,
                     waits: lacking,
-                    from: vec.get(lacking),
+                    from: number_of(vec, lacking),
                 };
                 memories.keep(pid, state.get(pid), memory);
                 return None;
@@ -217,15 +218,15 @@ fn first_behind(looked: &DepVec, reached: &DepVec) -> Option<Pid>
 }
 
 // The state with each process that the vector names beyond it raised to its least stable interval there, or a process that has none.
-fn forced<S: Shelf>(shelf: &S, state: &DepVec, vec: &DepVec) -> Result<DepVec, Pid>
+fn forced<S: Shelf>(shelf: &S, state: &DepVec, vec: &[u32]) -> Result<DepVec, Pid>
     requires { length vec.now ≡ length state.now }
     ensures { MatchResult result (IsForced (S.rows shelf.now) state.now vec.now) (IsBlocked (S.rows shelf.now) state.now vec.now) }
 {
     let mut higher = *state;
     for p in 0..state.n() {
         let q = Pid::at(p);
-        if state.get(q) < vec.get(q) {
-            match shelf.least_stable(q, vec.get(q)) {
+        if state.get(q) < number_of(vec, q) {
+            match shelf.least_stable(q, number_of(vec, q)) {
                 None => return Err(q),
                 Some(y) => higher.set(q, y),
             }

@@ -22,7 +22,7 @@ returns-then-is_next-clause-ok c =
     subst (λ (r : Row). Hold after (set.insert (held c.args.trees.now) r)) (sym is)
     (hold_with_log_reached c.requires.lawful.0 c.args.trees.now middle after row.pid row.interval c.in-Some.x c.last_of_run-last.result vectors c.in-Some.base.now
     c.requires.lawful.1 in_range c.requires.indexed (subst (IsFree (held c.args.trees.now)) is c.requires.free)
-    c.in_ok-lay.ensures.ok refl c.in-Some.ensures (c.if-is_next.ensures.0 refl)
+    (rw c.of-vectors.ensures at c.in_ok-lay.ensures.ok) refl c.in-Some.ensures (c.if-is_next.ensures.0 refl)
     c.last_of_run-last.ensures (c.set_last.ensures c.in-Some.base.now c.in-Some.ensures.there) refl)
 
 pub returns-else-is_next-clause-ok : goal.returns-else-is_next-clause-ok
@@ -33,7 +33,7 @@ returns-else-is_next-clause-ok c =
     let is = of_kind row Log c.requires.kind in
     subst (λ (r : Row). Hold after (set.insert (held c.args.trees.now) r)) (sym is)
     (hold_with_log c.args.trees.now after row.pid row.interval vectors c.requires.indexed (subst (IsFree (held c.args.trees.now)) is c.requires.free)
-    c.in_ok-lay.ensures.ok refl
+    (rw c.of-vectors.ensures at c.in_ok-lay.ensures.ok) refl
     (λ y b near next.
     let same = one_nearest _ _ _ _ _ b c.in-Some.base.now near c.in-Some.ensures in
     true≢false (sym (c.if-is_next.ensures.1 (subst (λ (b : Base). b.last + 1 ≡ row.interval) same next)))))
@@ -46,7 +46,7 @@ returns-in_default-clause-ok c =
     let is = of_kind row Log c.requires.kind in
     subst (λ (r : Row). Hold after (set.insert (held c.args.trees.now) r)) (sym is)
     (hold_with_log c.args.trees.now after row.pid row.interval vectors c.requires.indexed (subst (IsFree (held c.args.trees.now)) is c.requires.free)
-    c.in_ok-lay.ensures.ok refl
+    (rw c.of-vectors.ensures at c.in_ok-lay.ensures.ok) refl
     (λ y b near _. c.in_default.ensures y (ap is_some near.there) near.within))
 
 pub lay-requires-clause-logs : goal.lay-requires-clause-logs

@@ -8,7 +8,7 @@ pub loop-preserved : goal.loop-preserved
 loop-preserved c =
     let run : Run = record { first = 0; logs = c.new.result } in
     record {
-      empty = subst AreEmpty (sym c.push_reserved.ensures.items) (empty_more c.loop.runs.items run (ap length c.new.ensures.items) c.loop.invariant.empty);
+      empty = subst AreEmpty (sym c.push_reserved.ensures.items) (empty_more c.loop.runs.items run (ap length c.new.ensures) c.loop.invariant.empty);
       count = omega (arith, c.push_reserved.ensures.len, c.loop.invariant.count);
       room = omega (arith, c.push_reserved.ensures.capacity, c.loop.invariant.room);
     }

@@ -1,5 +1,7 @@
-use Rattle.std.proofs.Common.{refl}
+use Rattle.std.proofs.Common.{refl, subst}
+use Rattle.om_recover.specs.steps.Logs.{IsLaid}
 use Rattle.om_recover.specs.declared.rows.trees.Logs.{Logs}
+use Rattle.om_recover.specs.declared.rows.trees.Vectors.{Vectors}
 use Rattle.om_recover.proofs.PlaceLemmas.{put_of}
 use Rattle.om_recover.proofs.RunLemmas.{laid_in_run, laid_in_tree, laid_again, same_logs, after_error}
 use Rattle.om_recover.proofs.rows.laying.lay.Goals as goal
@@ -26,4 +28,5 @@ pub returns-clause-ok : goal.returns-clause-ok
 returns-clause-ok c =
     let after : Logs = record { runs = c.args.logs.now.runs; others = c.insert.new.self } in
     let updates = c.in_ok-insert.ensures.updates in
-    laid_in_tree c.args.logs.now after _ _ _ c.requires.logs c.requires.free refl (put_of _ _ _ _ c.args.vectors c.in_ok-insert.ensures.ordered updates.1 updates.2)
+    subst (λ (vectors : Vectors). IsLaid c.args.logs.now after c.args.pid c.args.x vectors) c.kept.ensures
+    (laid_in_tree c.args.logs.now after _ _ _ c.requires.logs c.requires.free refl (put_of _ _ _ _ c.kept.result c.in_ok-insert.ensures.ordered updates.1 updates.2))

@@ -16,5 +16,5 @@ pub returns-clause-same : goal.returns-clause-same
 returns-clause-same c =
     let after : Logs = record { runs = c.push.new.runs; others = c.remove.new.self } in
     let updates = c.remove.ensures.updates in
-    moved_to_run c.args.logs.now after c.args.pid c.in_ok-next.next c.in_ok-vectors.vectors c.requires (sym c.in_ok-vectors.ensures) c.in-Ok.ensures.ok c.remove.ensures.ordered updates.1
+    moved_to_run c.args.logs.now after c.args.pid c.in_ok-next.next c.in_ok-vectors.vectors c.requires (sym c.in_ok-vectors.ensures) (rw c.of-lent.ensures at c.in-Ok.ensures.ok) c.remove.ensures.ordered updates.1
     (λ q y apart. updates.2 (q, y) (apart_places c.args.pid c.in_ok-next.next q y apart))

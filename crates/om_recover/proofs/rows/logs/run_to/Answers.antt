@@ -1,5 +1,5 @@
 use Rattle.std.proofs.Common.{◌≡◌, ◌<◌, arith, length}
-use Rattle.om_recover.proofs.RunLemmas.{read_at, is_run_to, at_place}
+use Rattle.om_recover.proofs.RunLemmas.{read_at, is_run_to}
 use Rattle.om_recover.proofs.rows.logs.run_to.Goals as goal
 
 pub returns-then-last-place : goal.returns-then-last-place
@@ -9,9 +9,9 @@ returns-then-last-place c =
     let own = read_at c.args.runs.now _ c.index.result run c.index.ensures.place read.0 read.1 in
     let last = c.in_ok-last.ensures in
     let place = c.in_ok-place.ensures in
-    let count : c.len.result ≡ length run.logs.items = omega (arith, c.len.ensures) in
-    let within : c.in_ok-last.last < length run.logs.items = omega (arith, last.0, last.1, count) in
-    is_run_to c.args.runs.now _ _ _ run _ own (at_place run c.in_ok-last.last _ _ (omega arith) within c.index-then-last-place.ensures)
+    let count : c.len.result ≡ length run.logs = omega (arith, c.len.ensures) in
+    let within : c.in_ok-last.last < length run.logs = omega (arith, last.0, last.1, count) in
+    is_run_to c.args.runs.now _ _ _ run _ own (record { place = c.in_ok-last.last; stands_at = omega arith; there = c.at.ensures })
     (omega (arith, place.0, place.1, c.if-last-place.true)) (λ inside. absurd (omega (arith, inside, place.0, place.1, last.0, last.1, count, c.if-last-place.true))) (λ _. omega (arith, last.0, last.1, count))
 
 pub returns : goal.returns
@@ -21,7 +21,13 @@ returns c =
     let own = read_at c.args.runs.now _ c.index.result run c.index.ensures.place read.0 read.1 in
     let last = c.in_ok-last.ensures in
     let place = c.in_ok-place.ensures in
-    let count : c.len.result ≡ length run.logs.items = omega (arith, c.len.ensures) in
-    let within : c.in_ok-place.field-0 < length run.logs.items = omega (arith, last.0, last.1, count, c.if-last-place.false) in
-    is_run_to c.args.runs.now _ _ _ run _ own (at_place run c.in_ok-place.field-0 _ _ (omega (arith, place.0, place.1)) within c.index-2.ensures)
+    let count : c.len.result ≡ length run.logs = omega (arith, c.len.ensures) in
+    let within : c.in_ok-place.field-0 < length run.logs = omega (arith, last.0, last.1, count, c.if-last-place.false) in
+    is_run_to c.args.runs.now _ _ _ run _ own (record { place = c.in_ok-place.field-0; stands_at = omega (arith, place.0, place.1); there = c.at-2.ensures })
     (omega arith) (λ _. omega arith) (λ past. absurd (omega (arith, past, place.0, place.1, within)))
+
+pub at-requires : goal.at-requires
+at-requires c = omega (arith, c.in_ok-last.ensures.0, c.in_ok-last.ensures.1, c.len.ensures)
+
+pub at-requires-2 : goal.at-requires-2
+at-requires-2 c = omega (arith, c.in_ok-last.ensures.0, c.in_ok-last.ensures.1, c.len.ensures, c.if-last-place.false)

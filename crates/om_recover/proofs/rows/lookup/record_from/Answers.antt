@@ -20,6 +20,6 @@ returns-in-None-log_from c = λ x has within. c.in-None-log_from.ensures x (some
 
 pub returns-in-Some-log_from : goal.returns-in-Some-log_from
 returns-in-Some-log_from c =
-    subst (λ (row : Row). IsRecordFrom (held c.args.trees.now) c.args.kind c.args.pid c.args.from row) (sym c.row-in-Some-log_from.ensures)
-    (subst (λ kind. IsRecordFrom (held c.args.trees.now) kind c.args.pid c.args.from (row_of kind c.args.pid c.in-Some-log_from.x c.in-Some-log_from.vectors.now)) (sym c.in-Log.is)
-    (log_from _ _ _ _ c.in-Some-log_from.vectors.now c.requires c.in-Some-log_from.ensures))
+    subst (λ (row : Row). IsRecordFrom (held c.args.trees.now) c.args.kind c.args.pid c.args.from row) (sym (rw c.kept.ensures at c.row-in-Some-log_from.ensures))
+    (subst (λ kind. IsRecordFrom (held c.args.trees.now) kind c.args.pid c.args.from (row_of kind c.args.pid c.in-Some-log_from.x c.in-Some-log_from.vectors)) (sym c.in-Log.is)
+    (log_from _ _ _ _ c.in-Some-log_from.vectors c.requires c.in-Some-log_from.ensures))

@@ -20,6 +20,6 @@ returns-in-None-log_to c = λ x has within. c.in-None-log_to.ensures x (some_log
 
 pub returns-in-Some-log_to : goal.returns-in-Some-log_to
 returns-in-Some-log_to c =
-    subst (λ (row : Row). IsRecordTo (held c.args.trees.now) c.args.kind c.args.pid c.args.to row) (sym c.row-in-Some-log_to.ensures)
-    (subst (λ kind. IsRecordTo (held c.args.trees.now) kind c.args.pid c.args.to (row_of kind c.args.pid c.in-Some-log_to.x c.in-Some-log_to.vectors.now)) (sym c.in-Log.is)
-    (log_to _ _ _ _ c.in-Some-log_to.vectors.now c.requires c.in-Some-log_to.ensures))
+    subst (λ (row : Row). IsRecordTo (held c.args.trees.now) c.args.kind c.args.pid c.args.to row) (sym (rw c.kept.ensures at c.row-in-Some-log_to.ensures))
+    (subst (λ kind. IsRecordTo (held c.args.trees.now) kind c.args.pid c.args.to (row_of kind c.args.pid c.in-Some-log_to.x c.in-Some-log_to.vectors)) (sym c.in-Log.is)
+    (log_to _ _ _ _ c.in-Some-log_to.vectors c.requires c.in-Some-log_to.ensures))

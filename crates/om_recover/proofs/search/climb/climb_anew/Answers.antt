@@ -16,15 +16,15 @@ forced-requires g c =
     let begun = climbing_anew _ _ _ _ _ c.requires.state c.requires.process c.requires.start c.requires.above c.raised_to-begun.ensures in
     vec_places _ _ _ _ _ c.requires.lawful (record_of_stable _ _ _ c.requires.start) c.look-vec.ensures.vec ∙ sym begun.reached_places
 
-pub returns-then-leq-clause-climbed : goal.returns-then-leq-clause-climbed
-returns-then-leq-clause-climbed g c =
+pub returns-then-is_below-clause-climbed : goal.returns-then-is_below-clause-climbed
+returns-then-is_below-clause-climbed g c =
     let begun = climbing_anew _ _ _ _ _ c.requires.state c.requires.process c.requires.start c.requires.above c.raised_to-begun.ensures in
     let here : c.args.x ≡ slice_index c.raised_to-begun.result c.args.pid = raised_here _ _ _ _ c.requires.process c.raised_to-begun.ensures in
     climb_ends _ _ _ _ _ _ _ (climbing_step _ _ _ _ _ _ _ _ _ _ _ c.requires.lawful begun c.requires.process here c.requires.above c.look-vec.ensures.vec
-    (forced_nothing _ _ _ (c.leq.ensures.0 c.if-leq.true))) (sym c.raised_to-begun.ensures)
+    (forced_nothing _ _ _ (c.is_below.ensures.0 c.if-is_below.true))) (sym c.raised_to-begun.ensures)
 
-pub returns-then-leq-clause-counted : goal.returns-then-leq-clause-counted
-returns-then-leq-clause-counted g c =
+pub returns-then-is_below-clause-counted : goal.returns-then-is_below-clause-counted
+returns-then-is_below-clause-counted g c =
     let begun = climbing_anew _ _ _ _ _ c.requires.state c.requires.process c.requires.start c.requires.above c.raised_to-begun.ensures in
     let here : c.args.x ≡ slice_index c.raised_to-begun.result c.args.pid = raised_here _ _ _ _ c.requires.process c.raised_to-begun.ensures in
     attempted_by _ _ _ _ _ _ _ (under_way_step _ _ _ _ _ _ _ _ _ _ _ _ begun c.requires.process here c.requires.above c.requires.attempted c.look-vec.ensures.counted)
@@ -46,10 +46,10 @@ returns-in-Err-clause-remembered g c =
     let begun = climbing_anew _ _ _ _ _ c.requires.state c.requires.process c.requires.start c.requires.above c.raised_to-begun.ensures in
     let here : c.args.x ≡ slice_index c.raised_to-begun.result c.args.pid = raised_here _ _ _ _ c.requires.process c.raised_to-begun.ensures in
     let waits : c.in-Err.lacking < length c.args.state.now = omega (arith, c.in-Err.ensures.within, begun.reached_places) in
-    let memory : Memory = record { start = c.args.x; reached = c.raised_to-begun.result; passed = c.raised_to-begun.result; waits = c.in-Err.lacking; from = c.get.result } in
+    let memory : Memory = record { start = c.args.x; reached = c.raised_to-begun.result; passed = c.raised_to-begun.result; waits = c.in-Err.lacking; from = c.number_of.result } in
     all_with _ _ _ _ _ _ _ c.requires.remembered
     (record {
-      whole = remembered_failed _ _ _ _ _ _ _ _ _ _ _ begun c.requires.process here c.requires.above c.look-vec.ensures.vec refl refl waits c.get.ensures;
+      whole = remembered_failed _ _ _ _ _ _ _ _ _ _ _ begun c.requires.process here c.requires.above c.look-vec.ensures.vec refl refl waits c.number_of.ensures;
       part = part_remembered _ _ _ _ c.raised_to-begun.result memory (passing_start _ _ _ _ _ _ _ begun) waits;
     }) c.keep.ensures
 

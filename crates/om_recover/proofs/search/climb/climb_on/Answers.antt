@@ -69,9 +69,9 @@ returns-in-Err-clause-remembered g c =
     let in_cluster : c.in-Some.q < length c.args.state.now = omega (arith, c.in-Some.ensures.0, c.loop-q.invariant.climbing.looked_places) in
     let behind : slice_index c.loop-q.looked c.in-Some.q < c.get-y.result = omega (arith, c.in-Some.ensures.1, c.get-y.ensures) in
     let waits : c.in-Err.lacking < length c.args.state.now = omega (arith, c.in-Err.ensures.within, c.loop-q.invariant.climbing.reached_places) in
-    let memory : Memory = record { start = c.args.x; reached = c.loop-q.reached; passed = c.loop-q.passed; waits = c.in-Err.lacking; from = c.get.result } in
+    let memory : Memory = record { start = c.args.x; reached = c.loop-q.reached; passed = c.loop-q.passed; waits = c.in-Err.lacking; from = c.number_of.result } in
     all_with _ _ _ _ _ _ _ c.loop-q.invariant.remembered
     (record {
-      whole = remembered_failed _ _ _ _ _ _ _ _ _ _ _ c.loop-q.invariant.climbing in_cluster c.get-y.ensures behind c.look-vec.ensures.vec refl refl waits c.get.ensures;
+      whole = remembered_failed _ _ _ _ _ _ _ _ _ _ _ c.loop-q.invariant.climbing in_cluster c.get-y.ensures behind c.look-vec.ensures.vec refl refl waits c.number_of.ensures;
       part = part_remembered _ _ _ _ c.loop-q.reached memory c.loop-q.invariant.passing waits;
     }) c.keep.ensures

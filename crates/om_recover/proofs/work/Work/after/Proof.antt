@@ -1,4 +1,4 @@
-use Rattle.om_recover.specs.Attempts.{after_step}
+use Rattle.om_recover.specs.steps.Trail.{after_step}
 use mathlib.Core.Path.{refl}
 use mathlib.Core.List.{[], ◌∷◌}
 use seplogic.Ra.Ura.{Ura}
