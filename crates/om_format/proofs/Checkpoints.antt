@@ -17,7 +17,8 @@ use Rattle.om_format.specs.declared.version.Version.TheVariants.{V1, V2}
 use Rattle.om_format.specs.Formats.{Format, end, two, eight}
 use Rattle.om_format.specs.Pages.{Page, page_count, kept_pages, page_values}
 use Rattle.om_format.specs.Queues.{QueueRecord, queue_end, entry_values, queue_values, queue, queues}
-use Rattle.om_format.specs.Versions.{kind_of, is_kind, ext_of, version_number, is_version, version_of, memory_in, before_memory, memory_values}
+use Rattle.om_format.specs.Versions.{kind_of, is_kind, version_number, is_version, version_of, memory_in, before_memory, memory_values}
+use Rattle.om_format.specs.steps.Kinds.{ext_of}
 use Rattle.om_format.specs.Checkpoints.{CheckpointRecord, front, checkpoint_format, checkpoint_values, checkpoint_fault, AreEnded, SpellsCheckpoint, IsSpelled, IsFrontRead, IsCheckpoint}
 use Rattle.om_format.specs.steps.Offsets.{got_offset, made_offset, memory_offset}
 use Rattle.om_format.specs.steps.Reading.{◌>>=◌, allow, number_at, fields_at, opening_at, end_at}

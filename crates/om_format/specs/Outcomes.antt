@@ -11,8 +11,3 @@ Fails error due = (error ≡ Memory → ⊥) → due ≡ Err error
 abbrev pub Gives : {X Y : Type 0} → (X → Y) → Result X DecodeError → Result Y DecodeError → Type 0
 Gives view (Ok x) due = due ≡ Ok (view x)
 Gives view (Err error) due = Fails error due
-
--- an answer, seen by view, is the one that is due, and no want of memory: of a function that takes none
-abbrev pub Tells : {X Y : Type 0} → (X → Y) → Result X DecodeError → Result Y DecodeError → Type 0
-Tells view (Ok x) due = due ≡ Ok (view x)
-Tells view (Err error) due = (due ≡ Err error) × (error ≡ Memory → ⊥)

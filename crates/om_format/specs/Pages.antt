@@ -22,17 +22,13 @@ page_size size index = min PAGE (size - index * PAGE)
 abbrev pub page_at : List ℕ → ℕ → Page
 page_at memory index = record { index = index; bytes = take PAGE (drop (index * PAGE) memory) }
 
--- the pages of a memory, in their order
-abbrev pub pages_of : List ℕ → List Page
-pages_of memory = map (page_at memory) (range_with_len 0 (page_count (length memory)))
-
 -- not all bytes of a page are zero
 abbrev pub is_kept : List ℕ → Bool
 is_kept bytes = list_any (λ byte. nat_lt 0 byte) bytes
 
--- the pages of a memory that are not all zero
+-- the pages of a memory that are not all zero, in their order
 abbrev pub kept_pages : List ℕ → List Page
-kept_pages memory = filter (λ page. is_kept page.bytes) (pages_of memory)
+kept_pages memory = filter (λ page. is_kept page.bytes) (map (page_at memory) (range_with_len 0 (page_count (length memory))))
 
 -- so many pages of a memory of this size, from this index on: of each its index, above the one before and below the
 -- number of pages, and its bytes, which are not all zero

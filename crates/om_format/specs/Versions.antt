@@ -18,9 +18,6 @@ kind_of Im = CHECKPOINT_KIND_M
 abbrev pub is_kind : ℕ → Bool
 is_kind kind = kind == kind_of I || kind == kind_of Im
 
-abbrev pub ext_of : ℕ → Ext
-ext_of kind = if kind == kind_of I then I else Im
-
 -- the number of a version
 abbrev pub version_number : Version → ℕ
 version_number V1 = CHECKPOINT_VERSION_1

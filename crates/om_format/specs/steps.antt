@@ -5,3 +5,5 @@ pub mod Offsets
 pub mod CheckpointReading
 pub mod ReceiptBytes
 pub mod CheckpointBytes
+pub mod Kinds
+pub mod Telling

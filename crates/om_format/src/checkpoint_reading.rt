@@ -6,7 +6,7 @@ ghost use Rattle.om_isa.specs.declared.registers.TheConstants.{WRITABLE_REGISTER
 ghost use Rattle.om_format.specs.Formats.{four};
 ghost use Rattle.om_isa.specs.Memory.{is_memory_size};
 ghost use Rattle.om_format.specs.FirstFault.{values_at};
-ghost use Rattle.om_format.specs.Outcomes.{Tells};
+ghost use Rattle.om_format.specs.steps.Telling.{Tells};
 ghost use Rattle.om_format.specs.Versions.{is_kind, kind_of, is_version, version_number, is_cluster_size};
 ghost use Rattle.om_format.specs.steps.Reading.{numbers_at, opening_at};
 ghost use Rattle.om_format.specs.steps.Offsets.{memory_offset};

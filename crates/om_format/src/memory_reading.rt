@@ -3,7 +3,8 @@
 ghost use Rattle.std.specs.Prelude.{◌≡◌, ◌+◌, ◌<◌, ◌≤◌, ◌^◌, IfOk, IfErr, IsOk, length, true};
 ghost use Rattle.om_isa.specs.declared.memory.TheConstants.{MAX_MEMORY};
 ghost use Rattle.om_isa.specs.Memory.{is_memory_size};
-ghost use Rattle.om_format.specs.Outcomes.{Gives, Tells};
+ghost use Rattle.om_format.specs.Outcomes.{Gives};
+ghost use Rattle.om_format.specs.steps.Telling.{Tells};
 ghost use Rattle.om_format.specs.Pages.{page_count, page_size};
 ghost use Rattle.om_format.specs.steps.CheckpointReading.{next_page_at, pages_at, memory_at, before_memory_at};
 ghost use Rattle.om_format.specs.declared.version.Version.TheVariants.{V2};

@@ -33,15 +33,39 @@ pub(crate) fn page_of(memory: &[u8], index: usize) -> &[u8]
     &behind[..PAGE.min(behind.len())]
 }
 
-// Not all bytes are zero. Each byte is looked at, which takes less time than to stop at the first that is not.
+// How many bytes are looked at at once.
+const WORD: usize = 8;
+
+// Not all bytes are zero.
 pub(crate) fn is_kept(bytes: &[u8]) -> bool
     ensures { result ≡ is_kept bytes.now }
 {
-    let mut kept = false;
-    for byte in bytes {
-        kept |= *byte > 0;
+    let mut rest = bytes;
+    while let Some((word, behind)) = rest.split_first_chunk::<WORD>() {
+        if is_set(word) {
+            return true;
+        }
+        rest = behind;
     }
-    kept
+    is_any_set(rest)
+}
+
+// Not all bytes of a word are zero.
+fn is_set(word: &[u8; WORD]) -> bool
+    ensures { result ≡ is_kept word.now }
+{
+    u64::from_le_bytes(*word) != 0
+}
+
+// Not all bytes are zero, of those that are no word.
+fn is_any_set(bytes: &[u8]) -> bool
+    ensures { result ≡ is_kept bytes.now }
+{
+    let mut set = false;
+    for byte in bytes {
+        set |= *byte > 0;
+    }
+    set
 }
 
 // How many pages of a memory are kept.

@@ -2,7 +2,7 @@
 
 ghost use Rattle.std.specs.Prelude.{◌≡◌, ◌+◌, ◌<◌, ◌≤◌, IfOk, length};
 ghost use Rattle.om_format.specs.Formats.{one, two, four, eight};
-ghost use Rattle.om_format.specs.Outcomes.{Tells};
+ghost use Rattle.om_format.specs.steps.Telling.{Tells};
 ghost use Rattle.om_format.specs.steps.Reading.{number_at, pid_at, body_at, bytes_at, end_at};
 ghost use Rattle.om_interval.specs.declared.pid.TheConstants.{MAX_PROCESSES};
 ghost use Rattle.om_format.specs.declared.limits.TheConstants.{MAX_BODY};

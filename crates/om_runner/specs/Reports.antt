@@ -48,12 +48,6 @@ abbrev pub IsWholeRun : Program → ℕ → ℕ → Status → ℕ → Type 0
 IsWholeRun program own n status count = (h : List Received) × (s : Process) × Reaches program own n h s
     × (status ≡ status_of (next_move own n s.machine (made s.queues))) × (count ≡ outputs_made n s)
 
--- by process: it comes to its status so, and its outputs are as many as it has then made
-abbrev pub AreWhole : List Program → ℕ → List Status → List (Vec Output Global) → Type 0
-AreWhole programs n statuses released = (p : ℕ) (program : Program) (status : Status) (outputs : Vec Output Global)
-    → slice_get programs p ≡ Some program → slice_get statuses p ≡ Some status → slice_get released p ≡ Some outputs
-    → IsWholeRun program p n status (length outputs.items)
-
 -- by process: it comes to its status so, and of the outputs that it has then made none is left out
 abbrev pub HaveAll : List Program → ℕ → List Status → List (Vec Output Global) → Type 0
 HaveAll programs n statuses released = (p : ℕ) (program : Program) (status : Status) (outputs : Vec Output Global)
@@ -61,11 +55,14 @@ HaveAll programs n statuses released = (p : ℕ) (program : Program) (status : S
     → (count : ℕ) × IsWholeRun program p n status count × (count ≤ length outputs.items)
 
 -- the same of images
-abbrev pub AreWholeOf : List Image → List Status → List (Vec Output Global) → Type 0
-AreWholeOf images statuses released = AreWhole (map program_of images) (length images) statuses released
-
 abbrev pub HaveAllOf : List Image → List Status → List (Vec Output Global) → Type 0
 HaveAllOf images statuses released = HaveAll (map program_of images) (length images) statuses released
+
+-- by process: it comes to its status so, and its outputs are as many as it has then made
+abbrev pub AreWholeOf : List Image → List Status → List (Vec Output Global) → Type 0
+AreWholeOf images statuses released = (p : ℕ) (program : Program) (status : Status) (outputs : Vec Output Global)
+    → slice_get (map program_of images) p ≡ Some program → slice_get statuses p ≡ Some status → slice_get released p ≡ Some outputs
+    → IsWholeRun program p (length images) status (length outputs.items)
 
 -- the process that a fault names, if it names one
 abbrev pub process_of : RunFault → Option ℕ

@@ -39,12 +39,66 @@ pub(crate) enum Look {
 #[derive(Drop)]
 pub(crate) struct Bell {
     state: CachePadded<AtomicU64>,
+    // Which processes have put something for its worker since it asked: a bit for each.
+    senders: CachePadded<AtomicU64>,
+}
+
+// The bit of a process. There are fewer processes than bits.
+fn bit_of(place: usize) -> u64 {
+    1 << (place % 64)
+}
+
+// Processes, a bit for each.
+#[derive(Clone, Copy, Drop)]
+pub(crate) struct Marked {
+    bits: u64,
+}
+
+impl Marked {
+    // None.
+    pub(crate) fn none() -> Marked {
+        Marked { bits: 0 }
+    }
+
+    pub(crate) fn is_none(&self) -> bool {
+        self.bits == 0
+    }
+
+    pub(crate) fn has(&self, place: usize) -> bool {
+        self.bits & bit_of(place) != 0
+    }
+
+    pub(crate) fn remove(&mut self, place: usize) {
+        self.bits &= !bit_of(place);
+    }
+
+    // Those that are marked in the other too.
+    pub(crate) fn add(&mut self, other: Marked) {
+        self.bits |= other.bits;
+    }
 }
 
 impl Bell {
     pub(crate) fn new() -> Bell {
         Bell {
             state: CachePadded::new(AtomicU64::new(SILENT)),
+            senders: CachePadded::new(AtomicU64::new(0)),
+        }
+    }
+
+    // A process has put something for its worker, which is woken.
+    pub(crate) fn tell(&self, from: usize) {
+        self.senders.fetch_or(bit_of(from), SeqCst);
+        self.ring();
+    }
+
+    // Who has put something since this was asked last.
+    pub(crate) fn senders(&self) -> Marked {
+        if self.senders.load(SeqCst) == 0 {
+            return Marked::none();
+        }
+        Marked {
+            bits: self.senders.swap(0, SeqCst),
         }
     }
 

@@ -6,7 +6,7 @@ ghost use Rattle.om_process.specs.Core.{cluster_size};
 ghost use Rattle.om_runner.specs.steps.Network.{ArePuts, AreTakes, IsNetwork};
 ghost use Rattle.om_runner.specs.steps.Wiring.{HasEnds};
 
-use crate::bell::{Bell, Look, ring_all};
+use crate::bell::{Bell, Look, Marked, ring_all};
 use crate::network::Ends;
 use crate::received::Received;
 use om_board::{CAPACITY, Inbox, PutAnswer, PutPass, TakePass};
@@ -36,6 +36,8 @@ pub(crate) struct Links<'a> {
     next: [u32; MAX_PROCESSES],
     // The sender whose turn it is.
     turn: usize,
+    // The senders that may have something in their inboxes.
+    marked: Marked,
     // The number of processes.
     n: usize,
     // By process, what wakes its worker.
@@ -103,6 +105,7 @@ impl<'a> Links<'a> {
             takes,
             next: [0; MAX_PROCESSES],
             turn: 0,
+            marked: Marked::none(),
             n,
             bells,
             received,
@@ -170,6 +173,13 @@ impl<'a> Links<'a> {
     fn wake(&self, place: usize) {
         if let Some(bell) = self.bells.get(place) {
             bell.ring();
+        }
+    }
+
+    // Wakes the worker of a process, for which something was put.
+    fn tell(&self, place: usize) {
+        if let Some(bell) = self.bells.get(place) {
+            bell.tell(self.own.index());
         }
     }
 
@@ -284,7 +294,7 @@ impl<'a> Links<'a> {
             PutAnswer::Put => {
                 self.next[place] = ssn.saturating_add(1);
                 self.put = self.put.saturating_add(1);
-                self.wake(place);
+                self.tell(place);
                 Ok(true)
             }
             _ => Ok(false),
@@ -295,6 +305,12 @@ impl<'a> Links<'a> {
     pub(crate) fn take<R: Wait>(&mut self, rt: &R) -> Option<Message>
         ensures { self.new ≡ self.old }
     {
+        if let Some(bell) = self.bells.get(self.own.index()) {
+            self.marked.add(bell.senders());
+        }
+        if self.marked.is_none() {
+            return None;
+        }
         for _ in 0..self.n {
             let taken = self.take_next(rt);
             if taken.is_some() {
@@ -304,16 +320,21 @@ impl<'a> Links<'a> {
         None
     }
 
-    // Takes a message from the sender whose turn it is, if there is one.
+    // Takes a message from the sender whose turn it is, if there is one. Of an inbox that was empty its sender tells once more.
     fn take_next<R: Wait>(&mut self, rt: &R) -> Option<Message>
         ensures { self.new ≡ self.old }
     {
         let from = self.turn;
         self.turn = if from + 1 < self.n { from + 1 } else { 0 };
+        if !self.marked.has(from) {
+            return None;
+        }
         let inbox = &self.inboxes[from][self.own.index()];
         let taken = inbox.take(rt, &mut self.takes[from]);
         if taken.is_some() {
             self.count_taken(from);
+        } else {
+            self.marked.remove(from);
         }
         taken
     }

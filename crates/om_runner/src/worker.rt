@@ -144,7 +144,10 @@ fn pause_of<R: Wait + Clock>(
 ) -> Pause {
     if idle.is_fresh() && patience.begin() {
         match links.look(rt) {
-            Look::Rung => return Pause::Woken,
+            Look::Rung => {
+                patience.gain();
+                return Pause::Woken;
+            }
             Look::Slice => patience.end(),
             Look::Silent => {}
         }

@@ -12,7 +12,8 @@ use Rattle.om_format.specs.declared.queue.QueueEntry.{QueueEntry}
 use Rattle.om_format.specs.Formats.{Size, one, two, four, eight, bytes_in}
 use Rattle.om_format.specs.Queues.{QueueRecord, is_between}
 use Rattle.om_format.specs.Pages.{Page, page_count, page_size, is_kept}
-use Rattle.om_format.specs.Versions.{is_kind, ext_of, is_version, version_of, is_cluster_size}
+use Rattle.om_format.specs.Versions.{is_kind, is_version, version_of, is_cluster_size}
+use Rattle.om_format.specs.steps.Kinds.{ext_of}
 use Rattle.om_format.specs.Checkpoints.{CheckpointRecord}
 use Rattle.om_isa.specs.Memory.{is_memory_size}
 use Rattle.om_format.specs.steps.Offsets.{got_offset, made_offset, memory_offset, size_offset}
