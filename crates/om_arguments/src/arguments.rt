@@ -1,7 +1,7 @@
 //! The subcommands: their helps, and what the words of a command line ask of them.
 
 ghost use Rattle.std.specs.Prelude.{◌≡◌, IfOk, Some};
-ghost use Rattle.om_arguments.specs.Requests.{asked_by, ext_of, subcommand_named};
+ghost use Rattle.om_arguments.specs.steps.Requests.{asked_by, ext_of, subcommand_named};
 
 use crate::draw_request::{DRAW, Lines, draw_command, lines_of};
 use crate::look_requests::{

@@ -1,7 +1,7 @@
 //! The subcommands that look into the store of a process, `show` and `replay`: what they ask for, and how.
 
 ghost use Rattle.std.specs.Prelude.{◌≡◌, IfOk};
-ghost use Rattle.om_arguments.specs.Requests.{looked_by};
+ghost use Rattle.om_arguments.specs.steps.Requests.{looked_by};
 ghost use Rattle.om_arguments.specs.declared.arguments.Subcommand.{Subcommand};
 
 use crate::mistake::{Mistake, long_number_for, needed, number_for};

@@ -13,8 +13,9 @@ use Rattle.om_manager.specs.Sound.{GoesOn}
 use Rattle.om_manager.specs.Sound.GoesOn.{stays, rises}
 use Rattle.om_board.specs.declared.front.Front.{Front}
 use Rattle.om_board.specs.CellNames.{CellName}
-use Rattle.om_board.specs.Fronts.MayFollow.{again, above}
-use Rattle.om_board.specs.Fronts.{front_of, first_front, IsAtMost, Rises, IsPosted, EndsWith, MayFollow}
+use Rattle.om_board.specs.steps.Posts.MayFollow.{again, above}
+use Rattle.om_board.specs.Fronts.{front_of, first_front, IsAtMost, Rises, IsPosted, EndsWith}
+use Rattle.om_board.specs.steps.Posts.{MayFollow}
 use Rattle.om_board.specs.steps.Posting.{words_in, front_in, fronts_in, zero_words, AreWords, Grows, IsLog, IsLastOf, IsWriter, writer}
 use Rattle.om_board.specs.declared.cell.View.{View}
 use Rattle.atomic_table.specs.Seated.{TableId}

@@ -30,11 +30,6 @@ IsPosted fronts = AllPairs Rises fronts
 abbrev pub EndsWith : List Front → Front → Type 0
 EndsWith fronts last = (before : List Front) × (before ++ last ∷ [] ≡ fronts)
 
--- the front is the last of the list, or rises above it
-pub data MayFollow (fronts : List Front) (front : Front) : Type 0 where
-  again : EndsWith fronts front → MayFollow fronts front
-  above : (last : Front) → EndsWith fronts last → Rises last front → MayFollow fronts front
-
 -- the list with a front that may follow it: the front is added where it rises above the last one
 pub data Follows (old : List Front) (front : Front) (new : List Front) : Type 0 where
   again : EndsWith old front → new ≡ old → Follows old front new

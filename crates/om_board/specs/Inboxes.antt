@@ -8,13 +8,9 @@ use Rattle.om_board.specs.declared.inbox.PutAnswer.{PutAnswer}
 use Rattle.om_board.specs.declared.inbox.PutAnswer.TheVariants.{Put, Full, Gone}
 use Rattle.om_board.specs.declared.inbox.TheConstants.{CAPACITY}
 
--- names one channel
-abbrev pub ChannelName : Type 0
-ChannelName = TableId × Badge (Key Message)
-
 -- an inbox: its channel, and the pair of processes
 pub record Line : Type 0 where
-  pub channel : ChannelName
+  pub channel : TableId × Badge (Key Message)
   pub from : ℕ
   pub to : ℕ
 
@@ -39,27 +35,15 @@ pub record IsOfLine (line : Line) (message : Message) : Type 0 where
 abbrev pub IsEndOf : List Message → List Message → Type 0
 IsEndOf messages last = (before : List Message) × (messages ≡ before ++ last)
 
--- with one message more
-abbrev pub with_message : Traffic → Message → Traffic
-with_message traffic message = record { line = traffic.line; messages = traffic.messages ++ message ∷ [] }
-
 -- the answer to a put, and what has been put after it: a message that is not put comes back; where the inbox was full,
 -- the last messages that were put stood in it at a moment of the call
 abbrev pub MatchPut : PutAnswer → Message → Traffic → Traffic → Type 0
-MatchPut Put message old new = new ≡ with_message old message
+MatchPut Put message old new = new ≡ record old { messages = old.messages ++ message ∷ [] }
 MatchPut (Full back) message old new = (back ≡ message) × (new ≡ old) × Held CAPACITY (IsEndOf old.messages)
 MatchPut (Gone back) message old new = (back ≡ message) × (new ≡ old)
 
--- these are left of what was put, as far as that is known
-abbrev pub AreLeft : Takings → List Message → Type 0
-AreLeft taken left = IfSome taken.put (λ put. put ≡ taken.messages ++ left)
-
--- with one message more
-abbrev pub with_taken : Takings → Message → Takings
-with_taken taken message = record taken { messages = taken.messages ++ message ∷ [] }
-
--- the answer to a take, and what has been taken after it: where there was none, nothing was left in the inbox at a moment of
--- the call
+-- the answer to a take, and what has been taken after it: where there was none, nothing was left in the inbox of what was
+-- put, as far as that is known, at a moment of the call
 abbrev pub MatchTake : Option Message → Takings → Takings → Type 0
-MatchTake None old new = (new ≡ old) × Held 0 (AreLeft old)
-MatchTake (Some message) old new = (new ≡ with_taken old message) × IsOfLine old.line message
+MatchTake None old new = (new ≡ old) × Held 0 (λ left. IfSome old.put (λ put. put ≡ old.messages ++ left))
+MatchTake (Some message) old new = (new ≡ record old { messages = old.messages ++ message ∷ [] }) × IsOfLine old.line message

@@ -2,3 +2,4 @@
 pub mod Order
 pub mod Posting
 pub mod Codes
+pub mod Posts

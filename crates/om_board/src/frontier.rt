@@ -1,7 +1,8 @@
 ghost use Rattle.std.specs.Prelude.{◌≡◌, ◌≤◌, [], ◌∷◌, length, IfOk, All};
 ghost use mathlib.Core.List.{IsPrefix};
 ghost use Rattle.om_interval.specs.declared.pid.TheConstants.{MAX_PROCESSES};
-ghost use Rattle.om_board.specs.Fronts.{first_front, IsAtMost, IsPosted, EndsWith, MayFollow, Follows};
+ghost use Rattle.om_board.specs.Fronts.{first_front, IsAtMost, IsPosted, EndsWith, Follows};
+ghost use Rattle.om_board.specs.steps.Posts.{MayFollow};
 
 use crate::cell::{
     Cell, Ticket, WORDS, compare, copy_of, read_words, reader_of, show, write_words,

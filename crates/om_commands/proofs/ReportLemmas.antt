@@ -1,10 +1,11 @@
-use Rattle.std.proofs.Common.{◌≡◌, ℕ, ◌+◌, ◌<◌, List, [], ◌∷◌, ◌++◌, Result, refl, sym, ◌∙◌, ap, subst, append_assoc, add-one, drop-cons, length, get_or, drop, replicate, suc}
+use Rattle.std.proofs.Common.{◌≡◌, ◌≢◌, ℕ, ◌+◌, ◌<◌, List, [], ◌∷◌, ◌++◌, Result, Err, refl, sym, ◌∙◌, ap, subst, append_assoc, add-one, drop-cons, length, get_or, drop, replicate, suc}
 use Rattle.om_recover.specs.Rows.{Rows}
 use Rattle.om_recover.specs.Recoverable.{IsGreatest}
 use Rattle.om_recover.specs.Offered.{offered, TellsChange}
 use Rattle.om_recover.specs.declared.note.Note.{Note}
 use Rattle.om_recover.specs.declared.note.NoteError.{NoteError}
-use Rattle.om_commands.specs.Report.{answer_word, intervals_text, offered_row, IsWritten, IsReportFrom}
+use Rattle.om_recover.specs.declared.note.NoteError.TheVariants.{Memory}
+use Rattle.om_commands.specs.Report.{answer_word, intervals_text, offered_row, IsReportFrom}
 use Rattle.om_commands.specs.declared.record_script.NoteLine.{NoteLine}
 
 -- what is left at a place is what stands there and the rest
@@ -18,7 +19,7 @@ line_and_rest before word state rest = simp append_assoc
 -- where the text so far completes each text of the notes to come, it does with a line more
 pub report_more : (Whole : List ℕ → Type 0) (n : ℕ) (rows after : Rows) (state next : List ℕ) (notes : List NoteLine) (i : ℕ) (note : NoteLine) (answer : Result Note NoteError) (before longer : List ℕ)
     → i < length notes → note ≡ get_or notes i note
-    → offered n rows (offered_row (replicate n 0) note) answer after → IsGreatest n after next → TellsChange answer state next → IsWritten answer
+    → offered n rows (offered_row (replicate n 0) note) answer after → IsGreatest n after next → TellsChange answer state next → answer ≢ Err Memory
     → longer ≡ ((before ++ answer_word answer) ++ 58 ∷ []) ++ intervals_text next
     → ((rest : List ℕ) → IsReportFrom n rows state (drop i notes) rest → Whole (before ++ rest))
     → (rest : List ℕ) → IsReportFrom n after next (drop (i + 1) notes) rest → Whole (longer ++ rest)

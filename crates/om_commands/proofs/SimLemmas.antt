@@ -119,7 +119,7 @@ of_script : (bytes : List ℕ) (script : EventScript) (error : CommandError) →
     → (error ≡ NoMemory) ⊎ ((error ≡ EmptyScript) × LacksProcesses script.cluster) → IsErrorOfSim bytes error
 of_script bytes script error read told = ⊎_elim
     (λ memory. subst (IsErrorOfSim bytes) (sym memory) tt)
-    (λ none. subst (IsErrorOfSim bytes) (sym none.0) (record { script = script; is_script = read; is_empty = none.1 }))
+    (λ none. subst (IsErrorOfSim bytes) (sym none.0) (script, read, none.1))
     told
 
 pub error_of_answer : {A : Type 0} (remaining : Option (List ℕ)) (start script : EventScript) (r : Result A CommandError) → start ≡ no_events

@@ -17,12 +17,12 @@ pub record IsScript {State : Type 0} (meaning : Meaning State) (start : State) (
   pub short : length bytes ≤ MAX_BYTES
   pub read : script_of meaning start bytes ≡ Ok script
 
--- the bytes are not too many, and their lines give a script that is empty
-pub record IsEmptyScript {State : Type 0} (meaning : Meaning State) (start : State) (IsEmpty : State → Type 0)
-    (bytes : List ℕ) : Type 0 where
+-- the text answers the script that these bytes are
+pub record AnswersScript {State : Type 0} (meaning : Meaning State) (start : State) (Answers : State → List ℕ → Type 0)
+    (bytes text : List ℕ) : Type 0 where
   pub script : State
   pub is_script : IsScript meaning start bytes script
-  pub is_empty : IsEmpty script
+  pub answer : Answers script text
 
 -- The error is that of the bytes, where a script that is empty is one. Those of the reader, the writer and memory may
 -- come whatever the bytes are.
@@ -31,7 +31,7 @@ IsErrorOf meaning start IsEmpty bytes errors.TooLong = MAX_BYTES < length bytes
 IsErrorOf meaning start IsEmpty bytes errors.CannotRead = Unit {0}
 IsErrorOf meaning start IsEmpty bytes errors.CannotWrite = Unit {0}
 IsErrorOf meaning start IsEmpty bytes errors.NoMemory = Unit {0}
-IsErrorOf meaning start IsEmpty bytes errors.EmptyScript = IsEmptyScript meaning start IsEmpty bytes
+IsErrorOf meaning start IsEmpty bytes errors.EmptyScript = (script : _) × IsScript meaning start bytes script × IsEmpty script
 IsErrorOf meaning start IsEmpty bytes (errors.Script error) =
     (length bytes ≤ MAX_BYTES) × (script_of meaning start bytes ≡ Err error)
 IsErrorOf meaning start IsEmpty bytes _ = ⊥

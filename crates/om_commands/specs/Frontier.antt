@@ -1,6 +1,6 @@
 -- What the command `frontier` answers to the bytes of its input.
 use Rattle.std.specs.Prelude.{◌≡◌, ℕ, List, None, Some}
-use Rattle.om_commands.specs.Command.{IsErrorOf, IsScript}
+use Rattle.om_commands.specs.Command.{AnswersScript, IsErrorOf}
 use Rattle.om_commands.specs.RecordScript.{RecordLines, no_records, record_script_line}
 use Rattle.om_commands.specs.Report.{IsReport}
 use Rattle.om_commands.specs.declared.error.CommandError.{CommandError}
@@ -14,7 +14,5 @@ abbrev pub IsFrontierAnswer : RecordLines → List ℕ → Type 0
 IsFrontierAnswer script text = (n : ℕ) × (script.processes ≡ Some n) × IsReport n script.notes text
 
 -- the answer to the script that these bytes are
-pub record IsFrontier (bytes text : List ℕ) : Type 0 where
-  pub script : RecordLines
-  pub is_script : IsScript record_script_line no_records bytes script
-  pub answer : IsFrontierAnswer script text
+abbrev pub IsFrontier : List ℕ → List ℕ → Type 0
+IsFrontier bytes text = AnswersScript record_script_line no_records IsFrontierAnswer bytes text

@@ -1,5 +1,5 @@
 -- What is written of the notes of a record script.
-use Rattle.std.specs.Prelude.{◌≡◌, ℕ, ◌<◌, ◌↔◌, List, [], ◌∷◌, ◌++◌, replicate, Result, Ok, Err, if◌then◌else◌, codes, decimal}
+use Rattle.std.specs.Prelude.{◌≡◌, ◌≢◌, ℕ, ◌<◌, ◌↔◌, List, [], ◌∷◌, ◌++◌, replicate, Result, Ok, Err, if◌then◌else◌, codes, decimal}
 use Rattle.std.specs.List.{flat_map}
 use Rattle.om_recover.specs.Rows.{Rows, HasRow}
 use Rattle.om_recover.specs.Recoverable.{IsGreatest}
@@ -34,19 +34,6 @@ abbrev pub answer_word : Result Note NoteError → List ℕ
 answer_word (Ok note) = note_word note
 answer_word (Err error) = error_word error
 
--- a refusal has a word
-abbrev pub HasWord : NoteError → Type 0
-HasWord Memory = ⊥
-HasWord Stranger = Unit {0}
-HasWord BadVector = Unit {0}
-HasWord Differs = Unit {0}
-HasWord (Disorder y) = Unit {0}
-
--- an answer has a word
-abbrev pub IsWritten : Result Note NoteError → Type 0
-IsWritten (Ok note) = Unit {0}
-IsWritten (Err error) = HasWord error
-
 -- the intervals of a state, each after a space, and the end of the line
 abbrev pub intervals_text : List ℕ → List ℕ
 intervals_text state = flat_map (λ interval. 32 ∷ decimal interval) state ++ 10 ∷ []
@@ -60,7 +47,7 @@ IsReportFrom n rows state (note ∷ notes) text =
     × offered n rows (offered_row (replicate n 0) note) answer after
     × IsGreatest n after next
     × TellsChange answer state next
-    × IsWritten answer
+    × (answer ≢ Err Memory)
     × IsReportFrom n after next notes rest
     × (text ≡ answer_word answer ++ 58 ∷ intervals_text next ++ rest)
 

@@ -7,7 +7,7 @@ use Rattle.om_world.specs.Holds.{Holds}
 use Rattle.om_world.specs.Started.{IsStarted}
 use Rattle.om_world.specs.World.{WorldState, IsKnown}
 use Rattle.om_world.specs.declared.event.Answer.{Answer}
-use Rattle.om_commands.specs.Command.{IsErrorOf, IsScript}
+use Rattle.om_commands.specs.Command.{AnswersScript, IsErrorOf}
 use Rattle.om_commands.specs.SimScript.{EventScript, event_script_line, no_events}
 use Rattle.om_commands.specs.SimText.{answers_text, end_text}
 use Rattle.om_commands.specs.declared.error.CommandError.{CommandError}
@@ -33,7 +33,5 @@ abbrev pub IsSimAnswer : EventScript → List ℕ → Type 0
 IsSimAnswer script text = (begun : WorldState) × IsBegun (programs_of script.cluster) begun × IsPlayed script begun text
 
 -- the answer to the script that these bytes are
-pub record IsSim (bytes text : List ℕ) : Type 0 where
-  pub script : EventScript
-  pub is_script : IsScript event_script_line no_events bytes script
-  pub answer : IsSimAnswer script text
+abbrev pub IsSim : List ℕ → List ℕ → Type 0
+IsSim bytes text = AnswersScript event_script_line no_events IsSimAnswer bytes text

@@ -3,20 +3,11 @@ use Rattle.std.specs.Prelude.{ℕ, ◌*◌, List, [], ◌∷◌, ◌++◌, lengt
 use Rattle.std.specs.Int.{div_ceil}
 use Rattle.std.specs.List.{flat_map, range_with_len}
 use Rattle.hex.specs.Hex.{encode_lower}
-use Rattle.om_machine.specs.Causes.{cause_number}
 use Rattle.om_process.specs.Core.{CoreState, move_of, status_of}
 use Rattle.om_process.specs.Process.{Process}
-use Rattle.om_process.specs.declared.status.Status.{Status}
-use Rattle.om_process.specs.declared.status.Status.TheVariants.{Ready, Waiting, Ended, Trapped}
-use Rattle.om_commands.specs.Hex.{word_text}
+use Rattle.om_world.specs.Texts.{status_text}
+use Rattle.om_look.specs.Trace.{word_text}
 use Rattle.om_commands.specs.declared.state_text.TheConstants.{ROW_BYTES}
-
--- what a process is about to do
-abbrev pub status_text : Status → List ℕ
-status_text Ready = codes "ready"
-status_text Waiting = codes "waiting"
-status_text (Ended code) = codes "ended " ++ decimal code
-status_text (Trapped cause) = codes "trapped " ++ decimal (cause_number cause)
 
 -- the line of a register
 abbrev pub register_line : ℕ → ℕ → List ℕ

@@ -1,7 +1,7 @@
 ghost use Rattle.std.specs.Prelude.{◌≡◌};
 ghost use Rattle.om_text.specs.declared.text.ReadError.TheVariants as reading;
 ghost use Rattle.om_text.specs.declared.error.BuildError.TheVariants as errors;
-ghost use Rattle.om_commands.specs.Errors.{error_of_reading, error_of_building, error_of_replay};
+ghost use Rattle.om_commands.specs.steps.Errors.{error_of_reading, error_of_building, error_of_replay};
 
 use om_process::ReplayFault;
 use om_text::{BuildError, ReadError, ScriptError};

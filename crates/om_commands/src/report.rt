@@ -1,8 +1,9 @@
-ghost use Rattle.std.specs.Prelude.{◌≡◌, ◌≤◌, ◌++◌, ◌∷◌, [], ℕ, List, length, IfOk, OnOk, string_bytes};
+ghost use Rattle.std.specs.Prelude.{◌≡◌, ◌≢◌, ◌≤◌, ◌++◌, ◌∷◌, [], ℕ, List, length, Err, IfOk, OnOk, string_bytes};
 ghost use Rattle.om_interval.specs.declared.pid.TheConstants.{MAX_PROCESSES};
 ghost use Rattle.om_recover.specs.Offered.{offered, TellsChange};
 ghost use Rattle.om_recover.specs.Recoverable.{IsGreatest};
-ghost use Rattle.om_commands.specs.Report.{IsReport, IsWritten, HasWord, answer_word, note_word, error_word, offered_row, intervals_text};
+ghost use Rattle.om_recover.specs.declared.note.NoteError.TheVariants.{Memory};
+ghost use Rattle.om_commands.specs.Report.{IsReport, answer_word, note_word, error_word, offered_row, intervals_text};
 
 use crate::record_script::NoteLine;
 use om_interval::{DepVec, Pid};
@@ -84,7 +85,7 @@ fn answer_to(
 // Writes the word of an answer and a colon. Want of memory has no word.
 fn push_answer(text: &mut String, answer: Result<Note, NoteError>) -> Result<(), AllocError>
     ensures word { OnOk result (string_bytes text.new ≡ (string_bytes text.old ++ answer_word answer) ++ 58 ∷ []) }
-    ensures written { OnOk result (IsWritten answer) }
+    ensures written { OnOk result (answer ≢ Err Memory) }
 {
     match answer {
         Ok(note) => text.push_str(note_word(note))?,
@@ -105,7 +106,7 @@ fn note_word(note: Note) -> &'static str
 
 fn push_error(text: &mut String, error: NoteError) -> Result<(), AllocError>
     ensures word { OnOk result (string_bytes text.new ≡ string_bytes text.old ++ error_word error) }
-    ensures written { OnOk result (HasWord error) }
+    ensures written { OnOk result (error ≢ Memory) }
 {
     match error {
         NoteError::Stranger => text.push_str("stranger"),

@@ -6,7 +6,7 @@ ghost use Rattle.om_look.specs.Show.{IsShown};
 ghost use Rattle.om_stable.specs.Calls.{IsCleanCall, UsesStore};
 ghost use Rattle.om_commands.specs.Command.{IsSilent};
 ghost use Rattle.om_commands.specs.Replay.{IsNoMatterOfContent};
-ghost use Rattle.om_commands.specs.Show.{error_of_look};
+ghost use Rattle.om_commands.specs.steps.Errors.{error_of_look};
 
 use crate::command::write_answer;
 use crate::error::CommandError;

@@ -5,7 +5,9 @@ ghost use Rattle.std.specs.List.{flat_map, range_with_len};
 ghost use Rattle.om_interval.specs.declared.pid.TheConstants.{MAX_PROCESSES};
 ghost use Rattle.om_manager.specs.Outputs.{held_of};
 ghost use Rattle.om_manager.specs.State.{process_count};
-ghost use Rattle.om_commands.specs.SimText.{accept_text, answer_text, answers_text, bytes_text, core_text, end_text, gathered_text, name_at, output_line, outputs_text, process_line, released_text, refusal_text};
+ghost use Rattle.om_commands.specs.SimText.{answers_text, core_text, end_text, name_at, output_line, outputs_text, process_line, released_text};
+ghost use Rattle.om_look.specs.Trace.{body_text};
+ghost use Rattle.om_world.specs.Texts.{accept_text, answer_text, gathered_word, refusal_word};
 
 use crate::report::push_state;
 use crate::state_text::push_status;
@@ -35,7 +37,7 @@ fn push_accept(text: &mut String, accept: Accept) -> Result<(), AllocError>
 }
 
 fn refusal_word(why: Refusal) -> &'static str
-    ensures { result.now ≡ refusal_text why }
+    ensures { result.now ≡ refusal_word why }
 {
     match why {
         Refusal::NoProcess => "no-process",
@@ -52,7 +54,7 @@ fn refusal_word(why: Refusal) -> &'static str
 }
 
 fn gathered_word(gathered: Gathered) -> &'static str
-    ensures { result.now ≡ gathered_text gathered }
+    ensures { result.now ≡ gathered_word gathered }
 {
     match gathered {
         Gathered::Waiting => "waiting",
@@ -175,7 +177,7 @@ fn push_processes<S: Stable>(
 
 // Writes bytes in hexadecimal, and a mark where there is none.
 fn push_bytes(alloc: Global, text: &mut String, bytes: &[u8]) -> Result<(), AllocError>
-    ensures { OnOk result (string_bytes text.new ≡ string_bytes text.old ++ bytes_text bytes.now) }
+    ensures { OnOk result (string_bytes text.new ≡ string_bytes text.old ++ body_text bytes.now) }
 {
     if bytes.is_empty() {
         return text.push('-');

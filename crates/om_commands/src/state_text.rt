@@ -2,8 +2,9 @@
 
 ghost use Rattle.std.specs.Prelude.{◌≡◌, ◌++◌, ◌∷◌, ◌≤◌, [], length, slice_index, IfOk, OnOk, string_bytes};
 ghost use Rattle.om_isa.specs.declared.memory.TheConstants.{MAX_MEMORY};
-ghost use Rattle.om_commands.specs.Hex.{word_text};
-ghost use Rattle.om_commands.specs.StateText.{head_text, memory_line, memory_text, register_line, registers_text, state_text, status_text};
+ghost use Rattle.om_look.specs.Trace.{word_text};
+ghost use Rattle.om_commands.specs.StateText.{head_text, memory_line, memory_text, register_line, registers_text, state_text};
+ghost use Rattle.om_world.specs.Texts.{status_text};
 
 use om_isa::REGISTERS;
 use om_machine::Machine;

@@ -6,7 +6,8 @@ ghost use Rattle.om_stable.specs.Calls.{IsCleanCall, UsesStore};
 ghost use Rattle.om_process.specs.Stored.{Anyone, CanReplay};
 ghost use Rattle.om_commands.specs.Command.{IsSilent};
 ghost use Rattle.om_commands.specs.Replay.{IsNoMatterOfContent, IsReplayError};
-ghost use Rattle.om_commands.specs.Steps.{IsStepsText, IsTextBehind, TakesSteps};
+ghost use Rattle.om_commands.specs.ReplaySteps.{IsStepsText, TakesSteps};
+ghost use Rattle.om_commands.specs.steps.Behind.{IsTextBehind};
 
 use crate::command::write_answer;
 use crate::error::CommandError;

@@ -16,7 +16,8 @@ use Rattle.om_sheet.specs.declared.sheet.Drawn.{Drawn}
 use Rattle.om_world.specs.World.{WorldState, IsKnown}
 use Rattle.om_world.specs.declared.event.Event.{Event}
 use Rattle.om_commands.specs.Command.{IsScript}
-use Rattle.om_draw_command.specs.Draw.{AreDrawn, ArePlayed, IsDrawn, IsPictureOf, IsPlayedPicture, IsPlayedRow, count_within, event_lines}
+use Rattle.om_draw_command.specs.Draw.{ArePlayed, IsDrawn, IsPictureOf, IsPlayedPicture, IsPlayedRow, count_within, event_lines}
+use Rattle.om_draw_command.specs.steps.Playing.{AreDrawn}
 use Rattle.om_commands.specs.Sim.{IsBegun, IsErrorOfSim}
 use Rattle.om_commands.specs.declared.error.CommandError.{CommandError}
 use Rattle.om_commands.specs.declared.error.CommandError.TheVariants.{EmptyScript, NoMemory}

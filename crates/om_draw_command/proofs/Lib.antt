@@ -1,4 +1,3 @@
-pub mod AnswerWords
 pub mod DrawLemmas
 pub mod LineLemmas
 pub mod PlainNames

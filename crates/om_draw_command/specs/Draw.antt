@@ -9,7 +9,6 @@ use Rattle.om_text.specs.Words.{words_of}
 use Rattle.om_world.specs.Played.{Played}
 use Rattle.om_world.specs.World.{WorldState, IsKnown}
 use Rattle.om_world.specs.declared.event.Event.{Event}
-use Rattle.om_picture.specs.Drawing.{IsSketchOf, Sketch}
 use Rattle.om_picture.specs.Fates.{EventRow}
 use Rattle.om_picture.specs.Marks.{IsDrawingOf}
 use Rattle.om_svg.specs.PictureText.{picture_text}
@@ -47,12 +46,6 @@ ArePlayed lines (event ∷ events) old (row ∷ rows) new =
     (mid : WorldState) × IsPlayedRow (slice_index lines 0) event old row mid × ArePlayed (drop 1 lines) events mid rows new
 ArePlayed lines [] old (row ∷ rows) new = ⊥
 ArePlayed lines (event ∷ events) old [] new = ⊥
-
--- events of these lines are played, and a picture of so many processes has their marks, from a line on
-pub record AreDrawn (lines : List ℕ) (events : List Event) (n first : ℕ) (old new : WorldState) (sketch : Sketch) : Type 0 where
-  pub rows : List EventRow
-  pub played : ArePlayed lines events old rows new
-  pub marks : IsSketchOf n first rows sketch
 
 -- a picture of the first events of a script, so many, played from this world on: it has the marks of those from a line on, each where
 -- its event stands and as it was in the end; the events stand in their order, and all have room

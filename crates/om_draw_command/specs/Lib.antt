@@ -1,2 +1,3 @@
 pub mod Draw
 pub mod Reading
+pub mod steps

@@ -15,11 +15,6 @@ abbrev pub has_made : Answer → Bool
 has_made (answers.Ran steps status sent made) = nat_lt 0 made
 has_made _ = false
 
--- an event with this answer made outputs
-abbrev pub makes : Event → Answer → Bool
-makes (events.Run process fuel) answer = has_made answer
-makes _ answer = false
-
 -- how many outputs an event handed in with this answer, between these managers: of those that a run made, some may have been
 -- handed in before
 abbrev pub newly_handed : Event → Answer → ManagerState → ManagerState → ℕ

@@ -10,7 +10,8 @@ ghost use Rattle.om_picture.specs.Drawing.{IsSketchOf, sketch_of};
 ghost use Rattle.om_draw_command.specs.Reading.{newly_handed};
 ghost use Rattle.om_picture.specs.declared.column.TheConstants.{MOST_COLUMNS};
 ghost use Rattle.om_text.specs.declared.text.TheConstants.{MAX_BYTES};
-ghost use Rattle.om_draw_command.specs.Draw.{AreDrawn, IsDrawn, IsPictureOf, IsPlayedPicture, count_within, event_lines};
+ghost use Rattle.om_draw_command.specs.Draw.{IsDrawn, IsPictureOf, IsPlayedPicture, count_within, event_lines};
+ghost use Rattle.om_draw_command.specs.steps.Playing.{AreDrawn};
 ghost use Rattle.om_commands.specs.Sim.{IsErrorOfSim};
 ghost use Rattle.om_commands.specs.SimScript.{event_script_line, no_events};
 

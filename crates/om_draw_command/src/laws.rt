@@ -1,18 +1,10 @@
 //! What holds of scripts: each function stands for a theorem over the definitions alone.
 
 ghost use Rattle.std.specs.Prelude.{◌≡◌, ◌<◌, ℕ, List, length, slice_index};
-ghost use Rattle.om_world.specs.declared.event.Answer.{Answer};
-ghost use Rattle.om_commands.specs.SimText.{answer_text};
-ghost use Rattle.om_svg.specs.AnswerText.{answer_text as told_answer};
 ghost use Rattle.om_draw_command.specs.Draw.{event_lines};
 
 /// The numbers of the lines of events rise: each event has a line of its own, behind those of the events before it.
 pub fn event_lines_rise()
     ensures { (bytes : List ℕ) (events i j : ℕ) → i < j → j < length (event_lines bytes events)
         → slice_index (event_lines bytes events) i < slice_index (event_lines bytes events) j }
-{}
-
-/// The titles of a picture tell answers in the words of `sim`.
-pub fn answers_are_those_of_sim()
-    ensures { (answer : Answer) → told_answer answer ≡ answer_text answer }
 {}

@@ -2,7 +2,7 @@
 
 ghost use Rattle.std.specs.Prelude.{◌≡◌, false, IfErr, IfOk};
 ghost use Rattle.om_commands.specs.Replay.{IsNoMatterOfContent};
-ghost use Rattle.om_files.specs.Quiet.{IsQuiet};
+ghost use Rattle.om_files.specs.steps.Quiet.{IsQuiet};
 
 use crate::connecting::refusal_of_opening;
 use crate::files::log_of;

@@ -7,7 +7,7 @@ ghost use Rattle.om_look.specs.Show.{IsShown};
 ghost use Rattle.om_tables.specs.Store.{HasBothTables, IsFormed, content_in, is_sure};
 ghost use Rattle.om_commands.specs.Command.{IsSilent};
 ghost use Rattle.om_commands.specs.Replay.{IsNoMatterOfContent, IsReplayError};
-ghost use Rattle.om_commands.specs.Steps.{IsStepsText};
+ghost use Rattle.om_commands.specs.ReplaySteps.{IsStepsText};
 
 use crate::copying::copy_of;
 use om_commands::CommandError;

@@ -2,7 +2,7 @@
 
 ghost use Rattle.std.specs.Prelude.{◌≡◌, ◌↔◌, IfOk, length};
 ghost use Rattle.om_commands.specs.declared.error.CommandError.TheVariants as commands;
-ghost use Rattle.om_files.specs.Quiet.{error_of_place};
+ghost use Rattle.om_files.specs.steps.Quiet.{error_of_place};
 
 use crate::files::{file_of, log_of};
 use om_commands::CommandError;

@@ -9,11 +9,7 @@ use Rattle.om_process.specs.Process.{Program}
 use Rattle.om_text.specs.Lines.{lines_of}
 use Rattle.om_text.specs.Numbers.{number_of}
 use Rattle.om_text.specs.Words.{words_of}
-use Rattle.om_text.specs.declared.error.BuildError.{BuildError}
-use Rattle.om_text.specs.declared.error.BuildError.TheVariants as building
 use Rattle.om_text.specs.declared.error.LineError.{LineError}
-use Rattle.om_text.specs.declared.text.ReadError.{ReadError}
-use Rattle.om_text.specs.declared.text.ReadError.TheVariants as reading
 use Rattle.om_scripts.specs.Programs.{no_programs, program_line}
 use Rattle.om_image.specs.declared.error.ImageError.{ImageError}
 use Rattle.om_image.specs.declared.error.ImageError.TheVariants as errors
@@ -73,13 +69,3 @@ IsSilent errors.CannotWrite kept = Unit {0}
 IsSilent errors.CannotRead kept = kept
 IsSilent errors.NoMemory kept = kept
 IsSilent (errors.Line error) kept = kept
-
--- the errors of what is read and of what is made of it
-abbrev pub error_of_building : BuildError LineError → ImageError
-error_of_building (building.Invalid error) = errors.Line error
-error_of_building building.Memory = errors.NoMemory
-
-abbrev pub error_of_reading : ReadError → ImageError
-error_of_reading reading.TooLong = errors.CannotRead
-error_of_reading reading.CannotRead = errors.CannotRead
-error_of_reading reading.Memory = errors.NoMemory

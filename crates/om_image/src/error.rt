@@ -1,7 +1,7 @@
 ghost use Rattle.std.specs.Prelude.{◌≡◌};
 ghost use Rattle.om_text.specs.declared.error.BuildError.TheVariants as building;
 ghost use Rattle.om_text.specs.declared.text.ReadError.TheVariants as reading;
-ghost use Rattle.om_image.specs.Image.{error_of_building, error_of_reading};
+ghost use Rattle.om_image.specs.steps.Errors.{error_of_building, error_of_reading};
 
 use om_text::{BuildError, LineError, ReadError};
 use std::alloc::AllocError;

@@ -6,3 +6,4 @@ pub mod SpanLemmas
 pub mod ShowLemmas
 pub mod TraceLemmas
 pub mod TurnLemmas
+pub mod WritingLemmas

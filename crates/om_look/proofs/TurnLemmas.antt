@@ -1,5 +1,5 @@
 -- Turns with their lines.
-use Rattle.std.proofs.Common.{◌≡◌, ℕ, zero, suc, ◌+◌, ◌<◌, List, [], ◌++◌, length, refl, sym, ap, ◌∙◌, subst, append_assoc, append-nil, add-one, cond, arith}
+use Rattle.std.proofs.Common.{◌≡◌, ◌≢◌, ℕ, zero, suc, ◌+◌, ◌<◌, List, [], ◌++◌, length, refl, sym, ap, ◌∙◌, subst, append_assoc, append-nil, add-one, cond, arith}
 use Rattle.std.specs.Prelude.{Some, None, Result, Err, Bool, true, false, nat_le}
 use Rattle.std.proofs.lemmas.Bool.Decides.{nat_tests}
 use Rattle.om_isa.specs.derived.Decoded.{decoded}
@@ -15,11 +15,13 @@ use Rattle.om_machine.specs.declared.limits.TheConstants.{LAST_COUNT}
 use Rattle.om_process.specs.Core.{CoreState, cluster_size, with_now}
 use Rattle.om_process.specs.Process.{Process, made, moved}
 use Rattle.om_process.specs.Turns.{Turns, after_event, next_move, next_turn}
+use Rattle.om_process.proofs.Basics.{some_none}
 use Rattle.om_process.proofs.Going.{turns_add}
-use Rattle.om_look.specs.Trace.{IsTrace, IsTurnText, emission_text, instruction_text, kept_in, line_text, made_text, place_of}
-use Rattle.om_look.specs.Writes.{address_in, writes_of}
+use Rattle.om_look.specs.Trace.{IsTrace, IsTurnText, emission_text, instruction_text, kept_in, made_text, place_of}
+use Rattle.om_look.specs.steps.Writes.{address_in, line_text, writes_of}
 use Rattle.om_look.specs.declared.tracing.Before.{Before}
 use Rattle.om_look.specs.steps.Before.{IsBefore}
+use Rattle.om_look.proofs.WritingLemmas.{line_is}
 
 -- ---- where there is no instruction the machine traps
 abbrev Fails : State → Type 0
@@ -61,6 +63,10 @@ pub no_turn : (own n : ℕ) (p : Process) (cause : Cause) → (next_of p.machine
 unfolding next_move
 no_turn own n p cause at = ap (λ (e : Event). moved p (after_event own n p.machine (made p.queues) e (next_of p.machine).1)) at
 
+-- a turn is none of a trap
+goes_on : (own n : ℕ) (p t : Process) → next_turn own n p ≡ Some t → (cause : Cause) → (next_of p.machine).0 ≢ Trap cause
+goes_on own n p t turn cause at = some_none t (sym turn ∙ no_turn own n p cause at)
+
 -- ---- one turn
 pub traced_once : (own n : ℕ) (s t : Process) (b : Before) (old mid new : List ℕ) (kept : ℕ) → Turns own n 1 s t → IsBefore s.machine b → kept ≡ kept_in s.queues (place_of n b.event)
     → mid ≡ old ++ line_text b.count b.pc b.word b.inst b.address b.event t.machine → new ≡ mid ++ made_text b.event (place_of n b.event) kept t.queues
@@ -69,22 +75,25 @@ traced_once own n s t b old mid new kept turn is kept_is first second =
     let line : List ℕ = instruction_text s.machine b.inst t.machine in
     let made : List ℕ = emission_text n s t in
     let told : Decodes s.machine.ext (word_at s.machine.memory s.machine.pc) b.inst = subst (λ w. Decodes s.machine.ext w b.inst) is.word is.decodes in
-    let line_is : line_text b.count b.pc b.word b.inst b.address b.event t.machine ≡ line = same_line b s.machine t.machine is in
+    let no_trap : (cause : Cause) → (next_of s.machine).0 ≢ Trap cause = goes_on own n s turn.0 turn.1 in
+    let line_told : line_text b.count b.pc b.word b.inst b.address b.event t.machine ≡ line = same_line b s.machine t.machine is told no_trap in
     let kept_at : kept ≡ kept_in s.queues (place_of n (next_of s.machine).0) = kept_is ∙ ap (λ e. kept_in s.queues (place_of n e)) is.event in
     let made_is : made_text b.event (place_of n b.event) kept t.queues ≡ made = ap (λ e. made_text e (place_of n e) kept t.queues) is.event ∙ ap (λ k. made_text (next_of s.machine).0 (place_of n (next_of s.machine).0) k t.queues) kept_at in
     let text : IsTurnText n s t (line ++ made) = (b.inst, told, refl) in (
       (line ++ made) ++ [],
       (t, subst (λ m. next_turn own n s ≡ Some m) (sym turn.2) turn.1, line ++ made, text, [], (refl, refl), refl),
-      second ∙ ap (λ l. mid ++ l) made_is ∙ ap (λ l. l ++ made) (first ∙ ap (λ l. old ++ l) line_is) ∙ append_assoc old line made ∙ ap (λ l. old ++ l) (sym (append-nil (line ++ made))),
+      second ∙ ap (λ l. mid ++ l) made_is ∙ ap (λ l. l ++ made) (first ∙ ap (λ l. old ++ l) line_told) ∙ append_assoc old line made ∙ ap (λ l. old ++ l) (sym (append-nil (line ++ made))),
     )
   where
-    same_line : (b : Before) (m after : State) → IsBefore m b → line_text b.count b.pc b.word b.inst b.address b.event after ≡ instruction_text m b.inst after
-    same_line b m after is =
+    same_line : (b : Before) (m after : State) → IsBefore m b → Decodes m.ext (word_at m.memory m.pc) b.inst → ((cause : Cause) → (next_of m).0 ≢ Trap cause)
+        → line_text b.count b.pc b.word b.inst b.address b.event after ≡ instruction_text m b.inst after
+    same_line b m after is told no_trap =
         ap (λ k. line_text k b.pc b.word b.inst b.address b.event after) is.count
         ∙ ap (λ k. line_text m.count k b.word b.inst b.address b.event after) is.pc
         ∙ ap (λ k. line_text m.count m.pc k b.inst b.address b.event after) is.word
         ∙ ap (λ k. line_text m.count m.pc (word_at m.memory m.pc) b.inst k b.event after) is.address
         ∙ ap (λ e. line_text m.count m.pc (word_at m.memory m.pc) b.inst (address_in m (writes_of b.inst)) e after) is.event
+        ∙ line_is m after b.inst told no_trap
 
 -- ---- turns one after another
 pub traced_more : (own n k : ℕ) (s m t : Process) (before lines : List ℕ) → IsTrace own n k s m before → IsTrace own n 1 m t lines → IsTrace own n (suc k) s t (before ++ lines)

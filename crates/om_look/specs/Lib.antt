@@ -2,5 +2,4 @@ pub mod Lines
 pub mod Spans
 pub mod Show
 pub mod Trace
-pub mod Writes
 pub mod steps

@@ -6,6 +6,7 @@ use Rattle.om_isa.specs.Rows.{Decodes}
 use Rattle.om_isa.specs.Text.{text_of}
 use Rattle.om_isa.specs.declared.inst.Inst.{Inst}
 use Rattle.om_machine.specs.State.{State, reg, word_at}
+use Rattle.om_machine.specs.Effects.{Effect, Put, Jump, Store, effect_of}
 use Rattle.om_machine.specs.derived.NextStep.{next_of}
 use Rattle.om_machine.specs.declared.event.Event.{Event}
 use Rattle.om_machine.specs.declared.event.Event.TheVariants.{Call}
@@ -15,9 +16,6 @@ use Rattle.om_format.specs.Queues.{QueueRecord}
 use Rattle.om_process.specs.Kept.{queue_at}
 use Rattle.om_process.specs.Process.{Process}
 use Rattle.om_process.specs.Turns.{next_turn}
-use Rattle.om_look.specs.Writes.{address_in, width_in, writes_of}
-use Rattle.om_look.specs.declared.writes.Written.{Written}
-use Rattle.om_look.specs.declared.writes.Written.TheVariants as writing
 
 -- a number of 32 bits in eight hexadecimal digits, the highest first
 abbrev pub word_text : ℕ → List ℕ
@@ -27,12 +25,13 @@ word_text word = encode_lower (to_be_bytes w32 word)
 abbrev pub register_text : ℕ → State → List ℕ
 register_text r after = codes "; x" ++ decimal r ++ codes " = " ++ word_text (reg after r)
 
--- what an instruction wrote: the register, but for x0, or the address and the bytes
-abbrev pub written_text : Written → ℕ → State → List ℕ
-written_text writing.Nothing address after = []
-written_text (writing.Register rd) address after = if nat_eq rd 0 then [] else register_text rd after
-written_text (writing.Bytes base imm width) address after =
-    codes "; " ++ word_text address ++ 32 ∷ encode_lower (take (width_in width) (drop address after.memory))
+-- what an effect wrote: a register, but for x0, or bytes of memory
+abbrev pub effect_text : Effect → State → List ℕ
+effect_text (Put rd value) after = if nat_eq rd 0 then [] else register_text rd after
+effect_text (Jump rd target) after = if nat_eq rd 0 then [] else register_text rd after
+effect_text (Store address bytes) after =
+    codes "; " ++ word_text address ++ 32 ∷ encode_lower (take (length bytes) (drop address after.memory))
+effect_text _ after = []
 
 -- and what the answer to an environment call wrote
 abbrev pub answer_text : Event → State → List ℕ
@@ -42,13 +41,10 @@ answer_text (Call Who) after = register_text 10 after ++ register_text 11 after
 answer_text event after = []
 
 -- the line of an instruction: the count and pc before it, its word, its text, and what it wrote
-unfoldable pub line_text : ℕ → ℕ → ℕ → Inst → ℕ → Event → State → List ℕ
-line_text count pc word i address event after =
-    decimal count ++ 32 ∷ word_text pc ++ 32 ∷ word_text word ++ 32 ∷ text_of i
-    ++ written_text (writes_of i) address after ++ answer_text event after ++ 10 ∷ []
-
-abbrev pub instruction_text : State → Inst → State → List ℕ
-instruction_text m i after = line_text m.count m.pc (word_at m.memory m.pc) i (address_in m (writes_of i)) (next_of m).0 after
+unfoldable pub instruction_text : State → Inst → State → List ℕ
+instruction_text m i after =
+    decimal m.count ++ 32 ∷ word_text m.pc ++ 32 ∷ word_text (word_at m.memory m.pc) ++ 32 ∷ text_of i
+    ++ effect_text (effect_of m i) after ++ answer_text (next_of m).0 after ++ 10 ∷ []
 
 -- the bytes of a message or an output in hexadecimal, or `-` where there are none
 abbrev pub body_text : List ℕ → List ℕ

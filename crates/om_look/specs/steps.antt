@@ -4,3 +4,4 @@ pub mod Found
 pub mod Reading
 pub mod Stops
 pub mod Told
+pub mod Writes

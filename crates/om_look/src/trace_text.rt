@@ -3,7 +3,8 @@
 ghost use Rattle.std.specs.Prelude.{◌≡◌, ◌++◌, ◌<◌, ◌≤◌, ◌∷◌, [], OnOk, codes, decimal, drop, length, take};
 ghost use Rattle.hex.specs.Hex.{encode_lower};
 ghost use Rattle.om_isa.specs.Text.{text_of};
-ghost use Rattle.om_look.specs.Trace.{answer_text, body_text, gained_text, kept_in, line_text, made_text, place_of, register_text, word_text, written_text};
+ghost use Rattle.om_look.specs.Trace.{answer_text, body_text, gained_text, kept_in, made_text, place_of, register_text, word_text};
+ghost use Rattle.om_look.specs.steps.Writes.{line_text, written_text};
 ghost use Rattle.om_machine.specs.declared.event.Event.{Event};
 ghost use Rattle.om_process.specs.Core.{cluster_size};
 ghost use Rattle.om_process.specs.Kept.{queue_at};
@@ -18,7 +19,7 @@ use std::alloc::{AllocError, Global};
 use std::io::Write;
 
 // Writes the line of an instruction that was carried out.
-#[tactic(auto, unfolding(crate::specs::Trace::line_text))]
+#[tactic(auto, unfolding(crate::specs::steps::Writes::line_text))]
 pub(crate) fn push_line(
     text: &mut Vec<u8>,
     before: &Before,

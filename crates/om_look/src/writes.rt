@@ -1,7 +1,7 @@
 //! What instructions write.
 
 ghost use Rattle.std.specs.Prelude.{◌≡◌, ◌≤◌};
-ghost use Rattle.om_look.specs.Writes.{address_in, width_in, writes_of};
+ghost use Rattle.om_look.specs.steps.Writes.{address_in, width_in, writes_of};
 
 use om_isa::{Imm12, Inst, Reg, rows, shape};
 use om_machine::Machine;

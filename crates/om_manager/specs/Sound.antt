@@ -1,4 +1,4 @@
-use Rattle.std.specs.Prelude.{◌≡◌, ◌≢◌, ℕ, ◌+◌, ◌<◌, ◌≤◌, ◌^◌, List, length, slice_index, replicate, Bool, false, Option, None, IfSome, IsSome}
+use Rattle.std.specs.Prelude.{◌≡◌, ◌≢◌, ℕ, ◌+◌, ◌*◌, ◌<◌, ◌≤◌, ◌^◌, List, length, slice_index, sum, replicate, Bool, false, Option, None, IfSome, IsSome}
 use mathlib.Core.List.{IsPrefix}
 use Rattle.om_interval.specs.Vectors.{IsBelow}
 use Rattle.om_interval.specs.Starts.{AreStarts, starts_of}
@@ -7,7 +7,7 @@ use Rattle.om_interval.specs.declared.verdict.Verdict.{Verdict}
 use Rattle.om_recover.specs.Rows.{IsLawful}
 use Rattle.om_recover.specs.Recoverable.{IsGreatest}
 use Rattle.om_manager.specs.Outputs.{AreRising, within}
-use Rattle.om_manager.specs.State.{ManagerState, process_count, held_by, released_by, weight_of}
+use Rattle.om_manager.specs.State.{ManagerState, process_count, held_by, released_by, open_count}
 use Rattle.om_manager.specs.declared.presence.Presence.{Presence}
 
 -- the incarnations of each process: none starts above the recovery state by more than one, and a process has begun no more
@@ -23,7 +23,7 @@ pub record AreBegun (starts : List (List ℕ)) (recovery : List ℕ) (round : �
 pub record AreRounds (recovery : List ℕ) (round : ℕ) (gathering : Option (List Presence)) (version : ℕ) : Type 0 where
   pub numbered : round < 2 ^ 32
   pub room : IfSome gathering (λ presences. round + 1 < 2 ^ 32)
-  pub bounded : version ≤ weight_of recovery round gathering
+  pub bounded : version ≤ sum recovery + 2 * round + open_count gathering
 
 -- what is kept of the last finished round: its state is below the recovery state, and where there was none, nobody began
 -- an incarnation

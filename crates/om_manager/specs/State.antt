@@ -1,4 +1,4 @@
-use Rattle.std.specs.Prelude.{ℕ, ◌+◌, ◌*◌, List, [], length, sum, slice_index, slice_index_or, Bool, Option, None, Some}
+use Rattle.std.specs.Prelude.{ℕ, List, [], length, slice_index, slice_index_or, Bool, Option, None, Some}
 use Rattle.om_recover.specs.Rows.{Rows}
 use Rattle.om_manager.specs.Outputs.{HeldOutput, within}
 use Rattle.om_manager.specs.declared.presence.Presence.{Presence}
@@ -31,7 +31,3 @@ released_by m p = within (held_by m p) (slice_index m.recovery p)
 abbrev pub open_count : Option (List Presence) → ℕ
 open_count None = 0
 open_count (Some presences) = 1
-
--- what the version is never above
-abbrev pub weight_of : List ℕ → ℕ → Option (List Presence) → ℕ
-weight_of recovery round gathering = sum recovery + 2 * round + open_count gathering

@@ -1,5 +1,5 @@
 -- One process with its store, and what its acts do to it.
-use Rattle.std.specs.Prelude.{◌≡◌, ◌≢◌, ℕ, ◌≤◌, ◌<◌, List, [], ◌∷◌, ◌++◌, length, drop, Bool, IsTrue, IsSome, true, Option, None, Some, Result, Ok, Err, OnErr, IfOk}
+use Rattle.std.specs.Prelude.{◌≡◌, ◌≢◌, ℕ, ◌≤◌, List, [], ◌∷◌, ◌++◌, length, drop, Bool, IsTrue, IsSome, true, Option, None, Some, Result, Ok, Err, OnErr, IfOk}
 use Rattle.std.specs.FinMap.{get}
 use Rattle.om_interval.specs.declared.verdict.Verdict.{Verdict}
 use Rattle.om_format.specs.declared.message.Message.{Message}
@@ -8,7 +8,7 @@ use Rattle.om_stable.specs.Calls.{UsesStore}
 use Rattle.om_stable.specs.declared.error.StoreError.{StoreError}
 use Rattle.om_stable.specs.declared.error.StoreError.TheVariants.{Fault, Present}
 use Rattle.om_process.specs.Accepts.{Answers, taken}
-use Rattle.om_process.specs.Core.{CoreState, CoreTurns, cluster_size, core_turn, move_of, status_of, with_now, with_pending}
+use Rattle.om_process.specs.Core.{CoreState, CoreTurns, cluster_size, with_now, with_pending, RunsTo}
 use Rattle.om_process.specs.Stored.{CanReplay, IsNoMatterOfContent, IsReplay, TheProcess}
 use Rattle.om_process.specs.Stores.{HasGainedCheckpoint, HasGainedLog, checkpointed, first_logged, flushed}
 use Rattle.om_process.specs.Trims.{trimmed}
@@ -101,11 +101,7 @@ pub record HasRun {S : Type 0} (old : Member S) (fuel : ℕ) (ran : Ran) (new : 
   pub before : CoreState
   pub after : CoreState
   pub up : old.standing ≡ stands.Up before
-  pub within : ran.steps ≤ fuel
-  pub turns : CoreTurns ran.steps before after
-  pub stops : ran.steps < fuel → core_turn after ≡ None
-  pub rest : after ≡ with_now before after.now
-  pub told : ran.status ≡ status_of (move_of after)
+  pub run : RunsTo before fuel ran.steps ran.status after
   pub others : new ≡ record old { standing = stands.Up after }
 
 -- a process that is up answers to a message

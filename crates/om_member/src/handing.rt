@@ -3,7 +3,8 @@
 ghost use Rattle.std.specs.Prelude.{◌<◌, length};
 ghost use Rattle.om_manager.specs.State.{held_by, process_count};
 ghost use Rattle.om_member.specs.Keeps.{Keeps};
-ghost use Rattle.om_member.specs.Handed.{AreHandedUpTo, AreTaken, IsHanded, MayHandIn, held_as, outputs_from};
+ghost use Rattle.om_member.specs.Handed.{AreHandedUpTo, IsHanded, MayHandIn, held_as, outputs_from};
+ghost use Rattle.om_member.specs.steps.Taking.{AreTaken};
 
 use crate::office::Office;
 use om_interval::Pid;

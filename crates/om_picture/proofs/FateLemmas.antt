@@ -1,5 +1,6 @@
 -- What becomes of an interval, one event further.
 use Rattle.std.proofs.Common.{◌≡◌, ◌∙◌, ◌≤◌, ◌-◌, ◌==◌, ◌||◌, ◌&&◌, ℕ, Bool, true, false, not, if◌then◌else◌, is_none, is_some, List, [], ◌∷◌, ◌++◌, Option, Some, None, length, max, refl, ap, sym, arith, append_assoc}
+use Rattle.std.specs.List.{fold}
 use Rattle.std.specs.Prelude.{nat_le, nat_lt, slice_index}
 use Rattle.std.proofs.Math.Bool.{and-false, or-false, or-true, or_assoc}
 use Rattle.std.proofs.Math.Nat.{le-max_left}
@@ -13,7 +14,7 @@ use Rattle.om_world.specs.declared.event.Event.{Event}
 use Rattle.om_world.specs.declared.event.Event.TheVariants as events
 use Rattle.om_world.specs.declared.event.Refusal.TheVariants as refusals
 use Rattle.om_picture.specs.Drawing.{mark_marks, waiting_marks}
-use Rattle.om_picture.specs.Fates.{EventAt, EventRow, Fate, cuts, ended_after, ended_from, fate_behind, highest, interval_after, interval_from, is_cut, is_store, is_stored, loose_after, loose_from, next_ended, next_interval, next_loose, next_place, stores}
+use Rattle.om_picture.specs.Fates.{EventAt, EventRow, Fate, cuts, ended_after, fate_behind, highest, interval_after, is_cut, is_store, is_stored, loose_after, next_ended, next_interval, next_loose, next_place, stores}
 use Rattle.om_picture.specs.Marks.{EventMark, fated_marks}
 use Rattle.om_sheet.specs.Shows.{end_of, is_finished, new_end, shown}
 use Rattle.om_picture.specs.declared.history.Mark.{Mark}
@@ -343,17 +344,17 @@ loose_told ended events.Prune answer was = refl
 
 -- ---- one event more
 pub interval_more : (p was : ℕ) (rows : List EventRow) (row : EventRow)
-    → interval_from p was (rows ++ row ∷ []) ≡ next_interval p (interval_from p was rows) row
+    → fold (next_interval p) was (rows ++ row ∷ []) ≡ next_interval p (fold (next_interval p) was rows) row
 interval_more p was [] row = refl
 interval_more p was (x ∷ rows) row = interval_more p (next_interval p was x) rows row
 
 pub ended_more : (p : ℕ) (was : Bool) (rows : List EventRow) (row : EventRow)
-    → ended_from p was (rows ++ row ∷ []) ≡ next_ended p (ended_from p was rows) row
+    → fold (next_ended p) was (rows ++ row ∷ []) ≡ next_ended p (fold (next_ended p) was rows) row
 ended_more p was [] row = refl
 ended_more p was (x ∷ rows) row = ended_more p (next_ended p was x) rows row
 
 pub loose_more : (p : ℕ) (was : Bool) (rows : List EventRow) (row : EventRow)
-    → loose_from p was (rows ++ row ∷ []) ≡ next_loose p (loose_from p was rows) row
+    → fold (next_loose p) was (rows ++ row ∷ []) ≡ next_loose p (fold (next_loose p) was rows) row
 loose_more p was [] row = refl
 loose_more p was (x ∷ rows) row = loose_more p (next_loose p was x) rows row
 

@@ -1,5 +1,6 @@
 -- Events of a script, and what becomes of what they did: what a round cuts, what is stored, what is released.
 use Rattle.std.specs.Prelude.{◌≡◌, ℕ, ◌<◌, ◌==◌, Bool, true, false, not, ◌&&◌, ◌||◌, if◌then◌else◌, is_some, max, nat_le, List, [], ◌∷◌, ◌++◌, Option, None, Some, slice_index}
+use Rattle.std.specs.List.{fold}
 use Rattle.om_process.specs.declared.accept.Accept.TheVariants as accepts
 use Rattle.om_world.specs.declared.event.Answer.{Answer}
 use Rattle.om_world.specs.declared.event.Answer.TheVariants as answers
@@ -46,13 +47,9 @@ interval_after _ _ was = was
 abbrev pub next_interval : ℕ → ℕ → EventRow → ℕ
 next_interval p was row = if is_of p row then interval_after row.entry.event row.entry.answer was else was
 
-abbrev pub interval_from : ℕ → ℕ → List EventRow → ℕ
-interval_from p was [] = was
-interval_from p was (row ∷ rows) = interval_from p (next_interval p was row) rows
-
 -- the interval of a process behind these events
 abbrev pub interval_behind : ℕ → List EventRow → ℕ
-interval_behind p rows = interval_from p 0 rows
+interval_behind p rows = fold (next_interval p) 0 rows
 
 -- whether it is known behind an event that the program of its process came to its end
 abbrev pub ended_after : Event → Answer → Bool → Bool
@@ -63,13 +60,9 @@ ended_after _ _ was = was
 abbrev pub next_ended : ℕ → Bool → EventRow → Bool
 next_ended p was row = if is_of p row then ended_after row.entry.event row.entry.answer was else was
 
-abbrev pub ended_from : ℕ → Bool → List EventRow → Bool
-ended_from p was [] = was
-ended_from p was (row ∷ rows) = ended_from p (next_ended p was row) rows
-
 -- the program of a process came to its end in these events, and the process did not go back since
 abbrev pub has_ended : ℕ → List EventRow → Bool
-has_ended p rows = ended_from p false rows
+has_ended p rows = fold (next_ended p) false rows
 
 -- whether a process has received something behind an event that it has in memory only
 abbrev pub loose_after : Event → Answer → Bool → Bool
@@ -83,13 +76,9 @@ loose_after _ _ was = was
 abbrev pub next_loose : ℕ → Bool → EventRow → Bool
 next_loose p was row = if is_of p row then loose_after row.entry.event row.entry.answer was else was
 
-abbrev pub loose_from : ℕ → Bool → List EventRow → Bool
-loose_from p was [] = was
-loose_from p was (row ∷ rows) = loose_from p (next_loose p was row) rows
-
 -- a process received something in these events, and since then it did not store what it received, nor fail
 abbrev pub is_loose : ℕ → List EventRow → Bool
-is_loose p rows = loose_from p false rows
+is_loose p rows = fold (next_loose p) false rows
 
 -- ---- what becomes of an interval
 -- the place of a process in the recovery state behind an event, or a higher one that was there before

@@ -67,9 +67,6 @@ kind_drawn forms.Released = Some Released
 abbrev pub shape_marks : Shape → List EventMark
 shape_marks shape = mark_of (kind_drawn shape.form) shape.cut (title_entry shape.title shape.at)
 
-abbrev pub drawn_marks : Drawn → List EventMark
-drawn_marks drawn = flat_map shape_marks drawn.marks.items
-
 -- what was received and is in memory only is stored, if there is such a thing
 abbrev pub log_marks : Bool → EventAt → List EventMark
 log_marks loose entry = if loose then mark_of (Some Logged) false entry else []
@@ -143,4 +140,4 @@ AreTheSame xs ys = (count : EventMark → ℕ) → sum_by count xs ≡ sum_by co
 -- a picture of so many processes has the marks of the events of its window, each where its event stands and as it was in the end,
 -- and no others
 abbrev pub IsDrawingOf : ℕ → ℕ → List EventRow → Drawn → Type 0
-IsDrawingOf n first rows drawn = AreTheSame (drawn_marks drawn) (marks_among n first [] rows [])
+IsDrawingOf n first rows drawn = AreTheSame (flat_map shape_marks drawn.marks.items) (marks_among n first [] rows [])

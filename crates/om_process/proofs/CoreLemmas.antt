@@ -20,7 +20,8 @@ use Rattle.om_process.specs.declared.status.Status.TheVariants.{Ready, Waiting, 
 use Rattle.om_process.specs.Process.{Process, Move, Waits, Ends, Traps, Goes, Emits, made, moved, emitted, with_entry, raised}
 use Rattle.om_process.specs.Turns.{next_move, next_turn, after_event, emits, Turns, IsWaiting}
 use Rattle.om_process.specs.steps.Planned.{planned, stopped}
-use Rattle.om_process.specs.Core.{CoreParts, IsCore, CoreState, cluster_size, move_of, status_of, LoggedRecord, AreLast}
+use Rattle.om_process.specs.Core.{CoreState, cluster_size, move_of, status_of, LoggedRecord, AreLast}
+use Rattle.om_process.specs.steps.Lawful.{CoreParts, IsCore}
 use Rattle.om_isa.specs.declared.ext.Ext.{Ext}
 use Rattle.om_format.specs.Checkpoints.{IsCheckpoint}
 use Rattle.om_isa.specs.Memory.{is_memory_size}

@@ -1,10 +1,7 @@
 -- One logged process as its callers see it.
-use Rattle.std.specs.Prelude.{◌≡◌, ℕ, ◌+◌, ◌-◌, ◌<◌, ◌≤◌, List, Option, length, map, sum, slice_index, true}
+use Rattle.std.specs.Prelude.{◌≡◌, ℕ, ◌<◌, ◌+◌, ◌-◌, ◌≤◌, List, Option, None, length, map}
 use Rattle.std.specs.List.{range_with_len}
 use Rattle.om_format.specs.Receipts.{ReceiptRecord}
-use Rattle.om_format.specs.Versions.{is_cluster_size}
-use Rattle.om_format.specs.declared.version.Version.TheVariants.{V2}
-use Rattle.om_format.specs.Queues.{QueueRecord, queue_end, are_entries, all_entries}
 use Rattle.om_process.specs.declared.status.Status.{Status}
 use Rattle.om_process.specs.declared.status.Status.TheVariants.{Ready, Waiting, Ended, Trapped}
 use Rattle.om_process.specs.declared.row.PendingRow.{PendingRow}
@@ -68,37 +65,14 @@ CoreTurns k c d = Turns c.own (cluster_size c.now) k c.now d.now
 abbrev pub with_now : CoreState → Process → CoreState
 with_now c p = record c { now = p }
 
+-- the process took as many turns as there are, up to the fuel
+pub record RunsTo (c : CoreState) (fuel steps : ℕ) (status : Status) (d : CoreState) : Type 0 where
+  pub within : steps ≤ fuel
+  pub turns : CoreTurns steps c d
+  pub stops : steps < fuel → core_turn d ≡ None
+  pub rest : d ≡ with_now c d.now
+  pub told : status ≡ status_of (move_of d)
+
 -- only the pending rows changed
 abbrev pub with_pending : CoreState → List PendingRow → CoreState
 with_pending c rows = record c { pending = rows }
-
--- the parts of a core
-pub record CoreParts : Type 0 where
-  pub own : ℕ
-  pub count : ℕ
-  pub interval : ℕ
-  pub vec : List ℕ
-  pub got : List ℕ
-  pub sent : List ℕ
-  pub made : ℕ
-  pub outbox : List QueueRecord
-  pub outputs : QueueRecord
-  pub log : List LoggedRecord
-  pub starts : List (List ℕ)
-
--- what holds of every core: its parts fit each other, as a checkpoint asks for
-pub record IsCore (c : CoreParts) : Type 0 where
-  pub cluster : is_cluster_size V2 (length c.vec) ≡ true
-  pub own : c.own < length c.vec
-  pub counted : c.interval ≤ c.count
-  pub own_place : slice_index c.vec c.own ≡ c.interval
-  pub got : length c.got ≡ length c.vec
-  pub received : sum c.got ≡ c.interval
-  pub sent : length c.sent ≡ length c.vec
-  pub ends : map queue_end c.outbox ≡ c.sent
-  pub outputs_end : queue_end c.outputs ≡ c.made
-  pub made : c.made ≤ c.count
-  pub messages : all_entries c.interval c.outbox ≡ true
-  pub outputs : are_entries c.interval 0 c.outputs.entries ≡ true
-  pub logged : AreLast c.interval c.log
-  pub starts : length c.starts ≡ length c.vec

@@ -2,3 +2,5 @@
 pub mod Planned
 pub mod Rows
 pub mod Fitting
+pub mod Faults
+pub mod Lawful

@@ -34,7 +34,8 @@ pub struct ProcCore {
 
 impl Model for ProcCore {
     ghost use Rattle.std.specs.Prelude.{◌++◌, ◌∷◌, [], length, map};
-    ghost use Rattle.om_process.specs.Core.{CoreState, IsCore};
+    ghost use Rattle.om_process.specs.Core.{CoreState};
+    ghost use Rattle.om_process.specs.steps.Lawful.{IsCore};
     ghost use Rattle.om_process.specs.Views.{logged_record};
 
     ghost Value = { CoreState };

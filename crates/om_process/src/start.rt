@@ -6,7 +6,8 @@ ghost use Rattle.om_isa.specs.Memory.{IsMemorySize};
 ghost use Rattle.om_stable.specs.Calls.{IsCleanCall, UsesStore};
 ghost use Rattle.om_stable.specs.declared.error.StoreError.{StoreError};
 ghost use Rattle.om_process.specs.Process.{empty_queue, started_with};
-ghost use Rattle.om_process.specs.Starting.{IsPlace, fault_of_loading, fault_of_storing, started_core};
+ghost use Rattle.om_process.specs.Starting.{IsPlace, started_core};
+ghost use Rattle.om_process.specs.steps.Faults.{fault_of_loading, fault_of_storing};
 ghost use Rattle.om_process.specs.Stores.{HasGainedCheckpoint};
 ghost use Rattle.om_process.specs.Turns.{Along};
 

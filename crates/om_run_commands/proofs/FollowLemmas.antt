@@ -21,7 +21,7 @@ use Rattle.om_runner.specs.declared.fault.RunFault.TheVariants as running
 use Rattle.om_run_commands.proofs.RunLemmas.{is_report, ok_at}
 use Rattle.om_run_commands.specs.ClusterScript.{ClusterFile, cluster_file_line, no_settings}
 use Rattle.om_commands.specs.Command.{IsErrorOf, IsScript}
-use Rattle.om_run_commands.specs.Errors.{error_of_run}
+use Rattle.om_run_commands.specs.steps.Errors.{error_of_run}
 use Rattle.om_run_commands.specs.Follow.{AreMadeBy, IsFollowedAnswer, IsFollowedRun, IsPart, IsPartOf, IsPartly, told_line, told_text}
 use Rattle.om_run_commands.specs.steps.Scripts.{IsErrorOfFollowed}
 use Rattle.om_run_commands.specs.RunText.{ends_text}

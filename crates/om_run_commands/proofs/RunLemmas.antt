@@ -16,7 +16,7 @@ use Rattle.om_process.specs.Core.{IsEnd}
 use Rattle.om_runner.specs.declared.report.Report.{Report}
 use Rattle.om_runner.specs.declared.fault.RunFault.{RunFault}
 use Rattle.om_runner.specs.declared.fault.RunFault.TheVariants as running
-use Rattle.om_run_commands.specs.Errors.{error_of_run}
+use Rattle.om_run_commands.specs.steps.Errors.{error_of_run}
 use Rattle.om_run_commands.specs.ClusterScript.{ClusterFile, cluster_file_line, no_settings}
 use Rattle.om_commands.specs.Command.{IsScript}
 use Rattle.om_run_commands.specs.Run.{IsRunAnswer, IsReport, IsErrorOfRun}
@@ -132,7 +132,7 @@ answer_of over_clean script cluster images r report released statuses text is sa
 -- the error of a script is that of the bytes that it is read from
 pub of_script : (bytes : List ℕ) (script : ClusterFile) (error : CommandError) → IsScript cluster_file_line no_settings bytes script
     → IsErrorOfScript script error → IsErrorOfRun bytes error
-of_script bytes script errors.EmptyScript read lacks = record { script = script; is_script = read; is_empty = lacks }
+of_script bytes script errors.EmptyScript read lacks = (script, read, lacks)
 of_script bytes script errors.NoMemory read told = tt
 of_script bytes script errors.OutOfTurns read some = record { script = script; is_script = read; some = some }
 of_script bytes script errors.GateShut read some = record { script = script; is_script = read; some = some }

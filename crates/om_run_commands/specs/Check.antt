@@ -5,8 +5,8 @@ use Rattle.om_manager.specs.Outputs.{HeldOutput}
 use Rattle.om_process.specs.declared.status.Status.{Status}
 use Rattle.om_scripts.specs.Programs.{Cluster, programs_of}
 use Rattle.om_world.specs.declared.entry.Entry.{Entry}
-use Rattle.om_commands.specs.Command.{IsScript}
-use Rattle.om_run_commands.specs.ClusterScript.{ClusterFile, cluster_file_line, no_settings}
+use Rattle.om_commands.specs.Command.{AnswersScript}
+use Rattle.om_run_commands.specs.ClusterScript.{cluster_file_line, no_settings}
 use Rattle.om_run_commands.specs.Run.{IsClusterFile, IsErrorOfRun}
 use Rattle.om_run_commands.specs.RunText.{run_text}
 use Rattle.om_commands.specs.declared.error.CommandError.{CommandError}
@@ -24,10 +24,8 @@ abbrev pub IsFailureFreeText : Cluster → List ℕ → Type 0
 IsFailureFreeText cluster text = (live : List Entry) × IsTextBy cluster live text
 
 -- the answer to the cluster file that these bytes are
-pub record IsCheckedRun (bytes text : List ℕ) : Type 0 where
-  pub script : ClusterFile
-  pub is_script : IsScript cluster_file_line no_settings bytes script
-  pub failure_free : IsFailureFreeText script.cluster text
+abbrev pub IsCheckedRun : List ℕ → List ℕ → Type 0
+IsCheckedRun bytes text = AnswersScript cluster_file_line no_settings (λ script. IsFailureFreeText script.cluster) bytes text
 
 -- the errors are those of a run, and that it is unlike its check
 abbrev pub IsErrorOfCheckedRun : List ℕ → CommandError → Type 0

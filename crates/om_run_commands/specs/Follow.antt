@@ -6,7 +6,7 @@ use Rattle.om_runner.specs.declared.report.Report.{Report}
 use Rattle.om_process.specs.Process.{Program}
 use Rattle.om_scripts.specs.Programs.{Cluster, programs_of}
 use Rattle.om_runner.specs.Telling.{AreInOrder, AreToldMade, TellsAll, Told}
-use Rattle.om_commands.specs.Command.{IsScript}
+use Rattle.om_commands.specs.Command.{AnswersScript, IsScript}
 use Rattle.om_run_commands.specs.ClusterScript.{ClusterFile, cluster_file_line, no_settings}
 use Rattle.om_run_commands.specs.Run.{IsReport}
 use Rattle.om_run_commands.specs.RunText.{ends_text}
@@ -32,10 +32,8 @@ pub record IsFollowedAnswer (over_clean : Type 0) (script : ClusterFile) (text :
   pub is_text : text ≡ told_text script.cluster told ++ ends_text script.cluster report.statuses.items
 
 -- the answer to the cluster file that these bytes are
-pub record IsFollowedRun (over_clean : Type 0) (bytes text : List ℕ) : Type 0 where
-  pub script : ClusterFile
-  pub is_script : IsScript cluster_file_line no_settings bytes script
-  pub answer : IsFollowedAnswer over_clean script text
+abbrev pub IsFollowedRun : Type 0 → List ℕ → List ℕ → Type 0
+IsFollowedRun over_clean bytes text = AnswersScript cluster_file_line no_settings (IsFollowedAnswer over_clean) bytes text
 
 -- each of what was told of a process is the output of its number that its program makes
 abbrev pub AreMadeBy : List Program → List Told → Type 0

@@ -1,14 +1,13 @@
 -- What the command `run` answers to the bytes of its input.
-use Rattle.std.specs.Prelude.{◌≡◌, ℕ, ◌≤◌, List, All, Some, length, map, slice_get}
+use Rattle.std.specs.Prelude.{◌≡◌, ℕ, ◌≤◌, List, All, length, map}
 use Rattle.om_manager.specs.Outputs.{HeldOutput, held_of}
 use Rattle.om_process.specs.Process.{Program}
-use Rattle.om_process.specs.declared.status.Status.{Status}
 use Rattle.om_scripts.specs.Programs.{LacksProcesses, programs_of}
 use Rattle.om_runner.specs.Released.{AreAllMade, AreAllReleased}
 use Rattle.om_runner.specs.Reports.{AreAllAlong, HaveAll}
 use Rattle.om_process.specs.Core.{IsEnd}
 use Rattle.om_runner.specs.declared.report.Report.{Report}
-use Rattle.om_commands.specs.Command.{IsErrorOf, IsScript}
+use Rattle.om_commands.specs.Command.{AnswersScript, IsErrorOf, IsScript}
 use Rattle.om_run_commands.specs.ClusterScript.{ClusterFile, cluster_file_line, no_settings}
 use Rattle.om_run_commands.specs.RunText.{run_text}
 use Rattle.om_commands.specs.declared.error.CommandError.{CommandError}
@@ -36,10 +35,8 @@ IsRunAnswer over_clean script text = (report : Report) × IsReport over_clean (p
     × (text ≡ run_text script.cluster (outputs_of report) report.statuses.items)
 
 -- the answer to the cluster file that these bytes are
-pub record IsRun (over_clean : Type 0) (bytes text : List ℕ) : Type 0 where
-  pub script : ClusterFile
-  pub is_script : IsScript cluster_file_line no_settings bytes script
-  pub answer : IsRunAnswer over_clean script text
+abbrev pub IsRun : Type 0 → List ℕ → List ℕ → Type 0
+IsRun over_clean bytes text = AnswersScript cluster_file_line no_settings (IsRunAnswer over_clean) bytes text
 
 -- the bytes are a cluster file of a process or more
 pub record IsClusterFile (bytes : List ℕ) : Type 0 where

@@ -6,7 +6,7 @@ use Rattle.om_process.specs.declared.status.Status.{Status}
 use Rattle.om_process.specs.declared.status.Status.TheVariants.{Ready}
 use Rattle.om_scripts.specs.Programs.{Cluster}
 use Rattle.om_commands.specs.SimText.{name_at, outputs_text}
-use Rattle.om_commands.specs.StateText.{status_text}
+use Rattle.om_world.specs.Texts.{status_text}
 
 -- the outputs of each process, in the order of the processes
 abbrev pub released_text : Cluster → List (List HeldOutput) → List ℕ

@@ -1,7 +1,7 @@
 //! The errors of a run, as a command tells them.
 
 ghost use Rattle.std.specs.Prelude.{◌≡◌};
-ghost use Rattle.om_run_commands.specs.Errors.{error_of_play, error_of_run};
+ghost use Rattle.om_run_commands.specs.steps.Errors.{error_of_play, error_of_run};
 
 use om_check::PlayFault;
 use om_commands::CommandError;

@@ -1,7 +1,8 @@
 //! The text of events: lines of a script of `sim`.
 
 ghost use Rattle.std.specs.Prelude.{◌≡◌, ◌++◌, ◌∷◌, [], IfOk, OnOk, string_bytes};
-ghost use Rattle.om_run_commands.specs.EventText.{event_text, events_text};
+ghost use Rattle.om_run_commands.specs.steps.EventText.{events_text};
+ghost use Rattle.om_world.specs.Texts.{event_text};
 
 use om_world::Event;
 use std::alloc::{AllocError, Global};

@@ -4,7 +4,7 @@ ghost use Rattle.std.specs.Prelude.{◌≡◌, ◌≤◌, ◌⊎◌, ℕ, IfErr,
 ghost use Rattle.std.specs.Io.KnownBytes.{Appends, Keeps};
 ghost use Rattle.om_runner.specs.Telling.{told_of};
 ghost use Rattle.om_run_commands.specs.ClusterScript.{ClusterFile};
-ghost use Rattle.om_run_commands.specs.Errors.{error_of_run};
+ghost use Rattle.om_run_commands.specs.steps.Errors.{error_of_run};
 ghost use Rattle.om_run_commands.specs.Follow.{IsFollowedAnswer, IsFollowedRun, IsPart, IsPartOf, IsPartly, told_line, told_text};
 ghost use Rattle.om_run_commands.specs.Run.{IsErrorOfRun};
 ghost use Rattle.om_run_commands.specs.steps.Scripts.{IsErrorOfFollowed};

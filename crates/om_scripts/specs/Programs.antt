@@ -1,5 +1,5 @@
 -- What the lines mean that give a cluster's programs and its processes.
-use Rattle.std.specs.Prelude.{◌≡◌, ℕ, ◌*◌, ◌<◌, ◌≤◌, All, Bool, false, true, not, ◌||◌, List, [], ◌∷◌, ◌++◌, length, flat_map, map, slice_index_or, Result, Ok, Err, is_some, nat_lt, nat_le}
+use Rattle.std.specs.Prelude.{◌≡◌, ℕ, ◌*◌, ◌≤◌, Bool, false, true, not, ◌||◌, List, [], ◌∷◌, ◌++◌, length, flat_map, map, slice_index_or, Result, Ok, Err, is_some, nat_lt, nat_le}
 use Rattle.std.specs.Int.{to_le_bytes, w32}
 use Rattle.om_interval.specs.declared.pid.TheConstants.{MAX_PROCESSES}
 use Rattle.om_isa.specs.declared.ext.Ext.{Ext}
@@ -27,12 +27,6 @@ no_programs = record { programs = []; processes = []; is_closed = false }
 pub record IsProgram (p : Program) : Type 0 where
   pub size : is_memory_size p.size ≡ true
   pub fits : length p.image ≤ p.size
-
--- what holds of what has been read, whatever the lines were
-pub record IsCluster (c : Cluster) : Type 0 where
-  pub programs : All (λ e. IsProgram e.1) c.programs
-  pub places : All (λ e. e.1 < length c.programs) c.processes
-  pub few : length c.processes ≤ MAX_PROCESSES
 
 -- the program at a place
 abbrev pub program_at : Cluster → ℕ → Program

@@ -30,7 +30,8 @@ impl Model for Programs {
     ghost use Rattle.std.specs.Prelude.{map};
     ghost use Rattle.om_scripts.specs.Named.{place_of};
     ghost use Rattle.om_process.specs.Images.{program_of};
-    ghost use Rattle.om_scripts.specs.Programs.{Cluster, IsCluster};
+    ghost use Rattle.om_scripts.specs.Programs.{Cluster};
+    ghost use Rattle.om_scripts.specs.steps.Lawful.{IsCluster};
 
     ghost Value = { Cluster };
 

@@ -9,7 +9,7 @@ use Rattle.std.specs.FinMap.Entries.{below_all, find-where_key, is_sorted-where_
 use Rattle.std.proofs.lemmas.Bool.{eq-eqb, ne_eqb, le-leb, lt-ltb}
 use Rattle.std.proofs.lemmas.Bool.Decides.{nat_tests}
 use Rattle.om_stable.specs.Content.{Records, between}
-use Rattle.om_stable.specs.Between.{AreAllBetween}
+use Rattle.om_stable.specs.steps.Between.{AreAllBetween}
 
 abbrev Rows : Type 0
 Rows = List (ℕ × List ℕ)

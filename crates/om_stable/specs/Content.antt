@@ -1,9 +1,8 @@
 -- What one process's store holds.
-use Rattle.std.specs.Prelude.{◌≡◌, ℕ, ◌+◌, ◌<◌, ◌≤◌, ◌&&◌, nat_lt, nat_le, List, [], ◌∷◌, filter, map, IsSome, None, Vec, refl}
+use Rattle.std.specs.Prelude.{◌≡◌, ℕ, ◌+◌, ◌<◌, ◌≤◌, ◌&&◌, nat_lt, nat_le, List, [], ◌∷◌, filter, map, IsSome, None, Vec}
 use Rattle.std.specs.declared.alloc.Global.{Global}
 use Rattle.std.specs.Ordering.{nat_cmp}
-use Rattle.std.specs.FinMap.{FinMap, empty, get, insert, retain_keys, entries, code}
-use Rattle.std.specs.Coded.{Coded, code_by, coded×, coded_ℕ, coded_list}
+use Rattle.std.specs.FinMap.{FinMap, empty, get, insert, retain_keys, entries}
 
 -- records of one kind: to each interval that has one, its bytes
 abbrev pub Records : Type 0
@@ -25,12 +24,6 @@ pub record Content : Type 0 where
 -- a store without a record
 abbrev pub nothing : Content
 nothing = record { receipts = empty; checkpoints = empty }
-
--- the code of a content, as of the pair of its parts
-abbrev pub content_code : Coded Content
-content_code =
-    code_by (Records × Records) (coded× (code coded_ℕ (coded_list coded_ℕ)) (code coded_ℕ (coded_list coded_ℕ)))
-    (λ c. (c.receipts, c.checkpoints)) (λ p. record { receipts = p.0; checkpoints = p.1 }) (λ _. refl)
 
 -- the records with these added at first, first + 1, ..
 abbrev pub with_all : Records → ℕ → List (List ℕ) → Records

@@ -1,6 +1,5 @@
-pub mod Between
 pub mod Calls
 pub mod Content
 pub mod Count
 pub mod Stop
-pub mod WithAll
+pub mod steps

@@ -15,7 +15,8 @@ pub struct MemStable {
 }
 
 impl Model for MemStable {
-    ghost use Rattle.om_stable.specs.Content.{Content, content_code};
+    ghost use Rattle.om_stable.specs.Content.{Content};
+    ghost use Rattle.om_stable.specs.steps.Codes.{content_code};
 
     ghost Value = { Content };
 

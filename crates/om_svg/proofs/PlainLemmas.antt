@@ -19,7 +19,8 @@ use Rattle.om_world.specs.declared.event.Event.{Event}
 use Rattle.om_world.specs.declared.event.Event.TheVariants as events
 use Rattle.om_world.specs.declared.event.Refusal.{Refusal}
 use Rattle.om_world.specs.declared.event.Refusal.TheVariants as refusals
-use Rattle.om_svg.specs.AnswerText.{accept_text, accept_word, answer_text, event_text, recovery_text, refusal_word, status_text, why_word}
+use Rattle.om_svg.specs.AnswerText.{recovery_text, why_word}
+use Rattle.om_world.specs.Texts.{accept_text, accept_word, answer_text, event_text, refusal_word, status_text}
 use Rattle.om_svg.specs.Plain.{HasPlainNames, is_plain, is_plain_text}
 use Rattle.om_svg.specs.ShapeText.{changed_text, more_text, numbers_text, told_text}
 use Rattle.om_svg.specs.WordText.{bytes_text, label_text, name_text, standing_text, what_text}

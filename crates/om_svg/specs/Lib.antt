@@ -3,3 +3,4 @@ pub mod PictureText
 pub mod Plain
 pub mod ShapeText
 pub mod WordText
+pub mod steps

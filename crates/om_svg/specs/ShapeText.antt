@@ -1,7 +1,8 @@
 -- The elements of a picture: bands, pieces of lanes, lines across them, recovery lines and marks.
 use Rattle.std.specs.Prelude.{ℕ, ◌+◌, ◌-◌, ◌*◌, ◌%◌, ◌==◌, Bool, true, false, if◌then◌else◌, List, [], ◌∷◌, ◌++◌, Option, None, Some, codes, decimal}
 use Rattle.std.specs.List.{flat_map}
-use Rattle.om_svg.specs.AnswerText.{answer_text, event_text, recovery_text}
+use Rattle.om_svg.specs.AnswerText.{recovery_text}
+use Rattle.om_world.specs.Texts.{answer_text, event_text}
 use Rattle.om_sheet.specs.declared.sheet.Band.{Band}
 use Rattle.om_sheet.specs.declared.sheet.Crossed.{Crossed}
 use Rattle.om_sheet.specs.declared.sheet.Crossed.TheVariants as crossed
@@ -30,25 +31,11 @@ abbrev pub cut_letter : Bool → List ℕ
 cut_letter true = codes "x"
 cut_letter false = []
 
--- a rectangle of this left side, width and height
-unfoldable pub band_left : ℕ → List ℕ
-band_left left = codes "<rect class=\"b\" x=\"" ++ decimal left
-
-unfoldable pub band_width : ℕ → List ℕ
-band_width width = codes "\" y=\"74\" width=\"" ++ decimal width
-
-abbrev pub band_start : ℕ → ℕ → List ℕ
-band_start left width = band_left left ++ band_width width
-
-unfoldable pub band_end : ℕ → List ℕ
-band_end high = codes "\" height=\"" ++ decimal high ++ codes "\"/>\n"
-
-unfoldable pub band_at : ℕ → ℕ → ℕ → List ℕ
-band_at left width high = band_start left width ++ band_end high
-
 -- a band, in a picture whose bands end at this height
-abbrev pub band_text : ℕ → Band → List ℕ
-band_text bottom band = band_at band.left (band.right - band.left) (bottom - 74)
+unfoldable pub band_text : ℕ → Band → List ℕ
+band_text bottom band =
+    codes "<rect class=\"b\" x=\"" ++ decimal band.left ++ codes "\" y=\"74\" width=\"" ++ decimal (band.right - band.left)
+    ++ codes "\" height=\"" ++ decimal (bottom - 74) ++ codes "\"/>\n"
 
 abbrev pub stretch_class : Stretch → List ℕ
 stretch_class (stretches.Up inc) = if inc % 3 == 0 then codes "u0" else (if inc % 3 == 1 then codes "u1" else codes "u2")
@@ -69,17 +56,10 @@ straight_text from to =
     codes "M" ++ decimal from.x ++ 32 ∷ decimal (height from.lane) ++ codes "L" ++ decimal to.x ++ 32 ∷ decimal (height to.lane)
     ++ codes "\"/>\n"
 
-unfoldable pub turning_start : ℕ → ℕ → List ℕ
-turning_start x y = codes "M" ++ decimal x ++ 32 ∷ decimal y
-
-unfoldable pub turning_end : ℕ → List ℕ
-turning_end turn = codes "q0-15 8-15H" ++ decimal turn ++ codes "q8 0 8 15\"/>\n"
-
-unfoldable pub turning_at : ℕ → ℕ → ℕ → List ℕ
-turning_at x y turn = turning_start x y ++ turning_end turn
-
-abbrev pub turning_text : Spot → Spot → List ℕ
-turning_text from to = turning_at from.x (height from.lane) (to.x - 8)
+-- over the lane
+unfoldable pub turning_text : Spot → Spot → List ℕ
+turning_text from to =
+    codes "M" ++ decimal from.x ++ 32 ∷ decimal (height from.lane) ++ codes "q0-15 8-15H" ++ decimal (to.x - 8) ++ codes "q8 0 8 15\"/>\n"
 
 unfoldable pub arrow_text : Spot → Spot → List ℕ
 arrow_text from to = if from.lane == to.lane then turning_text from to else straight_text from to
@@ -190,60 +170,23 @@ path_of forms.GoesOn = codes "l10 6-10 6z"
 path_of forms.Released = codes "l4-6 4 6z"
 path_of _ = []
 
-unfoldable pub circle_start : List ℕ → List ℕ → List ℕ
-circle_start class cut = codes "<circle class=\"" ++ class ++ cut
-
-unfoldable pub circle_x : ℕ → List ℕ
-circle_x x = codes "\" cx=\"" ++ decimal x
-
-unfoldable pub circle_y : ℕ → List ℕ
-circle_y y = codes "\" cy=\"" ++ decimal y
-
-abbrev pub circle_middle : ℕ → ℕ → List ℕ
-circle_middle x y = circle_x x ++ circle_y y
-
-unfoldable pub circle_end : ℕ → List ℕ
-circle_end radius = codes "\" r=\"" ++ decimal radius ++ codes "\">"
-
-unfoldable pub circle_at : List ℕ → List ℕ → ℕ → ℕ → ℕ → List ℕ
-circle_at class cut x y radius = circle_start class cut ++ circle_middle x y ++ circle_end radius
-
+-- a circle of this radius, a square, the line of a flush, and any other mark
 unfoldable pub circle_text : Shape → ℕ → List ℕ
 circle_text shape radius =
-    circle_at (class_of shape.form) (cut_letter shape.cut) shape.at.x (height shape.at.lane) radius ++ title_text shape.title
-    ++ codes "</circle>\n"
-
-unfoldable pub square_class : List ℕ → List ℕ
-square_class cut = codes "<rect class=\"l" ++ cut
-
-unfoldable pub square_x : ℕ → List ℕ
-square_x x = codes "\" x=\"" ++ decimal x
-
-abbrev pub square_start : List ℕ → ℕ → List ℕ
-square_start cut x = square_class cut ++ square_x x
-
-unfoldable pub square_end : ℕ → List ℕ
-square_end y = codes "\" y=\"" ++ decimal y ++ codes "\" width=\"10\" height=\"10\">"
-
-unfoldable pub square_at : List ℕ → ℕ → ℕ → List ℕ
-square_at cut x y = square_start cut x ++ square_end y
+    codes "<circle class=\"" ++ class_of shape.form ++ cut_letter shape.cut ++ codes "\" cx=\"" ++ decimal shape.at.x
+    ++ codes "\" cy=\"" ++ decimal (height shape.at.lane) ++ codes "\" r=\"" ++ decimal radius ++ codes "\">"
+    ++ title_text shape.title ++ codes "</circle>\n"
 
 unfoldable pub square_text : Shape → List ℕ
 square_text shape =
-    square_at (cut_letter shape.cut) (shape.at.x - 5) (height shape.at.lane - 5) ++ title_text shape.title ++ codes "</rect>\n"
-
-unfoldable pub flush_start : ℕ → ℕ → List ℕ
-flush_start start y = codes "<path class=\"i\" d=\"M" ++ decimal start ++ 32 ∷ decimal y
-
-unfoldable pub flush_end : ℕ → List ℕ
-flush_end x = codes "v3H" ++ decimal x ++ codes "v-3\">"
-
-unfoldable pub flush_at : ℕ → ℕ → ℕ → List ℕ
-flush_at start y x = flush_start start y ++ flush_end x
+    codes "<rect class=\"l" ++ cut_letter shape.cut ++ codes "\" x=\"" ++ decimal (shape.at.x - 5)
+    ++ codes "\" y=\"" ++ decimal (height shape.at.lane - 5) ++ codes "\" width=\"10\" height=\"10\">"
+    ++ title_text shape.title ++ codes "</rect>\n"
 
 unfoldable pub flush_text : Shape → ℕ → List ℕ
 flush_text shape from =
-    flush_at (from - 5) (height shape.at.lane + 6) shape.at.x ++ title_text shape.title ++ codes "</path>\n"
+    codes "<path class=\"i\" d=\"M" ++ decimal (from - 5) ++ 32 ∷ decimal (height shape.at.lane + 6)
+    ++ codes "v3H" ++ decimal shape.at.x ++ codes "v-3\">" ++ title_text shape.title ++ codes "</path>\n"
 
 -- stems and heads have no title
 unfoldable pub path_end : Form → Title → List ℕ
@@ -251,22 +194,11 @@ path_end (forms.Stem again) title = codes "/>\n"
 path_end (forms.Head released) title = codes "/>\n"
 path_end _ title = codes ">" ++ title_text title ++ codes "</path>\n"
 
-unfoldable pub path_start : List ℕ → List ℕ → List ℕ
-path_start class cut = codes "<path class=\"" ++ class ++ cut
-
-unfoldable pub path_middle : ℕ → ℕ → List ℕ
-path_middle x y = codes "\" d=\"M" ++ decimal x ++ 32 ∷ decimal y
-
-unfoldable pub path_tail : List ℕ → List ℕ
-path_tail path = path ++ codes "\""
-
-unfoldable pub path_at : List ℕ → List ℕ → ℕ → ℕ → List ℕ → List ℕ
-path_at class cut x y path = path_start class cut ++ path_middle x y ++ path_tail path
-
 unfoldable pub path_text : Shape → List ℕ
 path_text shape =
-    path_at (class_of shape.form) (cut_letter shape.cut) (shape.at.x - left_of shape.form) (height shape.at.lane - above_of shape.form)
-    (path_of shape.form) ++ path_end shape.form shape.title
+    codes "<path class=\"" ++ class_of shape.form ++ cut_letter shape.cut
+    ++ codes "\" d=\"M" ++ decimal (shape.at.x - left_of shape.form) ++ 32 ∷ decimal (height shape.at.lane - above_of shape.form)
+    ++ path_of shape.form ++ codes "\"" ++ path_end shape.form shape.title
 
 -- a mark, by its form
 abbrev pub form_text : Form → Shape → List ℕ
@@ -296,13 +228,8 @@ abbrev pub crossed_title : Crossed → List ℕ
 crossed_title (crossed.Round title) = title_text title
 crossed_title (crossed.End state) = codes "<title>" ++ recovery_text state ++ codes "</title>"
 
-unfoldable pub crossed_text : Crossed → List ℕ
-crossed_text kind = codes "v14\">" ++ crossed_title kind ++ codes "</path>\n"
-
-unfoldable pub line_text : Crossing → List ℕ
-line_text crossing =
-    codes "<path class=\"" ++ crossed_class crossing.kind ++ codes "\" d=\"M" ++ decimal (start_of crossing.places.items) ++ codes " 88"
-
 -- a recovery line
 unfoldable pub crossing_text : Crossing → List ℕ
-crossing_text crossing = line_text crossing ++ flat_map place_text crossing.places.items ++ crossed_text crossing.kind
+crossing_text crossing =
+    codes "<path class=\"" ++ crossed_class crossing.kind ++ codes "\" d=\"M" ++ decimal (start_of crossing.places.items) ++ codes " 88"
+    ++ flat_map place_text crossing.places.items ++ codes "v14\">" ++ crossed_title crossing.kind ++ codes "</path>\n"

@@ -3,7 +3,8 @@ use Rattle.std.specs.Prelude.{ℕ, ◌==◌, ◌-◌, nat_le, if◌then◌else�
 use Rattle.std.specs.Option.{option_map}
 use Rattle.hex.specs.Hex.{encode_lower}
 use Rattle.om_scripts.specs.Programs.{Cluster, program_name}
-use Rattle.om_svg.specs.AnswerText.{recovery_text, status_text, why_word}
+use Rattle.om_svg.specs.AnswerText.{recovery_text, why_word}
+use Rattle.om_world.specs.Texts.{status_text}
 use Rattle.om_sheet.specs.declared.sheet.Style.{Style}
 use Rattle.om_sheet.specs.declared.sheet.Style.TheVariants as styles
 use Rattle.om_sheet.specs.declared.sheet.What.{What}

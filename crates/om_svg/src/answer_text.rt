@@ -1,7 +1,8 @@
 //! The text of events and of answers.
 
 ghost use Rattle.std.specs.Prelude.{◌≡◌, ◌++◌, ◌∷◌, codes, decimal, OnOk, string_bytes};
-ghost use Rattle.om_svg.specs.AnswerText.{accept_text, accept_word, answer_text, event_text, gathered_word, recovery_text, refusal_word, status_text, why_word};
+ghost use Rattle.om_svg.specs.AnswerText.{recovery_text, why_word};
+ghost use Rattle.om_world.specs.Texts.{accept_text, accept_word, answer_text, event_text, gathered_word, refusal_word, status_text};
 
 use om_manager::Gathered;
 use om_process::{Accept, Status};

@@ -2,7 +2,8 @@
 
 ghost use Rattle.std.specs.Prelude.{◌≡◌, ◌++◌, codes, OnOk, string_bytes};
 ghost use Rattle.std.specs.List.{flat_map};
-ghost use Rattle.om_svg.specs.ShapeText.{above_of, arrow_text, band_at, band_end, band_left, band_start, band_text, band_width, changed_text, circle_at, circle_end, circle_middle, circle_start, circle_text, circle_x, circle_y, class_of, crossed_class, crossed_text, crossed_title, crossing_text, cut_letter, flush_at, flush_end, flush_start, flush_text, height, left_of, line_text, message_class, message_start, more_text, numbers_text, path_at, path_end, path_middle, path_of, path_start, path_tail, path_text, place_text, road_text, shape_text, square_at, square_class, square_end, square_start, square_text, square_x, start_of, straight_text, stretch_class, stub_path, title_text, told_text, turning_at, turning_end, turning_start, turning_text, way_text};
+ghost use Rattle.om_svg.specs.ShapeText.{above_of, arrow_text, band_text, changed_text, circle_text, class_of, crossed_class, crossed_title, crossing_text, cut_letter, flush_text, height, left_of, message_class, message_start, more_text, numbers_text, path_end, path_of, path_text, place_text, road_text, shape_text, square_text, start_of, straight_text, stretch_class, stub_path, title_text, told_text, turning_text, way_text};
+ghost use Rattle.om_svg.specs.steps.Marks.{band_at, band_end, band_left, band_start, band_width, circle_at, circle_end, circle_middle, circle_start, circle_x, circle_y, crossed_text, flush_at, flush_end, flush_start, line_text, path_at, path_middle, path_start, path_tail, square_at, square_class, square_end, square_start, square_x, turning_at, turning_end, turning_start};
 ghost use Rattle.om_sheet.specs.declared.sheet.Way.{Way};
 
 use crate::answer_text::{push_answer, push_event, push_recovery};
@@ -38,7 +39,7 @@ pub fn push_band(text: &mut String, band: Band, bottom: u32) -> Result<(), Alloc
     )
 }
 
-#[tactic(auto, unfolding(crate::specs::ShapeText::band_at))]
+#[tactic(auto, unfolding(crate::specs::steps::Marks::band_at))]
 fn push_band_at(text: &mut String, left: u32, width: u32, high: u32) -> Result<(), AllocError>
     ensures { OnOk result (string_bytes text.new ≡ string_bytes text.old ++ band_at left width high) }
 {
@@ -53,21 +54,21 @@ fn push_band_start(text: &mut String, left: u32, width: u32) -> Result<(), Alloc
     push_band_width(text, width)
 }
 
-#[tactic(auto, unfolding(crate::specs::ShapeText::band_left))]
+#[tactic(auto, unfolding(crate::specs::steps::Marks::band_left))]
 fn push_band_left(text: &mut String, left: u32) -> Result<(), AllocError>
     ensures { OnOk result (string_bytes text.new ≡ string_bytes text.old ++ band_left left) }
 {
     write!(text, "<rect class=\"b\" x=\"{left}")
 }
 
-#[tactic(auto, unfolding(crate::specs::ShapeText::band_width))]
+#[tactic(auto, unfolding(crate::specs::steps::Marks::band_width))]
 fn push_band_width(text: &mut String, width: u32) -> Result<(), AllocError>
     ensures { OnOk result (string_bytes text.new ≡ string_bytes text.old ++ band_width width) }
 {
     write!(text, "\" y=\"74\" width=\"{width}")
 }
 
-#[tactic(auto, unfolding(crate::specs::ShapeText::band_end))]
+#[tactic(auto, unfolding(crate::specs::steps::Marks::band_end))]
 fn push_band_end(text: &mut String, high: u32) -> Result<(), AllocError>
     ensures { OnOk result (string_bytes text.new ≡ string_bytes text.old ++ band_end high) }
 {
@@ -126,7 +127,7 @@ fn push_turning(text: &mut String, from: Spot, to: Spot) -> Result<(), AllocErro
     push_turning_at(text, from.x, height(from.lane), turn)
 }
 
-#[tactic(auto, unfolding(crate::specs::ShapeText::turning_at))]
+#[tactic(auto, unfolding(crate::specs::steps::Marks::turning_at))]
 fn push_turning_at(text: &mut String, x: u32, y: u64, turn: u64) -> Result<(), AllocError>
     ensures { OnOk result (string_bytes text.new ≡ string_bytes text.old ++ turning_at x y turn) }
 {
@@ -134,14 +135,14 @@ fn push_turning_at(text: &mut String, x: u32, y: u64, turn: u64) -> Result<(), A
     push_turning_end(text, turn)
 }
 
-#[tactic(auto, unfolding(crate::specs::ShapeText::turning_start))]
+#[tactic(auto, unfolding(crate::specs::steps::Marks::turning_start))]
 fn push_turning_start(text: &mut String, x: u32, y: u64) -> Result<(), AllocError>
     ensures { OnOk result (string_bytes text.new ≡ string_bytes text.old ++ turning_start x y) }
 {
     write!(text, "M{x} {y}")
 }
 
-#[tactic(auto, unfolding(crate::specs::ShapeText::turning_end))]
+#[tactic(auto, unfolding(crate::specs::steps::Marks::turning_end))]
 fn push_turning_end(text: &mut String, turn: u64) -> Result<(), AllocError>
     ensures { OnOk result (string_bytes text.new ≡ string_bytes text.old ++ turning_end turn) }
 {
@@ -237,7 +238,6 @@ fn push_stub(text: &mut String, below: bool, from: Spot) -> Result<(), AllocErro
 }
 
 /// Writes a recovery line.
-#[tactic(auto, unfolding(crate::specs::ShapeText::crossing_text))]
 pub fn push_crossing(text: &mut String, crossing: &Crossing) -> Result<(), AllocError>
     ensures { OnOk result (string_bytes text.new ≡ string_bytes text.old ++ crossing_text crossing.now) }
 {
@@ -256,7 +256,7 @@ fn crossed_class(kind: &Crossed) -> &'static str
 }
 
 // Writes what is told of a recovery line.
-#[tactic(auto, unfolding(crate::specs::ShapeText::crossed_text))]
+#[tactic(auto, unfolding(crate::specs::steps::Marks::crossed_text))]
 fn push_crossed(text: &mut String, kind: &Crossed) -> Result<(), AllocError>
     ensures { OnOk result (string_bytes text.new ≡ string_bytes text.old ++ crossed_text kind.now) }
 {
@@ -289,7 +289,7 @@ fn start_of(places: &[Spot]) -> u32
 }
 
 // Writes the beginning of a recovery line.
-#[tactic(auto, unfolding(crate::specs::ShapeText::line_text))]
+#[tactic(auto, unfolding(crate::specs::steps::Marks::line_text))]
 fn push_line(text: &mut String, crossing: &Crossing) -> Result<(), AllocError>
     ensures { OnOk result (string_bytes text.new ≡ string_bytes text.old ++ line_text crossing.now) }
 {
@@ -388,7 +388,6 @@ pub fn push_shape(text: &mut String, shape: &Shape) -> Result<(), AllocError>
     }
 }
 
-#[tactic(auto, unfolding(crate::specs::ShapeText::circle_text))]
 fn push_circle(text: &mut String, shape: &Shape, radius: u32) -> Result<(), AllocError>
     ensures { OnOk result (string_bytes text.new ≡ string_bytes text.old ++ circle_text shape.now radius) }
 {
@@ -400,7 +399,7 @@ fn push_circle(text: &mut String, shape: &Shape, radius: u32) -> Result<(), Allo
     text.push_str("</circle>\n")
 }
 
-#[tactic(auto, unfolding(crate::specs::ShapeText::circle_at))]
+#[tactic(auto, unfolding(crate::specs::steps::Marks::circle_at))]
 fn push_circle_at(
     text: &mut String,
     class: &str,
@@ -416,7 +415,7 @@ fn push_circle_at(
     push_circle_end(text, radius)
 }
 
-#[tactic(auto, unfolding(crate::specs::ShapeText::circle_start))]
+#[tactic(auto, unfolding(crate::specs::steps::Marks::circle_start))]
 fn push_circle_start(text: &mut String, class: &str, cut: &str) -> Result<(), AllocError>
     ensures { OnOk result (string_bytes text.new ≡ string_bytes text.old ++ circle_start class.now cut.now) }
 {
@@ -430,28 +429,27 @@ fn push_circle_middle(text: &mut String, x: u32, y: u64) -> Result<(), AllocErro
     push_circle_y(text, y)
 }
 
-#[tactic(auto, unfolding(crate::specs::ShapeText::circle_x))]
+#[tactic(auto, unfolding(crate::specs::steps::Marks::circle_x))]
 fn push_circle_x(text: &mut String, x: u32) -> Result<(), AllocError>
     ensures { OnOk result (string_bytes text.new ≡ string_bytes text.old ++ circle_x x) }
 {
     write!(text, "\" cx=\"{x}")
 }
 
-#[tactic(auto, unfolding(crate::specs::ShapeText::circle_y))]
+#[tactic(auto, unfolding(crate::specs::steps::Marks::circle_y))]
 fn push_circle_y(text: &mut String, y: u64) -> Result<(), AllocError>
     ensures { OnOk result (string_bytes text.new ≡ string_bytes text.old ++ circle_y y) }
 {
     write!(text, "\" cy=\"{y}")
 }
 
-#[tactic(auto, unfolding(crate::specs::ShapeText::circle_end))]
+#[tactic(auto, unfolding(crate::specs::steps::Marks::circle_end))]
 fn push_circle_end(text: &mut String, radius: u32) -> Result<(), AllocError>
     ensures { OnOk result (string_bytes text.new ≡ string_bytes text.old ++ circle_end radius) }
 {
     write!(text, "\" r=\"{radius}\">")
 }
 
-#[tactic(auto, unfolding(crate::specs::ShapeText::square_text))]
 fn push_square(text: &mut String, shape: &Shape) -> Result<(), AllocError>
     ensures { OnOk result (string_bytes text.new ≡ string_bytes text.old ++ square_text shape.now) }
 {
@@ -463,7 +461,7 @@ fn push_square(text: &mut String, shape: &Shape) -> Result<(), AllocError>
     text.push_str("</rect>\n")
 }
 
-#[tactic(auto, unfolding(crate::specs::ShapeText::square_at))]
+#[tactic(auto, unfolding(crate::specs::steps::Marks::square_at))]
 fn push_square_at(text: &mut String, cut: &str, x: u64, y: u64) -> Result<(), AllocError>
     ensures { OnOk result (string_bytes text.new ≡ string_bytes text.old ++ square_at cut.now x y) }
 {
@@ -478,28 +476,27 @@ fn push_square_start(text: &mut String, cut: &str, x: u64) -> Result<(), AllocEr
     push_square_x(text, x)
 }
 
-#[tactic(auto, unfolding(crate::specs::ShapeText::square_class))]
+#[tactic(auto, unfolding(crate::specs::steps::Marks::square_class))]
 fn push_square_class(text: &mut String, cut: &str) -> Result<(), AllocError>
     ensures { OnOk result (string_bytes text.new ≡ string_bytes text.old ++ square_class cut.now) }
 {
     write!(text, "<rect class=\"l{cut}")
 }
 
-#[tactic(auto, unfolding(crate::specs::ShapeText::square_x))]
+#[tactic(auto, unfolding(crate::specs::steps::Marks::square_x))]
 fn push_square_x(text: &mut String, x: u64) -> Result<(), AllocError>
     ensures { OnOk result (string_bytes text.new ≡ string_bytes text.old ++ square_x x) }
 {
     write!(text, "\" x=\"{x}")
 }
 
-#[tactic(auto, unfolding(crate::specs::ShapeText::square_end))]
+#[tactic(auto, unfolding(crate::specs::steps::Marks::square_end))]
 fn push_square_end(text: &mut String, y: u64) -> Result<(), AllocError>
     ensures { OnOk result (string_bytes text.new ≡ string_bytes text.old ++ square_end y) }
 {
     write!(text, "\" y=\"{y}\" width=\"10\" height=\"10\">")
 }
 
-#[tactic(auto, unfolding(crate::specs::ShapeText::flush_text))]
 fn push_flush(text: &mut String, shape: &Shape, from: u32) -> Result<(), AllocError>
     ensures { OnOk result (string_bytes text.new ≡ string_bytes text.old ++ flush_text shape.now from) }
 {
@@ -510,7 +507,7 @@ fn push_flush(text: &mut String, shape: &Shape, from: u32) -> Result<(), AllocEr
     text.push_str("</path>\n")
 }
 
-#[tactic(auto, unfolding(crate::specs::ShapeText::flush_at))]
+#[tactic(auto, unfolding(crate::specs::steps::Marks::flush_at))]
 fn push_flush_at(text: &mut String, start: u64, y: u64, x: u32) -> Result<(), AllocError>
     ensures { OnOk result (string_bytes text.new ≡ string_bytes text.old ++ flush_at start y x) }
 {
@@ -518,21 +515,20 @@ fn push_flush_at(text: &mut String, start: u64, y: u64, x: u32) -> Result<(), Al
     push_flush_end(text, x)
 }
 
-#[tactic(auto, unfolding(crate::specs::ShapeText::flush_start))]
+#[tactic(auto, unfolding(crate::specs::steps::Marks::flush_start))]
 fn push_flush_start(text: &mut String, start: u64, y: u64) -> Result<(), AllocError>
     ensures { OnOk result (string_bytes text.new ≡ string_bytes text.old ++ flush_start start y) }
 {
     write!(text, "<path class=\"i\" d=\"M{start} {y}")
 }
 
-#[tactic(auto, unfolding(crate::specs::ShapeText::flush_end))]
+#[tactic(auto, unfolding(crate::specs::steps::Marks::flush_end))]
 fn push_flush_end(text: &mut String, x: u32) -> Result<(), AllocError>
     ensures { OnOk result (string_bytes text.new ≡ string_bytes text.old ++ flush_end x) }
 {
     write!(text, "v3H{x}v-3\">")
 }
 
-#[tactic(auto, unfolding(crate::specs::ShapeText::path_text))]
 fn push_path(text: &mut String, shape: &Shape) -> Result<(), AllocError>
     ensures { OnOk result (string_bytes text.new ≡ string_bytes text.old ++ path_text shape.now) }
 {
@@ -545,7 +541,7 @@ fn push_path(text: &mut String, shape: &Shape) -> Result<(), AllocError>
     push_path_end(text, shape)
 }
 
-#[tactic(auto, unfolding(crate::specs::ShapeText::path_at))]
+#[tactic(auto, unfolding(crate::specs::steps::Marks::path_at))]
 fn push_path_at(
     text: &mut String,
     class: &str,
@@ -561,21 +557,21 @@ fn push_path_at(
     push_path_tail(text, path)
 }
 
-#[tactic(auto, unfolding(crate::specs::ShapeText::path_start))]
+#[tactic(auto, unfolding(crate::specs::steps::Marks::path_start))]
 fn push_path_start(text: &mut String, class: &str, cut: &str) -> Result<(), AllocError>
     ensures { OnOk result (string_bytes text.new ≡ string_bytes text.old ++ path_start class.now cut.now) }
 {
     write!(text, "<path class=\"{class}{cut}")
 }
 
-#[tactic(auto, unfolding(crate::specs::ShapeText::path_middle))]
+#[tactic(auto, unfolding(crate::specs::steps::Marks::path_middle))]
 fn push_path_middle(text: &mut String, x: u64, y: u64) -> Result<(), AllocError>
     ensures { OnOk result (string_bytes text.new ≡ string_bytes text.old ++ path_middle x y) }
 {
     write!(text, "\" d=\"M{x} {y}")
 }
 
-#[tactic(auto, unfolding(crate::specs::ShapeText::path_tail))]
+#[tactic(auto, unfolding(crate::specs::steps::Marks::path_tail))]
 fn push_path_tail(text: &mut String, path: &str) -> Result<(), AllocError>
     ensures { OnOk result (string_bytes text.new ≡ string_bytes text.old ++ path_tail path.now) }
 {

@@ -2,7 +2,8 @@
 
 ghost use Rattle.std.specs.Prelude.{◌≡◌, ◌++◌, IfOk, OnOk, string_bytes};
 ghost use Rattle.std.specs.List.{flat_map};
-ghost use Rattle.om_svg.specs.PictureText.{failed_text, failure_count, ground_height, ground_text, ground_width, head_text, key_text, layers_text, legend_text, moved_text, open_text, outputs_text, picture_text, refused_count, resent_count, sent_count, sent_text, shown_count, shown_text, size_text, styles_text, summary_text, svg_height, svg_width, taken_count, taken_text, view_text};
+ghost use Rattle.om_svg.specs.PictureText.{head_text, key_text, layers_text, legend_text, open_text, picture_text, styles_text, summary_text};
+ghost use Rattle.om_svg.specs.steps.Sheets.{failed_text, failure_count, ground_height, ground_text, ground_width, moved_text, outputs_text, refused_count, resent_count, sent_count, sent_text, shown_count, shown_text, size_text, svg_height, svg_width, taken_count, taken_text, view_text};
 ghost use Rattle.om_svg.specs.ShapeText.{band_text, crossing_text, road_text, shape_text, way_text};
 ghost use Rattle.om_svg.specs.WordText.{word_text};
 
@@ -115,7 +116,6 @@ pub fn picture_text(alloc: Global, programs: &Programs, drawn: &Drawn) -> Result
     Ok(text)
 }
 
-#[tactic(auto, unfolding(crate::specs::PictureText::open_text))]
 fn push_open(text: &mut String, drawn: &Drawn) -> Result<(), AllocError>
     ensures { OnOk result (string_bytes text.new ≡ string_bytes text.old ++ open_text drawn.now) }
 {
@@ -134,7 +134,7 @@ fn push_size(text: &mut String, drawn: &Drawn) -> Result<(), AllocError>
     push_svg_height(text, drawn.height)
 }
 
-#[tactic(auto, unfolding(crate::specs::PictureText::svg_width))]
+#[tactic(auto, unfolding(crate::specs::steps::Sheets::svg_width))]
 fn push_svg_width(text: &mut String, wide: u32) -> Result<(), AllocError>
     ensures { OnOk result (string_bytes text.new ≡ string_bytes text.old ++ svg_width wide) }
 {
@@ -144,14 +144,14 @@ fn push_svg_width(text: &mut String, wide: u32) -> Result<(), AllocError>
     )
 }
 
-#[tactic(auto, unfolding(crate::specs::PictureText::svg_height))]
+#[tactic(auto, unfolding(crate::specs::steps::Sheets::svg_height))]
 fn push_svg_height(text: &mut String, high: u32) -> Result<(), AllocError>
     ensures { OnOk result (string_bytes text.new ≡ string_bytes text.old ++ svg_height high) }
 {
     write!(text, "\" height=\"{high}")
 }
 
-#[tactic(auto, unfolding(crate::specs::PictureText::view_text))]
+#[tactic(auto, unfolding(crate::specs::steps::Sheets::view_text))]
 fn push_view(text: &mut String, drawn: &Drawn) -> Result<(), AllocError>
     ensures { OnOk result (string_bytes text.new ≡ string_bytes text.old ++ view_text drawn.now) }
 {
@@ -180,21 +180,20 @@ fn push_ground(text: &mut String, drawn: &Drawn) -> Result<(), AllocError>
     push_ground_height(text, drawn.height)
 }
 
-#[tactic(auto, unfolding(crate::specs::PictureText::ground_width))]
+#[tactic(auto, unfolding(crate::specs::steps::Sheets::ground_width))]
 fn push_ground_width(text: &mut String, wide: u32) -> Result<(), AllocError>
     ensures { OnOk result (string_bytes text.new ≡ string_bytes text.old ++ ground_width wide) }
 {
     write!(text, "<rect width=\"{wide}")
 }
 
-#[tactic(auto, unfolding(crate::specs::PictureText::ground_height))]
+#[tactic(auto, unfolding(crate::specs::steps::Sheets::ground_height))]
 fn push_ground_height(text: &mut String, high: u32) -> Result<(), AllocError>
     ensures { OnOk result (string_bytes text.new ≡ string_bytes text.old ++ ground_height high) }
 {
     write!(text, "\" height=\"{high}\" fill=\"#fff\"/>\n")
 }
 
-#[tactic(auto, unfolding(crate::specs::PictureText::head_text))]
 fn push_head(text: &mut String, drawn: &Drawn) -> Result<(), AllocError>
     ensures { OnOk result (string_bytes text.new ≡ string_bytes text.old ++ head_text drawn.now) }
 {
@@ -221,7 +220,7 @@ fn push_shown(text: &mut String, counts: &Counts) -> Result<(), AllocError>
     push_sent_count(text, counts)
 }
 
-#[tactic(auto, unfolding(crate::specs::PictureText::shown_count))]
+#[tactic(auto, unfolding(crate::specs::steps::Sheets::shown_count))]
 fn push_shown_count(text: &mut String, counts: &Counts) -> Result<(), AllocError>
     ensures { OnOk result (string_bytes text.new ≡ string_bytes text.old ++ shown_count counts.now) }
 {
@@ -229,7 +228,7 @@ fn push_shown_count(text: &mut String, counts: &Counts) -> Result<(), AllocError
     write!(text, "events shown {shown}")
 }
 
-#[tactic(auto, unfolding(crate::specs::PictureText::sent_count))]
+#[tactic(auto, unfolding(crate::specs::steps::Sheets::sent_count))]
 fn push_sent_count(text: &mut String, counts: &Counts) -> Result<(), AllocError>
     ensures { OnOk result (string_bytes text.new ≡ string_bytes text.old ++ sent_count counts.now) }
 {
@@ -244,7 +243,7 @@ fn push_taken(text: &mut String, counts: &Counts) -> Result<(), AllocError>
     push_taken_count(text, counts)
 }
 
-#[tactic(auto, unfolding(crate::specs::PictureText::resent_count))]
+#[tactic(auto, unfolding(crate::specs::steps::Sheets::resent_count))]
 fn push_resent_count(text: &mut String, counts: &Counts) -> Result<(), AllocError>
     ensures { OnOk result (string_bytes text.new ≡ string_bytes text.old ++ resent_count counts.now) }
 {
@@ -252,7 +251,7 @@ fn push_resent_count(text: &mut String, counts: &Counts) -> Result<(), AllocErro
     write!(text, ", sent again {resent}")
 }
 
-#[tactic(auto, unfolding(crate::specs::PictureText::taken_count))]
+#[tactic(auto, unfolding(crate::specs::steps::Sheets::taken_count))]
 fn push_taken_count(text: &mut String, counts: &Counts) -> Result<(), AllocError>
     ensures { OnOk result (string_bytes text.new ≡ string_bytes text.old ++ taken_count counts.now) }
 {
@@ -267,7 +266,7 @@ fn push_failed(text: &mut String, counts: &Counts) -> Result<(), AllocError>
     push_failure_count(text, counts)
 }
 
-#[tactic(auto, unfolding(crate::specs::PictureText::refused_count))]
+#[tactic(auto, unfolding(crate::specs::steps::Sheets::refused_count))]
 fn push_refused_count(text: &mut String, counts: &Counts) -> Result<(), AllocError>
     ensures { OnOk result (string_bytes text.new ≡ string_bytes text.old ++ refused_count counts.now) }
 {
@@ -275,7 +274,7 @@ fn push_refused_count(text: &mut String, counts: &Counts) -> Result<(), AllocErr
     write!(text, ", refused {refused}")
 }
 
-#[tactic(auto, unfolding(crate::specs::PictureText::failure_count))]
+#[tactic(auto, unfolding(crate::specs::steps::Sheets::failure_count))]
 fn push_failure_count(text: &mut String, counts: &Counts) -> Result<(), AllocError>
     ensures { OnOk result (string_bytes text.new ≡ string_bytes text.old ++ failure_count counts.now) }
 {
@@ -283,7 +282,7 @@ fn push_failure_count(text: &mut String, counts: &Counts) -> Result<(), AllocErr
     write!(text, "; failures {failures}")
 }
 
-#[tactic(auto, unfolding(crate::specs::PictureText::outputs_text))]
+#[tactic(auto, unfolding(crate::specs::steps::Sheets::outputs_text))]
 fn push_outputs(text: &mut String, counts: &Counts) -> Result<(), AllocError>
     ensures { OnOk result (string_bytes text.new ≡ string_bytes text.old ++ outputs_text counts.now) }
 {
@@ -293,7 +292,6 @@ fn push_outputs(text: &mut String, counts: &Counts) -> Result<(), AllocError>
     write!(text, "; outputs {made}, released {released}, cut {cut}")
 }
 
-#[tactic(auto, unfolding(crate::specs::PictureText::legend_text))]
 fn push_legend(text: &mut String, drawn: &Drawn) -> Result<(), AllocError>
     ensures { OnOk result (string_bytes text.new ≡ string_bytes text.old ++ legend_text drawn.now) }
 {
@@ -302,7 +300,7 @@ fn push_legend(text: &mut String, drawn: &Drawn) -> Result<(), AllocError>
     text.push_str("</g>\n</svg>\n")
 }
 
-#[tactic(auto, unfolding(crate::specs::PictureText::moved_text))]
+#[tactic(auto, unfolding(crate::specs::steps::Sheets::moved_text))]
 fn push_moved(text: &mut String, y: u32) -> Result<(), AllocError>
     ensures { OnOk result (string_bytes text.new ≡ string_bytes text.old ++ moved_text y) }
 {

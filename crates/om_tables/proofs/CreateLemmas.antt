@@ -15,7 +15,8 @@ use Rattle.sqlite.proofs.Callers.{IsPlain, command_of, statement_of, runs_as}
 use Rattle.std.proofs.lemmas.List.{nil_from_length}
 use Rattle.std.specs.Ordering.{nat_cmp}
 use Rattle.std.specs.FinMap.{entries, empty, len-entries, len-empty}
-use Rattle.om_tables.specs.Tables.{receipts, checkpoints, no_schema, half_schema, store_schema, stored_row}
+use Rattle.om_tables.specs.Tables.{receipts, checkpoints, no_schema, store_schema, stored_row}
+use Rattle.om_tables.specs.steps.Halfway.{half_schema}
 use Rattle.om_tables.specs.Store.{Holds}
 
 abbrev pub receipts_text : List ℕ

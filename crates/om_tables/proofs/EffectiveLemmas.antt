@@ -27,7 +27,8 @@ use Rattle.sqlite.specs.State.{State, Shown}
 use Rattle.sqlite.proofs.Callers.{IsPlain, command_of, reads_as}
 use Rattle.std.specs.FinMap.{find, get, entries, get-entries}
 use Rattle.om_stable.specs.Content.{Records, Content}
-use Rattle.om_tables.specs.Tables.{store_schema, stored_row, shown}
+use Rattle.om_tables.specs.Tables.{store_schema, stored_row}
+use Rattle.om_tables.specs.steps.Halfway.{shown}
 use Rattle.om_tables.specs.Store.{Holds}
 use Rattle.om_tables.specs.steps.Statements.{ShowsEffective}
 use Rattle.om_tables.proofs.QueryLemmas.{up_to, and_true, matched, entries_rise, tied_here}

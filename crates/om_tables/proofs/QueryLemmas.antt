@@ -32,7 +32,8 @@ use Rattle.sqlite.proofs.Callers.{IsPlain, command_of, reads_as}
 use Rattle.std.specs.FinMap.{find, entries, entries_sorted, get-entries, is_sorted}
 use Rattle.std.specs.FinMap.Entries.{below_all}
 use Rattle.om_stable.specs.Content.{Records, Content, between}
-use Rattle.om_tables.specs.Tables.{store_schema, stored_row, shown}
+use Rattle.om_tables.specs.Tables.{store_schema, stored_row}
+use Rattle.om_tables.specs.steps.Halfway.{shown}
 use Rattle.om_tables.specs.Store.{rows_for, Holds}
 use Rattle.om_tables.specs.steps.Statements.{ShowsAny}
 

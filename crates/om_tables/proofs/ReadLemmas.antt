@@ -10,7 +10,8 @@ use Rattle.sqlite.specs.Clock.{timed}
 use Rattle.sqlite.proofs.Callers.{IsPlain}
 use Rattle.sqlite_keyed.proofs.ListLemmas.{map_back}
 use Rattle.om_stable.specs.Content.{rows_of}
-use Rattle.om_tables.specs.Tables.{store_schema, shown}
+use Rattle.om_tables.specs.Tables.{store_schema}
+use Rattle.om_tables.specs.steps.Halfway.{shown}
 use Rattle.om_tables.specs.Store.{IsFormed, content_in}
 use Rattle.om_tables.specs.steps.Statements.{Same, shown_entry, Asks}
 use Rattle.om_tables.proofs.HoldsLemmas.{still_formed}

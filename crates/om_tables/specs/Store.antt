@@ -1,12 +1,11 @@
 -- The content of a store of two tables.
-use Rattle.std.specs.Prelude.{◌≡◌, ℕ, pos, Bool, ◌&&◌, List, [], ◌∷◌, map, codes, refl}
-use Rattle.std.specs.Coded.{Coded, code_by, coded×, coded_ℕ}
+use Rattle.std.specs.Prelude.{◌≡◌, ℕ, pos, Bool, ◌&&◌, List, [], ◌∷◌, map, codes}
 use Rattle.std.specs.FinMap as finite
 use Rattle.sqlite.specs.declared.types.Value.{Value}
 use Rattle.sqlite.specs.declared.types.Value.TheVariants.{Int, Blob}
 use Rattle.sqlite.specs.Order.{Row, column}
 use Rattle.sqlite.specs.Effect.{Database}
-use Rattle.sqlite.specs.Held.{Held, held_code}
+use Rattle.sqlite.specs.Held.{Held}
 use Rattle.sqlite.specs.Schema.{Schema}
 use Rattle.sqlite.specs.State.{State}
 use Rattle.sqlite.specs.Table.{Table}
@@ -49,11 +48,6 @@ pub record IsFormed (s : State) : Type 0 where
 pub record Tables (S : Type 0) : Type 0 where
   pub connection : Held S
   pub failures : ℕ
-
-abbrev pub tables_code : {S : Type 0} → Coded S → Coded (Tables S)
-tables_code {S} store =
-    code_by (Held S × ℕ) (coded× (held_code store) coded_ℕ) (λ t. (t.connection, t.failures))
-    (λ p. record { connection = p.0; failures = p.1 }) (λ _. refl)
 
 -- the connection is open, and its disk has returned what was written
 abbrev pub is_sure : State → Bool

@@ -1,6 +1,6 @@
 -- The two tables of a store.
 use Rattle.sqlite.specs.Collation.TheVariants.{Binary}
-use Rattle.std.specs.Prelude.{◌&&◌, not, nat_lt, true, false, [], ◌∷◌, Some, codes, List, ℕ, pos, Bool}
+use Rattle.std.specs.Prelude.{true, false, [], ◌∷◌, Some, codes, List, ℕ, pos}
 use Rattle.sqlite.specs.declared.types.Value.TheVariants.{Null, Int, Blob as Bytes}
 use Rattle.sqlite.specs.Order.{Row}
 use Rattle.sqlite.specs.Table.{Table}
@@ -34,9 +34,6 @@ checkpoints = table_at (codes "checkpoints") 1
 abbrev pub no_schema : Schema
 no_schema = record { tables = []; indexes = []; views = [] }
 
-abbrev pub half_schema : Schema
-half_schema = record { tables = receipts ∷ []; indexes = []; views = [] }
-
 abbrev pub store_schema : Schema
 store_schema = record { tables = receipts ∷ checkpoints ∷ []; indexes = []; views = [] }
 
@@ -46,10 +43,3 @@ stored x body = Int (pos x) ∷ Null ∷ Bytes body ∷ []
 
 abbrev pub stored_row : ℕ × List ℕ → Row
 stored_row e = stored e.0 e.1
-
--- as a SELECT of both columns shows it
-abbrev pub shown : ℕ × List ℕ → Row
-shown e = Int (pos e.0) ∷ Bytes e.1 ∷ []
-
-abbrev pub is_between : ℕ → ℕ → ℕ × List ℕ → Bool
-is_between after to e = nat_lt after e.0 && not (nat_lt to e.0)

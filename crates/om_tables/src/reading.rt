@@ -2,7 +2,7 @@
 ghost use Rattle.std.specs.Prelude.{◌≡◌, ◌+◌, ◌≤◌, ℕ, List, length, map, [], false, Option, Some, None, IfOk, IfSome, IfNone};
 ghost use Rattle.std.specs.Bool.{OnTrue, OnFalse};
 ghost use Rattle.std.specs.FinMap as finite;
-ghost use Rattle.om_tables.specs.Tables.{shown};
+ghost use Rattle.om_tables.specs.steps.Halfway.{shown};
 ghost use Rattle.om_tables.specs.steps.Statements.{Asks, Told, ShowsAny, ShowsEffective, shown_entry};
 ghost use Rattle.om_stable.specs.Content.{Records, IsFree, IsTaken, IsEffective, between, rows_of};
 ghost use Rattle.om_stable.specs.declared.stable.TheConstants.{INTERVALS};

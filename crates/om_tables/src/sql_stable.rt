@@ -28,7 +28,8 @@ pub struct SqlStable<S: Alter> {
 
 impl<S: Alter> Model for SqlStable<S> {
     ghost use Rattle.std.specs.Prelude.{◌≡◌, false};
-    ghost use Rattle.om_tables.specs.Store.{Tables, tables_code};
+    ghost use Rattle.om_tables.specs.Store.{Tables};
+    ghost use Rattle.om_tables.specs.steps.Codes.{tables_code};
 
     ghost Value = { Tables S };
 

@@ -156,7 +156,7 @@ module _ {S : Type 0} (content : S → Content) (is_clean : S → Bool) (failed 
           h.before,
           h.after,
           subst (λ (x : WorldState). slice_get x.cores p ≡ Some (Some h.before)) e (core_was content (health_of is_clean failed) IsSound P L F ms M O p m at n h.before h.up),
-          record { within = h.within; turns = h.turns; stops = h.stops; rest = h.rest; told = h.told },
+          h.run,
           cores_set content (health_of is_clean failed) IsSound P L F ms M O p m at n (Some h.after) (ap core_in h.others) ∙ ap (λ (x : WorldState). set x.cores p (Some h.after)) e,
         )
         by (Err fault) h = tt

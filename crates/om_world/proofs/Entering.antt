@@ -24,7 +24,8 @@ use Rattle.om_world.specs.declared.event.Answer.{Answer}
 use Rattle.om_world.specs.declared.event.Answer.TheVariants as answers
 use Rattle.om_world.specs.declared.event.Event.{Event}
 use Rattle.om_world.specs.declared.event.Refusal.{Refusal}
-use Rattle.om_world.specs.Changes.{IsUp, NotesAll, made_by}
+use Rattle.om_member.specs.Told.{AreTold}
+use Rattle.om_world.specs.Changes.{IsUp, made_by}
 use Rattle.om_world.specs.Failures.{HasHanded, JoinHappened}
 use Rattle.om_world.specs.Happened.{Happened}
 use Rattle.om_world.specs.World.{IsKnown, WorldState, all_clean}
@@ -43,9 +44,9 @@ noted_gathering m (Noted true) rows state = refl
 noted_gathering m (Noted false) rows state = refl
 noted_gathering m Known rows state = refl
 
-all_gathering : (old new : ManagerState) (p : ℕ) (rows : List PendingRow) → NotesAll old p rows new → new.gathering ≡ old.gathering
-all_gathering old new p [] same = ap (λ (m : ManagerState). m.gathering) same
-all_gathering old new p (row ∷ rows) n = all_gathering n.0 new p rows n.3 ∙ ap (λ (m : ManagerState). m.gathering) n.2.3 ∙ noted_gathering old n.1 n.0.rows n.0.recovery
+all_gathering : (old new : ManagerState) (round p : ℕ) (rows : List PendingRow) → AreTold old round p rows new → new.gathering ≡ old.gathering
+all_gathering old new round p [] same = ap (λ (m : ManagerState). m.gathering) same
+all_gathering old new round p (row ∷ rows) n = all_gathering n.0 new round p rows n.3 ∙ ap (λ (m : ManagerState). m.gathering) n.2.answers.3 ∙ noted_gathering old n.1 n.0.rows n.0.recovery
 
 -- ---- stored, noted and handed in
 known_handed : (v z : WorldState) (p : ℕ) (end : Result (Unit {0}) OutputError) → HasHandedIn v p end z → IsKnown z → IsKnown v
@@ -74,7 +75,7 @@ handed_over w mid v z p count end up h t k known =
       before = h.there;
       stored = (s.0, s.1, s.2, s.3, ap (λ (x : WorldState). x.contents) k.others ∙ s.4);
       told = v.manager;
-      noted = subst (λ rows. NotesAll w.manager p rows v.manager) (take_all count rest.pending (omega arith)) n.0.manager;
+      noted = subst (λ rows. AreTold w.manager w.manager.round p rows v.manager) (take_all count rest.pending (omega arith)) n.0.manager;
       handed = k.more;
       cores = ap (λ (x : WorldState). x.cores) k.others ∙ n.0.changes.cores ∙ ap (λ rows. set w.cores p (Some (with_pending rest rows))) (drop_all count rest.pending (omega arith));
       stays = record {
@@ -137,7 +138,7 @@ join_not_entered w mid v z u p count fault told up opened h t k e is known =
     let known_z = subst IsKnown e.refused known in
     let known_v = known_handed v z p (Ok tt) k known_z in
     let over = handed_over w mid v z p count (Ok tt) up h t k known_v in
-    let still : z.manager.gathering ≡ w.manager.gathering = ap (λ (m : ManagerState). m.gathering) over.handed.1 ∙ all_gathering w.manager over.told p (flushed h.core).pending over.noted in
+    let still : z.manager.gathering ≡ w.manager.gathering = ap (λ (m : ManagerState). m.gathering) over.handed.1 ∙ all_gathering w.manager over.told w.manager.round p (flushed h.core).pending over.noted in
     let memory = e.memory known_z (λ none. opened (sym still ∙ none)) in
     subst (λ r. Happened w (Event.Join p) (answered r) u) (sym (is ∙ ap (λ f. Err (refusal_of_join f)) memory)) (up, opened, inr (h.core, subst (HasHanded w p h.core) (sym e.refused) over))
 

@@ -2,7 +2,7 @@
 use Rattle.std.proofs.Common.{◌≡◌, inr, ℕ, ◌-◌, ◌≤◌, List, ◌++◌, length, Option, Some, Result, Ok, Err, sym, ap, ◌∙◌, subst, arith}
 use Rattle.std.specs.Prelude.{slice_get, slice_index}
 use Rattle.om_process.specs.declared.turns.Ran.{Ran}
-use Rattle.om_process.specs.Core.{CoreState, cluster_size}
+use Rattle.om_process.specs.Core.{CoreState, cluster_size, RunsTo}
 use Rattle.om_process.specs.Frames.{messages_to, outputs_of}
 use Rattle.om_process.specs.Kept.{queue_at}
 use Rattle.om_process.specs.Parts.{Grow}
@@ -13,7 +13,7 @@ use Rattle.om_manager.specs.State.{held_by, process_count}
 use Rattle.om_world.specs.declared.event.Event.{Event}
 use Rattle.om_world.specs.declared.event.Answer.TheVariants as answers
 use Rattle.om_world.specs.Changes.{Changes, HoldsMore, IsUp, made_by, new_messages}
-use Rattle.om_world.specs.Happened.{Happened, HasRun}
+use Rattle.om_world.specs.Happened.{Happened}
 use Rattle.om_world.specs.World.{WorldState, IsKnown, all_clean}
 use Rattle.om_world.specs.steps.Moves.{HasRunAt, Keeps, TakesTurnsAt}
 use Rattle.om_world.specs.steps.Running.{AreKept, HasHandedIn, HasSent, KeepsMore, messages_past, refusal_of_output}
@@ -161,7 +161,7 @@ has_run w v u z p fuel sent a b few ran up k m t r s n h known =
       before = c;
       after = d;
       changes = changes_by w v u z p fuel up t e h.others;
-      run = subst (λ (x : CoreState). HasRun x fuel ran.steps ran.status d) first (subst (λ (x : CoreState). HasRun r.0 fuel ran.steps ran.status x) last r.3);
+      run = subst (λ (x : CoreState). RunsTo x fuel ran.steps ran.status d) first (subst (λ (x : CoreState). RunsTo r.0 fuel ran.steps ran.status x) last r.3);
       frames = ap (λ (x : WorldState). x.frames) h.others ∙ ap (λ (x : WorldState). x.frames) new.1;
       count = new.0;
       outputs = let x = counts.0 in let y = counts.1 in let same = (same_first w v p fuel t).0 in let le = (same_first w v p fuel t).1 in omega arith;

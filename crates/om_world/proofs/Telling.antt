@@ -12,16 +12,14 @@ use Rattle.om_manager.specs.Notes.{after_note}
 use Rattle.om_manager.specs.Outputs.{HeldOutput, within}
 use Rattle.om_manager.specs.Sound.{IsManager, KeepsReleased}
 use Rattle.om_manager.specs.State.{ManagerState, held_by, process_count, released_by}
-use Rattle.om_world.specs.Changes.{NotesAll, row_for}
+use Rattle.om_world.specs.Changes.{row_for}
 use Rattle.om_world.specs.steps.Moves.{AreTold, IsTold}
 use Rattle.om_world.proofs.Raising.{GoesOn, beyond, less}
 
--- as the rows are said to be noted
-pub told_notes : (old new : ManagerState) (round p : ℕ) (rows : List PendingRow) → AreTold old round p rows new → NotesAll old p rows new
+-- rows that are told are told in the manager's round
+pub told_notes : (old new : ManagerState) (round p : ℕ) (rows : List PendingRow) → AreTold old round p rows new → AreTold old old.round p rows new
 told_notes old new round p [] same = same
-told_notes old new round p (row ∷ rows) told =
-    let n = told.2.answers in
-    (told.0, told.1, (refl, n.1, n.2, n.3), told_notes told.0 new round p rows told.3)
+told_notes old new round p (row ∷ rows) told = subst (λ k. AreTold old k p (row ∷ rows) new) told.2.answers.0 told
 
 -- ---- what a note keeps
 after_starts : (m : ManagerState) (note : Note) (rows : Rows) (state : List ℕ) → (after_note m note rows state).starts ≡ m.starts

@@ -1,17 +1,15 @@
 -- What is said of several events: who changes, what is sent, handed in and stored.
-use Rattle.std.specs.Prelude.{◌≡◌, ◌⊎◌, ℕ, zero, suc, ◌<◌, ◌≤◌, List, [], ◌∷◌, ◌++◌, length, take, drop, slice_get, slice_set, Some, Ok}
+use Rattle.std.specs.Prelude.{◌≡◌, ◌⊎◌, ℕ, zero, suc, ◌<◌, ◌≤◌, List, [], ◌++◌, length, take, drop, slice_get, slice_set, Some}
 use Rattle.om_format.specs.declared.message.Message.{Message}
 use Rattle.om_format.specs.Queues.{queue_end}
 use Rattle.om_stable.specs.Content.{Content}
 use Rattle.om_stable.specs.Count.{Rose}
 pub use Rattle.om_process.specs.Frames.{message_of}
-use Rattle.om_process.specs.declared.row.PendingRow.{PendingRow}
 use Rattle.om_process.specs.Core.{CoreState, cluster_size, with_pending}
 use Rattle.om_process.specs.Frames.{messages_to, outputs_of}
 use Rattle.om_process.specs.Kept.{numbered}
-use Rattle.om_recover.specs.declared.note.Note.{Note}
 use Rattle.om_recover.specs.declared.row.RowKind.{RowKind}
-use Rattle.om_manager.specs.Notes.{Notes}
+use Rattle.om_member.specs.Told.{AreTold}
 use Rattle.om_manager.specs.Outputs.{HeldOutput}
 use Rattle.om_manager.specs.State.{ManagerState, held_by}
 use Rattle.om_world.specs.declared.place.Place.{Place}
@@ -84,12 +82,6 @@ abbrev pub HoldsMore : ManagerState → ℕ → ManagerState → Type 0
 HoldsMore old p new = (more : List HeldOutput) × (new ≡ record old { outputs = slice_set old.outputs p (held_by old p ++ more) })
 
 -- ---- records that are stored and noted
--- the rows are offered in order, and each is noted or known
-abbrev pub NotesAll : ManagerState → ℕ → List PendingRow → ManagerState → Type 0
-NotesAll old p [] new = new ≡ old
-NotesAll old p (row ∷ rows) new =
-    (mid : ManagerState) × (note : Note) × Notes old old.round (row_for p row) (Ok note) mid × NotesAll mid p rows new
-
 -- the store of process p gained it
 abbrev pub HasStored : RowKind → WorldState → ℕ → CoreState → WorldState → Type 0
 HasStored kind old p c new =
@@ -100,7 +92,7 @@ HasStored kind old p c new =
 pub record HasNoted (old : WorldState) (p : ℕ) (c d : CoreState) (count : ℕ) (new : WorldState) : Type 0 where
   pub changes : Changes old p c (with_pending d (drop count d.pending)) new
   pub within : count ≤ length d.pending
-  pub manager : NotesAll old.manager p (take count d.pending) new.manager
+  pub manager : AreTold old.manager old.manager.round p (take count d.pending) new.manager
   pub frames : new.frames ≡ old.frames
 
 -- memory was refused: nothing is stored, or all of it, and some of the pending rows are noted

@@ -13,7 +13,8 @@ use Rattle.om_manager.specs.declared.answers.Gathered.{Gathered}
 use Rattle.om_manager.specs.declared.answers.Gathered.TheVariants.{Waiting, Finished}
 use Rattle.om_world.specs.declared.entry.Entry.{Entry}
 use Rattle.om_world.specs.declared.place.Place.{Place}
-use Rattle.om_world.specs.Changes.{HasStored, HoldsMore, IsSame, IsUp, NotesAll, Stays, StoreStopped, made_by}
+use Rattle.om_member.specs.Told.{AreTold}
+use Rattle.om_world.specs.Changes.{HasStored, HoldsMore, IsSame, IsUp, Stays, StoreStopped, made_by}
 use Rattle.om_world.specs.Live.{cut_list}
 use Rattle.om_world.specs.World.{WorldState, recovered}
 
@@ -83,7 +84,7 @@ pub record HasHanded (old : WorldState) (p : ℕ) (core : CoreState) (new : Worl
   pub before : slice_get old.cores p ≡ Some (Some core)
   pub stored : HasStored Log old p core new
   pub told : ManagerState
-  pub noted : NotesAll old.manager p (flushed core).pending told
+  pub noted : AreTold old.manager old.manager.round p (flushed core).pending told
   pub handed : HoldsMore told p new.manager
   pub cores : new.cores ≡ slice_set old.cores p (Some (with_pending (flushed core) []))
   pub stays : Stays old new

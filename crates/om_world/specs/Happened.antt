@@ -6,7 +6,7 @@ use Rattle.om_stable.specs.Content.{Content, kept_by_prune}
 use Rattle.om_process.specs.declared.accept.Accept.{Accept}
 use Rattle.om_process.specs.declared.accept.Accept.TheVariants as accepts
 use Rattle.om_process.specs.declared.status.Status.{Status}
-use Rattle.om_process.specs.Core.{CoreState, CoreTurns, core_turn, move_of, status_of, with_now}
+use Rattle.om_process.specs.Core.{CoreState, CoreTurns, with_now, RunsTo}
 use Rattle.om_process.specs.Accepts.{Answers, taken}
 use Rattle.om_process.specs.Trims.{trimmed}
 use Rattle.om_recover.specs.Cutting.{IsEffective, IsPruned}
@@ -26,19 +26,11 @@ use Rattle.om_world.specs.Failures.{BackHappened, BackStopped, DownHappened, Fai
 use Rattle.om_world.specs.Changes.{HasFailed, IsSame, IsUp, Changes, new_messages, all_messages, made_by, HoldsMore, stored, HasStored, HasNoted, StoreStopped}
 
 -- ---- a run
--- the process took as many turns as there are, up to the fuel
-pub record HasRun (c : CoreState) (fuel steps : ℕ) (status : Status) (d : CoreState) : Type 0 where
-  pub within : steps ≤ fuel
-  pub turns : CoreTurns steps c d
-  pub stops : steps < fuel → core_turn d ≡ None
-  pub rest : d ≡ with_now c d.now
-  pub told : status ≡ status_of (move_of d)
-
 pub record RunHappened (old : WorldState) (p fuel steps : ℕ) (status : Status) (sent made : ℕ) (new : WorldState) : Type 0 where
   pub before : CoreState
   pub after : CoreState
   pub changes : Changes old p before after new
-  pub run : HasRun before fuel steps status after
+  pub run : RunsTo before fuel steps status after
   pub frames : new.frames ≡ old.frames ++ new_messages before after
   pub count : sent ≡ length (new_messages before after)
   pub outputs : made_by after ≡ made_by before + made

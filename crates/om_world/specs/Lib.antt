@@ -6,4 +6,5 @@ pub mod Failures
 pub mod Happened
 pub mod Played
 pub mod Started
+pub mod Texts
 pub mod steps

@@ -39,7 +39,7 @@ impl<S: Stable> Model for World<S> {
     ghost use Rattle.om_world.specs.steps.Codes.{coded_health};
     ghost use Rattle.om_world.specs.steps.Members.{seen, sound_in};
     ghost use Rattle.om_world.specs.steps.Sound.{IsWorld};
-    ghost use Rattle.om_stable.specs.Content.{content_code};
+    ghost use Rattle.om_stable.specs.steps.Codes.{content_code};
     ghost use Rattle.om_manager.specs.steps.Codes.{coded_manager};
     ghost use Rattle.std.specs.Coded.{codes};
 

@@ -3,7 +3,7 @@ use Rattle.std.specs.Prelude.{◌≡◌}
 use Rattle.om_isa.specs.Rows.{Decodes}
 use Rattle.om_machine.specs.State.{State, word_at}
 use Rattle.om_machine.specs.derived.NextStep.{next_of}
-use Rattle.om_look.specs.Writes.{address_in, writes_of}
+use Rattle.om_look.specs.steps.Writes.{address_in, writes_of}
 use Rattle.om_look.specs.declared.tracing.Before.{Before}
 
 -- the machine is about to carry it out, or stands at it

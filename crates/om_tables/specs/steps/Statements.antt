@@ -6,7 +6,8 @@ use Rattle.sqlite.specs.Effect.{Database}
 use Rattle.sqlite.specs.Order.{Row, column}
 use Rattle.sqlite.specs.State.{State, HasCleanDisk, KeepsCommit}
 use Rattle.om_stable.specs.Content.{Records, Content, IsFree, IsEffective}
-use Rattle.om_tables.specs.Tables.{no_schema, half_schema, shown}
+use Rattle.om_tables.specs.Tables.{no_schema}
+use Rattle.om_tables.specs.steps.Halfway.{half_schema, shown}
 use Rattle.om_tables.specs.Store.{Holds, IsFormed, content_in, number_in, bytes_in}
 
 -- the interval and the bytes that a row of a SELECT of both columns shows

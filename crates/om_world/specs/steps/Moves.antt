@@ -29,9 +29,8 @@ use Rattle.om_world.specs.declared.event.Answer.TheVariants as answers
 use Rattle.om_world.specs.declared.event.Event.{Event}
 use Rattle.om_world.specs.declared.event.Refusal.{Refusal}
 use Rattle.om_world.specs.declared.event.Refusal.TheVariants as why
-use Rattle.om_process.specs.Core.{CoreState, CoreTurns, with_now, with_pending}
+use Rattle.om_process.specs.Core.{CoreState, CoreTurns, with_now, with_pending, RunsTo}
 use Rattle.om_world.specs.Changes.{HasFailed, NoneFell}
-use Rattle.om_world.specs.Happened.{HasRun}
 use Rattle.om_member.specs.declared.member.NotUp.{NotUp}
 pub use Rattle.om_member.specs.Members.{Gained, after_store, trimmed_core}
 pub use Rattle.om_member.specs.Told.{AreTold, IsTold, IsToldUpTo}
@@ -53,7 +52,7 @@ pub record TakesTurnsAt (old : List (Option CoreState)) (p fuel : ℕ) (new : Li
 -- and it has run
 abbrev pub HasRunAt : List (Option CoreState) → ℕ → ℕ → Ran → List (Option CoreState) → Type 0
 HasRunAt old p fuel ran new =
-    (c : CoreState) × (d : CoreState) × (slice_get old p ≡ Some (Some c)) × HasRun c fuel ran.steps ran.status d
+    (c : CoreState) × (d : CoreState) × (slice_get old p ≡ Some (Some c)) × RunsTo c fuel ran.steps ran.status d
     × (new ≡ slice_set old p (Some d))
 
 -- the cores after one was offered a message, by its answer

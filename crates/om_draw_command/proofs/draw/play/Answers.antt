@@ -3,7 +3,7 @@ use Rattle.std.proofs.lemmas.List.{length-take, take_all, take_more}
 use Rattle.om_world.specs.declared.event.Event.{Event}
 use Rattle.om_picture.specs.Drawing.{sketch_of}
 use Rattle.om_picture.specs.Fates.{step_row}
-use Rattle.om_draw_command.specs.Draw.{AreDrawn}
+use Rattle.om_draw_command.specs.steps.Playing.{AreDrawn}
 use Rattle.om_draw_command.proofs.DrawLemmas.{drawn_then, none_drawn}
 use Rattle.om_draw_command.proofs.draw.play.Goals as goal
 

@@ -1,7 +1,7 @@
 use Rattle.std.proofs.Common.{ℕ, [], take}
 use Rattle.om_world.specs.World.{IsKnown}
 use Rattle.om_picture.specs.Drawing.{IsSketchOf, sketch_of}
-use Rattle.om_draw_command.specs.Draw.{AreDrawn}
+use Rattle.om_draw_command.specs.steps.Playing.{AreDrawn}
 use Rattle.om_draw_command.proofs.draw.play.Given as goal
 
 abbrev pub invariant-loop-k : goal.invariant-loop-k

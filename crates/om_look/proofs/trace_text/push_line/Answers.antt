@@ -1,8 +1,8 @@
 use Rattle.std.proofs.Common.{◌++◌, ◌∙◌, ap}
 use Rattle.std.specs.Prelude.{decimal}
 use Rattle.om_isa.specs.Text.{text_of}
-use Rattle.om_look.specs.Trace.{answer_text, line_text, word_text, written_text}
-use Rattle.om_look.specs.Writes.{writes_of}
+use Rattle.om_look.specs.Trace.{answer_text, word_text}
+use Rattle.om_look.specs.steps.Writes.{line_text, writes_of, written_text}
 use Rattle.om_look.proofs.TraceLemmas.{line_grows}
 use Rattle.om_look.proofs.trace_text.push_line.Goals as goal
 

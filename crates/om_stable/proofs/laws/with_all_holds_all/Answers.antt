@@ -1,10 +1,14 @@
 use Rattle.om_stable.proofs.RecordLemmas.{get-with_all_below, get-with_all_at, get-with_all_above, with_all_from}
 use Rattle.om_stable.proofs.laws.with_all_holds_all.Goals as goal
 
-pub returns : goal.returns
-returns c = λ held first added. record {
-  below = get-with_all_below held first added;
-  are_added = get-with_all_at held first added;
-  above = get-with_all_above held first added;
-  nothing_else = with_all_from held first added;
-}
+pub returns-clause-below : goal.returns-clause-below
+returns-clause-below c = get-with_all_below
+
+pub returns-clause-are_added : goal.returns-clause-are_added
+returns-clause-are_added c = get-with_all_at
+
+pub returns-clause-above : goal.returns-clause-above
+returns-clause-above c = get-with_all_above
+
+pub returns-clause-nothing_else : goal.returns-clause-nothing_else
+returns-clause-nothing_else c = with_all_from

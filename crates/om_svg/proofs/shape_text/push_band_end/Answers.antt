@@ -1,4 +1,4 @@
-use Rattle.om_svg.specs.ShapeText.{band_end}
+use Rattle.om_svg.specs.steps.Marks.{band_end}
 use Rattle.om_svg.proofs.shape_text.push_band_end.Goals as goal
 
 pub returns : goal.returns

@@ -1,4 +1,4 @@
-use Rattle.om_svg.specs.ShapeText.{band_left}
+use Rattle.om_svg.specs.steps.Marks.{band_left}
 use Rattle.om_svg.proofs.shape_text.push_band_left.Goals as goal
 
 pub returns : goal.returns

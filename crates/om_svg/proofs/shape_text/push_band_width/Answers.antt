@@ -1,4 +1,4 @@
-use Rattle.om_svg.specs.ShapeText.{band_width}
+use Rattle.om_svg.specs.steps.Marks.{band_width}
 use Rattle.om_svg.proofs.shape_text.push_band_width.Goals as goal
 
 pub returns : goal.returns

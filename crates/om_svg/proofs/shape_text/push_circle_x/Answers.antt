@@ -1,4 +1,4 @@
-use Rattle.om_svg.specs.ShapeText.{circle_x}
+use Rattle.om_svg.specs.steps.Marks.{circle_x}
 use Rattle.om_svg.proofs.shape_text.push_circle_x.Goals as goal
 
 pub returns : goal.returns

@@ -1,4 +1,4 @@
-use Rattle.om_svg.specs.ShapeText.{square_class}
+use Rattle.om_svg.specs.steps.Marks.{square_class}
 use Rattle.om_svg.proofs.shape_text.push_square_class.Goals as goal
 
 pub returns : goal.returns

@@ -1,4 +1,4 @@
-use Rattle.om_svg.specs.ShapeText.{turning_end}
+use Rattle.om_svg.specs.steps.Marks.{turning_end}
 use Rattle.om_svg.proofs.shape_text.push_turning_end.Goals as goal
 
 pub returns : goal.returns

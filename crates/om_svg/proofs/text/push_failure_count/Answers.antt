@@ -1,4 +1,4 @@
-use Rattle.om_svg.specs.PictureText.{failure_count}
+use Rattle.om_svg.specs.steps.Sheets.{failure_count}
 use Rattle.om_svg.proofs.text.push_failure_count.Goals as goal
 
 pub returns : goal.returns

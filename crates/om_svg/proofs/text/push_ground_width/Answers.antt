@@ -1,4 +1,4 @@
-use Rattle.om_svg.specs.PictureText.{ground_width}
+use Rattle.om_svg.specs.steps.Sheets.{ground_width}
 use Rattle.om_svg.proofs.text.push_ground_width.Goals as goal
 
 pub returns : goal.returns

@@ -1,4 +1,4 @@
-use Rattle.om_svg.specs.PictureText.{moved_text}
+use Rattle.om_svg.specs.steps.Sheets.{moved_text}
 use Rattle.om_svg.proofs.text.push_moved.Goals as goal
 
 pub returns : goal.returns

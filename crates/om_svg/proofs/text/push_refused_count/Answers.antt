@@ -1,4 +1,4 @@
-use Rattle.om_svg.specs.PictureText.{refused_count}
+use Rattle.om_svg.specs.steps.Sheets.{refused_count}
 use Rattle.om_svg.proofs.text.push_refused_count.Goals as goal
 
 pub returns : goal.returns

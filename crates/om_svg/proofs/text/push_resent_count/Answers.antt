@@ -1,4 +1,4 @@
-use Rattle.om_svg.specs.PictureText.{resent_count}
+use Rattle.om_svg.specs.steps.Sheets.{resent_count}
 use Rattle.om_svg.proofs.text.push_resent_count.Goals as goal
 
 pub returns : goal.returns

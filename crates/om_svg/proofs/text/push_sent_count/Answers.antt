@@ -1,4 +1,4 @@
-use Rattle.om_svg.specs.PictureText.{sent_count}
+use Rattle.om_svg.specs.steps.Sheets.{sent_count}
 use Rattle.om_svg.proofs.text.push_sent_count.Goals as goal
 
 pub returns : goal.returns

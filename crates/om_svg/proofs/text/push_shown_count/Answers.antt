@@ -1,4 +1,4 @@
-use Rattle.om_svg.specs.PictureText.{shown_count}
+use Rattle.om_svg.specs.steps.Sheets.{shown_count}
 use Rattle.om_svg.proofs.text.push_shown_count.Goals as goal
 
 pub returns : goal.returns

@@ -1,4 +1,4 @@
-use Rattle.om_svg.specs.PictureText.{svg_height}
+use Rattle.om_svg.specs.steps.Sheets.{svg_height}
 use Rattle.om_svg.proofs.text.push_svg_height.Goals as goal
 
 pub returns : goal.returns

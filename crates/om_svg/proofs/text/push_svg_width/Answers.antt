@@ -1,4 +1,4 @@
-use Rattle.om_svg.specs.PictureText.{svg_width}
+use Rattle.om_svg.specs.steps.Sheets.{svg_width}
 use Rattle.om_svg.proofs.text.push_svg_width.Goals as goal
 
 pub returns : goal.returns

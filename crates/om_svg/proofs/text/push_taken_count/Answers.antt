@@ -1,4 +1,4 @@
-use Rattle.om_svg.specs.PictureText.{taken_count}
+use Rattle.om_svg.specs.steps.Sheets.{taken_count}
 use Rattle.om_svg.proofs.text.push_taken_count.Goals as goal
 
 pub returns : goal.returns

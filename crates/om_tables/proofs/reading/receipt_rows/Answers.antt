@@ -3,7 +3,7 @@ use Rattle.sqlite.specs.Held.{state}
 use Rattle.sqlite.specs.State.{HasCleanDisk}
 use Rattle.sqlite.specs.declared.types.Value.TheVariants.{Int}
 use Rattle.om_stable.specs.Content.{between}
-use Rattle.om_tables.specs.Tables.{shown}
+use Rattle.om_tables.specs.steps.Halfway.{shown}
 use Rattle.om_tables.proofs.QueryLemmas.{ranges, range_text, range_plain}
 use Rattle.om_tables.proofs.ReadLemmas.{asks, found_by}
 use Rattle.om_tables.proofs.reading.receipt_rows.Goals as goal

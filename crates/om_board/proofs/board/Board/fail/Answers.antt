@@ -3,7 +3,8 @@ use Rattle.om_interval.specs.Vectors.{IsBelow}
 use Rattle.om_recover.proofs.RunLemmas.{after_error}
 use Rattle.om_manager.specs.Sound.{KeepsReleased}
 use Rattle.om_manager.specs.State.{ManagerState}
-use Rattle.om_board.specs.Fronts.{EndsWith, Follows, MayFollow, front_of}
+use Rattle.om_board.specs.Fronts.{EndsWith, Follows, front_of}
+use Rattle.om_board.specs.steps.Posts.{MayFollow}
 use Rattle.om_board.specs.Boards.{BoardState, IsBoard}
 use Rattle.om_board.specs.Made.{HoldsMade}
 use Rattle.om_board.proofs.BoardLemmas.{refused_fail}

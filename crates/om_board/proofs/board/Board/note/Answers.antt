@@ -1,7 +1,8 @@
 use Rattle.std.proofs.Common.{◌≡◌, refl, sym, subst}
 use Rattle.std.specs.Prelude.{OnErr}
 use Rattle.om_manager.specs.Sound.{KeepsReleased}
-use Rattle.om_board.specs.Fronts.{Follows, MayFollow}
+use Rattle.om_board.specs.Fronts.{Follows}
+use Rattle.om_board.specs.steps.Posts.{MayFollow}
 use Rattle.om_board.specs.Boards.{BoardState}
 use Rattle.om_board.proofs.BoardLemmas.{refused_row}
 use Rattle.om_board.proofs.FrontLemmas.{goes_on}

@@ -1,6 +1,7 @@
 use Rattle.std.proofs.Common.{◌≢◌, ◌≤◌, ◌∷◌, [], ◌++◌, length, sym, ap, ◌∙◌, subst, arith}
 use Rattle.crossbeam_utils.specs.Seq.{cell_view}
-use Rattle.om_board.specs.Fronts.{Rises, MayFollow, EndsWith, IsPosted}
+use Rattle.om_board.specs.Fronts.{Rises, EndsWith, IsPosted}
+use Rattle.om_board.specs.steps.Posts.{MayFollow}
 use Rattle.om_board.specs.Fronts.Follows.{above}
 use Rattle.om_board.specs.declared.cell.View.{View}
 use Rattle.om_board.specs.steps.Posting.{Grows, words_in, fronts_in}

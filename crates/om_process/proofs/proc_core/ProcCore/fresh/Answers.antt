@@ -8,7 +8,8 @@ use Rattle.om_format.specs.Versions.{is_cluster_size}
 use Rattle.om_format.specs.declared.version.Version.TheVariants.{V2}
 use Rattle.om_format.specs.Queues.{QueueRecord, queue_end, are_entries, all_entries}
 use Rattle.om_process.specs.Process.{empty_queue}
-use Rattle.om_process.specs.Core.{AreLast, IsCore, LoggedRecord}
+use Rattle.om_process.specs.Core.{AreLast, LoggedRecord}
+use Rattle.om_process.specs.steps.Lawful.{IsCore}
 use Rattle.om_process.specs.Views.{logged_record}
 use Rattle.om_process.proofs.proc_core.ProcCore.fresh.Goals as goal
 

@@ -30,8 +30,3 @@ pub record IsStepsText (held : Content) (x steps : ℕ) (traced : Bool) (text : 
   pub lines : List ℕ
   pub goes_on : TakesSteps steps traced start end lines
   pub is_text : text ≡ lines ++ state_text end
-
--- the text of a core that goes on
-abbrev pub IsTextBehind : CoreState → ℕ → Bool → List ℕ → Type 0
-IsTextBehind start steps traced text =
-    (end : CoreState) × (lines : List ℕ) × TakesSteps steps traced start end lines × (text ≡ lines ++ state_text end)

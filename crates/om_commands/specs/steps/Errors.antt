@@ -8,6 +8,8 @@ use Rattle.om_process.specs.declared.replay.ReplayFault.{ReplayFault}
 use Rattle.om_process.specs.declared.replay.ReplayFault.TheVariants as replaying
 use Rattle.om_commands.specs.declared.error.CommandError.{CommandError}
 use Rattle.om_commands.specs.declared.error.CommandError.TheVariants.{TooLong, CannotRead, NoMemory, Script, NoCheckpoint, Damaged, MissingReceipt, Mismatch, StoreFault}
+use Rattle.om_look.specs.declared.fault.LookFault.{LookFault}
+use Rattle.om_look.specs.declared.fault.LookFault.TheVariants as looking
 
 -- the input could not be had
 abbrev pub error_of_reading : ReadError → CommandError
@@ -28,3 +30,8 @@ error_of_replay (replaying.MissingReceipt y) = MissingReceipt y
 error_of_replay (replaying.Mismatch y) = Mismatch y
 error_of_replay replaying.Fault = StoreFault
 error_of_replay replaying.Memory = NoMemory
+
+-- the store was not looked into
+abbrev pub error_of_look : LookFault → CommandError
+error_of_look looking.Fault = StoreFault
+error_of_look looking.Memory = NoMemory

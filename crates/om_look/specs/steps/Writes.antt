@@ -1,9 +1,13 @@
--- What instructions write beside pc.
-use Rattle.std.specs.Prelude.{ℕ}
+-- What instructions write beside pc, told by their rows: the tracer knows no effects.
+use Rattle.std.specs.Prelude.{ℕ, List, [], ◌∷◌, ◌++◌, take, drop, codes, decimal, if◌then◌else◌, nat_eq}
+use Rattle.hex.specs.Hex.{encode_lower}
+use Rattle.om_isa.specs.Text.{text_of}
 use Rattle.om_isa.specs.declared.inst.Inst.{Inst}
 use Rattle.om_isa.specs.declared.inst.Inst.TheVariants.{Lui, Auipc, Jal, Jalr, Beq, Bne, Blt, Bge, Bltu, Bgeu, Lb, Lh, Lw, Lbu, Lhu, Sb, Sh, Sw, Addi, Slti, Sltiu, Xori, Ori, Andi, Slli, Srli, Srai, Add, Sub, Sll, Slt, Sltu, Xor, Srl, Sra, Or, And, Fence, Ecall, Ebreak, Mul, Mulh, Mulhsu, Mulhu, Div, Divu, Rem, Remu}
 use Rattle.om_machine.specs.Effects.{address_of}
 use Rattle.om_machine.specs.State.{State}
+use Rattle.om_machine.specs.declared.event.Event.{Event}
+use Rattle.om_look.specs.Trace.{answer_text, register_text, word_text}
 use Rattle.om_look.specs.declared.writes.Width.{Width}
 use Rattle.om_look.specs.declared.writes.Width.TheVariants as widths
 use Rattle.om_look.specs.declared.writes.Written.{Written}
@@ -71,3 +75,16 @@ abbrev pub address_in : State → Written → ℕ
 address_in m (Bytes base imm width) = address_of m base imm
 address_in m (Register rd) = 0
 address_in m Nothing = 0
+
+-- what an instruction wrote: the register, but for x0, or the address and the bytes
+abbrev pub written_text : Written → ℕ → State → List ℕ
+written_text Nothing address after = []
+written_text (Register rd) address after = if nat_eq rd 0 then [] else register_text rd after
+written_text (Bytes base imm width) address after =
+    codes "; " ++ word_text address ++ 32 ∷ encode_lower (take (width_in width) (drop address after.memory))
+
+-- the line of an instruction: the count and pc before it, its word, its text, and what it wrote
+unfoldable pub line_text : ℕ → ℕ → ℕ → Inst → ℕ → Event → State → List ℕ
+line_text count pc word i address event after =
+    decimal count ++ 32 ∷ word_text pc ++ 32 ∷ word_text word ++ 32 ∷ text_of i
+    ++ written_text (writes_of i) address after ++ answer_text event after ++ 10 ∷ []
