@@ -89,19 +89,6 @@ take_links l puts takes turn from next old new a lt is same within = record {
   in_turn = within;
 }
 
--- the turn goes on
-pub turned_links : (l : LinksState) (puts : List Traffic) (takes : List Takings) (turn next : ℕ) → AreLinks l puts takes turn → next < l.n → AreLinks l puts takes next
-turned_links l puts takes turn next a within = record {
-  own = a.own;
-  few = a.few;
-  network = a.network;
-  receivers = a.receivers;
-  senders = a.senders;
-  putting = a.putting;
-  taking = a.taking;
-  in_turn = within;
-}
-
 -- ---- messages
 -- a frame goes from the process to the one that it is for
 pub frame_goes : (c : CoreState) (to ssn : ℕ) (o : Option QueueEntry) (m : Message) → frame_of c to ssn o ≡ Some m → (m.from ≡ c.own) × (m.to ≡ to)

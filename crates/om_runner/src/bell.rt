@@ -20,7 +20,7 @@ const YIELDS: u32 = 2_048;
 const LONGEST_LOOK: u64 = 1_000;
 
 // A yield that takes more microseconds gave a time slice to another program.
-const SLICE: u64 = 100;
+const SLICE: u64 = 500;
 
 // What comes of yielding while a bell is silent.
 #[derive(Clone, Copy, PartialEq, Eq)]
@@ -64,8 +64,11 @@ impl Marked {
         self.bits == 0
     }
 
-    pub(crate) fn has(&self, place: usize) -> bool {
-        self.bits & bit_of(place) != 0
+    // The first that is marked, from a place on and then from the first place on.
+    pub(crate) fn first_from(&self, place: usize) -> usize {
+        let behind = self.bits & !bit_of(place).wrapping_sub(1);
+        let bits = if behind == 0 { self.bits } else { behind };
+        bits.trailing_zeros() as usize
     }
 
     pub(crate) fn remove(&mut self, place: usize) {
@@ -146,12 +149,22 @@ impl Bell {
 
     // Sleeps until it is rung, for no longer than this, and says whether it was. It may be shorter for no reason.
     pub(crate) fn sleep<R: Wait>(&self, rt: &R, duration: Duration) -> bool {
+        self.nap(rt, duration, 1)
+    }
+
+    // The same, for so many parts.
+    pub(crate) fn nap<R: Wait>(&self, rt: &R, part: Duration, parts: u32) -> bool {
         let is_silent = self
             .state
             .compare_exchange(SILENT, ASLEEP, SeqCst, SeqCst)
             .is_ok();
         if is_silent {
-            self.state.park_timeout(rt, ASLEEP as u32, duration);
+            for _ in 0..parts {
+                self.state.park_timeout(rt, ASLEEP as u32, part);
+                if self.state.load(SeqCst) != ASLEEP {
+                    break;
+                }
+            }
         }
         self.state.swap(SILENT, SeqCst) == RUNG
     }

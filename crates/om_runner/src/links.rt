@@ -22,6 +22,11 @@ use std::time::{Clock, Duration};
 // before it is empty.
 const ROOM: u32 = 32;
 
+// How long a nap is, in microseconds, and how many make up a millisecond.
+const NAP: u64 = 100;
+
+const NAPS: u32 = 10;
+
 // Where the messages of one process go, and where those to it come from.
 #[derive(Drop)]
 pub(crate) struct Links<'a> {
@@ -49,6 +54,8 @@ pub(crate) struct Links<'a> {
     taken: u64,
     // By receiver, whether there was no room for a message that is kept, when they were put last.
     left: [bool; MAX_PROCESSES],
+    // Whether something is to be put that the process did not send since.
+    is_behind: bool,
     // By sender, how many messages were taken since its worker was woken for room.
     since: [u32; MAX_PROCESSES],
 }
@@ -112,6 +119,7 @@ impl<'a> Links<'a> {
             put: 0,
             taken: 0,
             left: [false; MAX_PROCESSES],
+            is_behind: false,
             since: [0; MAX_PROCESSES],
         }
     }
@@ -153,6 +161,11 @@ impl<'a> Links<'a> {
         !self.left.iter().any(|left| *left)
     }
 
+    // Whether something is to be put though the process sends nothing.
+    pub(crate) fn is_behind(&self) -> bool {
+        self.is_behind
+    }
+
     // Yields until its worker is woken, for a while.
     pub(crate) fn look<R: Clock>(&self, rt: &R) -> Look {
         match self.bells.get(self.own.index()) {
@@ -165,6 +178,15 @@ impl<'a> Links<'a> {
     pub(crate) fn sleep<R: Wait>(&self, rt: &R, millis: u64) -> bool {
         match self.bells.get(self.own.index()) {
             Some(bell) => bell.sleep(rt, Duration::from_millis(millis)),
+            None => true,
+        }
+    }
+
+    // The same for a millisecond, in naps. Each that ends has the system choose anew who is to run, where another worker was woken
+    // and waits until a busy program's time slice ends.
+    pub(crate) fn nap<R: Wait>(&self, rt: &R) -> bool {
+        match self.bells.get(self.own.index()) {
+            Some(bell) => bell.nap(rt, Duration::from_micros(NAP), NAPS),
             None => true,
         }
     }
@@ -201,6 +223,7 @@ impl<'a> Links<'a> {
         ensures { self.new ≡ self.old }
     {
         self.next = [0; MAX_PROCESSES];
+        self.is_behind = true;
     }
 
     // Has the messages that are kept put once more, to each process to which all of them were put: from the first on that it has not
@@ -210,6 +233,7 @@ impl<'a> Links<'a> {
         ensures { self.new ≡ self.old }
     {
         from_the_first_lacked(&mut self.next, &self.left, self.received, self.own);
+        self.is_behind = true;
     }
 
     // Tells the sender of a message, which the process has received, that it did.
@@ -237,6 +261,7 @@ impl<'a> Links<'a> {
         requires size { cluster_size core.now.now ≡ self.old.n }
         ensures { self.new ≡ self.old }
     {
+        self.is_behind = false;
         for to in 0..self.n {
             self.put_to(rt, alloc, core, Pid::at(to))?;
         }
@@ -264,6 +289,7 @@ impl<'a> Links<'a> {
         for k in from..outbox.len() {
             if !self.put_one(rt, alloc, core, to, k)? {
                 self.left[to.index()] = true;
+                self.is_behind = true;
                 return Ok(());
             }
         }
@@ -308,10 +334,10 @@ impl<'a> Links<'a> {
         if let Some(bell) = self.bells.get(self.own.index()) {
             self.marked.add(bell.senders());
         }
-        if self.marked.is_none() {
-            return None;
-        }
         for _ in 0..self.n {
+            if self.marked.is_none() {
+                return None;
+            }
             let taken = self.take_next(rt);
             if taken.is_some() {
                 return taken;
@@ -320,15 +346,16 @@ impl<'a> Links<'a> {
         None
     }
 
-    // Takes a message from the sender whose turn it is, if there is one. Of an inbox that was empty its sender tells once more.
+    // Takes a message from the next sender that may have put one, if there is one. Of an inbox that was empty its sender tells
+    // once more.
     fn take_next<R: Wait>(&mut self, rt: &R) -> Option<Message>
         ensures { self.new ≡ self.old }
     {
-        let from = self.turn;
-        self.turn = if from + 1 < self.n { from + 1 } else { 0 };
-        if !self.marked.has(from) {
+        let from = self.marked.first_from(self.turn);
+        if from >= self.n {
             return None;
         }
+        self.turn = if from + 1 < self.n { from + 1 } else { 0 };
         let inbox = &self.inboxes[from][self.own.index()];
         let taken = inbox.take(rt, &mut self.takes[from]);
         if taken.is_some() {

@@ -142,7 +142,8 @@ fn pause_of<R: Wait + Clock>(
     idle: &Idle,
     patience: &mut Patience,
 ) -> Pause {
-    if idle.is_fresh() && patience.begin() {
+    let is_fresh = idle.is_fresh();
+    if is_fresh && patience.begin() {
         match links.look(rt) {
             Look::Rung => {
                 patience.gain();
@@ -152,11 +153,12 @@ fn pause_of<R: Wait + Clock>(
             Look::Silent => {}
         }
     }
-    if links.sleep(rt, idle.sleep()) {
-        Pause::Woken
+    let is_woken = if is_fresh && !patience.is_patient() {
+        links.nap(rt)
     } else {
-        Pause::Slept
-    }
+        links.sleep(rt, idle.sleep())
+    };
+    if is_woken { Pause::Woken } else { Pause::Slept }
 }
 
 // Drops what need not be kept any longer.
@@ -423,7 +425,9 @@ impl<'a, K: Naming> Worker<'a, K> {
         if ran.steps > 0 {
             self.change();
         }
-        self.links.put_all(rt, alloc, node.core())?;
+        if ran.steps > 0 || self.links.is_behind() {
+            self.links.put_all(rt, alloc, node.core())?;
+        }
         if has_ended(ran.status) {
             node.flush(alloc)?;
         }
@@ -476,10 +480,9 @@ impl<'a, K: Naming> Worker<'a, K> {
         ensures member { node.new.member ≡ node.old.member }
     {
         if status == Status::Waiting {
-            if let Some(message) = self.links.take(rt) {
+            if let Some(message) = self.take(rt) {
                 return self.accept(rt, alloc, node, &message);
             }
-            self.rest(rt);
         } else if status != Status::Ready {
             if self.links.drain(rt) {
                 self.idle.interrupt();
@@ -488,6 +491,20 @@ impl<'a, K: Naming> Worker<'a, K> {
             }
         }
         Ok(Step::Up)
+    }
+
+    // Takes a message, or rests; what ends the rest is taken at once.
+    fn take<R: Wait + Clock>(&mut self, rt: &R) -> Option<Message>
+        ensures same { self.new.links ≡ self.old.links }
+    {
+        let taken = self.links.take(rt);
+        if taken.is_some() {
+            return taken;
+        }
+        match self.rest(rt) {
+            Pause::Woken => self.links.take(rt),
+            Pause::Slept => None,
+        }
     }
 
     // Something happens to the process: it is idle no longer, and what it keeps is not all resent.
@@ -533,20 +550,21 @@ impl<'a, K: Naming> Worker<'a, K> {
 
     // A turn in which nothing happens to a process that is up. Where all that it keeps was resent, and put, the board knows
     // while it sleeps that it waits.
-    fn rest<R: Wait + Clock>(&mut self, rt: &R)
+    fn rest<R: Wait + Clock>(&mut self, rt: &R) -> Pause
         ensures same { self.new.links ≡ self.old.links }
     {
         if self.resent && self.links.has_put_all() {
-            self.wait(rt);
+            self.wait(rt)
         } else {
             let pause = pause_of(rt, &self.links, &self.idle, &mut self.patience);
             self.count(rt, pause);
+            pause
         }
     }
 
     // Sleeps, while the board knows that the process waits. Where all wait, all turns that are left are idle, and they are spent
     // at once.
-    fn wait<R: Wait + Clock>(&mut self, rt: &R)
+    fn wait<R: Wait + Clock>(&mut self, rt: &R) -> Pause
         ensures same { self.new.links ≡ self.old.links }
         ensures waited { HasRested K.cell.n self.old.manager_link.pid self.old.manager_link.round self.new.extra }
     {
@@ -555,11 +573,12 @@ impl<'a, K: Naming> Worker<'a, K> {
             .wait(rt, self.links.put(), self.links.taken())
         {
             self.extra = ALL_TURNS;
-            return;
+            return Pause::Slept;
         }
         let pause = pause_of(rt, &self.links, &self.idle, &mut self.patience);
         self.manager_link.withdraw(rt);
         self.count(rt, pause);
+        pause
     }
 
     // Counts a pause of a process that is up.
