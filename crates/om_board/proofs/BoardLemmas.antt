@@ -3,7 +3,8 @@ use Rattle.std.proofs.Common.{◌≡◌, ℕ, List, ap, arith}
 use Rattle.std.specs.Prelude.{Err, Ok, OnErr, Result}
 use Rattle.om_recover.specs.declared.note.Note.{Note}
 use Rattle.om_recover.specs.declared.row.Row.{Row}
-use Rattle.om_manager.specs.Notes.{Notes, NotesOutput, Offer}
+use Rattle.om_manager.specs.Notes.{Notes, NotesOutput}
+use Rattle.om_manager.specs.steps.Offers.{Offer}
 use Rattle.om_manager.specs.Rounds.{Failing, Joining}
 use Rattle.om_manager.specs.State.{ManagerState}
 use Rattle.om_manager.specs.declared.answers.RecordError.{RecordError}
@@ -24,14 +25,14 @@ pub refused_note : (old new : ManagerState) (round : ℕ) (row : Row) (error : R
 refused_note old new round row (note.Stale told) is = is.3
 refused_note old new round row (note.Refused fault) is = is.2
 
-refused_offer : (old new : ManagerState) (offer : Offer) (error : OutputError) → NotesOutput old offer (Err error) new → new ≡ old
+refused_offer : (old new : ManagerState) (offer : Offer) (error : OutputError) → NotesOutput old offer.pid offer.round offer.seq offer.output (Err error) new → new ≡ old
 refused_offer old new offer output.Stranger is = is.1
 refused_offer old new offer (output.Stale told) is = is.3
 refused_offer old new offer output.Differs is = is.2
 refused_offer old new offer (output.Gap next) is = is.3
 refused_offer old new offer output.Memory is = is.1
 
-pub refused_output : (result : Result OutputNote OutputError) (old new : ManagerState) (offer : Offer) → NotesOutput old offer result new → OnErr result (new ≡ old)
+pub refused_output : (result : Result OutputNote OutputError) (old new : ManagerState) (offer : Offer) → NotesOutput old offer.pid offer.round offer.seq offer.output result new → OnErr result (new ≡ old)
 refused_output (Ok told) old new offer is = tt
 refused_output (Err error) old new offer is = refused_offer old new offer error is
 

@@ -9,7 +9,8 @@ use Rattle.om_recover.specs.Rows.{Rows}
 use Rattle.om_recover.specs.declared.note.Note.{Note}
 use Rattle.om_recover.specs.declared.note.Note.TheVariants.{Known, Noted}
 use Rattle.om_recover.specs.declared.row.Row.{Row}
-use Rattle.om_manager.specs.Notes.{IsNext, Notes, NotesOutput, Offer, after_note, with_output}
+use Rattle.om_manager.specs.Notes.{IsNext, Notes, NotesOutput, after_note, with_output}
+use Rattle.om_manager.specs.steps.Offers.{Offer}
 use Rattle.om_manager.specs.Outputs.{HeldOutput}
 use Rattle.om_manager.specs.Rounds.{Fails, Failing, Finishes, Gathers, Joining}
 use Rattle.om_manager.specs.Sound.{IsManager}
@@ -80,14 +81,14 @@ with_made programs n old p output inside one made q i o at = elim (cases_eq q p)
       made q i o (subst (λ held. slice_get held i ≡ Some o) there at)
 ]
 
-next_made : (programs : List Program) (n : ℕ) (old new : ManagerState) (offer : Offer) → IsManager old → IsNext old offer → new ≡ with_output old offer.pid offer.output
+next_made : (programs : List Program) (n : ℕ) (old new : ManagerState) (offer : Offer) → IsManager old → IsNext old offer.pid offer.round offer.seq offer.output → new ≡ with_output old offer.pid offer.output
     → IsMade programs n offer.pid offer.seq offer.output → HoldsMade programs n old → HoldsMade programs n new
 next_made programs n old new offer is next same one made =
     let known = next.current.known in let places = is.places in
     subst (HoldsMade programs n) (sym same)
     (with_made programs n old offer.pid offer.output (omega arith) (subst (λ k. IsMade programs n offer.pid k offer.output) next.next one) made)
 
-pub offered_made : (programs : List Program) (n : ℕ) (result : Result OutputNote OutputError) (old new : ManagerState) (offer : Offer) → IsManager old → NotesOutput old offer result new
+pub offered_made : (programs : List Program) (n : ℕ) (result : Result OutputNote OutputError) (old new : ManagerState) (offer : Offer) → IsManager old → NotesOutput old offer.pid offer.round offer.seq offer.output result new
     → IsMade programs n offer.pid offer.seq offer.output → HoldsMade programs n old → HoldsMade programs n new
 offered_made programs n (Ok kept.Known) old new offer is notes one made = subst (HoldsMade programs n) (sym notes.2) made
 offered_made programs n (Ok kept.Released) old new offer is notes one made = next_made programs n old new offer is notes.0 notes.2 one made

@@ -4,7 +4,7 @@ use Rattle.om_interval.specs.Starts.{is_named}
 use Rattle.om_manager.specs.State.{ManagerState, process_count}
 use Rattle.om_manager.specs.Sound.{IsManager}
 use Rattle.om_board.specs.Fronts.{front_of, IsPosted, EndsWith}
-use Rattle.om_board.specs.Waits.{DoWait, put_by, taken_by}
+use Rattle.om_board.specs.Waits.{put_by, taken_by, waits}
 use Rattle.om_board.specs.declared.front.Front.{Front}
 use Rattle.om_board.specs.declared.waiting.Waiting.{Waiting}
 use Rattle.om_board.specs.declared.waiting.Waiting.TheVariants.{Owes}
@@ -54,6 +54,6 @@ pub record MayWait (b : BoardState) (p round : ℕ) : Type 0 where
 
 -- each of the n processes waits, not all have ended, and as many messages were taken as put
 pub record DoAllWait (n : ℕ) (b : BoardState) : Type 0 where
-  pub each : DoWait n b.waiting
+  pub each : (p : ℕ) → p < n → waits (told_by b p) ≡ true
   pub some : AreAllQuiet n b.quiet → ⊥
   pub matched : sum (map put_by (take n b.waiting)) ≡ sum (map taken_by (take n b.waiting))

@@ -188,9 +188,7 @@ impl<K: Naming> Board<K> {
         _frontier: &Frontier<K>,
     ) -> Result<OutputNote, OutputError>
         requires made { K.OverClean → IsMade K.programs K.cell.n pid seq (record { interval = x; bytes = bytes.now }) }
-        ensures answer { NotesOutput self.old.manager
-            (record { pid = pid; round = round; seq = seq; output = record { interval = x; bytes = bytes.now } })
-            result self.new.manager }
+        ensures answer { NotesOutput self.old.manager pid round seq (record { interval = x; bytes = bytes.now }) result self.new.manager }
         ensures posted { self.new.posted ≡ self.old.posted }
         ensures sound { IsBoard K.cell.n self.new }
         ensures not_lowered { IsBelow self.old.manager.recovery self.new.manager.recovery }

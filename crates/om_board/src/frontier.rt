@@ -31,7 +31,7 @@ pub trait Naming {
 
 impl Naming for Brand {
     ghost use Rattle.std.specs.Prelude.{[]};
-    ghost use Rattle.om_board.specs.CellNames.{no_cell};
+    ghost use Rattle.om_board.specs.steps.NoCell.{no_cell};
 
     ghost cell = { no_cell };
 

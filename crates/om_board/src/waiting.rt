@@ -2,7 +2,8 @@
 
 ghost use Rattle.std.specs.Prelude.{◌≡◌, ◌≢◌, ◌≤◌, ◌<◌, ◌↔◌, ℕ, IsTrue, length, map, sum, take, true};
 ghost use Rattle.om_interval.specs.declared.pid.TheConstants.{MAX_PROCESSES};
-ghost use Rattle.om_board.specs.Waits.{DoWait, put_by, taken_by, waits};
+ghost use Rattle.om_board.specs.Waits.{put_by, taken_by, waits};
+ghost use Rattle.om_board.specs.steps.Waiting.{DoWait};
 
 use om_interval::MAX_PROCESSES;
 

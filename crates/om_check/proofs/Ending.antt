@@ -6,7 +6,8 @@ use Rattle.om_format.specs.Queues.{QueueRecord, queue_end}
 use Rattle.om_process.specs.Claims.{HasEntry}
 use Rattle.om_process.specs.Core.{CoreState, IsEnd, cluster_size, move_of, status_of}
 use Rattle.om_process.specs.Kept.{queue_at}
-use Rattle.om_process.specs.Parts.{Grow, Keeps, KeepsQueue, KeepQueues}
+use Rattle.om_process.specs.Parts.{Grow, Keeps, KeepsQueue}
+use Rattle.om_process.specs.steps.Pieces.{KeepQueues}
 use Rattle.om_process.specs.Process.{Process, Program, Received, Move, Waits, Ends, Traps, Goes, Emits, empty_queue, made, moved, started}
 use Rattle.om_process.specs.Turns.{Reaches, Turns, next_move}
 use Rattle.om_process.specs.declared.status.Status.{Status}

@@ -32,10 +32,7 @@ pub record IsWhole (programs : List Program) (w : WorldState) : Type 0 where
 abbrev pub AreReleasedIn : WorldState → List (List HeldOutput) → Type 0
 AreReleasedIn w outputs = (p : ℕ) (out : List HeldOutput) → slice_get outputs p ≡ Some out → out ≡ released_by w.manager p
 
--- the process has a core, whose status this is
-abbrev pub HasStatus : WorldState → ℕ → Status → Type 0
-HasStatus w p status = (c : CoreState) × (slice_get w.cores p ≡ Some (Some c)) × (status ≡ status_of (move_of c))
-
 -- so is that of each process
 abbrev pub AreStatusesOf : WorldState → List Status → Type 0
-AreStatusesOf w statuses = (p : ℕ) (status : Status) → slice_get statuses p ≡ Some status → HasStatus w p status
+AreStatusesOf w statuses = (p : ℕ) (status : Status) → slice_get statuses p ≡ Some status
+    → (c : CoreState) × (slice_get w.cores p ≡ Some (Some c)) × (status ≡ status_of (move_of c))

@@ -14,7 +14,7 @@ use Rattle.om_manager.specs.declared.output_log.Output.{Output}
 use Rattle.om_process.specs.Process.{Program}
 use Rattle.om_process.specs.declared.start.StartFault.{StartFault}
 use Rattle.om_process.specs.declared.start.StartFault.TheVariants.{BadPlace, BadSize, ImageTooLong, Present, Fault, Memory}
-use Rattle.om_scripts.specs.Programs.{Cluster, IsProgram, LacksProcesses, programs_of}
+use Rattle.om_scripts.specs.Programs.{Cluster, IsProgram, programs_of}
 use Rattle.om_stable.specs.Content.{Content}
 use Rattle.om_world.proofs.Beginning.{all_at}
 use Rattle.om_world.specs.Started.{IsRefusedAt, IsWhy}
@@ -25,7 +25,8 @@ use Rattle.om_world.specs.declared.event.Event.{Event}
 use Rattle.om_commands.specs.Command.{IsScript}
 use Rattle.om_commands.specs.Sim.{IsBegun, IsErrorOfSim, IsPlayed, IsSim, IsSimAnswer}
 use Rattle.om_commands.specs.SimScript.{EventScript, event_script_line, no_events}
-use Rattle.om_commands.specs.SimText.{answers_text, bytes_at, end_text}
+use Rattle.om_commands.specs.SimText.{answers_text, end_text}
+use Rattle.om_commands.specs.steps.Lines.{bytes_at}
 use Rattle.om_commands.specs.declared.error.CommandError.{CommandError}
 use Rattle.om_commands.specs.declared.error.CommandError.TheVariants.{EmptyScript, NoMemory}
 
@@ -116,7 +117,7 @@ text_of_answer spelled (Some bytes) start script (Err e) is read answer = tt
 
 -- the error of a script is that of the bytes that it is read from
 of_script : (bytes : List ℕ) (script : EventScript) (error : CommandError) → IsScript event_script_line no_events bytes script
-    → (error ≡ NoMemory) ⊎ ((error ≡ EmptyScript) × LacksProcesses script.cluster) → IsErrorOfSim bytes error
+    → (error ≡ NoMemory) ⊎ ((error ≡ EmptyScript) × (length script.cluster.processes ≡ 0)) → IsErrorOfSim bytes error
 of_script bytes script error read told = ⊎_elim
     (λ memory. subst (IsErrorOfSim bytes) (sym memory) tt)
     (λ none. subst (IsErrorOfSim bytes) (sym none.0) (script, read, none.1))
@@ -124,7 +125,7 @@ of_script bytes script error read told = ⊎_elim
 
 pub error_of_answer : {A : Type 0} (remaining : Option (List ℕ)) (start script : EventScript) (r : Result A CommandError) → start ≡ no_events
     → IfSome remaining (λ bytes. IsScript event_script_line start bytes script)
-    → IfErr r (λ error. (error ≡ NoMemory) ⊎ ((error ≡ EmptyScript) × LacksProcesses script.cluster))
+    → IfErr r (λ error. (error ≡ NoMemory) ⊎ ((error ≡ EmptyScript) × (length script.cluster.processes ≡ 0)))
     → IfSome remaining (λ bytes. IfErr r (IsErrorOfSim bytes))
 error_of_answer None start script r is read error = tt
 error_of_answer (Some bytes) start script (Ok x) is read error = tt

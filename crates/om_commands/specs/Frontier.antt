@@ -1,13 +1,8 @@
 -- What the command `frontier` answers to the bytes of its input.
 use Rattle.std.specs.Prelude.{◌≡◌, ℕ, List, None, Some}
-use Rattle.om_commands.specs.Command.{AnswersScript, IsErrorOf}
+use Rattle.om_commands.specs.Command.{AnswersScript}
 use Rattle.om_commands.specs.RecordScript.{RecordLines, no_records, record_script_line}
 use Rattle.om_commands.specs.Report.{IsReport}
-use Rattle.om_commands.specs.declared.error.CommandError.{CommandError}
-
--- the error is that of these bytes, where a record script without its line `procs` is empty
-abbrev pub IsErrorOfFrontier : List ℕ → CommandError → Type 0
-IsErrorOfFrontier bytes error = IsErrorOf record_script_line no_records (λ script. script.processes ≡ None) bytes error
 
 -- the report on the notes of a script
 abbrev pub IsFrontierAnswer : RecordLines → List ℕ → Type 0

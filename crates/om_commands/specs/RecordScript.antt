@@ -5,7 +5,7 @@ use Rattle.om_interval.specs.declared.pid.TheConstants.{MAX_PROCESSES}
 use Rattle.om_recover.specs.declared.row.RowKind.{RowKind}
 use Rattle.om_recover.specs.declared.row.RowKind.TheVariants.{Checkpoint, Log}
 use Rattle.om_text.specs.Numbers.{number_of}
-use Rattle.om_text.specs.Reading.{◌>>=◌, refused, or_error}
+use Rattle.om_text.specs.Reading.{◌>>=◌, all_read, refused, or_error}
 use Rattle.om_text.specs.declared.error.LineError.{LineError}
 use Rattle.om_text.specs.declared.error.LineError.TheVariants.{UnknownLine, WrongCount, BadNumber, OutOfPlace}
 use Rattle.om_commands.specs.declared.record_script.NoteLine.{NoteLine}
@@ -33,14 +33,6 @@ abbrev pub has_wrong_count : Option ℕ → List (List ℕ) → Bool
 has_wrong_count None words = false
 has_wrong_count (Some n) words = not (length words == n + 2)
 
--- the numbers that the words stand for, if each is one
-abbrev pub numbers_in : List (List ℕ) → Result (List ℕ) LineError
-numbers_in [] = Ok []
-numbers_in (word ∷ words) = do
-  number ← or_error (number_of word) BadNumber
-  numbers ← numbers_in words
-  Ok (number ∷ numbers)
-
 -- the note of these numbers: process, interval, and the vector
 abbrev pub note_of : RowKind → List ℕ → NoteLine
 note_of kind numbers = record { kind = kind; pid = slice_index numbers 0; interval = slice_index numbers 1; vec = drop 2 numbers }
@@ -49,7 +41,7 @@ note_of kind numbers = record { kind = kind; pid = slice_index numbers 0; interv
 abbrev pub note_line : RowKind → RecordLines → List (List ℕ) → Result RecordLines LineError
 note_line kind script words = do
   _ ← refused (has_wrong_count script.processes words) WrongCount
-  numbers ← numbers_in words
+  numbers ← all_read number_of BadNumber words
   _ ← refused (is_none script.processes) OutOfPlace
   Ok (record script { notes = script.notes ++ note_of kind numbers ∷ [] })
 

@@ -9,10 +9,8 @@ use Rattle.om_commands.specs.declared.error.CommandError.{CommandError}
 use Rattle.om_commands.specs.declared.error.CommandError.TheVariants as errors
 
 -- the text of the process that is replayed to the interval
-pub record IsReplayText (held : Content) (x : ℕ) (text : List ℕ) : Type 0 where
-  pub core : CoreState
-  pub replayed : IsReplay held x core
-  pub is_text : text ≡ state_text core
+abbrev pub IsReplayText : Content → ℕ → List ℕ → Type 0
+IsReplayText held x text = (core : CoreState) × IsReplay held x core × (text ≡ state_text core)
 
 -- The error is that of the content. Those of the store, the writer and memory may come whatever it is.
 abbrev pub IsReplayError : Content → ℕ → CommandError → Type 0

@@ -23,10 +23,7 @@ pub record TakesSteps (steps : ℕ) (traced : Bool) (start end : CoreState) (lin
   pub are_lines : AreLinesIf traced start.own (cluster_size start.now) taken start.now end.now lines
 
 -- the text of the process that goes on from the interval to which it is replayed
-pub record IsStepsText (held : Content) (x steps : ℕ) (traced : Bool) (text : List ℕ) : Type 0 where
-  pub start : CoreState
-  pub replayed : IsReplay held x start
-  pub end : CoreState
-  pub lines : List ℕ
-  pub goes_on : TakesSteps steps traced start end lines
-  pub is_text : text ≡ lines ++ state_text end
+abbrev pub IsStepsText : Content → ℕ → ℕ → Bool → List ℕ → Type 0
+IsStepsText held x steps traced text =
+    (start : CoreState) × IsReplay held x start × (end : CoreState) × (lines : List ℕ) × TakesSteps steps traced start end lines
+    × (text ≡ lines ++ state_text end)

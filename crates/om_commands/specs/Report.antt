@@ -16,23 +16,15 @@ use Rattle.om_commands.specs.declared.record_script.NoteLine.{NoteLine}
 abbrev pub offered_row : List ℕ → NoteLine → Row
 offered_row got note = record { kind = note.kind; pid = note.pid; interval = note.interval; vec = note.vec; got = got }
 
--- the word of a note that is no refusal
-abbrev pub note_word : Note → List ℕ
-note_word (Noted raised) = if raised then codes "raised" else codes "noted"
-note_word Known = codes "known"
-
--- the word of a refusal; want of memory has none
-abbrev pub error_word : NoteError → List ℕ
-error_word Stranger = codes "stranger"
-error_word BadVector = codes "bad-vector"
-error_word Differs = codes "differs"
-error_word (Disorder y) = codes "disorder " ++ decimal y
-error_word Memory = []
-
--- the word of an answer
+-- the word of an answer; want of memory has none
 abbrev pub answer_word : Result Note NoteError → List ℕ
-answer_word (Ok note) = note_word note
-answer_word (Err error) = error_word error
+answer_word (Ok (Noted raised)) = if raised then codes "raised" else codes "noted"
+answer_word (Ok Known) = codes "known"
+answer_word (Err Stranger) = codes "stranger"
+answer_word (Err BadVector) = codes "bad-vector"
+answer_word (Err Differs) = codes "differs"
+answer_word (Err (Disorder y)) = codes "disorder " ++ decimal y
+answer_word (Err Memory) = []
 
 -- the intervals of a state, each after a space, and the end of the line
 abbrev pub intervals_text : List ℕ → List ℕ

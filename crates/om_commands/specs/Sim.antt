@@ -1,7 +1,7 @@
 -- What the command `sim` answers to the bytes of its input.
 use Rattle.std.specs.Prelude.{◌≡◌, ℕ, List, ◌++◌, All, length}
 use Rattle.om_process.specs.Process.{Program}
-use Rattle.om_scripts.specs.Programs.{LacksProcesses, programs_of}
+use Rattle.om_scripts.specs.Programs.{programs_of}
 use Rattle.om_world.specs.Played.{IsFaultless, Played}
 use Rattle.om_world.specs.Holds.{Holds}
 use Rattle.om_world.specs.Started.{IsStarted}
@@ -14,13 +14,11 @@ use Rattle.om_commands.specs.declared.error.CommandError.{CommandError}
 
 -- the error is that of these bytes, where a script without a process is empty
 abbrev pub IsErrorOfSim : List ℕ → CommandError → Type 0
-IsErrorOfSim bytes error = IsErrorOf event_script_line no_events (λ script. LacksProcesses script.cluster) bytes error
+IsErrorOfSim bytes error = IsErrorOf event_script_line no_events (λ script. length script.cluster.processes ≡ 0) bytes error
 
 -- a world of these programs at its start, over stores that held nothing
-pub record IsBegun (programs : List Program) (w : WorldState) : Type 0 where
-  pub started : IsStarted programs w
-  pub known : IsKnown w
-  pub holds : Holds w
+abbrev pub IsBegun : List Program → WorldState → Type 0
+IsBegun programs w = IsStarted programs w × IsKnown w × Holds w
 
 -- the answers to the events of a script, played from this world on, and how it stands in the end; no store failed
 abbrev pub IsPlayed : EventScript → WorldState → List ℕ → Type 0

@@ -1,11 +1,8 @@
 -- What the lines of a script of a world mean: its programs and processes, and then what is to happen.
-use Rattle.std.specs.Prelude.{ℕ, true, List, [], ◌∷◌, ◌++◌, Result, Ok, Err, if◌then◌else◌, codes}
-use Rattle.std.specs.Str.{bytes_eq}
-use Rattle.om_isa.specs.declared.ext.Ext.TheVariants.{I, Im}
+use Rattle.std.specs.Prelude.{ℕ, true, List, [], ◌∷◌, ◌++◌, Result, Ok}
 use Rattle.om_text.specs.Reading.{◌>>=◌}
 use Rattle.om_text.specs.declared.error.LineError.{LineError}
-use Rattle.om_text.specs.declared.error.LineError.TheVariants.{UnknownLine}
-use Rattle.om_scripts.specs.Programs.{Cluster, no_programs, program_line, process_line}
+use Rattle.om_scripts.specs.Programs.{Cluster, no_programs, script_line}
 use Rattle.om_world.specs.declared.event.Event.{Event}
 use Rattle.om_commands.specs.Events.{event_line}
 
@@ -25,14 +22,7 @@ with_event script event = record script {
   events = script.events ++ event ∷ [];
 }
 
-abbrev pub cluster_line : EventScript → Result Cluster LineError → Result EventScript LineError
-cluster_line script read = read >>= λ cluster. Ok (record script { cluster = cluster })
-
 -- a line, by its first word
 abbrev pub event_script_line : EventScript → List (List ℕ) → Result EventScript LineError
-event_script_line script [] = Err UnknownLine
-event_script_line script (first ∷ words) =
-    if bytes_eq first (codes "program") then cluster_line script (program_line I script.cluster words)
-    else (if bytes_eq first (codes "program-m") then cluster_line script (program_line Im script.cluster words)
-    else (if bytes_eq first (codes "proc") then cluster_line script (process_line script.cluster words)
-    else (event_line first words >>= λ event. Ok (with_event script event))))
+event_script_line script words = script_line script.cluster (λ next. record script { cluster = next })
+    (λ first words. event_line first words >>= λ event. Ok (with_event script event)) words

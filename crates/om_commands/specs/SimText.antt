@@ -2,7 +2,7 @@
 use Rattle.std.specs.Prelude.{ℕ, List, [], ◌∷◌, ◌++◌, length, slice_get, slice_index_or, Option, Some, codes, decimal}
 use Rattle.std.specs.List.{flat_map, range_with_len}
 use Rattle.om_manager.specs.Outputs.{HeldOutput}
-use Rattle.om_manager.specs.State.{ManagerState, released_by}
+use Rattle.om_manager.specs.State.{released_by}
 use Rattle.om_process.specs.Core.{CoreState, move_of, status_of}
 use Rattle.om_scripts.specs.Programs.{Cluster}
 use Rattle.om_look.specs.Trace.{body_text}
@@ -25,28 +25,18 @@ core_text (Some (Some c)) =
     codes "inc " ++ decimal c.inc ++ codes " interval " ++ decimal c.now.interval ++ 32 ∷ status_text (status_of (move_of c))
 core_text _ = codes "down"
 
--- the line of a process
-abbrev pub process_line : Cluster → List (Option CoreState) → ℕ → List ℕ
-process_line cluster cores p = codes "proc " ++ name_at cluster p ++ 32 ∷ core_text (slice_get cores p) ++ 10 ∷ []
-
 -- the line of an output, by its number
 abbrev pub output_line : List ℕ → ℕ → List ℕ → List ℕ
 output_line name number bytes = codes "out " ++ name ++ 32 ∷ decimal number ++ 32 ∷ body_text bytes ++ 10 ∷ []
 
-abbrev pub bytes_at : List HeldOutput → ℕ → List ℕ
-bytes_at outputs number = (slice_index_or outputs number (record { interval = 0; bytes = [] })).bytes
-
 -- a line for each output of a process
 abbrev pub outputs_text : List ℕ → List HeldOutput → List ℕ
-outputs_text name outputs = flat_map (λ number. output_line name number (bytes_at outputs number)) (range_with_len 0 (length outputs))
-
--- the lines of what is released of a process
-abbrev pub released_text : Cluster → ManagerState → ℕ → List ℕ
-released_text cluster manager p = outputs_text (name_at cluster p) (released_by manager p)
+outputs_text name outputs =
+    flat_map (λ number. output_line name number (slice_index_or outputs number (record { interval = 0; bytes = [] })).bytes) (range_with_len 0 (length outputs))
 
 -- how a world of n processes stands: the recovery state, each process, and then what is released of each
 abbrev pub end_text : Cluster → ℕ → WorldState → List ℕ
 end_text cluster n w =
     codes "recovery" ++ intervals_text w.manager.recovery
-    ++ flat_map (process_line cluster w.cores) (range_with_len 0 n)
-    ++ flat_map (released_text cluster w.manager) (range_with_len 0 n)
+    ++ flat_map (λ p. codes "proc " ++ name_at cluster p ++ 32 ∷ core_text (slice_get w.cores p) ++ 10 ∷ []) (range_with_len 0 n)
+    ++ flat_map (λ p. outputs_text (name_at cluster p) (released_by w.manager p)) (range_with_len 0 n)

@@ -2,9 +2,11 @@
 
 ghost use Rattle.std.specs.Prelude.{◌≡◌, map};
 ghost use Rattle.om_text.specs.Reading.{or_error};
-ghost use Rattle.om_text.specs.Numbers.{number_of};
+ghost use Rattle.om_text.specs.Numbers.{long_number_of, number_of};
 ghost use Rattle.om_text.specs.declared.error.LineError.{LineError};
-ghost use Rattle.om_commands.specs.Events.{event_at, event_line, give_line, process_in, prune_line, run_line};
+ghost use Rattle.om_commands.specs.Events.{event_line, event_of_two, process_in, prune_line};
+ghost use Rattle.om_commands.specs.steps.Events.{event_at};
+ghost use Rattle.om_world.specs.declared.event.Event.{Event};
 
 use om_text::{LineError, long_number_of, number_of};
 use om_world::Event;
@@ -81,7 +83,7 @@ fn place_of(word: &[u8]) -> Result<usize, LineError>
 }
 
 fn run_of(words: &[&[u8]]) -> Result<Event, LineError>
-    ensures { result ≡ run_line (map (λ word. word.now) words.now) }
+    ensures { result ≡ event_of_two Event.Run long_number_of (map (λ word. word.now) words.now) }
 {
     let [process, fuel] = words else {
         return Err(LineError::WrongCount);
@@ -94,7 +96,7 @@ fn run_of(words: &[&[u8]]) -> Result<Event, LineError>
 }
 
 fn give_of(words: &[&[u8]]) -> Result<Event, LineError>
-    ensures { result ≡ give_line (map (λ word. word.now) words.now) }
+    ensures { result ≡ event_of_two Event.Give number_of (map (λ word. word.now) words.now) }
 {
     let [process, frame] = words else {
         return Err(LineError::WrongCount);

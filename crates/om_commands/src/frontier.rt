@@ -2,8 +2,9 @@
 
 ghost use Rattle.std.specs.Prelude.{◌≡◌, ◌⊎◌, ℕ, List, None, IfSome, IfOk, IfErr, OnOk, string_bytes};
 ghost use Rattle.std.specs.Io.KnownBytes.{Appends, Keeps};
-ghost use Rattle.om_commands.specs.Command.{IsSilent};
-ghost use Rattle.om_commands.specs.Frontier.{IsErrorOfFrontier, IsFrontier, IsFrontierAnswer};
+ghost use Rattle.om_commands.specs.Command.{IsErrorOf, IsSilent};
+ghost use Rattle.om_commands.specs.Frontier.{IsFrontier, IsFrontierAnswer};
+ghost use Rattle.om_commands.specs.RecordScript.{no_records, record_script_line};
 
 use crate::command::write_answer;
 use crate::error::CommandError;
@@ -22,7 +23,7 @@ pub fn frontier<R: Read, W: Write>(
     ensures text { IfSome (R.remaining reader.old) (λ bytes. OnOk result ((text : List ℕ) × IsFrontier bytes text
         × Appends (W.contents writer.old) (W.contents writer.new) text)) }
     ensures error { IfSome (R.remaining reader.old) (λ bytes.
-        IfErr result (IsErrorOfFrontier bytes)) }
+        IfErr result (IsErrorOf record_script_line no_records (λ script. script.processes ≡ None) bytes)) }
     ensures silent { IfErr result (λ error. IsSilent error (Keeps (W.contents writer.old) (W.contents writer.new))) }
 {
     // The script's bytes are kept to the end: once so large a block is freed, the allocator grows others by copies.

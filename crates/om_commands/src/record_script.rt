@@ -2,8 +2,10 @@
 
 ghost use Rattle.std.specs.Prelude.{◌≡◌, ◌≤◌, ◌+◌, length, map, IfSome, OnOk, vec_len};
 ghost use Rattle.om_interval.specs.declared.pid.TheConstants.{MAX_PROCESSES};
-ghost use Rattle.om_text.specs.Reading.{Gives};
-ghost use Rattle.om_commands.specs.RecordScript.{RecordLines, no_records, processes_line, note_line, note_of, record_script_line, numbers_in};
+ghost use Rattle.om_text.specs.Reading.{Gives, all_read};
+ghost use Rattle.om_commands.specs.RecordScript.{RecordLines, no_records, processes_line, note_line, note_of, record_script_line};
+ghost use Rattle.om_text.specs.Numbers.{number_of};
+ghost use Rattle.om_text.specs.declared.error.LineError.{LineError};
 
 use om_interval::{DepVec, MAX_PROCESSES};
 use om_recover::RowKind;
@@ -129,7 +131,7 @@ impl Builder for RecordScript {
 
 // Puts the numbers that the words stand for in place of what was there.
 fn read_numbers(words: &[&[u8]], numbers: &mut Vec<u32>) -> Result<(), BuildError<LineError>>
-    ensures numbers { Gives (λ _. numbers.new.items) result (numbers_in (map (λ word. word.now) words.now)) }
+    ensures numbers { Gives (λ _. numbers.new.items) result (all_read number_of LineError.BadNumber (map (λ word. word.now) words.now)) }
     ensures count { OnOk result (vec_len numbers.new ≡ length words.now) }
 {
     numbers.clear();

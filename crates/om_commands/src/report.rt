@@ -1,9 +1,9 @@
-ghost use Rattle.std.specs.Prelude.{◌≡◌, ◌≢◌, ◌≤◌, ◌++◌, ◌∷◌, [], ℕ, List, length, Err, IfOk, OnOk, string_bytes};
+ghost use Rattle.std.specs.Prelude.{◌≡◌, ◌≢◌, ◌≤◌, ◌++◌, ◌∷◌, [], ℕ, List, length, Err, Ok, IfOk, OnOk, string_bytes};
 ghost use Rattle.om_interval.specs.declared.pid.TheConstants.{MAX_PROCESSES};
 ghost use Rattle.om_recover.specs.Offered.{offered, TellsChange};
 ghost use Rattle.om_recover.specs.Recoverable.{IsGreatest};
 ghost use Rattle.om_recover.specs.declared.note.NoteError.TheVariants.{Memory};
-ghost use Rattle.om_commands.specs.Report.{IsReport, answer_word, note_word, error_word, offered_row, intervals_text};
+ghost use Rattle.om_commands.specs.Report.{IsReport, answer_word, offered_row, intervals_text};
 
 use crate::record_script::NoteLine;
 use om_interval::{DepVec, Pid};
@@ -95,7 +95,7 @@ fn push_answer(text: &mut String, answer: Result<Note, NoteError>) -> Result<(),
 }
 
 fn note_word(note: Note) -> &'static str
-    ensures { result.now ≡ note_word note }
+    ensures { result.now ≡ answer_word (Ok note) }
 {
     match note {
         Note::Noted { raised: true } => "raised",
@@ -105,7 +105,7 @@ fn note_word(note: Note) -> &'static str
 }
 
 fn push_error(text: &mut String, error: NoteError) -> Result<(), AllocError>
-    ensures word { OnOk result (string_bytes text.new ≡ string_bytes text.old ++ error_word error) }
+    ensures word { OnOk result (string_bytes text.new ≡ string_bytes text.old ++ answer_word (Err error)) }
     ensures written { OnOk result (error ≢ Memory) }
 {
     match error {

@@ -6,7 +6,7 @@ ghost use Rattle.om_interval.specs.declared.pid.TheConstants.{MAX_PROCESSES};
 ghost use Rattle.om_manager.specs.State.{process_count};
 ghost use Rattle.om_process.specs.Images.{program_of};
 ghost use Rattle.om_process.specs.declared.start.StartFault.{StartFault};
-ghost use Rattle.om_scripts.specs.Programs.{IsProgram, LacksProcesses, programs_of};
+ghost use Rattle.om_scripts.specs.Programs.{IsProgram, programs_of};
 ghost use Rattle.om_world.specs.Played.{IsFaultless, Played};
 ghost use Rattle.om_world.specs.World.{IsEmpty, IsKnown};
 ghost use Rattle.om_commands.specs.Command.{IsSilent};
@@ -54,7 +54,7 @@ fn answer_to<R: Read>(alloc: Global, reader: &mut R) -> Result<String, CommandEr
 fn answer(alloc: Global, script: &SimScript) -> Result<String, CommandError>
     ensures text { IfOk result (λ text. IsSimAnswer script.now (string_bytes text)) }
     ensures error { IfErr result (λ error. (error ≡ CommandError.NoMemory)
-        ⊎ ((error ≡ CommandError.EmptyScript) × LacksProcesses script.now.cluster)) }
+        ⊎ ((error ≡ CommandError.EmptyScript) × (length script.now.cluster.processes ≡ 0))) }
 {
     let programs = script.programs();
     if programs.n() == 0 {

@@ -5,9 +5,11 @@ ghost use Rattle.std.specs.List.{flat_map, range_with_len};
 ghost use Rattle.om_interval.specs.declared.pid.TheConstants.{MAX_PROCESSES};
 ghost use Rattle.om_manager.specs.Outputs.{held_of};
 ghost use Rattle.om_manager.specs.State.{process_count};
-ghost use Rattle.om_commands.specs.SimText.{answers_text, core_text, end_text, name_at, output_line, outputs_text, process_line, released_text};
+ghost use Rattle.om_commands.specs.SimText.{answers_text, core_text, name_at, output_line, outputs_text};
+ghost use Rattle.om_commands.specs.steps.Lines.{process_line, released_text, written_end};
 ghost use Rattle.om_look.specs.Trace.{body_text};
-ghost use Rattle.om_world.specs.Texts.{accept_text, answer_text, gathered_word, refusal_word};
+ghost use Rattle.om_world.specs.Texts.{answer_text, refusal_word};
+ghost use Rattle.om_world.specs.declared.event.Answer.{Answer};
 
 use crate::report::push_state;
 use crate::state_text::push_status;
@@ -22,7 +24,7 @@ use std::fmt::Write;
 
 // Writes what a process answers to a frame.
 fn push_accept(text: &mut String, accept: Accept) -> Result<(), AllocError>
-    ensures { OnOk result (string_bytes text.new ≡ string_bytes text.old ++ accept_text accept) }
+    ensures { OnOk result (string_bytes text.new ≡ string_bytes text.old ++ answer_text (Answer.Given accept)) }
 {
     match accept {
         Accept::Taken(x) => write!(text, "taken {x}"),
@@ -54,7 +56,7 @@ fn refusal_word(why: Refusal) -> &'static str
 }
 
 fn gathered_word(gathered: Gathered) -> &'static str
-    ensures { result.now ≡ gathered_word gathered }
+    ensures { result.now ≡ answer_text (Answer.Gathered gathered) }
 {
     match gathered {
         Gathered::Waiting => "waiting",
@@ -253,7 +255,7 @@ fn push_end<S: Stable>(
     requires processes { n ≤ length programs.now.processes }
     requires few { n ≤ MAX_PROCESSES }
     requires managed { n ≤ process_count world.now.manager }
-    ensures { OnOk result (string_bytes text.new ≡ string_bytes text.old ++ end_text programs.now n world.now) }
+    ensures { OnOk result (string_bytes text.new ≡ string_bytes text.old ++ written_end programs.now n world.now) }
 {
     text.push_str("recovery")?;
     push_state(text, &world.manager().recovery())?;
@@ -270,7 +272,7 @@ pub(crate) fn sim_text<S: Stable>(
 ) -> Result<String, AllocError>
     requires managed { length programs.now.processes ≤ process_count world.now.manager }
     ensures { IfOk result (λ text. string_bytes text ≡ answers_text answers.now
-        ++ end_text programs.now (length programs.now.processes) world.now) }
+        ++ written_end programs.now (length programs.now.processes) world.now) }
 {
     let mut text = String::new(alloc);
     push_answers(&mut text, answers)?;

@@ -3,7 +3,7 @@
 ghost use Rattle.std.specs.Prelude.{◌≡◌, ◌++◌, ◌∷◌, ◌≤◌, [], length, slice_index, IfOk, OnOk, string_bytes};
 ghost use Rattle.om_isa.specs.declared.memory.TheConstants.{MAX_MEMORY};
 ghost use Rattle.om_look.specs.Trace.{word_text};
-ghost use Rattle.om_commands.specs.StateText.{head_text, memory_line, memory_text, register_line, registers_text, state_text};
+ghost use Rattle.om_commands.specs.steps.Lines.{head_text, memory_line, memory_text, register_line, registers_text, written_state};
 ghost use Rattle.om_world.specs.Texts.{status_text};
 
 use om_isa::REGISTERS;
@@ -17,7 +17,7 @@ pub const ROW_BYTES: usize = 16;
 
 /// The text of a process: its interval, its count of instructions, pc, registers and memory, and what it is about to do.
 pub fn state_text(alloc: Global, core: &ProcCore) -> Result<String, AllocError>
-    ensures { IfOk result (λ text. string_bytes text ≡ state_text core.now) }
+    ensures { IfOk result (λ text. string_bytes text ≡ written_state core.now) }
 {
     let mut text = String::new(alloc);
     push_head(alloc, &mut text, core)?;

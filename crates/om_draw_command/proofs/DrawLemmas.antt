@@ -3,7 +3,7 @@ use Rattle.std.proofs.Common.{◌≡◌, ◌⊎◌, ◌+◌, ◌≤◌, ℕ, suc
 use Rattle.std.specs.Prelude.{IfOk, IfErr, IfSome, nat_le}
 use Rattle.std.proofs.lemmas.List.{get_or-drop, length-take}
 use Rattle.std.proofs.lemmas.List.Sums.{count_by-le-length}
-use Rattle.om_scripts.specs.Programs.{Cluster, LacksProcesses, programs_of}
+use Rattle.om_scripts.specs.Programs.{Cluster, programs_of}
 use Rattle.om_manager.specs.State.{process_count}
 use Rattle.om_text.specs.declared.text.TheConstants.{MAX_BYTES}
 use Rattle.om_picture.specs.Drawing.{IsSketchOf, Sketch}
@@ -16,7 +16,8 @@ use Rattle.om_sheet.specs.declared.sheet.Drawn.{Drawn}
 use Rattle.om_world.specs.World.{WorldState, IsKnown}
 use Rattle.om_world.specs.declared.event.Event.{Event}
 use Rattle.om_commands.specs.Command.{IsScript}
-use Rattle.om_draw_command.specs.Draw.{ArePlayed, IsDrawn, IsPictureOf, IsPlayedPicture, IsPlayedRow, count_within, event_lines}
+use Rattle.om_draw_command.specs.Draw.{ArePlayed, IsDrawn, IsPictureOf, IsPlayedPicture, IsPlayedRow, event_lines}
+use Rattle.om_draw_command.specs.steps.Counting.{count_within}
 use Rattle.om_draw_command.specs.steps.Playing.{AreDrawn}
 use Rattle.om_commands.specs.Sim.{IsBegun, IsErrorOfSim}
 use Rattle.om_commands.specs.declared.error.CommandError.{CommandError}
@@ -140,7 +141,7 @@ is_drawn spelled (Some bytes) read script lines first last count (Ok text) is sa
 -- the error of a script is that of the bytes that it is read from
 pub error_of_drawing : {A : Type 0} (remaining : Option (List ℕ)) (read : List ℕ) (script : EventScript) (r : Result A CommandError)
     → IfSome remaining (λ bytes. (read ≡ bytes) × IsScript event_script_line no_events bytes script)
-    → IfErr r (λ error. (error ≡ NoMemory) ⊎ ((error ≡ EmptyScript) × LacksProcesses script.cluster))
+    → IfErr r (λ error. (error ≡ NoMemory) ⊎ ((error ≡ EmptyScript) × (length script.cluster.processes ≡ 0)))
     → IfSome remaining (λ bytes. IfErr r (IsErrorOfSim bytes))
 error_of_drawing None read script r is error = tt
 error_of_drawing (Some bytes) read script r is error = error_of_answer (Some bytes) no_events script r refl is.1 error

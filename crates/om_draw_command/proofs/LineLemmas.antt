@@ -5,7 +5,7 @@ use Rattle.std.specs.List.{slice_split}
 use Rattle.std.proofs.lemmas.List.{get_or-drop, length-drop, length-map}
 use Rattle.std.proofs.lemmas.List.Splits.{length-slice_split}
 use Rattle.std.proofs.lemmas.List.Sums.{count_by-le-length}
-use Rattle.om_text.specs.Lines.{last_line, lines_of, lines_of_parts}
+use Rattle.om_text.specs.Lines.{lines_of, lines_of_parts}
 use Rattle.om_text.specs.Numbered.{numbered}
 use Rattle.om_text.specs.Words.{is_passed_over, words_of}
 use Rattle.om_draw_command.specs.Draw.{event_lines}
@@ -64,13 +64,10 @@ numbers_few number [] = omega arith
 numbers_few number (words ∷ lines) =
     one_few (is_passed_over words) number (length lines) (numbered (number + 1) lines) (numbers_few (number + 1) lines)
 
-last_few : (last : List ℕ) → length (last_line last) ≤ 1
-last_few [] = omega arith
-last_few (byte ∷ bytes) = omega arith
-
 parts_few : (parts : List (List ℕ)) → length (lines_of_parts parts) ≤ length parts
 parts_few [] = omega arith
-parts_few (last ∷ []) = let h = last_few last in omega arith
+parts_few ([] ∷ []) = omega arith
+parts_few ((byte ∷ bytes) ∷ []) = omega arith
 parts_few (line ∷ next ∷ more) = let h = parts_few (next ∷ more) in omega arith
 
 -- no more than bytes, and one

@@ -7,20 +7,20 @@ use Rattle.om_isa.specs.declared.ext.Ext.{Ext}
 use Rattle.om_isa.specs.declared.ext.Ext.TheVariants.{I, Im}
 use Rattle.om_isa.specs.Memory.{is_memory_size}
 use Rattle.om_text.specs.Lines.{lines_of}
-use Rattle.om_text.specs.Numbers.{number_of}
-use Rattle.om_text.specs.Reading.{◌>>=◌, or_error, refused}
+use Rattle.om_text.specs.Numbers.{number_of, hex_word}
+use Rattle.om_text.specs.Reading.{◌>>=◌, or_error, refused, all_read}
 use Rattle.om_text.specs.Script.{at_line, script_from}
 use Rattle.om_text.specs.Words.{is_passed_over, words_of}
 use Rattle.om_text.specs.declared.error.LineError.{LineError}
-use Rattle.om_text.specs.declared.error.LineError.TheVariants.{BadNumber, BadName, NameTaken, NoSuchName, OutOfPlace, TooMany, BadSize, ImageTooLong}
+use Rattle.om_text.specs.declared.error.LineError.TheVariants.{BadNumber, BadName, NameTaken, NoSuchName, OutOfPlace, TooMany, BadSize, ImageTooLong, BadWord}
 use Rattle.om_scripts.specs.Named.{is_name, place_of}
-use Rattle.om_scripts.specs.Programs.{Cluster, process_line, program_in, program_line, words_in}
+use Rattle.om_scripts.specs.Programs.{Cluster, process_line, program_in, program_line}
 use Rattle.om_world.specs.declared.event.Event.{Event}
 use Rattle.om_svg.specs.Plain.{HasPlainNames, is_plain_text}
 use Rattle.om_svg.proofs.PlainLemmas.{plain-name}
 use Rattle.om_commands.specs.Command.{IsScript}
 use Rattle.om_commands.specs.Events.{event_line}
-use Rattle.om_commands.specs.SimScript.{EventScript, cluster_line, event_script_line, no_events, with_event}
+use Rattle.om_commands.specs.SimScript.{EventScript, event_script_line, no_events, with_event}
 
 both : (a b : Bool) → a ≡ true → b ≡ true → (a && b) ≡ true
 both a b p q = rw p q
@@ -70,7 +70,7 @@ program_line_kept : (ext : Ext) (cluster : Cluster) (words : List (List ℕ)) �
 program_line_kept ext cluster [] plain = tt
 program_line_kept ext cluster (name ∷ []) plain = tt
 program_line_kept ext cluster (name ∷ size ∷ words) plain =
-    program_kept ext cluster name (or_error (number_of size) BadNumber) (words_in words) (is_name name)
+    program_kept ext cluster name (or_error (number_of size) BadNumber) (all_read hex_word BadWord words) (is_name name)
     (is_some (place_of name cluster.programs))
     cluster.is_closed refl plain
 
@@ -101,6 +101,9 @@ process_line_kept cluster (name ∷ program ∷ []) plain =
 process_line_kept cluster (name ∷ program ∷ word ∷ words) plain = tt
 
 -- a line of a script
+
+abbrev cluster_line : EventScript → Result Cluster LineError → Result EventScript LineError
+cluster_line script read = read >>= λ cluster. Ok (record script { cluster = cluster })
 
 cluster_kept : (script : EventScript) (read : Result Cluster LineError) → IfOk read HasPlainNames
     → IfOk (cluster_line script read) (λ next. HasPlainNames next.cluster)

@@ -27,10 +27,6 @@ event_lines bytes events =
     let lines = numbered 1 (map words_of (lines_of bytes)) in
     drop (length lines - events) lines
 
--- how many of these lines stand at this line or before it
-abbrev pub count_within : List ℕ → ℕ → ℕ
-count_within lines last = count_by (λ line. nat_le line last) lines
-
 -- an event of a line is played, and this is its row: its answer, the new outputs that it handed in, and the recovery state behind it
 pub record IsPlayedRow (number : ℕ) (happens : Event) (old : WorldState) (row : EventRow) (new : WorldState) : Type 0 where
   pub line : row.entry.line ≡ number
@@ -44,8 +40,7 @@ abbrev pub ArePlayed : List ℕ → List Event → WorldState → List EventRow 
 ArePlayed lines [] old [] new = new ≡ old
 ArePlayed lines (event ∷ events) old (row ∷ rows) new =
     (mid : WorldState) × IsPlayedRow (slice_index lines 0) event old row mid × ArePlayed (drop 1 lines) events mid rows new
-ArePlayed lines [] old (row ∷ rows) new = ⊥
-ArePlayed lines (event ∷ events) old [] new = ⊥
+ArePlayed lines events old rows new = ⊥
 
 -- a picture of the first events of a script, so many, played from this world on: it has the marks of those from a line on, each where
 -- its event stands and as it was in the end; the events stand in their order, and all have room
@@ -70,4 +65,4 @@ pub record IsDrawn (first last : ℕ) (bytes text : List ℕ) : Type 0 where
   pub script : EventScript
   pub is_script : IsScript event_script_line no_events bytes script
   pub names : HasPlainNames script.cluster
-  pub picture : (let lines = event_lines bytes (length script.events) in IsPictureOf script lines first (count_within lines last) text)
+  pub picture : (let lines = event_lines bytes (length script.events) in IsPictureOf script lines first (count_by (λ line. nat_le line last) lines) text)

@@ -1,5 +1,5 @@
 -- What is read of a world, before and behind an event.
-use Rattle.std.specs.Prelude.{ℕ, ◌-◌, Bool, false, if◌then◌else◌, length, nat_lt}
+use Rattle.std.specs.Prelude.{ℕ, ◌-◌, if◌then◌else◌, length, nat_lt}
 use Rattle.om_manager.specs.State.{ManagerState, held_by, process_count}
 use Rattle.om_world.specs.declared.event.Answer.{Answer}
 use Rattle.om_world.specs.declared.event.Answer.TheVariants as answers
@@ -10,14 +10,9 @@ use Rattle.om_world.specs.declared.event.Event.TheVariants as events
 abbrev pub handed_by : ManagerState → ℕ → ℕ
 handed_by m p = if nat_lt p (process_count m) then length (held_by m p) else 0
 
--- a run with this answer made outputs
-abbrev pub has_made : Answer → Bool
-has_made (answers.Ran steps status sent made) = nat_lt 0 made
-has_made _ = false
-
 -- how many outputs an event handed in with this answer, between these managers: of those that a run made, some may have been
 -- handed in before
 abbrev pub newly_handed : Event → Answer → ManagerState → ManagerState → ℕ
-newly_handed (events.Run process fuel) answer old new =
-    if has_made answer then handed_by new process - handed_by old process else 0
+newly_handed (events.Run process fuel) (answers.Ran steps status sent made) old new =
+    if nat_lt 0 made then handed_by new process - handed_by old process else 0
 newly_handed _ answer old new = 0

@@ -4,13 +4,13 @@ ghost use Rattle.std.specs.Prelude.{◌≡◌, ◌≤◌, ◌⊎◌, ◌∷◌, 
 ghost use Rattle.std.specs.Io.KnownBytes.{Appends, Keeps};
 ghost use Rattle.om_world.specs.Played.{Played};
 ghost use Rattle.om_world.specs.World.{IsKnown};
-ghost use Rattle.om_scripts.specs.Programs.{LacksProcesses};
 ghost use Rattle.om_commands.specs.Command.{IsErrorOf, IsScript, IsSilent};
 ghost use Rattle.om_picture.specs.Drawing.{IsSketchOf, sketch_of};
 ghost use Rattle.om_draw_command.specs.Reading.{newly_handed};
 ghost use Rattle.om_picture.specs.declared.column.TheConstants.{MOST_COLUMNS};
 ghost use Rattle.om_text.specs.declared.text.TheConstants.{MAX_BYTES};
-ghost use Rattle.om_draw_command.specs.Draw.{IsDrawn, IsPictureOf, IsPlayedPicture, count_within, event_lines};
+ghost use Rattle.om_draw_command.specs.Draw.{IsDrawn, IsPictureOf, IsPlayedPicture, event_lines};
+ghost use Rattle.om_draw_command.specs.steps.Counting.{count_within};
 ghost use Rattle.om_draw_command.specs.steps.Playing.{AreDrawn};
 ghost use Rattle.om_commands.specs.Sim.{IsErrorOfSim};
 ghost use Rattle.om_commands.specs.SimScript.{event_script_line, no_events};
@@ -121,7 +121,7 @@ fn draw_script(
     requires { count ≤ MOST_COLUMNS }
     ensures text { IfOk result (λ text. IsPictureOf script.now lines.now from count (string_bytes text)) }
     ensures error { IfErr result (λ error. (error ≡ CommandError.NoMemory)
-        ⊎ ((error ≡ CommandError.EmptyScript) × LacksProcesses script.now.cluster)) }
+        ⊎ ((error ≡ CommandError.EmptyScript) × (length script.now.cluster.processes ≡ 0))) }
 {
     let programs = script.programs();
     if programs.n() == 0 {

@@ -2,8 +2,8 @@
 
 ghost use Rattle.std.specs.Prelude.{◌≡◌, ◌∷◌, ◌-◌, [], if◌then◌else◌, IfOk, IsTrue, length, true};
 ghost use Rattle.om_manager.specs.State.{process_count};
-ghost use Rattle.om_draw_command.specs.Reading.{handed_by, has_made, newly_handed};
-ghost use Rattle.om_draw_command.specs.steps.Making.{makes};
+ghost use Rattle.om_draw_command.specs.Reading.{handed_by, newly_handed};
+ghost use Rattle.om_draw_command.specs.steps.Making.{has_made, makes};
 ghost use Rattle.om_world.specs.Played.{Played};
 ghost use Rattle.om_world.specs.World.{IsKnown, all_clean};
 

@@ -8,12 +8,12 @@ use Rattle.std.proofs.lemmas.Bool.Decides.{nat_tests}
 use Rattle.std.proofs.lemmas.List.Elements.{All-cons, All-nil}
 use Rattle.om_isa.specs.declared.ext.Ext.{Ext}
 use Rattle.om_isa.specs.Memory.{is_memory_size}
-use Rattle.om_text.specs.Numbers.{number_of, below, are_digits}
-use Rattle.om_text.specs.Reading.{◌>>=◌, refused, or_error}
+use Rattle.om_text.specs.Numbers.{number_of, below, are_digits, hex_word}
+use Rattle.om_text.specs.Reading.{◌>>=◌, refused, or_error, all_read}
 use Rattle.om_text.specs.declared.error.LineError.{LineError}
 use Rattle.om_text.specs.declared.error.LineError.TheVariants as faults
 use Rattle.om_scripts.specs.Named.{is_name, is_name_byte}
-use Rattle.om_scripts.specs.Programs.{Cluster, no_programs, program_in, program_line, words_in}
+use Rattle.om_scripts.specs.Programs.{Cluster, no_programs, program_in, program_line}
 use Rattle.om_scripts.specs.declared.names.TheConstants.{MAX_NAME}
 use Rattle.om_image.proofs.Lines.{IsPlain}
 
@@ -37,11 +37,11 @@ passed true true true one other e = absurd (cc)
 passed true false long one other e = absurd (cc)
 passed false sized long one other e = absurd (cc)
 
-pub read_says : (ext : Ext) (name size : List ℕ) (texts : List (List ℕ)) (words : List ℕ) (cluster : Cluster) → words_in texts ≡ Ok words → program_line ext no_programs (name ∷ size ∷ texts) ≡ Ok cluster → IsRead ext name size words cluster
+pub read_says : (ext : Ext) (name size : List ℕ) (texts : List (List ℕ)) (words : List ℕ) (cluster : Cluster) → all_read hex_word faults.BadWord texts ≡ Ok words → program_line ext no_programs (name ∷ size ∷ texts) ≡ Ok cluster → IsRead ext name size words cluster
 read_says ext name size texts words cluster are e = by_number (number_of size) refl e
   where
     by_number : (o : Option ℕ) → number_of size ≡ o
-        → (or_error o faults.BadNumber >>= λ n. words_in texts >>= λ ws. tested (is_name name) (is_memory_size n) (nat_lt n (4 * length ws)) (record no_programs { programs = (name, program_in ext n ws) ∷ [] })) ≡ Ok cluster
+        → (or_error o faults.BadNumber >>= λ n. all_read hex_word faults.BadWord texts >>= λ ws. tested (is_name name) (is_memory_size n) (nat_lt n (4 * length ws)) (record no_programs { programs = (name, program_in ext n ws) ∷ [] })) ≡ Ok cluster
         → IsRead ext name size words cluster
     by_number None is h = absurd (cc)
     by_number (Some n) is h =

@@ -14,11 +14,11 @@ use Rattle.om_isa.specs.declared.ext.Ext.TheVariants.{I, Im}
 use Rattle.om_isa.specs.Memory.{is_memory_size}
 use Rattle.om_isa.specs.declared.memory.TheConstants.{MAX_MEMORY}
 use Rattle.om_text.specs.Lines.{lines_of}
-use Rattle.om_text.specs.Reading.{Gives}
+use Rattle.om_text.specs.Reading.{Gives, all_read}
 use Rattle.om_text.specs.declared.error.BuildError.{BuildError}
 use Rattle.om_text.specs.declared.error.BuildError.TheVariants as building
 use Rattle.om_text.specs.declared.error.LineError.{LineError}
-use Rattle.om_scripts.specs.Programs.{Cluster, no_programs, program_in, program_line, words_in}
+use Rattle.om_scripts.specs.Programs.{Cluster, no_programs, program_in, program_line}
 use Rattle.om_scripts.proofs.ImageLemmas.{length-words}
 use Rattle.om_image.specs.Image.{AreWordsOf, IsErrorOf, IsImageLine, IsRefused, keyword, most_read, word_text}
 use Rattle.om_image.specs.declared.error.ImageError.{ImageError}
@@ -28,6 +28,8 @@ use Rattle.om_image.specs.steps.Padded.{AreWholeWordsOf, IsPadded}
 use Rattle.om_image.proofs.Digits.{above_of_bytes, bytes_are_small, text_some, words_read_back}
 use Rattle.om_image.proofs.Lines.{IsPlain, all_above, one_line, words_of_line}
 use Rattle.om_image.proofs.Programs.{IsRead, plain_name, plain_number, read_says}
+use Rattle.om_text.specs.Numbers.{hex_word}
+use Rattle.om_text.specs.declared.error.LineError.TheVariants.{BadWord}
 
 -- ---- bytes
 pub words_of_padded : (bytes padded words : List ℕ) → IsPadded bytes padded → AreWholeWordsOf padded words → AreWordsOf bytes words
@@ -70,7 +72,7 @@ plain_texts (word ∷ words) =
 pub image_line : (ext : Ext) (name size bytes words : List ℕ) (texts : List (List ℕ)) (text : List ℕ) → AreWordsOf bytes words → All (λ word. word < 2 ^ 32) words → texts ≡ map word_text words
     → (read : (cluster : Cluster) × (program_line ext no_programs (name ∷ size ∷ texts) ≡ Ok cluster)) → text ≡ (keyword ext ++ spaced (name ∷ size ∷ texts)) ++ 10 ∷ [] → IsImageLine ext name size bytes text
 image_line ext name size bytes words texts text are small same read is =
-    let back : words_in texts ≡ Ok words = ap words_in same ∙ words_read_back words small in
+    let back : all_read hex_word BadWord texts ≡ Ok words = ap (all_read hex_word BadWord) same ∙ words_read_back words small in
     let says : IsRead ext name size words read.0 = read_says ext name size texts words read.0 back read.1 in
     let first : IsPlain (keyword ext) = plain_keyword ext in
     let rest : All IsPlain (name ∷ size ∷ texts) = All-cons IsPlain name (size ∷ texts) (plain_name name says.named) (All-cons IsPlain size texts (plain_number size says.number says.is_number) (subst (All IsPlain) (sym same) (plain_texts words))) in
@@ -88,7 +90,7 @@ image_line ext name size bytes words texts text are small same read is =
 pub image_short : (ext : Ext) (name size bytes words : List ℕ) (texts : List (List ℕ)) → AreWordsOf bytes words → All (λ word. word < 2 ^ 32) words → texts ≡ map word_text words
     → (read : (cluster : Cluster) × (program_line ext no_programs (name ∷ size ∷ texts) ≡ Ok cluster)) → length bytes ≤ MAX_MEMORY
 image_short ext name size bytes words texts are small same read =
-    let says : IsRead ext name size words read.0 = read_says ext name size texts words read.0 (ap words_in same ∙ words_read_back words small) read.1 in
+    let says : IsRead ext name size words read.0 = read_says ext name size texts words read.0 (ap (all_read hex_word BadWord) same ∙ words_read_back words small) read.1 in
     let many : length bytes + are.0 ≡ 4 * length words = ap (λ n. length bytes + n) (sym (length-replicate are.0 0)) ∙ sym (length-append bytes (replicate are.0 0)) ∙ ap length (sym are.2) ∙ length-words words in
     let fits : 4 * length words ≤ says.number = at_most says.number (4 * length words) says.fits in
     let most : says.number ≤ MAX_MEMORY = lawful says.number says.sized in
@@ -101,8 +103,8 @@ image_short ext name size bytes words texts are small same read =
     lawful n h = grind (arith, nat_tests)
 
 -- what was read is all
-pub all_read : (bytes all : List ℕ) → bytes ≡ take most_read all → length bytes ≤ MAX_MEMORY → bytes ≡ all
-all_read bytes all is short = is ∙ take_all most_read all (least (length all) (subst (λ n. n ≤ MAX_MEMORY) (ap length is ∙ length-take most_read all) short))
+pub read_whole : (bytes all : List ℕ) → bytes ≡ take most_read all → length bytes ≤ MAX_MEMORY → bytes ≡ all
+read_whole bytes all is short = is ∙ take_all most_read all (least (length all) (subst (λ n. n ≤ MAX_MEMORY) (ap length is ∙ length-take most_read all) short))
   where
     least : (m : ℕ) → min most_read m ≤ MAX_MEMORY → m ≤ most_read
     least m h = omega (arith, h)
@@ -160,7 +162,7 @@ refused_line ext name size items error (Some bytes) same h = error_of ext name s
 pub line_of_all : (ext : Ext) (name size items text : List ℕ) (o : Option (List ℕ)) → IfSome o (λ bytes. items ≡ take most_read bytes) → length items ≤ MAX_MEMORY → IsImageLine ext name size items text
     → IfSome o (λ bytes. IsImageLine ext name size bytes text)
 line_of_all ext name size items text None same short h = tt
-line_of_all ext name size items text (Some bytes) same short h = subst (λ b. IsImageLine ext name size b text) (all_read items bytes same short) h
+line_of_all ext name size items text (Some bytes) same short h = subst (λ b. IsImageLine ext name size b text) (read_whole items bytes same short) h
 
 pub line_written : (ext : Ext) (name size items text : List ℕ) (o : Option (List ℕ)) (r : Result (Unit {0}) ImageError) (old new : Option (List ℕ)) → IfSome o (λ bytes. items ≡ take most_read bytes) → length items ≤ MAX_MEMORY
     → IsImageLine ext name size items text → OnOk r (Appends old new text) → IfSome o (λ bytes. OnOk r ((text : List ℕ) × IsImageLine ext name size bytes text × Appends old new text))

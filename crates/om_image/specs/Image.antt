@@ -59,13 +59,9 @@ most_read = MAX_MEMORY + 1
 -- the error is that of the name, the size and the bytes that are read; those of the reader, the writer and memory may come whatever these are
 abbrev pub IsErrorOf : Ext → List ℕ → List ℕ → List ℕ → ImageError → Type 0
 IsErrorOf ext name size bytes (errors.Line error) = IsRefused ext name size (take most_read bytes) error
-IsErrorOf ext name size bytes errors.CannotRead = Unit {0}
-IsErrorOf ext name size bytes errors.CannotWrite = Unit {0}
-IsErrorOf ext name size bytes errors.NoMemory = Unit {0}
+IsErrorOf ext name size bytes _ = Unit {0}
 
 -- no error but a writer's leaves anything written
 abbrev pub IsSilent : ImageError → Type 0 → Type 0
 IsSilent errors.CannotWrite kept = Unit {0}
-IsSilent errors.CannotRead kept = kept
-IsSilent errors.NoMemory kept = kept
-IsSilent (errors.Line error) kept = kept
+IsSilent _ kept = kept

@@ -2,8 +2,9 @@
 
 ghost use Rattle.std.specs.Prelude.{◌≡◌, ℕ, ◌<◌, ◌^◌, List, All, map, Some, Ok};
 ghost use Rattle.om_text.specs.Numbers.{hex_word};
-ghost use Rattle.om_scripts.specs.Programs.{words_in};
 ghost use Rattle.om_image.specs.Image.{word_text};
+ghost use Rattle.om_text.specs.Reading.{all_read};
+ghost use Rattle.om_text.specs.declared.error.LineError.TheVariants.{BadWord};
 
 /// A word's eight digits read back as the word.
 pub fn word_is_read_back()
@@ -12,5 +13,5 @@ pub fn word_is_read_back()
 
 /// The words of a line read back as the words.
 pub fn words_are_read_back()
-    ensures { (words : List ℕ) → All (λ word. word < 2 ^ 32) words → words_in (map word_text words) ≡ Ok words }
+    ensures { (words : List ℕ) → All (λ word. word < 2 ^ 32) words → all_read hex_word BadWord (map word_text words) ≡ Ok words }
 {}

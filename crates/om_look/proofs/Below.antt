@@ -7,7 +7,7 @@ use Rattle.std.specs.FinMap.Entries.{below_all}
 use Rattle.std.proofs.lemmas.Bool.{le-leb, lt-ltb}
 use Rattle.std.proofs.lemmas.Bool.Decides.{nat_tests}
 use Rattle.om_stable.specs.Content.{Content, IsEffective, IsFree}
-use Rattle.om_look.specs.Show.{up_to}
+use Rattle.om_look.specs.steps.Ranges.{up_to}
 use Rattle.om_look.specs.steps.Found.{before, behind, left}
 
 abbrev Row : Type 0

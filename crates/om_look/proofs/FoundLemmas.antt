@@ -6,7 +6,7 @@ use Rattle.std.proofs.lemmas.List.{append-nil, reverse-append}
 use Rattle.om_stable.specs.Content.{Content, IsFree}
 use Rattle.om_process.specs.Stored.{Anyone, CanReplay}
 use Rattle.om_process.specs.declared.limits.TheConstants.{LAST_INTERVAL}
-use Rattle.om_look.specs.Show.{up_to}
+use Rattle.om_look.specs.steps.Ranges.{up_to}
 use Rattle.om_look.specs.declared.gathering.Found.{Found}
 use Rattle.om_look.specs.steps.Found.{AreFound, AreOrdered, Finds, IsFound, LiesBehind, LiesBehindOne, before, behind, left}
 use Rattle.om_look.proofs.Below.{behind_before, left_row, none_left}
@@ -42,7 +42,7 @@ no_more held to fs a free = record {
   where
     either : (y : ℕ) → y ≤ LAST_INTERVAL → CanReplay Anyone held y → (y ≤ to) ⊎ (to + 1 ≤ y) → LiesBehindOne fs y
     either y high can (inl le) =
-        let e = can.3.all.begins.effective in
+        let e = can.3.begins.effective in
         let within : can.3.checkpoint.head.interval ≤ y = e.within in
         absurd (is_some_none (get held.checkpoints can.3.checkpoint.head.interval) e.has (free can.3.checkpoint.head.interval (omega arith) (omega arith)))
     either y high can (inr lt) = a.covered y lt high can

@@ -1,6 +1,7 @@
 -- Ranges to which the intervals behind one checkpoint more are added.
 use Rattle.std.proofs.Common.{◌≡◌, ◌≢◌, ◌⊎◌, inl, inr, ℕ, ◌+◌, ◌<◌, ◌≤◌, List, [], ◌∷◌, ◌++◌, sym, arith, subst}
-use Rattle.om_look.specs.Spans.{AreApart, IsCovered, LiesIn}
+use Rattle.om_look.specs.Spans.{AreApart, IsCovered}
+use Rattle.om_look.specs.steps.Ranges.{LiesIn}
 use Rattle.om_look.specs.declared.gathering.Found.{Found}
 use Rattle.om_look.specs.declared.spans.Span.{Span}
 use Rattle.om_look.specs.steps.Adding.{Adds, span}

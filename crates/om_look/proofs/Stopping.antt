@@ -9,7 +9,7 @@ use Rattle.om_process.specs.declared.replay.ReplayFault.{ReplayFault}
 use Rattle.om_process.specs.declared.replay.ReplayFault.TheVariants.{NoCheckpoint, Damaged, MissingReceipt, Mismatch, Fault, Memory}
 use Rattle.om_process.specs.Process.{Process, delivered}
 use Rattle.om_process.specs.Replays.{Replayed, process_of, received_of}
-use Rattle.om_process.specs.Stored.{Anyone, AreReceiptsAfter, CanReplay, ComesTo, HasAll, IsNoMatterOfContent, Refuses, StandsAfter}
+use Rattle.om_process.specs.Stored.{Anyone, AreReceiptsAfter, BeginsWith, CanReplay, ComesTo, IsNoMatterOfContent, Refuses, StandsAfter}
 use Rattle.om_process.proofs.Exactly.{only_refused}
 use Rattle.om_look.specs.declared.fault.LookFault.{LookFault}
 use Rattle.om_look.specs.steps.Stops.{StopsAt}
@@ -28,14 +28,11 @@ one_effective held x b c first second =
     let high : c ≤ b = first.greatest c second.within second.has in
     omega arith
 
-all_below : (held : Content) (x z : ℕ) (k : CheckpointRecord) → HasAll Anyone held x k → k.head.interval ≤ z → z ≤ x → HasAll Anyone held z k
-all_below held x z k all low high = record {
-  begins = record {
-    effective = effective_below held.checkpoints x z k.head.interval all.begins.effective low high;
-    stored = all.begins.stored;
-    meant = tt;
-  };
-  receipts = λ y above within. all.receipts y above (omega arith);
+begins_below : (held : Content) (x z : ℕ) (k : CheckpointRecord) → BeginsWith Anyone held x k → k.head.interval ≤ z → z ≤ x → BeginsWith Anyone held z k
+begins_below held x z k begins low high = record {
+  effective = effective_below held.checkpoints x z k.head.interval begins.effective low high;
+  stored = begins.stored;
+  meant = tt;
 }
 
 stands_below : (held : Content) (x y z own n : ℕ) (t : Process) → StandsAfter Anyone held x y own n t → y ≤ z → z ≤ x → StandsAfter Anyone held z y own n t
@@ -44,7 +41,8 @@ stands_below held x y z own n t s low high =
     let above : s.checkpoint.head.interval ≤ z = omega arith in
     record {
       checkpoint = s.checkpoint;
-      all = all_below held x z s.checkpoint s.all above high;
+      begins = begins_below held x z s.checkpoint s.begins above high;
+      all_there = λ y low within. s.all_there y low (omega arith);
       pid = s.pid;
       size = s.size;
       receipts = s.receipts;
@@ -82,7 +80,8 @@ can_below held x w y own n t s le low high =
       part.1,
       record {
         checkpoint = s.checkpoint;
-        all = all_below held x y s.checkpoint s.all low (omega arith);
+        begins = begins_below held x y s.checkpoint s.begins low (omega arith);
+        all_there = λ z low within. s.all_there z low (omega arith);
         pid = s.pid;
         size = s.size;
         receipts = part.0;
@@ -95,7 +94,7 @@ can_below held x w y own n t s le low high =
 -- ---- what is replayed to x stops behind it
 pub stops_behind : (held : Content) (x c : ℕ) → IsEffective held.checkpoints x c → CanReplay Anyone held x → StopsAt held c x (x + 1)
 stops_behind held x c e can =
-    let same = one_effective held.checkpoints x can.3.checkpoint.head.interval c can.3.all.begins.effective e in
+    let same = one_effective held.checkpoints x can.3.checkpoint.head.interval c can.3.begins.effective e in
     let within : c ≤ x = e.within in
     record {
       above = omega arith;
@@ -107,27 +106,22 @@ stops_behind held x c e can =
 -- ---- what is refused at a receipt stops there
 before_at : (held : Content) (x y own n : ℕ) (s : Process) (c : ℕ) → IsEffective held.checkpoints x c → ComesTo Anyone held x y own n s → (z : ℕ) → c ≤ z → z < y → CanReplay Anyone held z
 before_at held x y own n s c e comes z low high =
-    let next : y ≡ comes.before + 1 = comes.next in
-    let within : y ≤ x = comes.within in
-    let same = one_effective held.checkpoints x comes.stands.checkpoint.head.interval c comes.stands.all.begins.effective e in
-    can_below held x comes.before z own n s comes.stands (omega arith) (omega arith) (omega arith)
+    let some : 0 < y = comes.0 in
+    let within : y ≤ x = comes.1 in
+    let same = one_effective held.checkpoints x comes.2.checkpoint.head.interval c comes.2.begins.effective e in
+    can_below held x (y - 1) z own n s comes.2 (omega arith) (omega arith) (omega arith)
 
 above_checkpoint : (held : Content) (x y own n : ℕ) (s : Process) (c : ℕ) → IsEffective held.checkpoints x c → ComesTo Anyone held x y own n s → c < y
 above_checkpoint held x y own n s c e comes =
-    let next : y ≡ comes.before + 1 = comes.next in
-    let at : comes.before ≡ comes.stands.checkpoint.head.interval + length comes.stands.receipts = comes.stands.last in
-    let same = one_effective held.checkpoints x comes.stands.checkpoint.head.interval c comes.stands.all.begins.effective e in
+    let some : 0 < y = comes.0 in
+    let at : y - 1 ≡ comes.2.checkpoint.head.interval + length comes.2.receipts = comes.2.last in
+    let same = one_effective held.checkpoints x comes.2.checkpoint.head.interval c comes.2.begins.effective e in
     omega arith
 
 comes_below : (held : Content) (x y z own n : ℕ) (s : Process) → ComesTo Anyone held x y own n s → y ≤ z → z ≤ x → ComesTo Anyone held z y own n s
 comes_below held x y z own n s comes low high =
-    let next : y ≡ comes.before + 1 = comes.next in
-    record {
-      before = comes.before;
-      next = comes.next;
-      within = low;
-      stands = stands_below held x comes.before z own n s comes.stands (omega arith) high;
-    }
+    let some : 0 < y = comes.0 in
+    (some, low, stands_below held x (y - 1) z own n s comes.2 (omega arith) high)
 
 no_damage : (y : ℕ) → IsNoMatterOfContent (Damaged y) → ⊥
 no_damage y (inl is) = cc
@@ -145,7 +139,7 @@ is_some_none (Some bytes) some none = cc
 stops_there : (held : Content) (x y own n : ℕ) (s : Process) (c : ℕ) → IsEffective held.checkpoints x c → ComesTo Anyone held x y own n s → ((z : ℕ) → y ≤ z → z ≤ x → CanReplay Anyone held z → ⊥) → StopsAt held c x y
 stops_there held x y own n s c e comes never =
     let above : c < y = above_checkpoint held x y own n s c e comes in
-    let within : y ≤ x = comes.within in
+    let within : y ≤ x = comes.1 in
     record {
       above = omega arith;
       within = omega arith;
@@ -225,10 +219,10 @@ stops_missing held x c y stop e why below =
     either : (z : ℕ) → z ≤ x → CanReplay Anyone held z → (z ≤ y - 1) ⊎ (y - 1 < z) → stop ≤ z → ⊥
     either z to can (inl le) from = below.no_more z from le can
     either z to can (inr lt) from =
-        let effective = can.3.all.begins.effective in
+        let effective = can.3.begins.effective in
         let at : can.3.checkpoint.head.interval ≤ c = e.greatest can.3.checkpoint.head.interval (trans effective.within to) effective.has in
         let above : c < y = missing_above held x c y e why in
-        is_some_none (get held.receipts y) (can.3.all.receipts y (omega arith) (omega arith)) why.none
+        is_some_none (get held.receipts y) (can.3.all_there y (omega arith) (omega arith)) why.none
 
 -- what a refusal tells
 pub told_stops : (held : Content) (x c : ℕ) (fault : ReplayFault) (outcome : Result ℕ LookFault) → IsEffective held.checkpoints x c → NoneMissing held c x ⊎ ((y : ℕ) → fault ≡ MissingReceipt y → ⊥) → Refuses Anyone held x fault → outcome ≡ stop_told fault → IfOk outcome (StopsAt held c x)

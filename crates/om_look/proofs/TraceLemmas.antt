@@ -11,7 +11,8 @@ use Rattle.om_process.specs.Kept.{made_as, numbered, queue_at, sent_as}
 use Rattle.om_process.specs.declared.queues.Made.{Made}
 use Rattle.om_process.specs.declared.queues.Sent.{Sent}
 use Rattle.om_process.proofs.Numbering.{length-numbered, nothing_at, numbered_at}
-use Rattle.om_look.specs.Trace.{body_text, gained_text, kept_in, place_of}
+use Rattle.om_look.specs.Trace.{body_text, gained_text}
+use Rattle.om_look.specs.steps.Emitted.{kept_in, place_of}
 
 -- all outputs are those from number 0 on
 pub all_made : (q : QueueRecord) → numbered made_as (max q.first 0) (drop (0 - q.first) q.entries) ≡ numbered made_as q.first q.entries

@@ -1,6 +1,6 @@
 -- Turns with their lines.
 use Rattle.std.proofs.Common.{◌≡◌, ◌≢◌, ℕ, zero, suc, ◌+◌, ◌<◌, List, [], ◌++◌, length, refl, sym, ap, ◌∙◌, subst, append_assoc, append-nil, add-one, cond, arith}
-use Rattle.std.specs.Prelude.{Some, None, Result, Err, Bool, true, false, nat_le}
+use Rattle.std.specs.Prelude.{Some, None, Result, Err, Bool, true, false, codes, decimal, nat_le, nat_lt}
 use Rattle.std.proofs.lemmas.Bool.Decides.{nat_tests}
 use Rattle.om_isa.specs.derived.Decoded.{decoded}
 use Rattle.om_isa.specs.Rows.{Decodes}
@@ -8,16 +8,20 @@ use Rattle.om_isa.specs.declared.inst.Inst.{Inst}
 use Rattle.om_machine.specs.State.{State, word_at}
 use Rattle.om_machine.specs.derived.NextStep.{after_fetch, fetched, next_of}
 use Rattle.om_machine.specs.declared.event.Event.{Event}
-use Rattle.om_machine.specs.declared.event.Event.TheVariants.{Trap}
+use Rattle.om_machine.specs.declared.event.Event.TheVariants.{Call, Trap}
+use Rattle.om_machine.specs.declared.event.EnvCall.TheVariants.{Send}
 use Rattle.om_machine.specs.declared.event.Cause.{Cause}
 use Rattle.om_machine.specs.declared.event.Cause.TheVariants.{CountFull, FetchOutside, Illegal}
 use Rattle.om_machine.specs.declared.limits.TheConstants.{LAST_COUNT}
+use Rattle.om_format.specs.Queues.{QueueRecord}
 use Rattle.om_process.specs.Core.{CoreState, cluster_size, with_now}
+use Rattle.om_process.specs.Kept.{queue_at}
 use Rattle.om_process.specs.Process.{Process, made, moved}
 use Rattle.om_process.specs.Turns.{Turns, after_event, next_move, next_turn}
 use Rattle.om_process.proofs.Basics.{some_none}
 use Rattle.om_process.proofs.Going.{turns_add}
-use Rattle.om_look.specs.Trace.{IsTrace, IsTurnText, emission_text, instruction_text, kept_in, made_text, place_of}
+use Rattle.om_look.specs.Trace.{IsTrace, IsTurnText, emission_text, gained_text, instruction_text}
+use Rattle.om_look.specs.steps.Emitted.{kept_in, made_text, place_of}
 use Rattle.om_look.specs.steps.Writes.{address_in, line_text, writes_of}
 use Rattle.om_look.specs.declared.tracing.Before.{Before}
 use Rattle.om_look.specs.steps.Before.{IsBefore}
@@ -68,18 +72,27 @@ goes_on : (own n : ℕ) (p t : Process) → next_turn own n p ≡ Some t → (ca
 goes_on own n p t turn cause at = some_none t (sym turn ∙ no_turn own n p cause at)
 
 -- ---- one turn
+made_emits : (n : ℕ) (event : Event) (before after : List QueueRecord) → made_text event (place_of n event) (kept_in before (place_of n event)) after ≡ emission_text n event before after
+made_emits n (Call (Send to addr len)) before after = by (nat_lt to n)
+  where
+    by : (b : Bool) → made_text (Call (Send to addr len)) (cond b (Some to) None) (kept_in before (cond b (Some to) None)) after
+        ≡ cond b (gained_text (codes "send " ++ decimal to) (length (queue_at before to).entries) (queue_at after to)) []
+    by true = refl
+    by false = refl
+made_emits n event before after = refl
+
 pub traced_once : (own n : ℕ) (s t : Process) (b : Before) (old mid new : List ℕ) (kept : ℕ) → Turns own n 1 s t → IsBefore s.machine b → kept ≡ kept_in s.queues (place_of n b.event)
     → mid ≡ old ++ line_text b.count b.pc b.word b.inst b.address b.event t.machine → new ≡ mid ++ made_text b.event (place_of n b.event) kept t.queues
     → (lines : List ℕ) × IsTrace own n 1 s t lines × (new ≡ old ++ lines)
 traced_once own n s t b old mid new kept turn is kept_is first second =
     let line : List ℕ = instruction_text s.machine b.inst t.machine in
-    let made : List ℕ = emission_text n s t in
+    let made : List ℕ = made_text (next_of s.machine).0 (place_of n (next_of s.machine).0) (kept_in s.queues (place_of n (next_of s.machine).0)) t.queues in
     let told : Decodes s.machine.ext (word_at s.machine.memory s.machine.pc) b.inst = subst (λ w. Decodes s.machine.ext w b.inst) is.word is.decodes in
     let no_trap : (cause : Cause) → (next_of s.machine).0 ≢ Trap cause = goes_on own n s turn.0 turn.1 in
     let line_told : line_text b.count b.pc b.word b.inst b.address b.event t.machine ≡ line = same_line b s.machine t.machine is told no_trap in
     let kept_at : kept ≡ kept_in s.queues (place_of n (next_of s.machine).0) = kept_is ∙ ap (λ e. kept_in s.queues (place_of n e)) is.event in
     let made_is : made_text b.event (place_of n b.event) kept t.queues ≡ made = ap (λ e. made_text e (place_of n e) kept t.queues) is.event ∙ ap (λ k. made_text (next_of s.machine).0 (place_of n (next_of s.machine).0) k t.queues) kept_at in
-    let text : IsTurnText n s t (line ++ made) = (b.inst, told, refl) in (
+    let text : IsTurnText n s t (line ++ made) = (b.inst, told, ap (λ l. line ++ l) (made_emits n (next_of s.machine).0 s.queues t.queues)) in (
       (line ++ made) ++ [],
       (t, subst (λ m. next_turn own n s ≡ Some m) (sym turn.2) turn.1, line ++ made, text, [], (refl, refl), refl),
       second ∙ ap (λ l. mid ++ l) made_is ∙ ap (λ l. l ++ made) (first ∙ ap (λ l. old ++ l) line_told) ∙ append_assoc old line made ∙ ap (λ l. old ++ l) (sym (append-nil (line ++ made))),

@@ -1,5 +1,5 @@
 -- The lines of records: what a record says, or its first fault.
-use Rattle.std.specs.Prelude.{◌≡◌, ◌⊎◌, ℕ, List, [], ◌∷◌, ◌++◌, length, codes, decimal, slice_index, Some, if◌then◌else◌, nat_eq}
+use Rattle.std.specs.Prelude.{◌≡◌, ◌⊎◌, ℕ, List, [], ◌∷◌, ◌++◌, length, codes, decimal, slice_index, Option, Some, if◌then◌else◌, nat_eq}
 use Rattle.om_format.specs.Checkpoints.{CheckpointRecord, IsSpelled, checkpoint_fault}
 use Rattle.om_format.specs.Receipts.{ReceiptRecord, SpellsReceipt, receipt_fault}
 use Rattle.om_format.specs.declared.error.DecodeError.{DecodeError}
@@ -14,10 +14,7 @@ fault_text (decoding.Field offset) = codes "field " ++ decimal offset
 fault_text decoding.Trailing = codes "trailing"
 fault_text decoding.Memory = []
 
--- a record that does not decode, and one that names another interval
-abbrev pub damage_text : DecodeError → List ℕ
-damage_text fault = codes " damaged " ++ fault_text fault
-
+-- of a record that names another interval
 abbrev pub another_text : ℕ → List ℕ
 another_text y = codes " damaged interval " ++ decimal y
 
@@ -39,28 +36,23 @@ message_text r =
 abbrev pub checkpoint_text : ℕ × List ℕ → CheckpointRecord → List ℕ
 checkpoint_text row c = if nat_eq c.head.interval row.0 then head_text c row.1 else another_text c.head.interval
 
-abbrev pub SaysCheckpoint : ℕ × List ℕ → List ℕ → Type 0
-SaysCheckpoint row said =
-    ((c : CheckpointRecord) × IsSpelled c row.1 × (said ≡ checkpoint_text row c))
-    ⊎ ((fault : DecodeError) × (checkpoint_fault row.1 ≡ Some fault) × (said ≡ damage_text fault))
-
 -- and as a receipt
 abbrev pub receipt_text : ℕ → ReceiptRecord → List ℕ
 receipt_text x r = if nat_eq r.interval x then message_text r else another_text r.interval
 
-abbrev pub SaysReceipt : ℕ × List ℕ → List ℕ → Type 0
-SaysReceipt row said =
-    ((r : ReceiptRecord) × SpellsReceipt r row.1 × (said ≡ receipt_text row.0 r))
-    ⊎ ((fault : DecodeError) × (receipt_fault row.1 ≡ Some fault) × (said ≡ damage_text fault))
+-- what bytes say as such a record: the text of what they spell, or their first fault
+abbrev pub Says : {Record : Type 0} → (Record → List ℕ → Type 0) → (List ℕ → Option DecodeError) → (Record → List ℕ) → List ℕ → List ℕ → Type 0
+Says IsSpelled fault text bytes said =
+    ((r : _) × IsSpelled r bytes × (said ≡ text r)) ⊎ ((f : DecodeError) × (fault bytes ≡ Some f) × (said ≡ codes " damaged " ++ fault_text f))
 
 -- the lines of a checkpoint and of a receipt, by interval and bytes
 abbrev pub IsCheckpointLine : ℕ × List ℕ → List ℕ → Type 0
 IsCheckpointLine row line =
-    (said : List ℕ) × SaysCheckpoint row said × (line ≡ codes "checkpoint " ++ decimal row.0 ++ said ++ 10 ∷ [])
+    (said : List ℕ) × Says IsSpelled checkpoint_fault (checkpoint_text row) row.1 said × (line ≡ codes "checkpoint " ++ decimal row.0 ++ said ++ 10 ∷ [])
 
 abbrev pub IsReceiptLine : ℕ × List ℕ → List ℕ → Type 0
 IsReceiptLine row line =
-    (said : List ℕ) × SaysReceipt row said × (line ≡ codes "receipt " ++ decimal row.0 ++ said ++ 10 ∷ [])
+    (said : List ℕ) × Says SpellsReceipt receipt_fault (receipt_text row.0) row.1 said × (line ≡ codes "receipt " ++ decimal row.0 ++ said ++ 10 ∷ [])
 
 -- a line for each row, in order
 abbrev pub AreLines : {Row : Type 0} → (Row → List ℕ → Type 0) → List Row → List ℕ → Type 0

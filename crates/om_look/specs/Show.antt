@@ -1,16 +1,12 @@
 -- The text of what a store holds.
 use Rattle.std.specs.Prelude.{◌≡◌, ℕ, ◌≤◌, List, ◌++◌, filter, nat_le}
 use Rattle.std.specs.FinMap.{entries}
-use Rattle.om_stable.specs.Content.{Content, Records, between}
+use Rattle.om_stable.specs.Content.{Content, between}
 use Rattle.om_process.specs.Stored.{Anyone, CanReplay}
 use Rattle.om_process.specs.declared.limits.TheConstants.{LAST_INTERVAL}
 use Rattle.om_look.specs.Lines.{AreLines, IsCheckpointLine, IsReceiptLine}
 use Rattle.om_look.specs.Spans.{AreApart, IsCovered, spans_text}
 use Rattle.om_look.specs.declared.spans.Span.{Span}
-
--- the records at or below an interval, in ascending order
-abbrev pub up_to : Records → ℕ → List (ℕ × List ℕ)
-up_to held last = filter (λ e. nat_le e.0 last) (entries held)
 
 -- the ranges are those of the intervals to which the content can be replayed, each as long as can be
 pub record AreReplayable (held : Content) (spans : List Span) : Type 0 where
@@ -22,7 +18,7 @@ pub record AreReplayable (held : Content) (spans : List Span) : Type 0 where
 -- which the content can be replayed
 pub record IsShown (held : Content) (text : List ℕ) : Type 0 where
   pub checkpoints : List ℕ
-  pub checkpoint_lines : AreLines IsCheckpointLine (up_to held.checkpoints LAST_INTERVAL) checkpoints
+  pub checkpoint_lines : AreLines IsCheckpointLine (filter (λ e. nat_le e.0 LAST_INTERVAL) (entries held.checkpoints)) checkpoints
   pub receipts : List ℕ
   pub receipt_lines : AreLines IsReceiptLine (between held.receipts 0 LAST_INTERVAL) receipts
   pub spans : List Span

@@ -3,14 +3,10 @@ use Rattle.std.specs.Prelude.{◌⊎◌, ℕ, ◌+◌, ◌-◌, ◌<◌, ◌≤�
 use Rattle.std.specs.List.{flat_map}
 use Rattle.om_look.specs.declared.spans.Span.{Span}
 
--- the interval lies in the range
-abbrev pub LiesIn : ℕ → Span → Type 0
-LiesIn y span = (span.first ≤ y) × (y < span.stop)
-
 -- the interval lies in one of the ranges
 abbrev pub IsCovered : List Span → ℕ → Type 0
 IsCovered [] y = ⊥
-IsCovered (span ∷ spans) y = LiesIn y span ⊎ IsCovered spans y
+IsCovered (span ∷ spans) y = ((span.first ≤ y) × (y < span.stop)) ⊎ IsCovered spans y
 
 -- the ranges begin at an interval or above, none is empty, they rise, and between two of them an interval lies in none
 abbrev pub AreApart : ℕ → List Span → Type 0
@@ -18,8 +14,6 @@ AreApart low [] = Unit {0}
 AreApart low (span ∷ spans) = (low ≤ span.first) × (span.first < span.stop) × AreApart (span.stop + 1) spans
 
 -- a line for each range, with its first interval and its last
-abbrev pub span_line : Span → List ℕ
-span_line span = codes "replay " ++ decimal span.first ++ codes " to " ++ decimal (span.stop - 1) ++ 10 ∷ []
-
 abbrev pub spans_text : List Span → List ℕ
-spans_text spans = flat_map span_line spans
+spans_text spans =
+    flat_map (λ span. codes "replay " ++ decimal span.first ++ codes " to " ++ decimal (span.stop - 1) ++ 10 ∷ []) spans

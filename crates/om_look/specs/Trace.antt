@@ -59,36 +59,18 @@ entry_text words number (Some e) = words ++ 32 ∷ decimal number ++ 32 ∷ body
 abbrev pub gained_text : List ℕ → ℕ → QueueRecord → List ℕ
 gained_text words kept after = entry_text words (after.first + kept) (slice_get after.entries kept)
 
--- the queue that a call may add to: that of the messages to a process, or behind these that of the outputs
-abbrev pub place_of : ℕ → Event → Option ℕ
-place_of n (Call (Send to addr len)) = if nat_lt to n then Some to else None
-place_of n (Call (Output addr len)) = Some n
-place_of n event = None
-
--- what its line begins with
-abbrev pub words_of : Event → List ℕ
-words_of (Call (Send to addr len)) = codes "send " ++ decimal to
-words_of event = codes "out"
-
-abbrev pub kept_in : List QueueRecord → Option ℕ → ℕ
-kept_in queues None = 0
-kept_in queues (Some place) = length (queue_at queues place).entries
-
--- the line of the message or the output that was made, if one was
-abbrev pub made_text : Event → Option ℕ → ℕ → List QueueRecord → List ℕ
-made_text event None kept after = []
-made_text event (Some place) kept after = gained_text (words_of event) kept (queue_at after place)
-
-abbrev pub emission_text : ℕ → Process → Process → List ℕ
-emission_text n p q =
-    let event = (next_of p.machine).0 in
-    made_text event (place_of n event) (kept_in p.queues (place_of n event)) q.queues
+-- the line of the message or the output that a call of a process of n made, if it made one
+abbrev pub emission_text : ℕ → Event → List QueueRecord → List QueueRecord → List ℕ
+emission_text n (Call (Send to addr len)) before after =
+    if nat_lt to n then gained_text (codes "send " ++ decimal to) (length (queue_at before to).entries) (queue_at after to) else []
+emission_text n (Call (Output addr len)) before after = gained_text (codes "out") (length (queue_at before n).entries) (queue_at after n)
+emission_text n event before after = []
 
 -- the lines of one turn of a process of n: the instruction is the one that the word at pc decodes to
 abbrev pub IsTurnText : ℕ → Process → Process → List ℕ → Type 0
 IsTurnText n p q text =
     (i : Inst) × Decodes p.machine.ext (word_at p.machine.memory p.machine.pc) i
-    × (text ≡ instruction_text p.machine i q.machine ++ emission_text n p q)
+    × (text ≡ instruction_text p.machine i q.machine ++ emission_text n (next_of p.machine).0 p.queues q.queues)
 
 -- so many turns lead from one state to another, and these are their lines
 abbrev pub IsTrace : ℕ → ℕ → ℕ → Process → Process → List ℕ → Type 0

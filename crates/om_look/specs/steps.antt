@@ -1,7 +1,10 @@
 pub mod Adding
 pub mod Before
+pub mod Emitted
 pub mod Found
 pub mod Reading
+pub mod Ranges
+pub mod Saying
 pub mod Stops
 pub mod Told
 pub mod Writes

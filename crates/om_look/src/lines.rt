@@ -4,7 +4,8 @@ ghost use Rattle.std.specs.Prelude.{◌≡◌, ◌≢◌, ◌++◌, List, ℕ, E
 ghost use Rattle.om_format.specs.CheckpointViews.{checkpoint_record};
 ghost use Rattle.om_format.specs.Receipts.{receipt_record};
 ghost use Rattle.om_format.specs.declared.error.DecodeError.{DecodeError};
-ghost use Rattle.om_look.specs.Lines.{IsCheckpointLine, IsReceiptLine, SaysCheckpoint, SaysReceipt, checkpoint_text, damage_text, fault_text, receipt_text};
+ghost use Rattle.om_look.specs.Lines.{IsCheckpointLine, IsReceiptLine, checkpoint_text, fault_text, receipt_text};
+ghost use Rattle.om_look.specs.steps.Saying.{SaysCheckpoint, SaysReceipt, damage_text};
 ghost use Rattle.om_look.specs.declared.fault.LookFault.{LookFault};
 
 use crate::fault::LookFault;

@@ -1,7 +1,8 @@
 //! Intervals as ranges.
 
 ghost use Rattle.std.specs.Prelude.{◌≡◌, ◌↔◌, ◌++◌, ℕ, IfOk, OnOk, string_bytes};
-ghost use Rattle.om_look.specs.Spans.{AreApart, IsCovered, span_line, spans_text};
+ghost use Rattle.om_look.specs.Spans.{AreApart, IsCovered, spans_text};
+ghost use Rattle.om_look.specs.steps.Ranges.{span_line};
 ghost use Rattle.om_look.specs.steps.Adding.{Adds};
 ghost use Rattle.om_look.specs.steps.Found.{AreOrdered, LiesBehindOne};
 

@@ -3,7 +3,8 @@
 ghost use Rattle.std.specs.Prelude.{◌≡◌, ◌++◌, ◌<◌, ◌≤◌, ◌∷◌, [], OnOk, codes, decimal, drop, length, take};
 ghost use Rattle.hex.specs.Hex.{encode_lower};
 ghost use Rattle.om_isa.specs.Text.{text_of};
-ghost use Rattle.om_look.specs.Trace.{answer_text, body_text, gained_text, kept_in, made_text, place_of, register_text, word_text};
+ghost use Rattle.om_look.specs.Trace.{answer_text, body_text, gained_text, register_text, word_text};
+ghost use Rattle.om_look.specs.steps.Emitted.{kept_in, made_text, place_of};
 ghost use Rattle.om_look.specs.steps.Writes.{line_text, written_text};
 ghost use Rattle.om_machine.specs.declared.event.Event.{Event};
 ghost use Rattle.om_process.specs.Core.{cluster_size};

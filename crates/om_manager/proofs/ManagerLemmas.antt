@@ -27,7 +27,8 @@ use Rattle.om_recover.specs.declared.note.Note.TheVariants.{Noted, Known}
 use Rattle.om_recover.specs.declared.note.NoteError.{NoteError}
 use Rattle.om_recover.specs.declared.note.NoteError.TheVariants as fault
 use Rattle.om_manager.specs.declared.answers.RecordError.TheVariants.{Refused}
-use Rattle.om_manager.specs.Notes.{Notes, after_note, Offer, IsCurrent, IsNext, IsDifferent, NotesOutput, with_output}
+use Rattle.om_manager.specs.Notes.{Notes, after_note, IsCurrent, IsNext, IsDifferent, NotesOutput, with_output}
+use Rattle.om_manager.specs.steps.Offers.{Offer}
 use Rattle.om_manager.specs.declared.answers.OutputNote.{OutputNote}
 use Rattle.om_manager.specs.declared.answers.OutputNote.TheVariants as kept
 use Rattle.om_manager.specs.declared.answers.OutputError.{OutputError}
@@ -445,20 +446,20 @@ pub record IsLogOf (m : ManagerState) (p : ℕ) (log : LogState) : Type 0 where
   pub held : held_by m p ≡ log.held
   pub limit : log.limit ≡ slice_index m.recovery p
 
-may_push : (m : ManagerState) (offer : Offer) (log : LogState) → IsCurrent m offer.pid offer.round → IsLogOf m offer.pid log → MayPush log offer.seq offer.output → IsNext m offer
+may_push : (m : ManagerState) (offer : Offer) (log : LogState) → IsCurrent m offer.pid offer.round → IsLogOf m offer.pid log → MayPush log offer.seq offer.output → IsNext m offer.pid offer.round offer.seq offer.output
 may_push m offer log current of may = record {
   current = current;
   next = may.next ∙ ap length (sym of.held);
   latest = subst (All (λ (output : HeldOutput). output.interval ≤ offer.output.interval)) (sym of.held) may.latest;
 }
 
-clashes : (m : ManagerState) (offer : Offer) (log : LogState) → IsLogOf m offer.pid log → Clashes log offer.seq offer.output → IsDifferent m offer
+clashes : (m : ManagerState) (offer : Offer) (log : LogState) → IsLogOf m offer.pid log → Clashes log offer.seq offer.output → IsDifferent m offer.pid offer.seq offer.output
 clashes m offer log of (Clashes.other below is_not) = IsDifferent.other (subst (λ (held : List HeldOutput). offer.seq < length held) (sym of.held) below) (λ is. is_not (subst (λ (held : List HeldOutput). slice_get held offer.seq ≡ Some offer.output) of.held is))
 clashes m offer log of (Clashes.earlier next later) = IsDifferent.earlier (next ∙ ap length (sym of.held)) (λ latest. later (subst (All (λ (output : HeldOutput). output.interval ≤ offer.output.interval)) of.held latest))
 
 -- what the log of the process answers is what the manager answers
 pub answer_of_log : (old new : ManagerState) (log after : LogState) (offer : Offer) (answer : Result OutputNote OutputError) → IsCurrent old offer.pid offer.round → IsLogOf old offer.pid log
-    → (after ≡ log → new ≡ old) → (after ≡ log_with log offer.output → new ≡ with_output old offer.pid offer.output) → LogNotes log offer.seq offer.output answer after → NotesOutput old offer answer new
+    → (after ≡ log → new ≡ old) → (after ≡ log_with log offer.output → new ≡ with_output old offer.pid offer.output) → LogNotes log offer.seq offer.output answer after → NotesOutput old offer.pid offer.round offer.seq offer.output answer new
 answer_of_log old new log after offer (Ok kept.Known) current of same more noted = (current, ap (λ (held : List HeldOutput). slice_get held offer.seq) of.held ∙ noted.0, same noted.1)
 answer_of_log old new log after offer (Ok kept.Released) current of same more noted = (may_push old offer log current of noted.0, omega (arith, noted.1, of.limit), more noted.2)
 answer_of_log old new log after offer (Ok kept.Held) current of same more noted = (may_push old offer log current of noted.0, omega (arith, noted.1, of.limit), more noted.2)
@@ -485,7 +486,7 @@ has_log kept logs starts round gathering last backs version p parts here = omega
 pub output_answered : (kept : Kept) (logs : List LogState) (starts : List (List ℕ)) (round : ℕ) (gathering : Option (List Presence)) (last : List ℕ) (backs : List Bool) (version p : ℕ) (log after : LogState) (offer : Offer) (answer : Result OutputNote OutputError)
     → AreParts kept logs starts round gathering last backs version → IsCurrent (made_of kept logs starts round gathering last backs version) offer.pid offer.round → p ≡ offer.pid → log ≡ get_or logs p log
     → LogNotes log offer.seq offer.output answer after
-    → NotesOutput (made_of kept logs starts round gathering last backs version) offer answer (made_of kept (slice_set logs p after) starts round gathering last backs version)
+    → NotesOutput (made_of kept logs starts round gathering last backs version) offer.pid offer.round offer.seq offer.output answer (made_of kept (slice_set logs p after) starts round gathering last backs version)
 output_answered kept logs starts round gathering last backs version p log after offer answer parts current place is noted =
     let of_outputs : List (List HeldOutput) → ManagerState = λ outputs. record { rows = kept.rows; recovery = kept.state; outputs = outputs; starts = starts; round = round; gathering = gathering; last = last; backs = backs; version = version } in
     let old = made_of kept logs starts round gathering last backs version in
@@ -516,7 +517,7 @@ raised_keeps old new sound same below = λ p here.
 refused_rows : (n : ℕ) (rows after : Rows) (row : Row) (fault : NoteError) → offered n rows row (Err fault) after → after ≡ rows
 refused_rows n rows after row fault.Stranger told = told.1
 refused_rows n rows after row fault.BadVector told = told.2
-refused_rows n rows after row fault.Differs told = told.1
+refused_rows n rows after row fault.Differs told = told.6
 refused_rows n rows after row (fault.Disorder y) told = told.1
 refused_rows n rows after row fault.Memory told = told.1
 
@@ -533,7 +534,7 @@ note_refused kept after logs starts round gathering last backs version asked row
 -- a row that was taken comes from a process of the cluster
 taken_known : (n : ℕ) (rows after : Rows) (row : Row) (note : Note) → offered n rows row (Ok note) after → row.pid < n
 taken_known n rows after row (Noted raised) told = told.0.offer.known
-taken_known n rows after row Known told = told.0.offer.known
+taken_known n rows after row Known told = told.0.known
 
 pub level_state : (old new : List ℕ) (note : Note) → TellsChange (Ok note) old new → note ≢ Noted true → old ≡ new
 level_state old new (Noted true) change level = absurd (level refl)
@@ -550,7 +551,7 @@ note_level kept after logs starts round gathering last backs version asked row (
     (current (taken_known (length kept.state) kept.rows after.rows row (Noted false) told), told, change, ap made (sym change))
 note_level kept after logs starts round gathering last backs version asked row Known current told change level =
     let made : Rows → List ℕ → ManagerState = λ rows state. record { rows = rows; recovery = state; outputs = map (λ (log : LogState). log.held) logs; starts = starts; round = round; gathering = gathering; last = last; backs = backs; version = version } in
-    (current (taken_known (length kept.state) kept.rows after.rows row Known told), told, change, ap (λ r. made r after.state) told.1 ∙ ap (made kept.rows) (sym change))
+    (current (taken_known (length kept.state) kept.rows after.rows row Known told), told, change, ap (λ r. made r after.state) told.3 ∙ ap (made kept.rows) (sym change))
 
 -- the manager's answer where the records took a row and their state rose
 pub note_raised : (kept after : Kept) (logs new : List LogState) (starts : List (List ℕ)) (round : ℕ) (gathering : Option (List Presence)) (last : List ℕ) (backs : List Bool) (version asked : ℕ) (row : Row) (note : Note)

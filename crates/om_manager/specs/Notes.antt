@@ -28,50 +28,42 @@ Notes old round row (Err (Stale told)) new = (row.pid < process_count old) × (r
 Notes old round row (Err (Refused fault)) new =
     (row.pid < process_count old → round ≡ old.round) × offered (process_count old) old.rows row (Err fault) old.rows × (new ≡ old)
 
--- an output that is offered: of this process, in this round, with this number
-pub record Offer : Type 0 where
-  pub pid : ℕ
-  pub round : ℕ
-  pub seq : ℕ
-  pub output : HeldOutput
-
 -- what is offered comes from a process of the cluster, in the manager's round
 pub record IsCurrent (m : ManagerState) (pid round : ℕ) : Type 0 where
   pub known : pid < process_count m
   pub in_round : round ≡ m.round
 
 -- none of the process's outputs was made later
-abbrev pub IsLatest : ManagerState → Offer → Type 0
-IsLatest m offer = All (λ output. output.interval ≤ offer.output.interval) (held_by m offer.pid)
+abbrev pub IsLatest : ManagerState → ℕ → HeldOutput → Type 0
+IsLatest m p output = All (λ held. held.interval ≤ output.interval) (held_by m p)
 
--- it is the next output of its process
-pub record IsNext (m : ManagerState) (offer : Offer) : Type 0 where
-  pub current : IsCurrent m offer.pid offer.round
-  pub next : offer.seq ≡ length (held_by m offer.pid)
-  pub latest : IsLatest m offer
+-- the output is the next one of its process, in the manager's round
+pub record IsNext (m : ManagerState) (p round seq : ℕ) (output : HeldOutput) : Type 0 where
+  pub current : IsCurrent m p round
+  pub next : seq ≡ length (held_by m p)
+  pub latest : IsLatest m p output
 
 -- it is not the output of its number, or, as the next one, was made before one that is there
-pub data IsDifferent (m : ManagerState) (offer : Offer) : Type 0 where
-  other : offer.seq < length (held_by m offer.pid) → slice_get (held_by m offer.pid) offer.seq ≢ Some offer.output
-      → IsDifferent m offer
-  earlier : offer.seq ≡ length (held_by m offer.pid) → (IsLatest m offer → ⊥) → IsDifferent m offer
+pub data IsDifferent (m : ManagerState) (p seq : ℕ) (output : HeldOutput) : Type 0 where
+  other : seq < length (held_by m p) → slice_get (held_by m p) seq ≢ Some output → IsDifferent m p seq output
+  earlier : seq ≡ length (held_by m p) → (IsLatest m p output → ⊥) → IsDifferent m p seq output
 
 -- the manager with one output more
 abbrev pub with_output : ManagerState → ℕ → HeldOutput → ManagerState
 with_output m p output = record m { outputs = slice_set m.outputs p (held_by m p ++ output ∷ []) }
 
--- the answer to an output that is offered, and the manager after it
-abbrev pub NotesOutput : ManagerState → Offer → Result OutputNote OutputError → ManagerState → Type 0
-NotesOutput old offer (Ok kept.Known) new =
-    IsCurrent old offer.pid offer.round × (slice_get (held_by old offer.pid) offer.seq ≡ Some offer.output) × (new ≡ old)
-NotesOutput old offer (Ok kept.Released) new =
-    IsNext old offer × (offer.output.interval ≤ slice_index old.recovery offer.pid) × (new ≡ with_output old offer.pid offer.output)
-NotesOutput old offer (Ok kept.Held) new =
-    IsNext old offer × (slice_index old.recovery offer.pid < offer.output.interval) × (new ≡ with_output old offer.pid offer.output)
-NotesOutput old offer (Err refused.Stranger) new = (process_count old ≤ offer.pid) × (new ≡ old)
-NotesOutput old offer (Err (refused.Stale told)) new =
-    (offer.pid < process_count old) × (offer.round ≢ old.round) × (told ≡ old.round) × (new ≡ old)
-NotesOutput old offer (Err refused.Differs) new = IsCurrent old offer.pid offer.round × IsDifferent old offer × (new ≡ old)
-NotesOutput old offer (Err (refused.Gap next)) new =
-    IsCurrent old offer.pid offer.round × (next ≡ length (held_by old offer.pid)) × (next < offer.seq) × (new ≡ old)
-NotesOutput old offer (Err refused.Memory) new = IsNext old offer × (new ≡ old)
+-- the answer to an output of a process that is handed in, in a round and with a number, and the manager after it
+abbrev pub NotesOutput : ManagerState → ℕ → ℕ → ℕ → HeldOutput → Result OutputNote OutputError → ManagerState → Type 0
+NotesOutput old p round seq output (Ok kept.Known) new =
+    IsCurrent old p round × (slice_get (held_by old p) seq ≡ Some output) × (new ≡ old)
+NotesOutput old p round seq output (Ok kept.Released) new =
+    IsNext old p round seq output × (output.interval ≤ slice_index old.recovery p) × (new ≡ with_output old p output)
+NotesOutput old p round seq output (Ok kept.Held) new =
+    IsNext old p round seq output × (slice_index old.recovery p < output.interval) × (new ≡ with_output old p output)
+NotesOutput old p round seq output (Err refused.Stranger) new = (process_count old ≤ p) × (new ≡ old)
+NotesOutput old p round seq output (Err (refused.Stale told)) new =
+    (p < process_count old) × (round ≢ old.round) × (told ≡ old.round) × (new ≡ old)
+NotesOutput old p round seq output (Err refused.Differs) new = IsCurrent old p round × IsDifferent old p seq output × (new ≡ old)
+NotesOutput old p round seq output (Err (refused.Gap next)) new =
+    IsCurrent old p round × (next ≡ length (held_by old p)) × (next < seq) × (new ≡ old)
+NotesOutput old p round seq output (Err refused.Memory) new = IsNext old p round seq output × (new ≡ old)

@@ -36,17 +36,13 @@ abbrev pub Gathers : List Presence → ManagerState → Gathered → ManagerStat
 Gathers presences old Waiting new = (AreAllIn (process_count old) presences → ⊥) × (new ≡ gathering_with old presences)
 Gathers presences old Finished new = AreAllIn (process_count old) presences × Finishes presences old new
 
--- who is in after a failure: those before, and the process as failed
-abbrev pub with_failed : ManagerState → ℕ → List Presence
-with_failed m p = slice_set (presences_of m.gathering) p Failed
-
--- who is in after a join: those before, and the process in its interval
-abbrev pub with_joined : ManagerState → ℕ → ℕ → List Presence
-with_joined m p current = slice_set (presences_of m.gathering) p (Joined current)
+-- who is in after a failure or a join: those before, and the process as failed, or as joined in its interval
+abbrev pub with_presence : ManagerState → ℕ → Presence → List Presence
+with_presence m p presence = slice_set (presences_of m.gathering) p presence
 
 -- a failure is taken: for the first time in this gathering, or once more
 pub data Fails (old : ManagerState) (pid : ℕ) (answer : Gathered) (new : ManagerState) : Type 0 where
-  first : presence_of (presences_of old.gathering) pid ≢ Failed → Gathers (with_failed old pid) old answer new
+  first : presence_of (presences_of old.gathering) pid ≢ Failed → Gathers (with_presence old pid Failed) old answer new
       → Fails old pid answer new
   again : presence_of (presences_of old.gathering) pid ≡ Failed → answer ≡ Waiting → new ≡ old → Fails old pid answer new
 
@@ -63,7 +59,7 @@ Failing old pid round (Err (failing.Stale told)) new = (pid < process_count old)
 Failing old pid round (Err failing.Spent) new = IsCurrent old pid round × IsSpent old × (new ≡ old)
 Failing old pid round (Err failing.Memory) new =
     IsCurrent old pid round × (IsSpent old → ⊥) × (presence_of (presences_of old.gathering) pid ≢ Failed)
-    × AreAllIn (process_count old) (with_failed old pid) × (new ≡ old)
+    × AreAllIn (process_count old) (with_presence old pid Failed) × (new ≡ old)
 
 -- a process may join: a gathering is open, and it is not in
 pub record MayJoin (m : ManagerState) (pid round : ℕ) : Type 0 where
@@ -73,7 +69,7 @@ pub record MayJoin (m : ManagerState) (pid round : ℕ) : Type 0 where
 
 -- the answer to a process that joins, and the manager after it
 abbrev pub Joining : ManagerState → ℕ → ℕ → ℕ → Result Gathered JoinError → ManagerState → Type 0
-Joining old pid round current (Ok answer) new = MayJoin old pid round × Gathers (with_joined old pid current) old answer new
+Joining old pid round current (Ok answer) new = MayJoin old pid round × Gathers (with_presence old pid (Joined current)) old answer new
 Joining old pid round current (Err joining.Stranger) new = (process_count old ≤ pid) × (new ≡ old)
 Joining old pid round current (Err (joining.Stale told)) new =
     (pid < process_count old) × (round ≢ old.round) × (told ≡ old.round) × (new ≡ old)
@@ -81,4 +77,4 @@ Joining old pid round current (Err joining.NoRound) new = IsCurrent old pid roun
 Joining old pid round current (Err joining.Joined) new =
     IsCurrent old pid round × (old.gathering ≢ None) × (presence_of (presences_of old.gathering) pid ≢ Away) × (new ≡ old)
 Joining old pid round current (Err joining.Memory) new =
-    MayJoin old pid round × AreAllIn (process_count old) (with_joined old pid current) × (new ≡ old)
+    MayJoin old pid round × AreAllIn (process_count old) (with_presence old pid (Joined current)) × (new ≡ old)

@@ -3,7 +3,6 @@ use mathlib.Core.List.{IsPrefix}
 use Rattle.om_interval.specs.Vectors.{IsBelow}
 use Rattle.om_interval.specs.Starts.{AreStarts, starts_of}
 use Rattle.om_interval.specs.declared.pid.TheConstants.{MAX_PROCESSES}
-use Rattle.om_interval.specs.declared.verdict.Verdict.{Verdict}
 use Rattle.om_recover.specs.Rows.{IsLawful}
 use Rattle.om_recover.specs.Recoverable.{IsGreatest}
 use Rattle.om_manager.specs.Outputs.{AreRising, within}
@@ -70,9 +69,3 @@ pub data GoesOn (old new : ManagerState) : Type 0 where
 -- what was released of a process is still released, at the same numbers
 abbrev pub KeepsReleased : ManagerState → ManagerState → Type 0
 KeepsReleased old new = (p : ℕ) → p < process_count old → IsPrefix (released_by old p) (released_by new p)
-
--- the verdict of no round
-pub record IsNoVerdict (verdict : Verdict) : Type 0 where
-  pub inc : verdict.inc ≡ 0
-  pub r : verdict.r ≡ 0
-  pub back : verdict.back ≡ false

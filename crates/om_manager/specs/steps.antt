@@ -2,3 +2,5 @@
 pub mod OutputLog
 pub mod Parts
 pub mod Codes
+pub mod Offers
+pub mod Presences

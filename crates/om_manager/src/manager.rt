@@ -8,7 +8,7 @@ ghost use Rattle.om_recover.specs.Cutting.{IsEffective, IsPruned};
 ghost use Rattle.om_manager.specs.Bounds.{AreGotFrom};
 ghost use Rattle.om_manager.specs.Outputs.{held_of, AreNumbered};
 ghost use Rattle.om_manager.specs.State.{process_count, held_by, released_by};
-ghost use Rattle.om_manager.specs.Sound.{IsManager, IsExact, GoesOn, KeepsReleased, IsNoVerdict};
+ghost use Rattle.om_manager.specs.Sound.{IsManager, IsExact, GoesOn, KeepsReleased};
 
 use crate::output_log::{Output, OutputLog};
 use crate::presence::Presence;
@@ -162,7 +162,7 @@ impl Manager {
         ensures inc { result.inc ≡ newest_of self.now.starts pid }
         ensures r { result.r ≡ slice_index self.now.last pid }
         ensures back { result.back ≡ is_named self.now.backs pid }
-        ensures no_round { self.now.round ≡ 0 → IsNoVerdict result }
+        ensures no_round { self.now.round ≡ 0 → (result.inc ≡ 0) × (result.r ≡ 0) × (result.back ≡ false) }
     {
         Verdict {
             round: self.round,

@@ -114,9 +114,7 @@ impl Manager {
         seq: u64,
         bytes: &[u8],
     ) -> Result<OutputNote, OutputError>
-        ensures answer { NotesOutput self.old
-            (record { pid = pid; round = round; seq = seq; output = record { interval = x; bytes = bytes.now } })
-            result self.new }
+        ensures answer { NotesOutput self.old pid round seq (record { interval = x; bytes = bytes.now }) result self.new }
         ensures sound { IsManager self.new }
         ensures front { GoesOn self.old self.new }
         ensures not_lowered { IsBelow self.old.recovery self.new.recovery }

@@ -26,7 +26,6 @@ prefix_then xs ys zs a b = (a.0 ++ b.0, joined xs a.0 b.0 ∙ ap (λ l. l ++ b.0
 pub keeps_same : (m : ManagerState) → IsManager m → Keeps m m
 keeps_same m is = record {
   sound = is;
-  size = refl;
   below = record { same_places = refl; each = λ place lt. omega arith };
   released = λ p lt. prefix_same (released_by m p);
 }
@@ -34,14 +33,13 @@ keeps_same m is = record {
 pub keeps_then : (a b c : ManagerState) → Keeps a b → Keeps b c → Keeps a c
 keeps_then a b c k l = record {
   sound = l.sound;
-  size = l.size ∙ k.size;
   below = record {
     same_places = k.below.same_places ∙ l.below.same_places;
     each = λ place lt.
         let same = k.below.same_places in
         let x = k.below.each place lt in let y = l.below.each place (omega arith) in omega arith;
   };
-  released = λ p lt. let same = k.size in
+  released = λ p lt. let same = k.below.same_places in
       prefix_then (released_by a p) (released_by b p) (released_by c p) (k.released p lt) (l.released p (omega arith));
 }
 
@@ -49,12 +47,10 @@ pub told_keeps : (old new : ManagerState) (round p : ℕ) (rows : List PendingRo
 told_keeps old new round p [] is same = subst (λ m. Keeps old m) (sym same) (keeps_same old is)
 told_keeps old new round p (row ∷ rows) is told =
     let t = told.2 in
-    keeps_then old told.0 new (record { sound = t.sound; size = sym t.below.same_places; below = t.below; released = t.released })
-    (told_keeps told.0 new round p rows t.sound told.3)
+    keeps_then old told.0 new t.keeps (told_keeps told.0 new round p rows t.keeps.sound told.3)
 
 pub handed_keeps : (old new : ManagerState) (round p : ℕ) (ms : List Made) → IsManager old → AreHanded old round p ms new → Keeps old new
 handed_keeps old new round p [] is same = subst (λ m. Keeps old m) (sym same) (keeps_same old is)
 handed_keeps old new round p (m ∷ ms) is handed =
     let t = handed.2 in
-    keeps_then old handed.0 new (record { sound = t.sound; size = sym t.below.same_places; below = t.below; released = t.released })
-    (handed_keeps handed.0 new round p ms t.sound handed.3)
+    keeps_then old handed.0 new t.keeps (handed_keeps handed.0 new round p ms t.keeps.sound handed.3)

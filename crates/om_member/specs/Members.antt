@@ -8,7 +8,7 @@ use Rattle.om_stable.specs.Calls.{UsesStore}
 use Rattle.om_stable.specs.declared.error.StoreError.{StoreError}
 use Rattle.om_stable.specs.declared.error.StoreError.TheVariants.{Fault, Present}
 use Rattle.om_process.specs.Accepts.{Answers, taken}
-use Rattle.om_process.specs.Core.{CoreState, CoreTurns, cluster_size, with_now, with_pending, RunsTo}
+use Rattle.om_process.specs.Core.{CoreState, CoreTurns, cluster_size, settled, with_now, with_pending, RunsTo}
 use Rattle.om_process.specs.Stored.{CanReplay, IsNoMatterOfContent, IsReplay, TheProcess}
 use Rattle.om_process.specs.Stores.{HasGainedCheckpoint, HasGainedLog, checkpointed, first_logged, flushed}
 use Rattle.om_process.specs.Trims.{trimmed}
@@ -163,15 +163,9 @@ IsRolledBack who verdict (Err fault) before after =
 pub record HasComeBack {S : Type 0} (content : S → Content) (failed : S → ℕ) (is_clean : S → Bool) (IsSound : S → Type 0)
     (who : Down) (starts : List (List ℕ)) (verdict : Verdict) (old : Member S) (at : ℕ × ℕ) (new : Member S) : Type 0 where
   pub core : CoreState
-  pub own : core.own ≡ who.pid
   pub size : cluster_size core.now ≡ who.n
-  pub log : core.log ≡ []
-  pub pending : core.pending ≡ []
-  pub inc : core.inc ≡ verdict.inc
-  pub round : core.round ≡ verdict.round
-  pub starts_are : core.starts ≡ starts
-  pub interval_told : at.0 ≡ core.now.interval
-  pub inc_told : at.1 ≡ core.inc
+  pub fresh : core ≡ settled who.pid core.now verdict.inc verdict.round starts
+  pub told : at ≡ (core.now.interval, core.inc)
   pub others : new ≡ record old { standing = stands.Up core; round = verdict.round; store = new.store }
   pub called : WasCalled content failed is_clean IsSound ⊥ old.store new.store (IsRolledBack who verdict (Ok core))
 

@@ -45,9 +45,7 @@ pub trait Office {
         bytes: &[u8],
     ) -> Result<OutputNote, OutputError>
         requires taken { Takes pid seq (record { interval = x; bytes = bytes.now }) }
-        ensures answer { NotesOutput (state self.old)
-            (record { pid = pid; round = round; seq = seq; output = record { interval = x; bytes = bytes.now } })
-            result (state self.new) }
+        ensures answer { NotesOutput (state self.old) pid round seq (record { interval = x; bytes = bytes.now }) result (state self.new) }
         ensures sound { IsManager (state self.new) }
         ensures not_lowered { IsBelow (state self.old).recovery (state self.new).recovery }
         ensures released { KeepsReleased (state self.old) (state self.new) };

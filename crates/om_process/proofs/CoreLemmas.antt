@@ -17,7 +17,8 @@ use Rattle.om_format.specs.Queues.{QueueRecord, queue_end, are_entries, all_entr
 use Rattle.om_process.specs.declared.plan.Plan.{Plan}
 use Rattle.om_process.specs.declared.status.Status.{Status}
 use Rattle.om_process.specs.declared.status.Status.TheVariants.{Ready, Waiting, Ended, Trapped}
-use Rattle.om_process.specs.Process.{Process, Move, Waits, Ends, Traps, Goes, Emits, made, moved, emitted, with_entry, raised}
+use Rattle.om_process.specs.Process.{Process, Move, Waits, Ends, Traps, Goes, Emits, made, moved, emitted, raised}
+use Rattle.om_process.specs.steps.Pieces.{with_entry}
 use Rattle.om_process.specs.Turns.{next_move, next_turn, after_event, emits, Turns, IsWaiting}
 use Rattle.om_process.specs.steps.Planned.{planned, stopped}
 use Rattle.om_process.specs.Core.{CoreState, cluster_size, move_of, status_of, LoggedRecord, AreLast}

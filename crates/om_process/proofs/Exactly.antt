@@ -1,5 +1,5 @@
 -- A content has one outcome: what is refused is not replayed.
-use Rattle.std.proofs.Common.{◌≡◌, ◌⊎◌, inl, inr, ℕ, ◌+◌, ◌<◌, ◌≤◌, List, [], ◌∷◌, length, refl, sym, ap, ◌∙◌, subst, get_or, arith}
+use Rattle.std.proofs.Common.{◌≡◌, ◌⊎◌, inl, inr, ℕ, ◌+◌, ◌-◌, ◌<◌, ◌≤◌, List, [], ◌∷◌, length, refl, sym, ap, ◌∙◌, subst, arith}
 use Rattle.std.specs.Prelude.{Option, Some, None, IsSome}
 use Rattle.std.specs.FinMap.{get}
 use Rattle.om_format.specs.Receipts.{ReceiptRecord, SpellsReceipt}
@@ -12,21 +12,20 @@ use Rattle.om_process.specs.declared.replay.ReplayFault.TheVariants.{NoCheckpoin
 use Rattle.om_process.specs.Process.{Process, delivered}
 use Rattle.om_process.specs.Turns.{Turns}
 use Rattle.om_process.specs.Replays.{FitsReceipt, Replayed, process_of, received_of}
-use Rattle.om_process.specs.Stored.{Anyone, AreReceiptsAfter, BeginsWith, CanReplay, DoesNotFit, IsCheckpointAt, IsNoMatterOfContent, IsReceiptAt, Refuses}
+use Rattle.om_process.specs.Stored.{Anyone, AreReceiptsAfter, BeginsWith, CanReplay, IsCheckpointAt, IsNoMatterOfContent, IsReceiptAt, Refuses}
 use Rattle.om_process.proofs.Basics.{some_once}
-use Rattle.om_process.proofs.Going.{stays_turns}
 use Rattle.om_process.proofs.Runs.{waits_once}
 
 -- ---- one record at an interval
 one_receipt_at : (held : Records) (y : ℕ) (a b : ReceiptRecord) → IsReceiptAt held y a → IsReceiptAt held y b → a ≡ b
 one_receipt_at held y a b first second =
-    let same : second.bytes ≡ first.bytes = some_once second.bytes first.bytes (sym second.stands ∙ first.stands) in
-    one_receipt first.bytes a b first.spelled (subst (SpellsReceipt b) same second.spelled)
+    let same : second.0 ≡ first.0 = some_once second.0 first.0 (sym second.1 ∙ first.1) in
+    one_receipt first.0 a b first.2 (subst (SpellsReceipt b) same second.2)
 
 one_checkpoint_at : (held : Records) (y : ℕ) (a b : CheckpointRecord) → IsCheckpointAt held y a → IsCheckpointAt held y b → a ≡ b
 one_checkpoint_at held y a b first second =
-    let same : second.bytes ≡ first.bytes = some_once second.bytes first.bytes (sym second.stands ∙ first.stands) in
-    (one_checkpoint first.bytes first.spelled.0 second.spelled.0 a b first.spelled.1 (subst (SpellsCheckpoint second.spelled.0 b) same second.spelled.1)).1
+    let same : second.0 ≡ first.0 = some_once second.0 first.0 (sym second.1 ∙ first.1) in
+    (one_checkpoint first.0 first.2.0 second.2.0 a b first.2.1 (subst (SpellsCheckpoint second.2.0 b) same second.2.1)).1
 
 one_effective : (held : Records) (x b c : ℕ) → IsEffective held x b → IsEffective held x c → b ≡ c
 one_effective held x b c first second =
@@ -45,22 +44,19 @@ receipt_there held after y (r ∷ rs) stored low high = first (cases y (after + 
     first (inl at) later = (r, subst (λ z. IsReceiptAt held z r) (sym at) stored.0)
     first (inr above) later = later above
 
--- ---- what fits does not fail to
-fits_not : (own n k : ℕ) (s w : Process) (r : ReceiptRecord) → Turns own n k s w → FitsReceipt own n w r → DoesNotFit own n s r → ⊥
-fits_not own n k s w r turns fits (inl other) = other fits.to
-fits_not own n k s w r turns fits (inr (inl above)) = let within = fits.from in absurd (omega arith)
-fits_not own n k s w r turns fits (inr (inr (inl other))) = other (fits.number ∙ ap (λ (p : Process). get_or p.got r.from 0) (stays_turns own n k s w turns))
-fits_not own n k s w r turns fits (inr (inr (inr never))) = never (k, w, turns, fits.waits, sym fits.count)
+-- the receipt fits nowhere that turns lead
+abbrev FitsNowhere : ℕ → ℕ → Process → ReceiptRecord → Type 0
+FitsNowhere own n s r = (k : ℕ) (w : Process) → Turns own n k s w → FitsReceipt own n w r → ⊥
 
 -- a receipt that does not fit is not replayed, after the same receipts
 not_replayed : (own n : ℕ) (held : Records) (after : ℕ) (before rs : List ReceiptRecord) (c s t : Process) (r : ReceiptRecord) → AreReceiptsAfter held after before → AreReceiptsAfter held after rs → length before < length rs
-    → IsReceiptAt held (after + length before + 1) r → Replayed own n c before s → Replayed own n c rs t → DoesNotFit own n s r → ⊥
+    → IsReceiptAt held (after + length before + 1) r → Replayed own n c before s → Replayed own n c rs t → FitsNowhere own n s r → ⊥
 not_replayed own n held after before [] c s t r stored all shorter is first replayed not = absurd (omega arith)
 not_replayed own n held after [] (q ∷ rs) c s t r stored all shorter is first replayed not =
     let here : after + 0 + 1 ≡ after + 1 = omega arith in
     let same : q ≡ r = one_receipt_at held (after + 1) q r all.0 (subst (λ y. IsReceiptAt held y r) here is) in
     let fits = subst (FitsReceipt own n replayed.1) same replayed.3 in
-    fits_not own n replayed.0 s replayed.1 r (subst (λ p. Turns own n replayed.0 p replayed.1) (sym first) replayed.2) fits not
+    not replayed.0 replayed.1 (subst (λ p. Turns own n replayed.0 p replayed.1) (sym first) replayed.2) fits
 not_replayed own n held after (p ∷ before) (q ∷ rs) c s t r stored all shorter is first replayed not =
     let same : q ≡ p = one_receipt_at held (after + 1) q p all.0 stored.0 in
     let one : replayed.1 ≡ first.1 = waits_once own n replayed.0 first.0 c replayed.1 first.1 replayed.2 replayed.3.waits first.2 first.3.waits in
@@ -73,7 +69,7 @@ not_replayed own n held after (p ∷ before) (q ∷ rs) c s t r stored all short
 -- where it can be replayed, a refusal is no matter of the content
 pub only_refused : (Meant : ℕ → ℕ → Type 0) (held : Content) (x : ℕ) (fault : ReplayFault) → Refuses Meant held x fault → CanReplay Meant held x → IsNoMatterOfContent fault
 only_refused Meant held x NoCheckpoint why can =
-    let effective = can.3.all.begins.effective in
+    let effective = can.3.begins.effective in
     let within : can.3.checkpoint.head.interval ≤ x = effective.within in
     absurd (nothing (get held.checkpoints can.3.checkpoint.head.interval) effective.has (why can.3.checkpoint.head.interval (omega arith) (omega arith)))
   where
@@ -81,43 +77,43 @@ only_refused Meant held x NoCheckpoint why can =
     nothing None some none = cc
     nothing (Some bytes) some none = cc
 only_refused Meant held x (Damaged y) (inl why) can =
-    let begins = can.3.all.begins in
+    let begins = can.3.begins in
     let same = one_effective held.checkpoints x can.3.checkpoint.head.interval y begins.effective why.effective in
     absurd (why.damaged can.3.checkpoint (subst (λ z. IsCheckpointAt held.checkpoints z can.3.checkpoint) same begins.stored) begins.meant)
 only_refused Meant held x (Damaged y) (inr why) can =
     let stands = can.3 in
-    let before = why.3.stands in
-    let same = one_effective held.checkpoints x before.checkpoint.head.interval stands.checkpoint.head.interval before.all.begins.effective stands.all.begins.effective in
-    let at : why.3.before ≡ before.checkpoint.head.interval + length before.receipts = before.last in
-    let next : y ≡ why.3.before + 1 = why.3.next in
-    let within : y ≤ x = why.3.within in
+    let before = why.3.2 in
+    let same = one_effective held.checkpoints x before.checkpoint.head.interval stands.checkpoint.head.interval before.begins.effective stands.begins.effective in
+    let at : y - 1 ≡ before.checkpoint.head.interval + length before.receipts = before.last in
+    let some : 0 < y = why.3.0 in
+    let within : y ≤ x = why.3.1 in
     let last : x ≡ stands.checkpoint.head.interval + length stands.receipts = stands.last in
     let there = receipt_there held.receipts stands.checkpoint.head.interval y stands.receipts stands.stored (omega arith) (omega arith) in
     absurd (why.4 there.0 there.1)
 only_refused Meant held x (MissingReceipt y) why can =
     let stands = can.3 in
-    let same = one_effective held.checkpoints x why.checkpoint.head.interval stands.checkpoint.head.interval why.begins.effective stands.all.begins.effective in
+    let same = one_effective held.checkpoints x why.checkpoint.head.interval stands.checkpoint.head.interval why.begins.effective stands.begins.effective in
     let above : why.checkpoint.head.interval < y = why.above in
-    absurd (nothing (get held.receipts y) (stands.all.receipts y (omega arith) why.within) why.none)
+    absurd (nothing (get held.receipts y) (stands.all_there y (omega arith) why.within) why.none)
   where
     nothing : (o : Option (List ℕ)) → IsSome o → o ≡ None → ⊥
     nothing None some none = cc
     nothing (Some bytes) some none = cc
 only_refused Meant held x (Mismatch y) why can =
     let stands = can.3 in
-    let before = why.3.stands in
-    let same = one_effective held.checkpoints x before.checkpoint.head.interval stands.checkpoint.head.interval before.all.begins.effective stands.all.begins.effective in
-    let record_same : before.checkpoint ≡ stands.checkpoint = one_checkpoint_at held.checkpoints stands.checkpoint.head.interval before.checkpoint stands.checkpoint (subst (λ z. IsCheckpointAt held.checkpoints z before.checkpoint) same before.all.begins.stored) stands.all.begins.stored in
+    let before = why.3.2 in
+    let same = one_effective held.checkpoints x before.checkpoint.head.interval stands.checkpoint.head.interval before.begins.effective stands.begins.effective in
+    let record_same : before.checkpoint ≡ stands.checkpoint = one_checkpoint_at held.checkpoints stands.checkpoint.head.interval before.checkpoint stands.checkpoint (subst (λ z. IsCheckpointAt held.checkpoints z before.checkpoint) same before.begins.stored) stands.begins.stored in
     let own : why.0 ≡ can.0 = sym before.pid ∙ ap (λ (c : CheckpointRecord). c.head.pid) record_same ∙ stands.pid in
     let size : why.1 ≡ can.1 = sym before.size ∙ ap (λ (c : CheckpointRecord). c.n) record_same ∙ stands.size in
-    let at : why.3.before ≡ before.checkpoint.head.interval + length before.receipts = before.last in
-    let next : y ≡ why.3.before + 1 = why.3.next in
-    let within : y ≤ x = why.3.within in
+    let at : y - 1 ≡ before.checkpoint.head.interval + length before.receipts = before.last in
+    let some : 0 < y = why.3.0 in
+    let within : y ≤ x = why.3.1 in
     let last : x ≡ stands.checkpoint.head.interval + length stands.receipts = stands.last in
     let here : y ≡ stands.checkpoint.head.interval + length before.receipts + 1 = omega arith in
     let first = subst (λ o. Replayed o can.1 (process_of stands.checkpoint) before.receipts why.2) own
     (subst (λ n. Replayed why.0 n (process_of stands.checkpoint) before.receipts why.2) size (subst (λ (c : CheckpointRecord). Replayed why.0 why.1 (process_of c) before.receipts why.2) record_same before.replayed)) in
-    let not = subst (λ o. DoesNotFit o can.1 why.2 why.4) own (subst (λ n. DoesNotFit why.0 n why.2 why.4) size why.6) in
+    let not = subst (λ o. FitsNowhere o can.1 why.2 why.4) own (subst (λ n. FitsNowhere why.0 n why.2 why.4) size why.6) in
     absurd (not_replayed can.0 can.1 held.receipts stands.checkpoint.head.interval before.receipts stands.receipts (process_of stands.checkpoint) why.2 can.2 why.4
     (subst (λ z. AreReceiptsAfter held.receipts z before.receipts) same before.stored) stands.stored (omega arith) (subst (λ z. IsReceiptAt held.receipts z why.4) here why.5) first stands.replayed not)
 only_refused Meant held x Fault why can = inl refl

@@ -7,8 +7,7 @@ use Rattle.om_process.specs.Process.{Process, delivered}
 use Rattle.om_process.specs.Turns.{IsWaiting, Turns, next_turn}
 use Rattle.om_process.specs.Replays.{Replayed, received_of}
 use Rattle.om_process.specs.Core.{CoreState, cluster_size, move_of, status_of}
-use Rattle.om_process.specs.Stored.{WaitsAt}
-use Rattle.om_process.specs.steps.Fitting.{MayTake}
+use Rattle.om_process.specs.steps.Fitting.{MayTake, WaitsAt}
 use Rattle.om_process.proofs.Basics.{some_none}
 use Rattle.om_process.proofs.Going.{counts_turns, stays_turns}
 use Rattle.om_process.proofs.Runs.{turns_between, turns_once}

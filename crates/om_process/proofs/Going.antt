@@ -12,7 +12,8 @@ use Rattle.om_machine.proofs.Stepping.{steps-next}
 use Rattle.om_machine.proofs.Stops.{counts_step}
 use Rattle.om_machine.specs.declared.event.Cause.{Cause}
 use Rattle.om_process.specs.declared.limits.TheConstants.{REFUSED}
-use Rattle.om_process.specs.Process.{Process, Move, Waits, Ends, Traps, Goes, Emits, made, moved, with_machine}
+use Rattle.om_process.specs.Process.{Process, Move, Waits, Ends, Traps, Goes, Emits, made, moved}
+use Rattle.om_process.specs.steps.Pieces.{with_machine}
 use Rattle.om_process.specs.Turns.{next_move, next_turn, after_event, emits, refuses, Turns}
 use Rattle.om_process.proofs.Basics.{some_once, some_none}
 

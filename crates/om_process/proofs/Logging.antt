@@ -10,8 +10,10 @@ use Rattle.om_stable.specs.Content.{Content, bytes_of, with_receipts}
 use Rattle.om_stable.proofs.RecordLemmas.{get-with_all_at}
 use Rattle.om_process.specs.declared.log.Logged.{Logged}
 use Rattle.om_process.specs.Core.{AreLast, CoreState, LoggedRecord}
-use Rattle.om_process.specs.Stores.{HasGainedLog, IsLogged, SpellLog, first_logged}
-use Rattle.om_process.specs.Views.{logged_record}
+use Rattle.om_process.specs.Stored.{IsReceiptAt}
+use Rattle.om_process.specs.Stores.{HasGainedLog, first_logged}
+use Rattle.om_process.specs.steps.Pieces.{SpellLog}
+use Rattle.om_process.specs.steps.Views.{logged_record}
 
 spell_more : (ls : List LoggedRecord) (bs : List (List ℕ)) (l : LoggedRecord) (b : List ℕ) → SpellLog ls bs → SpellsReceipt l.receipt b → SpellLog (ls ++ l ∷ []) (bs ++ b ∷ [])
 spell_more [] [] l b spell last = (last, tt)
@@ -55,10 +57,10 @@ pub first_interval : (interval : ℕ) (ls : List LoggedRecord) (l : LoggedRecord
 first_interval interval ls l last at = let here : l.receipt.interval ≡ interval + 1 - length ls + 0 = interval_at ls (interval + 1 - length ls) 0 l last.intervals at in omega arith
 
 -- each receipt of the log stands at its interval
-pub are_logged : (c : CoreState) (old new : Content) → AreLast c.now.interval c.log → HasGainedLog c old new → (i : ℕ) (l : LoggedRecord) → slice_get c.log i ≡ Some l → IsLogged new l
+pub are_logged : (c : CoreState) (old new : Content) → AreLast c.now.interval c.log → HasGainedLog c old new → (i : ℕ) (l : LoggedRecord) → slice_get c.log i ≡ Some l → IsReceiptAt new.receipts l.receipt.interval l.receipt
 are_logged c old new last gained i l at =
     let here = spelled_at c.log gained.0 i l gained.1 at in
-    (here.0, here.2, ap (λ (k : Content). get k.receipts l.receipt.interval) gained.2 ∙ ap (get (with_receipts old (first_logged c) gained.0).receipts) (interval_at c.log (first_logged c) i l last.intervals at) ∙ get-with_all_at old.receipts (first_logged c) gained.0 i here.0 here.1)
+    (here.0, ap (λ (k : Content). get k.receipts l.receipt.interval) gained.2 ∙ ap (get (with_receipts old (first_logged c) gained.0).receipts) (interval_at c.log (first_logged c) i l last.intervals at) ∙ get-with_all_at old.receipts (first_logged c) gained.0 i here.0 here.1, here.2, refl)
 
 -- ---- a log as it is put into a store
 -- the first of its receipts is that of the first interval, and behind the last one is the next interval

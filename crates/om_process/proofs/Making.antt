@@ -6,8 +6,9 @@ use Rattle.std.proofs.lemmas.List.{take_all}
 use Rattle.om_format.specs.declared.queue.QueueEntry.{QueueEntry}
 use Rattle.om_format.specs.Queues.{QueueRecord}
 use Rattle.om_process.specs.Process.{Process, Received, Program, Move, Waits, Ends, Traps, Goes, Emits, made, moved, delivered, emitted, started, empty_queue}
-use Rattle.om_process.specs.Turns.{next_move, Turns, Leads, From, Along, Reaches}
-use Rattle.om_process.specs.Parts.{Grow, KeepQueues}
+use Rattle.om_process.specs.Turns.{next_move, Turns, Leads, Along, Reaches}
+use Rattle.om_process.specs.steps.Pieces.{From, KeepQueues}
+use Rattle.om_process.specs.Parts.{Grow}
 use Rattle.om_process.specs.Claims.{HasEntry, AtInterval, Makes}
 use Rattle.om_process.proofs.Basics.{some_once, some_none}
 use Rattle.om_process.proofs.Runs.{leads_once, turns_between, turns_grow, leads_grow, earlier}

@@ -5,7 +5,8 @@ use Rattle.std.proofs.lemmas.List.{map-append, length-append, length-map, length
 use Rattle.om_format.specs.declared.queue.QueueEntry.{QueueEntry}
 use Rattle.om_format.specs.Queues.{QueueRecord, queue_end}
 use Rattle.om_process.specs.Claims.{HasEntry}
-use Rattle.om_process.specs.Kept.{numbered, queue_at, AreNumbered}
+use Rattle.om_process.specs.Kept.{numbered, queue_at}
+use Rattle.om_process.specs.steps.Numbers.{AreNumbered}
 use Rattle.om_process.specs.Process.{empty_queue}
 use Rattle.om_process.proofs.Basics.{some_once}
 use Rattle.om_process.specs.Trims.{trimmed_queue}

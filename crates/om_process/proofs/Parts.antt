@@ -5,7 +5,8 @@ use Rattle.om_format.specs.declared.queue.QueueEntry.{QueueEntry}
 use Rattle.om_format.specs.Queues.{QueueRecord, queue_end}
 use Rattle.om_process.specs.Process.{Process, Received, Move, Waits, Ends, Traps, Goes, Emits, made, moved, delivered, emitted}
 use Rattle.om_process.specs.Turns.{next_move, next_turn, Turns, IsWaiting}
-use Rattle.om_process.specs.Parts.{KeepsQueue, KeepQueues, Keeps}
+use Rattle.om_process.specs.Parts.{KeepsQueue, Keeps}
+use Rattle.om_process.specs.steps.Pieces.{KeepQueues}
 use Rattle.om_process.proofs.Basics.{some_once, some_none}
 
 same_end : (f q : QueueRecord) → KeepsQueue f q → queue_end q ≡ queue_end f

@@ -7,7 +7,8 @@ use Rattle.om_format.specs.declared.queue.QueueEntry.{QueueEntry}
 use Rattle.om_format.specs.Queues.{QueueRecord, queue_end, are_entries, all_entries}
 use Rattle.om_format.proofs.Entries.{are_entries-drop, are_entries-push}
 use Rattle.om_process.specs.Kept.{queue_at}
-use Rattle.om_process.specs.Process.{emitted, with_entry}
+use Rattle.om_process.specs.Process.{emitted}
+use Rattle.om_process.specs.steps.Pieces.{with_entry}
 use Rattle.om_process.specs.Trims.{trimmed_queue, trimmed_queues}
 
 pub emitted_at : (qs : List QueueRecord) (place : ℕ) (old new : QueueRecord) (e : QueueEntry) → place < length qs → old ≡ get_or qs place old → new ≡ with_entry e old → set qs place new ≡ emitted place e qs

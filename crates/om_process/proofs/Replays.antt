@@ -8,13 +8,14 @@ use Rattle.om_format.specs.Queues.{QueueRecord}
 use Rattle.om_format.specs.Receipts.{ReceiptRecord}
 use Rattle.om_process.specs.Process.{Process, Received, Program, Move, Waits, Ends, Traps, Goes, Emits, made, moved, delivered, emitted, started}
 use Rattle.om_process.specs.Turns.{next_move, next_turn, Turns, IsWaiting}
-use Rattle.om_process.specs.Replays.{Replayed, FitsReceipt, received_of, receipts_of}
-use Rattle.om_process.specs.Parts.{KeepsQueue, KeepQueues, Keeps}
+use Rattle.om_process.specs.Replays.{Replayed, FitsReceipt, received_of}
+use Rattle.om_process.specs.steps.Pieces.{receipts_of, KeepQueues}
+use Rattle.om_process.specs.Parts.{KeepsQueue, Keeps}
 use Rattle.om_process.specs.Trims.{trimmed_queue, trimmed_queues, trimmed}
 use Rattle.om_process.specs.Claims.{CheckpointOf, RecordsAlong}
 use Rattle.om_process.proofs.Runs.{leads_once, leads_more, one_turn, no_turn, turns_then}
 use Rattle.om_process.proofs.Parts.{keep_emitted, with_queues, same_move, keeps_turns, keeps_waits, keeps_delivered}
-use Rattle.om_process.specs.Stored.{DoesNotFit, WaitsAt}
+use Rattle.om_process.specs.steps.Fitting.{DoesNotFit}
 use Rattle.om_process.proofs.Basics.{some_once, some_none}
 use Rattle.om_process.proofs.Going.{stays_turns}
 
@@ -113,20 +114,16 @@ fits_not_both own n k s w r turns f (inr (inl stranger)) =
 fits_not_both own n k s w r turns f (inr (inr (inl number))) = number (f.number ∙ ap (λ (p : Process). slice_index p.got r.from) (stays_turns own n k s w turns))
 fits_not_both own n k s w r turns f (inr (inr (inr waits))) = waits (k, w, turns, f.waits, sym f.count)
 
-pub fits_at_wait : (own n : ℕ) (s : Process) (r : ReceiptRecord)
-    → r.to ≡ own → r.from < n → r.ssn ≡ slice_index s.got r.from → r.interval ≡ s.interval + 1 → WaitsAt own n s r.count
-    → (k : ℕ) × (w : Process) × Turns own n k s w × FitsReceipt own n w r
-fits_at_wait own n s r to from number interval waits =
-    let stays = stays_turns own n waits.0 s waits.1 waits.2 in (
-      waits.0,
-      waits.1,
-      waits.2,
-      record {
-        to = to;
-        from = from;
-        interval = interval ∙ ap (λ (p : Process). p.interval + 1) (sym stays);
-        number = number ∙ ap (λ (p : Process). slice_index p.got r.from) (sym stays);
-        count = sym waits.4;
-        waits = waits.3;
-      },
-    )
+pub fits_at_wait : (own n k : ℕ) (s w : Process) (r : ReceiptRecord)
+    → r.to ≡ own → r.from < n → r.ssn ≡ slice_index s.got r.from → r.interval ≡ s.interval + 1
+    → Turns own n k s w → IsWaiting own n w → w.machine.count ≡ r.count → FitsReceipt own n w r
+fits_at_wait own n k s w r to from number interval turns waits count =
+    let stays = stays_turns own n k s w turns in
+    record {
+      to = to;
+      from = from;
+      interval = interval ∙ ap (λ (p : Process). p.interval + 1) (sym stays);
+      number = number ∙ ap (λ (p : Process). slice_index p.got r.from) (sym stays);
+      count = sym count;
+      waits = waits;
+    }

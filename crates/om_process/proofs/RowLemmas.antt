@@ -5,7 +5,8 @@ use Rattle.std.proofs.lemmas.List.{map_more, map-append, length-map, length-take
 use Rattle.om_format.specs.Receipts.{ReceiptRecord, SpellsReceipt}
 use Rattle.om_stable.specs.Content.{rows_of}
 use Rattle.om_process.specs.Process.{Process, delivered}
-use Rattle.om_process.specs.Replays.{Replayed, received_of, receipts_of}
+use Rattle.om_process.specs.Replays.{Replayed, received_of}
+use Rattle.om_process.specs.steps.Pieces.{receipts_of}
 use Rattle.om_process.specs.steps.Rows.{Ascend, AreGapless, IsFirstGap, SpellRows}
 use Rattle.om_process.proofs.Runs.{leads_grow, replay_leads}
 

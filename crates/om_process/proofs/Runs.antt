@@ -6,8 +6,9 @@ use Rattle.om_format.specs.declared.queue.QueueEntry.{QueueEntry}
 use Rattle.om_format.specs.Queues.{QueueRecord}
 use Rattle.om_format.specs.Receipts.{ReceiptRecord}
 use Rattle.om_process.specs.Process.{Process, Received, Move, Waits, Ends, Traps, Goes, Emits, made, moved, delivered, emitted}
-use Rattle.om_process.specs.Turns.{next_move, next_turn, Turns, Leads, From, IsWaiting}
-use Rattle.om_process.specs.Replays.{Replayed, received_of, receipts_of}
+use Rattle.om_process.specs.Turns.{next_move, next_turn, Turns, Leads, IsWaiting}
+use Rattle.om_process.specs.Replays.{Replayed, received_of}
+use Rattle.om_process.specs.steps.Pieces.{receipts_of, From}
 use Rattle.om_process.specs.Parts.{Grow}
 use Rattle.om_process.proofs.Basics.{some_once, some_none}
 

@@ -18,6 +18,7 @@ use Rattle.om_process.specs.Core.{CoreState, cluster_size}
 use Rattle.om_process.specs.Stored.{Anyone, AreReceiptsAfter, BeginsWith, StandsAfter, ComesTo, IsReceiptAt, IsNoMatterOfContent, Refuses}
 use Rattle.om_process.specs.steps.Rows.{Ascend, AreGapless, ComesFrom, HasReceipts, IsFirstGap, IsReplayFrom, RefusesBytes, RefusesCheckpoint, RefusesFrom, RefusesRow, RefusesRows, RefusesStart, SpellRows, damage}
 use Rattle.om_process.proofs.Basics.{some_once}
+use Rattle.om_process.proofs.Replays.{fits_not_both}
 use Rattle.om_process.proofs.RowLemmas.{ascend_within, rows_long}
 
 abbrev Row : Type 0
@@ -104,7 +105,7 @@ stored_rows held after [] [] there a b = tt
 stored_rows held after [] (r ∷ rs) there a b = absurd b
 stored_rows held after (row ∷ rows) [] there a b = absurd b
 stored_rows held after (row ∷ rows) (r ∷ rs) there a b = (
-  record { bytes = row.1; stands = ap (get held) (sym a.0) ∙ there 0 row refl; spelled = b.0.0; named = b.0.1 ∙ a.0 },
+  (row.1, ap (get held) (sym a.0) ∙ there 0 row refl, b.0.0, b.0.1 ∙ a.0),
   stored_rows held (after + 1) rows rs (λ i later at. there (suc i) later at) a.1 b.1,
 )
 
@@ -148,8 +149,8 @@ missing_from held x c rows y is gap =
 -- what stands there is no receipt, if its bytes are none
 no_receipt : (held : Records) (y z : ℕ) (bytes : List ℕ) → get held y ≡ Some bytes → z ≡ y → ((r : ReceiptRecord) → SpellsReceipt r bytes → r.interval ≡ y → ⊥) → (r : ReceiptRecord) → IsReceiptAt held z r → ⊥
 no_receipt held y z bytes there at none r is =
-    let same : is.bytes ≡ bytes = some_once is.bytes bytes (sym is.stands ∙ ap (get held) at ∙ there) in
-    none r (subst (SpellsReceipt r) same is.spelled) (is.named ∙ at)
+    let same : is.0 ≡ bytes = some_once is.0 bytes (sym is.1 ∙ ap (get held) at ∙ there) in
+    none r (subst (SpellsReceipt r) same is.2) (is.3 ∙ at)
 
 -- what the rows before one make, and that one refuses
 pub row_from : (held : Content) (x : ℕ) (c : CheckpointRecord) (rows : List Row) (fault : ReplayFault) → rows ≡ between held.receipts c.head.interval x → AreGapless c.head.interval rows → c.head.interval + length rows ≡ x
@@ -188,7 +189,7 @@ row_from held x c rows fault is gapless long refuses =
         refuses.6,
         subst (λ z. ComesFrom held x c z refuses.6) (sym why.0) comes,
         why.1.0,
-        record { bytes = refuses.1.1; stands = ap (get held.receipts) why.0 ∙ there; spelled = why.1.1; named = why.1.2 ∙ sym why.0 },
+        (refuses.1.1, ap (get held.receipts) why.0 ∙ there, why.1.1, why.1.2 ∙ sym why.0),
         why.1.3,
       ),
     )
@@ -254,7 +255,7 @@ names_another y found r read due is at same other named =
 pub begins_with : (held : Content) (x y : ℕ) (bytes : List ℕ) (c : CheckpointRecord) → IsEffective held.checkpoints x y → get held.checkpoints y ≡ Some bytes → IsSpelled c bytes → c.head.interval ≡ y → BeginsWith Anyone held x c
 begins_with held x y bytes c effective there spelled at = record {
   effective = subst (IsEffective held.checkpoints x) (sym at) effective;
-  stored = record { bytes = bytes; stands = ap (get held.checkpoints) at ∙ there; spelled = spelled; named = refl };
+  stored = (bytes, ap (get held.checkpoints) at ∙ there, spelled, refl);
   meant = tt;
 }
 
@@ -263,8 +264,8 @@ start_refused held x y bytes NoCheckpoint effective there why = absurd why
 start_refused held x y bytes (Damaged z) effective there why = record {
   effective = subst (IsEffective held.checkpoints x) (sym why.0) effective;
   damaged = λ c is meant.
-      let same : is.bytes ≡ bytes = some_once is.bytes bytes (sym is.stands ∙ ap (get held.checkpoints) why.0 ∙ there) in
-      why.1 c (subst (IsSpelled c) same is.spelled) (is.named ∙ why.0);
+      let same : is.0 ≡ bytes = some_once is.0 bytes (sym is.1 ∙ ap (get held.checkpoints) why.0 ∙ there) in
+      why.1 c (subst (IsSpelled c) same is.2) (is.3 ∙ why.0);
 }
 start_refused held x y bytes (MissingReceipt z) effective there why = absurd why
 start_refused held x y bytes (Mismatch z) effective there why = absurd why
@@ -281,26 +282,25 @@ refused_at_start Meant held x Memory why = tt
 
 stands_before : (Meant : ℕ → ℕ → Type 0) (held : Content) (x y : ℕ) (c : CheckpointRecord) (s : Process) → BeginsWith Meant held x c → HasReceipts held x c → ComesFrom held x c y s → ComesTo Meant held x y c.head.pid c.n s
 stands_before Meant held x y c s begins has comes =
-    let next : y ≡ c.head.interval + length comes.receipts + 1 = comes.next in
-    record {
-      before = c.head.interval + length comes.receipts;
-      next = next;
-      within = comes.within;
-      stands = record { checkpoint = c; all = record { begins = begins; receipts = has }; pid = refl; size = refl; receipts = comes.receipts; stored = comes.stored; last = refl; replayed = comes.replayed };
-    }
+    let next : y ≡ c.head.interval + length comes.receipts + 1 = comes.next in (
+      omega arith,
+      comes.within,
+      record { checkpoint = c; begins = begins; all_there = has; pid = refl; size = refl; receipts = comes.receipts; stored = comes.stored; last = omega arith; replayed = comes.replayed },
+    )
 
 pub refused_from : (Meant : ℕ → ℕ → Type 0) (held : Content) (x : ℕ) (c : CheckpointRecord) (fault : ReplayFault) → BeginsWith Meant held x c → RefusesFrom held x c fault → Refuses Meant held x fault
 refused_from Meant held x c NoCheckpoint begins why = absurd why
 refused_from Meant held x c (Damaged y) begins why = inr (c.head.pid, c.n, why.1.0, stands_before Meant held x y c why.1.0 begins why.0 why.1.1, why.1.2)
 refused_from Meant held x c (MissingReceipt y) begins why = record { checkpoint = c; begins = begins; above = why.0; within = why.1; none = why.2; before = why.3 }
-refused_from Meant held x c (Mismatch y) begins why = (c.head.pid, c.n, why.1.0, stands_before Meant held x y c why.1.0 begins why.0 why.1.1, why.1.2, why.1.3, why.1.4)
+refused_from Meant held x c (Mismatch y) begins why = (c.head.pid, c.n, why.1.0, stands_before Meant held x y c why.1.0 begins why.0 why.1.1, why.1.2, why.1.3, λ k w turns fits. fits_not_both c.head.pid c.n k why.1.0 w why.1.2 turns fits why.1.4)
 refused_from Meant held x c Fault begins why = tt
 refused_from Meant held x c Memory begins why = tt
 
 pub replayed_from : (Meant : ℕ → ℕ → Type 0) (held : Content) (x : ℕ) (c : CheckpointRecord) (core : CoreState) → BeginsWith Meant held x c → IsReplayFrom held x c core → StandsAfter Meant held x x core.own (cluster_size core.now) core.now
 replayed_from Meant held x c core begins is = record {
   checkpoint = c;
-  all = record { begins = begins; receipts = is.all };
+  begins = begins;
+  all_there = is.all;
   pid = sym is.own;
   size = sym is.size;
   receipts = is.receipts;

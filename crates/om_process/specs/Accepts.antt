@@ -6,13 +6,9 @@ use Rattle.om_format.specs.Receipts.{ReceiptRecord}
 use Rattle.om_process.specs.declared.limits.TheConstants.{LAST_INTERVAL}
 use Rattle.om_process.specs.declared.accept.Accept.{Accept}
 use Rattle.om_process.specs.declared.accept.Accept.TheVariants.{Taken, Stranger, Orphan, Repeat, Ahead, NotWaiting, Full, Memory}
-use Rattle.om_process.specs.Process.{Received, delivered}
+use Rattle.om_process.specs.Process.{delivered}
 use Rattle.om_process.specs.Turns.{IsWaiting}
 use Rattle.om_process.specs.Core.{CoreState, cluster_size}
-
--- what is delivered of a message
-abbrev pub as_received : Message → Received
-as_received m = record { from = m.from; interval = m.tag.interval; body = m.body }
 
 -- the receipt of a message
 abbrev pub receipt_for : CoreState → Message → ReceiptRecord
@@ -29,7 +25,7 @@ receipt_for c m = record {
 -- the core after it took a message
 abbrev pub taken : CoreState → Message → CoreState
 taken c m =
-    let next = delivered c.own c.now (as_received m) in
+    let next = delivered c.own c.now (record { from = m.from; interval = m.tag.interval; body = m.body }) in
     record c { now = next; log = c.log ++ record { receipt = receipt_for c m; vec = next.vec; got = next.got } ∷ [] }
 
 -- it is for this process, from one that it knows in that incarnation

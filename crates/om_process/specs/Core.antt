@@ -1,11 +1,11 @@
 -- One logged process as its callers see it.
-use Rattle.std.specs.Prelude.{◌≡◌, ℕ, ◌<◌, ◌+◌, ◌-◌, ◌≤◌, List, Option, None, length, map}
+use Rattle.std.specs.Prelude.{◌≡◌, ℕ, ◌<◌, ◌+◌, ◌-◌, ◌≤◌, List, [], Option, None, length, map}
 use Rattle.std.specs.List.{range_with_len}
 use Rattle.om_format.specs.Receipts.{ReceiptRecord}
 use Rattle.om_process.specs.declared.status.Status.{Status}
 use Rattle.om_process.specs.declared.status.Status.TheVariants.{Ready, Waiting, Ended, Trapped}
 use Rattle.om_process.specs.declared.row.PendingRow.{PendingRow}
-use Rattle.om_process.specs.Process.{Process, Move, Waits, Ends, Traps, Goes, Emits, made}
+use Rattle.om_process.specs.Process.{Process, Move, Waits, Ends, Traps, made}
 use Rattle.om_process.specs.Turns.{Turns, next_move, next_turn}
 
 -- a receipt in the volatile log, with the vector and the numbers got right after it
@@ -30,6 +30,10 @@ pub record CoreState : Type 0 where
   pub round : ℕ
   pub starts : List (List ℕ)
 
+-- a core of which nothing is volatile
+abbrev pub settled : ℕ → Process → ℕ → ℕ → List (List ℕ) → CoreState
+settled own now inc round starts = record { own = own; now = now; log = []; pending = []; inc = inc; round = round; starts = starts }
+
 -- the number of processes
 abbrev pub cluster_size : Process → ℕ
 cluster_size p = length p.vec
@@ -39,15 +43,13 @@ abbrev pub status_of : Move → Status
 status_of Waits = Waiting
 status_of (Ends code) = Ended code
 status_of (Traps cause) = Trapped cause
-status_of (Goes next) = Ready
-status_of (Emits place body next) = Ready
+status_of _ = Ready
 
 -- the process has come to an end
 abbrev pub IsEnd : Status → Type 0
 IsEnd (Ended code) = Unit {0}
 IsEnd (Trapped cause) = Unit {0}
-IsEnd Ready = ⊥
-IsEnd Waiting = ⊥
+IsEnd _ = ⊥
 
 -- what comes next in a core
 abbrev pub move_of : CoreState → Move

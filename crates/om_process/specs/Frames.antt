@@ -1,5 +1,6 @@
 -- Messages of a process on their way.
-use Rattle.std.specs.Prelude.{◌≡◌, ℕ, ◌+◌, Option, Some, None, slice_get}
+use Rattle.std.specs.Prelude.{◌≡◌, ℕ, ◌+◌, Option, slice_get}
+use Rattle.std.specs.Option.{option_map}
 use Rattle.om_format.specs.declared.message.Message.{Message}
 use Rattle.om_format.specs.declared.queue.QueueEntry.{QueueEntry}
 use Rattle.om_format.specs.Queues.{QueueRecord}
@@ -18,11 +19,6 @@ outputs_of c = queue_at c.now.queues (cluster_size c.now)
 abbrev pub message_of : CoreState → ℕ → ℕ → QueueEntry → Message
 message_of c to ssn e = record { from = c.own; to = to; tag = record { inc = c.inc; interval = e.interval }; ssn = ssn; body = e.body }
 
--- so is an entry, if there is one
-abbrev pub frame_of : CoreState → ℕ → ℕ → Option QueueEntry → Option Message
-frame_of c to ssn None = None
-frame_of c to ssn (Some e) = Some (message_of c to ssn e)
-
 -- the message is one of the process's kept ones, with its present incarnation and the interval in which it was sent
 pub record IsFrameOf (c : CoreState) (m : Message) : Type 0 where
   pub from : m.from ≡ c.own
@@ -31,4 +27,4 @@ pub record IsFrameOf (c : CoreState) (m : Message) : Type 0 where
 
 -- the k-th of the messages to a process that are kept
 abbrev pub frame_at : CoreState → ℕ → ℕ → Option Message
-frame_at c to k = frame_of c to ((messages_to c to).first + k) (slice_get (messages_to c to).entries k)
+frame_at c to k = option_map (message_of c to ((messages_to c to).first + k)) (slice_get (messages_to c to).entries k)

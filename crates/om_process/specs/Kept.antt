@@ -1,7 +1,7 @@
 -- What a process keeps of what it made, with its numbers.
-use Rattle.std.specs.Prelude.{◌≡◌, ℕ, ◌+◌, ◌≤◌, List, [], ◌∷◌, slice_index_or}
+use Rattle.std.specs.Prelude.{ℕ, ◌+◌, List, [], ◌∷◌, slice_index_or}
 use Rattle.om_format.specs.declared.queue.QueueEntry.{QueueEntry}
-use Rattle.om_format.specs.Queues.{QueueRecord, queue_end}
+use Rattle.om_format.specs.Queues.{QueueRecord}
 use Rattle.om_process.specs.declared.queues.Made.{Made}
 use Rattle.om_process.specs.declared.queues.Sent.{Sent}
 use Rattle.om_process.specs.Process.{empty_queue}
@@ -21,15 +21,3 @@ sent_as ssn e = record { ssn = ssn; interval = e.interval; body = e.body }
 
 abbrev pub made_as : ℕ → QueueEntry → Made
 made_as seq e = record { seq = seq; interval = e.interval; bytes = e.body }
-
--- and without its number
-abbrev pub sent_entry : Sent → QueueEntry
-sent_entry s = record { interval = s.interval; body = s.body }
-
-abbrev pub made_entry : Made → QueueEntry
-made_entry m = record { interval = m.interval; body = m.bytes }
-
--- the values are the queue's entries with their numbers, which pass no limit
-pub record AreNumbered {A : Type 0} (form : ℕ → QueueEntry → A) (last : ℕ) (q : QueueRecord) (values : List A) : Type 0 where
-  pub numbers : values ≡ numbered form q.first q.entries
-  pub within : queue_end q ≤ last

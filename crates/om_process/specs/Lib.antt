@@ -8,7 +8,6 @@ pub mod Claims
 pub mod Trims
 pub mod Kept
 pub mod Core
-pub mod Views
 pub mod Accepts
 pub mod Frames
 pub mod Starting

@@ -44,28 +44,18 @@ IsEmission move = (place : ℕ) × (body : List ℕ) × (next : State) × (move 
 abbrev pub made : List QueueRecord → List ℕ
 made queues = map queue_end queues
 
--- a queue with one more entry
-abbrev pub with_entry : QueueEntry → QueueRecord → QueueRecord
-with_entry e q = record { first = q.first; entries = q.entries ++ e ∷ [] }
-
 -- queues of which the one at this place has one more entry
 abbrev pub emitted : ℕ → QueueEntry → List QueueRecord → List QueueRecord
 emitted place e [] = []
-emitted zero e (q ∷ qs) = with_entry e q ∷ qs
+emitted zero e (q ∷ qs) = record q { entries = q.entries ++ e ∷ [] } ∷ qs
 emitted (suc place) e (q ∷ qs) = q ∷ emitted place e qs
-
--- the process with another machine
-abbrev pub with_machine : Process → State → Process
-with_machine p m = record p { machine = m }
 
 -- the process after a move, where there is one
 abbrev pub moved : Process → Move → Option Process
-moved p Waits = None
-moved p (Ends code) = None
-moved p (Traps cause) = None
-moved p (Goes next) = Some (with_machine p next)
+moved p (Goes next) = Some (record p { machine = next })
 moved p (Emits place body next) =
     Some (record p { machine = next; queues = emitted place (record { interval = p.interval; body = body }) p.queues })
+moved p _ = None
 
 -- a vector with a place raised to an interval, where it is lower
 abbrev pub raised : List ℕ → ℕ → ℕ → List ℕ
@@ -85,15 +75,12 @@ delivered own p r = record {
 abbrev pub empty_queue : QueueRecord
 empty_queue = record { first = 0; entries = [] }
 
--- a process of n at its start, with its machine, and of a program
-abbrev pub started_with : State → ℕ → Process
-started_with machine n = record {
-  machine = machine;
+-- a process of n at its start
+abbrev pub started : Program → ℕ → Process
+started program n = record {
+  machine = loaded program.image program.size program.ext;
   interval = 0;
   vec = replicate n 0;
   got = replicate n 0;
   queues = replicate n empty_queue ++ empty_queue ∷ [];
 }
-
-abbrev pub started : Program → ℕ → Process
-started program n = started_with (loaded program.image program.size program.ext) n

@@ -1,5 +1,5 @@
 -- Replays: a checkpoint as a process, and what stored receipts make of it.
-use Rattle.std.specs.Prelude.{◌≡◌, ℕ, ◌+◌, ◌<◌, List, [], ◌∷◌, ◌++◌, map, slice_index}
+use Rattle.std.specs.Prelude.{◌≡◌, ℕ, ◌+◌, ◌<◌, List, [], ◌∷◌, ◌++◌, slice_index}
 use Rattle.om_machine.specs.State.{restored}
 use Rattle.om_format.specs.Receipts.{ReceiptRecord}
 use Rattle.om_format.specs.Checkpoints.{CheckpointRecord}
@@ -19,9 +19,6 @@ process_of c = record {
 -- what a stored receipt delivered
 abbrev pub received_of : ReceiptRecord → Received
 received_of r = record { from = r.from; interval = r.sender_interval; body = r.body }
-
-abbrev pub receipts_of : List ReceiptRecord → List Received
-receipts_of rs = map received_of rs
 
 -- the receipt may be delivered to the process as it waits
 pub record FitsReceipt (own n : ℕ) (w : Process) (r : ReceiptRecord) : Type 0 where

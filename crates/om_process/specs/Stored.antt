@@ -1,5 +1,5 @@
 -- Replays from a store: which process stands where, and why there is none.
-use Rattle.std.specs.Prelude.{◌≡◌, ◌≢◌, ℕ, ◌+◌, ◌<◌, ◌≤◌, ◌⊎◌, List, [], ◌∷◌, length, slice_index, Some, None, IsSome}
+use Rattle.std.specs.Prelude.{◌≡◌, ℕ, ◌+◌, ◌-◌, ◌<◌, ◌≤◌, ◌⊎◌, List, [], ◌∷◌, length, Some, None, IsSome}
 use Rattle.std.specs.FinMap.{get}
 use Rattle.om_format.specs.Receipts.{ReceiptRecord, SpellsReceipt}
 use Rattle.om_format.specs.Checkpoints.{CheckpointRecord, IsSpelled}
@@ -7,22 +7,16 @@ use Rattle.om_stable.specs.Content.{Content, Records, IsEffective, IsFree}
 use Rattle.om_process.specs.declared.replay.ReplayFault.{ReplayFault}
 use Rattle.om_process.specs.declared.replay.ReplayFault.TheVariants.{NoCheckpoint, Damaged, MissingReceipt, Mismatch, Fault, Memory}
 use Rattle.om_process.specs.Process.{Process}
-use Rattle.om_process.specs.Turns.{Turns, IsWaiting}
-use Rattle.om_process.specs.Replays.{Replayed, process_of}
+use Rattle.om_process.specs.Turns.{Turns}
+use Rattle.om_process.specs.Replays.{FitsReceipt, Replayed, process_of}
 use Rattle.om_process.specs.Core.{CoreState, cluster_size}
 
 -- the record is stored at an interval, and names it
-pub record IsReceiptAt (held : Records) (y : ℕ) (r : ReceiptRecord) : Type 0 where
-  pub bytes : List ℕ
-  pub stands : get held y ≡ Some bytes
-  pub spelled : SpellsReceipt r bytes
-  pub named : r.interval ≡ y
+abbrev pub IsReceiptAt : Records → ℕ → ReceiptRecord → Type 0
+IsReceiptAt held y r = (bytes : List ℕ) × (get held y ≡ Some bytes) × SpellsReceipt r bytes × (r.interval ≡ y)
 
-pub record IsCheckpointAt (held : Records) (y : ℕ) (c : CheckpointRecord) : Type 0 where
-  pub bytes : List ℕ
-  pub stands : get held y ≡ Some bytes
-  pub spelled : IsSpelled c bytes
-  pub named : c.head.interval ≡ y
+abbrev pub IsCheckpointAt : Records → ℕ → CheckpointRecord → Type 0
+IsCheckpointAt held y c = (bytes : List ℕ) × (get held y ≡ Some bytes) × IsSpelled c bytes × (c.head.interval ≡ y)
 
 -- these receipts are stored, each at the interval after that of the one before
 abbrev pub AreReceiptsAfter : Records → ℕ → List ReceiptRecord → Type 0
@@ -42,16 +36,12 @@ pub record BeginsWith (Meant : ℕ → ℕ → Type 0) (held : Content) (x : ℕ
   pub stored : IsCheckpointAt held.checkpoints c.head.interval c
   pub meant : Meant c.head.pid c.n
 
--- and each receipt after it is there
-pub record HasAll (Meant : ℕ → ℕ → Type 0) (held : Content) (x : ℕ) (c : CheckpointRecord) : Type 0 where
-  pub begins : BeginsWith Meant held x c
-  pub receipts : (y : ℕ) → c.head.interval < y → y ≤ x → IsSome (get held.receipts y)
-
--- on a replay to x, process own of n is in this state right after receipt y, or where y is the checkpoint's interval, as
--- the checkpoint says
+-- on a replay to x, for which no receipt is missing, process own of n is in this state right after receipt y, or where y is
+-- the checkpoint's interval, as the checkpoint says
 pub record StandsAfter (Meant : ℕ → ℕ → Type 0) (held : Content) (x y own n : ℕ) (t : Process) : Type 0 where
   pub checkpoint : CheckpointRecord
-  pub all : HasAll Meant held x checkpoint
+  pub begins : BeginsWith Meant held x checkpoint
+  pub all_there : (z : ℕ) → checkpoint.head.interval < z → z ≤ x → IsSome (get held.receipts z)
   pub pid : checkpoint.head.pid ≡ own
   pub size : checkpoint.n ≡ n
   pub receipts : List ReceiptRecord
@@ -83,43 +73,22 @@ pub record IsLeastMissing (Meant : ℕ → ℕ → Type 0) (held : Content) (x y
   pub before : (z : ℕ) → checkpoint.head.interval < z → z < y → IsSome (get held.receipts z)
 
 -- a replay to x comes to receipt y: process own of n is in this state after the one before
-pub record ComesTo (Meant : ℕ → ℕ → Type 0) (held : Content) (x y own n : ℕ) (s : Process) : Type 0 where
-  pub before : ℕ
-  pub next : y ≡ before + 1
-  pub within : y ≤ x
-  pub stands : StandsAfter Meant held x before own n s
+abbrev pub ComesTo : (ℕ → ℕ → Type 0) → Content → ℕ → ℕ → ℕ → ℕ → Process → Type 0
+ComesTo Meant held x y own n s = (0 < y) × (y ≤ x) × StandsAfter Meant held x (y - 1) own n s
 
--- it comes to receipt y, which does not decode or names another interval
-abbrev pub IsDamagedReceipt : (ℕ → ℕ → Type 0) → Content → ℕ → ℕ → Type 0
-IsDamagedReceipt Meant held x y =
-    (own : ℕ) × (n : ℕ) × (s : Process) × ComesTo Meant held x y own n s
-    × ((r : ReceiptRecord) → IsReceiptAt held.receipts y r → ⊥)
-
--- turns lead to a wait, at this count
-abbrev pub WaitsAt : ℕ → ℕ → Process → ℕ → Type 0
-WaitsAt own n s count = (k : ℕ) × (w : Process) × Turns own n k s w × IsWaiting own n w × (w.machine.count ≡ count)
-
--- the receipt does not fit process own of n in this state: it is another receiver's, of a sender that is not there, or not the
--- next of its sender, or the process does not wait at the stored count
-abbrev pub DoesNotFit : ℕ → ℕ → Process → ReceiptRecord → Type 0
-DoesNotFit own n s r =
-    (r.to ≢ own) ⊎ ((n ≤ r.from) ⊎ ((r.ssn ≢ slice_index s.got r.from) ⊎ (WaitsAt own n s r.count → ⊥)))
-
--- it comes to receipt y, which does not fit
-abbrev pub IsMismatch : (ℕ → ℕ → Type 0) → Content → ℕ → ℕ → Type 0
-IsMismatch Meant held x y =
-    (own : ℕ) × (n : ℕ) × (s : Process) × ComesTo Meant held x y own n s
-    × (r : ReceiptRecord) × IsReceiptAt held.receipts y r × DoesNotFit own n s r
-
--- why the content is not replayed to x: the first thing that speaks against it. The store's failures and want of memory are
+-- why the content is not replayed to x: the first thing that speaks against it. A receipt that is damaged does not decode or
+-- names another interval; one that is a mismatch fits nowhere that turns lead. The store's failures and want of memory are
 -- not a matter of the content
 abbrev pub Refuses : (ℕ → ℕ → Type 0) → Content → ℕ → ReplayFault → Type 0
 Refuses Meant held x NoCheckpoint = IsFree held.checkpoints 0 (x + 1)
-Refuses Meant held x (Damaged y) = IsDamagedCheckpoint Meant held x y ⊎ IsDamagedReceipt Meant held x y
+Refuses Meant held x (Damaged y) =
+    IsDamagedCheckpoint Meant held x y
+    ⊎ ((own : ℕ) × (n : ℕ) × (s : Process) × ComesTo Meant held x y own n s × ((r : ReceiptRecord) → IsReceiptAt held.receipts y r → ⊥))
 Refuses Meant held x (MissingReceipt y) = IsLeastMissing Meant held x y
-Refuses Meant held x (Mismatch y) = IsMismatch Meant held x y
-Refuses Meant held x Fault = Unit {0}
-Refuses Meant held x Memory = Unit {0}
+Refuses Meant held x (Mismatch y) =
+    (own : ℕ) × (n : ℕ) × (s : Process) × ComesTo Meant held x y own n s
+    × (r : ReceiptRecord) × IsReceiptAt held.receipts y r × ((k : ℕ) (w : Process) → Turns own n k s w → FitsReceipt own n w r → ⊥)
+Refuses Meant held x _ = Unit {0}
 
 -- the faults that the content does not tell
 abbrev pub IsNoMatterOfContent : ReplayFault → Type 0

@@ -1,6 +1,6 @@
 -- What a process stores.
-use Rattle.std.specs.Prelude.{◌≡◌, ℕ, ◌+◌, ◌-◌, List, [], ◌∷◌, ◌++◌, length, map, Some, true, false}
-use Rattle.std.specs.FinMap.{get}
+use Rattle.std.specs.Prelude.{◌≡◌, ℕ, ◌+◌, ◌-◌, List, [], ◌∷◌, ◌++◌, length, map, true, false}
+use Rattle.std.specs.List.{AllZip}
 use Rattle.om_format.specs.Receipts.{SpellsReceipt}
 use Rattle.om_format.specs.Checkpoints.{CheckpointRecord, SpellsCheckpoint}
 use Rattle.om_format.specs.declared.version.Version.TheVariants.{V2}
@@ -10,13 +10,6 @@ use Rattle.om_process.specs.Process.{Process}
 use Rattle.om_process.specs.Replays.{process_of}
 use Rattle.om_process.specs.Core.{CoreState, LoggedRecord, cluster_size}
 
--- the bytes spell the receipts of a log, one by one
-abbrev pub SpellLog : List LoggedRecord → List (List ℕ) → Type 0
-SpellLog [] [] = Unit {0}
-SpellLog (l ∷ ls) (b ∷ bs) = SpellsReceipt l.receipt b × SpellLog ls bs
-SpellLog [] (b ∷ bs) = ⊥
-SpellLog (l ∷ ls) [] = ⊥
-
 -- the interval of the first receipt of the log, which ends with that of the present interval
 abbrev pub first_logged : CoreState → ℕ
 first_logged c = c.now.interval + 1 - length c.log
@@ -24,11 +17,7 @@ first_logged c = c.now.interval + 1 - length c.log
 -- the store has gained the spelling of each receipt of the log, and nothing else
 abbrev pub HasGainedLog : CoreState → Content → Content → Type 0
 HasGainedLog c old new =
-    (bytes : List (List ℕ)) × SpellLog c.log bytes × (new ≡ with_receipts old (first_logged c) bytes)
-
--- the spelling of the receipt stands in the store, at the interval that it begins
-abbrev pub IsLogged : Content → LoggedRecord → Type 0
-IsLogged held l = (bytes : List ℕ) × SpellsReceipt l.receipt bytes × (get held.receipts l.receipt.interval ≡ Some bytes)
+    (bytes : List (List ℕ)) × AllZip (λ l b. SpellsReceipt l.receipt b) c.log bytes × (new ≡ with_receipts old (first_logged c) bytes)
 
 -- the row of a receipt of the log
 abbrev pub log_row : LoggedRecord → PendingRow

@@ -57,13 +57,9 @@ abbrev pub Leads : ℕ → ℕ → List Received → Process → Process → Typ
 Leads own n [] s t = t ≡ s
 Leads own n (r ∷ rs) s t = (k : ℕ) × (w : Process) × Turns own n k s w × IsWaiting own n w × Leads own n rs (delivered own w r) t
 
--- the receipts and then so many turns lead from one state to another
-abbrev pub From : ℕ → ℕ → Process → List Received → ℕ → Process → Type 0
-From own n s h k t = (a : Process) × Leads own n h s a × Turns own n k a t
-
 -- the state is reached from the start of the program by these receipts, and then so many turns
 abbrev pub Along : Program → ℕ → ℕ → List Received → ℕ → Process → Type 0
-Along program own n h k t = From own n (started program n) h k t
+Along program own n h k t = (a : Process) × Leads own n h (started program n) a × Turns own n k a t
 
 -- the same for some number of turns
 abbrev pub Reaches : Program → ℕ → ℕ → List Received → Process → Type 0

@@ -1,13 +1,12 @@
 //! What holds of every process, as theorems over the definitions alone: each function stands for one.
 
-ghost use Rattle.std.specs.Prelude.{◌≡◌, ◌↔◌, ◌++◌, ◌+◌, ◌<◌, ◌≤◌, ◌∷◌, [], List, ℕ, Some, length, slice_index, take};
+ghost use Rattle.std.specs.Prelude.{◌≡◌, ◌↔◌, ◌++◌, ◌+◌, ◌<◌, ◌≤◌, ◌∷◌, [], List, ℕ, Some, length, map, slice_index, take};
 ghost use Rattle.om_format.specs.declared.queue.QueueEntry.{QueueEntry};
 ghost use Rattle.om_format.specs.Receipts.{ReceiptRecord};
 ghost use Rattle.om_process.specs.Claims.{AtInterval, CheckpointOf, HasEntry, Makes, RecordsAlong, RowOf};
 ghost use Rattle.om_process.specs.Parts.{Grow, Keeps};
 ghost use Rattle.om_process.specs.Process.{Process, Program, Received, delivered, started};
-ghost use Rattle.om_process.specs.Replays.{FitsReceipt, Replayed, receipts_of};
-ghost use Rattle.om_process.specs.Stored.{DoesNotFit, WaitsAt};
+ghost use Rattle.om_process.specs.Replays.{FitsReceipt, Replayed, received_of};
 ghost use Rattle.om_process.specs.Trims.{trimmed};
 ghost use Rattle.om_process.specs.Turns.{Along, IsWaiting, Leads, Reaches, Turns, next_turn};
 
@@ -57,14 +56,14 @@ pub fn runs_join_and_part()
 pub fn going_on()
     ensures { (program : Program) (own n : ℕ) (c t : Process) (h : List Received) (k : ℕ) (rs : List ReceiptRecord)
         → Along program own n h k c → Replayed own n c rs t
-        → (j : ℕ) × Along program own n (h ++ receipts_of rs) j t }
+        → (j : ℕ) × Along program own n (h ++ map received_of rs) j t }
 {}
 
 /// What is replayed from a checkpoint along the way stands along the longer receipts, with fewer entries kept.
 pub fn replayed_along()
     ensures { (program : Program) (own n : ℕ) (c t : Process) (h : List Received) (rs : List ReceiptRecord)
         → CheckpointOf program own n c h → Replayed own n c rs t
-        → CheckpointOf program own n t (h ++ receipts_of rs) }
+        → CheckpointOf program own n t (h ++ map received_of rs) }
 {}
 
 /// What is replayed keeps what the checkpoint kept, and behind it what was made since.
@@ -130,12 +129,10 @@ pub fn row_along()
         → Reaches program own n h t → RowOf own n t.vec t.got h }
 {}
 
-/// A receipt that fits where turns lead to its wait is none that does not fit; and one that is of this process, of a sender
-/// that is there, the next of that sender and of this process, fits where the process waits at its count.
-pub fn fits_or_not()
-    ensures not_both { (own n k : ℕ) (s w : Process) (r : ReceiptRecord)
-        → Turns own n k s w → FitsReceipt own n w r → DoesNotFit own n s r → ⊥ }
-    ensures fits { (own n : ℕ) (s : Process) (r : ReceiptRecord)
-        → r.to ≡ own → r.from < n → r.ssn ≡ slice_index s.got r.from → r.interval ≡ s.interval + 1 → WaitsAt own n s r.count
-        → (k : ℕ) × (w : Process) × Turns own n k s w × FitsReceipt own n w r }
+/// A receipt of this process, of a sender that is there, the next of that sender and of this process, fits where the process
+/// waits at its count.
+pub fn fits_at_its_count()
+    ensures { (own n k : ℕ) (s w : Process) (r : ReceiptRecord)
+        → r.to ≡ own → r.from < n → r.ssn ≡ slice_index s.got r.from → r.interval ≡ s.interval + 1
+        → Turns own n k s w → IsWaiting own n w → w.machine.count ≡ r.count → FitsReceipt own n w r }
 {}

@@ -4,7 +4,7 @@ ghost use Rattle.std.specs.Prelude.{◌≡◌, ◌-◌, ◌<◌, ℕ, Some, drop
 ghost use Rattle.om_process.specs.Core.{cluster_size};
 ghost use Rattle.om_process.specs.Frames.{IsFrameOf, frame_at, messages_to, outputs_of};
 ghost use Rattle.om_process.specs.Claims.{HasEntry};
-ghost use Rattle.om_process.specs.Kept.{made_as, made_entry, numbered, sent_as, sent_entry};
+ghost use Rattle.om_process.specs.Kept.{made_as, numbered, sent_as};
 
 use crate::proc_core::ProcCore;
 use crate::queues::{Made, Sent};
@@ -18,7 +18,7 @@ impl ProcCore {
         requires { to < cluster_size self.now.now }
         ensures kept { result.now ≡ numbered sent_as (messages_to self.now to).first (messages_to self.now to).entries }
         ensures sent { (i : ℕ) (s : Sent) → slice_get result.now i ≡ Some s
-            → HasEntry self.now.now.queues to s.ssn (sent_entry s) }
+            → HasEntry self.now.now.queues to s.ssn (record { interval = s.interval; body = s.body }) }
     {
         self.outbox[to.index()].as_slice()
     }
@@ -28,7 +28,7 @@ impl ProcCore {
         ensures kept { result.now ≡ numbered made_as (max (outputs_of self.now).first seq)
             (drop (seq - (outputs_of self.now).first) (outputs_of self.now).entries) }
         ensures made { (i : ℕ) (m : Made) → slice_get result.now i ≡ Some m
-            → HasEntry self.now.now.queues (cluster_size self.now.now) m.seq (made_entry m) }
+            → HasEntry self.now.now.queues (cluster_size self.now.now) m.seq (record { interval = m.interval; body = m.bytes }) }
     {
         self.outputs.above(seq)
     }

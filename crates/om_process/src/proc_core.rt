@@ -36,7 +36,7 @@ impl Model for ProcCore {
     ghost use Rattle.std.specs.Prelude.{◌++◌, ◌∷◌, [], length, map};
     ghost use Rattle.om_process.specs.Core.{CoreState};
     ghost use Rattle.om_process.specs.steps.Lawful.{IsCore};
-    ghost use Rattle.om_process.specs.Views.{logged_record};
+    ghost use Rattle.om_process.specs.steps.Views.{logged_record};
 
     ghost Value = { CoreState };
 

@@ -3,7 +3,8 @@
 ghost use Rattle.std.specs.Prelude.{◌≡◌, ◌+◌, ◌-◌, ◌<◌, ◌≤◌, drop, max, IfOk, OnOk, OnErr};
 ghost use Rattle.om_format.specs.Queues.{queue_end, queue_record};
 ghost use Rattle.om_process.specs.Kept.{numbered, sent_as, made_as};
-ghost use Rattle.om_process.specs.Process.{empty_queue, with_entry};
+ghost use Rattle.om_process.specs.Process.{empty_queue};
+ghost use Rattle.om_process.specs.steps.Pieces.{with_entry};
 ghost use Rattle.om_process.specs.Trims.{trimmed_queue};
 ghost use Rattle.om_process.specs.declared.limits.TheConstants.{LAST_NUMBER, LAST_OUTPUT};
 
@@ -42,7 +43,8 @@ pub struct Messages {
 impl Model for Messages {
     ghost use Rattle.std.specs.Prelude.{map};
     ghost use Rattle.om_format.specs.Queues.{QueueRecord};
-    ghost use Rattle.om_process.specs.Kept.{AreNumbered, sent_as, sent_entry};
+    ghost use Rattle.om_process.specs.Kept.{sent_as};
+    ghost use Rattle.om_process.specs.steps.Numbers.{AreNumbered, sent_entry};
     ghost use Rattle.om_process.specs.declared.limits.TheConstants.{LAST_NUMBER};
 
     ghost Value = { QueueRecord };
@@ -145,7 +147,8 @@ pub struct Outputs {
 impl Model for Outputs {
     ghost use Rattle.std.specs.Prelude.{map};
     ghost use Rattle.om_format.specs.Queues.{QueueRecord};
-    ghost use Rattle.om_process.specs.Kept.{AreNumbered, made_as, made_entry};
+    ghost use Rattle.om_process.specs.Kept.{made_as};
+    ghost use Rattle.om_process.specs.steps.Numbers.{AreNumbered, made_entry};
     ghost use Rattle.om_process.specs.declared.limits.TheConstants.{LAST_OUTPUT};
 
     ghost Value = { QueueRecord };

@@ -5,9 +5,8 @@ ghost use Rattle.om_format.specs.Receipts.{ReceiptRecord, SpellsReceipt, receipt
 ghost use Rattle.om_stable.specs.Content.{rows_of};
 ghost use Rattle.om_process.specs.Core.{cluster_size, with_now};
 ghost use Rattle.om_process.specs.Replays.{Replayed};
-ghost use Rattle.om_process.specs.Stored.{DoesNotFit};
 ghost use Rattle.om_process.specs.declared.limits.TheConstants.{LAST_INTERVAL};
-ghost use Rattle.om_process.specs.steps.Fitting.{MayTake};
+ghost use Rattle.om_process.specs.steps.Fitting.{MayTake, DoesNotFit};
 ghost use Rattle.om_process.specs.steps.Rows.{AreGapless, Ascend, IsFirstGap, RefusesBytes, RefusesRow, RefusesRows, SpellRows};
 
 use crate::proc_core::ProcCore;

@@ -7,8 +7,10 @@ ghost use Rattle.om_format.specs.Queues.{queue_record};
 ghost use Rattle.om_stable.specs.Calls.{IsCleanCall, UsesStore};
 ghost use Rattle.om_stable.specs.Content.{IsFree, IsTaken, bytes_of};
 ghost use Rattle.om_process.specs.Core.{LoggedRecord};
-ghost use Rattle.om_process.specs.Stores.{HasGainedCheckpoint, HasGainedLog, IsLogged, IsOf, SpellLog, checkpointed, first_logged, flushed, log_row};
-ghost use Rattle.om_process.specs.Views.{logged_record};
+ghost use Rattle.om_process.specs.Stored.{IsReceiptAt};
+ghost use Rattle.om_process.specs.Stores.{HasGainedCheckpoint, HasGainedLog, IsOf, checkpointed, first_logged, flushed, log_row};
+ghost use Rattle.om_process.specs.steps.Pieces.{SpellLog};
+ghost use Rattle.om_process.specs.steps.Views.{logged_record};
 
 use crate::log::Logged;
 use crate::proc_core::ProcCore;
@@ -28,7 +30,8 @@ impl ProcCore {
         ensures stored { IsCleanCall S.is_clean S.IsSound store.old store.new
             → OnOk result (HasGainedLog self.old (S.content store.old) (S.content store.new)) }
         ensures each { IsCleanCall S.is_clean S.IsSound store.old store.new
-            → OnOk result ((i : ℕ) (l : LoggedRecord) → slice_get self.old.log i ≡ Some l → IsLogged (S.content store.new) l) }
+            → OnOk result ((i : ℕ) (l : LoggedRecord) → slice_get self.old.log i ≡ Some l
+            → IsReceiptAt (S.content store.new).receipts l.receipt.interval l.receipt) }
         ensures free { IsCleanCall S.is_clean S.IsSound store.old store.new
             → OnOk result (IsFree (S.content store.old).receipts (first_logged self.old) (length self.old.log)) }
         ensures present { IsCleanCall S.is_clean S.IsSound store.old store.new → IsErrOf result StoreError.Present

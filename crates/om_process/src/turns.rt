@@ -5,7 +5,8 @@ ghost use Rattle.om_machine.specs.derived.NextStep.{next_of};
 ghost use Rattle.om_machine.specs.Finishing.{TakesWord, finished_who, finished_word};
 ghost use Rattle.om_process.specs.Core.{CoreTurns, cluster_size, core_turn, move_of, status_of, with_now};
 ghost use Rattle.om_process.specs.steps.Planned.{IsBuffer, with_bytes_emitted};
-ghost use Rattle.om_process.specs.Process.{Process, IsEmission, emitted, made, with_machine};
+ghost use Rattle.om_process.specs.Process.{Process, IsEmission, emitted, made};
+ghost use Rattle.om_process.specs.steps.Pieces.{with_machine};
 ghost use Rattle.om_format.specs.declared.limits.TheConstants.{MAX_BODY};
 ghost use Rattle.om_process.specs.declared.limits.TheConstants.{LAST_NUMBER};
 

@@ -1,6 +1,7 @@
-use Rattle.std.proofs.Common.{◌≡◌, ℕ, ◌+◌, ◌≤◌, refl, arith, Option, None, Some, MatchOption}
+use Rattle.std.proofs.Common.{◌≡◌, ℕ, ◌+◌, ◌≤◌, ◌∙◌, sym, refl, arith, Option, None, Some, MatchOption}
 use Rattle.om_recover.specs.Rows.{Rows, HasRow, Has}
-use Rattle.om_recover.specs.Offered.{IsNearestBelow, IsNearestAbove, IsInOrderAbove, Agrees}
+use Rattle.om_recover.specs.Offered.{IsInOrderAbove, Agrees, Breaks}
+use Rattle.om_recover.specs.steps.Beside.{IsNearestBelow, IsNearestAbove, BreaksBelow, BreaksAbove}
 use Rattle.om_recover.specs.steps.Search.{HasNoRowBelow, HasNoRowAbove, HasNoRowFrom}
 use Rattle.om_recover.specs.steps.Held.{IsRecordTo, IsRecordFrom}
 use Rattle.om_recover.specs.declared.row.RowKind.{RowKind}
@@ -74,10 +75,27 @@ none_at_or_above rows row no_log no_checkpoint high there same above = of_either
 
 -- so the row agrees with each record of its interval, is not there, and is in order with those above
 pub agrees_beyond : (rows : Rows) (row : Row) → HasNoRowFrom rows row → Agrees rows row
-agrees_beyond rows row none other there same = absurd (none other there same.pid (omega (arith, same.interval)))
+agrees_beyond rows row none other there same at = absurd (none other there same (omega (arith, at)))
 
 pub absent_beyond : (rows : Rows) (row : Row) → HasNoRowFrom rows row → HasRow rows row → ⊥
 absent_beyond rows row none there = none row there refl (omega arith)
 
 pub in_order_beyond : (rows : Rows) (row : Row) → HasNoRowFrom rows row → IsInOrderAbove rows row
 in_order_beyond rows row none high there same above = absurd (none high there same (omega (arith, above)))
+
+-- a nearest row that breaks the order has none between it and the row
+pub breaks_below : (rows : Rows) (row : Row) (y : ℕ) (found : BreaksBelow rows row y) → Breaks rows found.low row
+breaks_below rows row y found = record {
+  pid = found.nearest.pid;
+  below = found.nearest.below;
+  none_between = λ other there same above under. let near = found.nearest.nearest other there (same ∙ found.nearest.pid) under in omega (arith, near, above);
+  breaks = found.breaks;
+}
+
+pub breaks_above : (rows : Rows) (row : Row) (y : ℕ) (found : BreaksAbove rows row y) → Breaks rows row found.high
+breaks_above rows row y found = record {
+  pid = sym found.nearest.pid;
+  below = found.nearest.above;
+  none_between = λ other there same above under. let near = found.nearest.nearest other there same above in omega (arith, near, under);
+  breaks = found.breaks;
+}

@@ -7,10 +7,10 @@ use Rattle.std.proofs.lemmas.List.Sums.{sum_by-cons}
 use Rattle.om_interval.specs.Vectors.{IsBelow}
 use Rattle.om_recover.specs.Rows.{Rows, HasRow, Has, IsLawful}
 use Rattle.om_recover.specs.Recoverable.{IsStable, IsRecoverable, maximum_of}
-use Rattle.om_recover.specs.Attempts.{Attempt, with_attempt}
-use Rattle.om_recover.specs.steps.Trail.{with_look}
-use Rattle.om_recover.specs.Climb.{IsLeastStable, IsNeeded, starts, follows, IsClimbed, IsOutOfReach}
-use Rattle.om_recover.specs.steps.Climbing.{HasLooked, IsUnderWay, IsAttempted, without_newest, IsForced, IsBlocked, IsNeededWithin, begins, leads, IsClimbing}
+use Rattle.om_recover.specs.Attempts.{Attempt}
+use Rattle.om_recover.specs.steps.Trail.{with_look, with_attempt}
+use Rattle.om_recover.specs.Climb.{IsLeastStable, IsNeeded, starts, follows, IsClimbed}
+use Rattle.om_recover.specs.steps.Climbing.{HasLooked, IsUnderWay, IsAttempted, without_newest, IsForced, IsBlocked, IsNeededWithin, begins, leads, IsClimbing, IsOutOfReach}
 use Rattle.om_recover.specs.declared.row.RowKind.{RowKind}
 use Rattle.om_recover.specs.declared.row.Row.{Row}
 use Rattle.om_interval.proofs.VectorLemmas.{below_itself, below_through}

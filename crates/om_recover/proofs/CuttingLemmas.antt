@@ -124,10 +124,10 @@ kept_after_cut rows new state old places kept is none = subst (λ rows. AreKept 
 
 -- and after a prune
 pub kept_after_prune : (rows new : Rows) (state : List ℕ) (places : List (Option Memory)) → AreKept rows state places → IsPruned rows state new → AreKept new state places
-kept_after_prune rows new state places kept pruned = subst (λ rows. AreKept rows state places) (sym pruned.rows) (record {
-  lawful = lawful_part (length state) _ _ (λ row there. (of_pruned rows pruned.checkpoints row there).0) kept.lawful;
-  greatest = greatest_after_prune (length state) rows state pruned.checkpoints kept.lawful pruned.effective kept.greatest;
-  remembered = remembered_after_prune (length state) rows state pruned.checkpoints places kept.lawful pruned.effective kept.greatest kept.remembered;
+kept_after_prune rows new state places kept pruned = subst (λ rows. AreKept rows state places) (sym pruned.2) (record {
+  lawful = lawful_part (length state) _ _ (λ row there. (of_pruned rows pruned.0 row there).0) kept.lawful;
+  greatest = greatest_after_prune (length state) rows state pruned.0 kept.lawful pruned.1 kept.greatest;
+  remembered = remembered_after_prune (length state) rows state pruned.0 places kept.lawful pruned.1 kept.greatest kept.remembered;
 })
   where
     remembered_after_prune : (n : ℕ) (rows : Rows) (state checkpoints : List ℕ) (places : List (Option Memory)) → IsLawful n rows → AreEffective rows state checkpoints → IsGreatest n rows state

@@ -10,8 +10,7 @@ use Rattle.om_recover.specs.declared.row.RowKind.TheVariants.{Checkpoint, Log}
 use Rattle.om_recover.specs.declared.row.Row.{Row}
 use Rattle.om_recover.specs.declared.search.memory.Memory.{Memory}
 use Rattle.om_recover.specs.Recoverable.{IsStable, IsRecoverable, maximum_of}
-use Rattle.om_recover.specs.Climb.{IsOutOfReach}
-use Rattle.om_recover.specs.steps.Climbing.{IsNeededWithin, begins, leads, IsClimbing, IsPassing}
+use Rattle.om_recover.specs.steps.Climbing.{IsNeededWithin, begins, leads, IsClimbing, IsPassing, IsOutOfReach}
 use Rattle.om_recover.specs.steps.Memory.{IsRemembered, IsTrueMemory, AreRemembered, HasPlace, IsKept, IsUpTo, IsWithout, part_of}
 use Rattle.om_recover.proofs.RowsLemmas.{kept}
 use Rattle.om_recover.proofs.StableLemmas.{stable_kept, stable_before, stable_by_records}

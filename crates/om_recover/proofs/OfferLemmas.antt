@@ -34,14 +34,14 @@ Outcome n rows row after = (IsNew n rows row × (after ≡ set.insert rows row))
 outcome : (n : ℕ) (rows : Rows) (row : Row) (answer : Result Note NoteError) (after : Rows) → offered n rows row answer after → answer ≢ Err Memory → Outcome n rows row after
 unfolding Outcome
 outcome n rows row (Ok (Noted raised)) after is full = inl (is.0, is.1)
-outcome n rows row (Ok Known) after is full = inr (λ new. new.absent is.0.there, is.1)
+outcome n rows row (Ok Known) after is full = inr (λ new. new.absent is.2, is.3)
 outcome n rows row (Err Stranger) after is full = inr (λ new. let known = new.offer.known in let past = is.0 in omega arith, is.1)
 outcome n rows row (Err BadVector) after is full = inr (λ new. is.1 new.offer.fair, is.2)
-outcome n rows row (Err Differs) after is full = inr (λ new. is.0.differs (new.agrees is.0.other is.0.there is.0.same_interval), is.1)
+outcome n rows row (Err Differs) after is full = inr (λ new. is.5 (new.agrees is.1 is.2 is.3 is.4), is.6)
 outcome n rows row (Err (Disorder y)) after is full = inr (
   λ new. elim is.0.breaks [
-    | inl low ↦ low.breaks (new.below low.low low.nearest.there low.nearest.pid low.nearest.below)
-    | inr high ↦ high.1.breaks (new.above high.1.high high.1.nearest.there high.1.nearest.pid high.1.nearest.above)
+    | inl low ↦ low.breaks (new.below is.0.other is.0.there low.pid low.below)
+    | inr high ↦ high.1.breaks (new.above is.0.other is.0.there (sym high.1.pid) high.1.below)
   ],
   is.1,
 )
@@ -69,7 +69,7 @@ at_most_same a b same = record { vec = subst (IsBelow a.vec) same.vec (below_its
 new_too : (n : ℕ) (checkpoints : List ℕ) (one other : Rows) (row : Row) → AreAlike n checkpoints one other → slice_index checkpoints row.pid ≤ row.interval → IsNew n one row → IsNew n other row
 new_too n checkpoints one other row alike above new = record {
   offer = new.offer;
-  agrees = λ r there same. new.agrees r (alike.back r (subst (λ p. slice_index checkpoints p ≤ r.interval) (sym same.pid) (omega (arith, same.interval))) there) same;
+  agrees = λ r there same at. new.agrees r (alike.back r (subst (λ p. slice_index checkpoints p ≤ r.interval) (sym same) (omega (arith, at))) there) same at;
   absent = λ there. new.absent (alike.back row above there);
   below = λ low there pid_is below. elim (le_or_lt (slice_index checkpoints row.pid) low.interval) [
     | inl inside ↦ new.below low (alike.back low (subst (λ p. slice_index checkpoints p ≤ low.interval) (sym pid_is) inside) there) pid_is below
@@ -78,7 +78,7 @@ new_too n checkpoints one other row alike above new = record {
         let rises : IsAtMost low has.row = alike.other_lawful.rise low has.row there has.there (pid_is ∙ sym has.pid_is) (omega (arith, under, has.interval_is)) in
         let in_one : HasRow one has.row = alike.back has.row (subst (λ p. slice_index checkpoints p ≤ has.row.interval) (sym has.pid_is) (omega (arith, has.interval_is))) has.there in
         at_most_through low has.row row rises (elim (cases_order has.row.interval row.interval) [
-          | inl same ↦ at_most_same has.row row (new.agrees has.row in_one (record { pid = has.pid_is; interval = same }))
+          | inl same ↦ at_most_same has.row row (new.agrees has.row in_one has.pid_is same)
           | inr apart ↦ elim apart [
             | inl less ↦ new.below has.row in_one has.pid_is less
             | inr more ↦ absurd (omega (arith, more, has.interval_is, above))

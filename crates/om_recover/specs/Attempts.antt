@@ -1,4 +1,4 @@
-use Rattle.std.specs.Prelude.{ℕ, List, [], ◌∷◌}
+use Rattle.std.specs.Prelude.{ℕ, List}
 
 -- one climb: the interval of a process at which it starts, the state from which it climbs, and the intervals whose
 -- vectors it read, the newest first
@@ -7,7 +7,3 @@ pub record Attempt : Type 0 where
   pub interval : ℕ
   pub state : List ℕ
   pub looks : List (ℕ × ℕ)
-
--- with one attempt more, which has no looks
-abbrev pub with_attempt : List Attempt → ℕ → ℕ → List ℕ → List Attempt
-with_attempt attempts p x s = record { pid = p; interval = x; state = s; looks = [] } ∷ attempts

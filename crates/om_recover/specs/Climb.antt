@@ -29,7 +29,3 @@ pub record IsClimbed (n : ℕ) (rows : Rows) (state : List ℕ) (p x : ℕ) (cli
   pub above : IsBelow state climbed
   pub started : x ≤ slice_index climbed p
   pub least : (other : List ℕ) → IsRecoverable n rows other → IsBelow state other → x ≤ slice_index other p → IsBelow climbed other
-
--- no recoverable state has process p at x or above
-abbrev pub IsOutOfReach : ℕ → Rows → ℕ → ℕ → Type 0
-IsOutOfReach n rows p x = (other : List ℕ) → IsRecoverable n rows other → slice_index other p < x

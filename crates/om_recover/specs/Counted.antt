@@ -4,7 +4,7 @@ use Rattle.om_recover.specs.Rows.{Rows}
 use Rattle.om_recover.specs.Recoverable.{IsStable, IsRecoverable}
 use Rattle.om_recover.specs.Records.{Kept}
 use Rattle.om_recover.specs.Attempts.{Attempt}
-use Rattle.om_recover.specs.Climb.{IsLeastStable, AreLooks, IsClimbed, IsOutOfReach}
+use Rattle.om_recover.specs.Climb.{IsLeastStable, AreLooks, IsClimbed}
 
 -- of the process's intervals above the floor that were not stable before, the least
 pub record IsLeastNew (before after : Rows) (p floor x : ℕ) : Type 0 where
@@ -26,7 +26,7 @@ pub record IsLater (n : ℕ) (rows : Rows) (low high : List ℕ) (attempt : Atte
 -- state that it began from
 pub data ComesTo (n : ℕ) (rows : Rows) (state : List ℕ) (p x : ℕ) (reached : List ℕ) : Type 0 where
   climbs : IsClimbed n rows state p x reached → ComesTo n rows state p x reached
-  fails : IsOutOfReach n rows p x → reached ≡ state → ComesTo n rows state p x reached
+  fails : ((other : List ℕ) → IsRecoverable n rows other → slice_index other p < x) → reached ≡ state → ComesTo n rows state p x reached
 
 -- attempts, the latest first, of which each begins from what the one before it came to: from one state to another
 pub data AreInTurn (n : ℕ) (rows : Rows) (low : List ℕ) : List Attempt → List ℕ → Type 0 where

@@ -24,10 +24,8 @@ pub record IsGotAt (rows : Rows) (p x : ℕ) (got : List ℕ) : Type 0 where
   pub got_is : row.got ≡ got
 
 -- how many messages from the sender the receiver had got in an interval
-pub record IsGotFrom (rows : Rows) (receiver x sender count : ℕ) : Type 0 where
-  pub got : List ℕ
-  pub there : IsGotAt rows receiver x got
-  pub count_is : count ≡ slice_index got sender
+abbrev pub IsGotFrom : Rows → ℕ → ℕ → ℕ → ℕ → Type 0
+IsGotFrom rows receiver x sender count = (got : List ℕ) × IsGotAt rows receiver x got × (count ≡ slice_index got sender)
 
 -- the rows that are no later than the state
 abbrev pub cut_to : Rows → List ℕ → Rows
@@ -38,7 +36,5 @@ abbrev pub pruned_to : Rows → List ℕ → Rows
 pruned_to rows checkpoints = set.retain rows (λ row. nat_le (slice_index checkpoints row.pid) row.interval)
 
 -- the rows after a prune to the checkpoints that are used for the state
-pub record IsPruned (old : Rows) (state : List ℕ) (new : Rows) : Type 0 where
-  pub checkpoints : List ℕ
-  pub effective : AreEffective old state checkpoints
-  pub rows : new ≡ pruned_to old checkpoints
+abbrev pub IsPruned : Rows → List ℕ → Rows → Type 0
+IsPruned old state new = (checkpoints : List ℕ) × AreEffective old state checkpoints × (new ≡ pruned_to old checkpoints)

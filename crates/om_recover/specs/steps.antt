@@ -1,4 +1,5 @@
 -- What only the crate's own parts rest on: no public clause cites these.
+pub mod Beside
 pub mod Search
 pub mod Trail
 pub mod RowCode

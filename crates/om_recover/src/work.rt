@@ -1,7 +1,7 @@
 ghost use Rattle.std.specs.Prelude.{◌≡◌, ◌<◌, List, [], ◌∷◌, length};
 ghost use Rattle.std.specs.Borrow.{ftrue};
 ghost use Rattle.std.specs.Coded.{coded_list};
-ghost use Rattle.om_recover.specs.Attempts.{Attempt, with_attempt};
+ghost use Rattle.om_recover.specs.Attempts.{Attempt};
 ghost use Rattle.om_recover.specs.steps.Trail.{coded_attempt, after_step, with_look};
 
 use crate::step::Step;
@@ -28,7 +28,7 @@ impl Work {
 
     /// Adds an attempt that starts at an interval of a process, from a state.
     pub fn attempt(&mut self, pid: Pid, x: u32, state: &DepVec)
-        ensures { self.new.attempts ≡ with_attempt self.old.attempts pid x state.now }
+        ensures { self.new.attempts ≡ record { pid = pid; interval = x; state = state.now; looks = [] } ∷ self.old.attempts }
     {
         *self = Work::after(
             self,

@@ -22,7 +22,9 @@ use Rattle.om_run_commands.proofs.RunLemmas.{is_report, ok_at}
 use Rattle.om_run_commands.specs.ClusterScript.{ClusterFile, cluster_file_line, no_settings}
 use Rattle.om_commands.specs.Command.{IsErrorOf, IsScript}
 use Rattle.om_run_commands.specs.steps.Errors.{error_of_run}
-use Rattle.om_run_commands.specs.Follow.{AreMadeBy, IsFollowedAnswer, IsFollowedRun, IsPart, IsPartOf, IsPartly, told_line, told_text}
+use Rattle.om_run_commands.specs.Follow.{IsFollowedAnswer, IsFollowedRun, IsPart, IsPartOf, told_text}
+use Rattle.om_run_commands.specs.steps.Lines.{told_line}
+use Rattle.om_run_commands.specs.Run.{IsByKind}
 use Rattle.om_run_commands.specs.steps.Scripts.{IsErrorOfFollowed}
 use Rattle.om_run_commands.specs.RunText.{ends_text}
 use Rattle.om_commands.specs.declared.error.CommandError.{CommandError}
@@ -87,7 +89,7 @@ text_of_report over_clean script cluster images r report statuses (Ok x) a b c s
     (subst (λ k. Appends b c (ends_text k statuses)) same ends)
 
 -- of a run that comes to no end a part is written
-pub partly_run : (fault : RunFault) (part none : Type 0) → part → IsPartly (error_of_run fault) part none
+pub partly_run : (fault : RunFault) (part none : Type 0) → part → IsByKind (error_of_run fault) part none
 partly_run (running.Turns p) part none is = is
 partly_run (running.GateShut p) part none is = is
 partly_run running.Memory part none is = tt
@@ -96,14 +98,14 @@ partly_run (running.Load p) part none is = is
 partly_run running.NoThread part none is = is
 
 -- of the other two errors no more is known
-pub partly_refused : (error : CommandError) (part none : Type 0) → (error ≡ errors.NoMemory) ⊎ (error ≡ errors.CannotWrite) → IsPartly error part none
-partly_refused error part none (inl is) = subst (λ e. IsPartly e part none) (sym is) tt
-partly_refused error part none (inr is) = subst (λ e. IsPartly e part none) (sym is) tt
+pub partly_refused : (error : CommandError) (part none : Type 0) → (error ≡ errors.NoMemory) ⊎ (error ≡ errors.CannotWrite) → IsByKind error part none
+partly_refused error part none (inl is) = subst (λ e. IsByKind e part none) (sym is) tt
+partly_refused error part none (inr is) = subst (λ e. IsByKind e part none) (sym is) tt
 
 pub partly_of_fault : (fault : FollowFault) (error : CommandError) (part none : Type 0) → (fault ≡ Unwanted → (error ≡ errors.NoMemory) ⊎ (error ≡ errors.CannotWrite))
-    → ((f : RunFault) → fault ≡ Run f → error ≡ error_of_run f) → (fault ≢ Unwanted → part) → IsPartly error part none
+    → ((f : RunFault) → fault ≡ Run f → error ≡ error_of_run f) → (fault ≢ Unwanted → part) → IsByKind error part none
 partly_of_fault Unwanted error part none unwanted run is = partly_refused error part none (unwanted refl)
-partly_of_fault (Run f) error part none unwanted run is = subst (λ e. IsPartly e part none) (sym (run f refl)) (partly_run f part none (is (λ same. cc)))
+partly_of_fault (Run f) error part none unwanted run is = subst (λ e. IsByKind e part none) (sym (run f refl)) (partly_run f part none (is (λ same. cc)))
 
 -- what was told of a cluster's run is a part of the answer to its script
 pub part_told : (over_clean : Type 0) (script : ClusterFile) (cluster : Cluster) (images : List Image) (same_after : Type 0) (a b : Option (List ℕ)) → cluster ≡ script.cluster
@@ -113,7 +115,7 @@ pub part_told : (over_clean : Type 0) (script : ClusterFile) (cluster : Cluster)
 part_told over_clean script cluster images same_after a b same programs is = (
   is.0,
   is.2,
-  λ clean. subst (λ ps. AreMadeBy ps is.0) programs (subst (λ n. AreToldMade (map program_of images) n is.0) (sym (length-map images program_of)) (is.3 clean)),
+  λ clean. subst (λ ps. AreToldMade ps (length ps) is.0) programs (subst (λ n. AreToldMade (map program_of images) n is.0) (sym (length-map images program_of)) (is.3 clean)),
   subst (λ c. Appends a b (told_text c is.0)) same is.1.1,
 )
 
@@ -124,7 +126,7 @@ pub part_of_run : (over_clean : Type 0) (script : ClusterFile) (cluster : Cluste
     → (fault ≡ Unwanted → (error ≡ errors.NoMemory) ⊎ (error ≡ errors.CannotWrite)) → ((f : RunFault) → fault ≡ Run f → error ≡ error_of_run f)
     → IfErr r (λ fault. fault ≢ Unwanted → (told : List Told) × (same_after × Appends a b (told_text cluster told)) × AreInOrder told
     × (over_clean → AreToldMade (map program_of images) (length images) told))
-    → IsPartly error (IsPartOf over_clean script a b) none
+    → IsByKind error (IsPartOf over_clean script a b) none
 part_of_run over_clean script cluster images r fault error same_after a b none is same programs unwanted run partly =
     let told = subst (λ x. IfErr x (λ fault. fault ≢ Unwanted → (told : List Told) × (same_after × Appends a b (told_text cluster told)) × AreInOrder told
     × (over_clean → AreToldMade (map program_of images) (length images) told))) is partly in
@@ -137,7 +139,7 @@ refused_is_error script error (inl is) = subst (IsErrorOfFollowed script) (sym i
 refused_is_error script error (inr is) = subst (IsErrorOfFollowed script) (sym is) tt
 
 -- nothing is written where the script could not be read
-partly_unread : (bytes : List ℕ) (error : CommandError) (part none : Type 0) → IsErrorOf cluster_file_line no_settings (λ _. ⊥) bytes error → none → IsPartly error part none
+partly_unread : (bytes : List ℕ) (error : CommandError) (part none : Type 0) → IsErrorOf cluster_file_line no_settings (λ _. ⊥) bytes error → none → IsByKind error part none
 partly_unread bytes errors.CannotWrite part none is kept = tt
 partly_unread bytes errors.NoMemory part none is kept = tt
 partly_unread bytes errors.OutOfTurns part none never kept = absurd never
@@ -156,14 +158,14 @@ partly_unread bytes errors.Unlike part none is kept = kept
 
 pub partly_of_reading : (over_clean : Type 0) (remaining : Option (List ℕ)) (start : ClusterFile) (error : CommandError) (contents : Option (List ℕ)) → start ≡ no_settings
     → IfSome remaining (λ bytes. IsErrorOf cluster_file_line start (λ _. ⊥) bytes error)
-    → IfSome remaining (λ bytes. IsPartly error (IsPart over_clean bytes contents contents) (Keeps contents contents))
+    → IfSome remaining (λ bytes. IsByKind error (IsPart over_clean bytes contents contents) (Keeps contents contents))
 partly_of_reading over_clean None start error contents is wrong = tt
 partly_of_reading over_clean (Some bytes) start error contents is wrong =
     partly_unread bytes error _ _ (subst (λ s. IsErrorOf cluster_file_line s (λ _. ⊥) bytes error) is wrong) (Keeps-refl contents)
 
 -- a part of the answer to a script is one of the answer to its bytes
 part_of : (over_clean : Type 0) (bytes : List ℕ) (script : ClusterFile) (error : CommandError) (a b : Option (List ℕ)) → IsScript cluster_file_line no_settings bytes script
-    → IsPartly error (IsPartOf over_clean script a b) (Keeps a b) → IsPartly error (IsPart over_clean bytes a b) (Keeps a b)
+    → IsByKind error (IsPartOf over_clean script a b) (Keeps a b) → IsByKind error (IsPart over_clean bytes a b) (Keeps a b)
 part_of over_clean bytes script errors.CannotWrite a b read is = tt
 part_of over_clean bytes script errors.NoMemory a b read is = tt
 part_of over_clean bytes script errors.OutOfTurns a b read is = record { script = script; is_script = read; part = is }
@@ -181,8 +183,8 @@ part_of over_clean bytes script (errors.Mismatch y) a b read is = is
 part_of over_clean bytes script errors.Unlike a b read is = is
 
 pub partly_of_answer : {A : Type 0} (over_clean : Type 0) (remaining : Option (List ℕ)) (start script : ClusterFile) (r : Result A CommandError) (a b : Option (List ℕ)) → start ≡ no_settings
-    → IfSome remaining (λ bytes. IsScript cluster_file_line start bytes script) → IfErr r (λ error. IsPartly error (IsPartOf over_clean script a b) (Keeps a b))
-    → IfSome remaining (λ bytes. IfErr r (λ error. IsPartly error (IsPart over_clean bytes a b) (Keeps a b)))
+    → IfSome remaining (λ bytes. IsScript cluster_file_line start bytes script) → IfErr r (λ error. IsByKind error (IsPartOf over_clean script a b) (Keeps a b))
+    → IfSome remaining (λ bytes. IfErr r (λ error. IsByKind error (IsPart over_clean bytes a b) (Keeps a b)))
 partly_of_answer over_clean None start script r a b is read part = tt
 partly_of_answer over_clean (Some bytes) start script (Ok x) a b is read part = tt
 partly_of_answer over_clean (Some bytes) start script (Err e) a b is read part =

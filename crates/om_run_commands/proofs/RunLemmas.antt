@@ -11,7 +11,7 @@ use Rattle.om_process.specs.declared.image.Image.{Image}
 use Rattle.om_process.specs.declared.status.Status.{Status}
 use Rattle.om_scripts.specs.Programs.{Cluster, programs_of}
 use Rattle.om_runner.specs.Released.{AreAllMade, AreAllReleased}
-use Rattle.om_runner.specs.Reports.{AreAllAlong, AreAlongOf, AreOutputsOf, AreWholeOf, HaveAll, HaveAllOf}
+use Rattle.om_runner.specs.Reports.{AreAlongOf, AreOutputsOf, AreWholeOf, HaveAll, HaveAllOf}
 use Rattle.om_process.specs.Core.{IsEnd}
 use Rattle.om_runner.specs.declared.report.Report.{Report}
 use Rattle.om_runner.specs.declared.fault.RunFault.{RunFault}
@@ -19,7 +19,7 @@ use Rattle.om_runner.specs.declared.fault.RunFault.TheVariants as running
 use Rattle.om_run_commands.specs.steps.Errors.{error_of_run}
 use Rattle.om_run_commands.specs.ClusterScript.{ClusterFile, cluster_file_line, no_settings}
 use Rattle.om_commands.specs.Command.{IsScript}
-use Rattle.om_run_commands.specs.Run.{IsRunAnswer, IsReport, IsErrorOfRun}
+use Rattle.om_run_commands.specs.Run.{IsRunAnswer, IsReport, IsErrorOfRun, IsClusterFile}
 use Rattle.om_run_commands.specs.steps.Scripts.{IsErrorOfFollowed, IsErrorOfScript}
 use Rattle.om_run_commands.specs.RunText.{run_text}
 use Rattle.om_commands.specs.declared.error.CommandError.{CommandError}
@@ -40,13 +40,6 @@ made-by-programs : (programs : List Program) (images : List Image) (released : L
 made-by-programs programs images released same made =
     subst (λ ps. AreAllMade ps (length ps) released) same
     (subst (λ n. AreAllMade (map program_of images) n released) (sym (length-map images program_of)) made)
-
--- along the images is along their programs
-along-by-programs : (programs : List Program) (images : List Image) (statuses : List Status) → map program_of images ≡ programs
-    → AreAlongOf images statuses → AreAllAlong programs (length programs) statuses
-along-by-programs programs images statuses same along =
-    subst (λ ps. AreAllAlong ps (length ps) statuses) same
-    (subst (λ n. AreAllAlong (map program_of images) n statuses) (sym (length-map images program_of)) along)
 
 -- where the outputs are as many as were made, none is left out
 all-of-whole : (images : List Image) (statuses : List Status) (released : List (Vec Output Global)) → AreWholeOf images statuses released
@@ -76,7 +69,6 @@ is_report over_clean programs images report same_programs are_released made proc
       processes = processes ∙ long;
       statuses = number ∙ long;
       ended = ended;
-      along = λ clean. along-by-programs programs images report.statuses.items same_programs (along clean);
       all = λ clean. all-by-programs programs images report.statuses.items report.released.items same_programs (all clean);
     }
 
@@ -147,6 +139,16 @@ of_script bytes script (errors.Damaged y) read never = absurd never
 of_script bytes script (errors.MissingReceipt y) read never = absurd never
 of_script bytes script (errors.Mismatch y) read never = absurd never
 of_script bytes script errors.Unlike read never = absurd never
+
+-- the number of its processes is told of the file that the bytes are
+pub counted : (remaining : Option (List ℕ)) (start script : ClusterFile) (r : Result ℕ CommandError) → start ≡ no_settings
+    → IfSome remaining (λ bytes. IsScript cluster_file_line start bytes script)
+    → IfOk r (λ n. (1 ≤ length script.cluster.processes) × (length script.cluster.processes ≡ n))
+    → IfSome remaining (λ bytes. IfOk r (λ n. (file : IsClusterFile bytes) × (length file.script.cluster.processes ≡ n)))
+counted None start script r is read told = tt
+counted (Some bytes) start script (Err e) is read told = tt
+counted (Some bytes) start script (Ok n) is read told =
+    (record { script = script; is_script = subst (λ s. IsScript cluster_file_line s bytes script) is read; some = told.0 }, told.1)
 
 pub error_of_answer : {A : Type 0} (remaining : Option (List ℕ)) (start script : ClusterFile) (r : Result A CommandError) → start ≡ no_settings
     → IfSome remaining (λ bytes. IsScript cluster_file_line start bytes script) → IfErr r (IsErrorOfScript script)

@@ -31,9 +31,3 @@ IsCheckedRun bytes text = AnswersScript cluster_file_line no_settings (λ script
 abbrev pub IsErrorOfCheckedRun : List ℕ → CommandError → Type 0
 IsErrorOfCheckedRun bytes errors.Unlike = IsClusterFile bytes
 IsErrorOfCheckedRun bytes error = IsErrorOfRun bytes error
-
--- two texts are not the same, or memory ran out
-abbrev pub IsErrorOfPlay : CommandError → Type 0
-IsErrorOfPlay errors.Unlike = Unit {0}
-IsErrorOfPlay errors.NoMemory = Unit {0}
-IsErrorOfPlay error = ⊥

@@ -1,13 +1,12 @@
 -- What the lines of a cluster file mean: its programs and processes, and then how it is run.
-use Rattle.std.specs.Prelude.{ℕ, true, not, List, [], ◌∷◌, ◌++◌, length, Result, Ok, Err, nat_le, if◌then◌else◌, ◌==◌, codes}
+use Rattle.std.specs.Prelude.{ℕ, true, not, List, [], ◌∷◌, ◌++◌, length, Option, Result, Ok, Err, nat_le, if◌then◌else◌, ◌==◌, codes}
 use Rattle.std.specs.Str.{bytes_eq}
-use Rattle.om_isa.specs.declared.ext.Ext.TheVariants.{I, Im}
 use Rattle.om_text.specs.Numbers.{number_of, long_number_of}
 use Rattle.om_text.specs.Reading.{◌>>=◌, refused, or_error}
 use Rattle.om_text.specs.declared.error.LineError.{LineError}
 use Rattle.om_text.specs.declared.error.LineError.TheVariants.{UnknownLine, WrongCount, BadNumber, BadName, NoSuchName, TooMany}
 use Rattle.om_scripts.specs.Named.{is_name, place_of}
-use Rattle.om_scripts.specs.Programs.{Cluster, no_programs, program_line, process_line}
+use Rattle.om_scripts.specs.Programs.{Cluster, no_programs, script_line}
 use Rattle.om_run_commands.specs.declared.cluster_script.TheConstants.{DEFAULT_CHECKPOINT, DEFAULT_FLUSH, DEFAULT_FUEL, MAX_KILLS}
 
 -- what has been read: the programs and processes; which processes are to fail, each in which interval; after how many
@@ -33,7 +32,7 @@ no_settings = record {
 abbrev pub closed : ClusterFile → ClusterFile
 closed script = record script { cluster = record script.cluster { is_closed = true } }
 
--- `kill NAME INTERVAL`, by the words behind its first, as are the others
+-- `kill NAME INTERVAL`, by the words behind its first
 abbrev pub kill_line : ClusterFile → List (List ℕ) → Result ClusterFile LineError
 kill_line script (name ∷ interval ∷ []) = do
   x ← or_error (number_of interval) BadNumber
@@ -43,52 +42,24 @@ kill_line script (name ∷ interval ∷ []) = do
   Ok (closed (record script { kills = script.kills ++ (p, x) ∷ [] }))
 kill_line script _ = Err WrongCount
 
--- a number of receipts, 1 or more
-abbrev pub receipts_in : List (List ℕ) → Result ℕ LineError
-receipts_in (word ∷ []) = do
-  k ← or_error (number_of word) BadNumber
+-- a number of receipts or instructions, 1 or more
+abbrev pub count_in : (List ℕ → Option ℕ) → List (List ℕ) → Result ℕ LineError
+count_in read (word ∷ []) = do
+  k ← or_error (read word) BadNumber
   _ ← refused (k == 0) BadNumber
   Ok k
-receipts_in _ = Err WrongCount
+count_in read _ = Err WrongCount
 
--- a number of instructions, 1 or more
-abbrev pub instructions_in : List (List ℕ) → Result ℕ LineError
-instructions_in (word ∷ []) = do
-  k ← or_error (long_number_of word) BadNumber
-  _ ← refused (k == 0) BadNumber
-  Ok k
-instructions_in _ = Err WrongCount
-
--- `flush K`, in place of what was said before, as the next two
-abbrev pub flush_line : ClusterFile → List (List ℕ) → Result ClusterFile LineError
-flush_line script words = receipts_in words >>= λ k. Ok (closed (record script { flush = k }))
-
--- `checkpoint K`
-abbrev pub checkpoint_line : ClusterFile → List (List ℕ) → Result ClusterFile LineError
-checkpoint_line script words = receipts_in words >>= λ k. Ok (closed (record script { checkpoint = k }))
-
--- `fuel K`
-abbrev pub fuel_line : ClusterFile → List (List ℕ) → Result ClusterFile LineError
-fuel_line script words = instructions_in words >>= λ k. Ok (closed (record script { fuel = k }))
-
--- a line of a program or of a process
-abbrev pub cluster_line : ClusterFile → Result Cluster LineError → Result ClusterFile LineError
-cluster_line script read = read >>= λ cluster. Ok (record script { cluster = cluster })
-
--- a line that says how the cluster is run, by its first word and those behind it
+-- a line that says how the cluster is run, by its first word and those behind it. `flush K`, `checkpoint K` and `fuel K` stand in place
+-- of what was said before
 abbrev pub setting_line : ClusterFile → List ℕ → List (List ℕ) → Result ClusterFile LineError
 setting_line script first words =
     if bytes_eq first (codes "kill") then kill_line script words
-    else (if bytes_eq first (codes "flush") then flush_line script words
-    else (if bytes_eq first (codes "checkpoint") then checkpoint_line script words
-    else (if bytes_eq first (codes "fuel") then fuel_line script words
+    else (if bytes_eq first (codes "flush") then (count_in number_of words >>= λ k. Ok (closed (record script { flush = k })))
+    else (if bytes_eq first (codes "checkpoint") then (count_in number_of words >>= λ k. Ok (closed (record script { checkpoint = k })))
+    else (if bytes_eq first (codes "fuel") then (count_in long_number_of words >>= λ k. Ok (closed (record script { fuel = k })))
     else Err UnknownLine)))
 
 -- a line, by its first word
 abbrev pub cluster_file_line : ClusterFile → List (List ℕ) → Result ClusterFile LineError
-cluster_file_line script [] = Err UnknownLine
-cluster_file_line script (first ∷ words) =
-    if bytes_eq first (codes "program") then cluster_line script (program_line I script.cluster words)
-    else (if bytes_eq first (codes "program-m") then cluster_line script (program_line Im script.cluster words)
-    else (if bytes_eq first (codes "proc") then cluster_line script (process_line script.cluster words)
-    else setting_line script first words))
+cluster_file_line script words = script_line script.cluster (λ next. record script { cluster = next }) (setting_line script) words

@@ -2,9 +2,9 @@
 use Rattle.std.specs.Prelude.{◌≡◌, ℕ, ◌≤◌, List, All, length, map}
 use Rattle.om_manager.specs.Outputs.{HeldOutput, held_of}
 use Rattle.om_process.specs.Process.{Program}
-use Rattle.om_scripts.specs.Programs.{LacksProcesses, programs_of}
+use Rattle.om_scripts.specs.Programs.{programs_of}
 use Rattle.om_runner.specs.Released.{AreAllMade, AreAllReleased}
-use Rattle.om_runner.specs.Reports.{AreAllAlong, HaveAll}
+use Rattle.om_runner.specs.Reports.{HaveAll}
 use Rattle.om_process.specs.Core.{IsEnd}
 use Rattle.om_runner.specs.declared.report.Report.{Report}
 use Rattle.om_commands.specs.Command.{AnswersScript, IsErrorOf, IsScript}
@@ -22,7 +22,6 @@ pub record IsReport (over_clean : Type 0) (programs : List Program) (report : Re
   pub processes : length report.released.items ≡ length programs
   pub statuses : length report.statuses.items ≡ length programs
   pub ended : All IsEnd report.statuses.items
-  pub along : over_clean → AreAllAlong programs (length programs) report.statuses.items
   pub all : over_clean → HaveAll programs (length programs) report.statuses.items report.released.items
 
 -- the outputs of each process, each at the place that is its number
@@ -44,10 +43,18 @@ pub record IsClusterFile (bytes : List ℕ) : Type 0 where
   pub is_script : IsScript cluster_file_line no_settings bytes script
   pub some : 1 ≤ length script.cluster.processes
 
+-- What is known of an error, by its kind: this of one with which a run comes to no end, that of the others; and of a writer that refused and
+-- of want of memory, which come whatever the input is, nothing.
+abbrev pub IsByKind : CommandError → Type 0 → Type 0 → Type 0
+IsByKind errors.CannotWrite run other = Unit {0}
+IsByKind errors.NoMemory run other = Unit {0}
+IsByKind errors.OutOfTurns run other = run
+IsByKind errors.GateShut run other = run
+IsByKind errors.StoreFault run other = run
+IsByKind errors.NoThread run other = run
+IsByKind _ run other = other
+
 -- The error is that of the bytes; those of a run come only where they are a cluster file.
 abbrev pub IsErrorOfRun : List ℕ → CommandError → Type 0
-IsErrorOfRun bytes errors.OutOfTurns = IsClusterFile bytes
-IsErrorOfRun bytes errors.GateShut = IsClusterFile bytes
-IsErrorOfRun bytes errors.StoreFault = IsClusterFile bytes
-IsErrorOfRun bytes errors.NoThread = IsClusterFile bytes
-IsErrorOfRun bytes error = IsErrorOf cluster_file_line no_settings (λ script. LacksProcesses script.cluster) bytes error
+IsErrorOfRun bytes error = IsByKind error (IsClusterFile bytes)
+    (IsErrorOf cluster_file_line no_settings (λ script. length script.cluster.processes ≡ 0) bytes error)

@@ -8,20 +8,12 @@ use Rattle.om_scripts.specs.Programs.{Cluster}
 use Rattle.om_commands.specs.SimText.{name_at, outputs_text}
 use Rattle.om_world.specs.Texts.{status_text}
 
--- the outputs of each process, in the order of the processes
-abbrev pub released_text : Cluster → List (List HeldOutput) → List ℕ
-released_text cluster released =
-    flat_map (λ p. outputs_text (name_at cluster p) (slice_index_or released p [])) (range_with_len 0 (length released))
-
--- the line of how a process ended
-abbrev pub end_line : List ℕ → Status → List ℕ
-end_line name status = codes "end " ++ name ++ 32 ∷ status_text status ++ 10 ∷ []
-
 -- a line for each process, in their order
 abbrev pub ends_text : Cluster → List Status → List ℕ
 ends_text cluster statuses =
-    flat_map (λ p. end_line (name_at cluster p) (slice_index_or statuses p Ready)) (range_with_len 0 (length statuses))
+    flat_map (λ p. codes "end " ++ name_at cluster p ++ 32 ∷ status_text (slice_index_or statuses p Ready) ++ 10 ∷ []) (range_with_len 0 (length statuses))
 
--- what processes put out, and how they ended
+-- the outputs of each process, in the order of the processes, and how they ended
 abbrev pub run_text : Cluster → List (List HeldOutput) → List Status → List ℕ
-run_text cluster released statuses = released_text cluster released ++ ends_text cluster statuses
+run_text cluster released statuses =
+    flat_map (λ p. outputs_text (name_at cluster p) (slice_index_or released p [])) (range_with_len 0 (length released)) ++ ends_text cluster statuses

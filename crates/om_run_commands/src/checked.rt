@@ -1,10 +1,11 @@
 //! What threads report, compared with the run without failures that it comes to.
 
-ghost use Rattle.std.specs.Prelude.{◌≡◌, ◌≤◌, ◌<◌, ℕ, IfErr, IfOk, length, map, string_bytes};
-ghost use Rattle.om_check.specs.Whole.{AreStatusesOf, HasStatus, IsDone, IsWhole};
+ghost use Rattle.std.specs.Prelude.{◌≡◌, ◌⊎◌, ◌≤◌, ◌<◌, ℕ, IfErr, IfOk, Some, length, map, slice_get, string_bytes};
+ghost use Rattle.om_check.specs.Whole.{AreStatusesOf, IsDone, IsWhole};
 ghost use Rattle.om_interval.specs.declared.pid.TheConstants.{MAX_PROCESSES};
 ghost use Rattle.om_scripts.specs.Programs.{programs_of};
-ghost use Rattle.om_run_commands.specs.Check.{IsErrorOfPlay, IsFailureFreeText};
+ghost use Rattle.om_process.specs.Core.{CoreState, move_of, status_of};
+ghost use Rattle.om_run_commands.specs.Check.{IsFailureFreeText};
 ghost use Rattle.om_run_commands.specs.Run.{outputs_of};
 ghost use Rattle.om_run_commands.specs.RunText.{run_text};
 
@@ -37,7 +38,7 @@ fn statuses_of(alloc: Global, world: &World<MemStable>, n: usize) -> Result<Vec<
 // How a process of a world in its end has ended.
 fn status_of(world: &World<MemStable>, pid: Pid) -> Status
     requires { IsDone world.now pid }
-    ensures { HasStatus world.now pid result }
+    ensures { (c : CoreState) × (slice_get world.now.cores pid ≡ Some (Some c)) × (result ≡ status_of (move_of c)) }
 {
     match world.core(pid) {
         Some(core) => core.status(),
@@ -69,7 +70,7 @@ fn compared(
     requires { IsWhole (programs_of programs.now) world.now }
     ensures text { IfOk result (λ text. IsFailureFreeText programs.now (string_bytes text)) }
     ensures same { IfOk result (λ text. string_bytes text ≡ run_text programs.now (outputs_of report.now) report.now.statuses.items) }
-    ensures error { IfErr result IsErrorOfPlay }
+    ensures error { IfErr result (λ error. (error ≡ CommandError.Unlike) ⊎ (error ≡ CommandError.NoMemory)) }
 {
     let n = programs.n();
     if report.released.len() > n || report.statuses.len() > n {
@@ -96,7 +97,7 @@ pub fn checked_text(
     requires { 1 ≤ length programs.now.processes }
     ensures text { IfOk result (λ text. IsFailureFreeText programs.now (string_bytes text)) }
     ensures same { IfOk result (λ text. string_bytes text ≡ run_text programs.now (outputs_of report.now) report.now.statuses.items) }
-    ensures error { IfErr result IsErrorOfPlay }
+    ensures error { IfErr result (λ error. (error ≡ CommandError.Unlike) ⊎ (error ≡ CommandError.NoMemory)) }
 {
     let images = programs.images(alloc)?;
     let n = programs.n();
@@ -116,7 +117,7 @@ pub fn checked_events(
     requires { 1 ≤ length programs.now.processes }
     ensures text { IfOk result (λ r. IsFailureFreeText programs.now (string_bytes r.0)) }
     ensures same { IfOk result (λ r. string_bytes r.0 ≡ run_text programs.now (outputs_of report.now) report.now.statuses.items) }
-    ensures error { IfErr result IsErrorOfPlay }
+    ensures error { IfErr result (λ error. (error ≡ CommandError.Unlike) ⊎ (error ≡ CommandError.NoMemory)) }
 {
     let images = programs.images(alloc)?;
     let n = programs.n();

@@ -1,8 +1,10 @@
 //! Cluster files: the programs and processes of a cluster, and how it is run.
 
 ghost use Rattle.std.specs.Prelude.{◌≡◌, map};
+ghost use Rattle.om_text.specs.Numbers.{long_number_of, number_of};
 ghost use Rattle.om_text.specs.Reading.{Gives};
-ghost use Rattle.om_run_commands.specs.ClusterScript.{ClusterFile, checkpoint_line, closed, cluster_file_line, flush_line, fuel_line, instructions_in, kill_line, no_settings, receipts_in, setting_line};
+ghost use Rattle.om_run_commands.specs.ClusterScript.{ClusterFile, cluster_file_line, count_in, kill_line, no_settings, setting_line};
+ghost use Rattle.om_run_commands.specs.steps.Settings.{checkpoint_line, flush_line, fuel_line};
 
 use om_interval::Pid;
 use om_isa::Ext;
@@ -190,7 +192,7 @@ impl Builder for ClusterScript {
 
 // The number of receipts that the one word stands for.
 fn receipts_in(words: &[&[u8]]) -> Result<u32, LineError>
-    ensures { result ≡ receipts_in (map (λ word. word.now) words.now) }
+    ensures { result ≡ count_in number_of (map (λ word. word.now) words.now) }
 {
     let [word] = words else {
         return Err(LineError::WrongCount);
@@ -203,7 +205,7 @@ fn receipts_in(words: &[&[u8]]) -> Result<u32, LineError>
 
 // The number of instructions that the one word stands for.
 fn instructions_in(words: &[&[u8]]) -> Result<u64, LineError>
-    ensures { result ≡ instructions_in (map (λ word. word.now) words.now) }
+    ensures { result ≡ count_in long_number_of (map (λ word. word.now) words.now) }
 {
     let [word] = words else {
         return Err(LineError::WrongCount);

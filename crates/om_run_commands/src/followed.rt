@@ -5,8 +5,9 @@ ghost use Rattle.std.specs.Io.KnownBytes.{Appends, Keeps};
 ghost use Rattle.om_runner.specs.Telling.{told_of};
 ghost use Rattle.om_run_commands.specs.ClusterScript.{ClusterFile};
 ghost use Rattle.om_run_commands.specs.steps.Errors.{error_of_run};
-ghost use Rattle.om_run_commands.specs.Follow.{IsFollowedAnswer, IsFollowedRun, IsPart, IsPartOf, IsPartly, told_line, told_text};
-ghost use Rattle.om_run_commands.specs.Run.{IsErrorOfRun};
+ghost use Rattle.om_run_commands.specs.Follow.{IsFollowedAnswer, IsFollowedRun, IsPart, IsPartOf, told_text};
+ghost use Rattle.om_run_commands.specs.steps.Lines.{told_line};
+ghost use Rattle.om_run_commands.specs.Run.{IsByKind, IsErrorOfRun};
 ghost use Rattle.om_run_commands.specs.steps.Scripts.{IsErrorOfFollowed};
 ghost use Rattle.om_run_commands.specs.RunText.{ends_text};
 ghost use Rattle.om_commands.specs.SimText.{name_at};
@@ -107,7 +108,7 @@ pub fn run_followed<
         × IsFollowedRun ((store : O.Store) → IsTrue (O.Store.is_clean store)) bytes text
         × Appends (W.contents writer) (W.contents result.1) text)) }
     ensures error { IfSome (I.remaining reader.old) (λ bytes. IfErr result.0 (IsErrorOfRun bytes)) }
-    ensures partly { IfSome (I.remaining reader.old) (λ bytes. IfErr result.0 (λ error. IsPartly error
+    ensures partly { IfSome (I.remaining reader.old) (λ bytes. IfErr result.0 (λ error. IsByKind error
         (IsPart ((store : O.Store) → IsTrue (O.Store.is_clean store)) bytes (W.contents writer) (W.contents result.1))
         (Keeps (W.contents writer) (W.contents result.1)))) }
 {
@@ -130,7 +131,7 @@ fn answer<R: Threads + Wait + Clock + Sync, O: Opener<R> + Sync, W: Write + Drop
         × IsFollowedAnswer ((store : O.Store) → IsTrue (O.Store.is_clean store)) script.now text
         × Appends (W.contents writer) (W.contents result.1) text) }
     ensures error { IfErr result.0 (IsErrorOfFollowed script.now) }
-    ensures partly { IfErr result.0 (λ error. IsPartly error
+    ensures partly { IfErr result.0 (λ error. IsByKind error
         (IsPartOf ((store : O.Store) → IsTrue (O.Store.is_clean store)) script.now (W.contents writer) (W.contents result.1))
         (Keeps (W.contents writer) (W.contents result.1))) }
 {

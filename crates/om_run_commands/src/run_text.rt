@@ -2,7 +2,9 @@
 
 ghost use Rattle.std.specs.Prelude.{◌≡◌, ◌++◌, ◌≤◌, length, map, IfOk, OnOk, string_bytes};
 ghost use Rattle.om_manager.specs.Outputs.{held_of};
-ghost use Rattle.om_run_commands.specs.RunText.{end_line, ends_text, released_text, run_text};
+ghost use Rattle.om_run_commands.specs.RunText.{ends_text, run_text};
+ghost use Rattle.om_run_commands.specs.steps.Lines.{released_text};
+ghost use Rattle.om_run_commands.specs.steps.Lines.{end_line};
 
 use om_commands::{name_of, push_outputs, push_status};
 use om_manager::Output;

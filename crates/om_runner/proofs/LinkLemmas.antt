@@ -6,7 +6,7 @@ use Rattle.std.proofs.lemmas.Option.{none-some, same_Some, slice_get-get_or, sli
 use Rattle.om_format.specs.declared.message.Message.{Message}
 use Rattle.om_format.specs.declared.queue.QueueEntry.{QueueEntry}
 use Rattle.om_process.specs.Core.{CoreState}
-use Rattle.om_process.specs.Frames.{frame_of}
+use Rattle.om_process.specs.steps.Pieces.{frame_of}
 use Rattle.om_board.specs.Inboxes.{Line, Traffic, Takings, MatchPut, MatchTake}
 use Rattle.om_board.specs.declared.inbox.PutAnswer.{PutAnswer}
 use Rattle.om_board.specs.declared.inbox.PutAnswer.TheVariants.{Put, Full, Gone}

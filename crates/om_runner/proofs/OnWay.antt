@@ -17,19 +17,21 @@ use Rattle.om_stable.specs.Content.{Content, with_checkpoint, kept_by_cut, kept_
 use Rattle.om_stable.proofs.RecordLemmas.{get-insert_here, get-insert_apart, get-retained}
 use Rattle.om_member.specs.Handed.{held_as}
 use Rattle.om_board.specs.Made.{IsOutputOf}
-use Rattle.om_process.specs.Accepts.{Answers, IsDue, taken, as_received}
+use Rattle.om_process.specs.Accepts.{Answers, IsDue, taken}
+use Rattle.om_process.specs.steps.Pieces.{as_received, receipts_of, KeepQueues}
 use Rattle.om_process.specs.declared.accept.Accept.{Accept}
 use Rattle.om_process.specs.declared.accept.Accept.TheVariants.{Taken, Stranger, Orphan, Repeat, Ahead, NotWaiting, Full, Memory}
 use Rattle.om_process.specs.Claims.{HasEntry}
 use Rattle.om_process.specs.declared.queues.Made.{Made}
 use Rattle.om_process.specs.Frames.{outputs_of}
-use Rattle.om_process.specs.Kept.{made_entry, queue_at}
+use Rattle.om_process.specs.Kept.{queue_at}
+use Rattle.om_process.specs.steps.Numbers.{made_entry}
 use Rattle.om_process.proofs.Making.{part_has}
 use Rattle.om_process.specs.Core.{CoreState, CoreTurns, cluster_size, move_of, status_of, with_now}
 use Rattle.om_process.specs.declared.status.Status.{Status}
-use Rattle.om_process.specs.Parts.{Keeps, KeepQueues}
+use Rattle.om_process.specs.Parts.{Keeps}
 use Rattle.om_process.specs.Process.{Process, Received, delivered, empty_queue, made, started}
-use Rattle.om_process.specs.Replays.{process_of, receipts_of}
+use Rattle.om_process.specs.Replays.{process_of}
 use Rattle.om_process.specs.Starting.{started_core}
 use Rattle.om_process.specs.Stored.{StandsAfter, Anyone, IsReplay}
 use Rattle.om_process.specs.Stores.{HasGainedLog, HasGainedCheckpoint, checkpointed, flushed}
@@ -70,8 +72,8 @@ way_trimmed m bounds s on = (on.0, (on.1.0, on.1.1, keeps_trim bounds on.1.0 s o
 
 pub way_replayed : (m : Member) (x : ℕ) (held : Content) (t : Process) → AreOnWay m held → StandsAfter Anyone held x x m.own m.n t → IsOnWay m t
 way_replayed m x held t stored stands =
-    let at = stands.all.begins.stored in
-    let from = stored stands.checkpoint.head.interval at.bytes at.stands stands.checkpoint at.spelled in
+    let at = stands.begins.stored in
+    let from = stored stands.checkpoint.head.interval at.0 at.1 stands.checkpoint at.2 in
     (from.0 ++ receipts_of stands.receipts, replayed_along m.program m.own m.n (process_of stands.checkpoint) t from.0 stands.receipts from.1 stands.replayed)
 
 -- what keeps fewer entries has made as many

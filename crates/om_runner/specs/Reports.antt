@@ -13,7 +13,7 @@ use Rattle.om_process.specs.declared.image.Image.{Image}
 use Rattle.om_process.specs.declared.status.Status.{Status}
 use Rattle.om_runner.specs.Released.{AreAllMade}
 use Rattle.om_runner.specs.declared.fault.RunFault.{RunFault}
-use Rattle.om_runner.specs.declared.fault.RunFault.TheVariants.{Turns, GateShut, Memory, Fault, Load, NoThread}
+use Rattle.om_runner.specs.declared.fault.RunFault.TheVariants.{Turns, GateShut, Fault, Load}
 
 -- the status is that of a state of process `own` of n along the program, for some receipts and turns
 abbrev pub IsStatusAlong : Program → ℕ → ℕ → Status → Type 0
@@ -26,14 +26,10 @@ AreAlongOver is_clean images statuses stores = (p : ℕ) (image : Image) (status
     → slice_get images p ≡ Some image → slice_get statuses p ≡ Some status → slice_get stores p ≡ Some store
     → IsTrue (is_clean store) → IsStatusAlong (program_of image) p (length images) status
 
--- by process: its status is that of a state of a process of n along its program
-abbrev pub AreAllAlong : List Program → ℕ → List Status → Type 0
-AreAllAlong programs n statuses = (p : ℕ) (program : Program) (status : Status)
-    → slice_get programs p ≡ Some program → slice_get statuses p ≡ Some status → IsStatusAlong program p n status
-
--- the same of images
+-- by process: its status is that of a state along its image
 abbrev pub AreAlongOf : List Image → List Status → Type 0
-AreAlongOf images statuses = AreAllAlong (map program_of images) (length images) statuses
+AreAlongOf images statuses = (p : ℕ) (program : Program) (status : Status) → slice_get (map program_of images) p ≡ Some program
+    → slice_get statuses p ≡ Some status → IsStatusAlong program p (length images) status
 
 -- by process: each of its outputs is the one of its number that its image makes along some receipts
 abbrev pub AreOutputsOf : List Image → List (Vec Output Global) → Type 0
@@ -70,8 +66,7 @@ process_of (Turns pid) = Some pid
 process_of (GateShut pid) = Some pid
 process_of (Fault pid) = Some pid
 process_of (Load pid) = Some pid
-process_of Memory = None
-process_of NoThread = None
+process_of _ = None
 
 -- the fault is of one of n processes, or of none
 abbrev pub IsFaultOf : ℕ → RunFault → Type 0

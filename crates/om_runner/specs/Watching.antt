@@ -4,16 +4,13 @@ use Rattle.std.specs.List.{All, Any, sum_by}
 use Rattle.om_board.specs.declared.front.Front.{Front}
 use Rattle.om_process.specs.Core.{IsEnd}
 use Rattle.om_runner.specs.declared.sight.Doing.{Doing}
-use Rattle.om_runner.specs.declared.sight.Doing.TheVariants.{Begins, Up, Called, Joined, Down}
+use Rattle.om_runner.specs.declared.sight.Doing.TheVariants.{Up}
 use Rattle.om_runner.specs.declared.sight.Sight.{Sight}
 
 -- the process has come to its end
 abbrev pub HasEnded : Doing → Type 0
 HasEnded (Up status) = IsEnd status
-HasEnded Begins = ⊥
-HasEnded Called = ⊥
-HasEnded Joined = ⊥
-HasEnded Down = ⊥
+HasEnded _ = ⊥
 
 -- a number of u64, the highest where there is no room
 abbrev pub capped : ℕ → ℕ

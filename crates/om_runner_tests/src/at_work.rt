@@ -28,7 +28,7 @@ pub struct Meets<'a> {
 
 impl<'a> Stable for Meets<'a> {
     ghost use Rattle.std.specs.Prelude.{true};
-    ghost use Rattle.om_stable.specs.Stop.{failed_behind};
+    ghost use Rattle.om_stable.specs.steps.Stop.{failed_behind};
 
     ghost content = { λ m. m.inner.inner };
 

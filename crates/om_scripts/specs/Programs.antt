@@ -1,15 +1,16 @@
 -- What the lines mean that give a cluster's programs and its processes.
-use Rattle.std.specs.Prelude.{◌≡◌, ℕ, ◌*◌, ◌≤◌, Bool, false, true, not, ◌||◌, List, [], ◌∷◌, ◌++◌, length, flat_map, map, slice_index_or, Result, Ok, Err, is_some, nat_lt, nat_le}
+use Rattle.std.specs.Prelude.{◌≡◌, ℕ, ◌*◌, ◌≤◌, Bool, false, true, not, ◌||◌, List, [], ◌∷◌, ◌++◌, length, flat_map, map, slice_index_or, Result, Ok, Err, codes, if◌then◌else◌, is_some, nat_lt, nat_le}
 use Rattle.std.specs.Int.{to_le_bytes, w32}
+use Rattle.std.specs.Str.{bytes_eq}
 use Rattle.om_interval.specs.declared.pid.TheConstants.{MAX_PROCESSES}
 use Rattle.om_isa.specs.declared.ext.Ext.{Ext}
-use Rattle.om_isa.specs.declared.ext.Ext.TheVariants.{I}
+use Rattle.om_isa.specs.declared.ext.Ext.TheVariants.{I, Im}
 use Rattle.om_isa.specs.Memory.{is_memory_size}
 use Rattle.om_process.specs.Process.{Program}
 use Rattle.om_text.specs.Numbers.{number_of, hex_word}
-use Rattle.om_text.specs.Reading.{◌>>=◌, refused, or_error}
+use Rattle.om_text.specs.Reading.{◌>>=◌, all_read, refused, or_error}
 use Rattle.om_text.specs.declared.error.LineError.{LineError}
-use Rattle.om_text.specs.declared.error.LineError.TheVariants.{WrongCount, BadNumber, BadWord, BadName, NameTaken, NoSuchName, OutOfPlace, TooMany, BadSize, ImageTooLong}
+use Rattle.om_text.specs.declared.error.LineError.TheVariants.{UnknownLine, WrongCount, BadNumber, BadWord, BadName, NameTaken, NoSuchName, OutOfPlace, TooMany, BadSize, ImageTooLong}
 use Rattle.om_scripts.specs.Named.{is_name, place_of}
 
 -- what has been read: the programs by name, the processes by name, each with the place of its program, and whether other
@@ -36,21 +37,9 @@ program_at cluster place = (slice_index_or cluster.programs place ([], record { 
 abbrev pub program_name : Cluster → ℕ → List ℕ
 program_name cluster place = (slice_index_or cluster.programs place ([], record { image = []; size = 0; ext = I })).0
 
--- no line of a process was read
-abbrev pub LacksProcesses : Cluster → Type 0
-LacksProcesses cluster = length cluster.processes ≡ 0
-
 -- the program of each process
 abbrev pub programs_of : Cluster → List Program
 programs_of cluster = map (λ e. program_at cluster e.1) cluster.processes
-
--- the words of the machine that the words of the line write, if each writes one
-abbrev pub words_in : List (List ℕ) → Result (List ℕ) LineError
-words_in [] = Ok []
-words_in (word ∷ words) = do
-  w ← or_error (hex_word word) BadWord
-  ws ← words_in words
-  Ok (w ∷ ws)
 
 -- the program of an image in words
 abbrev pub program_in : Ext → ℕ → List ℕ → Program
@@ -60,7 +49,7 @@ program_in ext size words = record { image = flat_map (to_le_bytes w32) words; s
 abbrev pub program_line : Ext → Cluster → List (List ℕ) → Result Cluster LineError
 program_line ext cluster (name ∷ size ∷ words) = do
   bytes ← or_error (number_of size) BadNumber
-  image ← words_in words
+  image ← all_read hex_word BadWord words
   _ ← refused (not (is_name name)) BadName
   _ ← refused (is_some (place_of name cluster.programs)) NameTaken
   _ ← refused cluster.is_closed OutOfPlace
@@ -79,3 +68,13 @@ process_line cluster (name ∷ program ∷ []) = do
   _ ← refused (nat_le MAX_PROCESSES (length cluster.processes)) TooMany
   Ok (record cluster { processes = cluster.processes ++ (name, place) ∷ [] })
 process_line cluster _ = Err WrongCount
+
+-- a line of a script that has programs and processes, by its first word: of one of these, behind which the script is as is said,
+-- or another
+abbrev pub script_line : {S : Type 0} → Cluster → (Cluster → S) → (List ℕ → List (List ℕ) → Result S LineError) → List (List ℕ) → Result S LineError
+script_line cluster behind other [] = Err UnknownLine
+script_line cluster behind other (first ∷ words) =
+    if bytes_eq first (codes "program") then (program_line I cluster words >>= λ next. Ok (behind next))
+    else (if bytes_eq first (codes "program-m") then (program_line Im cluster words >>= λ next. Ok (behind next))
+    else (if bytes_eq first (codes "proc") then (process_line cluster words >>= λ next. Ok (behind next))
+    else other first words))

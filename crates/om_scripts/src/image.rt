@@ -4,8 +4,10 @@ ghost use Rattle.std.specs.Prelude.{◌≡◌, ◌*◌, ◌^◌, ◌<◌, ◌≤
 ghost use Rattle.std.specs.Int.{to_le_bytes, w32};
 ghost use Rattle.om_isa.specs.Memory.{is_memory_size};
 ghost use Rattle.om_process.specs.Images.{program_of};
-ghost use Rattle.om_scripts.specs.Programs.{IsProgram, program_in, words_in};
-ghost use Rattle.om_text.specs.Reading.{Gives};
+ghost use Rattle.om_scripts.specs.Programs.{IsProgram, program_in};
+ghost use Rattle.om_text.specs.Reading.{Gives, all_read};
+ghost use Rattle.om_text.specs.Numbers.{hex_word};
+ghost use Rattle.om_text.specs.declared.error.LineError.{LineError};
 
 use byteorder::{ByteOrder, LittleEndian};
 use om_isa::Ext;
@@ -15,7 +17,7 @@ use std::alloc::{AllocError, Global};
 
 // The words of the machine that the words write.
 pub(crate) fn words_in(alloc: Global, words: &[&[u8]]) -> Result<Vec<u32>, BuildError<LineError>>
-    ensures words { Gives (λ ws. ws.items) result (words_in (map (λ word. word.now) words.now)) }
+    ensures words { Gives (λ ws. ws.items) result (all_read hex_word LineError.BadWord (map (λ word. word.now) words.now)) }
 {
     let mut all = Vec::new(alloc);
     for word in words {

@@ -4,6 +4,7 @@ use Rattle.om_manager.specs.declared.answers.Gathered.TheVariants.{Finished}
 use Rattle.om_process.specs.declared.accept.Accept.TheVariants as accepts
 use Rattle.om_process.specs.declared.status.Status.{Status}
 use Rattle.om_process.specs.declared.status.Status.TheVariants as statuses
+pub use Rattle.om_world.specs.Events.{process_of}
 use Rattle.om_world.specs.declared.event.Answer.{Answer}
 use Rattle.om_world.specs.declared.event.Answer.TheVariants as answers
 use Rattle.om_world.specs.declared.event.Event.{Event}
@@ -12,19 +13,6 @@ use Rattle.om_world.specs.declared.event.Refusal.{Refusal}
 use Rattle.om_world.specs.declared.event.Refusal.TheVariants as refusals
 use Rattle.om_sheet.specs.declared.shown.Shown.{Shown}
 use Rattle.om_sheet.specs.declared.shown.Shown.TheVariants as shows
-
--- the process of an event
-abbrev pub process_of : Event → Option ℕ
-process_of (events.Run process fuel) = Some process
-process_of (events.Give process frame) = Some process
-process_of (events.Flush process) = Some process
-process_of (events.Checkpoint process) = Some process
-process_of (events.Resend process) = Some process
-process_of (events.Trim process) = Some process
-process_of (events.Fail process) = Some process
-process_of (events.Join process) = Some process
-process_of (events.Resume process) = Some process
-process_of events.Prune = None
 
 -- the end of a program
 abbrev pub end_of : Status → Option Status

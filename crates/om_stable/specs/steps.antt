@@ -1,3 +1,4 @@
 -- What only the crate's own parts rest on: no public clause cites these.
 pub mod Codes
 pub mod Between
+pub mod Stop

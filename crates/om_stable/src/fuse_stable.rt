@@ -15,7 +15,7 @@ pub enum Stop {
 
 impl Stop {
     ghost use Rattle.std.specs.Prelude.{is_err, OnErr, Err};
-    ghost use Rattle.om_stable.specs.Stop.{stops_next, after_call};
+    ghost use Rattle.om_stable.specs.steps.Stop.{stops_next, after_call};
 
     // Counts a call, and answers Fault at the one to be stopped.
     fn pass(&mut self) -> Result<(), StoreError>
@@ -62,7 +62,7 @@ impl<S: Stable> Stable for FuseStable<S> {
     ghost use Rattle.std.specs.Prelude.{◌≡◌, Some};
     ghost use Rattle.om_stable.specs.Count.{Rose};
     ghost use Rattle.std.specs.Bool.{MatchBool};
-    ghost use Rattle.om_stable.specs.Stop.{stops_next, after_call, failed_behind};
+    ghost use Rattle.om_stable.specs.steps.Stop.{stops_next, after_call, failed_behind};
     ghost use Rattle.om_stable.specs.declared.error.StoreError.TheVariants.{Fault};
 
     ghost content = { λ f. S.content f.inner };

@@ -20,7 +20,7 @@ use Rattle.om_world.specs.declared.event.Event.TheVariants as events
 use Rattle.om_world.specs.declared.event.Refusal.{Refusal}
 use Rattle.om_world.specs.declared.event.Refusal.TheVariants as refusals
 use Rattle.om_svg.specs.AnswerText.{recovery_text, why_word}
-use Rattle.om_world.specs.Texts.{accept_text, accept_word, answer_text, event_text, refusal_word, status_text}
+use Rattle.om_world.specs.Texts.{accept_word, answer_text, event_text, refusal_word, status_text}
 use Rattle.om_svg.specs.Plain.{HasPlainNames, is_plain, is_plain_text}
 use Rattle.om_svg.specs.ShapeText.{changed_text, more_text, numbers_text, told_text}
 use Rattle.om_svg.specs.WordText.{bytes_text, label_text, name_text, standing_text, what_text}
@@ -149,7 +149,7 @@ plain-accept_word accepts.Stranger = refl
 plain-accept_word accepts.Full = refl
 plain-accept_word accepts.Memory = refl
 
-plain-accept : (accept : Accept) → is_plain_text (accept_text accept) ≡ true
+plain-accept : (accept : Accept) → is_plain_text (answer_text (answers.Given accept)) ≡ true
 plain-accept (accepts.Taken x) = plain-decimal x
 plain-accept accepts.Repeat = refl
 plain-accept accepts.Ahead = refl

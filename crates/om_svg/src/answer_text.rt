@@ -2,7 +2,8 @@
 
 ghost use Rattle.std.specs.Prelude.{◌≡◌, ◌++◌, ◌∷◌, codes, decimal, OnOk, string_bytes};
 ghost use Rattle.om_svg.specs.AnswerText.{recovery_text, why_word};
-ghost use Rattle.om_world.specs.Texts.{accept_text, accept_word, answer_text, event_text, gathered_word, refusal_word, status_text};
+ghost use Rattle.om_world.specs.Texts.{accept_word, answer_text, event_text, refusal_word, status_text};
+ghost use Rattle.om_world.specs.declared.event.Answer.{Answer};
 
 use om_manager::Gathered;
 use om_process::{Accept, Status};
@@ -85,7 +86,7 @@ pub fn push_answer(text: &mut String, answer: Answer) -> Result<(), AllocError>
 
 // Writes what a process answers to a frame.
 fn push_accept(text: &mut String, accept: Accept) -> Result<(), AllocError>
-    ensures { OnOk result (string_bytes text.new ≡ string_bytes text.old ++ accept_text accept) }
+    ensures { OnOk result (string_bytes text.new ≡ string_bytes text.old ++ answer_text (Answer.Given accept)) }
 {
     match accept {
         Accept::Taken(x) => write!(text, "taken {x}"),
@@ -94,7 +95,7 @@ fn push_accept(text: &mut String, accept: Accept) -> Result<(), AllocError>
 }
 
 fn gathered_word(gathered: Gathered) -> &'static str
-    ensures { result.now ≡ gathered_word gathered }
+    ensures { result.now ≡ answer_text (Answer.Gathered gathered) }
 {
     match gathered {
         Gathered::Waiting => "waiting",

@@ -18,9 +18,9 @@ use Rattle.sqlite.specs.Listing.{understood}
 use Rattle.sqlite.specs.Effect.{Database}
 use Rattle.sqlite.specs.State.{State, mode_of, Executes, ExecutesInside}
 use Rattle.sqlite.proofs.Callers.{IsPlain, command_of, statement_of, runs_as, one_step}
-use Rattle.om_tables.specs.Tables.{checkpoints, store_schema, stored, stored_row}
+use Rattle.om_tables.specs.Tables.{checkpoints, store_schema, stored_row}
 use Rattle.om_tables.specs.Store.{Holds}
-use Rattle.om_tables.specs.steps.Statements.{GoesOn}
+use Rattle.om_tables.specs.steps.Statements.{GoesOn, stored}
 use Rattle.om_stable.specs.Content.{Content}
 use Rattle.std.specs.FinMap.{insert, entries, entries-insert}
 use Rattle.std.specs.Cmp.{nat_cmp_total}

@@ -7,7 +7,8 @@ use Rattle.sqlite.specs.Effect.{Database}
 use Rattle.sqlite.specs.State.{State}
 use Rattle.om_stable.specs.Content.{Records, Content}
 use Rattle.om_tables.specs.Tables.{stored_row}
-use Rattle.om_tables.specs.Store.{entry_in, records_in, rows_for, content_in, Holds, IsFormed}
+use Rattle.om_tables.specs.Store.{records_in, rows_for, content_in, Holds, IsFormed}
+use Rattle.om_tables.specs.steps.Statements.{entry_in}
 
 read_back : (m : Records) → records_in (rows_for m) ≡ m
 read_back m =

@@ -21,9 +21,9 @@ use Rattle.sqlite.specs.Effect.{Database}
 use Rattle.sqlite.specs.State.{State, HasCleanDisk, mode_of, Executes, ExecutesInside, KeepsCommit, FailsToQuery, IsNotRun}
 use Rattle.sqlite.proofs.Callers.{IsPlain, command_of, statement_of, runs_as, one_step}
 use Rattle.sqlite.specs.Steps.{FailsToCommit}
-use Rattle.om_tables.specs.Tables.{receipts, store_schema, stored, stored_row}
+use Rattle.om_tables.specs.Tables.{receipts, store_schema, stored_row}
 use Rattle.om_tables.specs.Store.{Holds}
-use Rattle.om_tables.specs.steps.Statements.{Makes, GoesOn, Goes, Performs}
+use Rattle.om_tables.specs.steps.Statements.{Makes, GoesOn, Goes, Performs, stored}
 use Rattle.om_stable.specs.Content.{Content}
 use Rattle.std.specs.FinMap.{insert, entries, put, entries-insert, nat_cmp-IsAntisymmetric}
 use Rattle.std.specs.FinMap.Entries.{by_order}

@@ -20,11 +20,8 @@ abbrev pub bytes_in : Value → List ℕ
 bytes_in (Blob b) = b
 bytes_in _ = []
 
-abbrev pub entry_in : Row → ℕ × List ℕ
-entry_in r = (number_in (column r 0), bytes_in (column r 2))
-
 abbrev pub records_in : List Row → Records
-records_in rows = finite.from_sorted (map entry_in rows)
+records_in rows = finite.from_sorted (map (λ r. (number_in (column r 0), bytes_in (column r 2))) rows)
 
 -- what the two tables hold
 abbrev pub content_in : Database → Content

@@ -38,8 +38,5 @@ abbrev pub store_schema : Schema
 store_schema = record { tables = receipts ∷ checkpoints ∷ []; indexes = []; views = [] }
 
 -- the row as it is stored: the rowid stands for x
-abbrev pub stored : ℕ → List ℕ → Row
-stored x body = Int (pos x) ∷ Null ∷ Bytes body ∷ []
-
 abbrev pub stored_row : ℕ × List ℕ → Row
-stored_row e = stored e.0 e.1
+stored_row e = Int (pos e.0) ∷ Null ∷ Bytes e.1 ∷ []

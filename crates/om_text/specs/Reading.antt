@@ -1,5 +1,5 @@
 -- Readings that end in a value or in an error.
-use Rattle.std.specs.Prelude.{◌≡◌, Bool, true, false, Option, None, Some, Result, Ok, Err}
+use Rattle.std.specs.Prelude.{◌≡◌, ℕ, List, [], ◌∷◌, Bool, true, false, Option, None, Some, Result, Ok, Err}
 use Rattle.om_text.specs.declared.error.BuildError.{BuildError}
 use Rattle.om_text.specs.declared.error.BuildError.TheVariants as errors
 
@@ -19,12 +19,16 @@ abbrev pub or_error : {A F : Type 0} → Option A → F → Result A F
 or_error None error = Err error
 or_error (Some x) error = Ok x
 
--- a function failed with the error of the reading, or for want of memory
-abbrev pub Fails : {Y F : Type 0} → BuildError F → Result Y F → Type 0
-Fails errors.Memory reading = Unit {0}
-Fails (errors.Invalid error) reading = reading ≡ Err error
+-- the reading of each word, in order; where one has none, the error
+abbrev pub all_read : {A F : Type 0} → (List ℕ → Option A) → F → List (List ℕ) → Result (List A) F
+all_read read error [] = Ok []
+all_read read error (word ∷ words) = do
+  x ← or_error (read word) error
+  xs ← all_read read error words
+  Ok (x ∷ xs)
 
 -- what a function returned, seen by view, is what the reading gives, unless memory ran out
 abbrev pub Gives : {X Y F : Type 0} → (X → Y) → Result X (BuildError F) → Result Y F → Type 0
 Gives view (Ok x) reading = reading ≡ Ok (view x)
-Gives view (Err error) reading = Fails error reading
+Gives view (Err (errors.Invalid error)) reading = reading ≡ Err error
+Gives view (Err errors.Memory) reading = Unit {0}

@@ -25,8 +25,8 @@ use Rattle.om_world.specs.declared.entry.Entry.{Entry}
 use Rattle.om_world.specs.declared.event.Refusal.{Refusal}
 use Rattle.om_world.specs.declared.event.Refusal.TheVariants as why
 use Rattle.om_world.specs.Changes.{IsUp}
-use Rattle.om_world.specs.World.{Health, WorldState, health_of, recovered}
-use Rattle.om_world.specs.steps.Members.{content_in, core_in, health_in, place_in, place_of, round_in, seen, sound_in}
+use Rattle.om_world.specs.World.{Health, WorldState, recovered}
+use Rattle.om_world.specs.steps.Members.{content_in, core_in, health_in, place_in, place_of, round_in, seen, sound_in, health_of}
 use Rattle.om_world.specs.steps.Moves.{HasCalled, HasRunAt, HasTold, IsOfferedAt, IsToldUpTo, TakesTurnsAt, told_of}
 use Rattle.om_world.specs.steps.Pruning.{HasPruned}
 use Rattle.om_world.specs.steps.Running.{HasHandedIn}

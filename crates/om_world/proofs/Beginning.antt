@@ -12,7 +12,8 @@ use Rattle.om_stable.specs.Content.{Content, nothing}
 use Rattle.om_stable.proofs.RecordLemmas.{get-insert_here, get-insert_apart}
 use Rattle.om_process.specs.Process.{Process, Program, empty_queue, started}
 use Rattle.om_process.specs.Turns.{Reaches}
-use Rattle.om_process.specs.Parts.{KeepQueues, Keeps}
+use Rattle.om_process.specs.Parts.{Keeps}
+use Rattle.om_process.specs.steps.Pieces.{KeepQueues}
 use Rattle.om_process.specs.Core.{CoreState}
 use Rattle.om_process.specs.Claims.{AtInterval, RowOf}
 use Rattle.om_process.specs.Starting.{started_core}
@@ -29,12 +30,14 @@ use Rattle.om_manager.specs.declared.presence.Presence.TheVariants.{Away, Failed
 use Rattle.om_world.specs.declared.entry.Entry.{Entry}
 use Rattle.om_world.specs.declared.place.Place.{Place}
 use Rattle.om_world.specs.Live.{program_at}
-use Rattle.om_world.specs.World.{Health, WorldState, Past, history, IsEmpty, IsKnown, all_clean}
+use Rattle.om_world.specs.World.{Health, WorldState, IsEmpty, IsKnown, all_clean}
+use Rattle.om_world.specs.steps.Past.{Past, history}
 use Rattle.om_world.specs.Started.{HaveFirst, IsLoadable, IsNew, IsStarted}
 use Rattle.om_world.specs.steps.Sound.{HasBytes, HasShape, IsCoreOf, IsRunning, IsStored, IsUpIn, IsWorld, Sound}
 use Rattle.om_world.specs.steps.Starting.{AreStarted}
 use Rattle.om_world.proofs.Gaining.{checkpoint_stored}
 use Rattle.om_world.proofs.Holding.{before_map}
+use Rattle.om_world.proofs.Legal.{each_legal}
 use Rattle.om_world.proofs.Lists.{inside, length-map, map_at, none_in, once, there}
 
 -- ---- lists
@@ -272,7 +275,7 @@ up_begun n m p program new = record {
 
 sound_begun : {S : Type 0} (content : S → Content) (health : S → Health) (IsSound : S → Type 0) (programs : List Program) (cores : List (Option CoreState)) (xs ys : List S) (m : ManagerState) → IsBegun content health IsSound programs cores xs ys m → IsKnown (begun content health programs cores xs ys m) → Sound (begun content health programs cores xs ys m)
 sound_begun content health IsSound programs cores xs ys m b known = record {
-  legal = tt;
+  legal = each_legal programs [] [] tt;
   frames = λ i f at. absurd (none_in i f at);
   outputs = λ p i o at. absurd (none_in i o (sym (ap (λ l. slice_get l i) (ap (λ l. slice_index_or l p []) b.fresh.outputs ∙ index_same (length programs) p [])) ∙ at));
   rows = λ row has. first_claim programs m row b.fresh has;

@@ -2,7 +2,8 @@
 use Rattle.std.proofs.Common.{◌≡◌, ◌≢◌, ℕ, ◌<◌, List, Option, Some, true, false, Result, Ok, Err, sym, ap, ◌∙◌, subst, arith}
 use Rattle.std.specs.Prelude.{All, slice_get, slice_index}
 use Rattle.std.proofs.lemmas.List.{set-set}
-use Rattle.om_manager.specs.Rounds.{Gathers, with_failed}
+use Rattle.om_manager.specs.Rounds.{Gathers}
+use Rattle.om_manager.specs.steps.Presences.{with_failed}
 use Rattle.om_manager.specs.Sound.{KeepsReleased}
 use Rattle.om_manager.specs.State.{ManagerState, process_count}
 use Rattle.om_manager.specs.declared.answers.FailError.{FailError}
@@ -13,7 +14,7 @@ use Rattle.om_world.specs.declared.event.Answer.TheVariants as answers
 use Rattle.om_world.specs.declared.event.Event.{Event}
 use Rattle.om_world.specs.declared.event.Refusal.{Refusal}
 use Rattle.om_world.specs.declared.place.Place.{Place}
-use Rattle.om_world.specs.Failures.{FailHappened, HasNews, IsToDeclare, gathered, taken_down}
+use Rattle.om_world.specs.Failures.{HasNews, IsToDeclare, gathered, taken_down}
 use Rattle.om_world.specs.Happened.{Happened}
 use Rattle.om_world.specs.World.{IsEmpty, IsKnown, WorldState, all_clean}
 use Rattle.om_world.specs.steps.Gathering.{HasDeclaredAt, IsWhyNot, declared}
@@ -34,13 +35,13 @@ known_down w v p e = known_by w v (ap (λ (x : WorldState). x.origins) e) (ap (�
 known_declared : (v z : WorldState) (p : ℕ) (told : Gathered) → HasDeclaredAt v p (Ok told) z → IsKnown z → IsKnown v
 known_declared v z p told h = known_by v z (ap (λ (x : WorldState). x.origins) h.others) (ap (λ (x : WorldState). x.health) h.others)
 
-pub fail_happened : (w v z : WorldState) (p : ℕ) (told : Gathered) → IsToDeclare w p → v ≡ taken_down w p false → HasDeclaredAt v p (Ok told) z → IsKnown z → FailHappened w p told z
-fail_happened w v z p told due e h known = record {
-  declares = due;
-  manager = subst (λ (m : ManagerState). Gathers (with_failed m p) m told z.manager) (ap (λ (x : WorldState). x.manager) e) (h.manager (known_declared v z p told h known));
-  others = h.others ∙ ap (λ (x : WorldState). gathered (declared x p) told z.manager) e
-      ∙ ap (λ l. gathered (record (taken_down w p true) { places = l }) told z.manager) (set-set w.places p (Place.Down false) (Place.Down true));
-}
+pub fail_happened : (w v z : WorldState) (p : ℕ) (told : Gathered) → IsToDeclare w p → v ≡ taken_down w p false → HasDeclaredAt v p (Ok told) z → IsKnown z → Happened w (Event.Fail p) (answers.Gathered told) z
+fail_happened w v z p told due e h known = (
+  due,
+  subst (λ (m : ManagerState). Gathers (with_failed m p) m told z.manager) (ap (λ (x : WorldState). x.manager) e) (h.manager (known_declared v z p told h known)),
+  h.others ∙ ap (λ (x : WorldState). gathered (declared x p) told z.manager) e
+      ∙ ap (λ l. gathered (record (taken_down w p true) { places = l }) told z.manager) (set-set w.places p (Place.Down false) (Place.Down true)),
+)
 
 pub fail_keeps : (w v z : WorldState) (p : ℕ) (told : Gathered) → v ≡ taken_down w p false → HasDeclaredAt v p (Ok told) z → Keeps w z
 fail_keeps w v z p told e h = record {
@@ -58,8 +59,8 @@ no_news IsSound xs w p i known (IsToDeclare.joined at never) news = never news
 no_news IsSound xs w p i known (IsToDeclare.refused at never) news = never news
 
 refused_by : (w z : WorldState) (p : ℕ) (fault : FailError) → IsToDeclare w p → z ≡ taken_down w p false → IsWhyNot fault w.manager p → Happened w (Event.Fail p) (answers.Refused (refusal_of_failure fault)) z
-refused_by w z p failing.Spent due e why = record { declares = due; why = why; others = e }
-refused_by w z p failing.Memory due e why = record { declares = due; why = why; others = e }
+refused_by w z p failing.Spent due e why = (due, why, e)
+refused_by w z p failing.Memory due e why = (due, why, e)
 refused_by w z p failing.Stranger due e why = why
 refused_by w z p (failing.Stale told) due e why = why
 

@@ -5,7 +5,8 @@ use Rattle.std.proofs.lemmas.List.{get_or_default}
 use Rattle.om_interval.specs.Starts.{newest_of}
 use Rattle.om_process.specs.Core.{CoreState}
 use Rattle.om_manager.specs.Gatherings.{presence_of, presences_of}
-use Rattle.om_manager.specs.Rounds.{Failing, Fails, Gathers, Joining, MayJoin, with_failed, with_joined}
+use Rattle.om_manager.specs.Rounds.{Failing, Fails, Gathers, Joining, MayJoin}
+use Rattle.om_manager.specs.steps.Presences.{with_failed, with_joined}
 use Rattle.om_manager.specs.State.{ManagerState}
 use Rattle.om_manager.specs.declared.answers.FailError.{FailError}
 use Rattle.om_manager.specs.declared.answers.FailError.TheVariants as failing
@@ -18,7 +19,8 @@ use Rattle.om_world.specs.declared.entry.Entry.{Entry}
 use Rattle.om_world.specs.declared.place.Place.{Place}
 use Rattle.om_world.specs.Changes.{IsUp}
 use Rattle.om_world.specs.Failures.{HasNews}
-use Rattle.om_world.specs.World.{WorldState, past_of}
+use Rattle.om_world.specs.World.{WorldState}
+use Rattle.om_world.specs.steps.Past.{past_of}
 use Rattle.om_world.specs.steps.Gathering.{HasDeclaredAt, HasEntered, HasGathered, IsWhyNot, StandsIn}
 use Rattle.om_world.specs.steps.Sound.{HasShape, IsWorld, Runs, Sound}
 use Rattle.om_world.proofs.Gathering.{IsEntering, now_in, running_interval, sound_gathered}

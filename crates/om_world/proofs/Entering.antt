@@ -13,7 +13,8 @@ use Rattle.om_recover.specs.declared.note.NoteError.TheVariants as notes
 use Rattle.om_recover.specs.declared.row.RowKind.TheVariants.{Log}
 use Rattle.om_recover.specs.Rows.{Rows}
 use Rattle.om_manager.specs.Notes.{after_note}
-use Rattle.om_manager.specs.Rounds.{Gathers, with_joined}
+use Rattle.om_manager.specs.Rounds.{Gathers}
+use Rattle.om_manager.specs.steps.Presences.{with_joined}
 use Rattle.om_manager.specs.State.{ManagerState, held_by, process_count, released_by}
 use Rattle.om_manager.specs.declared.answers.Gathered.{Gathered}
 use Rattle.om_manager.specs.declared.answers.JoinError.{JoinError}
@@ -37,6 +38,7 @@ use Rattle.om_world.proofs.Declared.{known_by}
 use Rattle.om_world.proofs.Keeping.{keeps_recorded, prefix_then}
 use Rattle.om_world.proofs.Lists.{once, set_there}
 use Rattle.om_world.proofs.Recording.{has_noted, has_stored, known_mid, some_noted, store_refused}
+use Rattle.om_world.proofs.Staying.{all_stay}
 
 -- ---- the gathering stays open while rows and outputs are told
 noted_gathering : (m : ManagerState) (note : Note) (rows : Rows) (state : List ℕ) → (after_note m note rows state).gathering ≡ m.gathering
@@ -71,20 +73,21 @@ handed_over w mid v z p count end up h t k known =
     let all = n.1.all in
     let stays = n.0.changes.stays in
     record {
-      up = up;
-      before = h.there;
+      changes = record {
+        up = up;
+        before = h.there;
+        cores = ap (λ (x : WorldState). x.cores) k.others ∙ n.0.changes.cores ∙ ap (λ rows. set w.cores p (Some (with_pending rest rows))) (drop_all count rest.pending (omega arith));
+        stays = all_stay w z
+            (ap (λ (x : WorldState). x.programs) k.others ∙ ap (λ (x : WorldState). x.programs) stays)
+            (ap (λ (x : WorldState). x.live) k.others ∙ ap (λ (x : WorldState). x.live) stays)
+            (ap (λ (x : WorldState). x.places) k.others ∙ ap (λ (x : WorldState). x.places) stays)
+            (ap (λ (x : WorldState). x.rounds) k.others ∙ ap (λ (x : WorldState). x.rounds) stays)
+            (ap (λ (x : WorldState). x.origins) k.others ∙ ap (λ (x : WorldState). x.origins) stays);
+      };
       stored = (s.0, s.1, s.2, s.3, ap (λ (x : WorldState). x.contents) k.others ∙ s.4);
       told = v.manager;
       noted = subst (λ rows. AreTold w.manager w.manager.round p rows v.manager) (take_all count rest.pending (omega arith)) n.0.manager;
       handed = k.more;
-      cores = ap (λ (x : WorldState). x.cores) k.others ∙ n.0.changes.cores ∙ ap (λ rows. set w.cores p (Some (with_pending rest rows))) (drop_all count rest.pending (omega arith));
-      stays = record {
-        programs = ap (λ (x : WorldState). x.programs) k.others ∙ stays.programs;
-        live = ap (λ (x : WorldState). x.live) k.others ∙ stays.live;
-        places = ap (λ (x : WorldState). x.places) k.others ∙ stays.places;
-        rounds = ap (λ (x : WorldState). x.rounds) k.others ∙ stays.rounds;
-        origins = ap (λ (x : WorldState). x.origins) k.others ∙ stays.origins;
-      };
       frames = ap (λ (x : WorldState). x.frames) k.others ∙ n.0.frames;
     }
 

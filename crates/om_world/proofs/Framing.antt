@@ -7,10 +7,12 @@ use Rattle.std.proofs.lemmas.List.{append_assoc, append-nil, take_all}
 use Rattle.om_format.specs.declared.message.Message.{Message}
 use Rattle.om_format.specs.declared.queue.QueueEntry.{QueueEntry}
 use Rattle.om_process.specs.Core.{CoreState, cluster_size}
-use Rattle.om_process.specs.Frames.{frame_at, frame_of, messages_to}
+use Rattle.om_process.specs.Frames.{frame_at, messages_to}
+use Rattle.om_process.specs.steps.Pieces.{frame_of}
 use Rattle.om_process.specs.Kept.{numbered}
 use Rattle.om_process.proofs.Numbering.{length-numbered}
-use Rattle.om_world.specs.Changes.{message_of, messages_behind, messages_in}
+use Rattle.om_world.specs.Changes.{message_of, messages_behind}
+use Rattle.om_world.specs.steps.Running.{messages_in}
 use Rattle.om_world.specs.steps.Running.{messages_past}
 use Rattle.om_world.proofs.Lists.{none_in, none_some, once, there}
 

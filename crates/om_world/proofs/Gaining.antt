@@ -13,7 +13,8 @@ use Rattle.om_process.specs.declared.row.PendingRow.{PendingRow}
 use Rattle.om_process.specs.Process.{Process, Program, Received}
 use Rattle.om_process.specs.Replays.{received_of, process_of}
 use Rattle.om_process.specs.Core.{CoreState, LoggedRecord}
-use Rattle.om_process.specs.Stores.{SpellLog, log_row, flushed, checkpointed, checkpoint_row, first_logged, HasGainedLog, HasGainedCheckpoint}
+use Rattle.om_process.specs.Stores.{log_row, flushed, checkpointed, checkpoint_row, first_logged, HasGainedLog, HasGainedCheckpoint}
+use Rattle.om_process.specs.steps.Pieces.{SpellLog}
 use Rattle.om_process.specs.Claims.{AtInterval, RowOf, CheckpointOf, RecordOf}
 use Rattle.om_process.proofs.Making.{interval_along}
 use Rattle.om_recover.specs.declared.row.RowKind.{RowKind}
@@ -22,7 +23,8 @@ use Rattle.om_world.specs.declared.place.Place.{Place}
 use Rattle.om_world.specs.Changes.{HasGained, stored}
 use Rattle.om_world.specs.Failures.{HasNews}
 use Rattle.om_world.specs.Live.{program_at}
-use Rattle.om_world.specs.World.{Health, WorldState, Past, past_of, history}
+use Rattle.om_world.specs.World.{Health, WorldState}
+use Rattle.om_world.specs.steps.Past.{Past, past_of, history}
 use Rattle.om_world.specs.steps.Sound.{HasBytes, HasShape, IsCoreOf, IsPending, IsRunning, IsStored, IsUpIn, KeptWithin, LogAlong, Runs, Sound, kind_of, receipts_in}
 use Rattle.om_world.proofs.Kept.{remade, interval_is, row_of}
 use Rattle.om_world.proofs.Lists.{at_change, either, once}

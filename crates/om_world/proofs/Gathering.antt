@@ -30,12 +30,14 @@ use Rattle.om_manager.proofs.ManagerLemmas.{finishes_keeps}
 use Rattle.om_world.specs.declared.entry.Entry.{Entry}
 use Rattle.om_world.specs.declared.place.Place.{Place}
 use Rattle.om_world.specs.Failures.{gathered}
-use Rattle.om_world.specs.Live.{LegalAfter, cut_list, program_at, receipt_of, received}
-use Rattle.om_world.specs.World.{Past, WorldState, history, output_entry, past_of, recovered}
+use Rattle.om_world.specs.Live.{cut_list, program_at, receipt_of, received}
+use Rattle.om_world.specs.steps.Legal.{LegalAfter}
+use Rattle.om_world.specs.World.{WorldState, output_entry, recovered}
+use Rattle.om_world.specs.steps.Past.{Past, history, past_of}
 use Rattle.om_world.specs.steps.Sound.{HasShape, IsFrame, IsOld, IsRunning, IsStored, KeptWithin, LogOf, NothingAbove, Runs, Sound}
 use Rattle.om_world.proofs.Finish.{closed_legal}
 use Rattle.om_world.proofs.FramesCut.{frames_cut}
-use Rattle.om_world.proofs.Legal.{append_apart, append_none, at_cut, cut, cut_first, received_more, take_take}
+use Rattle.om_world.proofs.Legal.{append_apart, append_none, at_cut, cut, cut_first, legal_after, received_more, take_take}
 use Rattle.om_world.proofs.Lists.{inside, none_in, once, there}
 use Rattle.om_world.proofs.Ordered.{depends_at, length-depends, take_long}
 use Rattle.om_world.proofs.Raising.{beyond, less, recovery_row, recovery_within}
@@ -223,7 +225,7 @@ state_closed w p q h s other = elim (less p n) [
   | inl lt ↦ elim (less q n) [
     | inr ge ↦
         let none = greatest_none q (take (recovered w.manager p) (history (past_of w) p))
-        (λ r i at is. let few = from_known w.programs p [] w.live (λ x j f. absurd (none_in j x f)) s.legal r i (of_take (history (past_of w) p) (recovered w.manager p) i r at) in omega arith) in
+        (λ r i at is. let few = from_known w.programs p [] w.live (λ x j f. absurd (none_in j x f)) (legal_after w.programs [] w.live s.legal) r i (of_take (history (past_of w) p) (recovered w.manager p) i r at) in omega arith) in
         omega arith
     | inl few ↦
         let row = recovery_row w p h lt in

@@ -17,7 +17,8 @@ use Rattle.om_process.proofs.Making.{below_along, made_at, part_has, same_entry}
 use Rattle.om_process.proofs.Numbering.{has_entry_at, length-numbered}
 use Rattle.om_process.proofs.Runs.{leads_grow, turns_grow}
 use Rattle.om_recover.specs.Rows.{HasRow}
-use Rattle.om_manager.specs.Notes.{IsDifferent, IsLatest, NotesOutput, Offer, earlier, other, with_output}
+use Rattle.om_manager.specs.Notes.{IsDifferent, IsLatest, NotesOutput, earlier, other, with_output}
+use Rattle.om_manager.specs.steps.Offers.{Offer}
 use Rattle.om_manager.specs.Outputs.{HeldOutput}
 use Rattle.om_manager.specs.Sound.{IsManager, KeepsReleased}
 use Rattle.om_manager.specs.State.{ManagerState, held_by, process_count, released_by}
@@ -27,8 +28,9 @@ use Rattle.om_manager.specs.declared.answers.OutputError.{OutputError}
 use Rattle.om_manager.specs.declared.answers.OutputError.TheVariants as refused
 use Rattle.om_world.specs.Changes.{HoldsMore, IsUp, made_by}
 use Rattle.om_world.specs.Live.{program_at}
-use Rattle.om_world.specs.World.{WorldState, Past, past_of, history, output_entry}
-use Rattle.om_world.specs.steps.Running.{AreHanded, AreHandedUpTo, HasHandedIn, IsHanded, offer_of, outputs_from}
+use Rattle.om_world.specs.World.{WorldState, output_entry}
+use Rattle.om_world.specs.steps.Past.{Past, past_of, history}
+use Rattle.om_world.specs.steps.Running.{AreHanded, AreHandedUpTo, HasHandedIn, IsHanded, held_as, offer_of, outputs_from}
 use Rattle.om_world.specs.steps.Sound.{HasShape, IsCoreOf, IsRunning, IsWorld, Sound}
 use Rattle.om_world.proofs.Keeping.{keeps_same, prefix_then}
 use Rattle.om_world.proofs.Kept.{remade, shape_same}
@@ -117,7 +119,7 @@ held_long : (m : ManagerState) (p : ℕ) (out : HeldOutput) → p < length m.out
 held_long m p out lt = ap length (get_or-set_same m.outputs p (held_by m p ++ out ∷ []) [] lt) ∙ length-append (held_by m p) (out ∷ [])
 
 -- an output that is not refused is there, or it is the next one
-taken : (old new : ManagerState) (o : Offer) (note : OutputNote) → NotesOutput old o (Ok note) new → ((slice_get (held_by old o.pid) o.seq ≡ Some o.output) × (new ≡ old)) ⊎ (new ≡ with_output old o.pid o.output)
+taken : (old new : ManagerState) (o : Offer) (note : OutputNote) → NotesOutput old o.pid o.round o.seq o.output (Ok note) new → ((slice_get (held_by old o.pid) o.seq ≡ Some o.output) × (new ≡ old)) ⊎ (new ≡ with_output old o.pid o.output)
 taken old new o notes.Known n = inl (n.1, n.2)
 taken old new o notes.Released n = inr n.2
 taken old new o notes.Held n = inr n.2
@@ -139,11 +141,11 @@ pub handed_more : (old new : ManagerState) (round p : ℕ) (ms : List Made) → 
 handed_more old new round p [] lt is same = subst (λ m. HoldsMore old p m × KeepsReleased old m × IsManager m × (process_count m ≡ process_count old)) (sym same) (more_none old p, keeps_same old, is, refl)
 handed_more old new round p (m ∷ ms) lt is h =
     let mid = h.0 in let t = h.2 in
-    let places = t.below.same_places in let many = is.places in
-    let rest = handed_more mid new round p ms (omega arith) t.sound h.3 in
+    let places = t.keeps.below.same_places in let many = is.places in
+    let rest = handed_more mid new round p ms (omega arith) t.keeps.sound h.3 in
     let one : HoldsMore old p mid = elim (taken old mid (offer_of round p m) h.1 t.answers) [ inl known ↦ subst (HoldsMore old p) (sym known.1) (more_none old p) | inr new ↦ (record { interval = m.interval; bytes = m.bytes } ∷ [], new) ] in (
       more_then old mid new p (omega arith) one rest.0,
-      λ q few. prefix_then (released_by old q) (released_by mid q) (released_by new q) (t.released q few) (rest.1 q (omega arith)),
+      λ q few. prefix_then (released_by old q) (released_by mid q) (released_by new q) (t.keeps.released q few) (rest.1 q (omega arith)),
       rest.2,
       rest.3 ∙ sym places,
     )
@@ -160,9 +162,9 @@ one_handed w mid round p next e note h s lt at made t = elim (taken w.manager mi
       let out : HeldOutput = record { interval = e.interval; bytes = e.body } in
       let size = h.size in let places = h.manager.places in let here : p < length w.manager.outputs = omega arith in
       let long : length (held_by mid p) ≡ length (held_by w.manager p) + 1 = ap (λ (m : ManagerState). length (held_by m p)) new ∙ held_long w.manager p out here in
-      let g = goes_on_by w.manager mid h.manager t.below t.released (λ row has. subst (λ (m : ManagerState). HasRow m.rows row) (sym new) has)
+      let g = goes_on_by w.manager mid h.manager t.keeps.below t.keeps.released (λ row has. subst (λ (m : ManagerState). HasRow m.rows row) (sym new) has)
       (ap (λ (m : ManagerState). m.starts) new) (ap (λ (m : ManagerState). m.round) new) (ap (λ (m : ManagerState). m.gathering) new) (ap (λ (m : ManagerState). m.backs) new) (ap (λ (m : ManagerState). m.last) new) in (
-        shape_same w w.live w.frames mid w.contents w.health h refl t.sound (sym t.below.same_places),
+        shape_same w w.live w.frames mid w.contents w.health h refl t.keeps.sound (sym t.keeps.below.same_places),
         sound_manager w mid s g
             (λ q i o f. elim (held_last w.manager p q i out o here (subst (λ (m : ManagerState). slice_get (held_by m q) i ≡ Some o) new f)) [
               | inl old ↦ s.outputs q i o old
@@ -181,20 +183,20 @@ at_get (y ∷ xs) (suc i) x d at = at_get xs i x d at
 
 -- and it is refused for want of memory alone
 not_refused : (w : WorldState) (new : ManagerState) (round p next : ℕ) (e : QueueEntry) (fault : OutputError) → HasShape w → Sound w → p < length w.programs → round ≡ w.manager.round → next ≡ length (held_by w.manager p) → IsMade (past_of w) p next e
-    → NotesOutput w.manager (offer_of round p (made_as next e)) (Err fault) new → fault ≡ refused.Memory
+    → NotesOutput w.manager p round next (held_as (made_as next e)) (Err fault) new → fault ≡ refused.Memory
 not_refused w new round p next e refused.Memory h s lt now at made n = refl
 not_refused w new round p next e refused.Stranger h s lt now at made n = let le = n.0 in let size = h.size in absurd (omega arith)
 not_refused w new round p next e (refused.Stale told) h s lt now at made n = absurd (n.1 now)
 not_refused w new round p next e (refused.Gap told) h s lt now at made n = let is = n.1 in let le = n.2 in absurd (omega arith)
 not_refused w new round p next e refused.Differs h s lt now at made n = absurd (same n.1)
   where
-    latest : IsLatest w.manager (offer_of round p (made_as next e))
+    latest : IsLatest w.manager p (held_as (made_as next e))
     latest = λ k d below.
         let o = there (held_by w.manager p) k below in
         subst (λ (x : HeldOutput). x.interval ≤ e.interval) (sym (at_get (held_by w.manager p) k o.0 d o.1))
         (made_in_order (program_at w.programs p) p (length w.programs) (length w.programs) k next (history (past_of w) p) (output_entry o.0) e (omega arith) (s.outputs p k o.0 o.1) made)
 
-    same : IsDifferent w.manager (offer_of round p (made_as next e)) → ⊥
+    same : IsDifferent w.manager p next (held_as (made_as next e)) → ⊥
     same (other below differs) = omega arith
     same (earlier is late) = late latest
 
@@ -359,7 +361,7 @@ memory_alone w p c (Err fault) m t k =
     let f = t.refused in
     let e = at_numbered next t.count es f.0 (ap (λ ms. slice_get ms t.count) (sym k.numbers) ∙ f.1) in
     not_refused (with_m w m) m c.round p (next + t.count) e.0 fault k.shape k.sound k.inside k.round (sym k.long) (k.behind.1 t.count e.0 e.1)
-    (subst (λ x. NotesOutput m (offer_of c.round p x) (Err fault) m) e.2 f.2)
+    (subst (λ (x : Made). NotesOutput m p c.round x.seq (held_as x) (Err fault) m) e.2 f.2)
 
 pub has_handed : {S : Type 0} (IsSound : S → Type 0) (xs : List S) (w : WorldState) (p : ℕ) (end : Result (Unit {0}) OutputError) (m : ManagerState) → IsWorld IsSound xs w → IsUp w p → IsHandedIn w p end m
     → HasHandedIn w p end (remade w w.live w.frames w.cores m w.contents w.health)

@@ -6,7 +6,7 @@ use Rattle.om_format.specs.Queues.{QueueRecord}
 use Rattle.om_stable.specs.Content.{Content}
 use Rattle.om_process.specs.Process.{Received}
 use Rattle.om_process.specs.Core.{CoreState}
-use Rattle.om_process.specs.Parts.{KeepQueues}
+use Rattle.om_process.specs.steps.Pieces.{KeepQueues}
 use Rattle.om_process.specs.Dependencies.{count_from}
 use Rattle.om_process.specs.Claims.{AtInterval, HasEntry, Makes}
 use Rattle.om_recover.specs.Cutting.{IsEffective}
@@ -15,7 +15,8 @@ use Rattle.om_recover.specs.declared.row.RowKind.{RowKind}
 use Rattle.om_recover.specs.declared.row.RowKind.TheVariants.{Checkpoint, Log}
 use Rattle.om_manager.specs.State.{held_by, released_by}
 use Rattle.om_world.specs.Live.{program_at}
-use Rattle.om_world.specs.World.{WorldState, past_of, history, recovered, output_entry, IsKnown}
+use Rattle.om_world.specs.World.{WorldState, recovered, output_entry, IsKnown}
+use Rattle.om_world.specs.steps.Past.{past_of, history}
 use Rattle.om_world.specs.Holds.{HasRecord, Holds, IsWanted, ReleasedFirst, StandsAt}
 use Rattle.om_world.specs.steps.Sound.{HasBytes, HasShape, IsBefore, IsOld, IsRunning, IsStored, IsWorld, Runs, Sound}
 use Rattle.om_world.proofs.Kept.{row_of}
@@ -114,7 +115,7 @@ wanted_has w row held c e wanted (inl has) = has
 wanted_has w row held c e wanted (inr old) = absurd (not_old row.kind row.interval c old.checkpoint wanted old.before (e.greatest old.checkpoint old.there old.within))
 
 true_record : (w : WorldState) (p c : ℕ) (held : Content) (kind : RowKind) (x : ℕ) → IsStored (past_of w) p held → x ≤ length (history (past_of w) p) → IsWanted c kind x → HasBytes held kind x
-    → HasRecord (past_of w) p held kind x
+    → HasRecord w p held kind x
 true_record w p c held Checkpoint x stored within wanted has = let t = stored.checkpoints x has.0 within has.1 in (has.0, has.1, t.0, t.1, t.2, t.3, t.4)
 true_record w p c held Log x stored within wanted has = let t = stored.receipts x has.0 (omega (arith, wanted)) within has.1 in (has.0, has.1, t.0, t.1, t.2)
 

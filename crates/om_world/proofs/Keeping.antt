@@ -19,12 +19,12 @@ keeps_same m p lt = prefix_same (released_by m p)
 told_keeps : (old new : ManagerState) (round p : ℕ) (rows : List PendingRow) → AreTold old round p rows new → KeepsReleased old new
 told_keeps old new round p [] same = subst (λ m. KeepsReleased old m) (sym same) (keeps_same old)
 told_keeps old new round p (row ∷ rows) told = λ q lt.
-    let places = told.2.below.same_places in
-    prefix_then (released_by old q) (released_by told.0 q) (released_by new q) (told.2.released q lt) (told_keeps told.0 new round p rows told.3 q (omega arith))
+    let places = told.2.keeps.below.same_places in
+    prefix_then (released_by old q) (released_by told.0 q) (released_by new q) (told.2.keeps.released q lt) (told_keeps told.0 new round p rows told.3 q (omega arith))
 
 told_size : (old new : ManagerState) (round p : ℕ) (rows : List PendingRow) → AreTold old round p rows new → process_count new ≡ process_count old
 told_size old new round p [] same = ap process_count same
-told_size old new round p (row ∷ rows) told = let places = told.2.below.same_places in let rest = told_size told.0 new round p rows told.3 in omega arith
+told_size old new round p (row ∷ rows) told = let places = told.2.keeps.below.same_places in let rest = told_size told.0 new round p rows told.3 in omega arith
 
 -- an event that leaves the manager and the stores
 pub keeps_by : (old new : WorldState) → new.manager ≡ old.manager → new.health ≡ old.health → new.origins ≡ old.origins → Keeps old new

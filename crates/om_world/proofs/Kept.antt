@@ -14,7 +14,8 @@ use Rattle.om_process.specs.Replays.{FitsReceipt, received_of, process_of}
 use Rattle.om_process.specs.Parts.{Grow}
 use Rattle.om_process.specs.Dependencies.{count_from}
 use Rattle.om_process.specs.Core.{CoreState, LoggedRecord, cluster_size, with_now}
-use Rattle.om_process.specs.Accepts.{as_received, IsDue, taken, receipt_for}
+use Rattle.om_process.specs.Accepts.{IsDue, taken, receipt_for}
+use Rattle.om_process.specs.steps.Pieces.{as_received}
 use Rattle.om_process.specs.Claims.{AtInterval, Makes, RowOf, CheckpointOf, RecordOf, LeadsToWait}
 use Rattle.om_process.specs.Stores.{first_logged}
 use Rattle.om_process.proofs.Runs.{turns_then, turns_grow, leads_more}
@@ -30,7 +31,8 @@ use Rattle.om_world.specs.declared.entry.Entry.{Entry}
 use Rattle.om_world.specs.declared.place.Place.{Place}
 use Rattle.om_world.specs.Failures.{HasNews}
 use Rattle.om_world.specs.Live.{program_at, receipt_of, received, MayFollow}
-use Rattle.om_world.specs.World.{Health, WorldState, Past, past_of, history, recovered, entry_of, output_entry}
+use Rattle.om_world.specs.World.{Health, WorldState, recovered, entry_of, output_entry}
+use Rattle.om_world.specs.steps.Past.{Past, past_of, history}
 use Rattle.om_world.specs.steps.Sound.{Sound, HasShape, Said, IsFrame, KeptWithin, IsStored, NothingAbove, LogAlong, LogOf, receipts_in, IsCoreOf, IsRunning, IsUpIn, Runs}
 use Rattle.om_world.proofs.Legal.{at_more, one_more, received-append}
 use Rattle.om_world.proofs.Lists.{none_in, once, at_change, set_apart, there, inside, either, none_some}

@@ -19,6 +19,7 @@ pub mod Resuming
 pub mod Returned
 pub mod Returning
 pub mod Standing
+pub mod Staying
 pub mod Starting
 pub mod TakenDown
 pub mod Telling

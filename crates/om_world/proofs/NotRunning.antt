@@ -4,7 +4,8 @@ use Rattle.om_world.specs.declared.event.Answer.{Answer}
 use Rattle.om_world.specs.declared.event.Event.{Event}
 use Rattle.om_world.specs.declared.event.Refusal.{Refusal}
 use Rattle.om_world.specs.declared.event.Refusal.TheVariants as refusals
-use Rattle.om_world.specs.Happened.{Happened, NotRunning, Refused}
+use Rattle.om_world.specs.Happened.{Happened, Refused}
+use Rattle.om_world.specs.steps.NotRunning.{NotRunning}
 use Rattle.om_world.specs.World.{WorldState}
 use Rattle.om_world.specs.steps.Moves.{answered}
 

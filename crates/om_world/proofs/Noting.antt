@@ -18,7 +18,8 @@ use Rattle.om_manager.specs.State.{ManagerState}
 use Rattle.om_manager.specs.declared.answers.RecordError.{RecordError}
 use Rattle.om_manager.specs.declared.answers.RecordError.TheVariants.{Refused}
 use Rattle.om_world.specs.Changes.{IsUp, row_for, stored}
-use Rattle.om_world.specs.World.{Health, WorldState, Past, past_of, history, IsKnown, all_clean}
+use Rattle.om_world.specs.World.{Health, WorldState, IsKnown, all_clean}
+use Rattle.om_world.specs.steps.Past.{Past, past_of, history}
 use Rattle.om_world.specs.steps.Moves.{AreTold, Gained, IsCalled, IsTold, IsToldUpTo, HasCalled, HasTold, after_store}
 use Rattle.om_world.specs.steps.Sound.{HasBytes, HasShape, IsOld, IsPending, IsWorld, Sound, kind_of}
 use Rattle.om_world.proofs.FailureCounts.{called_counts, counted}
@@ -64,7 +65,7 @@ abbrev with_m : WorldState → ManagerState → WorldState
 with_m w m = remade w w.live w.frames w.cores m w.contents w.health
 
 shape_told : (w : WorldState) (m : ManagerState) (round p : ℕ) (row : PendingRow) (note : Note) → HasShape w → IsTold w.manager round p row (Ok note) m → HasShape (with_m w m)
-shape_told w m round p row note h t = shape_same w w.live w.frames m w.contents w.health h refl t.sound (sym t.below.same_places)
+shape_told w m round p row note h t = shape_same w w.live w.frames m w.contents w.health h refl t.keeps.sound (sym t.keeps.below.same_places)
 
 sound_told : (w : WorldState) (m : ManagerState) (round p : ℕ) (a : Content) (row : PendingRow) (note : Note) → HasShape w → Sound w → slice_get w.contents p ≡ Some a → IsPending (past_of w) p a row → IsTold w.manager round p row (Ok note) m → Sound (with_m w m)
 sound_told w m round p a row note h s at k t = sound_manager w m s (told_goes_on w.manager m round p row note h.manager t)

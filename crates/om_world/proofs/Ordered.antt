@@ -17,7 +17,8 @@ use Rattle.om_manager.specs.Notes.{Notes}
 use Rattle.om_manager.specs.State.{ManagerState, process_count}
 use Rattle.om_manager.specs.declared.answers.RecordError.{RecordError}
 use Rattle.om_manager.specs.declared.answers.RecordError.TheVariants.{Stale, Refused}
-use Rattle.om_world.specs.World.{WorldState, past_of, history}
+use Rattle.om_world.specs.World.{WorldState}
+use Rattle.om_world.specs.steps.Past.{past_of, history}
 use Rattle.om_world.specs.steps.Sound.{Sound, HasShape}
 use Rattle.om_world.proofs.Raising.{count_take}
 
@@ -118,10 +119,10 @@ offers w row fault h s lt true_row begun o = by fault (subst (λ k. offered k w.
     by : (fault : NoteError) → offered n w.manager.rows row (Err fault) w.manager.rows → fault ≡ Memory
     by Stranger o = let ge = o.0 in absurd (omega arith)
     by BadVector o = absurd (o.1 (fair n row.pid g row refl lt true_row begun))
-    by Differs o = let d = o.0 in absurd (d.differs (same_rows n row.pid g d.other row (claim d.other d.there d.same_interval.pid) true_row d.same_interval.interval))
-    by (Disorder y) o = elim o.0.breaks [
-      | inl b ↦ let near = b.nearest in let low = near.below in absurd (b.breaks (at_most n row.pid g b.low row (claim b.low near.there near.pid) true_row (omega arith)))
-      | inr b ↦ let d = b.1 in let near = d.nearest in let low = near.above in absurd (d.breaks (at_most n row.pid g row d.high true_row (claim d.high near.there near.pid) (omega arith)))
+    by Differs o = absurd (o.5 (same_rows n row.pid g o.1 row (claim o.1 o.2 o.3) true_row o.4))
+    by (Disorder y) o = let d = o.0 in elim d.breaks [
+      | inl b ↦ let low = b.below in absurd (b.breaks (at_most n row.pid g d.other row (claim d.other d.there b.pid) true_row (omega arith)))
+      | inr b ↦ let c = b.1 in let low = c.below in absurd (c.breaks (at_most n row.pid g row d.other true_row (claim d.other d.there (sym c.pid)) (omega arith)))
     ]
     by Memory o = refl
 

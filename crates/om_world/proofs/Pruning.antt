@@ -19,11 +19,12 @@ use Rattle.om_manager.specs.State.{ManagerState, held_by, process_count, release
 use Rattle.om_world.specs.declared.event.Event.{Event}
 use Rattle.om_world.specs.declared.event.Answer.TheVariants as answers
 use Rattle.om_world.specs.Changes.{HasFailed, NoneFell, RoseAt}
-use Rattle.om_world.specs.Happened.{Happened, ManagerPruned, PruneHappened, PruneStopped, StorePruned}
+use Rattle.om_world.specs.Happened.{Happened, PruneStopped, Prunes, StorePruned}
 use Rattle.om_world.specs.Played.{IsCounted}
-use Rattle.om_world.specs.World.{Health, WorldState, Past, IsEmpty, IsKnown, past_of, recovered, all_clean}
+use Rattle.om_world.specs.World.{Health, WorldState, IsEmpty, IsKnown, recovered, all_clean}
+use Rattle.om_world.specs.steps.Past.{Past, past_of}
 use Rattle.om_world.specs.steps.Moves.{IsCalled, Keeps, refusal_of_store}
-use Rattle.om_world.specs.steps.Pruning.{AllPruned, ArePruned, HasPruned, WasPruned}
+use Rattle.om_world.specs.steps.Pruning.{AllPruned, ArePruned, HasPruned, ManagerPruned, WasPruned}
 use Rattle.om_world.specs.steps.Sound.{HasBytes, IsBefore, IsOld, IsRunning, IsStored, IsWorld, Runs, Sound, kind_of}
 use Rattle.om_world.proofs.FailureCounts.{called_counts, counted, counts_stay, counts_then, failed_after, memory_apart, present_apart}
 use Rattle.om_world.proofs.Gaining.{sound_clean}
@@ -43,11 +44,11 @@ lower Log x c e le lt = omega arith
 old_pruned : (old new : ManagerState) (p : ℕ) (kind : RowKind) (x : ℕ) → IsManager old → ManagerPruned old new → IsOld old p kind x → IsOld new p kind x
 old_pruned old new p kind x is m o =
     let small : p < process_count old = subst (λ q. q < process_count old) o.there.pid_is (is.lawful.known o.there.row o.there.there) in
-    let cs = m.rows.checkpoints in
-    let e = m.rows.effective.each p small in
+    let cs = m.rows.0 in
+    let e = m.rows.1.each p small in
     record {
       checkpoint = slice_index cs p;
-      there = subst (λ rows. Has rows Checkpoint p (slice_index cs p)) (sym m.rows.rows) (has_after_prune old.rows cs Checkpoint p (slice_index cs p) (omega arith) e.there);
+      there = subst (λ rows. Has rows Checkpoint p (slice_index cs p)) (sym m.rows.2) (has_after_prune old.rows cs Checkpoint p (slice_index cs p) (omega arith) e.there);
       within = subst (λ state. slice_index cs p ≤ slice_index state p) (sym (ap (λ (k : ManagerState). k.recovery) m.others)) e.below;
       before = lower kind x o.checkpoint (slice_index cs p) (e.greatest o.checkpoint o.there o.within) o.before;
     }
@@ -78,7 +79,7 @@ after_pruned IsSound xs w m i pruned is = record {
         s.0,
         sound_manager w m s.1 (goes_on w.manager m i.shape.manager pruned)
             (λ p k o at. s.1.outputs p k o (ap (λ (x : ManagerState). slice_get (held_by x p) k) (sym pruned.others) ∙ at))
-            (λ row has. inl (of_pruned w.manager.rows pruned.rows.checkpoints row (subst (λ rows. HasRow rows row) pruned.rows.rows has)).0),
+            (λ row has. inl (of_pruned w.manager.rows pruned.rows.0 row (subst (λ rows. HasRow rows row) pruned.rows.2 has)).0),
       );
 }
 
@@ -301,27 +302,31 @@ others_then w v z a b =
     b ∙ ap (λ (x : WorldState). record x { contents = z.contents; health = z.health }) a
     ∙ ap (λ m. record w { manager = m; contents = z.contents; health = z.health }) (sym (ap (λ (x : WorldState). x.manager) b))
 
+rows_then : (w z : WorldState) → ManagerPruned w.manager z.manager → z ≡ record w { manager = z.manager; contents = z.contents; health = z.health }
+    → z ≡ record w { manager = record w.manager { rows = z.manager.rows }; contents = z.contents; health = z.health }
+rows_then w z m e = e ∙ ap (λ k. record w { manager = k; contents = z.contents; health = z.health }) m.others
+
 pruned_then : (v z : WorldState) (p : ℕ) (a b : Content) → z ≡ record v { contents = z.contents; health = z.health } → StorePruned v p a b → StorePruned z p a b
 pruned_then v z p a b e s = subst (λ (m : ManagerState). (c : ℕ) × IsEffective m.rows p (recovered m p) c × (b ≡ kept_by_prune a c)) (sym (ap (λ (x : WorldState). x.manager) e)) s
 
-pub prune_happened : (w v z : WorldState) → ManagerPruned w.manager v.manager → v ≡ record w { manager = v.manager } → AllPruned v (Ok tt) z → IsKnown z → PruneHappened w z
+pub prune_happened : (w v z : WorldState) → ManagerPruned w.manager v.manager → v ≡ record w { manager = v.manager } → AllPruned v (Ok tt) z → IsKnown z → Prunes (StorePruned z) w z
 prune_happened w v z m e a known = record {
-  manager = manager_then w v z m a.pruned.others;
+  rows = (manager_then w v z m a.pruned.others).rows;
   stores = λ p before at.
       let here : slice_get v.contents p ≡ Some before = ap (λ (x : WorldState). slice_get x.contents p) e ∙ at in
       let lt = inside v.contents p before here in let count = a.all in
       let s = a.pruned.stores known p before here in
       (s.0, s.1, pruned_then v z p before s.0 a.pruned.others (s.2 (omega arith)));
-  others = others_then w v z e a.pruned.others;
+  others = rows_then w z (manager_then w v z m a.pruned.others) (others_then w v z e a.pruned.others);
 }
 
 prune_stopped : (w v z : WorldState) (fault : StoreError) → ManagerPruned w.manager v.manager → v ≡ record w { manager = v.manager } → AllPruned v (Err fault) z → IsKnown z → PruneStopped w z
 prune_stopped w v z refusal m e a known = record {
-  manager = manager_then w v z m a.pruned.others;
+  rows = (manager_then w v z m a.pruned.others).rows;
   stores = λ p before at.
       let s = a.pruned.stores known p before (ap (λ (x : WorldState). slice_get x.contents p) e ∙ at) in
       (s.0, s.1, elim (less p a.count) [ inl lt ↦ inr (pruned_then v z p before s.0 a.pruned.others (s.2 lt)) | inr ge ↦ inl (s.3 ge) ]);
-  others = others_then w v z e a.pruned.others;
+  others = rows_then w z (manager_then w v z m a.pruned.others) (others_then w v z e a.pruned.others);
 }
 
 failed_in : (w v z : WorldState) → v ≡ record w { manager = v.manager } → AllPruned v (Err store_errors.Fault) z → (p : ℕ) × HasFailed w p z

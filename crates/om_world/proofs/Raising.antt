@@ -17,7 +17,8 @@ use Rattle.om_manager.specs.Gatherings.{presence_of, presences_of}
 use Rattle.om_manager.specs.Outputs.{HeldOutput}
 use Rattle.om_manager.specs.State.{ManagerState, held_by, released_by}
 use Rattle.om_world.specs.Live.{program_at}
-use Rattle.om_world.specs.World.{WorldState, Past, past_of, history, recovered, output_entry}
+use Rattle.om_world.specs.World.{WorldState, recovered, output_entry}
+use Rattle.om_world.specs.steps.Past.{Past, past_of, history}
 use Rattle.om_world.specs.Failures.{HasNews}
 use Rattle.om_world.specs.steps.Sound.{HasBytes, HasShape, IsOld, IsRunning, IsStored, KeptWithin, Runs, Sound}
 use Rattle.om_world.proofs.Kept.{remade}

@@ -10,7 +10,7 @@ use Rattle.om_recover.specs.declared.row.RowKind.TheVariants.{Checkpoint, Log}
 use Rattle.om_manager.specs.declared.answers.RecordError.{RecordError}
 use Rattle.om_world.specs.declared.event.Answer.TheVariants as answers
 use Rattle.om_world.specs.declared.event.Refusal.TheVariants as why
-use Rattle.om_world.specs.Changes.{Changes, HasNoted, HasStored, IsSame, IsUp, Stays, StoreStopped, stored}
+use Rattle.om_world.specs.Changes.{Changes, HasNoted, HasStored, IsSame, IsUp, StoreStopped, stored}
 use Rattle.om_world.specs.Happened.{Happened, HasCheckpoint, StoreHappened}
 use Rattle.om_world.specs.Played.{IsCounted}
 use Rattle.om_world.specs.World.{WorldState, IsEmpty, IsKnown, all_clean}
@@ -19,6 +19,7 @@ use Rattle.om_world.proofs.FailureCounts.{memory_apart, present_apart}
 use Rattle.om_world.proofs.Giving.{given_at}
 use Rattle.om_world.proofs.Lists.{inside, once, set_there}
 use Rattle.om_world.proofs.Telling.{told_notes}
+use Rattle.om_world.proofs.Staying.{all_stay}
 
 -- ---- lists
 pub set_back : {A : Type 0} (xs : List A) (p : ℕ) (x : A) → slice_get xs p ≡ Some x → set xs p x ≡ xs
@@ -81,13 +82,12 @@ has_noted kind w mid v p count end up h t =
           up = up;
           before = h.there;
           cores = ap (λ (x : WorldState). x.cores) t.others ∙ ap (λ (e : CoreState). set mid.cores p (Some (with_pending e (drop count e.pending)))) same ∙ ap (λ l. set l p (Some (with_pending d (drop count d.pending)))) cores ∙ set_twice w.cores p (Some d) (Some (with_pending d (drop count d.pending)));
-          stays = record {
-            programs = ap (λ (x : WorldState). x.programs) t.others ∙ ap (λ (x : WorldState). x.programs) h.others;
-            live = ap (λ (x : WorldState). x.live) t.others ∙ ap (λ (x : WorldState). x.live) h.others;
-            places = ap (λ (x : WorldState). x.places) t.others ∙ ap (λ (x : WorldState). x.places) h.others;
-            rounds = ap (λ (x : WorldState). x.rounds) t.others ∙ ap (λ (x : WorldState). x.rounds) h.others;
-            origins = ap (λ (x : WorldState). x.origins) t.others ∙ ap (λ (x : WorldState). x.origins) h.others;
-          };
+          stays = all_stay w v
+              (ap (λ (x : WorldState). x.programs) t.others ∙ ap (λ (x : WorldState). x.programs) h.others)
+              (ap (λ (x : WorldState). x.live) t.others ∙ ap (λ (x : WorldState). x.live) h.others)
+              (ap (λ (x : WorldState). x.places) t.others ∙ ap (λ (x : WorldState). x.places) h.others)
+              (ap (λ (x : WorldState). x.rounds) t.others ∙ ap (λ (x : WorldState). x.rounds) h.others)
+              (ap (λ (x : WorldState). x.origins) t.others ∙ ap (λ (x : WorldState). x.origins) h.others);
         };
         within = told.within;
         manager = told_notes w.manager v.manager d.round p (take count d.pending) (subst (λ m. AreTold m d.round p (take count d.pending) v.manager) manager told.told);

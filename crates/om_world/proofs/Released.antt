@@ -11,8 +11,9 @@ use Rattle.om_process.proofs.Runs.{leads_once, turns_between, turns_grow, earlie
 use Rattle.om_process.proofs.Making.{entry_stays}
 use Rattle.om_process.proofs.Replays.{turns_to_wait}
 use Rattle.om_world.specs.declared.entry.Entry.{Entry}
-use Rattle.om_world.specs.Live.{program_at, receipt_of, received, MayFollow, LegalAfter, Legal}
-use Rattle.om_world.proofs.Legal.{append_none, append_apart, received_more}
+use Rattle.om_world.specs.Live.{program_at, receipt_of, received, MayFollow, Legal}
+use Rattle.om_world.specs.steps.Legal.{LegalAfter}
+use Rattle.om_world.proofs.Legal.{append_none, append_apart, legal_after, received_more}
 
 pub split_at : (x : ℕ) (h : List Received) → x < length h → (r : Received) × (rest : List Received) × (h ≡ take x h ++ r ∷ rest)
 split_at x [] lt = absurd (omega arith)
@@ -110,7 +111,7 @@ leads_after images p before [] a l = subst (λ es. (a : Process) × Leads p (len
 leads_after images p before (e ∷ es) a l = subst (λ es. (a : Process) × Leads p (length images) (received p es) (started (program_at images p) (length images)) a) (append_apart before (e ∷ []) es) (leads_after images p (before ++ e ∷ []) es (leads_more_in images p before e a l.0) l.1)
 
 pub reaches_legal : (images : List Program) (p : ℕ) (es : List Entry) → Legal images es → (a : Process) × Reaches (program_at images p) p (length images) (received p es) a
-reaches_legal images p es l = let a = leads_after images p [] es (started (program_at images p) (length images), refl) l in (a.0, (0, (a.0, a.1, refl)))
+reaches_legal images p es l = let a = leads_after images p [] es (started (program_at images p) (length images), refl) (legal_after images [] es l) in (a.0, (0, (a.0, a.1, refl)))
 
 -- outputs that are each made at their interval are the first outputs of one state along the process's receipts
 pub released_first : (images : List Program) (p : ℕ) (es : List Entry) (outputs : List QueueEntry) → Legal images es

@@ -6,12 +6,15 @@ use Rattle.om_format.specs.declared.message.Message.{Message}
 use Rattle.om_format.specs.declared.queue.QueueEntry.{QueueEntry}
 use Rattle.om_process.specs.Claims.{AtInterval, Makes}
 use Rattle.om_process.specs.Core.{CoreState}
-use Rattle.om_process.specs.Frames.{IsFrameOf, frame_at, frame_of, messages_to}
+use Rattle.om_process.specs.Frames.{IsFrameOf, frame_at, messages_to}
+use Rattle.om_process.specs.steps.Pieces.{frame_of}
 use Rattle.om_process.proofs.Making.{made_at, part_has}
 use Rattle.om_process.proofs.Numbering.{has_entry_at}
-use Rattle.om_world.specs.Changes.{IsUp, messages_behind, messages_in}
+use Rattle.om_world.specs.Changes.{IsUp, messages_behind}
+use Rattle.om_world.specs.steps.Running.{messages_in}
 use Rattle.om_world.specs.Live.{program_at}
-use Rattle.om_world.specs.World.{WorldState, past_of, history}
+use Rattle.om_world.specs.World.{WorldState}
+use Rattle.om_world.specs.steps.Past.{past_of, history}
 use Rattle.om_world.specs.steps.Sound.{HasShape, IsFrame, IsRunning, IsWorld, Sound}
 use Rattle.om_world.proofs.Framing.{drop_get, message_at}
 use Rattle.om_world.proofs.Kept.{remade, shape_same}

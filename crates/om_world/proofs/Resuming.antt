@@ -1,5 +1,5 @@
 -- What a resume does, by its calls.
-use Rattle.std.proofs.Common.{◌≡◌, ◌⊎◌, inl, inr, ℕ, ◌<◌, length, List, Some, None, Bool, true, false, Ok, refl, sym, ap, ◌∙◌, subst, arith, set}
+use Rattle.std.proofs.Common.{◌≡◌, ◌⊎◌, inl, inr, ℕ, ◌<◌, length, List, [], Some, None, Bool, true, false, Ok, refl, sym, ap, ◌∙◌, subst, arith, set}
 use Rattle.std.specs.Prelude.{All, slice_get, slice_index}
 use Rattle.om_interval.specs.Starts.{is_named, newest_of}
 use Rattle.om_stable.specs.Content.{kept_by_cut}
@@ -61,6 +61,16 @@ known_then w mid v p from origins clean known =
     let a = alike w mid p from in (subst (All IsEmpty) (origins ∙ a.origins) known.0, subst (λ l. all_clean l ≡ true) a.health (clean known.1))
 
 -- ---- it came back
+all_back : (p inc : ℕ) (m : ManagerState) (c : CoreState) → c.own ≡ p → c.log ≡ [] → c.pending ≡ [] → c.inc ≡ inc → c.round ≡ m.round → c.starts ≡ m.starts
+    → c ≡ record { own = p; now = c.now; log = []; pending = []; inc = inc; round = m.round; starts = m.starts }
+all_back p inc m c own log pending is_inc round starts =
+    ap (λ a. record c { own = a }) own
+    ∙ ap (λ a. record c { own = p; log = a }) log
+    ∙ ap (λ a. record c { own = p; log = []; pending = a }) pending
+    ∙ ap (λ a. record c { own = p; log = []; pending = []; inc = a }) is_inc
+    ∙ ap (λ a. record c { own = p; log = []; pending = []; inc = inc; round = a }) round
+    ∙ ap (λ a. record c { own = p; log = []; pending = []; inc = inc; round = m.round; starts = a }) starts
+
 pub back_happened : (w mid v : WorldState) (p interval inc : ℕ) → IsToComeBack w p → (IsKnown w → IsBeyond w p) → HasLeft w p mid → Returns mid p (Ok (interval, inc)) v → IsKnown v → BackHappened w p interval inc v
 back_happened w mid v p interval inc due beyond left r known =
     let from = from_left w mid p due left in
@@ -72,16 +82,12 @@ back_happened w mid v p interval inc due beyond left r known =
     record {
       due = due;
       beyond = λ c joined is. was_beyond w p c due (beyond was) joined is;
-      core = core;
-      own = h.back.own;
-      log = h.back.log;
-      pending = h.back.pending;
-      at = sym r.2;
       place = at ∙ ap (λ (m : ManagerState). slice_index m.last p) a.manager;
-      incarnation = sym r.3;
       newest = r.3 ∙ h.back.inc ∙ ap (λ (m : ManagerState). newest_of m.starts p) a.manager;
-      round = h.back.round ∙ ap (λ (m : ManagerState). m.round) a.manager;
-      starts = h.back.starts ∙ ap (λ (m : ManagerState). m.starts) a.manager;
+      core = core;
+      at = sym r.2;
+      rest = all_back p inc w.manager core h.back.own h.back.log h.back.pending (sym r.3)
+          (h.back.round ∙ ap (λ (m : ManagerState). m.round) a.manager) (h.back.starts ∙ ap (λ (m : ManagerState). m.starts) a.manager);
       before = d.0;
       is_before = ap (λ l. slice_get l p) (sym a.contents) ∙ d.1;
       replay = subst (λ x. IsReplay d.0 x core) (sym at) d.2;
@@ -95,8 +101,8 @@ back_happened w mid v p interval inc due beyond left r known =
 
 -- ---- it did not
 stopped : (w mid v : WorldState) (p : ℕ) → IsToComeBack w p → HasLeft w p mid → IsSame mid v → BackStopped w p v
-stopped w mid v p (down declared place news) left same = inl (down declared place news, declared, place, subst (λ (x : WorldState). IsSame x v) (left.1 (λ joined. down_or_in declared (sym place ∙ joined))) same)
-stopped w mid v p (rolled_back joined news back) left same = inr (rolled_back joined news back, joined, subst (λ (x : WorldState). IsSame x v) (left.0 joined) same)
+stopped w mid v p (down declared place news) left same = (down declared place news, inl (declared, place, subst (λ (x : WorldState). IsSame x v) (left.1 (λ joined. down_or_in declared (sym place ∙ joined))) same))
+stopped w mid v p (rolled_back joined news back) left same = (rolled_back joined news back, inr (joined, subst (λ (x : WorldState). IsSame x v) (left.0 joined) same))
 
 failed_from : (w mid v : WorldState) (p : ℕ) → IsToComeBack w p → HasLeft w p mid → StaysDown mid p Fault v → HasFailed w p v
 failed_from w mid v p due left d = subst (λ l. RoseAt l p v.health) (alike w mid p (from_left w mid p due left)).health (d.counted refl)

@@ -13,7 +13,8 @@ use Rattle.om_stable.specs.Content.{Content, Records, IsEffective, kept_by_cut}
 use Rattle.om_stable.proofs.RecordLemmas.{get-retained}
 use Rattle.om_process.specs.Process.{Process}
 use Rattle.om_process.specs.Turns.{Reaches}
-use Rattle.om_process.specs.Replays.{FitsReceipt, Replayed, receipts_of, received_of, process_of}
+use Rattle.om_process.specs.Replays.{FitsReceipt, Replayed, received_of, process_of}
+use Rattle.om_process.specs.steps.Pieces.{receipts_of}
 use Rattle.om_process.specs.Claims.{CheckpointOf, RecordOf, RecordsAlong}
 use Rattle.om_process.specs.Core.{CoreState, cluster_size}
 use Rattle.om_process.specs.Resumes.{resumed}
@@ -32,7 +33,8 @@ use Rattle.om_manager.specs.declared.presence.Presence.TheVariants.{Away, Failed
 use Rattle.om_world.specs.declared.place.Place.{Place}
 use Rattle.om_world.specs.Failures.{HasNews, IsToGoOn, put_up}
 use Rattle.om_world.specs.Live.{program_at}
-use Rattle.om_world.specs.World.{Health, WorldState, Past, past_of, history, recovered}
+use Rattle.om_world.specs.World.{Health, WorldState, recovered}
+use Rattle.om_world.specs.steps.Past.{Past, past_of, history}
 use Rattle.om_world.specs.steps.Returning.{IsBackIn, IsBeyond}
 use Rattle.om_world.specs.steps.Sound.{HasBytes, HasShape, IsCoreOf, IsOld, IsRunning, IsStored, IsUpIn, KeptWithin, LogOf, Runs, Sound}
 use Rattle.om_world.proofs.Kept.{kept_grown}
@@ -131,8 +133,8 @@ next_of v p y r le of =
 -- a receipt that is read where one is stored is that one
 read_next : (v : Past) (p : ℕ) (held : Content) (y : ℕ) (r : ReceiptRecord) → IsStored v p held → y + 1 ≤ length (history v p) → IsReceiptAt held.receipts (y + 1) r → IsNext v p y r
 read_next v p held y r s le at =
-    let d = s.receipts (y + 1) at.bytes (omega arith) le at.stands in
-    next_of v p y r le (subst (λ x. RecordOf (program_at v.programs p) p (length v.programs) x (take (y + 1) (history v p))) (one_receipt at.bytes d.0 r d.1 at.spelled) d.2.1)
+    let d = s.receipts (y + 1) at.0 (omega arith) le at.1 in
+    next_of v p y r le (subst (λ x. RecordOf (program_at v.programs p) p (length v.programs) x (take (y + 1) (history v p))) (one_receipt at.0 d.0 r d.1 at.2) d.2.1)
 
 -- a stored receipt is read
 stored_next : (v : Past) (p : ℕ) (held : Content) (y : ℕ) → IsStored v p held → y + 1 ≤ length (history v p) → IsSome (get held.receipts (y + 1)) → (r : ReceiptRecord) × IsReceiptAt held.receipts (y + 1) r × IsNext v p y r
@@ -143,7 +145,7 @@ stored_next v p held y s le has =
     let long : n.wait.interval ≡ length (take y (history v p)) = interval_along (program_at v.programs p) p (length v.programs) n.reaches.0 (take y (history v p)) n.wait n.reaches.1 in
     let few : length (take y (history v p)) ≡ y = length-take-le y (history v p) (omega arith) in
     let is = n.fits.interval in
-    (d.0, record { bytes = bytes.0; stands = bytes.1; spelled = d.1; named = omega arith }, n)
+    (d.0, (bytes.0, bytes.1, d.1, omega arith), n)
 
 -- the receipts that are read lead on along the history
 read_along : (v : Past) (p : ℕ) (held : Content) (y : ℕ) (rs : List ReceiptRecord) → IsStored v p held → y + length rs ≤ length (history v p) → AreReceiptsAfter held.receipts y rs → take y (history v p) ++ receipts_of rs ≡ take (y + length rs) (history v p)
@@ -270,14 +272,12 @@ can_replay w p held h s lt news at =
       t.0,
       record {
         checkpoint = c.0;
-        all = record {
-          begins = record {
-            effective = subst (λ i. IsEffective held.checkpoints x i) (sym named) e.1;
-            stored = record { bytes = bytes.0; stands = ap (get held.checkpoints) named ∙ bytes.1; spelled = c.1; named = refl };
-            meant = (c.2, c.3);
-          };
-          receipts = λ y above within. wanted y (omega arith) within;
+        begins = record {
+          effective = subst (λ i. IsEffective held.checkpoints x i) (sym named) e.1;
+          stored = (bytes.0, ap (get held.checkpoints) named ∙ bytes.1, c.1, refl);
+          meant = (c.2, c.3);
         };
+        all_there = λ y above within. wanted y (omega arith) within;
         pid = c.2;
         size = c.3;
         receipts = all.0;
@@ -295,10 +295,10 @@ replayed_at w p held core h s lt news at own size r =
     let n = length w.programs in
     let behind = s.behind p lt news in
     let kept = s.stored p held at in
-    let first = r.all.begins.stored in
-    let least = r.all.begins.effective.within in
-    let d = kept.checkpoints r.checkpoint.head.interval first.bytes (omega arith) first.stands in
-    let is : d.0 ≡ r.checkpoint = one_reading d.0 r.checkpoint first.bytes d.1 first.spelled in
+    let first = r.begins.stored in
+    let least = r.begins.effective.within in
+    let d = kept.checkpoints r.checkpoint.head.interval first.0 (omega arith) first.1 in
+    let is : d.0 ≡ r.checkpoint = one_reading d.0 r.checkpoint first.0 d.1 first.2 in
     let from : CheckpointOf (program_at v.programs p) p n (process_of r.checkpoint) (take r.checkpoint.head.interval (history v p)) = subst (λ c. CheckpointOf (program_at v.programs p) p n (process_of c) (take r.checkpoint.head.interval (history v p))) is d.4.1 in
     let within : KeptWithin v p (process_of r.checkpoint).queues = subst (λ c. KeptWithin v p (process_of c).queues) is d.5 in
     let mine : Replayed p n (process_of r.checkpoint) r.receipts core.now = subst (λ o. Replayed o n (process_of r.checkpoint) r.receipts core.now) own (subst (λ k. Replayed core.own k (process_of r.checkpoint) r.receipts core.now) size r.replayed) in

@@ -33,11 +33,12 @@ use Rattle.om_world.specs.declared.place.Place.{Place}
 use Rattle.om_world.specs.Changes.{IsUp}
 use Rattle.om_world.specs.Failures.{HasNews, IsToGoOn, live_after, taken_down}
 use Rattle.om_world.specs.Live.{cut_list}
-use Rattle.om_world.specs.World.{Health, WorldState, health_of}
+use Rattle.om_world.specs.World.{Health, WorldState}
 use Rattle.om_world.specs.steps.Gathering.{HasDeclaredAt, HasEntered, HasGathered, StandsIn}
-use Rattle.om_world.specs.steps.Members.{content_in, core_in, health_in, place_in, place_of, round_in, seen, sound_in}
+use Rattle.om_world.specs.steps.Members.{content_in, core_in, health_in, place_in, place_of, round_in, seen, sound_in, health_of}
 use Rattle.om_world.specs.steps.Moves.{IsCalled, refusal_of_join, told_of}
-use Rattle.om_world.specs.steps.Returning.{HasGoneOn, IsBackIn, IsRolledBack, KnowsRound, Returns}
+use Rattle.om_world.specs.steps.Returning.{IsBackIn, IsRolledBack, KnowsRound, Returns}
+use Rattle.om_world.specs.Failures.{HasGoneOn}
 use Rattle.om_world.specs.steps.Sound.{IsWorld}
 use Rattle.om_world.proofs.Declaring.{after_declare, after_join, has_declared, has_entered, not_declared, not_entered, placed_with}
 use Rattle.om_world.proofs.Lists.{map_at, once, once_err}
@@ -90,7 +91,7 @@ module _ {S : Type 0} (content : S → Content) (health : S → Health) (IsSound
       failing = subst (λ x. Failing M x m.round (Ok told) k) is h.failing
 
       gathered : HasGathered {E = FailError} M L (Ok told) k live
-      gathered = record { sound = h.keeps.sound; size = h.keeps.size; released = h.keeps.released; live = cut ∙ live_fails told M p k L failing.2; refused = tt }
+      gathered = record { sound = h.keeps.sound; size = sym h.keeps.below.same_places; released = h.keeps.released; live = cut ∙ live_fails told M p k L failing.2; refused = tt }
 
       declared_seen : placed_with (seen content health P L F ms M O) p (Place.Down true) live k ≡ seen content health P live F (set ms p n) k O
       declared_seen =
@@ -112,7 +113,7 @@ module _ {S : Type 0} (content : S → Content) (health : S → Health) (IsSound
     module _ (fault : FailError) (h : HasDeclared M q m (Err fault) k n) where
       refused : HasDeclaredAt (seen content health P L F ms M O) p (Err fault) (seen content health P L F ms k O)
       refused = not_declared (sound_in IsSound) ms (seen content health P L F ms M O) p m.round fault k L i was_down (round_is content health IsSound P L F ms M O p m at) (subst (λ x. Failing M x m.round (Err fault) k) is h.failing)
-          (record { sound = h.keeps.sound; size = h.keeps.size; released = h.keeps.released; live = tt; refused = refl })
+          (record { sound = h.keeps.sound; size = sym h.keeps.below.same_places; released = h.keeps.released; live = tt; refused = refl })
 
       pub after_refused : IsWorld (sound_in IsSound) (set ms p n) (seen content health P L F (set ms p n) k O)
       after_refused =
@@ -135,7 +136,7 @@ module _ {S : Type 0} (content : S → Content) (health : S → Health) (IsSound
       joining = subst (λ x. Joining M x h.core.round h.core.now.interval (Ok told) k) is h.joining
 
       joined : HasGathered {E = JoinError} M L (Ok told) k live
-      joined = record { sound = h.keeps.sound; size = h.keeps.size; released = h.keeps.released; live = cut ∙ live_gathers told _ M k L joining.1; refused = tt }
+      joined = record { sound = h.keeps.sound; size = sym h.keeps.below.same_places; released = h.keeps.released; live = cut ∙ live_gathers told _ M k L joining.1; refused = tt }
 
       joined_seen : placed_with (seen content health P L F ms M O) p Place.In live k ≡ seen content health P live F (set ms p n) k O
       joined_seen =
@@ -156,7 +157,7 @@ module _ {S : Type 0} (content : S → Content) (health : S → Health) (IsSound
     module _ (fault : JoinError) (h : HasJoined M q m (Err fault) k n) where
       not_joined : HasEntered (seen content health P L F ms M O) p (Err fault) (seen content health P L F ms k O)
       not_joined = not_entered (sound_in IsSound) ms (seen content health P L F ms M O) p (h.core.round, h.core.now.interval) fault k L i was_up_there (h.core, core_was content health IsSound P L F ms M O p m at n h.core h.up, refl, refl)
-          (subst (λ x. Joining M x h.core.round h.core.now.interval (Err fault) k) is h.joining) (record { sound = h.keeps.sound; size = h.keeps.size; released = h.keeps.released; live = tt; refused = refl })
+          (subst (λ x. Joining M x h.core.round h.core.now.interval (Err fault) k) is h.joining) (record { sound = h.keeps.sound; size = sym h.keeps.below.same_places; released = h.keeps.released; live = tt; refused = refl })
 
       pub after_not_joined : IsWorld (sound_in IsSound) (set ms p n) (seen content health P L F (set ms p n) k O)
       after_not_joined =
@@ -269,13 +270,13 @@ module _ {S : Type 0} (content : S → Content) (is_clean : S → Bool) (failed 
   module _ (told : ℕ × ℕ) (h : HasComeBack content failed is_clean IsSound who starts verdict m told n) where
     back_in : IsBackIn M p h.core
     back_in = record {
-      own = h.own ∙ pid;
+      own = ap (λ (c : CoreState). c.own) h.fresh ∙ pid;
       size = h.size ∙ size;
-      log = h.log;
-      pending = h.pending;
-      inc = h.inc ∙ same_inc;
-      round = h.round ∙ same_round;
-      starts = h.starts_are ∙ same_starts;
+      log = ap (λ (c : CoreState). c.log) h.fresh;
+      pending = ap (λ (c : CoreState). c.pending) h.fresh;
+      inc = ap (λ (c : CoreState). c.inc) h.fresh ∙ same_inc;
+      round = ap (λ (c : CoreState). c.round) h.fresh ∙ same_round;
+      starts = ap (λ (c : CoreState). c.starts) h.fresh ∙ same_starts;
     }
 
     back_called : IsCalled (content_in content) (health_in (health_of is_clean failed)) (sound_in IsSound) (IsFault (Ok h.core)) ms (set ms p n) p (IsRolledBack M p (Ok h.core))
@@ -303,7 +304,7 @@ module _ {S : Type 0} (content : S → Content) (is_clean : S → Bool) (failed 
     came_back =
         subst (λ (x : WorldState). Returns x p (Ok told) (seen content (health_of is_clean failed) P L F (set ms p n) M O)) e
         (subst (Returns (seen content (health_of is_clean failed) P L F ms M O) p (Ok told)) back_seen
-        (has_come_back (content_in content) (health_in (health_of is_clean failed)) (sound_in IsSound) (seen content (health_of is_clean failed) P L F ms M O) p verdict.round told.0 told.1 h.core ms (set ms p n) i there new_there back_in back_called same_round h.interval_told h.inc_told))
+        (has_come_back (content_in content) (health_in (health_of is_clean failed)) (sound_in IsSound) (seen content (health_of is_clean failed) P L F ms M O) p verdict.round told.0 told.1 h.core ms (set ms p n) i there new_there back_in back_called same_round (ap (λ (a : ℕ × ℕ). a.0) h.told) (ap (λ (a : ℕ × ℕ). a.1) h.told)))
 
   module _ (fault : ReplayFault) (h : StaysDown content failed is_clean IsSound who verdict m fault n) where
     fault_called : IsCalled (content_in content) (health_in (health_of is_clean failed)) (sound_in IsSound) (IsFault (Err fault)) ms (set ms p n) p (IsRolledBack M p (Err fault))

@@ -20,6 +20,7 @@ use Rattle.om_world.specs.steps.Running.{AreKept, HasHandedIn, HasSent, KeepsMor
 use Rattle.om_world.proofs.FailureCounts.{counts_by}
 use Rattle.om_world.proofs.Lists.{once, set_there}
 use Rattle.om_world.proofs.Sending.{behind_same, grown_at}
+use Rattle.om_world.proofs.Staying.{all_stay}
 
 same_core : (cs : List (Option CoreState)) (p : ℕ) (c d : CoreState) → slice_get cs p ≡ Some (Some c) → slice_get cs p ≡ Some (Some d) → c ≡ d
 same_core cs p c d a b = once c d (once (Some c) (Some d) (sym a ∙ b))
@@ -103,13 +104,12 @@ changes_by w v u z p fuel up t e f = record {
   up = up;
   before = t.0.there;
   cores = ap (λ (x : WorldState). x.cores) f ∙ ap (λ (x : WorldState). x.cores) e ∙ t.0.cores;
-  stays = record {
-    programs = ap (λ (x : WorldState). x.programs) f ∙ ap (λ (x : WorldState). x.programs) e ∙ ap (λ (x : WorldState). x.programs) t.1;
-    live = ap (λ (x : WorldState). x.live) f ∙ ap (λ (x : WorldState). x.live) e ∙ ap (λ (x : WorldState). x.live) t.1;
-    places = ap (λ (x : WorldState). x.places) f ∙ ap (λ (x : WorldState). x.places) e ∙ ap (λ (x : WorldState). x.places) t.1;
-    rounds = ap (λ (x : WorldState). x.rounds) f ∙ ap (λ (x : WorldState). x.rounds) e ∙ ap (λ (x : WorldState). x.rounds) t.1;
-    origins = ap (λ (x : WorldState). x.origins) f ∙ ap (λ (x : WorldState). x.origins) e ∙ ap (λ (x : WorldState). x.origins) t.1;
-  };
+  stays = all_stay w z
+      (ap (λ (x : WorldState). x.programs) f ∙ ap (λ (x : WorldState). x.programs) e ∙ ap (λ (x : WorldState). x.programs) t.1)
+      (ap (λ (x : WorldState). x.live) f ∙ ap (λ (x : WorldState). x.live) e ∙ ap (λ (x : WorldState). x.live) t.1)
+      (ap (λ (x : WorldState). x.places) f ∙ ap (λ (x : WorldState). x.places) e ∙ ap (λ (x : WorldState). x.places) t.1)
+      (ap (λ (x : WorldState). x.rounds) f ∙ ap (λ (x : WorldState). x.rounds) e ∙ ap (λ (x : WorldState). x.rounds) t.1)
+      (ap (λ (x : WorldState). x.origins) f ∙ ap (λ (x : WorldState). x.origins) e ∙ ap (λ (x : WorldState). x.origins) t.1);
 }
 
 keeps_by : (w v u z : WorldState) (p fuel : ℕ) → HasWent w p fuel v → u ≡ record v { frames = u.frames } → z ≡ record u { manager = z.manager } → process_count z.manager ≡ process_count u.manager → KeepsReleased u.manager z.manager → Keeps w z

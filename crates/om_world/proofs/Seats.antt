@@ -19,8 +19,8 @@ use Rattle.om_world.specs.declared.event.Refusal.{Refusal}
 use Rattle.om_world.specs.declared.event.Refusal.TheVariants as why
 use Rattle.om_world.specs.declared.place.Place.{Place}
 use Rattle.om_world.specs.Changes.{IsUp}
-use Rattle.om_world.specs.World.{Health, WorldState, health_of}
-use Rattle.om_world.specs.steps.Members.{content_in, core_in, health_in, place_in, place_of, round_in, seen, sound_in}
+use Rattle.om_world.specs.World.{Health, WorldState}
+use Rattle.om_world.specs.steps.Members.{content_in, core_in, health_in, place_in, place_of, round_in, seen, sound_in, health_of}
 use Rattle.om_world.specs.steps.Moves.{IsCalled, count_of, refusal_of_record, refusal_of_store, told_of}
 use Rattle.om_world.specs.steps.Sound.{IsWorld}
 use Rattle.om_world.proofs.Kept.{remade}

@@ -8,7 +8,8 @@ use Rattle.om_process.specs.Frames.{messages_to}
 use Rattle.om_process.specs.Kept.{made_as, numbered, queue_at}
 use Rattle.om_process.specs.Parts.{Grow}
 use Rattle.om_process.proofs.Numbering.{length-numbered}
-use Rattle.om_world.specs.Changes.{messages_behind, messages_in}
+use Rattle.om_world.specs.Changes.{messages_behind}
+use Rattle.om_world.specs.steps.Running.{messages_in}
 
 -- ---- counts
 abbrev pub AreCounted : CoreState → List ℕ → ℕ → Type 0

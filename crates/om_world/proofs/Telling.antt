@@ -55,11 +55,11 @@ after_outputs m Known rows state = refl
 -- the rows are those before, with the new one
 pub told_kept : (old new : ManagerState) (round p : ℕ) (row : PendingRow) (note : Note) → IsTold old round p row (Ok note) new → (other : Row) → HasRow old.rows other → HasRow new.rows other
 told_kept old new round p row (Noted raised) t other has = subst (λ rows. HasRow rows other) (sym t.answers.1.1) (kept old.rows (row_for p row) other has)
-told_kept old new round p row Known t other has = subst (λ rows. HasRow rows other) (sym t.answers.1.1) has
+told_kept old new round p row Known t other has = subst (λ rows. HasRow rows other) (sym t.answers.1.3) has
 
 pub told_rows : (old new : ManagerState) (round p : ℕ) (row : PendingRow) (note : Note) → IsTold old round p row (Ok note) new → (other : Row) → HasRow new.rows other → HasRow old.rows other ⊎ (other ≡ row_for p row)
 told_rows old new round p row (Noted raised) t other has = elim (of_inserted old.rows (row_for p row) other (subst (λ rows. HasRow rows other) t.answers.1.1 has)) [ inl same ↦ inr same | inr old ↦ inl old ]
-told_rows old new round p row Known t other has = inl (subst (λ rows. HasRow rows other) t.answers.1.1 has)
+told_rows old new round p row Known t other has = inl (subst (λ rows. HasRow rows other) t.answers.1.3 has)
 
 -- ---- a manager of which some is released goes on
 pub below_all : (low high : List ℕ) (q : ℕ) → IsBelow low high → get_or low q 0 ≤ get_or high q 0
@@ -97,7 +97,7 @@ goes_on_by old new is below keeps rows starts round gathering backs last = recor
 pub told_goes_on : (old new : ManagerState) (round p : ℕ) (row : PendingRow) (note : Note) → IsManager old → IsTold old round p row (Ok note) new → GoesOn old new
 told_goes_on old new round p row note is t =
     let e = t.answers.3 in
-    goes_on_by old new is t.below t.released (told_kept old new round p row note t)
+    goes_on_by old new is t.keeps.below t.keeps.released (told_kept old new round p row note t)
     (ap (λ (m : ManagerState). m.starts) e ∙ after_starts old note new.rows new.recovery) (ap (λ (m : ManagerState). m.round) e ∙ after_round old note new.rows new.recovery)
     (ap (λ (m : ManagerState). m.gathering) e ∙ after_gathering old note new.rows new.recovery) (ap (λ (m : ManagerState). m.backs) e ∙ after_backs old note new.rows new.recovery)
     (ap (λ (m : ManagerState). m.last) e ∙ after_last old note new.rows new.recovery)

@@ -9,7 +9,8 @@ use Rattle.om_process.proofs.Replays.{keeps_trim}
 use Rattle.om_process.proofs.Vectors.{places_at}
 use Rattle.om_manager.specs.Bounds.{AreGotFrom}
 use Rattle.om_manager.specs.State.{released_by}
-use Rattle.om_world.specs.World.{WorldState, past_of, history, recovered}
+use Rattle.om_world.specs.World.{WorldState, recovered}
+use Rattle.om_world.specs.steps.Past.{past_of, history}
 use Rattle.om_world.specs.steps.Moves.{trimmed_core}
 use Rattle.om_world.specs.steps.Sound.{HasShape, IsWorld, KeptWithin, Sound}
 use Rattle.om_world.proofs.Kept.{remade, shape_core, sound_core}
@@ -43,10 +44,10 @@ got_bound w p q got h s lt small g =
     let n = length w.programs in
     let size = h.size in
     let f = g.each q (omega arith) in
-    let t = f.there in
+    let t = f.1 in
     let claim = s.rows t.row t.there in
     let counts : t.row.got ≡ _ = claim.1.1 in
-    f.count_is ∙ ap (λ l. slice_index l p) (sym t.got_is ∙ counts) ∙ places_at n p (λ j. count_from j (take t.row.interval (history (past_of w) t.row.pid))) lt
+    f.2 ∙ ap (λ l. slice_index l p) (sym t.got_is ∙ counts) ∙ places_at n p (λ j. count_from j (take t.row.interval (history (past_of w) t.row.pid))) lt
     ∙ ap (λ x. count_from p (take x (history (past_of w) t.row.pid))) t.interval_is ∙ ap (λ o. count_from p (take (recovered w.manager q) (history (past_of w) o))) t.pid_is
 
 kept_trimmed : (w : WorldState) (p : ℕ) (got : List ℕ) (qs : List QueueRecord) → HasShape w → Sound w → p < length w.programs → length got ≡ length w.programs → AreGotFrom w.manager.rows w.manager.recovery p got → KeptWithin (past_of w) p qs

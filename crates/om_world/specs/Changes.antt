@@ -17,14 +17,6 @@ use Rattle.om_world.specs.World.{Health, WorldState}
 pub use Rattle.om_member.specs.Members.{HasGained, stored}
 pub use Rattle.om_member.specs.Told.{row_for}
 
--- what was received stays, and who is up
-pub record Stays (old new : WorldState) : Type 0 where
-  pub programs : new.programs ≡ old.programs
-  pub live : new.live ≡ old.live
-  pub places : new.places ≡ old.places
-  pub rounds : new.rounds ≡ old.rounds
-  pub origins : new.origins ≡ old.origins
-
 -- all stays but how the stores stand
 abbrev pub IsSame : WorldState → WorldState → Type 0
 IsSame old new = new ≡ record old { health = new.health }
@@ -49,22 +41,18 @@ HasFailed old p new = RoseAt old.health p new.health
 abbrev pub IsUp : WorldState → ℕ → Type 0
 IsUp w p = slice_get w.places p ≡ Some Place.Up
 
--- process p is up, with the one core before and the other after; no other core changes
+-- process p is up, with the one core before and the other after; no other core changes, what was received stays, and who is up
 pub record Changes (old : WorldState) (p : ℕ) (c d : CoreState) (new : WorldState) : Type 0 where
   pub up : IsUp old p
   pub before : slice_get old.cores p ≡ Some (Some c)
   pub cores : new.cores ≡ slice_set old.cores p (Some d)
-  pub stays : Stays old new
+  pub stays : new ≡ record new { programs = old.programs; live = old.live; places = old.places; rounds = old.rounds; origins = old.origins }
 
 -- ---- messages and outputs
--- the messages to a process that are kept, on their way
-abbrev pub messages_in : CoreState → ℕ → List Message
-messages_in c to = numbered (message_of c to) (messages_to c to).first (messages_to c to).entries
-
 -- of the messages to each of the first n processes, those behind the first few, by receiver and then by number
 abbrev pub messages_behind : CoreState → (ℕ → ℕ) → ℕ → List Message
 messages_behind c few zero = []
-messages_behind c few (suc n) = messages_behind c few n ++ drop (few n) (messages_in c n)
+messages_behind c few (suc n) = messages_behind c few n ++ drop (few n) (numbered (message_of c n) (messages_to c n).first (messages_to c n).entries)
 
 -- what a core that sent more keeps of it
 abbrev pub new_messages : CoreState → CoreState → List Message

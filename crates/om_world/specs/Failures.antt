@@ -7,14 +7,15 @@ use Rattle.om_process.specs.Resumes.{resumed}
 use Rattle.om_process.specs.Stored.{IsReplay}
 use Rattle.om_process.specs.Stores.{flushed}
 use Rattle.om_recover.specs.declared.row.RowKind.TheVariants.{Log}
-use Rattle.om_manager.specs.Rounds.{Gathers, with_failed, with_joined}
+use Rattle.om_manager.specs.Rounds.{Gathers, with_presence}
 use Rattle.om_manager.specs.State.{ManagerState, held_by}
 use Rattle.om_manager.specs.declared.answers.Gathered.{Gathered}
+use Rattle.om_manager.specs.declared.presence.Presence.TheVariants as presences
 use Rattle.om_manager.specs.declared.answers.Gathered.TheVariants.{Waiting, Finished}
 use Rattle.om_world.specs.declared.entry.Entry.{Entry}
 use Rattle.om_world.specs.declared.place.Place.{Place}
 use Rattle.om_member.specs.Told.{AreTold}
-use Rattle.om_world.specs.Changes.{HasStored, HoldsMore, IsSame, IsUp, Stays, StoreStopped, made_by}
+use Rattle.om_world.specs.Changes.{Changes, HasStored, HoldsMore, IsSame, IsUp, made_by}
 use Rattle.om_world.specs.Live.{cut_list}
 use Rattle.om_world.specs.World.{WorldState, recovered}
 
@@ -25,10 +26,6 @@ HasNews w p = slice_index w.rounds p < w.manager.round
 -- the process is down: its core is gone
 abbrev pub taken_down : WorldState → ℕ → Bool → WorldState
 taken_down w p declared = record w { cores = slice_set w.cores p None; places = slice_set w.places p (Place.Down declared) }
-
--- the process is in
-abbrev pub taken_in : WorldState → ℕ → WorldState
-taken_in w p = record w { places = slice_set w.places p Place.In }
 
 -- the process is up again, and knows the last round
 abbrev pub put_up : WorldState → ℕ → CoreState → WorldState
@@ -55,23 +52,9 @@ pub data IsToDeclare (w : WorldState) (p : ℕ) : Type 0 where
   joined : slice_get w.places p ≡ Some Place.In → (HasNews w p → ⊥) → IsToDeclare w p
   refused : slice_get w.places p ≡ Some (Place.Down false) → (HasNews w p → ⊥) → IsToDeclare w p
 
--- it is declared, and the process is down
-pub record FailHappened (old : WorldState) (p : ℕ) (answer : Gathered) (new : WorldState) : Type 0 where
-  pub declares : IsToDeclare old p
-  pub manager : Gathers (with_failed old.manager p) old.manager answer new.manager
-  pub others : new ≡ gathered (taken_down old p true) answer new.manager
-
--- the process was in, and the gathering that it joined had finished: it is down, and nothing is declared
-pub record DownHappened (old : WorldState) (p : ℕ) (new : WorldState) : Type 0 where
-  pub joined : slice_get old.places p ≡ Some Place.In
-  pub news : HasNews old p
-  pub others : new ≡ taken_down old p false
-
--- the manager refused the declaration: the process is down all the same
-pub record FailRefused (Why : WorldState → Type 0) (old : WorldState) (p : ℕ) (new : WorldState) : Type 0 where
-  pub declares : IsToDeclare old p
-  pub why : Why old
-  pub others : new ≡ taken_down old p false
+-- the manager refused the declaration for this: the process is down all the same
+abbrev pub FailRefused : Type 0 → WorldState → ℕ → WorldState → Type 0
+FailRefused Why old p new = IsToDeclare old p × Why × (new ≡ taken_down old p false)
 
 -- the process is down, and its failure was declared, or a newer round is finished
 abbrev pub IsDeclared : WorldState → ℕ → Type 0
@@ -80,14 +63,11 @@ IsDeclared w p = (declared : Bool) × (slice_get w.places p ≡ Some (Place.Down
 -- ---- a join
 -- the process stored its log, all its pending rows are noted, and outputs of it are handed in
 pub record HasHanded (old : WorldState) (p : ℕ) (core : CoreState) (new : WorldState) : Type 0 where
-  pub up : IsUp old p
-  pub before : slice_get old.cores p ≡ Some (Some core)
+  pub changes : Changes old p core (with_pending (flushed core) []) new
   pub stored : HasStored Log old p core new
   pub told : ManagerState
   pub noted : AreTold old.manager old.manager.round p (flushed core).pending told
   pub handed : HoldsMore told p new.manager
-  pub cores : new.cores ≡ slice_set old.cores p (Some (with_pending (flushed core) []))
-  pub stays : Stays old new
   pub frames : new.frames ≡ old.frames
 
 -- the process is in: its log is stored, nothing of it is pending, and its outputs had all been handed in when it joined
@@ -97,12 +77,8 @@ pub record JoinHappened (old : WorldState) (p : ℕ) (answer : Gathered) (new : 
   pub ready : WorldState
   pub handed : HasHanded old p core ready
   pub all : made_by core ≤ length (held_by ready.manager p)
-  pub manager : Gathers (with_joined ready.manager p core.now.interval) ready.manager answer new.manager
-  pub others : new ≡ gathered (taken_in ready p) answer new.manager
-
--- memory was refused before the process joined
-abbrev pub JoinStopped : WorldState → ℕ → WorldState → Type 0
-JoinStopped old p new = StoreStopped Log old p new ⊎ ((core : CoreState) × HasHanded old p core new)
+  pub manager : Gathers (with_presence ready.manager p (presences.Joined core.now.interval)) ready.manager answer new.manager
+  pub others : new ≡ gathered (record ready { places = slice_set ready.places p Place.In }) answer new.manager
 
 -- ---- a return
 -- a newer round is finished, and the process comes back in it: it is down, or in and rolled back
@@ -116,16 +92,11 @@ pub record BackHappened (old : WorldState) (p interval inc : ℕ) (new : WorldSt
   pub due : IsToComeBack old p
   pub beyond : (c : CoreState) → slice_get old.places p ≡ Some Place.In → slice_get old.cores p ≡ Some (Some c)
       → recovered old.manager p < c.now.interval
-  pub core : CoreState
-  pub own : core.own ≡ p
-  pub log : core.log ≡ []
-  pub pending : core.pending ≡ []
-  pub at : core.now.interval ≡ interval
   pub place : interval ≡ slice_index old.manager.last p
-  pub incarnation : core.inc ≡ inc
   pub newest : inc ≡ newest_of old.manager.starts p
-  pub round : core.round ≡ old.manager.round
-  pub starts : core.starts ≡ old.manager.starts
+  pub core : CoreState
+  pub at : core.now.interval ≡ interval
+  pub rest : core ≡ record { own = p; now = core.now; log = []; pending = []; inc = inc; round = old.manager.round; starts = old.manager.starts }
   pub before : Content
   pub is_before : slice_get old.contents p ≡ Some before
   pub replay : IsReplay before interval core
@@ -139,14 +110,12 @@ pub record IsToGoOn (w : WorldState) (p : ℕ) : Type 0 where
   pub kept : is_named w.manager.backs p ≡ false
 
 -- it goes on as it was, and knows the round and its starts
-pub record GoOnHappened (old : WorldState) (p : ℕ) (new : WorldState) : Type 0 where
-  pub due : IsToGoOn old p
-  pub core : CoreState
-  pub is_core : slice_get old.cores p ≡ Some (Some core)
-  pub others : new ≡ put_up old p (resumed core old.manager.round old.manager.starts)
+abbrev pub HasGoneOn : WorldState → ℕ → WorldState → Type 0
+HasGoneOn old p new =
+    (c : CoreState) × (slice_get old.cores p ≡ Some (Some c)) × (new ≡ put_up old p (resumed c old.manager.round old.manager.starts))
 
 -- a store failed, or memory was refused: a process that was to be rolled back is down, and no other changes
 abbrev pub BackStopped : WorldState → ℕ → WorldState → Type 0
 BackStopped old p new =
-    (IsToComeBack old p × (declared : Bool) × (slice_get old.places p ≡ Some (Place.Down declared)) × IsSame old new)
-    ⊎ (IsToComeBack old p × (slice_get old.places p ≡ Some Place.In) × IsSame (taken_down old p false) new)
+    IsToComeBack old p × (((declared : Bool) × (slice_get old.places p ≡ Some (Place.Down declared)) × IsSame old new)
+    ⊎ ((slice_get old.places p ≡ Some Place.In) × IsSame (taken_down old p false) new))

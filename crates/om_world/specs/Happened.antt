@@ -1,5 +1,5 @@
 -- What each event does to a world, by its answer.
-use Rattle.std.specs.Prelude.{◌≡◌, ◌≢◌, ◌⊎◌, ℕ, ◌+◌, ◌<◌, ◌≤◌, List, [], ◌∷◌, ◌++◌, length, slice_get, slice_set, IsSome, Some, None}
+use Rattle.std.specs.Prelude.{◌≡◌, ◌≢◌, ◌⊎◌, ℕ, ◌+◌, ◌<◌, ◌≤◌, List, [], ◌∷◌, ◌++◌, length, slice_get, slice_set, IfSome, IsSome, Some, None, true, false}
 use Rattle.std.specs.FinMap.{get}
 use Rattle.om_format.specs.declared.message.Message.{Message}
 use Rattle.om_stable.specs.Content.{Content, kept_by_prune}
@@ -8,21 +8,24 @@ use Rattle.om_process.specs.declared.accept.Accept.TheVariants as accepts
 use Rattle.om_process.specs.declared.status.Status.{Status}
 use Rattle.om_process.specs.Core.{CoreState, CoreTurns, with_now, RunsTo}
 use Rattle.om_process.specs.Accepts.{Answers, taken}
-use Rattle.om_process.specs.Trims.{trimmed}
 use Rattle.om_recover.specs.Cutting.{IsEffective, IsPruned}
 use Rattle.om_recover.specs.declared.row.RowKind.{RowKind}
 use Rattle.om_recover.specs.declared.row.RowKind.TheVariants.{Checkpoint, Log}
 use Rattle.om_manager.specs.Bounds.{AreGotFrom}
 use Rattle.om_manager.specs.Gatherings.{AreAllIn}
-use Rattle.om_manager.specs.Rounds.{IsSpent, with_failed}
-use Rattle.om_manager.specs.State.{ManagerState, held_by, process_count, released_by}
+use Rattle.om_manager.specs.Rounds.{Gathers, IsSpent, with_presence}
+use Rattle.om_manager.specs.State.{held_by, process_count, released_by}
+use Rattle.om_manager.specs.declared.presence.Presence.TheVariants as presences
+use Rattle.om_member.specs.Members.{trimmed_core}
 use Rattle.om_world.specs.declared.event.Event.{Event}
 use Rattle.om_world.specs.declared.event.Answer.{Answer}
 use Rattle.om_world.specs.declared.event.Answer.TheVariants as answers
 use Rattle.om_world.specs.declared.event.Refusal.{Refusal}
+use Rattle.om_world.specs.declared.place.Place.{Place}
 use Rattle.om_world.specs.declared.event.Refusal.TheVariants as refusals
 use Rattle.om_world.specs.World.{WorldState, recovered, entry_of}
-use Rattle.om_world.specs.Failures.{BackHappened, BackStopped, DownHappened, FailHappened, FailRefused, GoOnHappened, HasNews, IsDeclared, IsToGoOn, JoinHappened, JoinStopped}
+use Rattle.om_world.specs.Events.{process_of}
+use Rattle.om_world.specs.Failures.{BackHappened, BackStopped, FailRefused, HasGoneOn, HasHanded, HasNews, IsDeclared, IsToDeclare, IsToGoOn, JoinHappened, gathered, taken_down}
 use Rattle.om_world.specs.Changes.{HasFailed, IsSame, IsUp, Changes, new_messages, all_messages, made_by, HoldsMore, stored, HasStored, HasNoted, StoreStopped}
 
 -- ---- a run
@@ -56,13 +59,11 @@ pub record IsOffer (w : WorldState) (p f : ℕ) (m : Message) (c : CoreState) : 
   pub frame : slice_get w.frames f ≡ Some m
   pub core : slice_get w.cores p ≡ Some (Some c)
 
--- the message is taken, and is an entry of live
-abbrev pub with_taken : WorldState → ℕ → Message → CoreState → WorldState
-with_taken w p m c = record w { live = w.live ++ entry_of m ∷ []; cores = slice_set w.cores p (Some (taken c m)) }
-
+-- once it is taken, the message is an entry of live
 abbrev pub GiveHappened : WorldState → ℕ → ℕ → Accept → WorldState → Type 0
 GiveHappened old p f (accepts.Taken x) new =
-    (m : Message) × (c : CoreState) × IsOffer old p f m c × Answers c m (accepts.Taken x) × (new ≡ with_taken old p m c)
+    (m : Message) × (c : CoreState) × IsOffer old p f m c × Answers c m (accepts.Taken x)
+    × (new ≡ record old { live = old.live ++ entry_of m ∷ []; cores = slice_set old.cores p (Some (taken c m)) })
 GiveHappened old p f accepts.Memory new = ⊥
 GiveHappened old p f answer new = (m : Message) × (c : CoreState) × IsOffer old p f m c × Answers c m answer × (new ≡ old)
 
@@ -89,78 +90,57 @@ abbrev pub TrimHappened : WorldState → ℕ → WorldState → Type 0
 TrimHappened old p new =
     IsUp old p × (c : CoreState) × (slice_get old.cores p ≡ Some (Some c))
     × (got : List ℕ) × AreGotFrom old.manager.rows old.manager.recovery p got
-    × (new ≡ record old {
-      cores = slice_set old.cores p
-          (Some (with_now c (trimmed (got ++ length (released_by old.manager p) ∷ []) c.now)));
-    })
+    × (new ≡ record old { cores = slice_set old.cores p (Some (trimmed_core c got (length (released_by old.manager p)))) })
 
--- the manager is pruned
-pub record ManagerPruned (old new : ManagerState) : Type 0 where
-  pub rows : IsPruned old.rows old.recovery new.rows
-  pub others : new ≡ record old { rows = new.rows }
-
--- and a store to its effective checkpoint
+-- a store is pruned to its effective checkpoint
 abbrev pub StorePruned : WorldState → ℕ → Content → Content → Type 0
 StorePruned new p before after =
     (c : ℕ) × IsEffective new.manager.rows p (recovered new.manager p) c × (after ≡ kept_by_prune before c)
 
-pub record PruneHappened (old new : WorldState) : Type 0 where
-  pub manager : ManagerPruned old.manager new.manager
+-- the manager is pruned, and each store as is said
+pub record Prunes (Did : ℕ → Content → Content → Type 0) (old new : WorldState) : Type 0 where
+  pub rows : IsPruned old.manager.rows old.manager.recovery new.manager.rows
   pub stores : (p : ℕ) (before : Content) → slice_get old.contents p ≡ Some before
-      → (after : Content) × (slice_get new.contents p ≡ Some after) × StorePruned new p before after
-  pub others : new ≡ record old { manager = new.manager; contents = new.contents; health = new.health }
+      → (after : Content) × (slice_get new.contents p ≡ Some after) × Did p before after
+  pub others : new ≡ record old { manager = record old.manager { rows = new.manager.rows }; contents = new.contents; health = new.health }
 
 -- a store refused: the manager is pruned, and some of the stores
-pub record PruneStopped (old new : WorldState) : Type 0 where
-  pub manager : ManagerPruned old.manager new.manager
-  pub stores : (p : ℕ) (before : Content) → slice_get old.contents p ≡ Some before
-      → (after : Content) × (slice_get new.contents p ≡ Some after) × ((after ≡ before) ⊎ StorePruned new p before after)
-  pub others : new ≡ record old { manager = new.manager; contents = new.contents; health = new.health }
+abbrev pub PruneStopped : WorldState → WorldState → Type 0
+PruneStopped old new = Prunes (λ p before after. (after ≡ before) ⊎ StorePruned new p before after) old new
 
 -- ---- all events
--- an event of a process that is not there, or is not up; no other refusal is meant
-abbrev pub NotRunning : WorldState → ℕ → Refusal → WorldState → Type 0
-NotRunning old p refusals.NoProcess new = (length old.programs ≤ p) × (new ≡ old)
-NotRunning old p refusals.NotUp new = (p < length old.programs) × (IsUp old p → ⊥) × (new ≡ old)
-NotRunning old p why new = ⊥
-
 -- why an event is refused, and what it leaves. A fault is that of a store which counts it. Where all stores are clean, none is damaged
 abbrev pub Refused : WorldState → Event → Refusal → WorldState → Type 0
-Refused old (Event.Run p fuel) refusals.Memory new = RunStopped old p fuel new
-Refused old (Event.Run p fuel) why new = NotRunning old p why new
-Refused old (Event.Give p f) refusals.NoFrame new = IsUp old p × (length old.frames ≤ f) × (new ≡ old)
-Refused old (Event.Give p f) refusals.Memory new = (m : Message) × (c : CoreState) × IsOffer old p f m c × (new ≡ old)
-Refused old (Event.Give p f) why new = NotRunning old p why new
-Refused old (Event.Flush p) refusals.Memory new = IsUp old p × StoreStopped Log old p new
-Refused old (Event.Flush p) refusals.Fault new = IsUp old p × HasFailed old p new × IsSame old new
-Refused old (Event.Flush p) why new = NotRunning old p why new
-Refused old (Event.Checkpoint p) refusals.Memory new = IsUp old p × StoreStopped Checkpoint old p new
-Refused old (Event.Checkpoint p) refusals.Fault new = IsUp old p × HasFailed old p new × IsSame old new
-Refused old (Event.Checkpoint p) refusals.Present new = IsUp old p × HasCheckpoint old p × IsSame old new
-Refused old (Event.Checkpoint p) why new = NotRunning old p why new
-Refused old (Event.Resend p) refusals.Memory new = IsUp old p × (new ≡ old)
-Refused old (Event.Resend p) why new = NotRunning old p why new
-Refused old (Event.Trim p) why new = NotRunning old p why new
 Refused old Event.Prune refusals.Memory new = PruneStopped old new
 Refused old Event.Prune refusals.Fault new = ((p : ℕ) × HasFailed old p new) × PruneStopped old new
 Refused old Event.Prune why new = ⊥
-Refused old (Event.Fail p) refusals.NoProcess new = (length old.programs ≤ p) × (new ≡ old)
+Refused old event refusals.NoProcess new = IfSome (process_of event) (λ p. (length old.programs ≤ p) × (new ≡ old))
 Refused old (Event.Fail p) refusals.NotUp new = IsDeclared old p × (new ≡ old)
-Refused old (Event.Fail p) refusals.Spent new = FailRefused (λ w. IsSpent w.manager) old p new
+Refused old (Event.Resume p) refusals.NotUp new = ⊥
+Refused old event refusals.NotUp new =
+    IfSome (process_of event) (λ p. (p < length old.programs) × (IsUp old p → ⊥) × (new ≡ old))
+Refused old (Event.Run p fuel) refusals.Memory new = RunStopped old p fuel new
+Refused old (Event.Give p f) refusals.NoFrame new = IsUp old p × (length old.frames ≤ f) × (new ≡ old)
+Refused old (Event.Give p f) refusals.Memory new = (m : Message) × (c : CoreState) × IsOffer old p f m c × (new ≡ old)
+Refused old (Event.Flush p) refusals.Memory new = IsUp old p × StoreStopped Log old p new
+Refused old (Event.Flush p) refusals.Fault new = IsUp old p × HasFailed old p new × IsSame old new
+Refused old (Event.Checkpoint p) refusals.Memory new = IsUp old p × StoreStopped Checkpoint old p new
+Refused old (Event.Checkpoint p) refusals.Fault new = IsUp old p × HasFailed old p new × IsSame old new
+Refused old (Event.Checkpoint p) refusals.Present new = IsUp old p × HasCheckpoint old p × IsSame old new
+Refused old (Event.Resend p) refusals.Memory new = IsUp old p × (new ≡ old)
+Refused old (Event.Fail p) refusals.Spent new = FailRefused (IsSpent old.manager) old p new
 Refused old (Event.Fail p) refusals.Memory new =
-    FailRefused (λ w. AreAllIn (process_count w.manager) (with_failed w.manager p)) old p new
-Refused old (Event.Fail p) why new = ⊥
+    FailRefused (AreAllIn (process_count old.manager) (with_presence old.manager p presences.Failed)) old p new
 Refused old (Event.Join p) refusals.NoRound new = IsUp old p × (old.manager.gathering ≡ None) × (new ≡ old)
-Refused old (Event.Join p) refusals.Memory new = IsUp old p × (old.manager.gathering ≢ None) × JoinStopped old p new
+Refused old (Event.Join p) refusals.Memory new = IsUp old p × (old.manager.gathering ≢ None)
+    × (StoreStopped Log old p new ⊎ ((core : CoreState) × HasHanded old p core new))
 Refused old (Event.Join p) refusals.Fault new = IsUp old p × (old.manager.gathering ≢ None) × HasFailed old p new × IsSame old new
-Refused old (Event.Join p) why new = NotRunning old p why new
-Refused old (Event.Resume p) refusals.NoProcess new = (length old.programs ≤ p) × (new ≡ old)
 Refused old (Event.Resume p) refusals.NotIn new = (p < length old.programs) × (HasNews old p → ⊥) × (new ≡ old)
 Refused old (Event.Resume p) refusals.Memory new = BackStopped old p new ⊎ (IsToGoOn old p × (new ≡ old))
 Refused old (Event.Resume p) refusals.Fault new = HasFailed old p new × BackStopped old p new
-Refused old (Event.Resume p) why new = ⊥
+Refused old event why new = ⊥
 
--- what an event does, by its answer
+-- What an event does, by its answer. A process goes down and nothing is declared where it was in, and the gathering that it joined had finished
 abbrev pub Happened : WorldState → Event → Answer → WorldState → Type 0
 Happened old event (answers.Refused why) new = Refused old event why new
 Happened old (Event.Run p fuel) (answers.Ran steps status sent made) new = RunHappened old p fuel steps status sent made new
@@ -169,10 +149,12 @@ Happened old (Event.Flush p) (answers.Noted count) new = StoreHappened Log old p
 Happened old (Event.Checkpoint p) (answers.Noted count) new = StoreHappened Checkpoint old p count new
 Happened old (Event.Resend p) (answers.Resent count) new = ResendHappened old p count new
 Happened old (Event.Trim p) answers.Trimmed new = TrimHappened old p new
-Happened old Event.Prune answers.Pruned new = PruneHappened old new
-Happened old (Event.Fail p) (answers.Gathered answer) new = FailHappened old p answer new
-Happened old (Event.Fail p) answers.Down new = DownHappened old p new
+Happened old Event.Prune answers.Pruned new = Prunes (StorePruned new) old new
+Happened old (Event.Fail p) (answers.Gathered answer) new =
+    IsToDeclare old p × Gathers (with_presence old.manager p presences.Failed) old.manager answer new.manager
+    × (new ≡ gathered (taken_down old p true) answer new.manager)
+Happened old (Event.Fail p) answers.Down new = (slice_get old.places p ≡ Some Place.In) × HasNews old p × (new ≡ taken_down old p false)
 Happened old (Event.Join p) (answers.Gathered answer) new = JoinHappened old p answer new
 Happened old (Event.Resume p) (answers.Back interval inc) new = BackHappened old p interval inc new
-Happened old (Event.Resume p) answers.GoesOn new = GoOnHappened old p new
+Happened old (Event.Resume p) answers.GoesOn new = IsToGoOn old p × HasGoneOn old p new
 Happened old event answer new = ⊥

@@ -20,37 +20,37 @@ use Rattle.om_recover.specs.declared.row.RowKind.TheVariants.{Checkpoint, Log}
 use Rattle.om_manager.specs.Outputs.{HeldOutput}
 use Rattle.om_manager.specs.State.{released_by}
 use Rattle.om_world.specs.declared.place.Place.{Place}
-use Rattle.om_world.specs.Live.{program_at, Legal}
-use Rattle.om_world.specs.World.{WorldState, Past, past_of, history, recovered, output_entry}
+use Rattle.om_world.specs.Live.{program_at, received, Legal}
+use Rattle.om_world.specs.World.{WorldState, recovered, output_entry}
 
 -- a core is where its process's receipts lead, with their dependencies and counts; and of what the process made for others,
 -- it keeps whatever they have not received
 pub record StandsAt (w : WorldState) (p : ℕ) (c : CoreState) : Type 0 where
   pub whole : Process
-  pub reaches : Reaches (program_at w.programs p) p (length w.programs) (history (past_of w) p) whole
+  pub reaches : Reaches (program_at w.programs p) p (length w.programs) (received p w.live) whole
   pub keeps : Keeps whole c.now
-  pub row : RowOf p (length w.programs) c.now.vec c.now.got (history (past_of w) p)
-  pub undelivered : (q number : ℕ) (e : QueueEntry) → q < length w.programs → count_from p (history (past_of w) q) ≤ number
+  pub row : RowOf p (length w.programs) c.now.vec c.now.got (received p w.live)
+  pub undelivered : (q number : ℕ) (e : QueueEntry) → q < length w.programs → count_from p (received q w.live) ≤ number
       → HasEntry whole.queues q number e → HasEntry c.now.queues q number e
 
 -- the released outputs are the first of those that the process makes along its receipts
 abbrev pub ReleasedFirst : WorldState → ℕ → Type 0
 ReleasedFirst w p =
-    (s : Process) × Reaches (program_at w.programs p) p (length w.programs) (history (past_of w) p) s
+    (s : Process) × Reaches (program_at w.programs p) p (length w.programs) (received p w.live) s
     × ((i : ℕ) (o : HeldOutput) → slice_get (released_by w.manager p) i ≡ Some o
     → HasEntry s.queues (length w.programs) i (output_entry o))
 
 -- the record of a row stands in the store of process p: the spelling of a checkpoint of that process in this interval, or of
 -- the receipt that began it, as the run without failures leads it there
-abbrev pub HasRecord : Past → ℕ → Content → RowKind → ℕ → Type 0
+abbrev pub HasRecord : WorldState → ℕ → Content → RowKind → ℕ → Type 0
 HasRecord w p held Checkpoint x =
     (bytes : List ℕ) × (get held.checkpoints x ≡ Some bytes)
     × (c : CheckpointRecord) × IsSpelled c bytes × (c.head.pid ≡ p) × (c.n ≡ length w.programs)
-    × AtInterval (history w p) x (CheckpointOf (program_at w.programs p) p (length w.programs) (process_of c))
+    × AtInterval (received p w.live) x (CheckpointOf (program_at w.programs p) p (length w.programs) (process_of c))
 HasRecord w p held Log x =
     (bytes : List ℕ) × (get held.receipts x ≡ Some bytes)
     × (r : ReceiptRecord) × SpellsReceipt r bytes
-    × AtInterval (history w p) x (RecordOf (program_at w.programs p) p (length w.programs) r)
+    × AtInterval (received p w.live) x (RecordOf (program_at w.programs p) p (length w.programs) r)
 
 -- a record that a replay from this checkpoint may want: the checkpoint itself or a later one, or a receipt after it
 abbrev pub IsWanted : ℕ → RowKind → ℕ → Type 0
@@ -71,4 +71,4 @@ pub record Holds (w : WorldState) : Type 0 where
   -- each row that a replay may want has its record
   pub backed : (row : Row) (held : Content) (c : ℕ) → HasRow w.manager.rows row → slice_get w.contents row.pid ≡ Some held
       → IsEffective w.manager.rows row.pid (recovered w.manager row.pid) c → IsWanted c row.kind row.interval
-      → HasRecord (past_of w) row.pid held row.kind row.interval
+      → HasRecord w row.pid held row.kind row.interval

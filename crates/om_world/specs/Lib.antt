@@ -6,5 +6,6 @@ pub mod Failures
 pub mod Happened
 pub mod Played
 pub mod Started
+pub mod Events
 pub mod Texts
 pub mod steps

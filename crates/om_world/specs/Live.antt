@@ -29,14 +29,9 @@ pub record MayFollow (programs : List Program) (before : List Entry) (e : Entry)
       (Makes (program_at programs e.from) e.from (length programs) e.to e.ssn (record { interval = e.interval; body = e.body }))
   pub waits : LeadsToWait (program_at programs e.to) e.to (length programs) (received e.to before)
 
--- each of the entries may come after those and the ones before it
-abbrev pub LegalAfter : List Program → List Entry → List Entry → Type 0
-LegalAfter programs before [] = Unit {0}
-LegalAfter programs before (e ∷ es) = MayFollow programs before e × LegalAfter programs (before ++ e ∷ []) es
-
 -- the entries are a run without failures: each may come after those before it
 abbrev pub Legal : List Program → List Entry → Type 0
-Legal programs es = LegalAfter programs [] es
+Legal programs es = (before after : List Entry) (e : Entry) → es ≡ before ++ e ∷ after → MayFollow programs before e
 
 -- of the entries that come after those, the ones that are among the first of their receiver
 abbrev pub cut_after : (ℕ → ℕ) → List Entry → List Entry → List Entry

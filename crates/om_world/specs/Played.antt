@@ -20,8 +20,7 @@ pub record Step (old : WorldState) (event : Event) (answer : Answer) (new : Worl
 abbrev pub Played : WorldState → List Event → List Answer → WorldState → Type 0
 Played old [] [] new = new ≡ old
 Played old (e ∷ es) (a ∷ answers) new = (mid : WorldState) × Step old e a mid × Played mid es answers new
-Played old [] (a ∷ answers) new = ⊥
-Played old (e ∷ es) [] new = ⊥
+Played old events answers new = ⊥
 
 -- an event was answered with anything but a fault of a store
 abbrev pub IsFaultless : Answer → Type 0

@@ -1,7 +1,6 @@
 -- The words of events and of what is answered to them, wherever these are written.
 use Rattle.std.specs.Prelude.{ℕ, List, [], ◌∷◌, ◌++◌, codes, decimal}
 use Rattle.om_machine.specs.Causes.{cause_number}
-use Rattle.om_manager.specs.declared.answers.Gathered.{Gathered}
 use Rattle.om_manager.specs.declared.answers.Gathered.TheVariants.{Waiting, Finished}
 use Rattle.om_process.specs.declared.accept.Accept.{Accept}
 use Rattle.om_process.specs.declared.accept.Accept.TheVariants as accepts
@@ -58,25 +57,18 @@ refusal_word refusals.Fault = codes "fault"
 refusal_word refusals.Damaged = codes "damaged"
 refusal_word refusals.Memory = codes "memory"
 
--- what a process answers to a frame
-abbrev pub accept_text : Accept → List ℕ
-accept_text (accepts.Taken x) = codes "taken " ++ decimal x
-accept_text accept = accept_word accept
-
-abbrev pub gathered_word : Gathered → List ℕ
-gathered_word Waiting = codes "waiting"
-gathered_word Finished = codes "finished"
-
 -- what is answered to an event
 abbrev pub answer_text : Answer → List ℕ
 answer_text (Ran steps status sent made) =
     codes "ran " ++ decimal steps ++ 32 ∷ status_text status ++ codes " sent " ++ decimal sent ++ codes " made " ++ decimal made
-answer_text (Given accept) = accept_text accept
+answer_text (Given (accepts.Taken x)) = codes "taken " ++ decimal x
+answer_text (Given accept) = accept_word accept
 answer_text (Noted count) = codes "noted " ++ decimal count
 answer_text (Resent count) = codes "sent " ++ decimal count
 answer_text Trimmed = codes "trimmed"
 answer_text Pruned = codes "pruned"
-answer_text (answers.Gathered gathered) = gathered_word gathered
+answer_text (answers.Gathered Waiting) = codes "waiting"
+answer_text (answers.Gathered Finished) = codes "finished"
 answer_text Down = codes "down"
 answer_text (Back interval inc) = codes "back " ++ decimal interval ++ codes " inc " ++ decimal inc
 answer_text GoesOn = codes "goes-on"

@@ -5,13 +5,12 @@ use Rattle.om_format.specs.declared.message.Message.{Message}
 use Rattle.om_format.specs.declared.queue.QueueEntry.{QueueEntry}
 use Rattle.om_stable.specs.Content.{Content, nothing}
 pub use Rattle.om_process.specs.Images.{program_of}
-use Rattle.om_process.specs.Process.{Program, Received}
+use Rattle.om_process.specs.Process.{Program}
 use Rattle.om_process.specs.Core.{CoreState}
 use Rattle.om_manager.specs.Outputs.{HeldOutput}
 use Rattle.om_manager.specs.State.{ManagerState}
 use Rattle.om_world.specs.declared.entry.Entry.{Entry}
 use Rattle.om_world.specs.declared.place.Place.{Place}
-use Rattle.om_world.specs.Live.{received}
 
 -- how a store stands: whether what it holds is known, and how often it has failed
 pub record Health : Type 0 where
@@ -30,10 +29,6 @@ pub record WorldState : Type 0 where
   pub health : List Health  -- by process, how its store stands
   pub origins : List Content  -- by process, what its store held before the start
 
--- how a store of some type stands
-abbrev pub health_of : {S : Type 0} → (S → Bool) → (S → ℕ) → S → Health
-health_of is_clean failed store = record { clean = is_clean store; failed = failed store }
-
 -- what each store holds is known
 abbrev pub all_clean : List Health → Bool
 all_clean = list_all (λ (store : Health). store.clean)
@@ -45,19 +40,6 @@ IsEmpty held = held ≡ nothing
 -- the stores held nothing before the start, and what each holds now is known
 abbrev pub IsKnown : WorldState → Type 0
 IsKnown w = All IsEmpty w.origins × (all_clean w.health ≡ true)
-
--- what the claims on processes speak of
-pub record Past : Type 0 where
-  pub programs : List Program
-  pub live : List Entry
-  pub manager : ManagerState
-
-abbrev pub past_of : WorldState → Past
-past_of w = record { programs = w.programs; live = w.live; manager = w.manager }
-
--- what a process received, but for what was cut
-abbrev pub history : Past → ℕ → List Received
-history w p = received p w.live
 
 -- the entry of live that a message becomes
 abbrev pub entry_of : Message → Entry

@@ -1,4 +1,6 @@
 -- What only the crate's own parts rest on: no public clause cites these.
+pub mod Past
+pub mod Legal
 pub mod Sound
 pub mod Moves
 pub mod Starting
@@ -8,4 +10,5 @@ pub mod Counts
 pub mod Members
 pub mod Gathering
 pub mod Returning
+pub mod NotRunning
 pub mod Codes

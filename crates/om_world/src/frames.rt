@@ -7,7 +7,8 @@ ghost use Rattle.om_world.specs.steps.Moves.{Keeps, answered};
 ghost use Rattle.om_world.specs.steps.Running.{HasSent, KeepsMore, messages_past};
 ghost use Rattle.om_process.specs.Core.{CoreState, cluster_size};
 ghost use Rattle.om_process.specs.Frames.{messages_to};
-ghost use Rattle.om_world.specs.Changes.{IsUp, messages_behind, messages_in};
+ghost use Rattle.om_world.specs.Changes.{IsUp, messages_behind};
+ghost use Rattle.om_world.specs.steps.Running.{messages_in};
 ghost use Rattle.om_world.specs.Happened.{Happened};
 
 use crate::event::{Answer, Refusal};

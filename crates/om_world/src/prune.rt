@@ -2,12 +2,12 @@
 
 ghost use Rattle.std.specs.Prelude.{◌≡◌, ◌≢◌, ◌<◌, length, Err};
 ghost use Rattle.om_stable.specs.declared.error.StoreError.{StoreError};
-ghost use Rattle.om_world.specs.Happened.{Happened, ManagerPruned};
+ghost use Rattle.om_world.specs.Happened.{Happened};
 ghost use Rattle.om_world.specs.Played.{IsCounted, IsFaultless};
 ghost use Rattle.om_world.specs.World.{IsKnown};
 ghost use Rattle.om_world.specs.declared.event.Event.{Event};
 ghost use Rattle.om_world.specs.steps.Moves.{Keeps, answered};
-ghost use Rattle.om_world.specs.steps.Pruning.{AllPruned, HasPruned};
+ghost use Rattle.om_world.specs.steps.Pruning.{AllPruned, HasPruned, ManagerPruned};
 
 use crate::event::{Answer, Refusal};
 use crate::world::World;

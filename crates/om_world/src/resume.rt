@@ -10,7 +10,8 @@ ghost use Rattle.om_world.specs.declared.event.Event.{Event};
 ghost use Rattle.om_world.specs.declared.event.Refusal.{Refusal};
 ghost use Rattle.om_world.specs.declared.place.Place.TheVariants as places;
 ghost use Rattle.om_world.specs.steps.Moves.{Keeps, answered};
-ghost use Rattle.om_world.specs.steps.Returning.{HasGoneOn, HasLeft, IsBeyond, IsDue, Returns};
+ghost use Rattle.om_world.specs.steps.Returning.{HasLeft, IsBeyond, IsDue, Returns};
+ghost use Rattle.om_world.specs.Failures.{HasGoneOn};
 
 use crate::event::{Answer, Refusal};
 use crate::place::Place;

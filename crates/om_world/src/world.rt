@@ -3,7 +3,7 @@
 ghost use Rattle.std.specs.Prelude.{◌≡◌, ◌<◌, length, map, slice_get, IfOk, IfErr, IfNone, IfSome, IsTrue, Some, true};
 ghost use Rattle.om_process.specs.Core.{CoreState, cluster_size};
 ghost use Rattle.om_world.specs.Changes.{IsUp};
-ghost use Rattle.om_world.specs.Happened.{NotRunning};
+ghost use Rattle.om_world.specs.steps.NotRunning.{NotRunning};
 ghost use Rattle.om_world.specs.Holds.{Holds};
 ghost use Rattle.om_world.specs.World.{IsKnown, all_clean};
 
@@ -35,9 +35,9 @@ pub struct World<S: Stable> {
 
 impl<S: Stable> Model for World<S> {
     ghost use Rattle.std.specs.Prelude.{map, ◌≡◌, true};
-    ghost use Rattle.om_world.specs.World.{WorldState, health_of, program_of};
+    ghost use Rattle.om_world.specs.World.{WorldState, program_of};
     ghost use Rattle.om_world.specs.steps.Codes.{coded_health};
-    ghost use Rattle.om_world.specs.steps.Members.{seen, sound_in};
+    ghost use Rattle.om_world.specs.steps.Members.{health_of, seen, sound_in};
     ghost use Rattle.om_world.specs.steps.Sound.{IsWorld};
     ghost use Rattle.om_stable.specs.steps.Codes.{content_code};
     ghost use Rattle.om_manager.specs.steps.Codes.{coded_manager};

@@ -6,7 +6,7 @@ use Rattle.om_stable.specs.Content.{Content, IsEffective, IsFree}
 use Rattle.om_process.specs.Stored.{Anyone, CanReplay}
 use Rattle.om_process.specs.declared.limits.TheConstants.{LAST_INTERVAL}
 use Rattle.om_look.specs.Lines.{AreLines, IsCheckpointLine, IsReceiptLine}
-use Rattle.om_look.specs.Show.{up_to}
+use Rattle.om_look.specs.steps.Ranges.{up_to}
 use Rattle.om_look.specs.Spans.{AreApart, IsCovered, spans_text}
 use Rattle.om_look.specs.steps.Stops.{StopsAt}
 use Rattle.om_look.specs.declared.gathering.Found.{Found}

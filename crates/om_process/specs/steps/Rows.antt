@@ -11,7 +11,8 @@ use Rattle.om_process.specs.declared.replay.ReplayFault.TheVariants.{NoCheckpoin
 use Rattle.om_process.specs.Process.{Process}
 use Rattle.om_process.specs.Replays.{Replayed, process_of}
 use Rattle.om_process.specs.Core.{CoreState, cluster_size}
-use Rattle.om_process.specs.Stored.{Anyone, AreReceiptsAfter, DoesNotFit, IsDamagedCheckpoint, IsReceiptAt}
+use Rattle.om_process.specs.Stored.{Anyone, AreReceiptsAfter, IsDamagedCheckpoint, IsReceiptAt}
+use Rattle.om_process.specs.steps.Fitting.{DoesNotFit}
 
 -- rows rise from above an interval to x at most
 abbrev pub Ascend : ℕ → ℕ → List (ℕ × List ℕ) → Type 0

@@ -4,7 +4,7 @@ use Rattle.om_interval.specs.Vectors.{IsBelow}
 use Rattle.om_recover.specs.Rows.{Rows, HasRow}
 use Rattle.om_recover.specs.Recoverable.{IsStable, IsRecoverable}
 use Rattle.om_recover.specs.Attempts.{Attempt}
-use Rattle.om_recover.specs.Climb.{IsLeastStable, AreLooks, IsClimbed, IsOutOfReach}
+use Rattle.om_recover.specs.Climb.{IsLeastStable, AreLooks, IsClimbed}
 use Rattle.om_recover.specs.Counted.{IsLater, AreInTurn}
 use Rattle.om_recover.specs.declared.row.Row.{Row}
 
@@ -101,6 +101,10 @@ EndsBy rows p x = (z : ℕ) → IsStable rows p z → z ≤ x
 -- no process has a stable interval above its place of the state
 abbrev pub AllEndBy : Rows → List ℕ → Type 0
 AllEndBy rows state = (p : ℕ) → p < length state → EndsBy rows p (slice_index state p)
+
+-- no recoverable state has process p at x or above
+abbrev pub IsOutOfReach : ℕ → Rows → ℕ → ℕ → Type 0
+IsOutOfReach n rows p x = (other : List ℕ) → IsRecoverable n rows other → slice_index other p < x
 
 -- what comes of a climb
 abbrev pub TellsClimb : ℕ → Rows → List ℕ → ℕ → ℕ → Option (List ℕ) → Type 0

@@ -2,7 +2,6 @@
 use Rattle.std.specs.Prelude.{◌≡◌, ℕ, ◌<◌, ◌≤◌, ◌+◌, ◌^◌, Some, map}
 use Rattle.std.specs.FinSet as set
 use Rattle.om_recover.specs.Rows.{Rows, HasRow, Has, HaveSameVectors}
-use Rattle.om_recover.specs.Offered.{AreOfOneInterval}
 use Rattle.om_recover.specs.Recoverable.{IsStable}
 use Rattle.om_recover.specs.steps.Nearest.{at}
 use Rattle.om_recover.specs.steps.Bases.{AreBases, base_entries}
@@ -86,9 +85,11 @@ pub record IsRun (rows : Rows) (p x last : ℕ) : Type 0 where
 pub record HasDifferent (rows : Rows) (row : Row) : Type 0 where
   pub other : Row
   pub there : HasRow rows other
-  pub same_interval : AreOfOneInterval other row
+  pub pid : other.pid ≡ row.pid
+  pub interval : other.interval ≡ row.interval
   pub differs : HaveSameVectors other row → ⊥
 
 -- the row agrees with each record of that kind of its interval
 abbrev pub AgreesOfKind : Rows → RowKind → Row → Type 0
-AgreesOfKind rows kind row = (other : Row) → HasRow rows other → other.kind ≡ kind → AreOfOneInterval other row → HaveSameVectors other row
+AgreesOfKind rows kind row =
+    (other : Row) → HasRow rows other → other.kind ≡ kind → other.pid ≡ row.pid → other.interval ≡ row.interval → HaveSameVectors other row

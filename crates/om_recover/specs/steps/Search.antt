@@ -1,7 +1,8 @@
 -- What the steps of the search and of a note promise.
 use Rattle.std.specs.Prelude.{◌≡◌, ℕ, ◌<◌, ◌≤◌, Result, Ok, Err}
 use Rattle.om_recover.specs.Rows.{Rows, HasRow, IsAtMost}
-use Rattle.om_recover.specs.Offered.{offered, IsNearestBelow}
+use Rattle.om_recover.specs.Offered.{offered}
+use Rattle.om_recover.specs.steps.Beside.{IsNearestBelow}
 use Rattle.om_recover.specs.declared.row.Row.{Row}
 use Rattle.om_recover.specs.declared.note.Note.{Note}
 use Rattle.om_recover.specs.declared.note.Note.TheVariants.{Noted, Known}

@@ -4,7 +4,7 @@ use Rattle.std.proofs.Common.{refl}
 use Rattle.std.specs.Coded.{Coded, code_by, coded×, coded_ℕ, coded_list}
 use Rattle.om_recover.specs.declared.step.Step.{Step}
 use Rattle.om_recover.specs.declared.step.Step.TheVariants as step
-use Rattle.om_recover.specs.Attempts.{Attempt, with_attempt}
+use Rattle.om_recover.specs.Attempts.{Attempt}
 
 -- the code of an attempt
 abbrev pub coded_attempt : Coded Attempt
@@ -14,6 +14,10 @@ coded_attempt =
     (λ a. (a.pid, (a.interval, (a.state, a.looks))))
     (λ parts. record { pid = parts.0; interval = parts.1.0; state = parts.1.1.0; looks = parts.1.1.1 })
     (λ a. refl)
+
+-- with one attempt more, which has no looks
+abbrev pub with_attempt : List Attempt → ℕ → ℕ → List ℕ → List Attempt
+with_attempt attempts p x s = record { pid = p; interval = x; state = s; looks = [] } ∷ attempts
 
 -- with one look more in the newest attempt
 abbrev pub with_look : List Attempt → ℕ → ℕ → List Attempt

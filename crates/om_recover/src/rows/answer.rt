@@ -1,6 +1,7 @@
 ghost use Rattle.std.specs.Prelude.{◌≡◌, ℕ, ◌<◌, ◌≤◌, ◌↔◌, ◌⊎◌, length, false, slice_index, IsTrue, IfSome, MatchOption};
 ghost use Rattle.om_recover.specs.Rows.{HasRow, IsFair, IsAtMost, HaveSameVectors, IsLawful};
-ghost use Rattle.om_recover.specs.Offered.{AreOfOneInterval, IsNearestBelow, IsNearestAbove, IsNew, IsOffer, IsInOrderBelow, IsInOrderAbove, BreaksBelow, BreaksAbove, Agrees};
+ghost use Rattle.om_recover.specs.Offered.{IsNew, IsOffer, IsInOrderBelow, IsInOrderAbove, Agrees};
+ghost use Rattle.om_recover.specs.steps.Beside.{IsNearestBelow, IsNearestAbove, BreaksBelow, BreaksAbove};
 ghost use Rattle.om_recover.specs.steps.Search.{IsAnswered, IsQuiet, HasNoRowBelow, HasNoRowAbove, HasNoRowFrom, FollowsRow};
 ghost use Rattle.om_recover.specs.steps.Held.{AreTrees, HasDifferent, AgreesOfKind, held, row_of};
 

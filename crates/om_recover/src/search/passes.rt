@@ -2,8 +2,8 @@ ghost use Rattle.std.specs.Prelude.{◌≡◌, ℕ, ◌+◌, ◌<◌, ◌≤◌,
 ghost use Rattle.om_interval.specs.Vectors.{IsBelow};
 ghost use Rattle.om_recover.specs.Rows.{IsLawful};
 ghost use Rattle.om_recover.specs.Recoverable.{IsStable, IsRecoverable, IsGreatest};
-ghost use Rattle.om_recover.specs.Climb.{IsLeastStable, IsOutOfReach};
-ghost use Rattle.om_recover.specs.steps.Climbing.{ArePassed, AreWithinOrStarted, IsAtRest, TellsLeast};
+ghost use Rattle.om_recover.specs.Climb.{IsLeastStable};
+ghost use Rattle.om_recover.specs.steps.Climbing.{ArePassed, AreWithinOrStarted, IsAtRest, TellsLeast, IsOutOfReach};
 ghost use Rattle.om_recover.specs.steps.Memory.{AreRemembered};
 ghost use Rattle.om_recover.specs.Counted.{IsSearched};
 

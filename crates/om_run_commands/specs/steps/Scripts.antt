@@ -1,13 +1,12 @@
 -- The errors of a script that was read, before it is known of which bytes.
-use Rattle.std.specs.Prelude.{◌≤◌, length}
-use Rattle.om_scripts.specs.Programs.{LacksProcesses}
+use Rattle.std.specs.Prelude.{◌≡◌, ◌≤◌, length}
 use Rattle.om_commands.specs.declared.error.CommandError.{CommandError}
 use Rattle.om_commands.specs.declared.error.CommandError.TheVariants as errors
 use Rattle.om_run_commands.specs.ClusterScript.{ClusterFile}
 
 -- A script without a process is told, and so is it where a run comes to no end. Nothing else of the script is.
 abbrev pub IsErrorOfScript : ClusterFile → CommandError → Type 0
-IsErrorOfScript script errors.EmptyScript = LacksProcesses script.cluster
+IsErrorOfScript script errors.EmptyScript = length script.cluster.processes ≡ 0
 IsErrorOfScript script errors.NoMemory = Unit {0}
 IsErrorOfScript script errors.OutOfTurns = 1 ≤ length script.cluster.processes
 IsErrorOfScript script errors.GateShut = 1 ≤ length script.cluster.processes

@@ -6,9 +6,17 @@ use Rattle.sqlite.specs.Effect.{Database}
 use Rattle.sqlite.specs.Order.{Row, column}
 use Rattle.sqlite.specs.State.{State, HasCleanDisk, KeepsCommit}
 use Rattle.om_stable.specs.Content.{Records, Content, IsFree, IsEffective}
-use Rattle.om_tables.specs.Tables.{no_schema}
+use Rattle.om_tables.specs.Tables.{no_schema, stored_row}
 use Rattle.om_tables.specs.steps.Halfway.{half_schema, shown}
 use Rattle.om_tables.specs.Store.{Holds, IsFormed, content_in, number_in, bytes_in}
+
+-- the row as it is stored, by its two parts
+abbrev pub stored : ℕ → List ℕ → Row
+stored x body = stored_row (x, body)
+
+-- the interval and the bytes that a row of a table stands for
+abbrev pub entry_in : Row → ℕ × List ℕ
+entry_in r = (number_in (column r 0), bytes_in (column r 2))
 
 -- the interval and the bytes that a row of a SELECT of both columns shows
 abbrev pub shown_entry : Row → ℕ × List ℕ

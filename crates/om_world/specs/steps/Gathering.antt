@@ -2,7 +2,8 @@
 use Rattle.std.specs.Prelude.{◌≡◌, ◌≢◌, ℕ, List, slice_get, slice_set, true, None, Some, Option, Result, IfOk, IfErr, OnErr}
 use Rattle.om_process.specs.Core.{CoreState}
 use Rattle.om_manager.specs.Gatherings.{AreAllIn}
-use Rattle.om_manager.specs.Rounds.{Gathers, IsSpent, with_failed, with_joined}
+use Rattle.om_manager.specs.Rounds.{Gathers, IsSpent}
+use Rattle.om_manager.specs.steps.Presences.{with_failed, with_joined}
 use Rattle.om_manager.specs.Sound.{IsManager, KeepsReleased}
 use Rattle.om_manager.specs.State.{ManagerState, process_count}
 use Rattle.om_manager.specs.declared.answers.Gathered.{Gathered}
@@ -14,7 +15,7 @@ use Rattle.om_world.specs.declared.entry.Entry.{Entry}
 use Rattle.om_world.specs.declared.failing.Failure.{Failure}
 use Rattle.om_world.specs.declared.failing.Failure.TheVariants.{Known, Settled, New}
 use Rattle.om_world.specs.declared.place.Place.{Place}
-use Rattle.om_world.specs.Failures.{HasNews, IsDeclared, IsToDeclare, gathered, live_after, taken_in}
+use Rattle.om_world.specs.Failures.{HasNews, IsDeclared, IsToDeclare, gathered, live_after}
 use Rattle.om_world.specs.World.{WorldState, IsKnown}
 
 -- the manager answered to a failure or a join; where the round is finished, what was received is cut
@@ -56,6 +57,10 @@ pub record HasDeclaredAt (old : WorldState) (p : ℕ) (answer : Result Gathered 
 -- the round and the interval of the core at a place
 abbrev pub StandsIn : List (Option CoreState) → ℕ → ℕ × ℕ → Type 0
 StandsIn cores p at = (c : CoreState) × (slice_get cores p ≡ Some (Some c)) × (at.0 ≡ c.round) × (at.1 ≡ c.now.interval)
+
+-- the process is in
+abbrev pub taken_in : WorldState → ℕ → WorldState
+taken_in w p = record w { places = slice_set w.places p Place.In }
 
 -- a process that was up is in, or it was refused for want of memory
 pub record HasEntered (old : WorldState) (p : ℕ) (answer : Result Gathered JoinError) (new : WorldState) : Type 0 where

@@ -1,5 +1,5 @@
 -- A world's members, as they are seen.
-use Rattle.std.specs.Prelude.{ℕ, List, Option, map}
+use Rattle.std.specs.Prelude.{ℕ, List, Option, Bool, map}
 use Rattle.om_format.specs.declared.message.Message.{Message}
 use Rattle.om_stable.specs.Content.{Content}
 use Rattle.om_process.specs.Core.{CoreState}
@@ -12,6 +12,10 @@ use Rattle.om_member.specs.declared.member.Standing.TheVariants as stands
 use Rattle.om_world.specs.declared.entry.Entry.{Entry}
 use Rattle.om_world.specs.declared.place.Place.{Place}
 use Rattle.om_world.specs.World.{Health, WorldState}
+
+-- how a store of some type stands
+abbrev pub health_of : {S : Type 0} → (S → Bool) → (S → ℕ) → S → Health
+health_of is_clean failed store = record { clean = is_clean store; failed = failed store }
 
 abbrev pub place_of : Standing → Place
 place_of (stands.Up core) = Place.Up

@@ -3,11 +3,17 @@ use Rattle.std.specs.Prelude.{◌≡◌, ◌≢◌, ℕ, ◌<◌, ◌≤◌, len
 use Rattle.om_stable.specs.Content.{Content}
 use Rattle.om_stable.specs.declared.error.StoreError.{StoreError}
 use Rattle.om_stable.specs.declared.error.StoreError.TheVariants.{Fault, Present}
-use Rattle.om_recover.specs.Cutting.{IsEffective}
+use Rattle.om_recover.specs.Cutting.{IsEffective, IsPruned}
+use Rattle.om_manager.specs.State.{ManagerState}
 use Rattle.om_world.specs.Changes.{HasFailed, NoneFell}
 pub use Rattle.om_member.specs.Members.{WasPruned}
 use Rattle.om_world.specs.Happened.{StorePruned}
 use Rattle.om_world.specs.World.{WorldState, IsKnown, all_clean, recovered}
+
+-- the manager is pruned
+pub record ManagerPruned (old new : ManagerState) : Type 0 where
+  pub rows : IsPruned old.rows old.recovery new.rows
+  pub others : new ≡ record old { rows = new.rows }
 
 -- the store of a process was pruned to its effective checkpoint, or refused
 pub record HasPruned (old : WorldState) (p : ℕ) (answer : Result (Unit {0}) StoreError) (new : WorldState) : Type 0 where

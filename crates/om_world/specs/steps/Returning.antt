@@ -66,11 +66,6 @@ abbrev pub KnowsRound : List (Option CoreState) → ℕ → ManagerState → Lis
 KnowsRound old p m new =
     (c : CoreState) × (slice_get old p ≡ Some (Some c)) × (new ≡ slice_set old p (Some (resumed c m.round m.starts)))
 
--- a process is up again as it was, and knows them
-abbrev pub HasGoneOn : WorldState → ℕ → WorldState → Type 0
-HasGoneOn old p new =
-    (c : CoreState) × (slice_get old.cores p ≡ Some (Some c)) × (new ≡ put_up old p (resumed c old.manager.round old.manager.starts))
-
 -- a process is to come up again: rolled back, or as it was
 abbrev pub IsDue : WorldState → ℕ → Bool → Type 0
 IsDue w p true = IsToComeBack w p

@@ -2,7 +2,8 @@
 use Rattle.std.specs.Prelude.{◌≡◌, ℕ, ◌<◌, ◌≤◌, List, ◌++◌, length, slice_get, slice_index, Option, Some, Result, OnOk, IfErr}
 use Rattle.om_format.specs.declared.message.Message.{Message}
 use Rattle.om_process.specs.Core.{CoreState, cluster_size}
-use Rattle.om_process.specs.Frames.{messages_to}
+use Rattle.om_process.specs.Frames.{message_of, messages_to}
+use Rattle.om_process.specs.Kept.{numbered}
 use Rattle.om_manager.specs.Sound.{KeepsReleased}
 use Rattle.om_manager.specs.State.{held_by}
 use Rattle.om_manager.specs.declared.answers.OutputError.{OutputError}
@@ -11,7 +12,12 @@ use Rattle.om_world.specs.declared.event.Refusal.{Refusal}
 use Rattle.om_world.specs.declared.event.Refusal.TheVariants as why
 use Rattle.om_world.specs.Changes.{HoldsMore, made_by, messages_behind}
 use Rattle.om_world.specs.World.{WorldState, IsKnown}
-pub use Rattle.om_member.specs.Handed.{AreHanded, AreHandedUpTo, IsHanded, offer_of, outputs_from}
+pub use Rattle.om_member.specs.Handed.{AreHanded, AreHandedUpTo, IsHanded, held_as, outputs_from}
+pub use Rattle.om_member.specs.steps.Taking.{offer_of}
+
+-- the messages to a process that are kept, on their way
+abbrev pub messages_in : CoreState → ℕ → List Message
+messages_in c to = numbered (message_of c to) (messages_to c to).first (messages_to c to).entries
 
 -- ---- messages
 -- these are how many messages to each process a core keeps

@@ -28,7 +28,8 @@ use Rattle.om_manager.specs.State.{ManagerState, held_by, process_count, release
 use Rattle.om_manager.specs.declared.presence.Presence.TheVariants.{Away, Failed, Joined}
 use Rattle.om_world.specs.declared.place.Place.{Place}
 use Rattle.om_world.specs.Live.{program_at, Legal}
-use Rattle.om_world.specs.World.{WorldState, Past, past_of, history, recovered, output_entry, IsKnown}
+use Rattle.om_world.specs.World.{WorldState, recovered, output_entry, IsKnown}
+use Rattle.om_world.specs.steps.Past.{Past, past_of, history}
 use Rattle.om_world.specs.Failures.{HasNews}
 
 -- something stands in the store at the interval of a row

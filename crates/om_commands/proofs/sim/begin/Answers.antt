@@ -11,8 +11,4 @@ memory-requires c = only_memory (map program_of c.args.images.now) c.in_ok-store
 pub returns-in-Ok-clause-begun : goal.returns-in-Ok-clause-begun
 returns-in-Ok-clause-begun c =
     let known : IsKnown c.in-Ok.world = (subst (λ held. All IsEmpty held) (sym c.in-Ok.ensures.origins) (all_same c.in_ok-stores.stores.items c.in_ok-stores.ensures.empty), c.in-Ok.ensures.always (λ store. refl)) in
-    record {
-      started = c.in-Ok.ensures.started;
-      known = known;
-      holds = c.in-Ok.ensures.holds known;
-    }
+    (c.in-Ok.ensures.started, known, c.in-Ok.ensures.holds known)

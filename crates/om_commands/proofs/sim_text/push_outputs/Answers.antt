@@ -1,6 +1,7 @@
 use Rattle.std.proofs.Common.{◌≡◌, ◌++◌, ◌∙◌, ap, map, string_bytes}
 use Rattle.om_manager.specs.Outputs.{held_of}
-use Rattle.om_commands.specs.SimText.{bytes_at, output_line}
+use Rattle.om_commands.specs.SimText.{output_line}
+use Rattle.om_commands.specs.steps.Lines.{bytes_at}
 use Rattle.om_commands.proofs.SimLemmas.{held-bytes}
 use Rattle.om_commands.proofs.TextLemmas.{text_grows}
 use Rattle.om_commands.proofs.sim_text.push_outputs.Goals as goal

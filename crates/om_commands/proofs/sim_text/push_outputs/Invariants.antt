@@ -1,7 +1,8 @@
 use Rattle.std.proofs.Common.{◌≡◌, ◌++◌, map, string_bytes}
 use Rattle.std.specs.List.{flat_map, range_with_len}
 use Rattle.om_manager.specs.Outputs.{held_of}
-use Rattle.om_commands.specs.SimText.{bytes_at, output_line}
+use Rattle.om_commands.specs.SimText.{output_line}
+use Rattle.om_commands.specs.steps.Lines.{bytes_at}
 use Rattle.om_commands.proofs.sim_text.push_outputs.Given as goal
 
 -- the lines of the outputs so far

@@ -1,5 +1,5 @@
 use Rattle.std.proofs.Common.{string_bytes}
-use Rattle.om_commands.specs.SimText.{process_line}
+use Rattle.om_commands.specs.steps.Lines.{process_line}
 use Rattle.om_commands.proofs.TextLemmas.{text_grows}
 use Rattle.om_commands.proofs.sim_text.push_processes.Goals as goal
 

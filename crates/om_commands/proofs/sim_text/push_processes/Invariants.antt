@@ -1,6 +1,6 @@
 use Rattle.std.proofs.Common.{◌≡◌, ◌++◌, string_bytes}
 use Rattle.std.specs.List.{flat_map, range_with_len}
-use Rattle.om_commands.specs.SimText.{process_line}
+use Rattle.om_commands.specs.steps.Lines.{process_line}
 use Rattle.om_commands.proofs.sim_text.push_processes.Given as goal
 
 -- the lines of the processes so far

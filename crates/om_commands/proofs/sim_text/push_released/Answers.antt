@@ -1,7 +1,8 @@
 use Rattle.std.proofs.Common.{◌++◌, ◌∙◌, ap, map, string_bytes}
 use Rattle.om_manager.specs.Outputs.{held_of}
 use Rattle.om_manager.specs.State.{released_by}
-use Rattle.om_commands.specs.SimText.{name_at, outputs_text, released_text}
+use Rattle.om_commands.specs.SimText.{name_at, outputs_text}
+use Rattle.om_commands.specs.steps.Lines.{released_text}
 use Rattle.om_commands.proofs.TextLemmas.{text_grows}
 use Rattle.om_commands.proofs.sim_text.push_released.Goals as goal
 

@@ -1,5 +1,5 @@
 use Rattle.std.proofs.Common.{◌*◌, string_bytes}
-use Rattle.om_commands.specs.StateText.{memory_line}
+use Rattle.om_commands.specs.steps.Lines.{memory_line}
 use Rattle.om_commands.specs.declared.state_text.TheConstants.{ROW_BYTES}
 use Rattle.om_commands.proofs.TextLemmas.{text_grows}
 use Rattle.om_commands.proofs.state_text.push_memory.Goals as goal

@@ -1,6 +1,6 @@
 use Rattle.std.proofs.Common.{◌≡◌, ◌++◌, ◌*◌, string_bytes}
 use Rattle.std.specs.List.{flat_map, range_with_len}
-use Rattle.om_commands.specs.StateText.{memory_line}
+use Rattle.om_commands.specs.steps.Lines.{memory_line}
 use Rattle.om_commands.specs.declared.state_text.TheConstants.{ROW_BYTES}
 use Rattle.om_commands.proofs.state_text.push_memory.Given as goal
 

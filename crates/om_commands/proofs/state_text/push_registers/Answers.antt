@@ -1,5 +1,5 @@
 use Rattle.std.proofs.Common.{slice_index, string_bytes}
-use Rattle.om_commands.specs.StateText.{register_line}
+use Rattle.om_commands.specs.steps.Lines.{register_line}
 use Rattle.om_commands.proofs.TextLemmas.{text_grows}
 use Rattle.om_commands.proofs.state_text.push_registers.Goals as goal
 

@@ -1,6 +1,6 @@
 use Rattle.std.proofs.Common.{◌≡◌, ◌++◌, slice_index, string_bytes}
 use Rattle.std.specs.List.{flat_map, range_with_len}
-use Rattle.om_commands.specs.StateText.{register_line}
+use Rattle.om_commands.specs.steps.Lines.{register_line}
 use Rattle.om_commands.proofs.state_text.push_registers.Given as goal
 
 -- the lines of the registers so far

@@ -1,5 +1,5 @@
 use Rattle.std.proofs.Common.{ℕ, List, ◌∙◌, ap, sym, string_bytes}
-use Rattle.om_draw_command.specs.Draw.{count_within}
+use Rattle.om_draw_command.specs.steps.Counting.{count_within}
 use Rattle.om_draw_command.proofs.DrawLemmas.{error_of_drawing, few_within, is_drawn}
 use Rattle.om_draw_command.proofs.draw.picture_of.Goals as goal
 

@@ -2,7 +2,7 @@ use Rattle.std.proofs.Common.{◌≡◌, ◌++◌, ◌∙◌, ap, refl, subst, a
 use Rattle.om_machine.specs.State.{State}
 use Rattle.om_process.specs.Core.{cluster_size}
 use Rattle.om_process.specs.Turns.{Turns}
-use Rattle.om_look.specs.Trace.{made_text, place_of}
+use Rattle.om_look.specs.steps.Emitted.{made_text, place_of}
 use Rattle.om_look.specs.steps.Writes.{line_text}
 use Rattle.om_look.specs.steps.Before.{IsBefore}
 use Rattle.om_look.proofs.TurnLemmas.{no_turn, traced_once}

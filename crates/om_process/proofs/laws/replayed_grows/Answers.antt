@@ -1,4 +1,4 @@
-use Rattle.om_process.specs.Replays.{receipts_of}
+use Rattle.om_process.specs.steps.Pieces.{receipts_of}
 use Rattle.om_process.proofs.Runs.{leads_grow, replay_leads}
 use Rattle.om_process.proofs.laws.replayed_grows.Goals as goal
 

@@ -1,7 +1,7 @@
 use Rattle.std.proofs.Common.{◌≡◌, ◌+◌, ◌++◌, map, take, vec_len}
 use Rattle.std.specs.Prelude.{◌-◌, ◌≤◌, vec_capacity}
 use Rattle.om_process.specs.Stores.{log_row}
-use Rattle.om_process.specs.Views.{logged_record}
+use Rattle.om_process.specs.steps.Views.{logged_record}
 use Rattle.om_process.proofs.storing.add_rows.Given as goal
 
 abbrev pub invariant-loop-logged : goal.invariant-loop-logged

@@ -1,7 +1,7 @@
 use Rattle.std.proofs.Common.{map, take}
 use Rattle.om_stable.specs.Content.{bytes_of}
-use Rattle.om_process.specs.Stores.{SpellLog}
-use Rattle.om_process.specs.Views.{logged_record}
+use Rattle.om_process.specs.steps.Pieces.{SpellLog}
+use Rattle.om_process.specs.steps.Views.{logged_record}
 use Rattle.om_process.proofs.storing.spelled.Given as goal
 
 abbrev pub invariant-loop-logged : goal.invariant-loop-logged

@@ -1,7 +1,7 @@
 use Rattle.std.proofs.Common.{◌++◌, ◌∙◌, ap, string_bytes}
 use Rattle.std.specs.Prelude.{slice_index_or}
 use Rattle.om_process.specs.declared.status.Status.TheVariants.{Ready}
-use Rattle.om_run_commands.specs.RunText.{end_line}
+use Rattle.om_run_commands.specs.steps.Lines.{end_line}
 use Rattle.om_commands.specs.SimText.{name_at}
 use Rattle.om_commands.proofs.TextLemmas.{text_grows}
 use Rattle.om_run_commands.proofs.run_text.push_ends.Goals as goal

@@ -3,7 +3,7 @@ use Rattle.std.specs.Prelude.{slice_index_or}
 use Rattle.std.specs.List.{flat_map, range_with_len}
 use Rattle.om_process.specs.declared.status.Status.TheVariants.{Ready}
 use Rattle.om_commands.specs.SimText.{name_at}
-use Rattle.om_run_commands.specs.RunText.{end_line}
+use Rattle.om_run_commands.specs.steps.Lines.{end_line}
 use Rattle.om_run_commands.proofs.run_text.push_ends.Given as goal
 
 -- the lines of the processes so far

@@ -1,7 +1,8 @@
 use Rattle.std.proofs.Common.{◌≢◌, ◌∙◌, ap, rules, slice_set, subst}
 use Rattle.om_manager.specs.Gatherings.{presence_of, presences_of}
 use Rattle.om_manager.specs.Notes.{IsCurrent}
-use Rattle.om_manager.specs.Rounds.{Gathers, Fails, with_failed}
+use Rattle.om_manager.specs.Rounds.{Gathers, Fails}
+use Rattle.om_manager.specs.steps.Presences.{with_failed}
 use Rattle.om_manager.specs.declared.presence.Presence.TheVariants.{Failed}
 use Rattle.om_manager.specs.Sound.{IsManager}
 use Rattle.om_manager.proofs.ManagerLemmas.{whole}

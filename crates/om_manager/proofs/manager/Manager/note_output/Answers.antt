@@ -2,7 +2,8 @@ use Rattle.std.proofs.Common.{◌<◌, arith, subst, length, slice_index, slice_
 use Rattle.om_manager.specs.Outputs.{HeldOutput}
 use Rattle.om_manager.specs.State.{ManagerState}
 use Rattle.om_manager.specs.Sound.{IsManager, KeepsReleased}
-use Rattle.om_manager.specs.Notes.{NotesOutput, IsCurrent, Offer}
+use Rattle.om_manager.specs.Notes.{NotesOutput, IsCurrent}
+use Rattle.om_manager.specs.steps.Offers.{Offer}
 use Rattle.om_manager.proofs.ManagerLemmas.{log_after, has_log, whole, parts_pushed, pushed_keeps, made_of, output_answered}
 use Rattle.om_manager.proofs.manager.Manager.note_output.Goals as goal
 
@@ -24,7 +25,7 @@ returns-clause-answer c =
     let offer : Offer = record { pid = c.args.pid; round = c.args.round; seq = c.args.seq; output = record { interval = c.args.x; bytes = c.args.bytes.now } } in
     let new : ManagerState = made_of i.records (slice_set i.logs.items c.index-2.result c.note.new.self) i.starts i.round i.gathering i.last i.backs i.version in
     let current : IsCurrent (made_of i.records i.logs.items i.starts i.round i.gathering i.last i.backs i.version) c.args.pid c.args.round = record { known = omega arith; in_round = omega arith } in
-    subst (λ m. NotesOutput m offer c.note.result new) c.self.view_is
+    subst (λ m. NotesOutput m offer.pid offer.round offer.seq offer.output c.note.result new) c.self.view_is
     (output_answered _ _ _ _ _ _ _ _ _ _ _ offer _ c.self.invariant current c.index-2.ensures.place c.index_mut-log.ensures.value c.note.ensures)
 
 pub returns-clause-sound : goal.returns-clause-sound

@@ -1,7 +1,7 @@
 use Rattle.std.proofs.Common.{subst, sym, ap, set, map, ◌≡◌, ◌∙◌, ◌+◌, ◌<◌, [], length, refl}
 use Rattle.om_process.specs.Core.{AreLast, CoreState, cluster_size}
 use Rattle.om_process.specs.Turns.{IsWaiting}
-use Rattle.om_process.specs.Views.{logged_record}
+use Rattle.om_process.specs.steps.Views.{logged_record}
 use Rattle.om_process.proofs.CoreLemmas.{takes_body, core_delivered, last_of_none}
 use Rattle.om_process.proofs.proc_core.ProcCore.deliver.Goals as goal
 

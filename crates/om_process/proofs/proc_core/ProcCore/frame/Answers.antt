@@ -2,7 +2,8 @@ use Rattle.std.proofs.Common.{rules, ◌≡◌, ◌+◌, ◌<◌, ◌≤◌, len
 use Rattle.om_format.specs.declared.message.Message.{Message}
 use Rattle.om_process.specs.Claims.{HasEntry}
 use Rattle.om_process.specs.Core.{CoreState}
-use Rattle.om_process.specs.Frames.{frame_of, messages_to}
+use Rattle.om_process.specs.Frames.{messages_to}
+use Rattle.om_process.specs.steps.Pieces.{frame_of}
 use Rattle.om_process.specs.Kept.{sent_as}
 use Rattle.om_process.specs.declared.queues.Sent.{Sent}
 use Rattle.om_process.proofs.Numbering.{length-numbered, nothing_at, numbered_at, some_at}

@@ -10,7 +10,7 @@ use Rattle.om_format.specs.Queues.{QueueRecord, queue_end, are_entries, all_entr
 use Rattle.om_process.specs.Process.{empty_queue}
 use Rattle.om_process.specs.Core.{AreLast, LoggedRecord}
 use Rattle.om_process.specs.steps.Lawful.{IsCore}
-use Rattle.om_process.specs.Views.{logged_record}
+use Rattle.om_process.specs.steps.Views.{logged_record}
 use Rattle.om_process.proofs.proc_core.ProcCore.fresh.Goals as goal
 
 no_sum : (n : ℕ) → sum (replicate n 0) ≡ 0

@@ -1,7 +1,8 @@
 use Rattle.std.proofs.Common.{rules, ◌≡◌, ◌<◌, length, get_or, refl, sym, ap, ◌∙◌, subst}
 use Rattle.om_process.specs.Core.{CoreState, cluster_size}
 use Rattle.om_process.specs.Frames.{messages_to}
-use Rattle.om_process.specs.Kept.{numbered, sent_as, sent_entry}
+use Rattle.om_process.specs.Kept.{numbered, sent_as}
+use Rattle.om_process.specs.steps.Numbers.{sent_entry}
 use Rattle.om_process.specs.declared.queues.Sent.{Sent}
 use Rattle.om_process.proofs.CoreLemmas.{box_long}
 use Rattle.om_process.proofs.Numbering.{has_kept}

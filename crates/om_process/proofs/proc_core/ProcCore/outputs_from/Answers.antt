@@ -1,7 +1,8 @@
 use Rattle.std.proofs.Common.{◌≡◌, ◌-◌, length, drop, max, refl, sym, ap, ◌∙◌}
 use Rattle.om_process.specs.Core.{CoreState, cluster_size}
 use Rattle.om_process.specs.Frames.{outputs_of}
-use Rattle.om_process.specs.Kept.{made_as, made_entry, numbered}
+use Rattle.om_process.specs.Kept.{made_as, numbered}
+use Rattle.om_process.specs.steps.Numbers.{made_entry}
 use Rattle.om_process.specs.declared.queues.Made.{Made}
 use Rattle.om_process.proofs.CoreLemmas.{box_long}
 use Rattle.om_process.proofs.Numbering.{has_numbered}

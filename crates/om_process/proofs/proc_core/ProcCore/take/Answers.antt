@@ -2,7 +2,7 @@ use Rattle.std.proofs.Common.{subst, sym, ap, map, refl, ◌≡◌, ◌∙◌, �
 use Rattle.std.proofs.lemmas.List.{map-append}
 use Rattle.om_process.specs.Core.{AreLast, CoreState, LoggedRecord}
 use Rattle.om_process.specs.steps.Lawful.{CoreParts, IsCore}
-use Rattle.om_process.specs.Views.{logged_record}
+use Rattle.om_process.specs.steps.Views.{logged_record}
 use Rattle.om_process.proofs.CoreLemmas.{last_more}
 use Rattle.om_process.proofs.proc_core.ProcCore.take.Goals as goal
 

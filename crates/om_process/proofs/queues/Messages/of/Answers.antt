@@ -2,7 +2,8 @@ use Rattle.std.proofs.Common.{◌≡◌, ℕ, ◌+◌, ◌-◌, ◌++◌, ◌∷
 use Rattle.std.proofs.lemmas.List.{append_assoc, append-nil, length-append, nil_from_length}
 use Rattle.om_format.specs.declared.queue.QueueEntry.{QueueEntry}
 use Rattle.om_format.specs.Queues.{QueueRecord}
-use Rattle.om_process.specs.Kept.{sent_as, sent_entry}
+use Rattle.om_process.specs.Kept.{sent_as}
+use Rattle.om_process.specs.steps.Numbers.{sent_entry}
 use Rattle.om_process.specs.declared.limits.TheConstants.{LAST_NUMBER}
 use Rattle.om_process.proofs.Numbering.{are_numbered, numbered-push, numbered_entries}
 use Rattle.om_process.proofs.queues.Messages.of.Goals as goal

@@ -1,6 +1,7 @@
 use Rattle.std.proofs.Common.{rules, ◌≡◌, ◌+◌, ◌<◌, length, refl, sym, subst, arith}
 use Rattle.om_format.specs.Queues.{queue_end}
-use Rattle.om_process.specs.Kept.{sent_as, sent_entry}
+use Rattle.om_process.specs.Kept.{sent_as}
+use Rattle.om_process.specs.steps.Numbers.{sent_entry}
 use Rattle.om_process.specs.declared.limits.TheConstants.{LAST_NUMBER}
 use Rattle.om_process.proofs.Numbering.{are_numbered-push}
 use Rattle.om_process.proofs.queues.Messages.push.Goals as goal

@@ -1,5 +1,5 @@
 use Rattle.std.proofs.Common.{◌≡◌, map, take}
-use Rattle.om_process.specs.Kept.{sent_entry}
+use Rattle.om_process.specs.steps.Numbers.{sent_entry}
 use Rattle.om_process.proofs.queues.Messages.queue.Given as goal
 
 abbrev pub invariant-loop-sent : goal.invariant-loop-sent

@@ -1,6 +1,7 @@
 use Rattle.std.proofs.Common.{rules, ◌≡◌, ◌-◌, length, drop, refl, ap, ◌∙◌, arith}
 use Rattle.std.specs.Prelude.{min}
-use Rattle.om_process.specs.Kept.{sent_as, sent_entry}
+use Rattle.om_process.specs.Kept.{sent_as}
+use Rattle.om_process.specs.steps.Numbers.{sent_entry}
 use Rattle.om_process.specs.Trims.{trimmed_queue}
 use Rattle.om_process.specs.declared.limits.TheConstants.{LAST_NUMBER}
 use Rattle.om_process.proofs.Numbering.{are_numbered-drop, is_trimmed}

@@ -2,7 +2,8 @@ use Rattle.std.proofs.Common.{◌≡◌, ◌+◌, ◌++◌, ◌∷◌, [], List,
 use Rattle.std.proofs.lemmas.List.{append_assoc, append-nil, length-append, nil_from_length}
 use Rattle.om_format.specs.declared.queue.QueueEntry.{QueueEntry}
 use Rattle.om_format.specs.Queues.{QueueRecord}
-use Rattle.om_process.specs.Kept.{made_as, made_entry}
+use Rattle.om_process.specs.Kept.{made_as}
+use Rattle.om_process.specs.steps.Numbers.{made_entry}
 use Rattle.om_process.specs.declared.limits.TheConstants.{LAST_OUTPUT}
 use Rattle.om_process.proofs.Numbering.{are_numbered, numbered-push, numbered_entries}
 use Rattle.om_process.proofs.queues.Outputs.of.Goals as goal

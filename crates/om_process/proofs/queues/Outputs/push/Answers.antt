@@ -1,6 +1,7 @@
 use Rattle.std.proofs.Common.{rules, ◌≡◌, ◌+◌, ◌<◌, length, refl, sym, subst, arith}
 use Rattle.om_format.specs.Queues.{queue_end}
-use Rattle.om_process.specs.Kept.{made_as, made_entry}
+use Rattle.om_process.specs.Kept.{made_as}
+use Rattle.om_process.specs.steps.Numbers.{made_entry}
 use Rattle.om_process.specs.declared.limits.TheConstants.{LAST_OUTPUT}
 use Rattle.om_process.proofs.Numbering.{are_numbered-push}
 use Rattle.om_process.proofs.queues.Outputs.push.Goals as goal

@@ -1,5 +1,5 @@
 use Rattle.std.proofs.Common.{◌≡◌, map, take}
-use Rattle.om_process.specs.Kept.{made_entry}
+use Rattle.om_process.specs.steps.Numbers.{made_entry}
 use Rattle.om_process.proofs.queues.Outputs.queue.Given as goal
 
 abbrev pub invariant-loop-made : goal.invariant-loop-made

@@ -1,6 +1,7 @@
 use Rattle.std.proofs.Common.{rules, ◌≡◌, ◌-◌, length, drop, refl, ap, ◌∙◌, arith}
 use Rattle.std.specs.Prelude.{min}
-use Rattle.om_process.specs.Kept.{made_as, made_entry}
+use Rattle.om_process.specs.Kept.{made_as}
+use Rattle.om_process.specs.steps.Numbers.{made_entry}
 use Rattle.om_process.specs.Trims.{trimmed_queue}
 use Rattle.om_process.specs.declared.limits.TheConstants.{LAST_OUTPUT}
 use Rattle.om_process.proofs.Numbering.{are_numbered-drop, is_trimmed}

@@ -1,28 +1,15 @@
 use Rattle.std.proofs.Common.{inl, inr, refl, sym, true≢false}
+use Rattle.om_recover.proofs.AnswerLemmas.{breaks_below, breaks_above}
 use Rattle.om_recover.proofs.rows.answer.answer_amid.Goals as goal
 
 pub returns-then-has_different-clause-answer : goal.returns-then-has_different-clause-answer
 returns-then-has_different-clause-answer c =
-    let found = c.if-has_different.ensures.yes refl in (
-      record {
-        offer = c.requires.offer;
-        other = found.other;
-        there = found.there;
-        same_interval = found.same_interval;
-        differs = found.differs;
-      },
-      refl,
-    )
+    let found = c.if-has_different.ensures.yes refl in
+    (c.requires.offer, found.other, found.there, found.pid, found.interval, found.differs, refl)
 
 pub returns-then-has_row-clause-answer : goal.returns-then-has_row-clause-answer
-returns-then-has_row-clause-answer c = (
-  record {
-    offer = c.requires.offer;
-    agrees = c.if-has_different.ensures.none refl;
-    there = c.if-has_row.ensures.0 refl;
-  },
-  refl,
-)
+returns-then-has_row-clause-answer c =
+    (c.requires.offer, c.if-has_different.ensures.none refl, c.if-has_row.ensures.0 refl, refl)
 
 pub returns-in-Some-clause-answer : goal.returns-in-Some-clause-answer
 returns-in-Some-clause-answer c = (
@@ -30,7 +17,10 @@ returns-in-Some-clause-answer c = (
     offer = c.requires.offer;
     agrees = c.if-has_different.ensures.none refl;
     absent = λ there. true≢false (sym (c.if-has_row.ensures.1 there));
-    breaks = inl c.in-Some.ensures;
+    other = c.in-Some.ensures.low;
+    there = c.in-Some.ensures.nearest.there;
+    stands_at = c.in-Some.ensures.stands_at;
+    breaks = inl (breaks_below _ _ _ c.in-Some.ensures);
   },
   refl,
 )
@@ -41,7 +31,10 @@ returns-in-Some-fault_above-clause-answer c = (
     offer = c.requires.offer;
     agrees = c.if-has_different.ensures.none refl;
     absent = λ there. true≢false (sym (c.if-has_row.ensures.1 there));
-    breaks = inr (c.in_default.ensures, c.in-Some-fault_above.ensures);
+    other = c.in-Some-fault_above.ensures.high;
+    there = c.in-Some-fault_above.ensures.nearest.there;
+    stands_at = c.in-Some-fault_above.ensures.stands_at;
+    breaks = inr (c.in_default.ensures, breaks_above _ _ _ c.in-Some-fault_above.ensures);
   },
   refl,
 )

@@ -9,9 +9,9 @@ not_false true is = refl
 not_false false is = sym is
 
 pub returns-in-Some-clause-none : goal.returns-in-Some-clause-none
-returns-in-Some-clause-none c = λ none other there kind_is same.
+returns-in-Some-clause-none c = λ none other there kind_is same_pid same_interval.
     let known = row_of c.args.kind c.args.row.now.pid c.args.row.now.interval c.in-Some.vectors in
-    let is : other ≡ known = one_of_a_kind c.args.trees.now known other c.requires c.in-Some.ensures there kind_is same.pid same.interval in
+    let is : other ≡ known = one_of_a_kind c.args.trees.now known other c.requires c.in-Some.ensures there kind_is same_pid same_interval in
     let vectors = c.has_vectors.ensures.0 (not_false _ none) in
     record {
       vec = ap (λ (r : Row). r.vec) is ∙ ap (λ (r : Row). r.vec) vectors;

@@ -14,8 +14,4 @@ got_from-requires c =
 pub returns : goal.returns
 returns c =
     let there = c.vectors_at-vectors.ensures in
-    record {
-      got = c.vectors_at-vectors.result.got;
-      there = record { row = _; there = there.1; pid_is = refl; interval_is = refl; got_is = refl };
-      count_is = c.got_from.ensures;
-    }
+    (c.vectors_at-vectors.result.got, record { row = _; there = there.1; pid_is = refl; interval_is = refl; got_is = refl }, c.got_from.ensures)

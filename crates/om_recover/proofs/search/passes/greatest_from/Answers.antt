@@ -1,10 +1,9 @@
 use Rattle.std.proofs.Common.{◌≡◌, ℕ, ◌+◌, List, sym, ◌∙◌, refl, subst, arith, length, slice_index, true≢false}
 use Rattle.om_interval.specs.Vectors.{IsBelow}
 use Rattle.om_recover.specs.Recoverable.{IsRecoverable}
-use Rattle.om_recover.specs.Climb.{IsOutOfReach}
 use Rattle.om_recover.specs.steps.Memory.{AreRemembered}
 use Rattle.om_recover.proofs.MemoryLemmas.{all_raised}
-use Rattle.om_recover.specs.steps.Climbing.{ArePassed}
+use Rattle.om_recover.specs.steps.Climbing.{ArePassed, IsOutOfReach}
 use Rattle.om_interval.proofs.VectorLemmas.{below_each_other, below_itself}
 use Rattle.om_recover.proofs.SearchLemmas.{searching_start, searching_step, searching_ends, searched_at_once, state_rises, greatest_at_rest, all_out_of_reach, passed_nothing}
 use Rattle.om_recover.proofs.search.passes.greatest_from.Goals as goal

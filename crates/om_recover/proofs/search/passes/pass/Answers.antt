@@ -1,9 +1,8 @@
 use Rattle.std.proofs.Common.{◌≡◌, ℕ, ◌+◌, ◌<◌, List, sym, subst, arith, length, slice_index}
 use Rattle.om_interval.proofs.VectorLemmas.{below_itself}
 use Rattle.om_recover.specs.Recoverable.{IsRecoverable}
-use Rattle.om_recover.specs.Climb.{IsOutOfReach}
 use Rattle.om_recover.specs.steps.Memory.{AreRemembered}
-use Rattle.om_recover.specs.steps.Climbing.{ArePassed, EndsBy}
+use Rattle.om_recover.specs.steps.Climbing.{ArePassed, EndsBy, IsOutOfReach}
 use Rattle.om_recover.specs.declared.search.memory.Memories.{Memories}
 use Rattle.om_recover.specs.declared.work.Work.{Work}
 use Rattle.om_recover.proofs.SearchLemmas.{IsPassedTo, passed_by, passed_nothing, passed_over}

@@ -9,7 +9,7 @@ use Rattle.om_runner.proofs.manager_link.ManagerLink.hand_over.Goals as goal
 pub hand_in-requires-clause-known : goal.hand_in-requires-clause-known
 hand_in-requires-clause-known g c =
     let own = ap (λ (m : Member). m.own) c.note-end.ensures.member in let same = c.requires.own in let within = c.args.self.now.place in
-    let size = c.note-end.ensures.keeps.size in let places = c.manager.ensures.sound.places in omega arith
+    let size = c.note-end.ensures.keeps.below.same_places in let places = c.manager.ensures.sound.places in omega arith
 
 pub hand_in-requires-clause-taken : goal.hand_in-requires-clause-taken
 hand_in-requires-clause-taken g c =

@@ -2,7 +2,7 @@ use Rattle.std.proofs.Common.{subst, sym}
 use Rattle.om_member.specs.Handed.{held_as}
 use Rattle.om_process.specs.Claims.{HasEntry}
 use Rattle.om_process.specs.Core.{CoreState, cluster_size}
-use Rattle.om_process.specs.Kept.{made_entry}
+use Rattle.om_process.specs.steps.Numbers.{made_entry}
 use Rattle.om_runner.specs.steps.Nodes.{NodeState, TakesFrom}
 use Rattle.om_runner.proofs.OnWay.{node_output}
 use Rattle.om_runner.proofs.node.Node.hand_in.Goals as goal

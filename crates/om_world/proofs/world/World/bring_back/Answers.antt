@@ -2,7 +2,7 @@ use Rattle.std.proofs.Common.{◌≡◌, ◌<◌, ◌∙◌, ap, length, subst, 
 use Rattle.std.specs.Prelude.{slice_index}
 use Rattle.om_interval.specs.Starts.{newest_of}
 use Rattle.om_manager.specs.State.{process_count}
-use Rattle.om_world.specs.World.{health_of}
+use Rattle.om_world.specs.steps.Members.{health_of}
 use Rattle.om_world.proofs.Lists.{lent_at}
 use Rattle.om_world.proofs.Rising.{after_return, returned}
 use Rattle.om_world.proofs.Seats.{here}

@@ -1,6 +1,6 @@
 use Rattle.std.proofs.Common.{◌≡◌, Some, arith, refl, rules, subst}
 use Rattle.std.specs.Prelude.{slice_get}
-use Rattle.om_world.specs.World.{health_of}
+use Rattle.om_world.specs.steps.Members.{health_of}
 use Rattle.om_world.proofs.Lists.{if_none, if_some, lent_at}
 use Rattle.om_world.proofs.Seats.{core_at, core_here, no_core_at}
 use Rattle.om_world.proofs.Standing.{core_of}

@@ -1,5 +1,5 @@
 use Rattle.std.proofs.Common.{◌≡◌, ◌<◌, Err, rules, subst, sym}
-use Rattle.om_world.specs.World.{health_of}
+use Rattle.om_world.specs.steps.Members.{health_of}
 use Rattle.om_world.proofs.Lists.{lent_at}
 use Rattle.om_world.proofs.Rising.{after_declared, after_refused, was_declared, was_refused}
 use Rattle.om_world.proofs.Seats.{here}

@@ -1,5 +1,5 @@
 use Rattle.std.proofs.Common.{◌≡◌, ◌<◌, ◌∙◌, Err, rules, subst, sym}
-use Rattle.om_world.specs.World.{health_of}
+use Rattle.om_world.specs.steps.Members.{health_of}
 use Rattle.om_world.proofs.Lists.{lent_at}
 use Rattle.om_world.proofs.Rising.{after_enter, after_no_entry, entered, no_entry}
 use Rattle.om_world.proofs.Seats.{up_here}

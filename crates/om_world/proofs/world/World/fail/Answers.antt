@@ -57,7 +57,7 @@ pub returns-in-Known-clause-keeps : goal.returns-in-Known-clause-keeps
 returns-in-Known-clause-keeps g c = keeps_by _ _ refl refl refl
 
 pub returns-in-Settled-clause-happened : goal.returns-in-Settled-clause-happened
-returns-in-Settled-clause-happened g c = λ known. record { joined = c.in-Settled.ensures.0; news = c.in-Settled.ensures.1; others = c.take_down.ensures }
+returns-in-Settled-clause-happened g c = λ known. (c.in-Settled.ensures.0, c.in-Settled.ensures.1, c.take_down.ensures)
 
 pub returns-in-Settled-clause-keeps : goal.returns-in-Settled-clause-keeps
 returns-in-Settled-clause-keeps g c = down_keeps _ _ c.args.p c.take_down.ensures

@@ -2,7 +2,7 @@ use Rattle.std.proofs.Common.{◌<◌, ◌≤◌, ◌∙◌, ℕ, length, subst,
 use Rattle.std.specs.Prelude.{slice_index}
 use Rattle.om_process.specs.Core.{CoreState, cluster_size}
 use Rattle.om_process.specs.Frames.{messages_to}
-use Rattle.om_world.specs.World.{health_of}
+use Rattle.om_world.specs.steps.Members.{health_of}
 use Rattle.om_world.proofs.Lists.{lent_at, once}
 use Rattle.om_world.proofs.Framing.{frames_here}
 use Rattle.om_world.proofs.Seats.{core_at, core_here, no_core_at}

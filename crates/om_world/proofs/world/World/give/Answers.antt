@@ -4,7 +4,8 @@ use Rattle.om_world.specs.declared.event.Event.{Event}
 use Rattle.om_world.specs.declared.event.Refusal.TheVariants as refusals
 use Rattle.om_world.specs.Changes.{IsUp}
 use Rattle.om_world.specs.Happened.{GiveHappened, Happened}
-use Rattle.om_world.specs.World.{WorldState, health_of}
+use Rattle.om_world.specs.World.{WorldState}
+use Rattle.om_world.specs.steps.Members.{health_of}
 use Rattle.om_world.specs.steps.Moves.{Keeps, answered}
 use Rattle.om_world.proofs.Acting.{offered_as_seen, offered_in, offered_world}
 use Rattle.om_world.proofs.Giving.{after_give, after_none, given_taken, none_taken, no_room, none_given, given_none, room_none}

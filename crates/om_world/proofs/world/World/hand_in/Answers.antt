@@ -1,6 +1,6 @@
 use Rattle.std.proofs.Common.{◌<◌, ◌∙◌, ap, subst, sym}
 use Rattle.om_manager.specs.State.{process_count}
-use Rattle.om_world.specs.World.{health_of}
+use Rattle.om_world.specs.steps.Members.{health_of}
 use Rattle.om_world.specs.steps.Moves.{told_of}
 use Rattle.om_world.specs.steps.Running.{refusal_of_output}
 use Rattle.om_world.proofs.Acting.{after_hand, has_handed_in}

@@ -1,5 +1,5 @@
 use Rattle.std.proofs.Common.{◌<◌, subst, sym}
-use Rattle.om_world.specs.World.{health_of}
+use Rattle.om_world.specs.steps.Members.{health_of}
 use Rattle.om_world.proofs.Lists.{lent_at}
 use Rattle.om_world.proofs.Seats.{core_at, is_up, up_core, up_here}
 use Rattle.om_world.proofs.world.World.messages.Goals as goal

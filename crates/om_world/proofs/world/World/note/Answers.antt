@@ -1,6 +1,6 @@
 use Rattle.std.proofs.Common.{◌≡◌, ◌<◌, Ok, subst, sym}
 use Rattle.std.specs.Prelude.{IfOk}
-use Rattle.om_world.specs.World.{health_of}
+use Rattle.om_world.specs.steps.Members.{health_of}
 use Rattle.om_world.specs.steps.Moves.{count_of, refusal_of_record, told_of}
 use Rattle.om_world.proofs.Acting.{after_noted, has_noted}
 use Rattle.om_world.proofs.Lists.{lent_at}

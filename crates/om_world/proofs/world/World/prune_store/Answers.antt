@@ -1,7 +1,8 @@
 use Rattle.std.proofs.Common.{◌<◌, subst, sym}
 use Rattle.om_recover.specs.Cutting.{IsEffective}
 use Rattle.om_manager.specs.State.{process_count}
-use Rattle.om_world.specs.World.{health_of, recovered}
+use Rattle.om_world.specs.World.{recovered}
+use Rattle.om_world.specs.steps.Members.{health_of}
 use Rattle.om_world.proofs.Acting.{after_prune, was_pruned}
 use Rattle.om_world.proofs.Lists.{lent_at}
 use Rattle.om_world.proofs.Seats.{here}

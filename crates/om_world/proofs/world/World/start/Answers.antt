@@ -2,8 +2,8 @@ use Rattle.std.proofs.Common.{◌≡◌, ◌∙◌, ap, length, map, subst, true
 use Rattle.std.specs.Prelude.{IsTrue}
 use Rattle.om_world.specs.Holds.{Holds}
 use Rattle.om_world.specs.Started.{HaveFirst, IsStarted}
-use Rattle.om_world.specs.World.{WorldState, IsKnown, all_clean, health_of, program_of}
-use Rattle.om_world.specs.steps.Members.{core_in, health_in, place_in, round_in, sound_in, store_in}
+use Rattle.om_world.specs.World.{WorldState, IsKnown, all_clean, program_of}
+use Rattle.om_world.specs.steps.Members.{core_in, health_in, place_in, round_in, sound_in, store_in, health_of}
 use Rattle.om_world.specs.steps.Sound.{IsWorld}
 use Rattle.om_world.proofs.Beginning.{all_at, all_loadable, begun, begun_by, begun_is, clean_begun, clean_from, have_first, is_started, world_begun}
 use Rattle.om_world.proofs.Holding.{world_holds}

@@ -1,5 +1,5 @@
 use Rattle.std.proofs.Common.{◌<◌, ◌∙◌, ap, subst, sym}
-use Rattle.om_world.specs.World.{health_of}
+use Rattle.om_world.specs.steps.Members.{health_of}
 use Rattle.om_world.specs.steps.Moves.{refusal_of_store, told_of}
 use Rattle.om_world.proofs.Acting.{after_stored, has_stored}
 use Rattle.om_world.proofs.Lists.{lent_at}

@@ -1,5 +1,5 @@
 use Rattle.std.proofs.Common.{◌<◌, subst, sym}
-use Rattle.om_world.specs.World.{health_of}
+use Rattle.om_world.specs.steps.Members.{health_of}
 use Rattle.om_world.proofs.Lists.{lent_at}
 use Rattle.om_world.proofs.Rising.{after_taken, was_taken}
 use Rattle.om_world.proofs.Seats.{here}

@@ -1,8 +1,8 @@
 use Rattle.std.proofs.Common.{◌≡◌, subst, true}
 use Rattle.std.specs.Prelude.{IsTrue}
 use Rattle.om_world.specs.Holds.{Holds}
-use Rattle.om_world.specs.World.{WorldState, IsKnown, all_clean, health_of}
-use Rattle.om_world.specs.steps.Members.{health_in}
+use Rattle.om_world.specs.World.{WorldState, IsKnown, all_clean}
+use Rattle.om_world.specs.steps.Members.{health_in, health_of}
 use Rattle.om_world.proofs.Beginning.{clean_from}
 use Rattle.om_world.proofs.Holding.{world_holds}
 use Rattle.om_world.proofs.world.World.told.Goals as goal

@@ -1,7 +1,8 @@
 use Rattle.std.proofs.Common.{◌≡◌, ◌<◌, ◌∙◌, ap, length, set, subst, sym, Err, Some, refl, rules}
 use Rattle.om_manager.specs.Bounds.{AreGotFrom}
 use Rattle.om_manager.specs.State.{process_count, released_by}
-use Rattle.om_world.specs.World.{WorldState, health_of}
+use Rattle.om_world.specs.World.{WorldState}
+use Rattle.om_world.specs.steps.Members.{health_of}
 use Rattle.om_world.specs.steps.Moves.{trimmed_core}
 use Rattle.om_world.proofs.Acting.{after_trimmed, bounds_fit, has_trimmed}
 use Rattle.om_world.proofs.Lists.{lent_at}

@@ -1,5 +1,5 @@
 use Rattle.std.proofs.Common.{◌<◌, subst, sym}
-use Rattle.om_world.specs.World.{health_of}
+use Rattle.om_world.specs.steps.Members.{health_of}
 use Rattle.om_world.proofs.Acting.{after_run, has_gone_on, has_run, has_stopped, rest_runs}
 use Rattle.om_world.proofs.Lists.{lent_at}
 use Rattle.om_world.proofs.Seats.{up_here}
