@@ -29,7 +29,7 @@ of a process, and decode tells what words of programs mean. Each says with
 --help what it reads and writes, and has an example.
 
 run, sim, draw, frontier and decode read FILE, where one is named, and standard
-input else.
+input else, also for -.
 
 Status:
   0   done, or a help text or the version was asked for
@@ -199,19 +199,33 @@ With --follow each output is written as soon as it is released: the lines of a
 process in order, those of different processes as they come. What was released
 by then is written too where the run is refused.
 
-With --verbose more is said on standard error, and nothing else changes: where
-a file was refused, which one and why; where turns ran out, of each process
-that had not ended what it did or waited for, and in which interval; and while
-the run lasts, where standard error is a terminal, each second how far it has
-come: instructions of all processes, messages, the round of recovery, and the
-recovery state.
+With --verbose, and where standard error is a terminal, more is said there, and
+nothing else changes: what was refused and why; where turns ran out, of each
+process that had not ended what it did or waited for, and in which interval.
+On a terminal a line each second says how far the run has come: instructions of
+all processes, messages, the round of recovery, and the recovery state.
+
+FILE of --witness and --record may not be what the run has anyway: its input, a
+store, or what lies beside one.
 
 Answers:
   out NAME NUMBER HEX  an output that is released
   end NAME STATUS      ended CODE or trapped CAUSE
+Causes:
+  1  no instruction has the word at pc: without program-m also not mul or div
+  2  ebreak
+  3  pc lies outside memory
+  4  a jump or a branch to an address that is no multiple of 4
+  5  2 or 4 bytes at an address that is no multiple of their number
+  6  a load or a store outside memory
+  7  ecall with a number above 4 in x17
+  8  the buffer of a call lies outside memory
+  9  2^64 - 1 instructions
 Refused, on standard error, status 1:
   empty script         there is no process
-  out of turns         a process did not end within its turns
+  out of turns         a process did not end within its turns: it waits for a
+                       message that never comes, does not end, or computes for
+                       long and needs more --turns, or more fuel a turn
   store fault          a store cannot be made, is there already, or failed
   no thread            a thread cannot be made
   unlike its check     what the cluster wrote is not what that run writes
@@ -247,11 +261,12 @@ writes its line for a script or a cluster file:
 A word is four bytes, the lowest first; the last is padded with zeros. With
 --m the line is a program-m, which may multiply and divide.
 
-A line that a script would refuse is refused in its words, status 1:
-  line 1: bad number      SIZE is no number of 32 bits
-  line 1: bad name        NAME is not 1 to 32 letters, digits and _
-  line 1: bad size        SIZE is not 4 to 65536, or no multiple of 4
-  line 1: image too long  the image has more than SIZE bytes
+A linked program, an ELF file, is refused with status 1: objcopy -O binary makes
+a raw image of it. A line that a script would refuse is refused in its words:
+  line 1: bad number      SIZE is no number of 32 bits; status 2
+  line 1: bad name        NAME is not 1 to 32 letters, digits and _; status 2
+  line 1: bad size        SIZE is not 4 to 65536, or no multiple of 4; status 2
+  line 1: image too long  the image has more than SIZE bytes; status 1
 
 Example, of an image of eight bytes:
   omlog image pc 64 < pc.bin     program pc 64 00100893 00000073";
@@ -271,6 +286,9 @@ const FOLLOW: &str = "follow";
 const VERBOSE: &str = "verbose";
 
 const INPUT: &str = "INPUT";
+
+// The name that stands for standard input.
+const STANDARD_INPUT: &str = "-";
 
 // The version of the commands, their texts and their formats.
 const VERSION: &str = "1.0";
@@ -348,7 +366,7 @@ pub fn parse<'a, S: AsStr>(alloc: Global, words: &'a [S]) -> Result<Asked<'a>, E
     match request_of(subcommand, found) {
         Ok(request) => Ok(Asked {
             request,
-            input: found.get_str(INPUT),
+            input: found.get_str(INPUT).filter(|name| *name != STANDARD_INPUT),
         }),
         Err(mistake) => Err(refusal_of(alloc, subcommand, mistake)),
     }
@@ -482,7 +500,7 @@ fn command<'a>(alloc: Global) -> Result<Command<'a>, AllocError> {
     let command = Command::new(alloc, "omlog")
         .bin_name("omlog")?
         .about(
-            "Recovery states of message-passing programs, from the records that their processes keep",
+            "Runs message-passing programs whose processes log, fail and recover, and computes their recovery states",
         )
         .version(VERSION)
         .after_help(HELP)
@@ -522,9 +540,9 @@ fn command_of<'a>(alloc: Global, subcommand: Subcommand) -> Result<Command<'a>, 
 }
 
 fn input_file<'a>(alloc: Global) -> Arg<'a> {
-    Arg::new(alloc, INPUT)
-        .value_name("FILE")
-        .help("What is read, in place of standard input")
+    Arg::new(alloc, INPUT).value_name("FILE").help(
+        "What is read, in place of standard input; - is standard input",
+    )
 }
 
 fn decode_command<'a>(alloc: Global) -> Result<Command<'a>, AllocError> {
@@ -640,6 +658,6 @@ fn follow_option<'a>(alloc: Global) -> Result<Arg<'a>, AllocError> {
 fn verbose_option<'a>(alloc: Global) -> Arg<'a> {
     Arg::new(alloc, VERBOSE)
         .long(VERBOSE)
-        .help("Say more on standard error: what was refused, who waited, how far it is")
+        .help("Say more on standard error: what was refused and why, who waited")
         .action(ArgAction::SetTrue)
 }

@@ -5,7 +5,7 @@ use om_isa::Ext;
 use std::alloc::Global;
 use std::process::Abort;
 
-static PLAIN: [(&[&str], Request<'static>, Option<&str>); 10] = [
+static PLAIN: [(&[&str], Request<'static>, Option<&str>); 12] = [
     (&["omlog", "decode"], Request::Decode(Ext::I), None),
     (
         &["omlog", "decode", "--m", "words"],
@@ -14,6 +14,12 @@ static PLAIN: [(&[&str], Request<'static>, Option<&str>); 10] = [
     ),
     (&["omlog", "frontier"], Request::Frontier, None),
     (&["omlog", "frontier", "f"], Request::Frontier, Some("f")),
+    (&["omlog", "frontier", "-"], Request::Frontier, None),
+    (
+        &["omlog", "frontier", "./-"],
+        Request::Frontier,
+        Some("./-"),
+    ),
     (&["omlog", "sim"], Request::Sim, None),
     (&["omlog", "sim", "--", "-x"], Request::Sim, Some("-x")),
     (

@@ -13,11 +13,11 @@ type Row = (
     &'static str,
     &'static str,
     &'static [u8],
-    Result<&'static str, LineError>,
+    Result<&'static str, ImageError>,
 );
 
 // `addi x17, x0, 1`, `ecall`, and their bytes as GNU as 2.40 lays them down.
-static ROWS: [Row; 12] = [
+static ROWS: [Row; 15] = [
     (
         Ext::I,
         "pc",
@@ -47,13 +47,65 @@ static ROWS: [Row; 12] = [
         "p",
         "4",
         &[1, 2, 3, 4, 5],
-        Err(LineError::ImageTooLong),
+        Err(ImageError::Line(LineError::ImageTooLong)),
     ),
-    (Ext::I, "p", "65540", &[], Err(LineError::BadSize)),
-    (Ext::I, "p", "6", &[], Err(LineError::BadSize)),
-    (Ext::I, "a b", "6", &[], Err(LineError::BadName)),
-    (Ext::I, "a b", "4294967296", &[], Err(LineError::BadNumber)),
-    (Ext::I, "", "4", &[], Err(LineError::BadName)),
+    // The first bytes of an ELF file of 32 bits; without the last of its mark, and with another first.
+    (
+        Ext::I,
+        "a b",
+        "6",
+        &[0x7F, b'E', b'L', b'F', 1],
+        Err(ImageError::Elf),
+    ),
+    (
+        Ext::I,
+        "p",
+        "4",
+        &[0x7F, b'E', b'L'],
+        Ok("program p 4 004c457f\n"),
+    ),
+    (
+        Ext::I,
+        "p",
+        "4",
+        &[0x7E, b'E', b'L', b'F'],
+        Ok("program p 4 464c457e\n"),
+    ),
+    (
+        Ext::I,
+        "p",
+        "65540",
+        &[],
+        Err(ImageError::Line(LineError::BadSize)),
+    ),
+    (
+        Ext::I,
+        "p",
+        "6",
+        &[],
+        Err(ImageError::Line(LineError::BadSize)),
+    ),
+    (
+        Ext::I,
+        "a b",
+        "6",
+        &[],
+        Err(ImageError::Line(LineError::BadName)),
+    ),
+    (
+        Ext::I,
+        "a b",
+        "4294967296",
+        &[],
+        Err(ImageError::Line(LineError::BadNumber)),
+    ),
+    (
+        Ext::I,
+        "",
+        "4",
+        &[],
+        Err(ImageError::Line(LineError::BadName)),
+    ),
 ];
 
 fn check(rt: &impl Abort, alloc: Global, (ext, name, size, bytes, want): &Row) {
@@ -69,7 +121,7 @@ fn check(rt: &impl Abort, alloc: Global, (ext, name, size, bytes, want): &Row) {
     );
     let (answer, line) = match want {
         Ok(line) => (Ok(()), *line),
-        Err(error) => (Err(ImageError::Line(*error)), ""),
+        Err(error) => (Err(*error), ""),
     };
     assert_eq!(rt;
         (told, text.as_slice()),

@@ -1,6 +1,6 @@
 use Kind::{Process, Program};
 use om_isa::Ext;
-use om_scripts::Programs;
+use om_scripts::{Programs, laws};
 use om_text::{BuildError, LineError};
 use std::alloc::Global;
 use std::process::Abort;
@@ -108,6 +108,7 @@ fn lines_of_processes_are_taken_or_refused(rt: HostRuntime) {
     );
     programs.close();
     check_lines(&rt, rt.alloc(), &mut programs, &LATE);
+    laws::limits();
 }
 
 static SEVENTEEN: [Row; 18] = [

@@ -1,5 +1,7 @@
-//! Tests of `replay` and of what looks into a store, over stores in memory, in tables and in files.
+//! Tests of `replay` and of what looks into a store, over stores in memory and in tables; and of the files of a cluster.
 #![tactic(auto)]
 
+#[cfg(test)]
+mod places;
 #[cfg(test)]
 mod replay;

@@ -1,31 +1,71 @@
-//! Which file of a cluster could not be used, for whoever is told of a store fault.
+//! Which file of a cluster could not be used, and why, for whoever is told of a store fault.
+
+ghost use Rattle.std.specs.Prelude.{◌≡◌, false};
 
 use crate::copying::copy_of;
 use crate::files::file_of;
 use om_commands::CommandError;
 use om_tables::SqlStable;
+use sqlite::{Connection, FileStore};
+use sqlite_disk::Memory;
+use sqlite_schema::schema::Schema;
 use std::alloc::AllocError;
-use std::{fmt, fs};
+use std::io::{ErrorKind, Read};
+use std::{fmt, fs, io};
+
+/// Why a file cannot be used as a store.
+#[derive(Clone, Copy, Debug)]
+pub enum FileFault {
+    /// It cannot be opened.
+    Unreadable(io::Error),
+    /// It is no regular file.
+    NoFile,
+    /// It has nothing in it, or begins with a zero: a run was killed as it made it.
+    HalfMade,
+    /// It does not begin as a database of SQLite does.
+    NoDatabase,
+    /// It is a database that cannot be read, or is in use.
+    BadDatabase,
+    /// It is a database without the tables of a store, or with them in another order.
+    NoTables,
+    /// There is an index, a view or a table beside the tables of a store.
+    MoreThanTables,
+    /// It is a store; what was refused may have been so for another cause.
+    Store,
+}
+
+impl fmt::Display for FileFault {
+    fn fmt<W: fmt::Write>(&self, f: &mut fmt::Formatter<W>) -> fmt::Result {
+        let what = match self {
+            FileFault::Unreadable(error) => return write!(f, "{}", error.kind()),
+            FileFault::NoFile => "is no file",
+            FileFault::HalfMade => "is half a store, of a run that was killed as it made it",
+            FileFault::NoDatabase => "is no database of SQLite",
+            FileFault::BadDatabase => "cannot be read as a database: it is damaged, or in use",
+            FileFault::NoTables =>
+                "is a database without the tables of a store, receipts and checkpoints, made in this order",
+            FileFault::MoreThanTables =>
+                "has an index, a view or a table beside those of a store: remove it from a copy",
+            FileFault::Store => "is a store; it failed as it was used",
+        };
+        f.write_str(what)
+    }
+}
 
 /// A file that could not be used, and why.
 #[derive(Debug, Drop)]
-pub enum Blame {
-    /// It is not there, so it could not be made.
-    NotMade(String),
-    /// It is there, and cannot be read as a store.
-    NoStore(String),
+pub struct Blame {
+    pub file: String,
+    pub fault: FileFault,
 }
 
 impl fmt::Display for Blame {
     fn fmt<W: fmt::Write>(&self, f: &mut fmt::Formatter<W>) -> fmt::Result {
-        match self {
-            Blame::NotMade(file) => write!(f, "{file}: cannot be made"),
-            Blame::NoStore(file) => write!(f, "{file}: cannot be used as a store"),
-        }
+        write!(f, "{}: {}", self.file, self.fault)
     }
 }
 
-/// The first file of so many processes that could not be used. The files are only read.
+/// The first file of so many processes that is no store. The files are only read.
 pub fn first_unusable(
     rt: &HostRuntime,
     prefix: &str,
@@ -33,20 +73,63 @@ pub fn first_unusable(
 ) -> Result<Option<Blame>, AllocError> {
     for process in 0..n {
         let file = file_of(rt.alloc(), prefix, process)?;
-        if fs::symlink_metadata(rt, file.as_str()).is_err() {
-            return Ok(Some(Blame::NotMade(file)));
-        }
-        if !is_store(rt, &file) {
-            return Ok(Some(Blame::NoStore(file)));
+        match fault_of(rt, file.as_str()) {
+            FileFault::Store => {}
+            fault => return Ok(Some(Blame { file, fault })),
         }
     }
     Ok(None)
 }
 
-// Whether a file holds the tables of a store, or memory ran out as it was read.
-fn is_store(rt: &HostRuntime, file: &str) -> bool {
+/// Why a file cannot be used as a store. It is only read.
+pub fn fault_of(rt: &HostRuntime, file: &str) -> FileFault {
+    match fs::metadata(rt, file) {
+        Err(error) => FileFault::Unreadable(error),
+        Ok(found) if !found.is_file() => FileFault::NoFile,
+        Ok(_) => fault_of_file(rt, file),
+    }
+}
+
+// The same of a regular file, which begins with the first letter of its format once it is made.
+fn fault_of_file(rt: &HostRuntime, file: &str) -> FileFault {
+    match start_of(rt, file) {
+        Err(error) => return FileFault::Unreadable(error),
+        Ok(None | Some(0)) => return FileFault::HalfMade,
+        Ok(Some(b'S')) => {}
+        Ok(Some(_)) => return FileFault::NoDatabase,
+    }
     match copy_of(rt, file) {
-        Ok(conn) => SqlStable::adopt(rt.alloc(), conn).is_ok(),
-        Err(error) => error == CommandError::NoMemory,
+        Ok(conn) => fault_of_tables(rt, conn),
+        Err(CommandError::NoMemory) => {
+            FileFault::Unreadable(io::Error::from(ErrorKind::OutOfMemory))
+        }
+        Err(_) => FileFault::BadDatabase,
+    }
+}
+
+// The first byte of a file, if it has one.
+fn start_of(rt: &HostRuntime, file: &str) -> io::Result<Option<u8>> {
+    let mut first = [0];
+    match fs::open(rt, file)?.read(&mut first)? {
+        0 => Ok(None),
+        _ => Ok(Some(first[0])),
+    }
+}
+
+// What is the matter with the tables of a database.
+fn fault_of_tables(rt: &HostRuntime, conn: Connection<FileStore<Memory>>) -> FileFault
+    requires { conn.in_transaction ≡ false }
+{
+    match SqlStable::adopt(rt.alloc(), conn) {
+        Ok(_) => FileFault::Store,
+        Err((_, conn)) => fault_of_schema(conn.schema()),
+    }
+}
+
+fn fault_of_schema(schema: &Schema) -> FileFault {
+    if schema.tables.len() > 2 || !schema.indexes.is_empty() || !schema.views.is_empty() {
+        FileFault::MoreThanTables
+    } else {
+        FileFault::NoTables
     }
 }

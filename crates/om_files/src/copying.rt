@@ -11,6 +11,7 @@ use om_runner::OpenFault;
 use sqlite::{Connection, FileStore, Files, Options};
 use sqlite_disk::{Disk, Memory};
 use std::alloc::Global;
+use std::path::PathBuf;
 use std::{fs, io};
 
 // Pages that are read again are tested by digests under this key. Any serves, since memory does not lie.
@@ -29,13 +30,22 @@ pub(crate) fn copy_of(
     if !is_written(rt, file) {
         return Err(CommandError::StoreFault);
     }
-    let log = log_of(alloc, file)?;
+    // The log lies beside the file itself, whatever links lead to it.
+    let place = place_of(rt, file)?;
+    let log = log_of(alloc, place.as_str())?;
     let log = if is_written(rt, log.as_str()) {
         read(rt, log.as_str())?
     } else {
         Vec::new(alloc)
     };
-    opened(alloc, &log, &read(rt, file)?)
+    opened(alloc, &log, &read(rt, place.as_str())?)
+}
+
+// The path of a file, with no link in it.
+fn place_of(rt: &HostRuntime, file: &str) -> Result<PathBuf, CommandError>
+    ensures { IfErr result IsQuiet }
+{
+    fs::canonicalize(rt, file).map_err(refusal_of_reading)
 }
 
 // The database that these bytes of a log and of a file hold.
@@ -66,10 +76,16 @@ fn opened(
 fn read(rt: &HostRuntime, path: &str) -> Result<Vec<u8>, CommandError>
     ensures { IfErr result IsQuiet }
 {
-    fs::read(rt, path).map_err(|error| match error.kind() {
+    fs::read(rt, path).map_err(refusal_of_reading)
+}
+
+fn refusal_of_reading(error: io::Error) -> CommandError
+    ensures { IsQuiet result }
+{
+    match error.kind() {
         io::ErrorKind::OutOfMemory => CommandError::NoMemory,
         _ => CommandError::StoreFault,
-    })
+    }
 }
 
 // Whether it is a file that has something in it.

@@ -5,24 +5,29 @@
 //!
 //! - `connecting`: who opens the databases of a cluster, and the stores that are made in their tables
 //! - `files`: the files that are named by a prefix
-//! - `places`: what stands at their names before a run, and what of them is removed where it is refused
+//! - `places`: the files that a run makes for its stores, and what of them is removed where it is refused; `clashing`: whether a
+//!   file that it is to write beside them is one that it has; `identity`: which file one is, whatever its names
 //! - `settling`: each store in its one file, behind a run; `blaming`: which file a refused run could not use
 //! - `copying`: the database of a file that is only read
 //! - `replaying`, `looking`: the commands `replay` and `show` over a connection, and over a file
 #![tactic(auto)]
 
 mod blaming;
+mod clashing;
 mod connecting;
 mod copying;
 mod files;
+mod identity;
 mod looking;
 mod places;
 mod replaying;
 mod settling;
 
-pub use blaming::{Blame, first_unusable};
+pub use blaming::{Blame, FileFault, fault_of, first_unusable};
+pub use clashing::{Clash, clash_with_streams, clashes_with_stores};
 pub use connecting::{Connects, InTables};
 pub use files::Files;
+pub use identity::Identity;
 pub use looking::{show_file, show_over, steps_file, steps_over};
 pub use places::{PlaceError, Places};
 pub use replaying::{replay_file, replay_over};

@@ -1,5 +1,6 @@
 //! What holds of the formats alone.
 
+ghost use Rattle.om_format.specs.declared.limits.TheConstants.{CHECKPOINT_KIND, CHECKPOINT_KIND_M, CHECKPOINT_VERSION_1, CHECKPOINT_VERSION_2, MAX_BODY, MAX_PROCESSES_OF_VERSION_1, PAGE, RECEIPT_KIND, RECEIPT_VERSION};
 ghost use Rattle.std.specs.Prelude.{◌≡◌, ◌<◌, ◌⊎◌, ℕ, List, Some, slice_index};
 ghost use Rattle.om_format.specs.Checkpoints.{CheckpointRecord, SpellsCheckpoint, IsSpelled, checkpoint_fault};
 ghost use Rattle.om_format.specs.Receipts.{ReceiptRecord, SpellsReceipt, receipt_fault};
@@ -38,4 +39,17 @@ pub fn receipt_or_fault()
 pub fn checkpoint_or_fault()
     ensures { (bytes : List ℕ) → ((i : ℕ) → slice_index bytes i < 256)
         → ((r : CheckpointRecord) × IsSpelled r bytes) ⊎ ((e : DecodeError) × (checkpoint_fault bytes ≡ Some e)) }
+{}
+
+/// The limits of bodies, pages and clusters, and the bytes of kinds and versions, are these.
+pub fn limits()
+    ensures body { MAX_BODY ≡ 256 }
+    ensures receipt_kind { RECEIPT_KIND ≡ 82 }
+    ensures receipt_version { RECEIPT_VERSION ≡ 1 }
+    ensures checkpoint_kind { CHECKPOINT_KIND ≡ 67 }
+    ensures checkpoint_kind_m { CHECKPOINT_KIND_M ≡ 77 }
+    ensures version_1 { CHECKPOINT_VERSION_1 ≡ 1 }
+    ensures version_2 { CHECKPOINT_VERSION_2 ≡ 2 }
+    ensures processes_of_version_1 { MAX_PROCESSES_OF_VERSION_1 ≡ 8 }
+    ensures page { PAGE ≡ 256 }
 {}

@@ -20,7 +20,7 @@ use Rattle.om_text.specs.declared.error.BuildError.TheVariants as building
 use Rattle.om_text.specs.declared.error.LineError.{LineError}
 use Rattle.om_scripts.specs.Programs.{Cluster, no_programs, program_in, program_line}
 use Rattle.om_scripts.proofs.ImageLemmas.{length-words}
-use Rattle.om_image.specs.Image.{AreWordsOf, IsErrorOf, IsImageLine, IsRefused, keyword, most_read, word_text}
+use Rattle.om_image.specs.Image.{AreWordsOf, IsElf, IsErrorOf, IsImageLine, IsRefused, keyword, most_read, word_text}
 use Rattle.om_image.specs.declared.error.ImageError.{ImageError}
 use Rattle.om_image.specs.declared.error.ImageError.TheVariants as errors
 use Rattle.om_image.specs.steps.Lines.{IsErrorOfLine, IsTaken, spaced}
@@ -150,6 +150,7 @@ read_part (Some bytes) P h = h
 
 error_of : (ext : Ext) (name size items bytes : List ℕ) (error : ImageError) → items ≡ take most_read bytes → IsErrorOfLine ext name size items error → IsErrorOf ext name size bytes error
 error_of ext name size items bytes (errors.Line error) same h = subst (λ b. IsRefused ext name size b error) same h
+error_of ext name size items bytes errors.Elf same h = subst (λ b. IsElf b) same h
 error_of ext name size items bytes errors.NoMemory same h = tt
 error_of ext name size items bytes errors.CannotRead same h = tt
 error_of ext name size items bytes errors.CannotWrite same h = tt

@@ -1,5 +1,5 @@
 -- The `program` line of a raw image.
-use Rattle.std.specs.Prelude.{◌≡◌, ℕ, ◌+◌, ◌<◌, List, [], ◌∷◌, ◌++◌, codes, flat_map, map, replicate, take, Some, Ok, Err}
+use Rattle.std.specs.Prelude.{◌≡◌, ℕ, ◌+◌, ◌<◌, ◌≤◌, List, [], ◌∷◌, ◌++◌, codes, flat_map, length, map, replicate, slice_index, take, Some, Ok, Err}
 use Rattle.std.specs.Int.{to_be_bytes, to_le_bytes, w32}
 use Rattle.hex.specs.Hex.{encode_lower}
 use Rattle.om_isa.specs.declared.memory.TheConstants.{MAX_MEMORY}
@@ -52,6 +52,14 @@ pub record IsRefused (ext : Ext) (name size bytes : List ℕ) (error : LineError
   pub are_words : AreWordsOf bytes words
   pub read : program_line ext no_programs (name ∷ size ∷ map word_text words) ≡ Err error
 
+-- the bytes begin as a linked program does, an ELF file
+pub record IsElf (bytes : List ℕ) : Type 0 where
+  pub four : 4 ≤ length bytes
+  pub first : slice_index bytes 0 ≡ 127
+  pub second : slice_index bytes 1 ≡ 69
+  pub third : slice_index bytes 2 ≡ 76
+  pub fourth : slice_index bytes 3 ≡ 70
+
 -- at most so many bytes are read: one more than a memory may have
 abbrev pub most_read : ℕ
 most_read = MAX_MEMORY + 1
@@ -59,6 +67,7 @@ most_read = MAX_MEMORY + 1
 -- the error is that of the name, the size and the bytes that are read; those of the reader, the writer and memory may come whatever these are
 abbrev pub IsErrorOf : Ext → List ℕ → List ℕ → List ℕ → ImageError → Type 0
 IsErrorOf ext name size bytes (errors.Line error) = IsRefused ext name size (take most_read bytes) error
+IsErrorOf ext name size bytes errors.Elf = IsElf (take most_read bytes)
 IsErrorOf ext name size bytes _ = Unit {0}
 
 -- no error but a writer's leaves anything written

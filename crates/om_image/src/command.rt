@@ -2,7 +2,7 @@
 
 ghost use Rattle.std.specs.Prelude.{◌≡◌, ℕ, List, IfErr, IfOk, IfSome, OnErr, OnOk, Err, take};
 ghost use Rattle.std.specs.Io.KnownBytes.{Appends, Keeps};
-ghost use Rattle.om_image.specs.Image.{IsErrorOf, IsImageLine, IsSilent, most_read};
+ghost use Rattle.om_image.specs.Image.{IsElf, IsErrorOf, IsImageLine, IsSilent, most_read};
 
 use crate::error::ImageError;
 use crate::line::line_of;
@@ -18,8 +18,9 @@ const MOST_READ: u64 = MAX_MEMORY as u64 + 1;
 /// memory of SIZE bytes begins with it: words of four bytes, the lowest first, the last padded with zeros. Refused, nothing is
 /// written, unless it was the writer that refused.
 ///
-/// A line that a script would refuse is refused as the script would, with `bad number`, `bad name`, `bad size` or `image too long`,
-/// in this order. Of an input longer than any memory only the first 65,537 bytes are read.
+/// An ELF file, as a linker writes it, is refused with `Elf` before all else. A line that a script would refuse is refused as the
+/// script would, with `bad number`, `bad name`, `bad size` or `image too long`, in this order. Of an input longer than any memory
+/// only the first 65,537 bytes are read.
 pub fn image<I: Read, W: Write>(
     alloc: Global,
     ext: Ext,
@@ -31,6 +32,7 @@ pub fn image<I: Read, W: Write>(
     ensures text { IfSome (I.remaining reader.old) (λ bytes. OnOk result ((text : List ℕ)
         × IsImageLine ext name.now size.now bytes text
         × Appends (W.contents writer.old) (W.contents writer.new) text)) }
+    ensures raw { IfSome (I.remaining reader.old) (λ bytes. OnOk result (IsElf (take most_read bytes) → ⊥)) }
     ensures error { IfSome (I.remaining reader.old) (λ bytes. IfErr result (IsErrorOf ext name.now size.now bytes)) }
     ensures silent { IfErr result (λ error. IsSilent error (Keeps (W.contents writer.old) (W.contents writer.new))) }
 {

@@ -19,6 +19,9 @@ pub enum ImageError {
     /// A script would refuse the line, and says this of it.
     #[error("line 1: {0}")]
     Line(LineError),
+    /// The input is a linked program, an ELF file, and no raw image.
+    #[error("an ELF file: objcopy -O binary makes a raw image of it")]
+    Elf,
 }
 
 impl From<AllocError> for ImageError {

@@ -1,8 +1,8 @@
 //! The line of a program.
 
-ghost use Rattle.std.specs.Prelude.{◌≡◌, ◌≤◌, ◌∷◌, ◌++◌, [], IfOk, IfErr, OnOk, length, map, string_bytes};
+ghost use Rattle.std.specs.Prelude.{◌≡◌, ◌≤◌, ◌↔◌, ◌∷◌, ◌++◌, [], IfOk, IfErr, IsTrue, OnOk, length, map, string_bytes};
 ghost use Rattle.om_isa.specs.declared.memory.TheConstants.{MAX_MEMORY};
-ghost use Rattle.om_image.specs.Image.{IsImageLine, keyword, word_text};
+ghost use Rattle.om_image.specs.Image.{IsElf, IsImageLine, keyword, word_text};
 ghost use Rattle.om_image.specs.steps.Lines.{IsErrorOfLine, IsTaken, spaced};
 
 use crate::error::ImageError;
@@ -22,12 +22,23 @@ pub(crate) fn line_of(
 ) -> Result<Vec<u8>, ImageError>
     ensures line { IfOk result (λ text. IsImageLine ext name.now size.now bytes.now text.items) }
     ensures short { OnOk result (length bytes.now ≤ MAX_MEMORY) }
+    ensures raw { OnOk result (IsElf bytes.now → ⊥) }
     ensures error { IfErr result (IsErrorOfLine ext name.now size.now bytes.now) }
 {
+    if is_elf(bytes) {
+        return Err(ImageError::Elf);
+    }
     let words = words_of(alloc, bytes)?;
     let texts = texts_of(alloc, &words)?;
     check(alloc, ext, name, size, &texts)?;
     Ok(joined(alloc, ext, name, size, &texts)?)
+}
+
+// Whether these are the bytes of an ELF file.
+fn is_elf(bytes: &[u8]) -> bool
+    ensures { IsTrue result ↔ IsElf bytes.now }
+{
+    bytes.len() >= 4 && bytes[0] == 0x7f && bytes[1] == b'E' && bytes[2] == b'L' && bytes[3] == b'F'
 }
 
 // Reads the line as a script does.

@@ -3,7 +3,8 @@
 //! Nothing is allocated but a text. Nothing is trusted here; that the list is that of the RISC-V manual is in the definitions.
 //!
 //! In an order of reading: `rows` (the one list), `inst` (the values), `fields` and `registers` (what they hold), `ext` (RV32I,
-//! or with RV32M), `words` (the fields of a word), `decoding`, `encoding`, `text`; `memory` (how many bytes a memory may have).
+//! or with RV32M), `words` (the fields of a word), `decoding`, `encoding`, `text`; `memory` (how many bytes a memory may
+//! have), `laws` (the limits, as numbers).
 #![tactic(auto)]
 
 pub use decoding::decode;
@@ -20,6 +21,7 @@ mod encoding;
 mod ext;
 mod fields;
 mod inst;
+pub mod laws;
 mod memory;
 mod registers;
 mod rows;

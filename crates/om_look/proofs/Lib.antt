@@ -2,6 +2,7 @@ pub mod Stopping
 pub mod Below
 pub mod FoundLemmas
 pub mod ReadingLemmas
+pub mod RowsLemmas
 pub mod SpanLemmas
 pub mod ShowLemmas
 pub mod TraceLemmas

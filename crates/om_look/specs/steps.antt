@@ -3,6 +3,7 @@ pub mod Before
 pub mod Emitted
 pub mod Found
 pub mod Reading
+pub mod Rowing
 pub mod Ranges
 pub mod Saying
 pub mod Stops

@@ -62,7 +62,7 @@ fn find<S: Stable>(
 }
 
 // The interval before `x`; a store of which nothing is known may have found one that is not at most `to`.
-fn below(x: u32, to: u32) -> Option<u32>
+pub(crate) fn below(x: u32, to: u32) -> Option<u32>
     ensures below { IfSome result (λ y. y < to) }
     ensures before { x ≤ to → result ≡ before x }
 {

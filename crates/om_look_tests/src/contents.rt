@@ -14,13 +14,13 @@ static PROGRAM: [u32; 11] = [
 ];
 
 // The receipt of 4 bytes that began interval 1 of process 1 of 3.
-const RECEIPT: [u8; 30] = [
+pub(crate) const RECEIPT: [u8; 30] = [
     0x52, 1, 1, 2, 1, 0, 0, 0, 0, 0, 0, 0, 0, 0, 0, 0, 3, 0, 0, 0, 0, 0, 0, 0, 4, 0, 0x93, 0x08,
     0x10, 0x00,
 ];
 
 // Process 1 of 3 has started over the store.
-fn start<S: Stable>(rt: &impl Abort, alloc: Global, store: &mut S) {
+pub(crate) fn start<S: Stable>(rt: &impl Abort, alloc: Global, store: &mut S) {
     let mut image = Vec::new(alloc);
     for word in &PROGRAM {
         image
@@ -31,7 +31,13 @@ fn start<S: Stable>(rt: &impl Abort, alloc: Global, store: &mut S) {
     assert!(rt; core.is_ok());
 }
 
-fn put<S: Stable>(rt: &impl Abort, alloc: Global, store: &mut S, x: u32, receipt: &[u8]) {
+pub(crate) fn put<S: Stable>(
+    rt: &impl Abort,
+    alloc: Global,
+    store: &mut S,
+    x: u32,
+    receipt: &[u8],
+) {
     let bytes = Vec::from_slice(alloc, receipt).expect(rt, "memory");
     let mut receipts = Vec::new(alloc);
     receipts.push(bytes).expect(rt, "memory");

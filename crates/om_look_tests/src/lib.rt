@@ -4,4 +4,6 @@
 #[cfg(test)]
 mod contents;
 #[cfg(test)]
+mod taken_up;
+#[cfg(test)]
 mod traces;

@@ -6,3 +6,5 @@ pub mod Fitting
 pub mod Lasting
 pub mod ProductLemmas
 pub mod Knowing
+pub mod Performing
+pub mod Storing

@@ -7,6 +7,7 @@ ghost use Rattle.std.specs.Cmp.Rules.{comparing};
 ghost use Rattle.std.proofs.Common.{rules};
 
 use crate::machine::Machine;
+use om_isa::REGISTERS;
 
 impl PartialEq for Machine {
     ghost eq = { λ m n. pointwise nat_eq m.regs n.regs && pointwise nat_eq m.memory n.memory
@@ -15,7 +16,7 @@ impl PartialEq for Machine {
     ghost laws = { Prim.search (comparing, rules) };
 
     fn eq(&self, other: &Machine) -> bool {
-        self.regs == other.regs
+        self.regs[..REGISTERS] == other.regs[..REGISTERS]
             && self.memory == other.memory
             && self.pc == other.pc
             && self.count == other.count

@@ -44,8 +44,8 @@ impl Machine {
         ensures state { self.new ≡ finished_receive from body.now self.old }
         ensures counted { self.new.count ≡ self.old.count + 1 }
     {
-        let addr = self.regs[A0];
-        let room = self.regs[A1] as usize;
+        let addr = self.number(A0);
+        let room = self.number(A1) as usize;
         self.write_all(addr, &body[..body.len().min(room)]);
         self.put(A0, (body.len() % 0x1_0000_0000) as u32);
         self.put(A1, from);
@@ -60,7 +60,7 @@ impl Machine {
         ensures count { self.new.count ≡ self.old.count }
     {
         let start = address as usize;
-        forget(&mut self.known, start / 4, (start + bytes.len() + 3) / 4);
+        forget(&mut self.table, start / 4, (start + bytes.len() + 3) / 4);
         overwrite(&mut self.memory, start, bytes);
     }
 }

@@ -86,7 +86,7 @@ impl Machine {
     fn operand(&self, r: Reg) -> u32
         ensures { result ≡ reg self.now r }
     {
-        self.regs[r.value() as usize]
+        self.number(r.value() as usize)
     }
 
     // The sum of a register and an immediate.
@@ -261,13 +261,13 @@ impl Machine {
         ensures event { result ≡ event_of (call_effect self.now) }
         ensures applied { applied self.now (call_effect self.now) ≡ (result, self.now) }
     {
-        let (first, second) = (self.regs[A0], self.regs[A1]);
-        let call = match self.regs[A7] {
+        let (first, second) = (self.number(A0), self.number(A1));
+        let call = match self.number(A7) {
             0 => EnvCall::Exit { code: first },
             1 => EnvCall::Send {
                 to: first,
                 addr: second,
-                len: self.regs[A2],
+                len: self.number(A2),
             },
             2 => EnvCall::Receive {
                 addr: first,

@@ -3,11 +3,14 @@
 ghost use Rattle.std.specs.Prelude.{◌≡◌, ◌+◌, ◌<◌, ◌≤◌, length};
 ghost use Rattle.om_machine.specs.State.{half_at, word_at, overwritten};
 
-pub fn read_half(memory: &Vec<u8>, address: usize) -> u16
-    requires { address + 2 ≤ length memory.now.items }
-    ensures { result ≡ half_at memory.now.items address }
+pub fn read_half(memory: &[u8], address: usize) -> u16
+    requires { address + 2 ≤ length memory.now }
+    ensures { result ≡ half_at memory.now address }
 {
-    u16::from_le_bytes([memory[address], memory[address + 1]])
+    // By a copy, which is one load of 2 bytes.
+    let mut bytes = [0; 2];
+    bytes.copy_from_slice(&memory[address..address + 2]);
+    u16::from_le_bytes(bytes)
 }
 
 pub fn read_word(memory: &[u8], address: usize) -> u32

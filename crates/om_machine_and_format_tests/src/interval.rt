@@ -72,6 +72,7 @@ fn vectors_are_compared_by_place(rt: HostRuntime) {
         );
     }
     laws::lower_vector_has_smaller_sum();
+    laws::limits();
 }
 
 #[test]

@@ -303,6 +303,7 @@ fn machines_are_restored_as_they_were_told(rt: HostRuntime) {
     laws::runs_go_on();
     laws::step_leaves_a_machine();
     laws::finishing_leaves_a_machine();
+    om_isa::laws::limits();
 }
 
 const NOP: [u8; 4] = [0x13, 0, 0, 0];

@@ -107,6 +107,7 @@ fn the_first_faulty_line_counts(rt: HostRuntime) {
         assert_sum(&rt, alloc, text, faulty(*line, *error));
     }
     laws::first_faulty_line_counts::<u64>();
+    laws::limits();
 }
 
 const NUMBERS: [(&str, Option<u32>); 8] = [

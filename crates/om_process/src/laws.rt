@@ -1,5 +1,6 @@
 //! What holds of every process, as theorems over the definitions alone: each function stands for one.
 
+ghost use Rattle.om_process.specs.declared.limits.TheConstants.{LAST_INTERVAL, LAST_NUMBER, LAST_OUTPUT, REFUSED};
 ghost use Rattle.std.specs.Prelude.{◌≡◌, ◌↔◌, ◌++◌, ◌+◌, ◌<◌, ◌≤◌, ◌∷◌, [], List, ℕ, Some, length, map, slice_index, take};
 ghost use Rattle.om_format.specs.declared.queue.QueueEntry.{QueueEntry};
 ghost use Rattle.om_format.specs.Receipts.{ReceiptRecord};
@@ -135,4 +136,12 @@ pub fn fits_at_its_count()
     ensures { (own n k : ℕ) (s w : Process) (r : ReceiptRecord)
         → r.to ≡ own → r.from < n → r.ssn ≡ slice_index s.got r.from → r.interval ≡ s.interval + 1
         → Turns own n k s w → IsWaiting own n w → w.machine.count ≡ r.count → FitsReceipt own n w r }
+{}
+
+/// The word of a refusal, and the last numbers of messages, intervals and outputs, are these.
+pub fn limits()
+    ensures refused { REFUSED ≡ 4294967295 }
+    ensures last_number { LAST_NUMBER ≡ 4294967295 }
+    ensures last_interval { LAST_INTERVAL ≡ 4294967295 }
+    ensures last_output { LAST_OUTPUT ≡ 18446744073709551615 }
 {}

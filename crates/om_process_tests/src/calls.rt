@@ -297,6 +297,7 @@ fn a_store_takes_one_start(rt: HostRuntime) {
 
 #[test]
 fn laws_are_called(_rt: HostRuntime) {
+    laws::limits();
     laws::one_turn();
     laws::at_most_one();
     laws::waits_once();

@@ -17,6 +17,7 @@ ghost use Rattle.om_runner.specs.steps.Places.{member_of};
 ghost use Rattle.om_runner.specs.steps.Settling.{ArePasses, AreSettled};
 ghost use Rattle.om_runner.specs.steps.Wiring.{IsWired};
 
+use crate::barrier::Barrier;
 use crate::config::Config;
 use crate::diary::Listeners;
 use crate::fault::RunFault;
@@ -295,13 +296,18 @@ fn work<'a, K: Naming, R: Wait + Clock, G: Gate, O: Opener<R>>(
         plan,
         shared,
         stop,
+        returns,
         keeps,
         listeners,
         ..
     } = *cluster;
+    let barrier = Barrier::new(returns, links.n());
     let past = Past::new(alloc, keeps);
     let watch = cluster.opener.watch();
-    let worker = Worker::new(plan, shared, links, kills, past, alloc, listeners, watch);
+    let mut worker = Worker::new(
+        plan, shared, links, barrier, kills, past, alloc, listeners, watch,
+    );
+    worker.arrive(node.core().round());
     take_turns(rt, alloc, plan.turns, stop, worker, node, pass)
 }
 
@@ -659,6 +665,7 @@ fn run_named<
         opener,
         shared: &ground.shared,
         stop: &ground.stop,
+        returns: &ground.returns,
         keeps,
         listeners,
         inboxes: &ground.inboxes,

@@ -146,6 +146,7 @@ fn run_named<
         opener,
         shared: &ground.shared,
         stop: &ground.stop,
+        returns: &ground.returns,
         keeps: false,
         listeners: Listeners::followed(&herald),
         inboxes: &ground.inboxes,

@@ -12,8 +12,8 @@ use crate::received::Received;
 use om_board::{Blank, Inbox, Naming, Pass, Shared};
 use om_interval::MAX_PROCESSES;
 use std::alloc::{AllocError, Global};
-use std::sync::atomic::AtomicBool;
 use std::sync::atomic::Ordering::SeqCst;
+use std::sync::atomic::{AtomicBool, AtomicU64};
 
 // What the threads of a cluster have in common.
 #[derive(Drop)]
@@ -26,6 +26,8 @@ pub(crate) struct Cluster<'s, K: Naming, R, G, O> {
     pub(crate) shared: &'s Shared<K>,
     // Set where one of them ends with a fault.
     pub(crate) stop: &'s AtomicBool,
+    // How often processes came up: at their start, and behind each round.
+    pub(crate) returns: &'s AtomicU64,
     // Whether what each process did is to be kept.
     pub(crate) keeps: bool,
     // Who is told what the threads do.
@@ -47,6 +49,7 @@ pub(crate) struct Ground<K: Naming> {
     pub(crate) bells: Vec<Bell>,
     pub(crate) received: Vec<Received>,
     pub(crate) stop: AtomicBool,
+    pub(crate) returns: AtomicU64,
 }
 
 // Of as many processes as the cell is for; with the passes of each.
@@ -69,6 +72,7 @@ pub(crate) fn ground_of<K: Naming>(
         bells: bells_of(alloc, n)?,
         received: received_of(alloc, n)?,
         stop: AtomicBool::new(false),
+        returns: AtomicU64::new(0),
     };
     Ok((ground, ends, passes))
 }

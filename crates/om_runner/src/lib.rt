@@ -10,8 +10,8 @@
 //!   memory), `report`, `fault`, `witness` (what each process did)
 //! - `cluster`: the threads, from the first store to the report; `network` (the inboxes of all), `settle` (what is left in
 //!   them), `results` (what the workers bring back), `harvest` (the outputs among it)
-//! - `worker`: what a thread does, turn by turn; `idle`, `patience` and `bell` (how it yields, sleeps and is woken),
-//!   `worker_fault` (why it stops)
+//! - `worker`: what a thread does, turn by turn; `barrier` (where it waits until all are up), `idle`, `patience` and `bell` (how it
+//!   yields, sleeps and is woken), `worker_fault` (why it stops)
 //! - what a worker has: `node` (a process over its store), `links` (its ends of inboxes), `received` (what a resend may leave
 //!   out), `manager_link` and `desk` (the manager)
 //! - `ground`: what all threads have in common
@@ -20,6 +20,7 @@
 //! - `followed`, with `follower`, `following`, `lane` and `herald`: outputs that are told as they are released
 #![tactic(auto)]
 
+mod barrier;
 mod bell;
 mod cluster;
 mod config;

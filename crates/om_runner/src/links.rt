@@ -134,7 +134,8 @@ impl<'a> Links<'a> {
 
     // The number of processes.
     pub(crate) fn n(&self) -> usize
-        ensures { result ≡ self.now.n }
+        ensures n { result ≡ self.now.n }
+        ensures few { self.now.n ≤ MAX_PROCESSES }
     {
         self.n
     }

@@ -233,7 +233,8 @@ impl<'a, S: Stable> Node<'a, S> {
         verdict: &Verdict,
     ) -> Result<(), WorkerFault>
         requires { length starts.now ≡ self.old.member.n }
-        ensures { self.new.member ≡ self.old.member }
+        ensures member { self.new.member ≡ self.old.member }
+        ensures round { OnOk result (self.new.core.round ≡ verdict.now.round) }
     {
         Ok(self.core.resume(alloc, starts, verdict)?)
     }
@@ -277,7 +278,7 @@ impl<'a, S: Stable> Node<'a, S> {
 }
 
 impl<'a, S: Stable> DownNode<'a, S> {
-    // Comes back after a round that rolls it back.
+    // Comes back after a round that rolls it back. Its store is cut then.
     #[inline(never)]
     pub(crate) fn come_back(
         self,
@@ -286,7 +287,8 @@ impl<'a, S: Stable> DownNode<'a, S> {
         verdict: &Verdict,
     ) -> Result<Node<'a, S>, WorkerFault>
         requires { length starts.now ≡ self.n }
-        ensures { IfOk result (λ node. node.member ≡ self.entry) }
+        ensures member { IfOk result (λ node. node.member ≡ self.entry) }
+        ensures round { IfOk result (λ node. node.core.round ≡ verdict.now.round) }
     {
         let DownNode {
             image,

@@ -11,6 +11,7 @@ ghost use Rattle.om_runner.specs.steps.Sights.{doing_at};
 ghost use Rattle.om_runner.specs.steps.Turning.{HasNothingToSay, HasReported, HasRested, IsTurnOf, pause_turns, place_after};
 ghost use Rattle.om_runner.specs.steps.Wiring.{HasEnds};
 
+use crate::barrier::Barrier;
 use crate::bell::Look;
 use crate::config::Config;
 use crate::diary::{Diary, Listeners};
@@ -114,6 +115,7 @@ pub(crate) struct Worker<'a, K: Naming> {
     plan: &'a Config,
     manager_link: ManagerLink<'a, K>,
     links: Links<'a>,
+    barrier: Barrier<'a>,
     // The intervals at which the process is still to fail.
     kills: Vec<u32>,
     past: Past,
@@ -184,7 +186,8 @@ fn after_round<'a, S: Stable>(
     round_outcome: &RoundOutcome,
 ) -> Result<Node<'a, S>, WorkerFault>
     requires { length round_outcome.now.starts ≡ node.member.n }
-    ensures { IfOk result (λ next. next.member ≡ node.entry.member) }
+    ensures member { IfOk result (λ next. next.member ≡ node.entry.member) }
+    ensures round { IfOk result (λ next. next.core.round ≡ round_outcome.now.verdict.round) }
 {
     if round_outcome.verdict.back {
         return node
@@ -206,6 +209,7 @@ impl<'a, K: Naming> Worker<'a, K> {
         plan: &'a Config,
         shared: &'a Shared<K>,
         links: Links<'a>,
+        barrier: Barrier<'a>,
         kills: Vec<u32>,
         past: Past,
         alloc: Global,
@@ -220,6 +224,7 @@ impl<'a, K: Naming> Worker<'a, K> {
             plan,
             manager_link: ManagerLink::new(own, shared),
             links,
+            barrier,
             kills,
             past,
             diary: Diary::new(alloc, own, listeners),
@@ -243,6 +248,30 @@ impl<'a, K: Naming> Worker<'a, K> {
         ensures { result ≡ self.now.extra }
     {
         self.extra
+    }
+
+    // The process came up in this round, which it tells last of all: who was the last wakes the others.
+    pub(crate) fn arrive(&mut self, round: u32)
+        ensures { self.new.links ≡ self.old.links }
+    {
+        if self.barrier.arrive(round) {
+            self.links.wake_all();
+        }
+    }
+
+    // Whether the process, which is up, waits for others to come up. A turn in which it does is one in which nothing happens.
+    fn waits_for_others<R: Wait + Clock>(&mut self, rt: &R) -> bool
+        ensures { self.new.links ≡ self.old.links }
+    {
+        if self.barrier.is_passed() {
+            return false;
+        }
+        if self.barrier.pass() {
+            self.idle.end();
+            return false;
+        }
+        self.doze(rt);
+        true
     }
 
     // Gives the passes of the process up, when it has ended, and what it did.
@@ -350,7 +379,7 @@ impl<'a, K: Naming> Worker<'a, K> {
         watch.show(rt, pid, sight);
     }
 
-    // A turn of a process that runs.
+    // A turn of a process that is up: it runs, where all are.
     #[inline(never)]
     fn go_on<S: Stable, R: Wait + Clock>(
         &mut self,
@@ -366,6 +395,9 @@ impl<'a, K: Naming> Worker<'a, K> {
         ensures same { self.new.links ≡ self.old.links }
         ensures place { IfOk result (λ r. member_of r.0 ≡ node.entry.member) }
     {
+        if self.waits_for_others(rt) {
+            return Ok((Place::Up(node), pass));
+        }
         let mut node = node;
         match self.advance(rt, alloc, &mut node) {
             Ok(step) => Ok((step.place_of(node), pass)),
@@ -760,7 +792,7 @@ impl<'a, K: Naming> Worker<'a, K> {
         Ok((place, pass))
     }
 
-    // Tells that the process is up again.
+    // Tells that the process is up again. It stands as the round left it, and so does its store.
     #[inline(never)]
     fn up_again<S: Stable, R: Wait>(
         &mut self,
@@ -769,12 +801,16 @@ impl<'a, K: Naming> Worker<'a, K> {
         verdict: &Verdict,
         is_back: bool,
     ) -> Result<Place<'a, S>, WorkerFault>
+        requires { node.core.round ≡ verdict.now.round }
         ensures same { self.new.links ≡ self.old.links }
         ensures place { IfOk result (λ place. member_of place ≡ node.entry.member) }
     {
         self.links.tell_all_received(node.core());
         match self.diary.returned(rt, node.core(), verdict, is_back) {
-            Ok(()) => Ok(Place::Up(node)),
+            Ok(()) => {
+                self.arrive(verdict.round);
+                Ok(Place::Up(node))
+            }
             Err(error) => {
                 drop(node);
                 Err(error.into())

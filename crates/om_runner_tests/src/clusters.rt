@@ -147,7 +147,7 @@ fn is_of_ring(report: &Report, n: u32, p: u32) -> bool {
 }
 
 // The outputs and the codes of a ring of so many.
-fn assert_ring(rt: &impl Abort, n: u32, report: &Report) {
+pub fn assert_ring(rt: &impl Abort, n: u32, report: &Report) {
     for p in 0..n {
         assert!(rt; is_of_ring(report, n, p), "{p}");
     }

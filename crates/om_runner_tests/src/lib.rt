@@ -4,6 +4,8 @@
 #[cfg(test)]
 mod at_work;
 #[cfg(test)]
+mod barriers;
+#[cfg(test)]
 mod boards;
 #[cfg(test)]
 mod clusters;

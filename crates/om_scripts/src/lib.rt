@@ -3,10 +3,11 @@
 //! A name is looked up by its hash; an image is written once. Nothing is trusted here but the kit's maps.
 //!
 //! In an order of reading: `programs` (what the lines build), `image` (a memory from words), `names` (which names there may
-//! be), `named` (values by name).
+//! be), `named` (values by name), `laws` (the limit, as a number).
 #![tactic(auto)]
 
 mod image;
+pub mod laws;
 mod named;
 mod names;
 mod programs;

@@ -1,3 +1,4 @@
 pub mod BetweenLemmas
+mod LedgerLemmas
 pub mod RecordLemmas
 pub mod TreeLemmas

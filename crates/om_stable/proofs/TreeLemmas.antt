@@ -63,7 +63,7 @@ records_of-gone rows new x h = same_records _ _ (λ q.
     ∙ sym (get-remove nat_cmp_total (records_of rows) x q ∙ ap (cond (eq_by_cmp nat_cmp q x) None) (get-records_of rows q)))
 
 -- ---- lists of rows
-entries_of_empty : entries (empty {X = List ℕ} {R = nat_cmp}) ≡ []
+pub entries_of_empty : entries (empty {X = List ℕ} {R = nat_cmp}) ≡ []
 entries_of_empty = nil_from_length _ (sym (len-entries empty) ∙ len-empty nat_cmp (List ℕ))
 
 -- the row of a least interval stands first
@@ -174,3 +174,7 @@ module _ (m : BTreeMap ℕ (Vec ℕ Global)) (held : Records) (is : records_of m
   between_from_range after to r sorted part =
       ap rows_of part ∙ rows_of-entries_between after to m.entries
       ∙ ap (filter (λ e. nat_lt after e.0 && nat_le e.0 to)) (sym (entries-records_of m.entries sorted) ∙ ap entries is)
+
+  -- all that the tree holds
+  pub all_of_tree : tree.IsOrdered nat_cmp m → rows_of m.entries ≡ entries held
+  all_of_tree sorted = sym (entries-records_of m.entries sorted) ∙ ap entries is

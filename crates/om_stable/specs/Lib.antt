@@ -1,4 +1,5 @@
 pub mod Calls
 pub mod Content
 pub mod Count
+pub mod Ledger
 pub mod steps

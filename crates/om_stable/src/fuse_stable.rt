@@ -1,6 +1,7 @@
 ghost use Rattle.std.specs.Prelude.{◌≡◌};
 
 use crate::error::StoreError;
+use crate::ledger::{Ledger, LedgerRows, LedgerTable};
 use crate::stable::Stable;
 use std::alloc::Global;
 
@@ -128,5 +129,46 @@ impl<S: Stable> Stable for FuseStable<S> {
             Stop::After(_) => inner,
             Stop::Past => inner.saturating_add(1),
         }
+    }
+}
+
+impl<S: Ledger> Ledger for FuseStable<S> {
+    ghost use Rattle.std.proofs.Common.{rules};
+
+    ghost ledger = { λ f. S.ledger f.inner };
+
+    ghost keeps = { λ f. S.keeps f.inner };
+
+    ghost stays = { Prim.search rules };
+
+    fn put_in(
+        &mut self,
+        alloc: Global,
+        table: LedgerTable,
+        first: u64,
+        recs: &[Vec<u8>],
+    ) -> Result<(), StoreError> {
+        self.stop.pass()?;
+        self.inner.put_in(alloc, table, first, recs)
+    }
+
+    fn all_in(
+        &mut self,
+        alloc: Global,
+        table: LedgerTable,
+    ) -> Result<Vec<(u64, Vec<u8>)>, StoreError> {
+        self.stop.pass()?;
+        self.inner.all_in(alloc, table)
+    }
+
+    fn shed(
+        &mut self,
+        alloc: Global,
+        c: u32,
+        outputs: LedgerRows<'_>,
+        senders: LedgerRows<'_>,
+    ) -> Result<(), StoreError> {
+        self.stop.pass()?;
+        self.inner.shed(alloc, c, outputs, senders)
     }
 }

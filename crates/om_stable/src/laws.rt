@@ -1,5 +1,7 @@
 //! What holds of the definitions alone.
 
+ghost use Rattle.om_stable.specs.declared.stable.TheConstants.{INTERVALS, LAST_COUNT};
+ghost use Rattle.om_stable.specs.declared.ledger.TheConstants.{LEDGER_NUMBERS};
 ghost use Rattle.std.specs.Prelude.{◌≡◌, ◌⊎◌, ◌+◌, ◌<◌, ◌≤◌, ℕ, List, Some, length};
 ghost use Rattle.std.specs.FinMap.{get};
 ghost use Rattle.std.specs.List.{slice_get};
@@ -28,4 +30,11 @@ pub fn with_all_holds_all()
     ensures nothing_else { (held : Records) (first : ℕ) (added : List (List ℕ)) (x : ℕ) (bytes : List ℕ)
         → get (with_all held first added) x ≡ Some bytes
         → (get held x ≡ Some bytes) ⊎ ((i : ℕ) × (x ≡ first + i) × (slice_get added i ≡ Some bytes)) }
+{}
+
+/// The numbers of intervals and of records of a table, and the last count of failures, are these.
+pub fn limits()
+    ensures intervals { INTERVALS ≡ 4294967296 }
+    ensures last_count { LAST_COUNT ≡ 18446744073709551615 }
+    ensures numbers { LEDGER_NUMBERS ≡ 9223372036854775808 }
 {}

@@ -1,19 +1,26 @@
-//! One process's store: receipts and checkpoints by interval, in memory or behind a fuse.
+//! One process's store: receipts and checkpoints by interval, in memory or behind a fuse, and what it keeps beside them for a run
+//! that takes it up after a crash of the whole program.
 //!
 //! A call costs a descent of a tree and a copy of the bytes that it puts or reads. Nothing is trusted here.
 //!
 //! In an order of reading: `stable` (the trait, and what each call leaves), `error`, `mem_stable` (in memory), `record_tree`
-//! (records by interval), `fuse_stable` (a store that stops after so many calls), `laws` (theorems over the definitions).
+//! (records by interval), `fuse_stable` (a store that stops after so many calls), `ledger` (the trait of stores that are taken up
+//! again), `mem_ledger` (such a store in memory), `row_tree` (its tables), `laws` (theorems over the definitions).
 #![tactic(auto)]
 
 mod error;
 mod fuse_stable;
 pub mod laws;
+mod ledger;
+mod mem_ledger;
 mod mem_stable;
 mod record_tree;
+mod row_tree;
 mod stable;
 
 pub use error::StoreError;
 pub use fuse_stable::{FuseStable, Stop};
+pub use ledger::{LEDGER_NUMBERS, Ledger, LedgerRows, LedgerTable};
+pub use mem_ledger::MemLedger;
 pub use mem_stable::MemStable;
 pub use stable::{INTERVALS, LAST_COUNT, Stable};

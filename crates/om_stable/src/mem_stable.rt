@@ -1,7 +1,9 @@
 ghost use Rattle.std.specs.Prelude.{◌≡◌, ◌≢◌, true, Some};
 ghost use Rattle.std.specs.FinMap as map;
+ghost use Rattle.om_stable.specs.Content.{kept_by_prune};
 
 use crate::error::StoreError;
+use crate::ledger::{Ledger, LedgerRows, LedgerTable};
 use crate::record_tree::RecordTree;
 use crate::stable::Stable;
 use std::alloc::Global;
@@ -35,6 +37,14 @@ impl MemStable {
             receipts: RecordTree::new(alloc),
             checkpoints: RecordTree::new(alloc),
         }
+    }
+
+    // Removes the checkpoints below `c`, and the receipts at or below it.
+    pub(crate) fn drop_below(&mut self, c: u32)
+        ensures { self.new ≡ kept_by_prune self.old c }
+    {
+        self.receipts.keep_from(u64::from(c) + 1);
+        self.checkpoints.keep_from(u64::from(c));
     }
 }
 
@@ -92,12 +102,52 @@ impl Stable for MemStable {
     }
 
     fn prune(&mut self, _alloc: Global, c: u32) -> Result<(), StoreError> {
-        self.receipts.keep_from(u64::from(c) + 1);
-        self.checkpoints.keep_from(u64::from(c));
+        self.drop_below(c);
         Ok(())
     }
 
     fn failures(&self) -> u64 {
         0
+    }
+}
+
+// It keeps nothing beside its records.
+impl Ledger for MemStable {
+    ghost use Rattle.std.specs.Prelude.{false, refl};
+    ghost use Rattle.om_stable.specs.Ledger.{blank};
+
+    ghost ledger = { λ _. blank };
+
+    ghost keeps = { λ _. false };
+
+    ghost stays = { λ old new error clean gives. refl };
+
+    fn put_in(
+        &mut self,
+        _alloc: Global,
+        _table: LedgerTable,
+        _first: u64,
+        _recs: &[Vec<u8>],
+    ) -> Result<(), StoreError> {
+        Ok(())
+    }
+
+    fn all_in(
+        &mut self,
+        alloc: Global,
+        _table: LedgerTable,
+    ) -> Result<Vec<(u64, Vec<u8>)>, StoreError> {
+        Ok(Vec::new(alloc))
+    }
+
+    fn shed(
+        &mut self,
+        _alloc: Global,
+        c: u32,
+        _outputs: LedgerRows<'_>,
+        _senders: LedgerRows<'_>,
+    ) -> Result<(), StoreError> {
+        self.drop_below(c);
+        Ok(())
     }
 }

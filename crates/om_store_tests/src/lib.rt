@@ -4,4 +4,6 @@
 #[cfg(test)]
 mod databases;
 #[cfg(test)]
+mod ledgers;
+#[cfg(test)]
 mod stores;

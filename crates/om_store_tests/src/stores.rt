@@ -242,6 +242,7 @@ fn rows_in_memory(rt: HostRuntime) {
     play_all(&rt, rt.alloc(), Kind::Memory);
     laws::between_is_all_between();
     laws::with_all_holds_all();
+    laws::limits();
 }
 
 // Plays the rows behind a fuse of so many calls.

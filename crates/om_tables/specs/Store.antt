@@ -1,5 +1,5 @@
 -- The content of a store of two tables.
-use Rattle.std.specs.Prelude.{◌≡◌, ℕ, pos, Bool, ◌&&◌, List, [], ◌∷◌, map, codes}
+use Rattle.std.specs.Prelude.{◌≡◌, ℕ, pos, Bool, ◌&&◌, List, [], ◌∷◌, map, codes, length, Any}
 use Rattle.std.specs.FinMap as finite
 use Rattle.sqlite.specs.declared.types.Value.{Value}
 use Rattle.sqlite.specs.declared.types.Value.TheVariants.{Int, Blob}
@@ -53,6 +53,21 @@ is_sure s = s.is_clean && s.is_open
 -- the tables are two, by the names that `create` gives them, and there is nothing beside them
 pub record HasBothTables (schema : Schema) : Type 0 where
   pub tables : map (λ (t : Table). t.name) schema.tables ≡ codes "receipts" ∷ codes "checkpoints" ∷ []
+  pub indexes : schema.indexes ≡ []
+  pub views : schema.views ≡ []
+
+-- one of the tables has this name
+abbrev pub HasTable : List Table → List ℕ → Type 0
+HasTable tables name = Any (λ (t : Table). t.name ≡ name) tables
+
+-- the tables are five, by these names in any order, and there is nothing beside them
+pub record HasFiveTables (schema : Schema) : Type 0 where
+  pub count : length schema.tables ≡ 5
+  pub receipts : HasTable schema.tables (codes "receipts")
+  pub checkpoints : HasTable schema.tables (codes "checkpoints")
+  pub outputs : HasTable schema.tables (codes "outputs")
+  pub senders : HasTable schema.tables (codes "senders")
+  pub about : HasTable schema.tables (codes "about")
   pub indexes : schema.indexes ≡ []
   pub views : schema.views ≡ []
 

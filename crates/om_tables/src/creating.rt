@@ -31,7 +31,7 @@ fn create_checkpoints<S: Alter>(tx: &mut Transaction<'_, S>) -> Result<usize, Er
     )
 }
 
-fn create_both<S: Alter>(tx: &mut Transaction<'_, S>) -> Result<(), Error>
+pub(crate) fn create_both<S: Alter>(tx: &mut Transaction<'_, S>) -> Result<(), Error>
     ensures same_reference { tx.new.conn.ghost_name ≡ tx.old.conn.ghost_name }
     ensures makes { Makes HasNoTables HoldsNothing
         (state S.Store tx.old.conn.now) (state S.Store tx.new.conn.now) result }

@@ -60,7 +60,7 @@ pub(crate) fn cut<S: Alter>(conn: &mut Connection<S>, r: u32) -> Result<(), Erro
     tx.commit()
 }
 
-fn prune_both<S: Alter>(tx: &mut Transaction<'_, S>, at: u32) -> Result<(), Error>
+pub(crate) fn prune_both<S: Alter>(tx: &mut Transaction<'_, S>, at: u32) -> Result<(), Error>
     ensures same_reference { tx.new.conn.ghost_name ≡ tx.old.conn.ghost_name }
     ensures performs { Performs (λ k. kept_by_prune k at)
         (state S.Store tx.old.conn.now) (state S.Store tx.new.conn.now) result }

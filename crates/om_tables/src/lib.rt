@@ -1,19 +1,23 @@
-//! One process's store in two tables of a database, that a person can open and look at.
+//! One process's store in two tables of a database, that a person can open and look at; or in five, to be taken up again after
+//! a crash of the whole program.
 //!
 //! A call is one transaction of a few statements; it costs what SQLite's trees cost. The kit's `sqlite` is trusted as far as
 //! its statements go, and the disk as far as the store says that it is clean.
 //!
 //! In an order of reading: `sql_stable` (the store, its calls), `creating` (the tables), `inserting`, `reading`, `deleting`,
-//! `error`, `laws` (theorems over the definitions).
+//! `error`, `laws` (theorems over the definitions), `sql_ledger` (the store of five tables), `further` (what it has beside records).
 #![tactic(auto)]
 
 mod creating;
 mod deleting;
 mod error;
+mod further;
 mod inserting;
 pub mod laws;
 mod reading;
+mod sql_ledger;
 mod sql_stable;
 
 pub use error::TablesError;
+pub use sql_ledger::SqlLedger;
 pub use sql_stable::SqlStable;

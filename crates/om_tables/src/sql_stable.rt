@@ -1,19 +1,20 @@
 //! The store over tables, as a `Stable`.
-ghost use Rattle.std.specs.Prelude.{◌≡◌, ◌≢◌, ◌≤◌, ℕ, [], ◌∷◌, map, codes, false, IsTrue, Some, None, ◌↔◌, is_ok, IfOk, IfErr, IsErrOf, OnOk, OnErr};
+ghost use Rattle.std.specs.Prelude.{◌≡◌, ◌≢◌, ◌≤◌, ◌+◌, length, ℕ, [], ◌∷◌, map, codes, false, IsTrue, Some, None, ◌↔◌, is_ok, IfOk, IfErr, IsErrOf, OnOk, OnErr};
 ghost use Rattle.std.specs.Result.{result_err};
 ghost use Rattle.std.specs.FinMap as map;
 ghost use Rattle.om_stable.specs.Count.{Rose};
 ghost use Rattle.om_stable.specs.declared.error.StoreError.TheVariants.{Fault};
+ghost use Rattle.om_stable.specs.declared.ledger.TheConstants.{LEDGER_NUMBERS};
 ghost use Rattle.om_tables.specs.Tables.{no_schema};
 ghost use Rattle.om_tables.specs.Store.{content_in, IsFormed, HasBothTables, LeavesCommitted, is_sure};
 ghost use Rattle.sqlite.specs.Held.{state};
 
 use crate::creating::create_tables;
 use crate::error::TablesError;
-use crate::{deleting, inserting, reading};
-use om_stable::{Stable, StoreError};
+use crate::{deleting, further, inserting, reading};
+use om_stable::{LedgerRows, LedgerTable, Stable, StoreError};
 use sqlite::{Alter, Connection, Error, ErrorCode};
-use sqlite_schema::schema::{Schema, Table};
+use sqlite_schema::schema::{Constraint, Schema, Table};
 use std::alloc::Global;
 use std::marker::Model;
 
@@ -96,6 +97,60 @@ impl<S: Alter> SqlStable<S> {
         let SqlStable { conn, failures: _ } = self;
         conn
     }
+
+    // Returns a store over the connection, which has failed at nothing yet.
+    pub(crate) fn over(conn: Connection<S>) -> SqlStable<S>
+        requires { conn.in_transaction ≡ false }
+        ensures connection { result.connection ≡ conn }
+        ensures count { result.failures ≡ 0 }
+    {
+        SqlStable { conn, failures: 0 }
+    }
+
+    // Puts rows into a further table, all of them or none. A number that is taken answers Present.
+    pub(crate) fn put_rows(
+        &mut self,
+        table: LedgerTable,
+        first: u64,
+        recs: &[Vec<u8>],
+    ) -> Result<(), StoreError>
+        requires { first + length recs.now ≤ LEDGER_NUMBERS }
+        ensures fault { result_err result ≡ Some Fault → Rose self.old.failures self.new.failures }
+        ensures count { self.old.failures ≤ self.new.failures }
+    {
+        let put = further::put_rows(&mut self.conn, table, first, recs);
+        put_told(&mut self.failures, put)
+    }
+
+    // Returns the rows of a further table, ascending.
+    pub(crate) fn all_in(
+        &mut self,
+        alloc: Global,
+        table: LedgerTable,
+    ) -> Result<Vec<(u64, Vec<u8>)>, StoreError>
+        ensures never_present { result ≢ Err StoreError.Present }
+        ensures fault { result_err result ≡ Some Fault → Rose self.old.failures self.new.failures }
+        ensures count { self.old.failures ≤ self.new.failures }
+    {
+        let found = further::all_in(&mut self.conn, alloc, table);
+        told(&mut self.failures, found)
+    }
+
+    // Puts outputs and senders and prunes to `c`, in one transaction.
+    pub(crate) fn shed(
+        &mut self,
+        c: u32,
+        outputs: LedgerRows<'_>,
+        senders: LedgerRows<'_>,
+    ) -> Result<(), StoreError>
+        requires outputs { outputs.first + length outputs.recs.now ≤ LEDGER_NUMBERS }
+        requires senders { senders.first + length senders.recs.now ≤ LEDGER_NUMBERS }
+        ensures fault { result_err result ≡ Some Fault → Rose self.old.failures self.new.failures }
+        ensures count { self.old.failures ≤ self.new.failures }
+    {
+        let done = further::shed(&mut self.conn, c, outputs, senders);
+        put_told(&mut self.failures, done)
+    }
 }
 
 // Whether a database has the two tables of a store, and nothing beside them.
@@ -121,7 +176,7 @@ fn are_receipts_and_checkpoints(tables: &[Table]) -> bool
 }
 
 // Why the tables were not made, by the error of `sqlite`.
-fn refusal_of(error: Error) -> TablesError
+pub(crate) fn refusal_of(error: Error) -> TablesError
     ensures memory { (result ≡ TablesError.Memory) ↔ (error ≡ Error.SqliteFailure ErrorCode.OutOfMemory) }
     ensures fault { result ≢ TablesError.Memory → result ≡ TablesError.Fault }
 {
@@ -148,6 +203,20 @@ fn told<T>(failures: &mut u64, outcome: Result<T, Error>) -> Result<T, StoreErro
             *failures = failures.saturating_add(1);
             Err(StoreError::Fault)
         }
+    }
+}
+
+// Counts an error of `sqlite`, except out of memory and a number that is taken.
+fn put_told(failures: &mut u64, outcome: Result<(), Error>) -> Result<(), StoreError>
+    ensures ok { is_ok result ≡ is_ok outcome }
+    ensures fault { result_err result ≡ Some Fault → Rose failures.old failures.new }
+    ensures count { failures.old ≤ failures.new }
+{
+    match outcome {
+        Err(Error::SqliteFailure(ErrorCode::ConstraintViolation(Constraint::PrimaryKey))) => {
+            Err(StoreError::Present)
+        }
+        outcome => told(failures, outcome),
     }
 }
 

@@ -1,5 +1,6 @@
 //! What holds of every script, whatever its lines mean.
 
+ghost use Rattle.om_text.specs.declared.text.TheConstants.{MAX_BYTES, MAX_TURNS};
 ghost use Rattle.std.specs.Prelude.{◌≡◌, ℕ, ◌↔◌, List, Err};
 ghost use Rattle.om_text.specs.declared.error.ScriptError.{ScriptError};
 ghost use Rattle.om_text.specs.FirstFaulty.{IsFirstFaulty};
@@ -11,4 +12,10 @@ pub fn first_faulty_line_counts<State>()
         (state : State) (lines : List (List (List ℕ))) (error : ScriptError)
         → (script_from meaning number state lines ≡ Err error)
         ↔ IsFirstFaulty meaning number state lines error }
+{}
+
+/// The limits of an input, in bytes, and of the reads that it takes are these.
+pub fn limits()
+    ensures bytes { MAX_BYTES ≡ 16777216 }
+    ensures turns { MAX_TURNS ≡ 33554432 }
 {}

@@ -174,7 +174,7 @@ pub fn image_faults() -> Group {
         name: "faults of image",
         heading: "## `omlog image`",
         help: IMAGE_HELP,
-        first: "A line that a script would refuse",
+        first: "A linked program, an ELF file",
         next: "Example",
         rows: &IMAGE_FAULTS,
     }

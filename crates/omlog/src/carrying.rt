@@ -2,10 +2,10 @@
 
 ghost use Rattle.std.specs.Prelude.{◌≡◌};
 
-use crate::checking::makes_file;
+use crate::checking::file_made_by;
+use crate::reasons::{Reasons, advice_on, rule_of};
 use crate::source::source_of;
 use crate::store_files::run_over_tables;
-use crate::voice::{Voice, voice_of};
 use crate::watching::run_watched;
 use om_arguments::{Asked, Lines, Look, Request, Running, end, end_unasked, end_unread, parse};
 use om_commands::CommandError;
@@ -14,14 +14,13 @@ use om_commands::frontier::frontier;
 use om_commands::sim::sim;
 use om_draw_command::draw::{Window, draw};
 use om_files::{
-    Files, PlaceError, Places, first_unusable, replay_file, settle, show_file, steps_file,
+    Clash, Files, PlaceError, Places, clash_with_streams, clashes_with_stores, fault_of,
+    first_unusable, replay_file, settle, show_file, steps_file,
 };
 use om_image::{ImageError, image};
-use om_isa::Ext;
 use om_run_commands::count_processes;
 use om_runner::InMemory;
-use om_text::{ScriptError, read_text};
-use std::alloc::Global;
+use om_text::{LineError, read_text};
 use std::io::{Read, Write};
 use std::process::ExitCode;
 use std::rt::Runtime;
@@ -43,8 +42,47 @@ pub(crate) fn run<R: Threads + Wait + Clock + Eprint + Sync>(
         Err(error) => return end_unread(rt, &error),
     };
     match parse(rt.alloc(), &words) {
-        Ok(asked) => end(rt, carry_out(rt, threads, asked)),
+        Ok(asked) => {
+            let mut reasons = Reasons::new(rt, is_verbose(asked.request));
+            let status = ended(rt, threads, asked, &mut reasons);
+            reasons.say(rt);
+            status
+        }
         Err(error) => end_unasked(rt, &error),
+    }
+}
+
+// Carries out what is asked, and ends it.
+fn ended<R: Threads + Wait + Clock + Eprint + Sync>(
+    rt: &HostRuntime,
+    threads: &R,
+    asked: Asked<'_>,
+    reasons: &mut Reasons,
+) -> ExitCode {
+    match asked.request {
+        Request::Image { ext, name, size } => {
+            let (name, size) = (name.as_bytes(), size.as_bytes());
+            let (reader, writer) = (&mut rt.reader(), &mut io::writer(rt));
+            end_image(
+                rt,
+                image(rt.alloc(), ext, name, size, reader, writer),
+                reasons,
+            )
+        }
+        _ => end(rt, carry_out(rt, threads, asked, reasons)),
+    }
+}
+
+// Ends the line of an image. What is wrong with the name or the size is a mistake in the arguments.
+fn end_image(rt: &HostRuntime, outcome: Result<(), ImageError>, reasons: &mut Reasons) -> ExitCode {
+    let status = end(rt, outcome);
+    let Err(ImageError::Line(error)) = outcome else {
+        return status;
+    };
+    reasons.advise(rule_of(error));
+    match error {
+        LineError::BadNumber | LineError::BadName | LineError::BadSize => ExitCode::from(2),
+        _ => status,
     }
 }
 
@@ -52,31 +90,81 @@ fn words<R: Runtime + AllocGlobal>(rt: &R) -> io::Result<Vec<String>> {
     Ok(env::args(rt)?.collect(rt.alloc())?)
 }
 
+// Only a run is asked to say more.
+fn is_verbose(request: Request<'_>) -> bool {
+    match request {
+        Request::Run(running) => running.verbose,
+        _ => false,
+    }
+}
+
+// Where reasons are heard the whole text of an input is read first, so that its faulty line can be shown.
 fn carry_out<R: Threads + Wait + Clock + Eprint + Sync>(
     rt: &HostRuntime,
     threads: &R,
     asked: Asked<'_>,
+    reasons: &mut Reasons,
 ) -> Result<(), CommandError> {
-    let reader = &mut source_of(rt, asked.input, voice_for(asked.request))?;
+    let reader = &mut source_of(rt, asked.input, reasons)?;
+    let outcome = if reasons.are_heard && reads_text(asked.request) {
+        carry_out_over(rt, threads, asked, reader, reasons)
+    } else {
+        answer(rt, threads, asked, reader, reasons)
+    };
+    if let Err(error) = outcome {
+        if let Some(advice) = advice_on(error) {
+            reasons.advise(advice);
+        }
+    }
+    outcome
+}
+
+fn reads_text(request: Request<'_>) -> bool {
+    match request {
+        Request::Decode(_)
+        | Request::Frontier
+        | Request::Sim
+        | Request::Draw(_)
+        | Request::Run(_) => true,
+        Request::Look(_) | Request::Image { .. } => false,
+    }
+}
+
+// Carries out what is asked over the whole text of an input.
+fn carry_out_over<R: Threads + Wait + Clock + Eprint + Sync, I: Read>(
+    rt: &HostRuntime,
+    threads: &R,
+    asked: Asked<'_>,
+    reader: &mut I,
+    reasons: &mut Reasons,
+) -> Result<(), CommandError> {
+    let bytes = read_text(rt.alloc(), reader)?;
+    let outcome = answer(rt, threads, asked, &mut bytes.as_slice(), reasons);
+    if let Err(CommandError::Script(refused)) = outcome {
+        reasons.add_line(asked.input.unwrap_or("standard input"), &bytes, refused);
+    }
+    outcome
+}
+
+fn answer<R: Threads + Wait + Clock + Eprint + Sync, I: Read>(
+    rt: &HostRuntime,
+    threads: &R,
+    asked: Asked<'_>,
+    reader: &mut I,
+    reasons: &mut Reasons,
+) -> Result<(), CommandError> {
     let writer = &mut io::writer(rt);
     match asked.request {
         Request::Decode(ext) => decode(rt.alloc(), ext, reader, writer),
         Request::Frontier => frontier(rt.alloc(), reader, writer),
         Request::Sim => sim(rt.alloc(), reader, writer),
         Request::Draw(lines) => draw(rt.alloc(), reader, writer, window_of(lines)),
-        Request::Run(running) => run_over(rt, threads, running, reader, writer),
-        Request::Look(look) => look_into(rt, look, writer),
-        Request::Image { ext, name, size } => {
-            write_line(rt.alloc(), ext, name, size, reader, writer)
+        Request::Run(running) => {
+            run_over(rt, threads, (running, asked.input), reader, writer, reasons)
         }
-    }
-}
-
-// Only a run is asked to say more.
-fn voice_for(request: Request<'_>) -> Voice {
-    match request {
-        Request::Run(running) => voice_of(running),
-        _ => Voice { is_heard: false },
+        Request::Look(look) => look_into(rt, look, writer, reasons),
+        // It has an end of its own.
+        Request::Image { .. } => Ok(()),
     }
 }
 
@@ -93,7 +181,23 @@ fn look_into<W: Write>(
     rt: &HostRuntime,
     look: Look<'_>,
     writer: &mut W,
+    reasons: &mut Reasons,
 ) -> Result<(), CommandError> {
+    let outcome = look_at(rt, look, writer);
+    if outcome == Err(CommandError::StoreFault) && reasons.are_heard {
+        let file = file_of(look);
+        reasons.add(file, fault_of(rt, file));
+    }
+    outcome
+}
+
+fn file_of<'a>(look: Look<'a>) -> &'a str {
+    match look {
+        Look::Show { file } | Look::Replay { file, .. } | Look::Steps { file, .. } => file,
+    }
+}
+
+fn look_at<W: Write>(rt: &HostRuntime, look: Look<'_>, writer: &mut W) -> Result<(), CommandError> {
     match look {
         Look::Show { file } => show_file(rt, file, writer),
         Look::Replay { file, interval } => replay_file(rt, file, interval, writer),
@@ -106,45 +210,47 @@ fn look_into<W: Write>(
     }
 }
 
-// Writes the line of the image that is read. Its faults are those of the first line of a script.
-fn write_line<I: Read, W: Write>(
-    alloc: Global,
-    ext: Ext,
-    name: &str,
-    size: &str,
-    reader: &mut I,
-    writer: &mut W,
-) -> Result<(), CommandError> {
-    let (name, size) = (name.as_bytes(), size.as_bytes());
-    match image(alloc, ext, name, size, reader, writer) {
-        Ok(()) => Ok(()),
-        Err(ImageError::CannotRead) => Err(CommandError::CannotRead),
-        Err(ImageError::CannotWrite) => Err(CommandError::CannotWrite),
-        Err(ImageError::NoMemory) => Err(CommandError::NoMemory),
-        Err(ImageError::Line(error)) => Err(CommandError::Script(ScriptError { line: 1, error })),
-    }
-}
-
 // Runs the cluster that is read, over the files of the prefix or over memory. Before a file is made, the input is read, and is a
-// cluster file.
+// cluster file, and nothing that the run has anyway is overwritten.
 fn run_over<R: Threads + Wait + Clock + Eprint + Sync, I: Read, W: Write>(
     rt: &HostRuntime,
     threads: &R,
-    running: Running<'_>,
+    (running, input): (Running<'_>, Option<&str>),
     reader: &mut I,
     writer: &mut W,
+    reasons: &mut Reasons,
 ) -> Result<(), CommandError> {
     let bytes = read_text(rt.alloc(), reader)?;
-    if let Some(prefix) = running.prefix {
-        return run_over_files(rt, threads, running, prefix, &bytes, writer);
+    if let Some(path) = file_made_by(running.checking) {
+        let n = count_processes(rt.alloc(), &mut bytes.as_slice())?;
+        if let Some(clash) = clash_of(rt, running, path, input, n)? {
+            reasons.add(path, clash);
+            return Err(CommandError::CannotWrite);
+        }
     }
-    if makes_file(running.checking) {
-        count_processes(rt.alloc(), &mut bytes.as_slice())?;
+    match running.prefix {
+        Some(prefix) => run_over_files(rt, threads, running, prefix, &bytes, writer, reasons),
+        None => run_watched(rt, threads, running, &InMemory, &bytes, writer, reasons),
     }
-    run_watched(rt, threads, running, &InMemory, &bytes, writer)
 }
 
-// Runs the cluster over files that are made for it. A name that is there refuses the run before any file is made. Once it ended
+// What a file is for the run already that is to be written.
+fn clash_of(
+    rt: &HostRuntime,
+    running: Running<'_>,
+    path: &str,
+    input: Option<&str>,
+    n: usize,
+) -> Result<Option<Clash>, CommandError> {
+    if let Some(prefix) = running.prefix {
+        if clashes_with_stores(rt, path, prefix, n)? {
+            return Ok(Some(Clash::Store));
+        }
+    }
+    Ok(clash_with_streams(rt, path, input))
+}
+
+// Runs the cluster over files that are made for it. A name that is there refuses the run, and no file is left of it. Once it ended
 // well, each store is in its one file; where it was refused, the files that nobody wrote to are removed.
 fn run_over_files<R: Threads + Wait + Clock + Eprint + Sync, W: Write>(
     rt: &HostRuntime,
@@ -153,37 +259,50 @@ fn run_over_files<R: Threads + Wait + Clock + Eprint + Sync, W: Write>(
     prefix: &str,
     bytes: &[u8],
     writer: &mut W,
+    reasons: &mut Reasons,
 ) -> Result<(), CommandError> {
     let mut counted = bytes;
     let n = count_processes(rt.alloc(), &mut counted)?;
-    let places = match Places::look(rt, prefix, n) {
+    let places = match Places::make(rt, prefix, n) {
         Ok(places) => places,
-        Err(error) => return Err(taken(rt, running, error)),
+        Err(error) => return Err(not_made(error, reasons)),
     };
-    let files = Files { rt, prefix };
-    let outcome = run_over_tables(rt, threads, running, files, bytes, writer);
+    let outcome = run_in_files(rt, threads, running, prefix, bytes, writer, reasons);
     match outcome {
         Ok(()) => settle(rt, prefix, n),
         Err(error) => {
-            say_fault(rt, running, prefix, n, error);
+            if error == CommandError::StoreFault {
+                add_fault(rt, prefix, n, reasons);
+            }
             places.remove_empty(rt, prefix);
         }
     }
     outcome
 }
 
-// Says which name is taken.
-fn taken(rt: &HostRuntime, running: Running<'_>, error: PlaceError) -> CommandError {
-    voice_of(running).say(rt, &error);
+// Runs the cluster over the files of the prefix, which are there. It stands apart, since the type of the stores is great.
+fn run_in_files<R: Threads + Wait + Clock + Eprint + Sync, W: Write>(
+    rt: &HostRuntime,
+    threads: &R,
+    running: Running<'_>,
+    prefix: &str,
+    bytes: &[u8],
+    writer: &mut W,
+    reasons: &mut Reasons,
+) -> Result<(), CommandError> {
+    let files = Files { rt, prefix };
+    run_over_tables(rt, threads, running, files, bytes, writer, reasons)
+}
+
+// Tells which name refused the stores.
+fn not_made(error: PlaceError, reasons: &mut Reasons) -> CommandError {
+    reasons.advise(&error);
     CommandError::from(error)
 }
 
-// Says of a store fault which file could not be used.
-fn say_fault(rt: &HostRuntime, running: Running<'_>, prefix: &str, n: usize, error: CommandError) {
-    if error != CommandError::StoreFault || !running.verbose {
-        return;
-    }
+// Tells of a store fault which file could not be used.
+fn add_fault(rt: &HostRuntime, prefix: &str, n: usize, reasons: &mut Reasons) {
     if let Ok(Some(blamed)) = first_unusable(rt, prefix, n) {
-        voice_of(running).say(rt, blamed);
+        reasons.advise(blamed);
     }
 }

@@ -1,6 +1,6 @@
 //! How a run is checked, recorded or followed.
 
-use crate::voice::voice_of;
+use crate::reasons::Reasons;
 use om_arguments::{Checking, Running};
 use om_commands::CommandError;
 use om_run_commands::check::{run_checked, run_with_witness};
@@ -15,11 +15,11 @@ use std::thread::Threads;
 use std::time::Clock;
 use std::{fs, io};
 
-// Whether a file is made for it.
-pub(crate) fn makes_file(checking: Checking<'_>) -> bool {
+// The name of the file that is made for it, if any.
+pub(crate) fn file_made_by<'a>(checking: Checking<'a>) -> Option<&'a str> {
     match checking {
-        Checking::Off | Checking::Check | Checking::Follow => false,
-        Checking::Witness(_) | Checking::Record(_) => true,
+        Checking::Off | Checking::Check | Checking::Follow => None,
+        Checking::Witness(path) | Checking::Record(path) => Some(path),
     }
 }
 
@@ -31,17 +31,18 @@ pub(crate) fn run_as<R: Threads + Wait + Clock + Sync, O: Opener<R> + Sync, I: R
     opener: &O,
     reader: &mut I,
     writer: &mut W,
+    reasons: &mut Reasons,
 ) -> Result<(), CommandError> {
     let (alloc, turns) = (rt.alloc(), running.turns);
     match running.checking {
         Checking::Off => run(threads, alloc, turns, opener, reader, writer),
         Checking::Check => run_checked(threads, alloc, turns, opener, reader, writer),
         Checking::Witness(path) => {
-            let mut file = made(rt, running, path)?;
+            let mut file = made(rt, path, reasons)?;
             run_with_witness(threads, alloc, turns, opener, reader, writer, &mut file)
         }
         Checking::Record(path) => {
-            let mut file = made(rt, running, path)?;
+            let mut file = made(rt, path, reasons)?;
             run_recorded(threads, alloc, turns, opener, reader, writer, &mut file)
         }
         Checking::Follow => {
@@ -51,12 +52,13 @@ pub(crate) fn run_as<R: Threads + Wait + Clock + Sync, O: Opener<R> + Sync, I: R
     }
 }
 
-// The file of this name, which is made, or emptied.
-fn made(rt: &HostRuntime, running: Running<'_>, path: &str) -> Result<File, CommandError> {
-    match fs::create(rt, path) {
+// The file of this name, which is made, or emptied. Its descriptor is none of the standard streams', which may be closed: what is
+// meant for one of these must not land in the file.
+fn made(rt: &HostRuntime, path: &str, reasons: &mut Reasons) -> Result<File, CommandError> {
+    match fs::create(rt, path).and_then(|file| file.try_clone()) {
         Ok(file) => Ok(file),
         Err(error) => {
-            voice_of(running).say_of(rt, path, error);
+            reasons.add(path, error);
             Err(CommandError::CannotWrite)
         }
     }

@@ -3,9 +3,9 @@
 
 mod carrying;
 mod checking;
+mod reasons;
 mod source;
 mod store_files;
-mod voice;
 mod watching;
 
 use std::process::ExitCode;

@@ -2,7 +2,7 @@
 
 ghost use Rattle.std.specs.Prelude.{◌≡◌, IfErr, IsOk, None};
 
-use crate::voice::Voice;
+use crate::reasons::Reasons;
 use om_commands::CommandError;
 use std::io::Read;
 use std::rt::Runtime;
@@ -28,7 +28,7 @@ impl<S: Read, F: Read> Read for Source<S, F> {
 pub(crate) fn source_of<R: Runtime>(
     rt: &R,
     file: Option<&str>,
-    voice: Voice,
+    reasons: &mut Reasons,
 ) -> Result<Source<R::Reader, R::File>, CommandError>
     ensures standard { file.entry ≡ None → IsOk result }
     ensures error { IfErr result (λ error. error ≡ CommandError.CannotRead) }
@@ -39,7 +39,7 @@ pub(crate) fn source_of<R: Runtime>(
     match fs::open(rt, path) {
         Ok(file) => Ok(Source::Named(file)),
         Err(error) => {
-            voice.say_of(rt, path, error);
+            reasons.add(path, error);
             Err(CommandError::CannotRead)
         }
     }

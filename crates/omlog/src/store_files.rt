@@ -1,5 +1,6 @@
 //! Clusters over stores in files.
 
+use crate::reasons::Reasons;
 use crate::watching::run_watched;
 use om_arguments::Running;
 use om_commands::CommandError;
@@ -21,6 +22,8 @@ pub(crate) fn run_over_tables<
     connects: C,
     bytes: &[u8],
     writer: &mut W,
+    reasons: &mut Reasons,
 ) -> Result<(), CommandError> {
-    run_watched(rt, threads, running, &InTables { connects }, bytes, writer)
+    let opener = InTables { connects };
+    run_watched(rt, threads, running, &opener, bytes, writer, reasons)
 }

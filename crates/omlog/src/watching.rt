@@ -1,6 +1,7 @@
 //! A run of which more is said on standard error: how far it has come, and what its processes waited for where it came to no end.
 
 use crate::checking::run_as;
+use crate::reasons::Reasons;
 use om_arguments::Running;
 use om_commands::CommandError;
 use om_run_commands::{count_processes, waiting_text};
@@ -68,13 +69,14 @@ fn run_and_say<R: Threads + Wait + Clock + Eprint + Sync, O: Opener<R> + Sync, W
     watch: &Watch,
     bytes: &[u8],
     writer: &mut W,
+    reasons: &mut Reasons,
 ) -> Result<(), CommandError> {
     let end = End::new();
     let (end, alloc) = (&end, rt.alloc());
     thread::scope(thread::scope_env(), threads, |scope| {
         let beside = scope.spawn(move || say_progress(threads, alloc, watch, end));
         let mut reader = bytes;
-        let outcome = run_as(rt, threads, running, opener, &mut reader, writer);
+        let outcome = run_as(rt, threads, running, opener, &mut reader, writer, reasons);
         end.come();
         if let Ok(beside) = beside {
             beside.join(threads);
@@ -83,14 +85,20 @@ fn run_and_say<R: Threads + Wait + Clock + Eprint + Sync, O: Opener<R> + Sync, W
     })
 }
 
-// Says what each process was doing that had not ended.
-fn say_waiting<R: Wait>(rt: &HostRuntime, threads: &R, watch: &Watch, bytes: &[u8]) {
+// Adds what each process was doing that had not ended.
+fn add_waiting<R: Wait>(
+    rt: &HostRuntime,
+    threads: &R,
+    watch: &Watch,
+    bytes: &[u8],
+    reasons: &mut Reasons,
+) {
     let Ok(sights) = watch.sights(threads, rt.alloc()) else {
         return;
     };
     let mut reader = bytes;
     if let Ok(text) = waiting_text(rt.alloc(), &mut reader, &sights) {
-        let _ = rt.eprint(text);
+        reasons.add_lines(text.as_str());
     }
 }
 
@@ -103,15 +111,16 @@ fn run_seen<'a, R: Threads + Wait + Clock + Eprint + Sync, O: Opener<R> + Sync, 
     watch: Option<&'a Watch>,
     bytes: &[u8],
     writer: &mut W,
+    reasons: &mut Reasons,
 ) -> Result<(), CommandError> {
     let opener = Watched { opener, watch };
     match watch {
         Some(watch) if rt.stderr().is_terminal() => {
-            run_and_say(rt, threads, running, &opener, watch, bytes, writer)
+            run_and_say(rt, threads, running, &opener, watch, bytes, writer, reasons)
         }
         _ => {
             let mut reader = bytes;
-            run_as(rt, threads, running, &opener, &mut reader, writer)
+            run_as(rt, threads, running, &opener, &mut reader, writer, reasons)
         }
     }
 }
@@ -124,16 +133,26 @@ pub(crate) fn run_watched<R: Threads + Wait + Clock + Eprint + Sync, O: Opener<R
     opener: &O,
     bytes: &[u8],
     writer: &mut W,
+    reasons: &mut Reasons,
 ) -> Result<(), CommandError> {
-    if !running.verbose {
-        return run_seen(rt, threads, running, opener, None, bytes, writer);
+    if !reasons.are_heard {
+        return run_seen(rt, threads, running, opener, None, bytes, writer, reasons);
     }
     let mut counted = bytes;
     let n = count_processes(rt.alloc(), &mut counted)?;
     let watch = &Watch::new(rt.alloc(), n)?;
-    let outcome = run_seen(rt, threads, running, opener, Some(watch), bytes, writer);
+    let outcome = run_seen(
+        rt,
+        threads,
+        running,
+        opener,
+        Some(watch),
+        bytes,
+        writer,
+        reasons,
+    );
     if outcome == Err(CommandError::OutOfTurns) {
-        say_waiting(rt, threads, watch, bytes);
+        add_waiting(rt, threads, watch, bytes, reasons);
     }
     outcome
 }

@@ -5,7 +5,7 @@ use Rattle.om_text.specs.declared.error.BuildError.{BuildError}
 use Rattle.om_text.specs.declared.error.BuildError.TheVariants as building
 use Rattle.om_text.specs.declared.error.LineError.{LineError}
 use Rattle.om_scripts.specs.Programs.{Cluster, no_programs, program_line}
-use Rattle.om_image.specs.Image.{IsRefused}
+use Rattle.om_image.specs.Image.{IsElf, IsRefused}
 use Rattle.om_image.specs.declared.error.ImageError.{ImageError}
 use Rattle.om_image.specs.declared.error.ImageError.TheVariants as errors
 
@@ -22,6 +22,7 @@ IsTaken ext words (Err building.Memory) = Unit {0}
 -- why there is no line of these bytes
 abbrev pub IsErrorOfLine : Ext → List ℕ → List ℕ → List ℕ → ImageError → Type 0
 IsErrorOfLine ext name size bytes (errors.Line error) = IsRefused ext name size bytes error
+IsErrorOfLine ext name size bytes errors.Elf = IsElf bytes
 IsErrorOfLine ext name size bytes errors.NoMemory = Unit {0}
 IsErrorOfLine ext name size bytes errors.CannotRead = ⊥
 IsErrorOfLine ext name size bytes errors.CannotWrite = ⊥

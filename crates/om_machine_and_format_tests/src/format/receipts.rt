@@ -102,4 +102,5 @@ fn receipts_are_read_whole_or_not_at_all(rt: HostRuntime) {
     laws::one_spelling_of_a_receipt();
     laws::one_reading_of_a_receipt();
     laws::receipt_or_fault();
+    laws::limits();
 }

@@ -1,7 +1,7 @@
 use Rattle.std.proofs.Common.{◌+◌, ◌/◌, ◌≤◌, length, subst, sym, arith}
 use Rattle.om_machine.specs.State.{State, written}
 use Rattle.om_machine.proofs.Keeping.{each_fits, keeps_written}
-use Rattle.om_machine.proofs.Knowing.{knows_written}
+use Rattle.om_machine.proofs.Knowing.{knows_written, table_written}
 use Rattle.om_machine.proofs.machine.Machine.write_all.Goals as goal
 
 pub invariant_of-self : goal.invariant_of-self
@@ -13,5 +13,7 @@ invariant_of-self c =
     let fit = each_fits 256 bytes (λ i. (c.type_inv.bytes i).fits) in
     rw c.overwrite.ensures (record {
       machine = keeps_written _ address bytes c.self.invariant.machine inside fit;
-      knows = knows_written _ _ address bytes c.self.inside.known.items _ (address / 4) ((address + length bytes + 3) / 4) c.self.invariant.knows c.forget.ensures inside (omega arith) (omega arith);
+      registers = c.self.invariant.registers;
+      table = table_written c.self.inside.memory.items address bytes c.self.inside.table.items _ (address / 4) ((address + length bytes + 3) / 4) c.self.invariant.table c.forget.ensures inside;
+      knows = knows_written _ _ address bytes c.self.inside.table.items _ (address / 4) ((address + length bytes + 3) / 4) c.self.invariant.knows c.forget.ensures inside (omega arith) (omega arith);
     })

@@ -1,0 +1,117 @@
+//! Whether a file that is to be written is one that the run has anyway, which it would overwrite.
+
+use crate::files::file_of;
+use crate::identity::Identity;
+use std::alloc::AllocError;
+use std::path::{Path, PathBuf};
+use std::{fmt, fs};
+
+/// What a file is for a run, besides the one that is to be written.
+#[derive(Clone, Copy, Debug, PartialEq, Eq)]
+pub enum Clash {
+    /// What the run reads.
+    Input,
+    /// The file that standard output goes to.
+    Output,
+    /// The file of a store, or one that SQLite keeps beside it.
+    Store,
+}
+
+impl fmt::Display for Clash {
+    fn fmt<W: fmt::Write>(&self, f: &mut fmt::Formatter<W>) -> fmt::Result {
+        f.write_str(match self {
+            Clash::Input => "is the input of the run",
+            Clash::Output => "is what standard output goes to",
+            Clash::Store => "is a store of the run, or belongs to one",
+        })
+    }
+}
+
+// As many links are followed, one behind the other.
+const MAX_LINKS: usize = 40;
+
+// What SQLite puts behind the name of a file for what it keeps beside it; nothing for the file itself.
+const ENDINGS: [&str; 4] = ["", "-wal", "-shm", "-journal"];
+
+/// What a path names that is a file already: the input, a file or else standard input, or the file of standard output. None
+/// where it is neither, or is no regular file.
+pub fn clash_with_streams(rt: &HostRuntime, path: &str, input: Option<&str>) -> Option<Clash> {
+    let found = file_at(rt, path)?;
+    if file_at(rt, input.unwrap_or("/dev/stdin")) == Some(found) {
+        return Some(Clash::Input);
+    }
+    if file_at(rt, "/dev/stdout") == Some(found) {
+        return Some(Clash::Output);
+    }
+    None
+}
+
+/// Whether what is written to a path would lie at the name of a store of so many processes, or of what SQLite keeps beside one. None
+/// of them need be there.
+pub fn clashes_with_stores(
+    rt: &HostRuntime,
+    path: &str,
+    prefix: &str,
+    n: usize,
+) -> Result<bool, AllocError> {
+    let place = end_of_links(rt, path)?;
+    let Some(name) = place.file_name() else {
+        return Ok(false);
+    };
+    let Some(folder) = folder_of(rt, place.as_path()) else {
+        return Ok(false);
+    };
+    for process in 0..n {
+        let file = file_of(rt.alloc(), prefix, process)?;
+        let store = Path::new(file.as_str());
+        if is_beside(name, store.file_name()) && folder_of(rt, store) == Some(folder) {
+            return Ok(true);
+        }
+    }
+    Ok(false)
+}
+
+// Whether it is the name of the file, or of what SQLite keeps beside it.
+fn is_beside(name: &str, file: Option<&str>) -> bool {
+    let Some(file) = file else {
+        return false;
+    };
+    let Some(ending) = name.strip_prefix(file) else {
+        return false;
+    };
+    ENDINGS.iter().any(|known| *known == ending)
+}
+
+// Where a file would lie that is written to a path: links at its end are followed.
+fn end_of_links(rt: &HostRuntime, path: &str) -> Result<PathBuf, AllocError> {
+    let mut place = PathBuf::from_str(rt.alloc(), path)?;
+    for _ in 0..MAX_LINKS {
+        let Ok(target) = fs::read_link(rt, place.as_str()) else {
+            return Ok(place);
+        };
+        place = place.with_file_name(rt.alloc(), target.as_str())?;
+    }
+    Ok(place)
+}
+
+// The folder of a path, where there is one.
+fn folder_of(rt: &HostRuntime, path: Path<'_>) -> Option<Identity> {
+    let folder = path.parent()?.as_str();
+    let folder = if folder.is_empty() { "." } else { folder };
+    identity_at(rt, folder)
+}
+
+fn identity_at(rt: &HostRuntime, path: &str) -> Option<Identity> {
+    match fs::metadata(rt, path) {
+        Ok(found) => Some(Identity::of(&found)),
+        Err(_) => None,
+    }
+}
+
+// The regular file that a path leads to.
+fn file_at(rt: &HostRuntime, path: &str) -> Option<Identity> {
+    match fs::metadata(rt, path) {
+        Ok(found) if found.is_file() => Some(Identity::of(&found)),
+        _ => None,
+    }
+}

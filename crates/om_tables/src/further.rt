@@ -1,0 +1,147 @@
+//! The further tables of a ledger are made, filled and read. No clause says what they hold.
+ghost use Rattle.std.specs.Prelude.{◌≡◌, ◌+◌, ◌≤◌, pos, length, false};
+ghost use Rattle.om_stable.specs.declared.ledger.TheConstants.{LEDGER_NUMBERS};
+ghost use Rattle.sqlite.specs.Held.{state};
+
+use crate::creating::create_both;
+use crate::deleting::prune_both;
+use om_stable::{LedgerRows, LedgerTable};
+use sqlite::{Alter, Connection, Error, Row, Transaction, params};
+use std::alloc::Global;
+
+// The number of a row of a table that holds `first + k`, which is below 2^63.
+fn number_of(first: u64, k: usize) -> i64
+    requires { first + k + 1 ≤ LEDGER_NUMBERS }
+    ensures { result ≡ pos (first + k) }
+{
+    (first + k as u64) as i64
+}
+
+fn create_further<S: Alter>(tx: &mut Transaction<'_, S>) -> Result<(), Error>
+    ensures same_reference { tx.new.conn.ghost_name ≡ tx.old.conn.ghost_name }
+{
+    tx.execute(
+        "CREATE TABLE outputs (x INTEGER PRIMARY KEY, body BLOB NOT NULL)",
+        &[],
+    )?;
+    tx.execute(
+        "CREATE TABLE senders (x INTEGER PRIMARY KEY, body BLOB NOT NULL)",
+        &[],
+    )?;
+    tx.execute(
+        "CREATE TABLE about (x INTEGER PRIMARY KEY, body BLOB NOT NULL)",
+        &[],
+    )?;
+    Ok(())
+}
+
+// Makes all five tables, or none.
+pub(crate) fn create_five<S: Alter>(conn: &mut Connection<S>) -> Result<(), Error>
+    requires idle { (state S.Store conn.old).in_transaction ≡ false }
+    ensures idle { (state S.Store conn.new).in_transaction ≡ false }
+{
+    let mut tx = conn.transaction();
+    create_both(&mut tx)?;
+    create_further(&mut tx)?;
+    tx.commit()
+}
+
+fn insert_row<S: Alter>(
+    tx: &mut Transaction<'_, S>,
+    table: LedgerTable,
+    x: i64,
+    body: &[u8],
+) -> Result<usize, Error>
+    ensures same_reference { tx.new.conn.ghost_name ≡ tx.old.conn.ghost_name }
+{
+    let text = match table {
+        LedgerTable::Outputs => "INSERT INTO outputs (x, body) VALUES (?1, ?2)",
+        LedgerTable::Senders => "INSERT INTO senders (x, body) VALUES (?1, ?2)",
+        LedgerTable::About => "INSERT INTO about (x, body) VALUES (?1, ?2)",
+    };
+    tx.execute(text, params![x, body])
+}
+
+fn insert_rows<S: Alter>(
+    tx: &mut Transaction<'_, S>,
+    table: LedgerTable,
+    first: u64,
+    recs: &[Vec<u8>],
+) -> Result<(), Error>
+    requires { first + length recs.now ≤ LEDGER_NUMBERS }
+    ensures same_reference { tx.new.conn.ghost_name ≡ tx.old.conn.ghost_name }
+{
+    for (k, body) in recs.iter().enumerate() {
+        insert_row(tx, table, number_of(first, k), body)?;
+    }
+    Ok(())
+}
+
+// All or none.
+pub(crate) fn put_rows<S: Alter>(
+    conn: &mut Connection<S>,
+    table: LedgerTable,
+    first: u64,
+    recs: &[Vec<u8>],
+) -> Result<(), Error>
+    requires fits { first + length recs.now ≤ LEDGER_NUMBERS }
+    requires idle { (state S.Store conn.old).in_transaction ≡ false }
+    ensures idle { (state S.Store conn.new).in_transaction ≡ false }
+{
+    let mut tx = conn.transaction();
+    insert_rows(&mut tx, table, first, recs)?;
+    tx.commit()
+}
+
+// Puts outputs and senders, and removes what a prune to `at` removes, or nothing of it.
+pub(crate) fn shed<S: Alter>(
+    conn: &mut Connection<S>,
+    at: u32,
+    outputs: LedgerRows<'_>,
+    senders: LedgerRows<'_>,
+) -> Result<(), Error>
+    requires outputs { outputs.first + length outputs.recs.now ≤ LEDGER_NUMBERS }
+    requires senders { senders.first + length senders.recs.now ≤ LEDGER_NUMBERS }
+    requires idle { (state S.Store conn.old).in_transaction ≡ false }
+    ensures idle { (state S.Store conn.new).in_transaction ≡ false }
+{
+    let mut tx = conn.transaction();
+    insert_rows(&mut tx, LedgerTable::Outputs, outputs.first, outputs.recs)?;
+    insert_rows(&mut tx, LedgerTable::Senders, senders.first, senders.recs)?;
+    prune_both(&mut tx, at)?;
+    tx.commit()
+}
+
+fn rows_in_table<S: Alter>(conn: &mut Connection<S>, table: LedgerTable) -> Result<Vec<Row>, Error>
+    requires idle { (state S.Store conn.old).in_transaction ≡ false }
+    ensures idle { (state S.Store conn.new).in_transaction ≡ false }
+{
+    let text = match table {
+        LedgerTable::Outputs => "SELECT x, body FROM outputs ORDER BY x",
+        LedgerTable::Senders => "SELECT x, body FROM senders ORDER BY x",
+        LedgerTable::About => "SELECT x, body FROM about ORDER BY x",
+    };
+    conn.query_all(text, &[])
+}
+
+// The number and the bytes that a row shows. A number below 0 is out of range.
+fn numbered_in(row: &Row) -> Result<(u64, Vec<u8>), Error> {
+    Ok((row.get(0)?, row.get(1)?))
+}
+
+// Returns all of a table, ascending.
+pub(crate) fn all_in<S: Alter>(
+    conn: &mut Connection<S>,
+    alloc: Global,
+    table: LedgerTable,
+) -> Result<Vec<(u64, Vec<u8>)>, Error>
+    requires idle { (state S.Store conn.old).in_transaction ≡ false }
+    ensures idle { (state S.Store conn.new).in_transaction ≡ false }
+{
+    let rows = rows_in_table(conn, table)?;
+    let mut found = Vec::with_capacity(alloc, rows.len())?;
+    for row in &rows {
+        found.push(numbered_in(row)?)?;
+    }
+    Ok(found)
+}
