@@ -9,9 +9,11 @@
 //! - the manager: `shared` (what the threads share), `board` (the calls under the lock), `waiting` (what processes tell of
 //!   their waiting)
 //! - the front: `front` (what is shown), `frontier` (the readings), `cell` (the words in which it is posted), `laws`
-//! - between threads: `inbox`, with `order` and `hand` (the rule that its messages keep, in proofs alone)
+//! - between threads: `inbox`, with `order` and `hand` (the rule that its messages keep, in proofs alone); `bell` (by which one
+//!   wakes another)
 #![tactic(auto)]
 
+mod bell;
 mod board;
 mod cell;
 mod front;
@@ -23,6 +25,7 @@ mod order;
 mod shared;
 mod waiting;
 
+pub use bell::{Bell, Look, Marked, ring_all};
 pub use board::Board;
 pub use front::Front;
 pub use frontier::{Blank, Frontier, Naming, Pass};

@@ -8,4 +8,3 @@ mod SettleLemmas
 mod ActLemmas
 mod FaultLemmas
 mod FollowLemmas
-mod WatchLemmas

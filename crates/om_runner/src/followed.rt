@@ -16,17 +16,16 @@ ghost use Rattle.om_runner.specs.steps.Settling.{ArePasses};
 
 use crate::cluster::{run_workers, settled};
 use crate::config::Config;
-use crate::diary::Listeners;
 use crate::fault::RunFault;
 use crate::follower::{FollowFault, Follower};
 use crate::following::Following;
 use crate::ground::{Beside, Cluster, ground_of, stop_all};
-use crate::herald::Herald;
 use crate::opener::{Gate, Opener};
 use crate::report::Report;
 use crate::results::Parts;
 use om_board::{Blank, Naming};
 use om_interval::MAX_PROCESSES;
+use om_observers::{Herald, Listeners};
 use std::alloc::Global;
 use std::marker::Brand;
 use std::sync::Wait;

@@ -4,13 +4,12 @@ ghost use Rattle.std.specs.Prelude.{◌≡◌, ◌≤◌, IfOk, vec_len};
 ghost use Rattle.om_interval.specs.declared.pid.TheConstants.{MAX_PROCESSES};
 ghost use Rattle.om_runner.specs.steps.Wiring.{IsWired};
 
-use crate::bell::{Bell, ring_all};
 use crate::config::Config;
-use crate::diary::Listeners;
 use crate::network::{Ends, Network, connected};
 use crate::received::Received;
-use om_board::{Blank, Inbox, Naming, Pass, Shared};
+use om_board::{Bell, Blank, Inbox, Naming, Pass, Shared, ring_all};
 use om_interval::MAX_PROCESSES;
+use om_observers::Listeners;
 use std::alloc::{AllocError, Global};
 use std::sync::atomic::Ordering::SeqCst;
 use std::sync::atomic::{AtomicBool, AtomicU64};

@@ -7,32 +7,27 @@
 //! In an order of reading:
 //!
 //! - what a run is given and what it answers: `config`, `opener` (who makes the stores), `in_memory` (one who makes them in
-//!   memory), `report`, `fault`, `witness` (what each process did)
+//!   memory), `watched` (one whose processes are watched), `report`, `fault`
 //! - `cluster`: the threads, from the first store to the report; `network` (the inboxes of all), `settle` (what is left in
 //!   them), `results` (what the workers bring back), `harvest` (the outputs among it)
-//! - `worker`: what a thread does, turn by turn; `barrier` (where it waits until all are up), `idle`, `patience` and `bell` (how it
-//!   yields, sleeps and is woken), `worker_fault` (why it stops)
+//! - `worker`: what a thread does, turn by turn; `barrier` (where it waits until all are up), `idle` and `patience` (how it yields
+//!   and sleeps), `worker_fault` (why it stops)
 //! - what a worker has: `node` (a process over its store), `links` (its ends of inboxes), `received` (what a resend may leave
 //!   out), `manager_link` and `desk` (the manager)
 //! - `ground`: what all threads have in common
-//! - `recorder` and `diary`: what the threads did, in one order
-//! - `watch`, with `sight`, `progress` and `watched`: what the processes do, for whoever looks while they run
-//! - `followed`, with `follower`, `following`, `lane` and `herald`: outputs that are told as they are released
+//! - `followed`, with `follower`, `following` and `lane`: outputs that are told as they are released
 #![tactic(auto)]
 
 mod barrier;
-mod bell;
 mod cluster;
 mod config;
 mod desk;
-mod diary;
 mod fault;
 mod followed;
 mod follower;
 mod following;
 mod ground;
 mod harvest;
-mod herald;
 mod idle;
 mod in_memory;
 mod lane;
@@ -42,16 +37,11 @@ mod network;
 mod node;
 mod opener;
 mod patience;
-mod progress;
 mod received;
-mod recorder;
 mod report;
 mod results;
 mod settle;
-mod sight;
-mod watch;
 mod watched;
-mod witness;
 mod worker;
 mod worker_fault;
 
@@ -66,10 +56,7 @@ pub use om_board::{
     Blank, Board, CAPACITY, Front, Frontier, Inbox, Naming, Pass, PutAnswer, PutPass, Shared,
     TakePass, laws,
 };
+pub use om_observers::{Act, Doing, Letter, Progress, Record, Recorder, Sight, Watch};
 pub use opener::{Gate, OpenFault, Opener};
-pub use progress::Progress;
-pub use recorder::{Act, Letter, Record, Recorder};
 pub use report::Report;
-pub use sight::{Doing, Sight};
-pub use watch::Watch;
 pub use watched::Watched;

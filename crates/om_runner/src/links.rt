@@ -6,10 +6,9 @@ ghost use Rattle.om_process.specs.Core.{cluster_size};
 ghost use Rattle.om_runner.specs.steps.Network.{ArePuts, AreTakes, IsNetwork};
 ghost use Rattle.om_runner.specs.steps.Wiring.{HasEnds};
 
-use crate::bell::{Bell, Look, Marked, ring_all};
 use crate::network::Ends;
 use crate::received::Received;
-use om_board::{CAPACITY, Inbox, PutAnswer, PutPass, TakePass};
+use om_board::{Bell, CAPACITY, Inbox, Look, Marked, PutAnswer, PutPass, TakePass, ring_all};
 use om_format::Message;
 use om_interval::{MAX_PROCESSES, Pid};
 use om_process::ProcCore;

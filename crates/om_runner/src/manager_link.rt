@@ -7,13 +7,13 @@ ghost use Rattle.om_runner.specs.steps.Nodes.{AreAlwaysClean};
 ghost use Rattle.om_runner.specs.steps.Acts.{AreAllOf, AreLimits, HasDeclared, HasHandedOver, HasJoined, HasMet, HasOffered, HasPruned, HasRefused, HasReleasedAnother, HasWaited, HasWithdrawn, IsStanding, IsVerdictOf, UnderLock};
 
 use crate::desk::Desk;
-use crate::diary::Diary;
 use crate::harvest::Harvest;
 use crate::node::Node;
 use crate::worker_fault::WorkerFault;
 use om_board::{Board, Front, Naming, Pass, Shared};
 use om_interval::{Bounds, Pid, Starts, Verdict};
 use om_member::Office;
+use om_observers::Diary;
 use om_process::{PendingRow, ProcCore};
 use om_stable::Stable;
 use std::alloc::Global;

@@ -1,8 +1,8 @@
 ghost use Rattle.std.specs.Prelude.{◌≡◌, IfOk, IsTrue};
 ghost use Rattle.om_runner.specs.Reports.{nothing};
 
-use crate::watch::Watch;
 use om_interval::Pid;
+use om_observers::Watch;
 use om_stable::Stable;
 use std::alloc::Global;
 use thiserror::Error;

@@ -12,9 +12,7 @@ ghost use Rattle.om_runner.specs.steps.Turning.{HasNothingToSay, HasReported, Ha
 ghost use Rattle.om_runner.specs.steps.Wiring.{HasEnds};
 
 use crate::barrier::Barrier;
-use crate::bell::Look;
 use crate::config::Config;
-use crate::diary::{Diary, Listeners};
 use crate::harvest::Harvest;
 use crate::idle::{Idle, Pause};
 use crate::links::Links;
@@ -22,13 +20,11 @@ use crate::manager_link::{Limits, ManagerLink, RoundOutcome, Standing};
 use crate::network::Ends;
 use crate::node::{DownNode, Node, has_ended};
 use crate::patience::Patience;
-use crate::sight::{Doing, Sight};
-use crate::watch::Watch;
-use crate::witness::Past;
 use crate::worker_fault::WorkerFault;
-use om_board::{Front, Naming, Pass, Shared};
+use om_board::{Front, Look, Naming, Pass, Shared};
 use om_format::Message;
 use om_interval::{Pid, Verdict};
+use om_observers::{Diary, Doing, Listeners, Past, Sight, Watch};
 use om_process::{Accept, Status, Witness};
 use om_stable::Stable;
 use std::alloc::Global;

@@ -1,7 +1,7 @@
 -- What is shown of a process.
 use Rattle.om_process.specs.Core.{move_of, status_of}
-use Rattle.om_runner.specs.declared.sight.Doing.{Doing}
-use Rattle.om_runner.specs.declared.sight.Doing.TheVariants as shown
+use Rattle.om_observers.specs.declared.sight.Doing.{Doing}
+use Rattle.om_observers.specs.declared.sight.Doing.TheVariants as shown
 use Rattle.om_runner.specs.declared.worker.Place.{Place}
 use Rattle.om_runner.specs.declared.worker.Place.TheVariants.{Up, Called, In, Failed, Down, Over}
 

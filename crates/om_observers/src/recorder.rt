@@ -106,18 +106,13 @@ impl Recorder {
         record.into_inner()
     }
 
-    // Takes in acts that nothing parts.
-    pub(crate) fn enter<R: Wait>(&self, rt: &R, acts: &[Act]) -> Result<(), AllocError> {
+    /// Takes in acts that nothing parts.
+    pub fn enter<R: Wait>(&self, rt: &R, acts: &[Act]) -> Result<(), AllocError> {
         self.record.lock(rt).acts.extend_from_slice(acts)
     }
 
-    // Takes in that a round is finished with this recovery state.
-    pub(crate) fn finish<R: Wait>(
-        &self,
-        rt: &R,
-        round: u32,
-        recovery: DepVec,
-    ) -> Result<(), AllocError> {
+    /// Takes in that a round is finished with this recovery state.
+    pub fn finish<R: Wait>(&self, rt: &R, round: u32, recovery: DepVec) -> Result<(), AllocError> {
         let mut guard = self.record.lock(rt);
         let record = &mut *guard;
         record.recoveries.push(recovery)?;

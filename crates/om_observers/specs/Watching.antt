@@ -3,9 +3,9 @@ use Rattle.std.specs.Prelude.{◌≡◌, ◌≢◌, ◌≤◌, ◌+◌, ℕ, Lis
 use Rattle.std.specs.List.{All, Any, sum_by}
 use Rattle.om_board.specs.declared.front.Front.{Front}
 use Rattle.om_process.specs.Core.{IsEnd}
-use Rattle.om_runner.specs.declared.sight.Doing.{Doing}
-use Rattle.om_runner.specs.declared.sight.Doing.TheVariants.{Up}
-use Rattle.om_runner.specs.declared.sight.Sight.{Sight}
+use Rattle.om_observers.specs.declared.sight.Doing.{Doing}
+use Rattle.om_observers.specs.declared.sight.Doing.TheVariants.{Up}
+use Rattle.om_observers.specs.declared.sight.Sight.{Sight}
 
 -- the process has come to its end
 abbrev pub HasEnded : Doing → Type 0

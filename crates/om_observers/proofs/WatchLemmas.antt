@@ -8,8 +8,8 @@ use Rattle.std.proofs.lemmas.Bool.{cases_lt}
 use Rattle.std.proofs.lemmas.List.Sums.{sum_by_push}
 use Rattle.std.proofs.Math.Seq.{take-suc}
 use Rattle.om_board.specs.declared.front.Front.{Front}
-use Rattle.om_runner.specs.Watching.{IsNewest, capped, newness, sum_over}
-use Rattle.om_runner.specs.declared.sight.Sight.{Sight}
+use Rattle.om_observers.specs.Watching.{IsNewest, capped, newness, sum_over}
+use Rattle.om_observers.specs.declared.sight.Sight.{Sight}
 
 length_push : (sights : List Sight) (s : Sight) → length sights < length (sights ++ s ∷ [])
 length_push [] s = omega arith

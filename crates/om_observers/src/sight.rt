@@ -1,8 +1,8 @@
 //! What is seen of a process while its cluster runs.
 
 ghost use Rattle.std.specs.Prelude.{◌≡◌, ◌↔◌, IsTrue, None};
-ghost use Rattle.om_runner.specs.Watching.{HasEnded};
-ghost use Rattle.om_runner.specs.declared.sight.Doing.TheVariants.{Begins};
+ghost use Rattle.om_observers.specs.Watching.{HasEnded};
+ghost use Rattle.om_observers.specs.declared.sight.Doing.TheVariants.{Begins};
 
 use om_board::Front;
 use om_process::Status;

@@ -1,8 +1,8 @@
 use Rattle.std.proofs.Common.{◌≡◌, ◌+◌, ◌<◌, ◌≤◌, ℕ, List, ap, subst, ◌∙◌, take, get_or, length}
-use Rattle.om_runner.specs.Watching.{capped, newness, sum_over}
-use Rattle.om_runner.specs.declared.sight.Sight.{Sight}
-use Rattle.om_runner.proofs.WatchLemmas.{newest_next, sum_next}
-use Rattle.om_runner.proofs.progress.Progress.of.Goals as goal
+use Rattle.om_observers.specs.Watching.{capped, newness, sum_over}
+use Rattle.om_observers.specs.declared.sight.Sight.{Sight}
+use Rattle.om_observers.proofs.WatchLemmas.{newest_next, sum_next}
+use Rattle.om_observers.proofs.progress.Progress.of.Goals as goal
 
 next : (f : Sight → ℕ) (sights : List Sight) (k : ℕ) (s : Sight) (sum : ℕ) → k < length sights → s ≡ get_or sights k s → sum ≡ sum_over f (take k sights)
     → capped (sum + f s) ≡ sum_over f (take (k + 1) sights)

@@ -13,48 +13,49 @@ use om_process::{Accept, ProcCore, Ran, Status};
 use std::alloc::{AllocError, Global};
 use std::sync::Wait;
 
-// Who is told what the threads do.
+/// Names who is told what the threads do.
 #[derive(Clone, Copy)]
-pub(crate) struct Listeners<'a> {
+pub struct Listeners<'a> {
     recorder: Option<&'a Recorder>,
     herald: Option<&'a Herald>,
 }
 
 impl<'a> Listeners<'a> {
-    pub(crate) fn none() -> Listeners<'a> {
+    /// Names nobody.
+    pub fn none() -> Listeners<'a> {
         Listeners {
             recorder: None,
             herald: None,
         }
     }
 
-    // A recorder, which takes in all that they do.
-    pub(crate) fn of(recorder: &'a Recorder) -> Listeners<'a> {
+    /// Names a recorder, which takes in all that they do.
+    pub fn of(recorder: &'a Recorder) -> Listeners<'a> {
         Listeners {
             recorder: Some(recorder),
             herald: None,
         }
     }
 
-    // A herald, which learns of outputs that are released.
-    pub(crate) fn followed(herald: &'a Herald) -> Listeners<'a> {
+    /// Names a herald, which learns of outputs that are released.
+    pub fn followed(herald: &'a Herald) -> Listeners<'a> {
         Listeners {
             recorder: None,
             herald: Some(herald),
         }
     }
 
-    // A worker has ended.
-    pub(crate) fn end(&self) {
+    /// Tells that a worker has ended.
+    pub fn end(&self) {
         if let Some(herald) = self.herald {
             herald.end();
         }
     }
 }
 
-// What the worker of a process has to tell. Without a recorder it does nothing.
+/// Tells what the worker of a process did. Without a recorder and a herald it does nothing.
 #[derive(Drop)]
-pub(crate) struct Diary<'a> {
+pub struct Diary<'a> {
     alloc: Global,
     own: Pid,
     recorder: Option<&'a Recorder>,
@@ -123,8 +124,8 @@ fn add_messages_to(
 }
 
 impl<'a> Diary<'a> {
-    // Of a process at its start.
-    pub(crate) fn new(alloc: Global, own: Pid, listeners: Listeners<'a>) -> Diary<'a> {
+    /// Begins for a process at its start.
+    pub fn new(alloc: Global, own: Pid, listeners: Listeners<'a>) -> Diary<'a> {
         let Listeners { recorder, herald } = listeners;
         Diary {
             alloc,
@@ -137,8 +138,8 @@ impl<'a> Diary<'a> {
         }
     }
 
-    // Whether the run is recorded.
-    pub(crate) fn is_kept(&self) -> bool {
+    /// Tells whether the run is recorded.
+    pub fn is_kept(&self) -> bool {
         self.recorder.is_some()
     }
 
@@ -167,13 +168,8 @@ impl<'a> Diary<'a> {
         Ok(())
     }
 
-    // The process ran. This is told before others can see what it sent; where it sent nothing and goes on, it is told later.
-    pub(crate) fn ran<R: Wait>(
-        &mut self,
-        rt: &R,
-        core: &ProcCore,
-        ran: Ran,
-    ) -> Result<(), AllocError> {
+    /// Tells that the process ran, before others can see what it sent; where it sent nothing and goes on, it is told later.
+    pub fn ran<R: Wait>(&mut self, rt: &R, core: &ProcCore, ran: Ran) -> Result<(), AllocError> {
         let Some(recorder) = self.recorder else {
             return Ok(());
         };
@@ -194,8 +190,8 @@ impl<'a> Diary<'a> {
         recorder.enter(rt, &acts)
     }
 
-    // The process answered so to a message. That one is there already is not told.
-    pub(crate) fn gave<R: Wait>(
+    /// Tells how the process answered to a message. That one is there already is not told.
+    pub fn gave<R: Wait>(
         &mut self,
         rt: &R,
         message: &Message,
@@ -218,17 +214,17 @@ impl<'a> Diary<'a> {
         self.tell(rt, &[Act::Give { letter, interval }])
     }
 
-    // The manager was told something, under the board's lock: it may have released outputs.
-    pub(crate) fn announce<R: Wait>(&self, rt: &R, manager: &Manager) -> Result<(), AllocError> {
+    /// Tells the herald of what the manager has released, under the board's lock.
+    pub fn announce<R: Wait>(&self, rt: &R, manager: &Manager) -> Result<(), AllocError> {
         match self.herald {
             Some(herald) => herald.announce(rt, manager),
             None => Ok(()),
         }
     }
 
-    // Pending rows are noted, under the board's lock: of receipts, and then of a checkpoint.
+    /// Tells that pending rows are noted, under the board's lock: of receipts, and then of a checkpoint.
     // After a checkpoint the manager is pruned, and the process drops what it need not keep.
-    pub(crate) fn noted<R: Wait>(
+    pub fn noted<R: Wait>(
         &mut self,
         rt: &R,
         has_receipt: bool,
@@ -251,8 +247,8 @@ impl<'a> Diary<'a> {
         Ok(())
     }
 
-    // The failure of the process is declared, under the board's lock; it may have finished the round.
-    pub(crate) fn failed<R: Wait>(
+    /// Tells that the failure of the process is declared, under the board's lock; it may have finished the round.
+    pub fn failed<R: Wait>(
         &mut self,
         rt: &R,
         front: &Front,
@@ -263,8 +259,8 @@ impl<'a> Diary<'a> {
         self.finished(rt, front, is_finished)
     }
 
-    // The process has joined, under the board's lock; it may have finished the round.
-    pub(crate) fn joined<R: Wait>(
+    /// Tells that the process has joined, under the board's lock; it may have finished the round.
+    pub fn joined<R: Wait>(
         &mut self,
         rt: &R,
         front: &Front,
@@ -302,8 +298,8 @@ impl<'a> Diary<'a> {
         }
     }
 
-    // The process is up again after a round, and sends all that it keeps once more.
-    pub(crate) fn returned<R: Wait>(
+    /// Tells that the process is up again after a round, and sends all that it keeps once more.
+    pub fn returned<R: Wait>(
         &mut self,
         rt: &R,
         core: &ProcCore,

@@ -1,6 +1,6 @@
 use Rattle.std.proofs.Common.{◌≡◌, take}
-use Rattle.om_runner.specs.Watching.{IsNewest, sum_over}
-use Rattle.om_runner.proofs.progress.Progress.of.Given as goal
+use Rattle.om_observers.specs.Watching.{IsNewest, sum_over}
+use Rattle.om_observers.proofs.progress.Progress.of.Given as goal
 
 abbrev pub invariant-loop-sight : goal.invariant-loop-sight
 invariant-loop-sight l = record {

@@ -22,22 +22,22 @@ const LONGEST_LOOK: u64 = 1_000;
 // A yield that takes more microseconds gave a time slice to another program.
 const SLICE: u64 = 500;
 
-// What comes of yielding while a bell is silent.
+/// Tells what came of yielding while a bell was silent.
 #[derive(Clone, Copy, PartialEq, Eq)]
-pub(crate) enum Look {
-    // It was rung.
+pub enum Look {
+    /// It was rung.
     Rung,
-    // It was silent for as long as that is worth while.
+    /// It was silent for as long as that is worth while.
     Silent,
-    // A yield gave a time slice away.
+    /// A yield gave a time slice away.
     Slice,
 }
 
-// One worker sleeps by it, and any rings it. Rung while its worker is awake, it ends the next sleep: so a worker that looks
-// before it sleeps misses nothing.
+/// Wakes one worker, which sleeps by it; any rings it. Rung while its worker is awake, it ends the next sleep: so a worker that
+/// looks before it sleeps misses nothing.
 // Each stands on cache lines of its own, since workers that wait look at theirs all the time.
 #[derive(Drop)]
-pub(crate) struct Bell {
+pub struct Bell {
     state: CachePadded<AtomicU64>,
     // Which processes have put something for its worker since it asked: a bit for each.
     senders: CachePadded<AtomicU64>,
@@ -48,55 +48,58 @@ fn bit_of(place: usize) -> u64 {
     1 << (place % 64)
 }
 
-// Processes, a bit for each.
+/// Marks processes.
 #[derive(Clone, Copy, Drop)]
-pub(crate) struct Marked {
+pub struct Marked {
     bits: u64,
 }
 
 impl Marked {
-    // None.
-    pub(crate) fn none() -> Marked {
+    /// Marks none.
+    pub fn none() -> Marked {
         Marked { bits: 0 }
     }
 
-    pub(crate) fn is_none(&self) -> bool {
+    /// Tells whether none is marked.
+    pub fn is_none(&self) -> bool {
         self.bits == 0
     }
 
-    // The first that is marked, from a place on and then from the first place on.
-    pub(crate) fn first_from(&self, place: usize) -> usize {
+    /// Finds the first that is marked, from a place on and then from the first place on; 64 where none is.
+    pub fn first_from(&self, place: usize) -> usize {
         let behind = self.bits & !bit_of(place).wrapping_sub(1);
         let bits = if behind == 0 { self.bits } else { behind };
         bits.trailing_zeros() as usize
     }
 
-    pub(crate) fn remove(&mut self, place: usize) {
+    /// Marks a process no longer.
+    pub fn remove(&mut self, place: usize) {
         self.bits &= !bit_of(place);
     }
 
-    // Those that are marked in the other too.
-    pub(crate) fn add(&mut self, other: Marked) {
+    /// Marks also those that are marked in the other.
+    pub fn add(&mut self, other: Marked) {
         self.bits |= other.bits;
     }
 }
 
 impl Bell {
-    pub(crate) fn new() -> Bell {
+    /// Makes a silent bell, for which nobody has put anything.
+    pub fn new() -> Bell {
         Bell {
             state: CachePadded::new(AtomicU64::new(SILENT)),
             senders: CachePadded::new(AtomicU64::new(0)),
         }
     }
 
-    // A process has put something for its worker, which is woken.
-    pub(crate) fn tell(&self, from: usize) {
+    /// Wakes its worker, for which a process has put something.
+    pub fn tell(&self, from: usize) {
         self.senders.fetch_or(bit_of(from), SeqCst);
         self.ring();
     }
 
-    // Who has put something since this was asked last.
-    pub(crate) fn senders(&self) -> Marked {
+    /// Takes who has put something since this was asked last.
+    pub fn senders(&self) -> Marked {
         if self.senders.load(SeqCst) == 0 {
             return Marked::none();
         }
@@ -105,16 +108,16 @@ impl Bell {
         }
     }
 
-    // Ends the sleep, or the next one.
-    pub(crate) fn ring(&self) {
+    /// Ends the sleep, or the next one.
+    pub fn ring(&self) {
         if self.state.swap(RUNG, SeqCst) == ASLEEP {
             self.state.wake_one();
         }
     }
 
-    // Yields until it is rung, for a while; not where the clock cannot be read. Rung, it is silent again; else the ring is left
-    // to the sleep.
-    pub(crate) fn look<R: Clock>(&self, rt: &R) -> Look {
+    /// Yields until it is rung, for a while; not where the clock cannot be read. Rung, it is silent again; else the ring is left
+    /// to the sleep.
+    pub fn look<R: Clock>(&self, rt: &R) -> Look {
         let Ok(start) = Instant::now(rt) else {
             return Look::Silent;
         };
@@ -147,13 +150,13 @@ impl Bell {
                 .is_ok()
     }
 
-    // Sleeps until it is rung, for no longer than this, and says whether it was. It may be shorter for no reason.
-    pub(crate) fn sleep<R: Wait>(&self, rt: &R, duration: Duration) -> bool {
+    /// Sleeps until it is rung, for no longer than this, and says whether it was. It may be shorter for no reason.
+    pub fn sleep<R: Wait>(&self, rt: &R, duration: Duration) -> bool {
         self.nap(rt, duration, 1)
     }
 
-    // The same, for so many parts.
-    pub(crate) fn nap<R: Wait>(&self, rt: &R, part: Duration, parts: u32) -> bool {
+    /// Sleeps until it is rung, for so many parts at most, and says whether it was.
+    pub fn nap<R: Wait>(&self, rt: &R, part: Duration, parts: u32) -> bool {
         let is_silent = self
             .state
             .compare_exchange(SILENT, ASLEEP, SeqCst, SeqCst)
@@ -170,8 +173,8 @@ impl Bell {
     }
 }
 
-// Rings all.
-pub(crate) fn ring_all(bells: &[Bell]) {
+/// Rings all.
+pub fn ring_all(bells: &[Bell]) {
     for bell in bells {
         bell.ring();
     }

@@ -1,6 +1,6 @@
 use Rattle.std.proofs.Common.{◌≡◌}
 use Rattle.std.specs.Prelude.{vec_len}
-use Rattle.om_runner.proofs.watch.Watch.new.Given as goal
+use Rattle.om_observers.proofs.watch.Watch.new.Given as goal
 
 abbrev pub invariant-loop : goal.invariant-loop
 invariant-loop l = vec_len l.sights ≡ l.counter

@@ -1,6 +1,6 @@
 //! Who learns of outputs that are released, and in which order they are.
 
-use crate::bell::Bell;
+use om_board::Bell;
 use om_interval::{MAX_PROCESSES, Pid};
 use om_manager::Manager;
 use std::alloc::{AllocError, Global};
@@ -13,11 +13,11 @@ use std::time::Duration;
 // How long whoever follows sleeps at most, in milliseconds.
 const LONGEST_SLEEP: u64 = 1_000;
 
-// Of a process some outputs are released: those whose numbers are lower.
+/// Tells that outputs of a process are released: those whose numbers are lower.
 #[derive(Clone, Copy)]
-pub(crate) struct Release {
-    pub(crate) process: Pid,
-    pub(crate) below: usize,
+pub struct Release {
+    pub process: Pid,
+    pub below: usize,
 }
 
 // What is known of releases.
@@ -29,9 +29,10 @@ struct News {
     releases: Vec<Release>,
 }
 
-// Workers tell it of releases while the board's lock is had, so their order is that in which outputs were released.
+/// Learns of outputs that are released. Workers tell it while the board's lock is had, so their order is that in which outputs
+/// were released.
 #[derive(Drop)]
-pub(crate) struct Herald {
+pub struct Herald {
     alloc: Global,
     bell: Bell,
     // How many workers have ended.
@@ -57,7 +58,8 @@ impl News {
 }
 
 impl Herald {
-    pub(crate) fn new(alloc: Global) -> Herald {
+    /// Makes one of a run that is to begin.
+    pub fn new(alloc: Global) -> Herald {
         Herald {
             alloc,
             bell: Bell::new(),
@@ -69,8 +71,8 @@ impl Herald {
         }
     }
 
-    // Tells of what the manager has released, under the board's lock.
-    pub(crate) fn announce<R: Wait>(&self, rt: &R, manager: &Manager) -> Result<(), AllocError> {
+    /// Tells of what the manager has released, under the board's lock.
+    pub fn announce<R: Wait>(&self, rt: &R, manager: &Manager) -> Result<(), AllocError> {
         let has_news = self.news.lock(rt).take_in(manager)?;
         if has_news {
             self.bell.ring();
@@ -78,26 +80,26 @@ impl Herald {
         Ok(())
     }
 
-    // A worker has ended.
-    pub(crate) fn end(&self) {
+    /// Counts a worker that has ended.
+    pub fn end(&self) {
         self.ended.fetch_add(1, SeqCst);
         self.bell.ring();
     }
 
-    // Whether so many workers have ended.
-    pub(crate) fn have_ended(&self, n: usize) -> bool {
+    /// Tells whether so many workers have ended.
+    pub fn have_ended(&self, n: usize) -> bool {
         self.ended.load(SeqCst) >= n
     }
 
-    // What was released since it was last asked for, in order.
-    pub(crate) fn releases<R: Wait>(&self, rt: &R) -> Vec<Release> {
+    /// Takes what was released since it was last asked for, in order.
+    pub fn releases<R: Wait>(&self, rt: &R) -> Vec<Release> {
         let mut guard = self.news.lock(rt);
         let news = &mut *guard;
         mem::replace(&mut news.releases, Vec::new(self.alloc))
     }
 
-    // Sleeps until there is news.
-    pub(crate) fn sleep<R: Wait>(&self, rt: &R) {
+    /// Sleeps until there is news.
+    pub fn sleep<R: Wait>(&self, rt: &R) {
         self.bell.sleep(rt, Duration::from_millis(LONGEST_SLEEP));
     }
 }

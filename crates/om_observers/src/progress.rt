@@ -1,7 +1,7 @@
 //! How far a cluster has come.
 
 ghost use Rattle.std.specs.Prelude.{◌≡◌, ◌<◌, ◌≤◌, ◌+◌, ◌↔◌, IsTrue};
-ghost use Rattle.om_runner.specs.Watching.{IsNewest, capped, newness, sum_over};
+ghost use Rattle.om_observers.specs.Watching.{IsNewest, capped, newness, sum_over};
 
 use crate::sight::Sight;
 use om_board::Front;

@@ -51,15 +51,15 @@ impl Watch {
         Ok(sights)
     }
 
-    // What was seen of a process last.
-    pub(crate) fn sight<R: Wait>(&self, rt: &R, pid: Pid) -> Option<Sight> {
+    /// What was seen of a process last.
+    pub fn sight<R: Wait>(&self, rt: &R, pid: Pid) -> Option<Sight> {
         let place = self.sights.get(pid.index())?;
         let sight = *place.lock(rt);
         Some(sight)
     }
 
-    // Takes in what is seen of a process.
-    pub(crate) fn show<R: Wait>(&self, rt: &R, pid: Pid, sight: Sight) {
+    /// Takes in what is seen of a process.
+    pub fn show<R: Wait>(&self, rt: &R, pid: Pid, sight: Sight) {
         if let Some(place) = self.sights.get(pid.index()) {
             *place.lock(rt) = sight;
         }
