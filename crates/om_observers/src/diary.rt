@@ -4,6 +4,7 @@ ghost use Rattle.std.specs.Prelude.{◌<◌};
 ghost use Rattle.om_process.specs.Core.{cluster_size};
 
 use crate::herald::Herald;
+use crate::observers::Observers;
 use crate::recorder::{Act, Letter, Recorder};
 use om_board::Front;
 use om_format::Message;
@@ -12,46 +13,6 @@ use om_manager::Manager;
 use om_process::{Accept, ProcCore, Ran, Status};
 use std::alloc::{AllocError, Global};
 use std::sync::Wait;
-
-/// Names who is told what the threads do.
-#[derive(Clone, Copy)]
-pub struct Listeners<'a> {
-    recorder: Option<&'a Recorder>,
-    herald: Option<&'a Herald>,
-}
-
-impl<'a> Listeners<'a> {
-    /// Names nobody.
-    pub fn none() -> Listeners<'a> {
-        Listeners {
-            recorder: None,
-            herald: None,
-        }
-    }
-
-    /// Names a recorder, which takes in all that they do.
-    pub fn of(recorder: &'a Recorder) -> Listeners<'a> {
-        Listeners {
-            recorder: Some(recorder),
-            herald: None,
-        }
-    }
-
-    /// Names a herald, which learns of outputs that are released.
-    pub fn followed(herald: &'a Herald) -> Listeners<'a> {
-        Listeners {
-            recorder: None,
-            herald: Some(herald),
-        }
-    }
-
-    /// Tells that a worker has ended.
-    pub fn end(&self) {
-        if let Some(herald) = self.herald {
-            herald.end();
-        }
-    }
-}
 
 /// Tells what the worker of a process did. Without a recorder and a herald it does nothing.
 #[derive(Drop)]
@@ -125,8 +86,12 @@ fn add_messages_to(
 
 impl<'a> Diary<'a> {
     /// Begins for a process at its start.
-    pub fn new(alloc: Global, own: Pid, listeners: Listeners<'a>) -> Diary<'a> {
-        let Listeners { recorder, herald } = listeners;
+    pub fn new(alloc: Global, own: Pid, observers: Observers<'a>) -> Diary<'a> {
+        let Observers {
+            recorder,
+            herald,
+            ..
+        } = observers;
         Diary {
             alloc,
             own,

@@ -6,7 +6,8 @@
 //!
 //! In an order of reading:
 //!
-//! - `diary`: what a worker tells, and to whom (`Listeners`)
+//! - `observers`: who observes a run, in one value
+//! - `diary`: what a worker tells of its process
 //! - `recorder`: what the threads did, in one order
 //! - `witness`: what one process did, but for what was rolled back
 //! - `herald`: outputs as they are released
@@ -15,14 +16,16 @@
 
 mod diary;
 mod herald;
+mod observers;
 mod progress;
 mod recorder;
 mod sight;
 mod watch;
 mod witness;
 
-pub use diary::{Diary, Listeners};
+pub use diary::Diary;
 pub use herald::{Herald, Release};
+pub use observers::Observers;
 pub use progress::Progress;
 pub use recorder::{Act, Letter, Record, Recorder};
 pub use sight::{Doing, Sight};

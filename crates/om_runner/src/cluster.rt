@@ -33,7 +33,7 @@ use crate::worker::{Place, Worker};
 use crate::worker_fault::load_fault;
 use om_board::{Blank, Inbox, Naming, Pass, TakePass};
 use om_interval::{MAX_PROCESSES, Pid};
-use om_observers::{Listeners, Past, Recorder};
+use om_observers::{Observers, Recorder};
 use om_process::{Image, Status, Witness};
 use om_stable::Stable;
 use std::alloc::{AllocError, Global};
@@ -295,16 +295,11 @@ fn work<'a, K: Naming, R: Wait + Clock, G: Gate, O: Opener<R>>(
         shared,
         stop,
         returns,
-        keeps,
-        listeners,
+        observers,
         ..
     } = *cluster;
     let barrier = Barrier::new(returns, links.n());
-    let past = Past::new(alloc, keeps);
-    let watch = cluster.opener.watch();
-    let mut worker = Worker::new(
-        plan, shared, links, barrier, kills, past, alloc, listeners, watch,
-    );
+    let mut worker = Worker::new(plan, shared, links, barrier, kills, alloc, observers);
     worker.arrive(node.core().round());
     take_turns(rt, alloc, plan.turns, stop, worker, node, pass)
 }
@@ -325,7 +320,7 @@ fn work_or_stop<'a, K: Naming, R: Wait + Clock, G: Gate, O: Opener<R>>(
     if result.is_err() {
         stop_all(cluster);
     }
-    cluster.listeners.end();
+    cluster.observers.end();
     result
 }
 
@@ -631,8 +626,7 @@ fn run_named<
     plan: &Config,
     gate: &G,
     opener: &O,
-    keeps: bool,
-    listeners: Listeners<'_>,
+    observers: Observers<'_>,
     blank: Blank,
 ) -> Result<(Report, Vec<O::Store>, Vec<Witness>), RunFault>
     requires named { blank ≡ K.cell }
@@ -664,8 +658,7 @@ fn run_named<
         shared: &ground.shared,
         stop: &ground.stop,
         returns: &ground.returns,
-        keeps,
-        listeners,
+        observers,
         inboxes: &ground.inboxes,
         bells: &ground.bells,
         received: &ground.received,
@@ -708,8 +701,10 @@ pub fn run_and_keep_stores<R: Threads + Wait + Clock + Sync, G: Gate + Sync, O: 
         config,
         gate,
         opener,
-        false,
-        Listeners::none(),
+        Observers {
+            watch: opener.watch(),
+            ..Observers::none()
+        },
         blank,
     )?;
     Ok((report, stores))
@@ -752,8 +747,11 @@ pub fn run_and_keep_witnesses<
         config,
         gate,
         opener,
-        true,
-        Listeners::none(),
+        Observers {
+            keeps_witness: true,
+            watch: opener.watch(),
+            ..Observers::none()
+        },
         blank,
     )?;
     Ok((report, witnesses))
@@ -794,8 +792,11 @@ pub fn run_and_record<R: Threads + Wait + Clock + Sync, G: Gate + Sync, O: Opene
         config,
         gate,
         opener,
-        false,
-        Listeners::of(recorder),
+        Observers {
+            recorder: Some(recorder),
+            watch: opener.watch(),
+            ..Observers::none()
+        },
         blank,
     )?;
     Ok(report)

@@ -25,7 +25,7 @@ use crate::report::Report;
 use crate::results::Parts;
 use om_board::{Blank, Naming};
 use om_interval::MAX_PROCESSES;
-use om_observers::{Herald, Listeners};
+use om_observers::{Herald, Observers};
 use std::alloc::Global;
 use std::marker::Brand;
 use std::sync::Wait;
@@ -146,8 +146,11 @@ fn run_named<
         shared: &ground.shared,
         stop: &ground.stop,
         returns: &ground.returns,
-        keeps: false,
-        listeners: Listeners::followed(&herald),
+        observers: Observers {
+            herald: Some(&herald),
+            watch: opener.watch(),
+            ..Observers::none()
+        },
         inboxes: &ground.inboxes,
         bells: &ground.bells,
         received: &ground.received,

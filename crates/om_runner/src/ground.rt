@@ -9,7 +9,7 @@ use crate::network::{Ends, Network, connected};
 use crate::received::Received;
 use om_board::{Bell, Blank, Inbox, Naming, Pass, Shared, ring_all};
 use om_interval::MAX_PROCESSES;
-use om_observers::Listeners;
+use om_observers::Observers;
 use std::alloc::{AllocError, Global};
 use std::sync::atomic::Ordering::SeqCst;
 use std::sync::atomic::{AtomicBool, AtomicU64};
@@ -27,10 +27,8 @@ pub(crate) struct Cluster<'s, K: Naming, R, G, O> {
     pub(crate) stop: &'s AtomicBool,
     // How often processes came up: at their start, and behind each round.
     pub(crate) returns: &'s AtomicU64,
-    // Whether what each process did is to be kept.
-    pub(crate) keeps: bool,
-    // Who is told what the threads do.
-    pub(crate) listeners: Listeners<'s>,
+    // Who observes the run.
+    pub(crate) observers: Observers<'s>,
     // By sender, and there by receiver.
     pub(crate) inboxes: &'s [Vec<Inbox>],
     // By process, what wakes its worker.

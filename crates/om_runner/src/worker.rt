@@ -24,7 +24,7 @@ use crate::worker_fault::WorkerFault;
 use om_board::{Front, Look, Naming, Pass, Shared};
 use om_format::Message;
 use om_interval::{Pid, Verdict};
-use om_observers::{Diary, Doing, Listeners, Past, Sight, Watch};
+use om_observers::{Diary, Doing, Observers, Past, Sight, Watch};
 use om_process::{Accept, Status, Witness};
 use om_stable::Stable;
 use std::alloc::Global;
@@ -207,10 +207,8 @@ impl<'a, K: Naming> Worker<'a, K> {
         links: Links<'a>,
         barrier: Barrier<'a>,
         kills: Vec<u32>,
-        past: Past,
         alloc: Global,
-        listeners: Listeners<'a>,
-        watch: Option<&'a Watch>,
+        observers: Observers<'a>,
     ) -> Worker<'a, K>
         requires { links.n ≡ K.cell.n }
         ensures { result.links ≡ links.entry }
@@ -222,9 +220,9 @@ impl<'a, K: Naming> Worker<'a, K> {
             links,
             barrier,
             kills,
-            past,
-            diary: Diary::new(alloc, own, listeners),
-            watch,
+            past: Past::new(alloc, observers.keeps_witness),
+            diary: Diary::new(alloc, own, observers),
+            watch: observers.watch,
             idle: Idle::new(),
             patience: Patience::new(),
             resent: false,

@@ -1,0 +1,45 @@
+//! Who observes a run.
+
+ghost use Rattle.std.specs.Prelude.{◌≡◌, None, false};
+
+use crate::herald::Herald;
+use crate::recorder::Recorder;
+use crate::watch::Watch;
+
+/// Names who observes a run of a cluster. It is lent to all workers; each observer is off by default, and one that is off costs a
+/// test of an option.
+#[derive(Clone, Copy)]
+pub struct Observers<'a> {
+    /// Takes in what the threads do, in one order. A process then notes what it stored before it runs on.
+    pub recorder: Option<&'a Recorder>,
+    /// Whether each worker keeps what its process did, but for what was rolled back.
+    pub keeps_witness: bool,
+    /// Learns of outputs as they are released.
+    pub herald: Option<&'a Herald>,
+    /// Sees what each process does at the end of each turn.
+    pub watch: Option<&'a Watch>,
+}
+
+impl<'a> Observers<'a> {
+    /// Names nobody.
+    pub fn none() -> Observers<'a>
+        ensures recorder { result.recorder ≡ None }
+        ensures witness { result.keeps_witness ≡ false }
+        ensures herald { result.herald ≡ None }
+        ensures watch { result.watch ≡ None }
+    {
+        Observers {
+            recorder: None,
+            keeps_witness: false,
+            herald: None,
+            watch: None,
+        }
+    }
+
+    /// Tells the herald, if there is one, that a worker has ended.
+    pub fn end(&self) {
+        if let Some(herald) = self.herald {
+            herald.end();
+        }
+    }
+}
