@@ -4,7 +4,7 @@
 //! stands over any disk.
 //!
 //! - `connecting`: who opens the databases of a cluster, and the stores that are made in their tables
-//! - `files`: the files that are named by a prefix
+//! - `files`: the files that are named by a prefix; `noting`: what the system answered where one of them failed
 //! - `places`: the files that a run makes for its stores, and what of them is removed where it is refused; `clashing`: whether a
 //!   file that it is to write beside them is one that it has; `identity`: which file one is, whatever its names
 //! - `settling`: each store in its one file, behind a run; `blaming`: which file a refused run could not use
@@ -19,6 +19,7 @@ mod copying;
 mod files;
 mod identity;
 mod looking;
+mod noting;
 mod places;
 mod replaying;
 mod settling;
@@ -29,6 +30,7 @@ pub use connecting::{Connects, InTables};
 pub use files::Files;
 pub use identity::Identity;
 pub use looking::{show_file, show_over, steps_file, steps_over};
+pub use noting::{Note, Noted, Notes};
 pub use places::{PlaceError, Places};
 pub use replaying::{replay_file, replay_over};
 pub use settling::settle;

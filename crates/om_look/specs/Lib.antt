@@ -1,4 +1,5 @@
 pub mod About
+pub mod Kept
 pub mod Lines
 pub mod Rows
 pub mod Spans

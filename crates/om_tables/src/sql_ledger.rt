@@ -1,5 +1,5 @@
 //! The store over five tables, as a `Ledger`.
-ghost use Rattle.std.specs.Prelude.{◌≡◌, ◌≢◌, ◌⊎◌, codes, false, IsTrue, Some, ◌↔◌, IfOk, IfErr, OnOk};
+ghost use Rattle.std.specs.Prelude.{◌≡◌, ◌≢◌, ◌⊎◌, codes, false, IsTrue, Some, ◌↔◌, IfOk, IfErr, OnErr, OnOk};
 ghost use Rattle.om_tables.specs.Tables.{no_schema};
 ghost use Rattle.om_tables.specs.Store.{content_in, HasFiveTables, HasTable};
 ghost use Rattle.sqlite.specs.Held.{state};
@@ -61,6 +61,18 @@ impl<S: Alter> SqlLedger<S> {
                 Err(error) => Err((refusal_of(error), conn)),
             };
         }
+        SqlLedger::adopt(conn)
+    }
+
+    /// Takes a store as it is, where a database has its five tables and nothing beside them, in any order. A refusal hands the
+    /// connection back: NoTables.
+    pub fn adopt(conn: Connection<S>) -> Result<SqlLedger<S>, (TablesError, Connection<S>)>
+        requires { conn.in_transaction ≡ false }
+        ensures taken { IfOk result (λ s. (s.connection ≡ conn) × (s.failures ≡ 0)) }
+        ensures tables { OnOk result (HasFiveTables (state S.Store conn).now.schema) }
+        ensures refused { IfErr result (λ e. e ≡ (TablesError.NoTables, conn)) }
+        ensures others { OnErr result (HasFiveTables (state S.Store conn).now.schema → ⊥) }
+    {
         if !has_five_tables(conn.schema()) {
             return Err((TablesError::NoTables, conn));
         }

@@ -14,7 +14,7 @@ use om_commands::frontier::frontier;
 use om_commands::sim::sim;
 use om_draw_command::draw::{Window, draw};
 use om_files::{
-    Clash, Files, PlaceError, Places, clash_with_streams, clashes_with_stores, fault_of,
+    Clash, Files, Notes, PlaceError, Places, clash_with_streams, clashes_with_stores, fault_of,
     first_unusable, replay_file, settle, show_file, steps_file,
 };
 use om_image::{ImageError, image};
@@ -263,16 +263,22 @@ fn run_over_files<R: Threads + Wait + Clock + Eprint + Sync, W: Write>(
 ) -> Result<(), CommandError> {
     let mut counted = bytes;
     let n = count_processes(rt.alloc(), &mut counted)?;
+    let notes = Notes::new(rt.alloc(), n)?;
     let places = match Places::make(rt, prefix, n) {
         Ok(places) => places,
         Err(error) => return Err(not_made(error, reasons)),
     };
-    let outcome = run_in_files(rt, threads, running, prefix, bytes, writer, reasons);
+    let files = Files {
+        rt,
+        prefix,
+        notes: &notes,
+    };
+    let outcome = run_in_files(rt, threads, running, files, bytes, writer, reasons);
     match outcome {
         Ok(()) => settle(rt, prefix, n),
         Err(error) => {
             if error == CommandError::StoreFault {
-                add_fault(rt, prefix, n, reasons);
+                add_fault(rt, prefix, n, &notes, reasons);
             }
             places.remove_empty(rt, prefix);
         }
@@ -280,17 +286,17 @@ fn run_over_files<R: Threads + Wait + Clock + Eprint + Sync, W: Write>(
     outcome
 }
 
-// Runs the cluster over the files of the prefix, which are there. It stands apart, since the type of the stores is great.
+// Runs the cluster over files, which are there. It stands apart, since the type of the stores is great.
+#[inline(never)]
 fn run_in_files<R: Threads + Wait + Clock + Eprint + Sync, W: Write>(
     rt: &HostRuntime,
     threads: &R,
     running: Running<'_>,
-    prefix: &str,
+    files: Files<'_>,
     bytes: &[u8],
     writer: &mut W,
     reasons: &mut Reasons,
 ) -> Result<(), CommandError> {
-    let files = Files { rt, prefix };
     run_over_tables(rt, threads, running, files, bytes, writer, reasons)
 }
 
@@ -300,8 +306,14 @@ fn not_made(error: PlaceError, reasons: &mut Reasons) -> CommandError {
     CommandError::from(error)
 }
 
-// Tells of a store fault which file could not be used.
-fn add_fault(rt: &HostRuntime, prefix: &str, n: usize, reasons: &mut Reasons) {
+// Tells of a store fault what the system answered, or else which file could not be used.
+fn add_fault(rt: &HostRuntime, prefix: &str, n: usize, notes: &Notes, reasons: &mut Reasons) {
+    if let Some((process, error)) = notes.first() {
+        if let Ok(file) = format!(in rt.alloc(); "{prefix}{process}.db") {
+            reasons.add(file.as_str(), error);
+        }
+        return;
+    }
     if let Ok(Some(blamed)) = first_unusable(rt, prefix, n) {
         reasons.advise(blamed);
     }

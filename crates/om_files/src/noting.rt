@@ -1,0 +1,160 @@
+//! What the system answered where a file of a cluster failed.
+
+use om_interval::Pid;
+use sqlite_disk::{Disk, Tally};
+use std::alloc::{AllocError, Global};
+use std::io;
+use std::sync::atomic::AtomicI32;
+use std::sync::atomic::Ordering::SeqCst;
+
+// The code of no error of the system.
+const NONE: i32 = 0;
+
+/// The first error of the system that the files of a process met, if there was one.
+#[derive(Drop)]
+pub struct Note {
+    code: AtomicI32,
+}
+
+impl Note {
+    pub(crate) fn take(&self, error: &io::Error) {
+        if let Some(code) = error.raw_os_error() {
+            if self.code.load(SeqCst) == NONE {
+                self.code.store(code, SeqCst);
+            }
+        }
+    }
+
+    fn error(&self) -> Option<io::Error> {
+        match self.code.load(SeqCst) {
+            NONE => None,
+            code => Some(io::Error::from_raw_os_error(code)),
+        }
+    }
+}
+
+/// A note for each process of a cluster.
+#[derive(Drop)]
+pub struct Notes {
+    notes: Vec<Note>,
+}
+
+impl Notes {
+    /// Of so many processes, which met no error yet.
+    pub fn new(alloc: Global, n: usize) -> Result<Notes, AllocError> {
+        let mut notes = Vec::with_capacity(alloc, n)?;
+        for _ in 0..n {
+            let code = AtomicI32::new(NONE);
+            notes.push(Note { code })?;
+        }
+        Ok(Notes { notes })
+    }
+
+    pub(crate) fn of(&self, pid: Pid) -> Option<&Note> {
+        self.notes.get(pid.index())
+    }
+
+    /// The first process whose files met an error, and what the system answered.
+    pub fn first(&self) -> Option<(usize, io::Error)> {
+        for (process, note) in self.notes.iter().enumerate() {
+            if let Some(error) = note.error() {
+                return Some((process, error));
+            }
+        }
+        None
+    }
+}
+
+/// A disk whose first error of the system is noted.
+#[derive(Drop)]
+pub struct Noted<'a, D: Disk> {
+    pub(crate) inner: D,
+    pub(crate) note: Option<&'a Note>,
+}
+
+// Notes an answer that is an error.
+fn see<T>(note: Option<&Note>, answer: &io::Result<T>) {
+    if let (Some(note), Err(error)) = (note, answer) {
+        note.take(error);
+    }
+}
+
+impl<'a, D: Disk> Disk for Noted<'a, D> {
+    ghost seen = { λ d. D.Disk.seen d.inner };
+
+    ghost may_leave = { λ d. D.Disk.may_leave d.inner };
+
+    ghost is_usable = { λ d. D.Disk.is_usable d.inner };
+
+    ghost faults = { λ d. D.Disk.faults d.inner };
+
+    ghost tally_of = { λ d. D.Disk.tally_of d.inner };
+
+    ghost is_rotten = { λ d. D.Disk.is_rotten d.inner };
+
+    ghost key_of = { λ d. D.Disk.key_of d.inner };
+
+    ghost is_frozen = { λ d. D.Disk.is_frozen d.inner };
+
+    ghost is_clean = { λ d. D.Disk.is_clean d.inner };
+
+    ghost is_fair = { λ d. D.Disk.is_fair d.inner };
+
+    ghost fair_if_clean = { λ d. D.Disk.fair_if_clean d.inner };
+
+    ghost seen_may_stay = { λ d. D.Disk.seen_may_stay d.inner };
+
+    ghost is_mixing = { λ d. D.Disk.is_mixing d.inner };
+
+    fn mixes(&self) -> bool {
+        self.inner.mixes()
+    }
+
+    fn key(&self) -> u64 {
+        self.inner.key()
+    }
+
+    fn tally(&self) -> Tally {
+        self.inner.tally()
+    }
+
+    fn may_be_used(&self) -> bool {
+        self.inner.may_be_used()
+    }
+
+    fn len(&mut self) -> io::Result<usize> {
+        let answer = self.inner.len();
+        see(self.note, &answer);
+        answer
+    }
+
+    fn read_at(&mut self, at: usize, buf: &mut [u8]) -> io::Result<()> {
+        let answer = self.inner.read_at(at, buf);
+        see(self.note, &answer);
+        answer
+    }
+
+    fn read_checked(&mut self, key: u64, want: u64, at: usize, buf: &mut [u8]) -> io::Result<()> {
+        let answer = self.inner.read_checked(key, want, at, buf);
+        see(self.note, &answer);
+        answer
+    }
+
+    fn write_at(&mut self, at: usize, bytes: &[u8]) -> io::Result<()> {
+        let answer = self.inner.write_at(at, bytes);
+        see(self.note, &answer);
+        answer
+    }
+
+    fn set_len(&mut self, len: usize) -> io::Result<()> {
+        let answer = self.inner.set_len(len);
+        see(self.note, &answer);
+        answer
+    }
+
+    fn sync(&mut self) -> io::Result<()> {
+        let answer = self.inner.sync();
+        see(self.note, &answer);
+        answer
+    }
+}
