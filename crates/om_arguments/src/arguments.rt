@@ -184,6 +184,13 @@ With --store PREFIX the stores are the files PREFIX, the process's number and
 .db, which must not be there yet; without it they are in memory. When the run
 ended well, each store is whole in its one file.
 
+With --resume too, a run goes on from its stores where an earlier one was ended
+before its end, by a kill or a loss of power or for want of turns; where there
+are none it begins. It writes its text from output 0 on, that of a run without
+failures however often it was ended. The programs and the order of the processes
+are to be those of before; all else may differ. Such stores keep more, and a run
+without --resume does not take them.
+
 With --check the run without failures in which each process receives the same
 messages in the same order is played, in one thread, when the cluster has
 ended. What is written is its text, where that is the cluster's to the byte.
@@ -227,6 +234,10 @@ Refused, on standard error, status 1:
                        message that never comes, does not end, or computes for
                        long and needs more --turns, or more fuel a turn
   store fault          a store cannot be made, is there already, or failed
+  store in use         with --resume: another program has one of the stores
+  another cluster      with --resume: a store is of another program, process or
+                       number of processes
+  store missing        with --resume: a store holds nothing, and others do
   no thread            a thread cannot be made
   unlike its check     what the cluster wrote is not what that run writes
   cannot write         also: FILE cannot be made
@@ -248,6 +259,8 @@ const TURNS: &str = "turns";
 const DEFAULT_TURNS: u64 = 50_000_000;
 
 const STORE: &str = "store";
+
+const RESUME: &str = "resume";
 
 const IMAGE: &str = "image";
 
@@ -329,6 +342,8 @@ pub struct Running<'a> {
     pub turns: u64,
     /// Of the files of its stores; without one they are in memory.
     pub prefix: Option<&'a str>,
+    /// Whether the run goes on from its stores where there are any.
+    pub resumes: bool,
     pub checking: Checking<'a>,
     /// Whether more is said on standard error.
     pub verbose: bool,
@@ -491,6 +506,7 @@ fn run_request<'a>(found: &ArgMatches<'a>) -> Result<Request<'a>, Mistake<'a>>
     Ok(Request::Run(Running {
         turns,
         prefix: found.get_str(STORE),
+        resumes: found.get_flag(RESUME),
         checking: checking_of(found),
         verbose: found.get_flag(VERBOSE),
     }))
@@ -592,7 +608,8 @@ fn run_command<'a>(alloc: Global) -> Result<Command<'a>, AllocError> {
         .about("Logged processes that run in threads, fail and recover")
         .after_help(RUN_HELP)
         .arg(turns_option(alloc))?
-        .arg(store_option(alloc))?;
+        .arg(store_option(alloc))?
+        .arg(resume_option(alloc)?)?;
     with_tellings(alloc, with_checks(alloc, command)?)
 }
 
@@ -620,6 +637,15 @@ fn store_option<'a>(alloc: Global) -> Arg<'a> {
         .long(STORE)
         .value_name("PREFIX")
         .help("Keep the stores in files")
+}
+
+fn resume_option<'a>(alloc: Global) -> Result<Arg<'a>, AllocError> {
+    Arg::new(alloc, RESUME)
+        .long(RESUME)
+        .help("Go on from the stores where there are any")
+        .action(ArgAction::SetTrue)
+        .requires_arg(STORE)?
+        .conflicts_with(RECORD)
 }
 
 fn check_option<'a>(alloc: Global) -> Arg<'a> {

@@ -7,7 +7,7 @@ use std::io;
 use std::process::{Abort, ExitCode};
 
 // Words that are mistaken, and all that is told of them.
-static MISTAKES: [(&[&str], &str); 9] = [
+static MISTAKES: [(&[&str], &str); 10] = [
     (
         &["omlog", "replay", "s0.db", "x"],
         "error: invalid value 'x' for '<INTERVAL>': it is no number of 32 bits\n\nUsage: omlog replay [OPTIONS] <FILE> <INTERVAL>\n\nFor more information, try '--help'.\n",
@@ -50,6 +50,10 @@ static MISTAKES: [(&[&str], &str); 9] = [
     (
         &["omlog", "run", "--check", "--record", "r"],
         "error: the argument '--check' cannot be used with '--record <FILE>'\n\nUsage: omlog run --check [FILE]\n\nFor more information, try '--help'.\n",
+    ),
+    (
+        &["omlog", "run", "--resume"],
+        "error: the following required arguments were not provided:\n  --store <PREFIX>\n\nUsage: omlog run --store <PREFIX> --resume [FILE]\n\nFor more information, try '--help'.\n",
     ),
 ];
 

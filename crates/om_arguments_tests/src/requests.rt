@@ -146,8 +146,19 @@ static LOUD: [&str; 3] = ["omlog", "run", "--verbose"];
 const VERBOSE: Running<'static> = Running {
     turns: 50_000_000,
     prefix: None,
+    resumes: false,
     checking: Checking::Off,
     verbose: true,
+};
+
+static AGAIN: [&str; 6] = ["omlog", "run", "--check", "--resume", "--store", "s"];
+
+const RESUMED: Running<'static> = Running {
+    turns: 50_000_000,
+    prefix: Some("s"),
+    resumes: true,
+    checking: Checking::Check,
+    verbose: false,
 };
 
 fn check(
@@ -172,10 +183,12 @@ fn words_and_what_they_ask_for(rt: HostRuntime) {
         check(&rt, rt.alloc(), words, Request::Look(*look), None);
     }
     check(&rt, rt.alloc(), &LOUD, Request::Run(VERBOSE), None);
+    check(&rt, rt.alloc(), &AGAIN, Request::Run(RESUMED), None);
     for (words, (turns, prefix, checking, input)) in &RUNS {
         let running = Running {
             turns: *turns,
             prefix: *prefix,
+            resumes: false,
             checking: *checking,
             verbose: false,
         };

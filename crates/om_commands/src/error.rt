@@ -9,7 +9,7 @@ use std::alloc::AllocError;
 use thiserror::Error;
 
 /// Why a command was refused. What is read, or what a store holds, determines all but `CannotRead`, `CannotWrite`,
-/// `NoMemory`, `StoreFault`, and those of threads: `OutOfTurns`, `GateShut`, `NoThread` and `Unlike`.
+/// `NoMemory`, `StoreFault`, `StoreInUse`, `AnotherCluster`, `StoreMissing`, and those of threads: `OutOfTurns`, `GateShut`, `NoThread` and `Unlike`.
 #[derive(Clone, Copy, Debug, PartialEq, Eq, Error)]
 pub enum CommandError {
     #[error("too long")]
@@ -34,6 +34,12 @@ pub enum CommandError {
     Mismatch(u32),
     #[error("store fault")]
     StoreFault,
+    #[error("store in use")]
+    StoreInUse,
+    #[error("another cluster")]
+    AnotherCluster,
+    #[error("store missing")]
+    StoreMissing,
     #[error("out of turns")]
     OutOfTurns,
     #[error("gate shut")]

@@ -5,7 +5,7 @@ ghost use Rattle.std.specs.Prelude.{◌≡◌, false};
 use crate::copying::copy_of;
 use crate::files::file_of;
 use om_commands::CommandError;
-use om_tables::SqlStable;
+use om_tables::{SqlLedger, SqlStable};
 use sqlite::{Connection, FileStore};
 use sqlite_disk::Memory;
 use sqlite_schema::schema::Schema;
@@ -120,7 +120,11 @@ fn start_of(rt: &HostRuntime, file: &str) -> io::Result<Option<u8>> {
 fn fault_of_tables(rt: &HostRuntime, conn: Connection<FileStore<Memory>>) -> FileFault
     requires { conn.in_transaction ≡ false }
 {
-    match SqlStable::adopt(rt.alloc(), conn) {
+    let conn = match SqlStable::adopt(rt.alloc(), conn) {
+        Ok(_) => return FileFault::Store,
+        Err((_, conn)) => conn,
+    };
+    match SqlLedger::adopt(conn) {
         Ok(_) => FileFault::Store,
         Err((_, conn)) => fault_of_schema(conn.schema()),
     }

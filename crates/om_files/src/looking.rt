@@ -11,9 +11,9 @@ ghost use Rattle.om_commands.specs.ReplaySteps.{IsStepsText};
 
 use crate::copying::copy_of;
 use om_commands::CommandError;
-use om_commands::show::show;
+use om_commands::show::{show, show_kept};
 use om_commands::steps::replay_steps;
-use om_tables::SqlStable;
+use om_tables::{SqlLedger, SqlStable};
 use sqlite::{Alter, Connection};
 use std::alloc::Global;
 use std::io::Write;
@@ -75,19 +75,23 @@ pub fn steps_over<S: Alter + Drop, W: Write>(
     }
 }
 
-/// What the store in a file holds; see [`show_over`]. The file is only read. One that is not there, or has nothing, is a
-/// `StoreFault`.
+/// Writes what the store in a file holds: one of two tables as [`show_over`] does, one of five, which a run can take up, as
+/// [`show_kept`] does. The file is only read. One that is not there, or has nothing, is a `StoreFault`.
 pub fn show_file<W: Write>(rt: &HostRuntime, file: &str, writer: &mut W) -> Result<(), CommandError>
     ensures error { IfErr result IsNoMatterOfContent }
     ensures silent { IfErr result (λ error. IsSilent error (Keeps (W.contents writer.old) (W.contents writer.new))) }
 {
-    let conn = copy_of(rt, file)?;
-    let (told, _conn) = show_over(rt.alloc(), conn, writer);
-    told
+    match SqlLedger::adopt(copy_of(rt, file)?) {
+        Ok(mut store) => show_kept(rt.alloc(), &mut store, writer),
+        Err((_, conn)) => {
+            let (told, _conn) = show_over(rt.alloc(), conn, writer);
+            told
+        }
+    }
 }
 
-/// How the process goes on whose store is in a file; see [`steps_over`]. The file is only read. One that is not there, or has
-/// nothing, is a `StoreFault`.
+/// Writes how the process goes on whose store is in a file, of two tables or of five; see [`steps_over`]. The file is only read.
+/// One that is not there, or has nothing, is a `StoreFault`.
 pub fn steps_file<W: Write>(
     rt: &HostRuntime,
     file: &str,
@@ -98,7 +102,11 @@ pub fn steps_file<W: Write>(
 ) -> Result<(), CommandError>
     ensures silent { IfErr result (λ error. IsSilent error (Keeps (W.contents writer.old) (W.contents writer.new))) }
 {
-    let conn = copy_of(rt, file)?;
-    let (told, _conn) = steps_over(rt.alloc(), conn, interval, steps, traced, writer);
-    told
+    match SqlLedger::adopt(copy_of(rt, file)?) {
+        Ok(mut store) => replay_steps(rt.alloc(), &mut store, interval, steps, traced, writer),
+        Err((_, conn)) => {
+            let (told, _conn) = steps_over(rt.alloc(), conn, interval, steps, traced, writer);
+            told
+        }
+    }
 }

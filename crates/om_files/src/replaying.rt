@@ -10,7 +10,7 @@ ghost use Rattle.om_commands.specs.Replay.{IsReplayError, IsReplayText};
 use crate::copying::copy_of;
 use om_commands::CommandError;
 use om_commands::replay::replay;
-use om_tables::SqlStable;
+use om_tables::{SqlLedger, SqlStable};
 use sqlite::{Alter, Connection};
 use std::alloc::Global;
 use std::io::Write;
@@ -44,7 +44,8 @@ pub fn replay_over<S: Alter + Drop, W: Write>(
     }
 }
 
-/// The same from a file, which is only read. One that is not there, or has nothing, is a `StoreFault`.
+/// The same from a file, which is only read: a store of two tables, or of five, which a run can take up. A file that is not
+/// there, or has nothing, is a `StoreFault`.
 pub fn replay_file<W: Write>(
     rt: &HostRuntime,
     file: &str,
@@ -53,7 +54,11 @@ pub fn replay_file<W: Write>(
 ) -> Result<(), CommandError>
     ensures silent { IfErr result (λ error. IsSilent error (Keeps (W.contents writer.old) (W.contents writer.new))) }
 {
-    let conn = copy_of(rt, file)?;
-    let (told, _conn) = replay_over(rt.alloc(), conn, interval, writer);
-    told
+    match SqlLedger::adopt(copy_of(rt, file)?) {
+        Ok(mut store) => replay(rt.alloc(), &mut store, interval, writer),
+        Err((_, conn)) => {
+            let (told, _conn) = replay_over(rt.alloc(), conn, interval, writer);
+            told
+        }
+    }
 }
