@@ -14,7 +14,7 @@ use om_isa::Ext;
 use std::alloc::{AllocError, Global};
 use std::convert::AsStr;
 
-/// What `omlog --help` tells of all subcommands, behind their list.
+/// What `omlog --help` tells of all subcommands, behind their list; `-h` leaves it out, as it does with the others.
 pub const HELP: &str = "\
 A process takes the messages that are sent to it one at a time. With each a new
 interval begins: 0 at its start, 1 with the first message, and so on. Now and
@@ -26,7 +26,7 @@ Begin with run: it takes a cluster file, and processes that fail come back by
 themselves. With sim the same is played by hand, event by event. frontier
 computes recovery states from records alone, show and replay look into the store
 of a process, and decode tells what words of programs mean. Each says with
---help what it reads and writes, and has an example.
+--help what it reads and writes, and has an example; -h lists its options alone.
 
 run, sim, draw, frontier and decode read FILE, where one is named, and standard
 input else, also for -.
@@ -519,7 +519,7 @@ fn command<'a>(alloc: Global) -> Result<Command<'a>, AllocError> {
             "Runs message-passing programs whose processes log, fail and recover, and computes their recovery states",
         )
         .version(VERSION)
-        .after_help(HELP)
+        .after_long_help(HELP)
         .subcommand_required(true);
     with_clusters(alloc, with_scripts(alloc, command)?)
 }
@@ -568,7 +568,7 @@ fn decode_command<'a>(alloc: Global) -> Result<Command<'a>, AllocError> {
         .action(ArgAction::SetTrue);
     Command::new(alloc, DECODE)
         .about("The texts of the instructions that words of RV32I stand for")
-        .after_help(DECODE_HELP)
+        .after_long_help(DECODE_HELP)
         .arg(with_m)
 }
 
@@ -585,7 +585,7 @@ fn image_command<'a>(alloc: Global) -> Result<Command<'a>, AllocError> {
         .required(true);
     Command::new(alloc, IMAGE)
         .about("The program line of a raw image")
-        .after_help(IMAGE_HELP)
+        .after_long_help(IMAGE_HELP)
         .arg(with_m)?
         .arg(name)?
         .arg(size)
@@ -594,19 +594,19 @@ fn image_command<'a>(alloc: Global) -> Result<Command<'a>, AllocError> {
 fn frontier_command<'a>(alloc: Global) -> Command<'a> {
     Command::new(alloc, FRONTIER)
         .about("The greatest recoverable state after each note of a record script")
-        .after_help(FRONTIER_HELP)
+        .after_long_help(FRONTIER_HELP)
 }
 
 fn sim_command<'a>(alloc: Global) -> Command<'a> {
     Command::new(alloc, SIM)
         .about("Logged processes that are played event by event")
-        .after_help(SIM_HELP)
+        .after_long_help(SIM_HELP)
 }
 
 fn run_command<'a>(alloc: Global) -> Result<Command<'a>, AllocError> {
     let command = Command::new(alloc, RUN)
         .about("Logged processes that run in threads, fail and recover")
-        .after_help(RUN_HELP)
+        .after_long_help(RUN_HELP)
         .arg(turns_option(alloc))?
         .arg(store_option(alloc))?
         .arg(resume_option(alloc)?)?;

@@ -66,7 +66,7 @@ pub(crate) fn draw_command<'a>(alloc: Global) -> Result<Command<'a>, AllocError>
         .help("The last line that is played");
     Command::new(alloc, DRAW)
         .about("The picture of logged processes that are played event by event")
-        .after_help(DRAW_HELP)
+        .after_long_help(DRAW_HELP)
         .arg(from)?
         .arg(to)
 }

@@ -139,14 +139,14 @@ pub(crate) fn replay_request<'a>(found: &ArgMatches<'a>) -> Result<Look<'a>, Mis
 pub(crate) fn show_command<'a>(alloc: Global) -> Result<Command<'a>, AllocError> {
     Command::new(alloc, SHOW)
         .about("What the store of a process holds, and to where it can be replayed")
-        .after_help(SHOW_HELP)
+        .after_long_help(SHOW_HELP)
         .arg(store_file(alloc))
 }
 
 pub(crate) fn replay_command<'a>(alloc: Global) -> Result<Command<'a>, AllocError> {
     Command::new(alloc, REPLAY)
         .about("The state of a process in an interval, from its store")
-        .after_help(REPLAY_HELP)
+        .after_long_help(REPLAY_HELP)
         .arg(store_file(alloc))?
         .arg(interval_argument(alloc))?
         .arg(steps_option(alloc))?

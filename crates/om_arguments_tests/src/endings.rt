@@ -92,6 +92,26 @@ fn the_version(rt: HostRuntime) {
     check(&rt, rt.alloc(), true, &VERSION, 1, ("", ""));
 }
 
+static SHORT_HELP: [&str; 3] = ["omlog", "show", "-h"];
+
+// The options alone, as clap lays them out; with `--help` what is read and written stands behind them.
+const SUMMARY: &str = "\
+What the store of a process holds, and to where it can be replayed
+
+Usage: omlog show <FILE>
+
+Arguments:
+  <FILE>  The store of the process
+
+Options:
+  -h, --help  Print help (see more with '--help')
+";
+
+#[test]
+fn the_short_help(rt: HostRuntime) {
+    check(&rt, rt.alloc(), false, &SHORT_HELP, 0, (SUMMARY, ""));
+}
+
 #[test]
 fn words_that_are_no_text(rt: HostRuntime) {
     let screen = Screen::new(rt.alloc(), false);

@@ -34,12 +34,15 @@ pub enum CommandError {
     Mismatch(u32),
     #[error("store fault")]
     StoreFault,
+    /// Of this process.
     #[error("store in use")]
-    StoreInUse,
+    StoreInUse(usize),
+    /// Of this process.
     #[error("another cluster")]
-    AnotherCluster,
+    AnotherCluster(usize),
+    /// Of this process.
     #[error("store missing")]
-    StoreMissing,
+    StoreMissing(usize),
     #[error("out of turns")]
     OutOfTurns,
     #[error("gate shut")]

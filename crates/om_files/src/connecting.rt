@@ -37,7 +37,7 @@ impl<R, C: Connects> Opener<R> for InTables<C> {
 }
 
 // Why no store is made where its tables are refused.
-fn refusal_of(error: TablesError) -> OpenFault
+pub(crate) fn refusal_of(error: TablesError) -> OpenFault
     ensures { (result ≡ OpenFault.Memory) ↔ (error ≡ TablesError.Memory) }
 {
     match error {
