@@ -1,6 +1,7 @@
 //! What holds of posted fronts: each function stands for a theorem over the definitions alone.
 ghost use Rattle.std.specs.Prelude.{◌≡◌, List, Contains};
 ghost use mathlib.Core.List.{IsPrefix};
+ghost use Rattle.om_board.specs.declared.inbox.TheConstants.{CAPACITY};
 ghost use Rattle.om_board.specs.declared.front.Front.{Front};
 ghost use Rattle.om_board.specs.Fronts.{IsPosted};
 
@@ -8,4 +9,9 @@ ghost use Rattle.om_board.specs.Fronts.{IsPosted};
 pub fn each_version_has_one_front()
     ensures { (board one other : List Front) (a b : Front) → IsPosted board → IsPrefix one board → IsPrefix other board
         → Contains one a → Contains other b → a.version ≡ b.version → a ≡ b }
+{}
+
+/// An inbox holds at most so many messages.
+pub fn limits()
+    ensures { CAPACITY ≡ 64 }
 {}

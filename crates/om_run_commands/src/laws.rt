@@ -4,9 +4,18 @@ ghost use Rattle.std.specs.Prelude.{◌≡◌, ℕ, List};
 ghost use Rattle.om_scripts.specs.Programs.{Cluster};
 ghost use Rattle.om_world.specs.declared.entry.Entry.{Entry};
 ghost use Rattle.om_run_commands.specs.Check.{IsTextBy};
+ghost use Rattle.om_run_commands.specs.declared.cluster_script.TheConstants.{DEFAULT_CHECKPOINT, DEFAULT_FLUSH, DEFAULT_FUEL, MAX_KILLS};
 
 /// What is received in a run without failures determines its text.
 pub fn one_text()
     ensures { (cluster : Cluster) (live : List Entry) (text other : List ℕ) → IsTextBy cluster live text → IsTextBy cluster live other
         → text ≡ other }
+{}
+
+/// A cluster file has at most so many kills, and these numbers hold where it names none.
+pub fn limits()
+    ensures kills { MAX_KILLS ≡ 64 }
+    ensures flush { DEFAULT_FLUSH ≡ 4 }
+    ensures checkpoint { DEFAULT_CHECKPOINT ≡ 16 }
+    ensures fuel { DEFAULT_FUEL ≡ 1000 }
 {}

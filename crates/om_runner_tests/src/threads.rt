@@ -65,6 +65,7 @@ fn meet_then_read(rt: HostRuntime) {
     let wanted = front(&rt, 1, 0, &[1, 0]);
     assert!(&rt; met == wanted && read_after == wanted && read_beside == wanted);
     laws::each_version_has_one_front();
+    laws::limits();
 }
 
 // Keeps the board's lock until it sees that a read was answered.
