@@ -55,7 +55,7 @@ pub leads_between : (bytes : List ℕ) (body : List ℕ) (total : ℕ) → AreBe
 leads_between [] body total between = leads_nowhere (out body total)
 leads_between (byte ∷ bytes) body total between =
     leads_on (leads_by_step (out body total) byte (out body total) (step_between byte body total (All-head (λ b. (b ≢ 3) × (b ≢ 36)) byte bytes between).0 (All-head (λ b. (b ≢ 3) × (b ≢ 36)) byte bytes between).1))
-        (leads_between bytes body total (All-tail (λ b. (b ≢ 3) × (b ≢ 36)) byte bytes between))
+    (leads_between bytes body total (All-tail (λ b. (b ≢ 3) × (b ≢ 36)) byte bytes between))
 
 step_plain : (byte : ℕ) (body : List ℕ) (total : ℕ) → is_special byte ≡ false → length body ≤ MAX_PACKET
     → step («in» body total) byte ≡ («in» (body ++ byte ∷ []) ((total + byte) % 256), None)
@@ -69,11 +69,11 @@ is_one_of byte special = grind arith
 
 turned_twice : (byte : ℕ) → is_special byte ≡ true → bit_xor (bit_xor byte 32) 32 ≡ byte
 turned_twice byte special = elim (is_one_of byte special) [
-  inl is ↦ subst (λ b. bit_xor (bit_xor b 32) 32 ≡ b) (sym is) refl
+  | inl is ↦ subst (λ b. bit_xor (bit_xor b 32) 32 ≡ b) (sym is) refl
   | inr rest ↦ elim rest [
-    inl is ↦ subst (λ b. bit_xor (bit_xor b 32) 32 ≡ b) (sym is) refl
+    | inl is ↦ subst (λ b. bit_xor (bit_xor b 32) 32 ≡ b) (sym is) refl
     | inr rest ↦ elim rest [
-      inl is ↦ subst (λ b. bit_xor (bit_xor b 32) 32 ≡ b) (sym is) refl
+      | inl is ↦ subst (λ b. bit_xor (bit_xor b 32) 32 ≡ b) (sym is) refl
       | inr is ↦ subst (λ b. bit_xor (bit_xor b 32) 32 ≡ b) (sym is) refl
     ]
   ]
@@ -106,19 +106,19 @@ within_rest body byte bytes room = grind (arith, common_steps)
 
 step_turned : (byte : ℕ) (body : List ℕ) (total : ℕ) → is_special byte ≡ true → length body ≤ MAX_PACKET
     → step (record { place = places.Escaped; body = body; total = total }) (bit_xor byte 32)
-      ≡ («in» (body ++ byte ∷ []) ((total + bit_xor byte 32) % 256), None)
+    ≡ («in» (body ++ byte ∷ []) ((total + bit_xor byte 32) % 256), None)
 step_turned byte body total special room =
     ap (λ b. (record { place = places.Body; body = kept body b; total = (total + bit_xor byte 32) % 256 }, None)) (turned_twice byte special)
     ∙ ap (λ bytes. («in» bytes ((total + bit_xor byte 32) % 256), None)) (kept_within byte body room)
 
 through : (special : Bool) (byte : ℕ) (body : List ℕ) (total : ℕ) → is_special byte ≡ special → length body ≤ MAX_PACKET
     → Leads («in» body total) (if special then 125 ∷ bit_xor byte 32 ∷ [] else byte ∷ []) []
-      («in» (body ++ byte ∷ []) ((total + sum (if special then 125 ∷ bit_xor byte 32 ∷ [] else byte ∷ [])) % 256))
+    («in» (body ++ byte ∷ []) ((total + sum (if special then 125 ∷ bit_xor byte 32 ∷ [] else byte ∷ [])) % 256))
 through true byte body total is room =
     subst (λ t. Leads («in» body total) (125 ∷ bit_xor byte 32 ∷ []) [] («in» (body ++ byte ∷ []) t)) (two_more total (bit_xor byte 32))
     (leads_on (leads_by_step («in» body total) 125 (record { place = places.Escaped; body = body; total = (total + 125) % 256 }) (step_escape body total))
-        (leads_by_step (record { place = places.Escaped; body = body; total = (total + 125) % 256 }) (bit_xor byte 32)
-            («in» (body ++ byte ∷ []) (((total + 125) % 256 + bit_xor byte 32) % 256)) (step_turned byte body ((total + 125) % 256) is room)))
+    (leads_by_step (record { place = places.Escaped; body = body; total = (total + 125) % 256 }) (bit_xor byte 32)
+    («in» (body ++ byte ∷ []) (((total + 125) % 256 + bit_xor byte 32) % 256)) (step_turned byte body ((total + 125) % 256) is room)))
 through false byte body total is room =
     subst (λ t. Leads («in» body total) (byte ∷ []) [] («in» (body ++ byte ∷ []) t)) (one_more total byte)
     (leads_by_step («in» body total) byte («in» (body ++ byte ∷ []) ((total + byte) % 256)) (step_plain byte body total is room))
@@ -139,7 +139,7 @@ leads_through (byte ∷ bytes) body total small room =
     (ap (λ b. «in» b ((mid + sum (escaped bytes)) % 256)) (append_assoc body (byte ∷ []) bytes)
     ∙ ap (λ t. «in» (body ++ byte ∷ bytes) t) (both_more total (escaped_byte byte) (escaped bytes)))
     (leads_on (leads_through_byte byte body total (within_first body byte bytes room))
-        (leads_through bytes (body ++ byte ∷ []) mid (below_256 (total + sum (escaped_byte byte))) (within_rest body byte bytes room)))
+    (leads_through bytes (body ++ byte ∷ []) mid (below_256 (total + sum (escaped_byte byte))) (within_rest body byte bytes room)))
 
 value_of_digit : (value : ℕ) → value < 16 → hex_value (hex_digit value) ≡ Some value
 value_of_digit value small = grind arith
@@ -152,7 +152,7 @@ high_below_16 total small = omega arith
 
 step_first_digit : (value : ℕ) (body : List ℕ) (total : ℕ) → value < 16
     → step (record { place = places.FirstDigit; body = body; total = total }) (hex_digit value)
-      ≡ (record { place = places.SecondDigit value; body = body; total = total }, None)
+    ≡ (record { place = places.SecondDigit value; body = body; total = total }, None)
 step_first_digit value body total small =
     ap (first_digit (record { place = places.FirstDigit; body = body; total = total })) (value_of_digit value small)
 
@@ -162,10 +162,10 @@ is_packet body total room = grind arith
 
 step_second_digit : (body : List ℕ) (total : ℕ) → length body ≤ MAX_PACKET
     → step (record { place = places.SecondDigit (total / 16); body = body; total = total }) (hex_digit (total % 16))
-      ≡ (out body total, Some Packet)
+    ≡ (out body total, Some Packet)
 step_second_digit body total room =
     ap (λ v. (out body total, Some (second_digit (total / 16) (record { place = places.SecondDigit (total / 16); body = body; total = total }) v)))
-        (value_of_digit (total % 16) (below_16 total))
+    (value_of_digit (total % 16) (below_16 total))
     ∙ ap (λ event. (out body total, Some event)) (is_packet body total room)
 
 pub leads_to_end : (body : List ℕ) (total : ℕ) → length body ≤ MAX_PACKET → total < 256
@@ -173,9 +173,9 @@ pub leads_to_end : (body : List ℕ) (total : ℕ) → length body ≤ MAX_PACKE
 leads_to_end body total room small =
     leads_on (leads_by_step («in» body total) 35 (record { place = places.FirstDigit; body = body; total = total }) refl)
     (leads_on (leads_by_step (record { place = places.FirstDigit; body = body; total = total }) (hex_digit (total / 16))
-        (record { place = places.SecondDigit (total / 16); body = body; total = total }) (step_first_digit (total / 16) body total (high_below_16 total small)))
+    (record { place = places.SecondDigit (total / 16); body = body; total = total }) (step_first_digit (total / 16) body total (high_below_16 total small)))
     (leads_by_event (record { place = places.SecondDigit (total / 16); body = body; total = total }) (hex_digit (total % 16)) (out body total) Packet
-        (step_second_digit body total room)))
+    (step_second_digit body total room)))
 
 from_none : (bytes : List ℕ) → length bytes ≤ MAX_PACKET → length {A = ℕ} [] + length bytes ≤ MAX_PACKET
 from_none bytes room = grind arith
@@ -189,7 +189,7 @@ pub leads_packet : (bytes body : List ℕ) (total : ℕ) → length bytes ≤ MA
 leads_packet bytes body total room =
     leads_on (leads_by_step (out body total) 36 begin refl)
     (leads_on (subst (λ t. Leads begin (escaped bytes) [] («in» bytes t)) (from_zero (escaped bytes)) (leads_through bytes [] 0 (omega arith) (from_none bytes room)))
-        (leads_to_end bytes (checksum (escaped bytes)) room (below_256 (sum (escaped bytes)))))
+    (leads_to_end bytes (checksum (escaped bytes)) room (below_256 (sum (escaped bytes)))))
 
 -- the place behind all of them
 pub record ReadsAll (body : List ℕ) (total : ℕ) (all : List Sent) : Type 0 where
@@ -209,6 +209,7 @@ reads_all (s ∷ all) body total can =
 
 pub reads_back : ReadsBack
 reads_back all can =
-    let r = reads_all all [] 0 can in
-    (ap (reading start) (sym (append-nil (sent_text all))) ∙ r.leads.reads [] ∙ append-nil (map (λ s. (Packet, s.bytes)) all),
-     ap (λ d. d.place) (ap (behind start) (sym (append-nil (sent_text all))) ∙ r.leads.ends []))
+    let r = reads_all all [] 0 can in (
+      ap (reading start) (sym (append-nil (sent_text all))) ∙ r.leads.reads [] ∙ append-nil (map (λ s. (Packet, s.bytes)) all),
+      ap (λ d. d.place) (ap (behind start) (sym (append-nil (sent_text all))) ∙ r.leads.ends []),
+    )
