@@ -66,10 +66,16 @@ static IMAGE_FAULTS: [Row; 4] = [
     (Word::Line(LineError::ImageTooLong), "image too long"),
 ];
 
-static RUN_FAULTS: [Row; 6] = [
+static RUN_FAULTS: [Row; 9] = [
     (Word::Fault(CommandError::EmptyScript), "empty script"),
     (Word::Fault(CommandError::OutOfTurns), "out of turns"),
     (Word::Fault(CommandError::StoreFault), "store fault"),
+    (Word::Fault(CommandError::StoreInUse(0)), "store in use"),
+    (
+        Word::Fault(CommandError::AnotherCluster(0)),
+        "another cluster",
+    ),
+    (Word::Fault(CommandError::StoreMissing(0)), "store missing"),
     (Word::Fault(CommandError::NoThread), "no thread"),
     (Word::Fault(CommandError::Unlike), "unlike its check"),
     (Word::Fault(CommandError::CannotWrite), "cannot write"),
