@@ -58,7 +58,7 @@ pub fn check_end(
     }
 }
 
-static LINES: [(CommandError, &str); 15] = [
+static LINES: [(CommandError, &str); 18] = [
     (CommandError::TooLong, "too long"),
     (CommandError::CannotRead, "cannot read"),
     (CommandError::CannotWrite, "cannot write"),
@@ -79,6 +79,9 @@ static LINES: [(CommandError, &str); 15] = [
     (CommandError::OutOfTurns, "out of turns"),
     (CommandError::GateShut, "gate shut"),
     (CommandError::NoThread, "no thread"),
+    (CommandError::StoreInUse(3), "store in use"),
+    (CommandError::AnotherCluster(3), "another cluster"),
+    (CommandError::StoreMissing(3), "store missing"),
     (CommandError::Unlike, "unlike its check"),
 ];
 
