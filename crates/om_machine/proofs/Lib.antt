@@ -5,6 +5,7 @@ pub mod Keeping
 pub mod Fitting
 pub mod Lasting
 pub mod ProductLemmas
+pub mod Pairing
 pub mod Knowing
 pub mod Performing
 pub mod Storing

@@ -14,6 +14,6 @@ invariant_of-self c =
     rw c.overwrite.ensures (record {
       machine = keeps_written _ address bytes c.self.invariant.machine inside fit;
       registers = c.self.invariant.registers;
-      table = table_written c.self.inside.memory.items address bytes c.self.inside.table.items _ (address / 4) ((address + length bytes + 3) / 4) c.self.invariant.table c.forget.ensures inside;
-      knows = knows_written _ _ address bytes c.self.inside.table.items _ (address / 4) ((address + length bytes + 3) / 4) c.self.invariant.knows c.forget.ensures inside (omega arith) (omega arith);
+      table = table_written c.self.inside.memory.items address bytes _ (c.forget.ensures.table (length c.self.inside.memory.items) c.self.invariant.table) inside;
+      knows = knows_written _ _ address bytes c.self.inside.table.items _ (address / 4) ((address + length bytes + 3) / 4) c.self.invariant.knows c.forget.ensures.forgets inside (omega arith) (omega arith);
     })
