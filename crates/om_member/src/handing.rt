@@ -3,8 +3,7 @@
 ghost use Rattle.std.specs.Prelude.{◌<◌, length};
 ghost use Rattle.om_manager.specs.State.{held_by, process_count};
 ghost use Rattle.om_member.specs.Keeps.{Keeps};
-ghost use Rattle.om_member.specs.Handed.{AreHandedUpTo, IsHanded, MayHandIn, held_as, outputs_from};
-ghost use Rattle.om_member.specs.steps.Taking.{AreTaken};
+ghost use Rattle.om_member.specs.Handed.{AreHandedUpTo, AreTaken, IsHanded, MayHandIn, held_as, outputs_from};
 
 use crate::office::Office;
 use om_interval::Pid;
@@ -33,8 +32,8 @@ fn hand_one<O: Office>(
     )
 }
 
-// Hands outputs in, in order, up to the first that is refused.
-fn hand_all<O: Office>(
+/// Hands outputs of a process in, in order, up to the first that is refused.
+pub fn hand_all<O: Office>(
     office: &mut O,
     alloc: Global,
     pid: Pid,

@@ -8,10 +8,10 @@
 //! process with its store, and all that it does).
 #![tactic(auto)]
 
-pub use handing::hand_in;
+pub use handing::{hand_all, hand_in};
 pub use member::{Member, NotIn, NotUp, Standing};
 pub use office::Office;
-pub use telling::note;
+pub use telling::{note, tell_all};
 
 mod handing;
 mod member;

@@ -42,8 +42,8 @@ fn tell<O: Office>(
     office.note(alloc, round, row_of(pid, row))
 }
 
-// Offers rows in order, up to the first that is refused, and says how many were not.
-fn tell_all<O: Office>(
+/// Offers rows of a process to the manager, in order, up to the first that is refused, and says how many were not.
+pub fn tell_all<O: Office>(
     office: &mut O,
     alloc: Global,
     pid: Pid,

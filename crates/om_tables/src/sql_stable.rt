@@ -12,7 +12,7 @@ ghost use Rattle.sqlite.specs.Held.{state};
 use crate::creating::create_tables;
 use crate::error::TablesError;
 use crate::{deleting, further, inserting, reading};
-use om_stable::{LedgerRows, LedgerTable, Stable, StoreError};
+use om_stable::{Ledger, LedgerRows, LedgerTable, Stable, StoreError};
 use sqlite::{Alter, Connection, Error, ErrorCode};
 use sqlite_schema::schema::{Constraint, Schema, Table};
 use std::alloc::Global;
@@ -282,5 +282,45 @@ impl<S: Alter + Drop> Stable for SqlStable<S> {
 
     fn failures(&self) -> u64 {
         self.failures
+    }
+}
+
+// It keeps nothing beside its records.
+impl<S: Alter + Drop> Ledger for SqlStable<S> {
+    ghost use Rattle.std.specs.Prelude.{false, refl};
+    ghost use Rattle.om_stable.specs.Ledger.{blank};
+
+    ghost ledger = { λ _. blank };
+
+    ghost keeps = { λ _. false };
+
+    ghost stays = { λ old new error clean gives. refl };
+
+    fn put_in(
+        &mut self,
+        _alloc: Global,
+        _table: LedgerTable,
+        _first: u64,
+        _recs: &[Vec<u8>],
+    ) -> Result<(), StoreError> {
+        Ok(())
+    }
+
+    fn all_in(
+        &mut self,
+        alloc: Global,
+        _table: LedgerTable,
+    ) -> Result<Vec<(u64, Vec<u8>)>, StoreError> {
+        Ok(Vec::new(alloc))
+    }
+
+    fn shed(
+        &mut self,
+        alloc: Global,
+        c: u32,
+        _outputs: LedgerRows<'_>,
+        _senders: LedgerRows<'_>,
+    ) -> Result<(), StoreError> {
+        self.prune(alloc, c)
     }
 }

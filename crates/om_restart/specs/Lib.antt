@@ -1,0 +1,3 @@
+pub mod Abouts
+pub mod Outputs
+pub mod steps

@@ -1,0 +1,15 @@
+//! What a store holds for a run that takes it up after a crash of the whole program.
+//!
+//! A process is not needed for a look, and nothing is written by one. What a store answers is trusted as far as it says that it is
+//! clean.
+//!
+//! In an order of reading: `output` (an output as a store keeps it), `found` (all that is found in one store), `finding` (the look).
+#![tactic(auto)]
+
+mod finding;
+mod found;
+mod output;
+
+pub use finding::{FindFault, find};
+pub use found::Found;
+pub use output::{OUTPUT_HEAD, output_record, read_output};
