@@ -68,7 +68,7 @@ fn opened(
         Ok(conn) => Ok(conn),
         Err((error, _)) => Err(match refusal_of_opening(&error) {
             OpenFault::Memory => CommandError::NoMemory,
-            OpenFault::Refused => CommandError::StoreFault,
+            OpenFault::Refused | OpenFault::InUse => CommandError::StoreFault,
         }),
     }
 }

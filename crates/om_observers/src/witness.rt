@@ -23,6 +23,19 @@ impl Past {
         }
     }
 
+    /// Goes on for a process that is taken up, with the places of the senders of all that it had received.
+    pub fn taken_up(senders: Vec<u8>) -> Past {
+        Past {
+            keeps: true,
+            witness: Witness { senders, count: 0 },
+        }
+    }
+
+    /// Returns by receipt the place of its sender, where that is kept.
+    pub fn senders(&self) -> &[u8] {
+        &self.witness.senders
+    }
+
     /// Adds a receipt.
     pub fn receive(&mut self, from: Pid) -> Result<(), AllocError> {
         if self.keeps {

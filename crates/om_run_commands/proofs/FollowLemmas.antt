@@ -95,6 +95,9 @@ partly_run (running.GateShut p) part none is = is
 partly_run running.Memory part none is = tt
 partly_run (running.Fault p) part none is = is
 partly_run (running.Load p) part none is = is
+partly_run (running.StoreInUse p) part none is = is
+partly_run (running.AnotherCluster p) part none is = is
+partly_run (running.StoreMissing p) part none is = is
 partly_run running.NoThread part none is = is
 
 -- of the other two errors no more is known

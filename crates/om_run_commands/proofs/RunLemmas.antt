@@ -166,6 +166,9 @@ error_of_fault script (running.GateShut p) some = some
 error_of_fault script running.Memory some = tt
 error_of_fault script (running.Fault p) some = some
 error_of_fault script (running.Load p) some = some
+error_of_fault script (running.StoreInUse p) some = some
+error_of_fault script (running.AnotherCluster p) some = some
+error_of_fault script (running.StoreMissing p) some = some
 error_of_fault script running.NoThread some = some
 
 -- the error of a script whose outputs are written while it runs is that of its bytes

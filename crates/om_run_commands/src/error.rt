@@ -15,7 +15,11 @@ pub(crate) fn error_of_run(fault: RunFault) -> CommandError
         RunFault::Turns(_) => CommandError::OutOfTurns,
         RunFault::GateShut(_) => CommandError::GateShut,
         RunFault::Memory => CommandError::NoMemory,
-        RunFault::Fault(_) | RunFault::Load(_) => CommandError::StoreFault,
+        RunFault::Fault(_)
+        | RunFault::Load(_)
+        | RunFault::StoreInUse(_)
+        | RunFault::AnotherCluster(_)
+        | RunFault::StoreMissing(_) => CommandError::StoreFault,
         RunFault::NoThread => CommandError::NoThread,
     }
 }

@@ -10,7 +10,7 @@ use Rattle.om_runner.specs.declared.cluster.EndOf.{EndOf}
 use Rattle.om_runner.specs.declared.results.Finished.{Finished}
 use Rattle.om_runner.specs.declared.config.Config.{Config}
 use Rattle.om_runner.specs.declared.fault.RunFault.{RunFault}
-use Rattle.om_runner.specs.declared.fault.RunFault.TheVariants.{Turns, GateShut, Memory, Fault, Load, NoThread}
+use Rattle.om_runner.specs.declared.fault.RunFault.TheVariants.{Turns, GateShut, Memory, Fault, Load, StoreInUse, AnotherCluster, StoreMissing, NoThread}
 use Rattle.om_runner.specs.steps.Ends.{AreBelow, AreOwnEnds, IsEndOf, IsFaultBy, IsFirstOut, IsGiven, IsLeastFault, IsOwnEnd, IsPromised, IsWell, IsWellOrOut}
 use Rattle.om_runner.specs.steps.Network.{Lines}
 
@@ -49,6 +49,9 @@ fault_within n place (Turns pid) lt is = subst (λ k. k < n) (sym is) lt
 fault_within n place (GateShut pid) lt is = subst (λ k. k < n) (sym is) lt
 fault_within n place (Fault pid) lt is = subst (λ k. k < n) (sym is) lt
 fault_within n place (Load pid) lt is = subst (λ k. k < n) (sym is) lt
+fault_within n place (StoreInUse pid) lt is = subst (λ k. k < n) (sym is) lt
+fault_within n place (AnotherCluster pid) lt is = subst (λ k. k < n) (sym is) lt
+fault_within n place (StoreMissing pid) lt is = subst (λ k. k < n) (sym is) lt
 fault_within n place Memory lt is = tt
 fault_within n place NoThread lt is = tt
 

@@ -13,7 +13,7 @@ use Rattle.om_process.specs.declared.image.Image.{Image}
 use Rattle.om_process.specs.declared.status.Status.{Status}
 use Rattle.om_runner.specs.Released.{AreAllMade}
 use Rattle.om_runner.specs.declared.fault.RunFault.{RunFault}
-use Rattle.om_runner.specs.declared.fault.RunFault.TheVariants.{Turns, GateShut, Fault, Load}
+use Rattle.om_runner.specs.declared.fault.RunFault.TheVariants.{Turns, GateShut, Fault, Load, StoreInUse, AnotherCluster, StoreMissing}
 
 -- the status is that of a state of process `own` of n along the program, for some receipts and turns
 abbrev pub IsStatusAlong : Program → ℕ → ℕ → Status → Type 0
@@ -66,6 +66,9 @@ process_of (Turns pid) = Some pid
 process_of (GateShut pid) = Some pid
 process_of (Fault pid) = Some pid
 process_of (Load pid) = Some pid
+process_of (StoreInUse pid) = Some pid
+process_of (AnotherCluster pid) = Some pid
+process_of (StoreMissing pid) = Some pid
 process_of _ = None
 
 -- the fault is of one of n processes, or of none

@@ -8,5 +8,6 @@ pub mod Ends
 pub mod Settling
 pub mod Acts
 pub mod Turning
+pub mod Refusals
 pub mod Sights
 pub mod Following

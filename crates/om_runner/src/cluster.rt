@@ -9,6 +9,7 @@ ghost use Rattle.om_runner.specs.Released.{AreAllMade, AreAllReleased};
 ghost use Rattle.om_runner.specs.Reports.{AreAlongOf, AreAlongOver, AreOutputsOf, AreWholeOf, IsFaultOf, IsWholeRun};
 ghost use Rattle.om_process.specs.Core.{IsEnd};
 ghost use Rattle.om_runner.specs.declared.fault.RunFault.TheVariants.{Memory};
+ghost use Rattle.om_runner.specs.Stores.{AreNeverClean};
 ghost use Rattle.om_runner.specs.steps.Acts.{UnderLock};
 ghost use Rattle.om_runner.specs.steps.Ends.{AreEndsOf, AreOwnEnds, AreWholeOver, IsEndOf, IsFaultBy, IsGiven, IsOwnEnd, IsPromised, IsTurned};
 ghost use Rattle.om_runner.specs.steps.Harvests.{AreOwn, harvested};
@@ -25,17 +26,18 @@ use crate::harvest::{Harvest, gathered_in};
 use crate::links::Links;
 use crate::network::Ends;
 use crate::node::Node;
-use crate::opener::{Gate, OpenFault, Opener};
+use crate::opener::{Gate, Opener};
 use crate::report::Report;
 use crate::results::{Finished, Parts, gathered};
 use crate::settle::settle_all;
+use crate::taking_up::{open_fault, take_up};
 use crate::worker::{Place, Worker};
 use crate::worker_fault::load_fault;
 use om_board::{Blank, Inbox, Naming, Pass, TakePass};
 use om_interval::{MAX_PROCESSES, Pid};
 use om_observers::{Observers, Recorder};
 use om_process::{Image, Status, Witness};
-use om_stable::Stable;
+use om_stable::{Ledger, Stable};
 use std::alloc::{AllocError, Global};
 use std::marker::{Brand, PhantomData};
 use std::sync::Wait;
@@ -81,8 +83,7 @@ fn begin<'a, R, O: Opener<R>>(
 {
     let store = match opener.make(rt, alloc, pid) {
         Ok(store) => store,
-        Err(OpenFault::Memory) => return Err(RunFault::Memory),
-        Err(OpenFault::Refused) => return Err(RunFault::Load(pid)),
+        Err(fault) => return Err(open_fault(fault, pid)),
     };
     match Node::start(alloc, image, pid, n, store) {
         Ok(node) => Ok(node),
@@ -141,7 +142,7 @@ fn leave<'a, K: Naming, S: Stable, R: Wait>(
 
 // One turn of a worker.
 #[inline(never)]
-fn take_turn<'a, K: Naming, S: Stable, R: Wait + Clock>(
+fn take_turn<'a, K: Naming, S: Ledger, R: Wait + Clock>(
     rt: &R,
     alloc: Global,
     worker: &mut Worker<'a, K>,
@@ -167,29 +168,29 @@ fn take_turn<'a, K: Naming, S: Stable, R: Wait + Clock>(
 }
 
 // The turns of a worker until all are quiet: how its process ended, its outputs, and its store.
-fn turns_until_over<'a, K: Naming, S: Stable, R: Wait + Clock>(
+fn turns_until_over<'a, K: Naming, S: Ledger, R: Wait + Clock>(
     rt: &R,
     alloc: Global,
     turns: u64,
     stop: &AtomicBool,
     worker: &mut Worker<'a, K>,
-    node: Node<'a, S>,
+    place: Place<'a, S>,
     pass: Pass<K>,
 ) -> Result<(Status, Harvest<K>, S), RunFault>
-    requires own { node.member.own ≡ worker.old.links.own }
-    requires program { slice_get K.programs node.member.own ≡ Some node.member.program }
-    requires size { node.member.n ≡ K.cell.n }
+    requires own { (member_of place).own ≡ worker.old.links.own }
+    requires program { slice_get K.programs (member_of place).own ≡ Some (member_of place).program }
+    requires size { (member_of place).n ≡ K.cell.n }
     requires clean { K.OverClean → AreAlwaysClean S.is_clean }
     ensures same { worker.new.links ≡ worker.old.links }
     ensures ended { IfOk result (λ end. IsEnd end.0) }
-    ensures own { let m = node.entry.member in IfOk result (λ end. end.1.own ≡ m.own) }
-    ensures whole { let m = node.entry.member in IfOk result (λ end. IsTrue (S.is_clean end.2)
+    ensures own { let m = member_of place.entry in IfOk result (λ end. end.1.own ≡ m.own) }
+    ensures whole { let m = member_of place.entry in IfOk result (λ end. IsTrue (S.is_clean end.2)
         → IsWholeRun m.program m.own m.n end.0 (length end.1.outputs.items)) }
     ensures given { OnOk result (1 ≤ turns) }
     ensures fault { IfErr result (IsFaultBy worker.old.links.own) }
 {
     let mut pass = pass;
-    let mut place = Place::Up(node);
+    let mut place = place;
     let mut left = turns;
     while left > 0 {
         left -= 1;
@@ -211,20 +212,20 @@ fn turns_until_over<'a, K: Naming, S: Stable, R: Wait + Clock>(
 }
 
 // The same, with the ends that the worker gives up then.
-fn take_turns<'a, K: Naming, S: Stable, R: Wait + Clock>(
+fn take_turns<'a, K: Naming, S: Ledger, R: Wait + Clock>(
     rt: &R,
     alloc: Global,
     turns: u64,
     stop: &AtomicBool,
     worker: Worker<'a, K>,
-    node: Node<'a, S>,
+    place: Place<'a, S>,
     pass: Pass<K>,
 ) -> Result<Finished<K, S>, RunFault>
-    requires own { node.member.own ≡ worker.links.own }
-    requires program { slice_get K.programs node.member.own ≡ Some node.member.program }
-    requires size { node.member.n ≡ K.cell.n }
+    requires own { (member_of place).own ≡ worker.links.own }
+    requires program { slice_get K.programs (member_of place).own ≡ Some (member_of place).program }
+    requires size { (member_of place).n ≡ K.cell.n }
     requires clean { K.OverClean → AreAlwaysClean S.is_clean }
-    ensures end { let m = node.entry.member in
+    ensures end { let m = member_of place.entry in
         IfOk result (λ f. IsEndOf S.is_clean m.program worker.entry.links.lines m.own m.n f) }
     ensures given { OnOk result (1 ≤ turns) }
     ensures fault { IfErr result (IsFaultBy worker.entry.links.own) }
@@ -236,7 +237,7 @@ fn take_turns<'a, K: Naming, S: Stable, R: Wait + Clock>(
         turns,
         stop,
         &mut worker,
-        node,
+        place,
         pass,
     )?;
     let (ends, witness) = worker.into_ends();
@@ -274,8 +275,8 @@ fn admit<'a, K: Naming, R: Wait, G: Gate, O: Opener<R>>(
     Ok((node, kills))
 }
 
-// What the thread of a process does.
-fn work<'a, K: Naming, R: Wait + Clock, G: Gate, O: Opener<R>>(
+// What the thread of a process does that starts over a store that holds nothing.
+fn work_anew<'a, K: Naming, R: Wait + Clock, G: Gate, O: Opener<R>>(
     cluster: &Cluster<'a, K, R, G, O>,
     image: &'a Image,
     job: Job<'a, K>,
@@ -301,7 +302,74 @@ fn work<'a, K: Naming, R: Wait + Clock, G: Gate, O: Opener<R>>(
     let barrier = Barrier::new(returns, links.n());
     let mut worker = Worker::new(plan, shared, links, barrier, kills, alloc, observers);
     worker.arrive(node.core().round());
-    take_turns(rt, alloc, plan.turns, stop, worker, node, pass)
+    take_turns(rt, alloc, plan.turns, stop, worker, Place::Up(node), pass)
+}
+
+// What the thread of a process does that is taken up from what an earlier run left of it.
+fn work_on<'a, K: Naming, R: Wait + Clock, G: Gate, O: Opener<R>>(
+    cluster: &Cluster<'a, K, R, G, O>,
+    image: &'a Image,
+    job: Job<'a, K>,
+) -> Result<Finished<K, O::Store>, RunFault>
+    requires unsure { AreNeverClean O.Store.is_clean }
+    requires program { slice_get K.programs job.links.own ≡ Some (program_of image.now) }
+    requires clean { K.OverClean → AreAlwaysClean O.Store.is_clean }
+    ensures end { let l = job.entry.links in
+        IfOk result (λ f. IsEndOf O.Store.is_clean (program_of image.entry.now) l.lines l.own l.n f) }
+    ensures own { IsOwnEnd cluster.now.plan.now job.entry.links.own result }
+{
+    let Job { links, pass, .. } = job;
+    let (pid, n) = (links.own(), links.n());
+    let Cluster {
+        rt,
+        alloc,
+        plan,
+        stop,
+        ..
+    } = *cluster;
+    pass_gate(cluster.gate, plan.gate_turns, pid)?;
+    let Ok(kills) = kills_of(alloc, &plan.kills, pid) else {
+        return Err(RunFault::Memory);
+    };
+    let barrier = Barrier::new(cluster.returns, n);
+    let mut worker = Worker::new(
+        plan,
+        cluster.shared,
+        links,
+        barrier,
+        kills,
+        alloc,
+        cluster.observers,
+    );
+    let (down_node, left) = take_up(cluster, &mut worker, image)?;
+    take_turns(
+        rt,
+        alloc,
+        left,
+        stop,
+        worker,
+        Place::Failed(down_node),
+        pass,
+    )
+}
+
+// What the thread of a process does.
+fn work<'a, K: Naming, R: Wait + Clock, G: Gate, O: Opener<R>>(
+    cluster: &Cluster<'a, K, R, G, O>,
+    image: &'a Image,
+    job: Job<'a, K>,
+) -> Result<Finished<K, O::Store>, RunFault>
+    requires program { slice_get K.programs job.links.own ≡ Some (program_of image.now) }
+    requires clean { K.OverClean → AreAlwaysClean O.Store.is_clean }
+    ensures end { let l = job.entry.links in
+        IfOk result (λ f. IsEndOf O.Store.is_clean (program_of image.entry.now) l.lines l.own l.n f) }
+    ensures own { IsOwnEnd cluster.now.plan.now job.entry.links.own result }
+{
+    if cluster.opener.resumes() {
+        work_on(cluster, image, job)
+    } else {
+        work_anew(cluster, image, job)
+    }
 }
 
 // The same, and where it ends with a fault, the others are stopped. Whoever follows is told of its end.
@@ -658,6 +726,7 @@ fn run_named<
         shared: &ground.shared,
         stop: &ground.stop,
         returns: &ground.returns,
+        census: &ground.census,
         observers,
         inboxes: &ground.inboxes,
         bells: &ground.bells,

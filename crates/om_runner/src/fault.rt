@@ -20,6 +20,15 @@ pub enum RunFault {
     /// The process was not started, for another cause than a failure of its store: its image, or its store was refused.
     #[error("store fault")]
     Load(Pid),
+    /// Another program has the process's store.
+    #[error("store in use")]
+    StoreInUse(Pid),
+    /// The process's store is of another process, number of processes or program.
+    #[error("another cluster")]
+    AnotherCluster(Pid),
+    /// The process's store holds nothing, while another holds more than its start.
+    #[error("store missing")]
+    StoreMissing(Pid),
     /// A thread could not be made. This is told before any other.
     #[error("no thread")]
     NoThread,

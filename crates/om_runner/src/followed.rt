@@ -146,6 +146,7 @@ fn run_named<
         shared: &ground.shared,
         stop: &ground.stop,
         returns: &ground.returns,
+        census: &ground.census,
         observers: Observers {
             herald: Some(&herald),
             watch: opener.watch(),

@@ -7,6 +7,7 @@ ghost use Rattle.om_runner.specs.steps.Wiring.{IsWired};
 use crate::config::Config;
 use crate::network::{Ends, Network, connected};
 use crate::received::Received;
+use crate::taking_up::Census;
 use om_board::{Bell, Blank, Inbox, Naming, Pass, Shared, ring_all};
 use om_interval::MAX_PROCESSES;
 use om_observers::Observers;
@@ -27,6 +28,8 @@ pub(crate) struct Cluster<'s, K: Naming, R, G, O> {
     pub(crate) stop: &'s AtomicBool,
     // How often processes came up: at their start, and behind each round.
     pub(crate) returns: &'s AtomicU64,
+    // How far they have come that look at their stores, where they are taken up.
+    pub(crate) census: &'s Census,
     // Who observes the run.
     pub(crate) observers: Observers<'s>,
     // By sender, and there by receiver.
@@ -47,6 +50,7 @@ pub(crate) struct Ground<K: Naming> {
     pub(crate) received: Vec<Received>,
     pub(crate) stop: AtomicBool,
     pub(crate) returns: AtomicU64,
+    pub(crate) census: Census,
 }
 
 // Of as many processes as the cell is for; with the passes of each.
@@ -70,6 +74,7 @@ pub(crate) fn ground_of<K: Naming>(
         received: received_of(alloc, n)?,
         stop: AtomicBool::new(false),
         returns: AtomicU64::new(0),
+        census: Census::new(),
     };
     Ok((ground, ends, passes))
 }

@@ -10,10 +10,11 @@
 //!   memory), `watched` (one whose processes are watched), `report`, `fault`
 //! - `cluster`: the threads, from the first store to the report; `network` (the inboxes of all), `settle` (what is left in
 //!   them), `results` (what the workers bring back), `harvest` (the outputs among it)
+//! - `taking_up`: how a process is taken up from what an earlier run left
 //! - `worker`: what a thread does, turn by turn; `barrier` (where it waits until all are up), `idle` and `patience` (how it yields
 //!   and sleeps), `worker_fault` (why it stops)
 //! - what a worker has: `node` (a process over its store), `links` (its ends of inboxes), `received` (what a resend may leave
-//!   out), `manager_link` and `desk` (the manager)
+//!   out), `manager_link` and `desk` (the manager), `keeping` (what its store is given for a run that takes it up)
 //! - `ground`: what all threads have in common
 //! - `followed`, with `follower`, `following` and `lane`: outputs that are told as they are released
 #![tactic(auto)]
@@ -30,6 +31,7 @@ mod ground;
 mod harvest;
 mod idle;
 mod in_memory;
+mod keeping;
 mod lane;
 mod links;
 mod manager_link;
@@ -41,6 +43,7 @@ mod received;
 mod report;
 mod results;
 mod settle;
+mod taking_up;
 mod watched;
 mod worker;
 mod worker_fault;

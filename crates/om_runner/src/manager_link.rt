@@ -4,7 +4,7 @@ ghost use Rattle.std.specs.Prelude.{◌≡◌, ◌<◌, ◌↔◌, ◌⊎◌, []
 ghost use Rattle.om_board.specs.Boards.{IsBoard};
 ghost use Rattle.om_member.specs.Handed.{outputs_from};
 ghost use Rattle.om_runner.specs.steps.Nodes.{AreAlwaysClean};
-ghost use Rattle.om_runner.specs.steps.Acts.{AreAllOf, AreLimits, HasDeclared, HasHandedOver, HasJoined, HasMet, HasOffered, HasPruned, HasRefused, HasReleasedAnother, HasWaited, HasWithdrawn, IsStanding, IsVerdictOf, UnderLock};
+ghost use Rattle.om_runner.specs.steps.Acts.{AreAllOf, AreLimits, HasDeclared, HasHandedOver, HasJoined, HasMet, HasOffered, HasPruned, HasRefused, HasReleasedAnother, HasTakenUp, HasWaited, HasWithdrawn, IsStanding, IsVerdictOf, UnderLock};
 
 use crate::desk::Desk;
 use crate::harvest::Harvest;
@@ -12,9 +12,9 @@ use crate::node::Node;
 use crate::worker_fault::WorkerFault;
 use om_board::{Board, Front, Naming, Pass, Shared};
 use om_interval::{Bounds, Pid, Starts, Verdict};
-use om_member::Office;
+use om_member::{Office, hand_all, tell_all};
 use om_observers::Diary;
-use om_process::{PendingRow, ProcCore};
+use om_process::{Made, PendingRow, ProcCore};
 use om_stable::Stable;
 use std::alloc::Global;
 use std::sync::atomic::Ordering::SeqCst;
@@ -308,6 +308,32 @@ impl<'a, K: Naming> ManagerLink<'a, K> {
         // The look tells what holds of every board.
         let _ = board.manager();
         board.refuse();
+    }
+
+    // Tells the manager what the store of the process held: rows, and released outputs.
+    pub(crate) fn take_up<R: Wait>(
+        &self,
+        rt: &R,
+        alloc: Global,
+        rows: &[PendingRow],
+        outputs: &[Made],
+    ) -> Result<(), WorkerFault>
+        requires { K.OverClean → ⊥ }
+        ensures { OnOk result (UnderLock K.cell.n (λ before after.
+            HasTakenUp before.manager self.now.round self.now.pid rows.now outputs.now after.manager)) }
+    {
+        let mut guard = self.shared.board.lock(rt);
+        let mut desk = Desk {
+            rt,
+            board: &mut *guard,
+            frontier: &self.shared.frontier,
+        };
+        // The look tells what holds of every board.
+        let _ = desk.board.manager();
+        let (_, end) = tell_all(&mut desk, alloc, self.pid, self.round, rows);
+        end?;
+        hand_all(&mut desk, alloc, self.pid, self.round, outputs)?;
+        Ok(())
     }
 
     // Tells the manager that the process failed.

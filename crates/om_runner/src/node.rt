@@ -11,15 +11,18 @@ ghost use Rattle.om_process.specs.Frames.{outputs_of};
 ghost use Rattle.om_process.specs.Images.{program_of};
 ghost use Rattle.om_process.specs.Stores.{flushed};
 ghost use Rattle.om_runner.specs.Reports.{IsWholeRun, nothing};
+ghost use Rattle.om_runner.specs.Stores.{AreNeverClean};
 ghost use Rattle.om_runner.specs.steps.Nodes.{TakesFrom};
 
+use crate::keeping::Deposit;
+use crate::manager_link::Limits;
 use crate::worker_fault::WorkerFault;
 use om_format::Message;
 use om_interval::{Bounds, Pid, Starts, Verdict};
 use om_manager::{OutputError, RecordError};
 use om_member::Office;
 use om_process::{Accept, Down, Image, ProcCore, Ran, StartFault, Status};
-use om_stable::Stable;
+use om_stable::{Ledger, Stable};
 use std::alloc::{AllocError, Global};
 use std::marker::Model;
 
@@ -204,27 +207,6 @@ impl<'a, S: Stable> Node<'a, S> {
         self.core.trim(bounds);
     }
 
-    // Drops what stands in the store before a checkpoint.
-    fn prune(&mut self, alloc: Global, checkpoint: u32) -> Result<(), WorkerFault>
-        ensures { self.new.member ≡ self.old.member }
-    {
-        Ok(self.store.prune(alloc, checkpoint)?)
-    }
-
-    // Drops what neither the process nor its store need keep.
-    pub(crate) fn shed(
-        &mut self,
-        alloc: Global,
-        bounds: &Bounds,
-        checkpoint: u32,
-    ) -> Result<(), WorkerFault>
-        requires { length bounds.now.got ≡ self.old.member.n }
-        ensures { self.new.member ≡ self.old.member }
-    {
-        self.trim(bounds);
-        self.prune(alloc, checkpoint)
-    }
-
     // Goes on after a round that does not roll it back.
     pub(crate) fn resume(
         &mut self,
@@ -277,7 +259,57 @@ impl<'a, S: Stable> Node<'a, S> {
     }
 }
 
+impl<'a, S: Ledger> Node<'a, S> {
+    // Puts into the store what it is given, and drops there what stands before a checkpoint.
+    fn prune(
+        &mut self,
+        alloc: Global,
+        checkpoint: u32,
+        deposit: &Deposit,
+    ) -> Result<(), WorkerFault>
+        ensures { self.new.member ≡ self.old.member }
+    {
+        let (outputs, senders) = (deposit.outputs(), deposit.senders());
+        Ok(self.store.shed(alloc, checkpoint, outputs, senders)?)
+    }
+
+    // Drops what neither the process nor its store need keep, once the store has what it is given.
+    pub(crate) fn shed(
+        &mut self,
+        alloc: Global,
+        limits: &Limits,
+        deposit: &Deposit,
+    ) -> Result<(), WorkerFault>
+        requires { length limits.now.bounds.got ≡ self.old.member.n }
+        ensures { self.new.member ≡ self.old.member }
+    {
+        self.prune(alloc, limits.checkpoint, deposit)?;
+        self.trim(&limits.bounds);
+        Ok(())
+    }
+}
+
 impl<'a, S: Stable> DownNode<'a, S> {
+    // A process that is down over a store of which nothing is known.
+    pub(crate) fn over(
+        alloc: Global,
+        image: &'a Image,
+        pid: Pid,
+        n: usize,
+        store: S,
+    ) -> Result<DownNode<'a, S>, AllocError>
+        requires { AreNeverClean S.is_clean }
+        ensures { IfOk result (λ node. node ≡ record { program = program_of image.entry.now; own = pid; n = n }) }
+    {
+        let store = boxed(alloc, store)?;
+        Ok(DownNode {
+            image,
+            pid,
+            n,
+            store,
+        })
+    }
+
     // Comes back after a round that rolls it back. Its store is cut then.
     #[inline(never)]
     pub(crate) fn come_back(

@@ -1,9 +1,10 @@
 ghost use Rattle.std.specs.Prelude.{◌≡◌, IfOk, IsTrue};
 ghost use Rattle.om_runner.specs.Reports.{nothing};
+ghost use Rattle.om_runner.specs.Stores.{AreNeverClean};
 
 use om_interval::Pid;
 use om_observers::Watch;
-use om_stable::Stable;
+use om_stable::Ledger;
 use std::alloc::Global;
 use thiserror::Error;
 
@@ -22,16 +23,26 @@ pub enum OpenFault {
     /// The store could not be opened, or there was one already.
     #[error("the store was refused")]
     Refused,
+    /// Another program has the store.
+    #[error("the store is in use")]
+    InUse,
 }
 
 /// Makes the store of each process, in the thread that owns it, and says who watches them.
 pub trait Opener<R> {
-    type Store: Stable + Send;
+    type Store: Ledger + Send;
 
-    /// A store for the process that holds nothing yet.
+    /// A store for the process that holds nothing yet; or, where the opener resumes, what an earlier run left of one.
     fn make(&self, rt: &R, alloc: Global, pid: Pid) -> Result<Self::Store, OpenFault>
         ensures sound { IfOk result (λ store. IsTrue (Self.Store.is_clean store) → Self.Store.IsSound store) }
         ensures empty { IfOk result (λ store. IsTrue (Self.Store.is_clean store) → Self.Store.content store ≡ nothing) };
+
+    /// Whether its stores may hold what an earlier run left, which is taken up. Such a store never says that it is clean.
+    fn resumes(&self) -> bool
+        ensures unsure { IsTrue result → AreNeverClean Self.Store.is_clean }
+    {
+        false
+    }
 
     /// Who sees what the processes do while they run, if anybody does.
     fn watch(&self) -> Option<&Watch> {

@@ -53,6 +53,9 @@ fn is_out(fault: RunFault) -> bool
         | RunFault::Memory
         | RunFault::Fault(_)
         | RunFault::Load(_)
+        | RunFault::StoreInUse(_)
+        | RunFault::AnotherCluster(_)
+        | RunFault::StoreMissing(_)
         | RunFault::NoThread => false,
     }
 }

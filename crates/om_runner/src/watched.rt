@@ -19,6 +19,10 @@ impl<'a, R, O: Opener<R>> Opener<R> for Watched<'a, O> {
         self.opener.make(rt, alloc, pid)
     }
 
+    fn resumes(&self) -> bool {
+        self.opener.resumes()
+    }
+
     fn watch(&self) -> Option<&Watch> {
         self.watch
     }

@@ -15,6 +15,7 @@ use crate::barrier::Barrier;
 use crate::config::Config;
 use crate::harvest::Harvest;
 use crate::idle::{Idle, Pause};
+use crate::keeping::{Deposit, Kept};
 use crate::links::Links;
 use crate::manager_link::{Limits, ManagerLink, RoundOutcome, Standing};
 use crate::network::Ends;
@@ -26,7 +27,8 @@ use om_format::Message;
 use om_interval::{Pid, Verdict};
 use om_observers::{Diary, Doing, Observers, Past, Sight, Watch};
 use om_process::{Accept, Status, Witness};
-use om_stable::Stable;
+use om_restart::Found;
+use om_stable::{Ledger, Stable};
 use std::alloc::Global;
 use std::sync::Wait;
 use std::time::Clock;
@@ -115,6 +117,8 @@ pub(crate) struct Worker<'a, K: Naming> {
     // The intervals at which the process is still to fail.
     kills: Vec<u32>,
     past: Past,
+    // How much of that stands in the store, where a run may take it up.
+    kept: Option<Kept>,
     diary: Diary<'a>,
     // Who sees what the process does.
     watch: Option<&'a Watch>,
@@ -159,19 +163,29 @@ fn pause_of<R: Wait + Clock>(
     if is_woken { Pause::Woken } else { Pause::Slept }
 }
 
-// Drops what need not be kept any longer.
-fn shed<'a, S: Stable>(
+// Drops what need not be kept any longer, once the store has what a run needs that takes it up.
+fn shed<'a, S: Ledger>(
     node: &mut Node<'a, S>,
     alloc: Global,
     limits: Option<Limits>,
+    kept: &mut Option<Kept>,
+    senders: &[u8],
 ) -> Result<(), WorkerFault>
     requires { IfSome limits (λ l. length l.bounds.got ≡ node.old.member.n) }
     ensures { node.new.member ≡ node.old.member }
 {
-    match limits {
-        Some(limits) => node.shed(alloc, &limits.bounds, limits.checkpoint),
-        None => Ok(()),
+    let Some(limits) = limits else {
+        return Ok(());
+    };
+    let deposit = match kept {
+        Some(kept) => kept.deposit(alloc, node.core(), &limits, senders)?,
+        None => Deposit::none(alloc),
+    };
+    node.shed(alloc, &limits, &deposit)?;
+    if let Some(kept) = kept {
+        kept.add(&deposit);
     }
+    Ok(())
 }
 
 // The process after a finished round: as it was, or rolled back.
@@ -221,6 +235,7 @@ impl<'a, K: Naming> Worker<'a, K> {
             barrier,
             kills,
             past: Past::new(alloc, observers.keeps_witness),
+            kept: None,
             diary: Diary::new(alloc, own, observers),
             watch: observers.watch,
             idle: Idle::new(),
@@ -235,6 +250,38 @@ impl<'a, K: Naming> Worker<'a, K> {
         ensures { result ≡ self.now.links.own }
     {
         self.manager_link.pid
+    }
+
+    // The number of processes.
+    pub(crate) fn n(&self) -> usize
+        ensures { result ≡ K.cell.n }
+    {
+        self.links.n()
+    }
+
+    // Wakes the workers of all processes.
+    pub(crate) fn wake_all(&self) {
+        self.links.wake_all();
+    }
+
+    // Goes on from what was found in the store of the process, once the manager is told of it.
+    pub(crate) fn take_up<R: Wait>(
+        &mut self,
+        rt: &R,
+        alloc: Global,
+        found: Found,
+    ) -> Result<(), WorkerFault>
+        requires { K.OverClean → ⊥ }
+        ensures same { self.new.links ≡ self.old.links }
+    {
+        self.manager_link
+            .take_up(rt, alloc, &found.rows, &found.outputs)?;
+        self.kept = Some(Kept {
+            outputs: found.outputs.len() as u64,
+            senders: found.kept,
+        });
+        self.past = Past::taken_up(found.senders);
+        Ok(())
     }
 
     // How many turns the last one counts as beside itself.
@@ -301,7 +348,7 @@ impl<'a, K: Naming> Worker<'a, K> {
     // One turn. Nothing that moves the process is inlined, here and below: a process over a large store is moved a field at a
     // time where several moves stand in one function, which then takes the compiler minutes.
     #[inline(never)]
-    fn turn<S: Stable, R: Wait + Clock>(
+    fn turn<S: Ledger, R: Wait + Clock>(
         &mut self,
         rt: &R,
         alloc: Global,
@@ -329,7 +376,7 @@ impl<'a, K: Naming> Worker<'a, K> {
 
     // One turn, at whose end whoever watches sees what the process does.
     #[inline(never)]
-    pub(crate) fn shown_turn<S: Stable, R: Wait + Clock>(
+    pub(crate) fn shown_turn<S: Ledger, R: Wait + Clock>(
         &mut self,
         rt: &R,
         alloc: Global,
@@ -375,7 +422,7 @@ impl<'a, K: Naming> Worker<'a, K> {
 
     // A turn of a process that is up: it runs, where all are.
     #[inline(never)]
-    fn go_on<S: Stable, R: Wait + Clock>(
+    fn go_on<S: Ledger, R: Wait + Clock>(
         &mut self,
         rt: &R,
         alloc: Global,
@@ -404,7 +451,7 @@ impl<'a, K: Naming> Worker<'a, K> {
 
     // Runs the process, hands in what it has, and takes a message where it waits for one.
     #[inline(never)]
-    fn advance<S: Stable, R: Wait + Clock>(
+    fn advance<S: Ledger, R: Wait + Clock>(
         &mut self,
         rt: &R,
         alloc: Global,
@@ -461,7 +508,7 @@ impl<'a, K: Naming> Worker<'a, K> {
     }
 
     // Hands in what the process has, where there is something to hand in or to learn, and says how the manager stands.
-    fn report<S: Stable, R: Wait>(
+    fn report<S: Ledger, R: Wait>(
         &mut self,
         rt: &R,
         alloc: Global,
@@ -489,7 +536,7 @@ impl<'a, K: Naming> Worker<'a, K> {
         let (standing, limits) = self
             .manager_link
             .meet(rt, alloc, node, ended, is_patient, &mut self.diary)?;
-        shed(node, alloc, limits)?;
+        shed(node, alloc, limits, &mut self.kept, self.past.senders())?;
         Ok(standing)
     }
 
@@ -633,7 +680,7 @@ impl<'a, K: Naming> Worker<'a, K> {
     }
 
     // A turn in which nothing happens to a process that is in, or down.
-    fn doze<R: Wait + Clock>(&mut self, rt: &R)
+    pub(crate) fn doze<R: Wait + Clock>(&mut self, rt: &R)
         ensures same { self.new.links ≡ self.old.links }
     {
         let pause = pause_of(rt, &self.links, &self.idle, &mut self.patience);
@@ -658,6 +705,10 @@ impl<'a, K: Naming> Worker<'a, K> {
             node.flush(alloc)?;
         }
         if is_multiple(x, self.plan.checkpoint) {
+            if self.kept.is_some() {
+                // The senders of the receipts before a checkpoint are read from their records.
+                node.flush(alloc)?;
+            }
             node.checkpoint(alloc)?;
         }
         Ok(Step::Up)

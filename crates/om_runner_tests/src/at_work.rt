@@ -3,7 +3,7 @@ use crate::rows::is_set;
 use om_interval::Pid;
 use om_process::Status;
 use om_runner::{Config, OpenFault, Opener, Report, run_cluster};
-use om_stable::{FuseStable, MemStable, Stable, Stop, StoreError};
+use om_stable::{FuseStable, Ledger, LedgerRows, LedgerTable, MemStable, Stable, Stop, StoreError};
 use std::alloc::Global;
 use std::process::Abort;
 use std::sync::Wait;
@@ -80,6 +80,46 @@ impl<'a> Stable for Meets<'a> {
 
     fn failures(&self) -> u64 {
         self.inner.failures()
+    }
+}
+
+// It keeps nothing beside its records.
+impl<'a> Ledger for Meets<'a> {
+    ghost use Rattle.std.specs.Prelude.{false, refl};
+    ghost use Rattle.om_stable.specs.Ledger.{blank};
+
+    ghost ledger = { λ _. blank };
+
+    ghost keeps = { λ _. false };
+
+    ghost stays = { λ old new error clean gives. refl };
+
+    fn put_in(
+        &mut self,
+        alloc: Global,
+        table: LedgerTable,
+        first: u64,
+        recs: &[Vec<u8>],
+    ) -> Result<(), StoreError> {
+        self.inner.put_in(alloc, table, first, recs)
+    }
+
+    fn all_in(
+        &mut self,
+        alloc: Global,
+        table: LedgerTable,
+    ) -> Result<Vec<(u64, Vec<u8>)>, StoreError> {
+        self.inner.all_in(alloc, table)
+    }
+
+    fn shed(
+        &mut self,
+        alloc: Global,
+        c: u32,
+        outputs: LedgerRows<'_>,
+        senders: LedgerRows<'_>,
+    ) -> Result<(), StoreError> {
+        self.inner.shed(alloc, c, outputs, senders)
     }
 }
 

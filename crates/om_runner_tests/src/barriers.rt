@@ -1,7 +1,7 @@
 use crate::clusters::{Always, assert_ring, ring};
 use om_interval::Pid;
 use om_runner::{Act, Config, OpenFault, Opener, Record, Recorder, Report, run_and_record};
-use om_stable::{MemStable, Stable, StoreError};
+use om_stable::{Ledger, LedgerRows, LedgerTable, MemStable, Stable, StoreError};
 use std::alloc::Global;
 use std::process::Abort;
 use std::sync::Wait;
@@ -97,6 +97,46 @@ impl<'a, R: Clock> Stable for Paced<'a, R> {
 
     fn failures(&self) -> u64 {
         self.inner.failures()
+    }
+}
+
+// It keeps nothing beside its records.
+impl<'a, R: Clock> Ledger for Paced<'a, R> {
+    ghost use Rattle.std.specs.Prelude.{false, refl};
+    ghost use Rattle.om_stable.specs.Ledger.{blank};
+
+    ghost ledger = { λ _. blank };
+
+    ghost keeps = { λ _. false };
+
+    ghost stays = { λ old new error clean gives. refl };
+
+    fn put_in(
+        &mut self,
+        alloc: Global,
+        table: LedgerTable,
+        first: u64,
+        recs: &[Vec<u8>],
+    ) -> Result<(), StoreError> {
+        self.inner.put_in(alloc, table, first, recs)
+    }
+
+    fn all_in(
+        &mut self,
+        alloc: Global,
+        table: LedgerTable,
+    ) -> Result<Vec<(u64, Vec<u8>)>, StoreError> {
+        self.inner.all_in(alloc, table)
+    }
+
+    fn shed(
+        &mut self,
+        alloc: Global,
+        c: u32,
+        outputs: LedgerRows<'_>,
+        senders: LedgerRows<'_>,
+    ) -> Result<(), StoreError> {
+        self.inner.shed(alloc, c, outputs, senders)
     }
 }
 

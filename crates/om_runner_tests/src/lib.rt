@@ -14,6 +14,8 @@ mod inboxes;
 #[cfg(test)]
 mod resends;
 #[cfg(test)]
+mod restarts;
+#[cfg(test)]
 mod rows;
 #[cfg(test)]
 mod threads;

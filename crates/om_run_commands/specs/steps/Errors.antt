@@ -13,6 +13,9 @@ error_of_run (running.GateShut pid) = GateShut
 error_of_run running.Memory = NoMemory
 error_of_run (running.Fault pid) = StoreFault
 error_of_run (running.Load pid) = StoreFault
+error_of_run (running.StoreInUse pid) = StoreFault
+error_of_run (running.AnotherCluster pid) = StoreFault
+error_of_run (running.StoreMissing pid) = StoreFault
 error_of_run running.NoThread = NoThread
 
 -- the run without failures was not played: its witnesses name none, or memory ran out

@@ -10,7 +10,7 @@ use Rattle.om_runner.specs.Reports.{IsWholeRun, process_of}
 use Rattle.om_process.specs.Core.{IsEnd}
 use Rattle.om_runner.specs.declared.config.Config.{Config}
 use Rattle.om_runner.specs.declared.fault.RunFault.{RunFault}
-use Rattle.om_runner.specs.declared.fault.RunFault.TheVariants.{Turns, GateShut, Memory, Fault, Load, NoThread}
+use Rattle.om_runner.specs.declared.fault.RunFault.TheVariants.{Turns, GateShut, Memory, Fault, Load, StoreInUse, AnotherCluster, StoreMissing, NoThread}
 use Rattle.om_runner.specs.declared.cluster.EndOf.{EndOf}
 use Rattle.om_runner.specs.declared.results.Finished.{Finished}
 use Rattle.om_runner.specs.declared.cluster.Turned.{Turned}
@@ -93,6 +93,9 @@ IsOut (Turns pid) = Unit {0}
 IsOut (GateShut pid) = ⊥
 IsOut (Fault pid) = ⊥
 IsOut (Load pid) = ⊥
+IsOut (StoreInUse pid) = ⊥
+IsOut (AnotherCluster pid) = ⊥
+IsOut (StoreMissing pid) = ⊥
 IsOut Memory = ⊥
 IsOut NoThread = ⊥
 

@@ -1,0 +1,160 @@
+//! What a store is given beside its records, for a run that takes it up after a crash of the whole program.
+
+ghost use Rattle.std.specs.Prelude.{◌≡◌, ◌+◌, ◌≤◌, IfOk, length};
+ghost use Rattle.om_stable.specs.declared.ledger.TheConstants.{LEDGER_NUMBERS};
+
+use crate::manager_link::Limits;
+use crate::worker_fault::WorkerFault;
+use om_process::{Made, ProcCore};
+use om_restart::output_record;
+use om_stable::{LEDGER_NUMBERS, LedgerRows};
+use std::alloc::{AllocError, Global};
+
+// Rows for a further table of a store, from a number on.
+#[derive(Drop)]
+struct NewRows {
+    first: u64,
+    recs: Vec<Vec<u8>>,
+    ghost room: { first + length recs.items ≤ LEDGER_NUMBERS },
+}
+
+impl NewRows {
+    // No rows.
+    fn none(alloc: Global) -> NewRows {
+        NewRows {
+            first: 0,
+            recs: Vec::new(alloc),
+        }
+    }
+
+    // These rows, where the table has their numbers.
+    fn of(first: u64, recs: Vec<Vec<u8>>) -> Result<NewRows, WorkerFault>
+        ensures { IfOk result (λ rows. (rows.first ≡ first) × (rows.recs ≡ recs)) }
+    {
+        let room = LEDGER_NUMBERS.saturating_sub(first);
+        if first > LEDGER_NUMBERS || recs.len() as u64 > room {
+            return Err(WorkerFault::Refused);
+        }
+        Ok(NewRows { first, recs })
+    }
+
+    // As a store is given them.
+    fn rows(&self) -> LedgerRows<'_>
+        ensures { result.first + length result.recs.now ≤ LEDGER_NUMBERS }
+    {
+        LedgerRows {
+            first: self.first,
+            recs: &self.recs,
+        }
+    }
+}
+
+// What is put into a store before it is pruned.
+#[derive(Drop)]
+pub(crate) struct Deposit {
+    outputs: NewRows,
+    senders: NewRows,
+    // Of how many receipts the senders are known to the store then.
+    known: usize,
+}
+
+impl Deposit {
+    // Nothing.
+    pub(crate) fn none(alloc: Global) -> Deposit {
+        Deposit {
+            outputs: NewRows::none(alloc),
+            senders: NewRows::none(alloc),
+            known: 0,
+        }
+    }
+
+    // The outputs.
+    pub(crate) fn outputs(&self) -> LedgerRows<'_>
+        ensures { result.first + length result.recs.now ≤ LEDGER_NUMBERS }
+    {
+        self.outputs.rows()
+    }
+
+    // The senders of receipts.
+    pub(crate) fn senders(&self) -> LedgerRows<'_>
+        ensures { result.first + length result.recs.now ≤ LEDGER_NUMBERS }
+    {
+        self.senders.rows()
+    }
+}
+
+// How much of what a process did stands in its store beside the records. What stands there is never rolled back.
+#[derive(Clone, Copy)]
+pub(crate) struct Kept {
+    // The number of the output behind those of the table.
+    pub(crate) outputs: u64,
+    // Of how many receipts the senders stand there.
+    pub(crate) senders: usize,
+}
+
+impl Kept {
+    // What the store has not yet of the outputs that are released, and of the senders of the receipts up to a checkpoint.
+    pub(crate) fn deposit(
+        &self,
+        alloc: Global,
+        core: &ProcCore,
+        limits: &Limits,
+        senders: &[u8],
+    ) -> Result<Deposit, WorkerFault> {
+        let outputs = released_rows(
+            alloc,
+            core.outputs_from(self.outputs),
+            limits.bounds.released,
+        )?;
+        let known = senders.len().min(limits.checkpoint as usize);
+        Ok(Deposit {
+            outputs,
+            senders: sender_rows(alloc, senders, self.senders, known)?,
+            known,
+        })
+    }
+
+    // The store has what it was given.
+    pub(crate) fn add(&mut self, deposit: &Deposit) {
+        if !deposit.outputs.recs.is_empty() {
+            self.outputs = deposit
+                .outputs
+                .first
+                .saturating_add(deposit.outputs.recs.len() as u64);
+        }
+        self.senders = self.senders.max(deposit.known);
+    }
+}
+
+// The rows of those of the outputs that are released.
+fn released_rows(alloc: Global, outputs: &[Made], released: u64) -> Result<NewRows, WorkerFault> {
+    let mut recs = Vec::new(alloc);
+    for output in outputs {
+        if output.seq < released {
+            recs.push(output_record(alloc, output)?)
+                .map_err(AllocError::from)?;
+        }
+    }
+    let first = match outputs.first() {
+        Some(output) => output.seq,
+        None => 0,
+    };
+    NewRows::of(first, recs)
+}
+
+// The row of the senders from a number of receipts on, up to another.
+fn sender_rows(
+    alloc: Global,
+    senders: &[u8],
+    from: usize,
+    to: usize,
+) -> Result<NewRows, WorkerFault>
+    requires { to ≤ length senders.now }
+{
+    let mut recs = Vec::new(alloc);
+    if from < to {
+        recs.push(Vec::from_slice(alloc, &senders[from..to])?)
+            .map_err(AllocError::from)?;
+    }
+    NewRows::of(from as u64, recs)
+}

@@ -1,0 +1,419 @@
+ghost use Rattle.std.specs.Prelude.{◌≡◌, ◌≢◌, ◌≤◌, Err, IsErrOf};
+ghost use Rattle.om_stable.specs.Count.{Rose};
+
+use crate::clusters::{Always, RING, assert_ring, images, ring};
+use om_interval::Pid;
+use om_process::Witness;
+use om_runner::{Config, OpenFault, Opener, Report, RunFault, run_and_keep_witnesses};
+use om_stable::{Ledger, LedgerRows, LedgerTable, MemLedger, Stable, StoreError};
+use std::alloc::Global;
+use std::process::Abort;
+use std::sync::atomic::AtomicU64;
+use std::sync::atomic::Ordering::SeqCst;
+use std::sync::{Mutex, MutexGuard, Wait};
+use std::thread::Threads;
+use std::time::Clock;
+
+// How many calls of its stores a run has that nothing stops.
+const ALL: u64 = 1_000_000_000;
+
+// The stores of a cluster, which outlive its runs, and how many calls of them pass before the program is stopped.
+#[derive(Drop)]
+struct Shelf {
+    stores: Vec<Mutex<MemLedger>>,
+    calls: AtomicU64,
+}
+
+// One of them, as a run has it. Nothing is said of what it holds.
+#[derive(Drop)]
+struct Left<'a> {
+    store: &'a Mutex<MemLedger>,
+    calls: &'a AtomicU64,
+    failures: u64,
+}
+
+// Counts a fault.
+fn told<T>(failures: &mut u64, answer: Result<T, StoreError>) -> Result<T, StoreError>
+    ensures fault { IsErrOf result StoreError.Fault → Rose failures.old failures.new }
+    ensures count { failures.old ≤ failures.new }
+    ensures same { result ≡ answer }
+{
+    if let Err(StoreError::Fault) = &answer {
+        *failures = failures.saturating_add(1);
+    }
+    answer
+}
+
+impl<'a> Left<'a> {
+    // The store, for a call that passes: none does once the program is stopped.
+    fn open(&self) -> Result<MutexGuard<'a, MemLedger>, StoreError>
+        ensures { result ≢ Err StoreError.Present }
+    {
+        let left = self.calls.load(SeqCst);
+        self.calls.store(left.saturating_sub(1), SeqCst);
+        if left == 0 {
+            return Err(StoreError::Fault);
+        }
+        match self.store.try_lock() {
+            Some(store) => Ok(store),
+            None => Err(StoreError::Memory),
+        }
+    }
+}
+
+impl<'a> Stable for Left<'a> {
+    ghost use Rattle.std.specs.Prelude.{false};
+    ghost use Rattle.om_stable.specs.Content.{nothing};
+
+    ghost content = { λ _. nothing };
+
+    ghost failed = { λ s. s.failures };
+
+    ghost is_clean = { λ _. false };
+
+    ghost IsSound = { λ _. Unit {0} };
+
+    ghost call_gives = { λ _ _ _. Unit {0} };
+
+    fn put_receipts(
+        &mut self,
+        alloc: Global,
+        first: u32,
+        recs: &[Vec<u8>],
+    ) -> Result<(), StoreError> {
+        let answer = match self.open() {
+            Ok(mut store) => store.put_receipts(alloc, first, recs),
+            Err(error) => Err(error),
+        };
+        told(&mut self.failures, answer)
+    }
+
+    fn put_checkpoint(&mut self, alloc: Global, x: u32, bytes: &[u8]) -> Result<(), StoreError> {
+        let answer = match self.open() {
+            Ok(mut store) => store.put_checkpoint(alloc, x, bytes),
+            Err(error) => Err(error),
+        };
+        told(&mut self.failures, answer)
+    }
+
+    fn effective(&mut self, alloc: Global, x: u32) -> Result<Option<(u32, Vec<u8>)>, StoreError> {
+        let answer = match self.open() {
+            Ok(mut store) => store.effective(alloc, x),
+            Err(error) => Err(error),
+        };
+        told(&mut self.failures, answer)
+    }
+
+    fn receipts(
+        &mut self,
+        alloc: Global,
+        after: u32,
+        to: u32,
+    ) -> Result<Vec<(u32, Vec<u8>)>, StoreError> {
+        let answer = match self.open() {
+            Ok(mut store) => store.receipts(alloc, after, to),
+            Err(error) => Err(error),
+        };
+        told(&mut self.failures, answer)
+    }
+
+    fn cut(&mut self, alloc: Global, r: u32) -> Result<(), StoreError> {
+        let answer = match self.open() {
+            Ok(mut store) => store.cut(alloc, r),
+            Err(error) => Err(error),
+        };
+        told(&mut self.failures, answer)
+    }
+
+    fn prune(&mut self, alloc: Global, c: u32) -> Result<(), StoreError> {
+        let answer = match self.open() {
+            Ok(mut store) => store.prune(alloc, c),
+            Err(error) => Err(error),
+        };
+        told(&mut self.failures, answer)
+    }
+
+    fn failures(&self) -> u64 {
+        self.failures
+    }
+}
+
+impl<'a> Ledger for Left<'a> {
+    ghost use Rattle.std.specs.Prelude.{true, refl};
+    ghost use Rattle.om_stable.specs.Ledger.{blank};
+
+    ghost ledger = { λ _. blank };
+
+    ghost keeps = { λ _. true };
+
+    ghost stays = { λ old new error clean gives. refl };
+
+    fn put_in(
+        &mut self,
+        alloc: Global,
+        table: LedgerTable,
+        first: u64,
+        recs: &[Vec<u8>],
+    ) -> Result<(), StoreError> {
+        let answer = match self.open() {
+            Ok(mut store) => store.put_in(alloc, table, first, recs),
+            Err(error) => Err(error),
+        };
+        told(&mut self.failures, answer)
+    }
+
+    fn all_in(
+        &mut self,
+        alloc: Global,
+        table: LedgerTable,
+    ) -> Result<Vec<(u64, Vec<u8>)>, StoreError> {
+        let answer = match self.open() {
+            Ok(mut store) => store.all_in(alloc, table),
+            Err(error) => Err(error),
+        };
+        told(&mut self.failures, answer)
+    }
+
+    fn shed(
+        &mut self,
+        alloc: Global,
+        c: u32,
+        outputs: LedgerRows<'_>,
+        senders: LedgerRows<'_>,
+    ) -> Result<(), StoreError> {
+        let answer = match self.open() {
+            Ok(mut store) => store.shed(alloc, c, outputs, senders),
+            Err(error) => Err(error),
+        };
+        told(&mut self.failures, answer)
+    }
+}
+
+// Makes stores of what stands on a shelf.
+#[derive(Drop)]
+struct OnShelf<'a> {
+    shelf: &'a Shelf,
+}
+
+impl<'a, R> Opener<R> for OnShelf<'a> {
+    type Store = Left<'a>;
+
+    fn make(&self, _rt: &R, _alloc: Global, pid: Pid) -> Result<Left<'a>, OpenFault> {
+        match self.shelf.stores.get(pid.index()) {
+            Some(store) => Ok(Left {
+                store,
+                calls: &self.shelf.calls,
+                failures: 0,
+            }),
+            None => Err(OpenFault::Refused),
+        }
+    }
+
+    fn resumes(&self) -> bool {
+        true
+    }
+}
+
+// So many stores that hold nothing.
+fn blank_shelf(rt: &impl Abort, alloc: Global, n: usize) -> Shelf {
+    let mut stores = Vec::new(alloc);
+    for _ in 0..n {
+        let store = Mutex::new(MemLedger::new(alloc));
+        stores.push(store).expect(rt, "memory");
+    }
+    Shelf {
+        stores,
+        calls: AtomicU64::new(ALL),
+    }
+}
+
+// A run over a shelf, which is stopped after so many calls.
+fn run<R: Threads + Wait + Clock + Abort + Sync>(
+    rt: &R,
+    alloc: Global,
+    config: &Config,
+    shelf: &Shelf,
+    calls: u64,
+) -> Result<(Report, Vec<Witness>), RunFault> {
+    assert!(rt; 1 <= config.images.len() && config.images.len() <= 16);
+    shelf.calls.store(calls, SeqCst);
+    let opener = OnShelf { shelf };
+    run_and_keep_witnesses(rt, alloc, config, &Always(true), &opener)
+}
+
+// Whether all six messages that a process received are from this one.
+fn are_all_from(witness: &Witness, before: u32) -> bool {
+    witness.senders.len() == 6 && witness.senders.iter().all(|from| u32::from(*from) == before)
+}
+
+// A run over a shelf to its end: the outputs and the codes are those of a ring of so many, and each process received all from the
+// one before it.
+fn assert_run<R: Threads + Wait + Clock + Abort + Sync>(
+    rt: &R,
+    alloc: Global,
+    config: &Config,
+    shelf: &Shelf,
+    n: u32,
+) {
+    let (report, witnesses) = run(rt, alloc, config, shelf, ALL).expect(rt, "a report");
+    assert_ring(rt, n, &report);
+    drop(report);
+    let mut before = n.saturating_sub(1);
+    for p in 0..n {
+        let is_all = witnesses
+            .get(p as usize)
+            .is_some_and(|witness| are_all_from(witness, before));
+        assert!(rt; is_all, "{p}");
+        before = p;
+    }
+    drop(witnesses);
+}
+
+// A ring that is stopped after so many calls, and after so many of its restart, and then taken up.
+fn assert_taken_up<R: Threads + Wait + Clock + Abort + Sync>(
+    rt: &R,
+    alloc: Global,
+    config: &Config,
+    n: u32,
+    calls: (u64, u64),
+) {
+    let shelf = blank_shelf(rt, alloc, n as usize);
+    drop(run(rt, alloc, config, &shelf, calls.0));
+    drop(run(rt, alloc, config, &shelf, calls.1));
+    assert_run(rt, alloc, config, &shelf, n);
+    assert_run(rt, alloc, config, &shelf, n);
+}
+
+// A ring of three whose stores have some sixty calls is stopped after each of them.
+#[test]
+fn a_ring_that_was_stopped_goes_on(rt: HostRuntime) {
+    let config = ring(&rt, rt.alloc(), 3, &[(1, 3)]);
+    for calls in 0..80u64 {
+        assert_taken_up(&rt, rt.alloc(), &config, 3, (calls, calls));
+    }
+    drop(config);
+}
+
+#[test]
+fn a_restart_that_was_stopped_goes_on(rt: HostRuntime) {
+    let mut config = ring(&rt, rt.alloc(), 3, &[]);
+    config.flush = 1;
+    config.checkpoint = 2;
+    for calls in 0..15u64 {
+        assert_taken_up(&rt, rt.alloc(), &config, 3, (60, calls * 2));
+        assert_taken_up(&rt, rt.alloc(), &config, 3, (calls * 5, 24));
+    }
+    drop(config);
+}
+
+// A first start that resumes is a run like another, whatever fails in it.
+#[test]
+fn a_first_start_is_a_run(rt: HostRuntime) {
+    let config = ring(&rt, rt.alloc(), 8, &[(3, 3), (5, 5)]);
+    let shelf = blank_shelf(&rt, rt.alloc(), 8);
+    assert_run(&rt, rt.alloc(), &config, &shelf, 8);
+    drop(config);
+    drop(shelf);
+}
+
+// How many records and checkpoints the stores of a shelf hold: how many receipts, and the newest checkpoint.
+fn held(rt: &impl Abort, alloc: Global, shelf: &Shelf) -> Vec<(usize, Option<u32>)> {
+    let mut all = Vec::new(alloc);
+    for store in &shelf.stores {
+        let mut store = store.try_lock().expect(rt, "a store");
+        let receipts = store.receipts(alloc, 0, u32::MAX).expect(rt, "receipts");
+        let newest = store.effective(alloc, u32::MAX).expect(rt, "a look");
+        let newest = newest.map(|(x, _)| x);
+        all.push((receipts.len(), newest)).expect(rt, "memory");
+    }
+    all
+}
+
+// A run over a shelf is refused with this fault, and the stores hold what they held.
+fn assert_refused<R: Threads + Wait + Clock + Abort + Sync>(
+    rt: &R,
+    alloc: Global,
+    config: &Config,
+    shelf: &Shelf,
+    fault: RunFault,
+) {
+    let before = held(rt, alloc, shelf);
+    let told = run(rt, alloc, config, shelf, ALL).err();
+    assert!(rt; told == Some(fault), "{told:?}");
+    let after = held(rt, alloc, shelf);
+    let is_same = before == after;
+    drop(before);
+    drop(after);
+    assert!(rt; is_same);
+}
+
+// A shelf of a ring of three that was stopped after so many calls.
+fn stopped<R: Threads + Wait + Clock + Abort + Sync>(
+    rt: &R,
+    alloc: Global,
+    config: &Config,
+    calls: u64,
+) -> Shelf {
+    let shelf = blank_shelf(rt, alloc, 3);
+    drop(run(rt, alloc, config, &shelf, calls));
+    shelf
+}
+
+#[test]
+fn a_store_that_was_lost_is_missed(rt: HostRuntime) {
+    let config = ring(&rt, rt.alloc(), 3, &[]);
+    let mut shelf = stopped(&rt, rt.alloc(), &config, 60);
+    let lost = shelf.stores.get_mut(1).expect(&rt, "a store");
+    *lost = Mutex::new(MemLedger::new(rt.alloc()));
+    assert_refused(
+        &rt,
+        rt.alloc(),
+        &config,
+        &shelf,
+        RunFault::StoreMissing(Pid::at(1)),
+    );
+    drop(shelf);
+    drop(config);
+}
+
+// Of a ring of two, or of three with more memory.
+#[test]
+fn stores_of_another_cluster_are_refused(rt: HostRuntime) {
+    let config = ring(&rt, rt.alloc(), 3, &[]);
+    let shelf = stopped(&rt, rt.alloc(), &config, 60);
+    let fault = RunFault::AnotherCluster(Pid::at(0));
+    let two = ring(&rt, rt.alloc(), 2, &[]);
+    assert_refused(&rt, rt.alloc(), &two, &shelf, fault);
+    drop(two);
+    let mut greater = config;
+    greater.images = images(&rt, rt.alloc(), 3, &RING, 1_024);
+    assert_refused(&rt, rt.alloc(), &greater, &shelf, fault);
+    drop(greater);
+    drop(shelf);
+}
+
+// A receipt that is none stands behind all that process 2 stored.
+#[test]
+fn a_damaged_store_is_refused(rt: HostRuntime) {
+    let config = ring(&rt, rt.alloc(), 3, &[]);
+    let shelf = stopped(&rt, rt.alloc(), &config, 60);
+    let store = shelf.stores.get(2).expect(&rt, "a store");
+    let mut record = Vec::new(rt.alloc());
+    record
+        .push(Vec::from_slice(rt.alloc(), b"none").expect(&rt, "memory"))
+        .expect(&rt, "memory");
+    let mut open = store.try_lock().expect(&rt, "a store");
+    let put = open.put_receipts(rt.alloc(), 100, &record);
+    drop(open);
+    drop(record);
+    assert!(&rt; put.is_ok());
+    assert_refused(
+        &rt,
+        rt.alloc(),
+        &config,
+        &shelf,
+        RunFault::Fault(Pid::at(2)),
+    );
+    drop(shelf);
+    drop(config);
+}
