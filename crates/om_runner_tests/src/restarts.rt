@@ -243,7 +243,11 @@ fn run<R: Threads + Wait + Clock + Abort + Sync>(
 
 // Whether all six messages that a process received are from this one.
 fn are_all_from(witness: &Witness, before: u32) -> bool {
-    witness.senders.len() == 6 && witness.senders.iter().all(|from| u32::from(*from) == before)
+    witness.senders.len() == 6
+        && witness
+            .senders
+            .iter()
+            .all(|from| u32::from(*from) == before)
 }
 
 // A run over a shelf to its end: the outputs and the codes are those of a ring of so many, and each process received all from the
@@ -335,11 +339,12 @@ fn assert_refused<R: Threads + Wait + Clock + Abort + Sync>(
     alloc: Global,
     config: &Config,
     shelf: &Shelf,
-    fault: RunFault,
+    fault: &RunFault,
 ) {
     let before = held(rt, alloc, shelf);
     let told = run(rt, alloc, config, shelf, ALL).err();
-    assert!(rt; told == Some(fault), "{told:?}");
+    let is_told = told.as_ref() == Some(fault);
+    assert!(rt; is_told, "{told:?}");
     let after = held(rt, alloc, shelf);
     let is_same = before == after;
     drop(before);
@@ -370,10 +375,23 @@ fn a_store_that_was_lost_is_missed(rt: HostRuntime) {
         rt.alloc(),
         &config,
         &shelf,
-        RunFault::StoreMissing(Pid::at(1)),
+        &RunFault::StoreMissing(Pid::at(1)),
     );
     drop(shelf);
     drop(config);
+}
+
+// A ring of three whose processes have twice the memory.
+fn with_more_memory(rt: &impl Abort, alloc: Global) -> Config {
+    Config {
+        images: images(rt, alloc, 3, &RING, 1_024),
+        kills: Vec::new(alloc),
+        flush: 2,
+        checkpoint: 3,
+        fuel: 1_000,
+        turns: 50_000_000,
+        gate_turns: 1,
+    }
 }
 
 // Of a ring of two, or of three with more memory.
@@ -383,11 +401,11 @@ fn stores_of_another_cluster_are_refused(rt: HostRuntime) {
     let shelf = stopped(&rt, rt.alloc(), &config, 60);
     let fault = RunFault::AnotherCluster(Pid::at(0));
     let two = ring(&rt, rt.alloc(), 2, &[]);
-    assert_refused(&rt, rt.alloc(), &two, &shelf, fault);
+    assert_refused(&rt, rt.alloc(), &two, &shelf, &fault);
     drop(two);
-    let mut greater = config;
-    greater.images = images(&rt, rt.alloc(), 3, &RING, 1_024);
-    assert_refused(&rt, rt.alloc(), &greater, &shelf, fault);
+    drop(config);
+    let greater = with_more_memory(&rt, rt.alloc());
+    assert_refused(&rt, rt.alloc(), &greater, &shelf, &fault);
     drop(greater);
     drop(shelf);
 }
@@ -412,7 +430,7 @@ fn a_damaged_store_is_refused(rt: HostRuntime) {
         rt.alloc(),
         &config,
         &shelf,
-        RunFault::Fault(Pid::at(2)),
+        &RunFault::Fault(Pid::at(2)),
     );
     drop(shelf);
     drop(config);
