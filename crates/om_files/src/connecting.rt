@@ -28,11 +28,24 @@ impl<R, C: Connects> Opener<R> for InTables<C> {
     type Store = SqlStable<C::Disk>;
 
     fn make(&self, _rt: &R, alloc: Global, pid: Pid) -> Result<SqlStable<C::Disk>, OpenFault> {
-        let conn = self.connects.connect(alloc, pid)?;
+        let conn = match self.connects.connect(alloc, pid) {
+            Ok(conn) => conn,
+            Err(fault) => return Err(made_anew(fault)),
+        };
         match SqlStable::create(alloc, conn) {
             Ok(store) => Ok(store),
             Err((error, _conn)) => Err(refusal_of(error)),
         }
+    }
+}
+
+// Why no store is made anew where its database is not opened: whoever else has it came between.
+fn made_anew(fault: OpenFault) -> OpenFault
+    ensures { (result ≡ OpenFault.Memory) ↔ (fault ≡ OpenFault.Memory) }
+{
+    match fault {
+        OpenFault::Memory => OpenFault::Memory,
+        OpenFault::Refused | OpenFault::InUse => OpenFault::Refused,
     }
 }
 

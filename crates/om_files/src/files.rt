@@ -84,6 +84,7 @@ fn refused(error: &OpenError, note: Option<&Note>) -> OpenFault {
             }
             OpenFault::Refused
         }
-        OpenError::Busy | OpenError::HotJournal => OpenFault::Refused,
+        OpenError::Busy => OpenFault::InUse,
+        OpenError::HotJournal => OpenFault::Refused,
     }
 }

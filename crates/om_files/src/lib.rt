@@ -3,7 +3,8 @@
 //! What the files hold is trusted to the system and to SQLite's log; what a connection to them answers is not: every clause
 //! stands over any disk.
 //!
-//! - `connecting`: who opens the databases of a cluster, and the stores that are made in their tables
+//! - `connecting`: who opens the databases of a cluster, and the stores that are made in their tables; `resuming`: stores that an
+//!   earlier run may have left
 //! - `files`: the files that are named by a prefix; `noting`: what the system answered where one of them failed
 //! - `places`: the files that a run makes for its stores, and what of them is removed where it is refused; `clashing`: whether a
 //!   file that it is to write beside them is one that it has; `identity`: which file one is, whatever its names
@@ -22,6 +23,7 @@ mod looking;
 mod noting;
 mod places;
 mod replaying;
+mod resuming;
 mod settling;
 
 pub use blaming::{Blame, FileFault, fault_of, first_unusable};
@@ -33,4 +35,5 @@ pub use looking::{show_file, show_over, steps_file, steps_over};
 pub use noting::{Note, Noted, Notes};
 pub use places::{PlaceError, Places};
 pub use replaying::{replay_file, replay_over};
+pub use resuming::TakenUp;
 pub use settling::settle;
