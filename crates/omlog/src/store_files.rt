@@ -1,11 +1,11 @@
 //! Clusters over stores in files.
 
 use crate::reasons::Reasons;
+use crate::surroundings::Job;
 use crate::watching::run_watched;
-use om_arguments::Running;
 use om_commands::CommandError;
 use om_files::{Connects, InTables};
-use std::io::Write;
+use std::io::Read;
 use std::sync::Wait;
 use std::thread::Threads;
 use std::time::Clock;
@@ -14,16 +14,15 @@ use std::time::Clock;
 pub(crate) fn run_over_tables<
     R: Threads + Wait + Clock + Eprint + Sync,
     C: Connects + Sync + Drop,
-    W: Write,
+    I: Read,
 >(
     rt: &HostRuntime,
     threads: &R,
-    running: Running<'_>,
+    job: Job<'_>,
     connects: C,
-    bytes: &[u8],
-    writer: &mut W,
+    reader: &mut I,
     reasons: &mut Reasons,
 ) -> Result<(), CommandError> {
     let opener = InTables { connects };
-    run_watched(rt, threads, running, &opener, bytes, writer, reasons)
+    run_watched(rt, threads, job, &opener, reader, reasons)
 }
