@@ -1,6 +1,7 @@
 //! Checked runs: what a witness may name, what a check refuses, and the texts of rings.
 
 mod follows;
+mod modes;
 mod plays;
 mod records;
 mod rings;

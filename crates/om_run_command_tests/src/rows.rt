@@ -1,8 +1,8 @@
 //! Rows of the commands that run a cluster: what a command is given, and what it must write or be refused with.
 
+use crate::beside::Beside;
 use om_commands::CommandError;
-use om_run_commands::check::run_checked;
-use om_run_commands::run::run;
+use om_run_commands::{RunMode, run_file};
 use om_runner::InMemory;
 use std::alloc::Global;
 use std::io::{Read, Write};
@@ -11,12 +11,11 @@ use std::sync::Wait;
 use std::thread::Threads;
 use std::time::Clock;
 
-/// A command that runs a cluster over stores in memory. A worker takes so many turns.
+/// A run over stores in memory, in which a worker takes so many turns.
 #[derive(Clone, Copy)]
-pub enum Command {
-    Run(u64),
-    /// The same, checked.
-    Check(u64),
+pub struct Command {
+    pub mode: RunMode,
+    pub turns: u64,
 }
 
 /// How the text of a row is meant.
@@ -55,24 +54,31 @@ pub fn check_input<R: Threads + Wait + Clock + Abort + Sync>(
     how: How,
     wanted: &str,
 ) {
-    let mut written = Vec::new(alloc);
     let mut reader = input.as_bytes();
-    let answer = carry_out(rt, alloc, command, &mut reader, &mut written);
+    let (answer, written) = carry_out(rt, alloc, command, &mut reader, Vec::new(alloc));
     check_answer(rt, alloc, input, (answer, &written), (how, wanted));
 }
 
-/// What the command answers over these streams.
-pub fn carry_out<R: Threads + Wait + Clock + Sync, I: Read, W: Write>(
+/// What the command answers over these streams, and what it leaves of the writer.
+pub fn carry_out<R: Threads + Wait + Clock + Sync, I: Read, W: Write + Drop>(
     rt: &R,
     alloc: Global,
     command: Command,
     reader: &mut I,
-    writer: &mut W,
-) -> Result<(), CommandError> {
-    match command {
-        Command::Run(turns) => run(rt, alloc, turns, &InMemory, reader, writer),
-        Command::Check(turns) => run_checked(rt, alloc, turns, &InMemory, reader, writer),
-    }
+    writer: W,
+) -> (Result<(), CommandError>, W) {
+    let mut beside = Beside::new(alloc);
+    let Command { mode, turns } = command;
+    run_file(
+        rt,
+        alloc,
+        mode,
+        turns,
+        &InMemory,
+        &mut beside,
+        reader,
+        writer,
+    )
 }
 
 /// Compares what a command answered to this input, and what it wrote.

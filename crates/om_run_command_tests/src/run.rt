@@ -1,9 +1,10 @@
 //! Cluster files, and what the command writes of a run of their clusters.
 
+use crate::beside::Beside;
 use crate::rows::How::{Refused, Writes};
 use crate::rows::{Command, How, Row, check, check_answer, check_input};
 use om_interval::Pid;
-use om_run_commands::run::run;
+use om_run_commands::{RunMode, run_file};
 use om_runner::{OpenFault, Opener};
 use om_stable::MemStable;
 use std::alloc::Global;
@@ -75,20 +76,40 @@ static FAILURES: [(usize, How, &str); 2] = [
     (65, Refused, "line 67: too many"),
 ];
 
+static MODES: [RunMode; 5] = [
+    RunMode::Plain,
+    RunMode::Check,
+    RunMode::Witness,
+    RunMode::Record,
+    RunMode::Follow,
+];
+
 #[test]
 fn cluster_files_and_their_texts(rt: HostRuntime) {
-    check(&rt, rt.alloc(), Command::Run(TURNS), ONE, &LINES);
-    check(&rt, rt.alloc(), Command::Check(TURNS), ONE, &LINES);
-    check(&rt, rt.alloc(), Command::Check(TURNS), "", &FAULTY);
-    check(&rt, rt.alloc(), Command::Run(TURNS), "", &FAULTY);
-    check(&rt, rt.alloc(), Command::Run(1), "", &ENDLESS);
-    check(&rt, rt.alloc(), Command::Check(1), "", &ENDLESS);
+    for mode in &MODES {
+        let (mode, turns) = (*mode, TURNS);
+        check(&rt, rt.alloc(), Command { mode, turns }, ONE, &LINES);
+        check(&rt, rt.alloc(), Command { mode, turns }, "", &FAULTY);
+        check(&rt, rt.alloc(), Command { mode, turns: 1 }, "", &ENDLESS);
+    }
+}
+
+#[test]
+fn failures_that_are_planned(rt: HostRuntime) {
     for (count, how, wanted) in &FAILURES {
         let kills = "kill p 9\n"
             .repeat(rt.alloc(), *count)
             .expect(&rt, "memory");
         let input = format!(in rt.alloc(); "{ONE}{kills}").expect(&rt, "memory");
-        check_input(&rt, rt.alloc(), Command::Run(TURNS), &input, *how, wanted);
+        let (mode, turns) = (RunMode::Plain, TURNS);
+        check_input(
+            &rt,
+            rt.alloc(),
+            Command { mode, turns },
+            &input,
+            *how,
+            wanted,
+        );
     }
 }
 
@@ -130,14 +151,15 @@ fn stores_that_are_not_made(rt: HostRuntime) {
             place: *place,
             fault: *fault,
         };
-        let mut written = Vec::new(rt.alloc());
-        let answer = run(
+        let (answer, written) = run_file(
             &rt,
             rt.alloc(),
+            RunMode::Plain,
             TURNS,
             &opener,
+            &mut Beside::new(rt.alloc()),
             &mut TWO.as_bytes(),
-            &mut written,
+            Vec::new(rt.alloc()),
         );
         check_answer(&rt, rt.alloc(), TWO, (answer, &written), (*how, wanted));
     }

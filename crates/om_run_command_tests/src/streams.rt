@@ -2,6 +2,7 @@
 
 use crate::rows::{Command, carry_out};
 use om_commands::CommandError;
+use om_run_commands::RunMode;
 use std::alloc::Global;
 use std::io;
 use std::io::{Read, Write};
@@ -43,7 +44,13 @@ impl Write for Failing {
 
 const ONE: &[u8] = b"program a 16 00000893 00000073\nproc p a\n";
 
-static COMMANDS: [Command; 2] = [Command::Run(1_000), Command::Check(1_000)];
+static MODES: [RunMode; 5] = [
+    RunMode::Plain,
+    RunMode::Check,
+    RunMode::Witness,
+    RunMode::Record,
+    RunMode::Follow,
+];
 
 // Compares what a command answers where its input cannot be read to the end, and where its text cannot be written to the end.
 fn check_streams<R: Threads + Wait + Clock + Abort + Sync>(
@@ -51,20 +58,22 @@ fn check_streams<R: Threads + Wait + Clock + Abort + Sync>(
     alloc: Global,
     command: Command,
 ) {
-    let mut written = Vec::new(alloc);
     let mut failing = Failing { calls: 3 };
-    let unread = carry_out(rt, alloc, command, &mut failing, &mut written);
+    let (unread, written) = carry_out(rt, alloc, command, &mut failing, Vec::new(alloc));
     assert_eq!(rt; unread, Err(CommandError::CannotRead));
     assert_eq!(rt; written.len(), 0);
     let mut reader = ONE;
-    let mut failing = Failing { calls: 3 };
-    let unwritten = carry_out(rt, alloc, command, &mut reader, &mut failing);
+    let (unwritten, _) = carry_out(rt, alloc, command, &mut reader, Failing { calls: 3 });
     assert_eq!(rt; unwritten, Err(CommandError::CannotWrite));
 }
 
 #[test]
 fn streams_that_fail(rt: HostRuntime) {
-    for command in &COMMANDS {
-        check_streams(&rt, rt.alloc(), *command);
+    for mode in &MODES {
+        let command = Command {
+            mode: *mode,
+            turns: 1_000,
+        };
+        check_streams(&rt, rt.alloc(), command);
     }
 }

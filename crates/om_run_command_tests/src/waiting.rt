@@ -1,10 +1,9 @@
 //! What is said of processes where turns ran out.
 
-use om_commands::CommandError;
+use om_commands::read_input;
 use om_process::Status;
-use om_run_commands::waiting_text;
+use om_run_commands::{ClusterScript, waiting_text};
 use om_runner::{Doing, Sight};
-use om_text::{LineError, ScriptError};
 use std::alloc::Global;
 use std::process::Abort;
 
@@ -19,9 +18,14 @@ fn sight(doing: Doing, interval: u32) -> Sight {
 
 // What is said of these sights of the processes of FILE.
 fn said(rt: &impl Abort, alloc: Global, sights: &[Sight]) -> String {
-    waiting_text(alloc, &mut FILE.as_bytes(), sights)
-        .ok()
-        .expect(rt, "text")
+    let script = read_input(
+        alloc,
+        &mut FILE.as_bytes(),
+        ClusterScript::new(alloc, false),
+    )
+    .ok()
+    .expect(rt, "a cluster file");
+    waiting_text(alloc, &script, sights).expect(rt, "memory")
 }
 
 #[test]
@@ -41,12 +45,11 @@ d: is not started, interval 0\ne: runs, interval 4294967295\n"
     );
 }
 
+// There may be more sights than processes.
 #[test]
-fn a_file_that_is_refused_has_no_text(rt: HostRuntime) {
-    let told = waiting_text(rt.alloc(), &mut b"program a 6".as_slice(), &[]);
-    let refusal = CommandError::Script(ScriptError {
-        line: 1,
-        error: LineError::BadSize,
-    });
-    assert!(&rt; told.err() == Some(refusal));
+fn sights_of_no_process_are_passed_over(rt: HostRuntime) {
+    let sights = [sight(Doing::Up(Status::Ended(0)), 1); 16];
+    assert_eq!(&rt; said(&rt, rt.alloc(), &sights).as_str(), "");
+    let sights = [sight(Doing::Down, 1); 16];
+    assert_eq!(&rt; said(&rt, rt.alloc(), &sights).lines().count(), 5);
 }

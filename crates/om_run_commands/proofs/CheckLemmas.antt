@@ -1,6 +1,6 @@
 -- What is read of a world in its end, and why a checked run is refused.
 use Rattle.std.proofs.Common.{◌≡◌, ℕ, ◌≤◌, Option, None, Some, Result, Ok, Err, List, length, map, refl, sym, ap, subst, ◌∙◌}
-use Rattle.std.specs.Prelude.{Vec, IfErr, IfOk, IfSome, slice_get}
+use Rattle.std.specs.Prelude.{Vec, IfOk, slice_get}
 use Rattle.std.specs.Option.{option_map}
 use Rattle.std.specs.declared.alloc.Global.{Global}
 use Rattle.std.proofs.lemmas.List.{length-map}
@@ -95,7 +95,7 @@ few_images images now cluster n programs same number few =
     few
 
 -- ---- the bytes that a script is read from
-of_checked : (bytes : List ℕ) (script : ClusterFile) (error : CommandError) → IsScript cluster_file_line no_settings bytes script
+pub of_checked : (bytes : List ℕ) (script : ClusterFile) (error : CommandError) → IsScript cluster_file_line no_settings bytes script
     → IsErrorOfCheckedScript script error → IsErrorOfCheckedRun bytes error
 of_checked bytes script errors.Unlike read some = record { script = script; is_script = read; some = some }
 of_checked bytes script errors.EmptyScript read told = of_script bytes script errors.EmptyScript read told
@@ -103,20 +103,15 @@ of_checked bytes script errors.NoMemory read told = of_script bytes script error
 of_checked bytes script errors.OutOfTurns read told = of_script bytes script errors.OutOfTurns read told
 of_checked bytes script errors.GateShut read told = of_script bytes script errors.GateShut read told
 of_checked bytes script errors.StoreFault read told = of_script bytes script errors.StoreFault read told
+of_checked bytes script (errors.StoreInUse process) read told = of_script bytes script (errors.StoreInUse process) read told
+of_checked bytes script (errors.AnotherCluster process) read told = of_script bytes script (errors.AnotherCluster process) read told
+of_checked bytes script (errors.StoreMissing process) read told = of_script bytes script (errors.StoreMissing process) read told
 of_checked bytes script errors.NoThread read told = of_script bytes script errors.NoThread read told
 of_checked bytes script errors.TooLong read never = absurd never
 of_checked bytes script errors.CannotRead read never = absurd never
-of_checked bytes script errors.CannotWrite read never = absurd never
+of_checked bytes script errors.CannotWrite read told = tt
 of_checked bytes script (errors.Script error) read never = absurd never
 of_checked bytes script errors.NoCheckpoint read never = absurd never
 of_checked bytes script (errors.Damaged y) read never = absurd never
 of_checked bytes script (errors.MissingReceipt y) read never = absurd never
 of_checked bytes script (errors.Mismatch y) read never = absurd never
-
-pub error_of_answer : {A : Type 0} (remaining : Option (List ℕ)) (start script : ClusterFile) (r : Result A CommandError) → start ≡ no_settings
-    → IfSome remaining (λ bytes. IsScript cluster_file_line start bytes script) → IfErr r (IsErrorOfCheckedScript script)
-    → IfSome remaining (λ bytes. IfErr r (IsErrorOfCheckedRun bytes))
-error_of_answer None start script r is read error = tt
-error_of_answer (Some bytes) start script (Ok x) is read error = tt
-error_of_answer (Some bytes) start script (Err e) is read error =
-    of_checked bytes script e (subst (λ s. IsScript cluster_file_line s bytes script) is read) error

@@ -25,7 +25,7 @@ use Rattle.om_run_commands.specs.steps.Errors.{error_of_run}
 use Rattle.om_run_commands.specs.Follow.{IsFollowedAnswer, IsFollowedRun, IsPart, IsPartOf, told_text}
 use Rattle.om_run_commands.specs.steps.Lines.{told_line}
 use Rattle.om_run_commands.specs.Run.{IsByKind}
-use Rattle.om_run_commands.specs.steps.Scripts.{IsErrorOfFollowed}
+use Rattle.om_run_commands.specs.steps.Scripts.{IsErrorOfScript}
 use Rattle.om_run_commands.specs.RunText.{ends_text}
 use Rattle.om_commands.specs.declared.error.CommandError.{CommandError}
 use Rattle.om_commands.specs.declared.error.CommandError.TheVariants as errors
@@ -137,9 +137,9 @@ part_of_run over_clean script cluster images r fault error same_after a b none i
     (λ wanted. part_told over_clean script cluster images same_after a b same programs (told wanted))
 
 -- the other two errors may come of any script
-pub refused_is_error : (script : ClusterFile) (error : CommandError) → (error ≡ errors.NoMemory) ⊎ (error ≡ errors.CannotWrite) → IsErrorOfFollowed script error
-refused_is_error script error (inl is) = subst (IsErrorOfFollowed script) (sym is) tt
-refused_is_error script error (inr is) = subst (IsErrorOfFollowed script) (sym is) tt
+pub refused_is_error : (script : ClusterFile) (error : CommandError) → (error ≡ errors.NoMemory) ⊎ (error ≡ errors.CannotWrite) → IsErrorOfScript script error
+refused_is_error script error (inl is) = subst (IsErrorOfScript script) (sym is) tt
+refused_is_error script error (inr is) = subst (IsErrorOfScript script) (sym is) tt
 
 -- nothing is written where the script could not be read
 partly_unread : (bytes : List ℕ) (error : CommandError) (part none : Type 0) → IsErrorOf cluster_file_line no_settings (λ _. ⊥) bytes error → none → IsByKind error part none
@@ -148,6 +148,9 @@ partly_unread bytes errors.NoMemory part none is kept = tt
 partly_unread bytes errors.OutOfTurns part none never kept = absurd never
 partly_unread bytes errors.GateShut part none never kept = absurd never
 partly_unread bytes errors.StoreFault part none never kept = absurd never
+partly_unread bytes (errors.StoreInUse process) part none never kept = absurd never
+partly_unread bytes (errors.AnotherCluster process) part none never kept = absurd never
+partly_unread bytes (errors.StoreMissing process) part none never kept = absurd never
 partly_unread bytes errors.NoThread part none never kept = absurd never
 partly_unread bytes errors.TooLong part none is kept = kept
 partly_unread bytes errors.CannotRead part none is kept = kept
@@ -174,6 +177,9 @@ part_of over_clean bytes script errors.NoMemory a b read is = tt
 part_of over_clean bytes script errors.OutOfTurns a b read is = record { script = script; is_script = read; part = is }
 part_of over_clean bytes script errors.GateShut a b read is = record { script = script; is_script = read; part = is }
 part_of over_clean bytes script errors.StoreFault a b read is = record { script = script; is_script = read; part = is }
+part_of over_clean bytes script (errors.StoreInUse process) a b read is = record { script = script; is_script = read; part = is }
+part_of over_clean bytes script (errors.AnotherCluster process) a b read is = record { script = script; is_script = read; part = is }
+part_of over_clean bytes script (errors.StoreMissing process) a b read is = record { script = script; is_script = read; part = is }
 part_of over_clean bytes script errors.NoThread a b read is = record { script = script; is_script = read; part = is }
 part_of over_clean bytes script errors.TooLong a b read is = is
 part_of over_clean bytes script errors.CannotRead a b read is = is
@@ -192,12 +198,3 @@ partly_of_answer over_clean None start script r a b is read part = tt
 partly_of_answer over_clean (Some bytes) start script (Ok x) a b is read part = tt
 partly_of_answer over_clean (Some bytes) start script (Err e) a b is read part =
     part_of over_clean bytes script e a b (subst (λ s. IsScript cluster_file_line s bytes script) is read) part
-
-pub text_of_answer : {A : Type 0} (over_clean : Type 0) (remaining : Option (List ℕ)) (start script : ClusterFile) (r : Result A CommandError) (a b : Option (List ℕ)) → start ≡ no_settings
-    → IfSome remaining (λ bytes. IsScript cluster_file_line start bytes script)
-    → OnOk r ((text : List ℕ) × IsFollowedAnswer over_clean script text × Appends a b text)
-    → IfSome remaining (λ bytes. OnOk r ((text : List ℕ) × IsFollowedRun over_clean bytes text × Appends a b text))
-text_of_answer over_clean None start script r a b is read answer = tt
-text_of_answer over_clean (Some bytes) start script (Ok x) a b is read answer =
-    (answer.0, record { script = script; is_script = subst (λ s. IsScript cluster_file_line s bytes script) is read; answer = answer.1 }, answer.2)
-text_of_answer over_clean (Some bytes) start script (Err e) a b is read answer = tt

@@ -1,3 +1,4 @@
 pub mod CheckLemmas
 pub mod FollowLemmas
+pub mod ModeLemmas
 pub mod RunLemmas

@@ -51,6 +51,9 @@ IsByKind errors.NoMemory run other = Unit {0}
 IsByKind errors.OutOfTurns run other = run
 IsByKind errors.GateShut run other = run
 IsByKind errors.StoreFault run other = run
+IsByKind (errors.StoreInUse process) run other = run
+IsByKind (errors.AnotherCluster process) run other = run
+IsByKind (errors.StoreMissing process) run other = run
 IsByKind errors.NoThread run other = run
 IsByKind _ run other = other
 

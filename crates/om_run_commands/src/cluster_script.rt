@@ -10,7 +10,7 @@ use om_interval::Pid;
 use om_isa::Ext;
 use om_scripts::{Programs, name_of};
 use om_text::{BuildError, Builder, LineError, long_number_of, number_of};
-use std::alloc::Global;
+use std::alloc::{AllocError, Global};
 use std::marker::Model;
 
 /// The most lines `kill`.
@@ -33,6 +33,8 @@ pub struct ClusterScript {
     flush: u32,
     checkpoint: u32,
     fuel: u64,
+    // Its lines of programs and processes, where they are kept.
+    lines: Option<Vec<u8>>,
 }
 
 impl Model for ClusterScript {
@@ -48,7 +50,9 @@ impl Model for ClusterScript {
 }
 
 impl ClusterScript {
-    pub fn new(alloc: Global) -> ClusterScript
+    /// Has read no line yet. Where `keeps_lines`, the lines of programs and processes are kept as they stand, for a script that
+    /// begins with them.
+    pub fn new(alloc: Global, keeps_lines: bool) -> ClusterScript
         ensures { result ≡ no_settings }
     {
         ClusterScript {
@@ -57,6 +61,7 @@ impl ClusterScript {
             flush: DEFAULT_FLUSH,
             checkpoint: DEFAULT_CHECKPOINT,
             fuel: DEFAULT_FUEL,
+            lines: lines_kept(alloc, keeps_lines),
         }
     }
 
@@ -93,6 +98,14 @@ impl ClusterScript {
         ensures { result ≡ self.now.fuel }
     {
         self.fuel
+    }
+
+    // The lines of programs and processes, one space between two words; nothing where they were not kept.
+    pub(crate) fn lines(&self) -> &[u8] {
+        match &self.lines {
+            Some(lines) => lines.as_slice(),
+            None => &[],
+        }
     }
 
     // Takes in a line `kill NAME INTERVAL`, by the words behind its first, as do the others.
@@ -164,16 +177,11 @@ impl ClusterScript {
         }
         Err(LineError::UnknownLine.into())
     }
-}
 
-impl Builder for ClusterScript {
-    ghost State = { ClusterFile };
-
-    ghost state = { λ script. script };
-
-    ghost meaning = { cluster_file_line };
-
-    fn add_line(&mut self, alloc: Global, words: &[&[u8]]) -> Result<(), BuildError<LineError>> {
+    // Takes in what a line means.
+    fn take_in(&mut self, alloc: Global, words: &[&[u8]]) -> Result<(), BuildError<LineError>>
+        ensures { Gives (λ _. self.new) result (cluster_file_line self.old (map (λ word. word.now) words.now)) }
+    {
         let [first, words @ ..] = words else {
             return Err(LineError::UnknownLine.into());
         };
@@ -188,6 +196,62 @@ impl Builder for ClusterScript {
         }
         self.add_setting(first, words)
     }
+
+    // Keeps a line, where lines are kept and it gives a program or a process.
+    fn keep(&mut self, words: &[&[u8]]) -> Result<(), AllocError>
+        ensures { self.new ≡ self.old }
+    {
+        match &mut self.lines {
+            Some(lines) => keep(lines, words),
+            None => Ok(()),
+        }
+    }
+}
+
+impl Builder for ClusterScript {
+    ghost State = { ClusterFile };
+
+    ghost state = { λ script. script };
+
+    ghost meaning = { cluster_file_line };
+
+    fn add_line(&mut self, alloc: Global, words: &[&[u8]]) -> Result<(), BuildError<LineError>> {
+        self.take_in(alloc, words)?;
+        Ok(self.keep(words)?)
+    }
+}
+
+// Room for lines, where they are to be kept.
+fn lines_kept(alloc: Global, keeps_lines: bool) -> Option<Vec<u8>> {
+    if keeps_lines {
+        Some(Vec::new(alloc))
+    } else {
+        None
+    }
+}
+
+// Whether a line of this first word gives a program or a process.
+fn is_kept(first: &[u8]) -> bool {
+    first == b"program".as_slice()
+        || first == b"program-m".as_slice()
+        || first == b"proc".as_slice()
+}
+
+// Adds a line of these words, where it gives a program or a process.
+fn keep(lines: &mut Vec<u8>, words: &[&[u8]]) -> Result<(), AllocError> {
+    let [first, words @ ..] = words else {
+        return Ok(());
+    };
+    if !is_kept(first) {
+        return Ok(());
+    }
+    lines.extend_from_slice(first)?;
+    for word in words {
+        lines.push(b' ')?;
+        lines.extend_from_slice(word)?;
+    }
+    lines.push(b'\n')?;
+    Ok(())
 }
 
 // The number of receipts that the one word stands for.

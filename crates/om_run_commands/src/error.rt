@@ -15,11 +15,10 @@ pub(crate) fn error_of_run(fault: RunFault) -> CommandError
         RunFault::Turns(_) => CommandError::OutOfTurns,
         RunFault::GateShut(_) => CommandError::GateShut,
         RunFault::Memory => CommandError::NoMemory,
-        RunFault::Fault(_)
-        | RunFault::Load(_)
-        | RunFault::StoreInUse(_)
-        | RunFault::AnotherCluster(_)
-        | RunFault::StoreMissing(_) => CommandError::StoreFault,
+        RunFault::Fault(_) | RunFault::Load(_) => CommandError::StoreFault,
+        RunFault::StoreInUse(pid) => CommandError::StoreInUse(pid.index()),
+        RunFault::AnotherCluster(pid) => CommandError::AnotherCluster(pid.index()),
+        RunFault::StoreMissing(pid) => CommandError::StoreMissing(pid.index()),
         RunFault::NoThread => CommandError::NoThread,
     }
 }

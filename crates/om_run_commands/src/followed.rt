@@ -1,14 +1,14 @@
 //! The command `run --follow`: a cluster whose outputs are written as they are released.
 
-ghost use Rattle.std.specs.Prelude.{◌≡◌, ◌≤◌, ◌⊎◌, ℕ, IfErr, IfOk, IfSome, IsTrue, List, OnOk, length, string_bytes};
+ghost use Rattle.std.specs.Prelude.{◌≡◌, ◌≤◌, ◌⊎◌, ℕ, IfErr, IfOk, IsTrue, List, OnOk, length, string_bytes};
 ghost use Rattle.std.specs.Io.KnownBytes.{Appends, Keeps};
 ghost use Rattle.om_runner.specs.Telling.{told_of};
 ghost use Rattle.om_run_commands.specs.ClusterScript.{ClusterFile};
 ghost use Rattle.om_run_commands.specs.steps.Errors.{error_of_run};
-ghost use Rattle.om_run_commands.specs.Follow.{IsFollowedAnswer, IsFollowedRun, IsPart, IsPartOf, told_text};
+ghost use Rattle.om_run_commands.specs.Follow.{IsFollowedAnswer, IsPartOf, told_text};
 ghost use Rattle.om_run_commands.specs.steps.Lines.{told_line};
-ghost use Rattle.om_run_commands.specs.Run.{IsByKind, IsErrorOfRun};
-ghost use Rattle.om_run_commands.specs.steps.Scripts.{IsErrorOfFollowed};
+ghost use Rattle.om_run_commands.specs.Run.{IsByKind};
+ghost use Rattle.om_run_commands.specs.steps.Scripts.{IsErrorOfScript};
 ghost use Rattle.om_run_commands.specs.RunText.{ends_text};
 ghost use Rattle.om_commands.specs.SimText.{name_at};
 
@@ -16,14 +16,14 @@ use crate::cluster_script::ClusterScript;
 use crate::error::error_of_run;
 use crate::run::{OpenGate, config_of};
 use crate::run_text::push_ends;
-use om_commands::{CommandError, name_of, push_output, read_input, write_answer};
+use om_commands::{CommandError, name_of, push_output, write_answer};
 use om_interval::Pid;
 use om_manager::Output;
 use om_process::Status;
 use om_runner::{FollowFault, Follower, Opener, run_and_follow};
 use om_scripts::Programs;
 use std::alloc::{AllocError, Global};
-use std::io::{Read, Write};
+use std::io::Write;
 use std::sync::Wait;
 use std::thread::Threads;
 use std::time::Clock;
@@ -87,39 +87,10 @@ impl<'a, W: Write + Drop> Follower for Lines<'a, W> {
     }
 }
 
-/// As `run` of [`crate::run`], but each output is written as soon as it is released: the lines of a process in order and each
-/// once, those of different processes in the order in which they were released. At the end comes how each process ended. Where
-/// the run is refused, what was released by then is written; less where memory ran out or the writer refused. A file that is
-/// refused writes nothing.
-pub fn run_followed<
-    R: Threads + Wait + Clock + Sync,
-    O: Opener<R> + Sync,
-    I: Read,
-    W: Write + Drop,
->(
-    rt: &R,
-    alloc: Global,
-    turns: u64,
-    opener: &O,
-    reader: &mut I,
-    writer: W,
-) -> (Result<(), CommandError>, W)
-    ensures text { IfSome (I.remaining reader.old) (λ bytes. OnOk result.0 ((text : List ℕ)
-        × IsFollowedRun ((store : O.Store) → IsTrue (O.Store.is_clean store)) bytes text
-        × Appends (W.contents writer) (W.contents result.1) text)) }
-    ensures error { IfSome (I.remaining reader.old) (λ bytes. IfErr result.0 (IsErrorOfRun bytes)) }
-    ensures partly { IfSome (I.remaining reader.old) (λ bytes. IfErr result.0 (λ error. IsByKind error
-        (IsPart ((store : O.Store) → IsTrue (O.Store.is_clean store)) bytes (W.contents writer) (W.contents result.1))
-        (Keeps (W.contents writer) (W.contents result.1)))) }
-{
-    match read_input(alloc, reader, ClusterScript::new(alloc)) {
-        Ok(script) => answer(rt, alloc, turns, opener, &script, writer),
-        Err(error) => (Err(error), writer),
-    }
-}
-
-// Writes what answers a script.
-fn answer<R: Threads + Wait + Clock + Sync, O: Opener<R> + Sync, W: Write + Drop>(
+// As `run` of [`crate::run`], but each output is written as soon as it is released: the lines of a process in order and each
+// once, those of different processes in the order in which they were released. At the end comes how each process ended. Where
+// the run is refused, what was released by then is written; less where memory ran out or the writer refused.
+pub(crate) fn run_followed<R: Threads + Wait + Clock + Sync, O: Opener<R> + Sync, W: Write + Drop>(
     rt: &R,
     alloc: Global,
     turns: u64,
@@ -127,18 +98,16 @@ fn answer<R: Threads + Wait + Clock + Sync, O: Opener<R> + Sync, W: Write + Drop
     script: &ClusterScript,
     writer: W,
 ) -> (Result<(), CommandError>, W)
+    requires { 1 ≤ length script.now.cluster.processes }
     ensures text { OnOk result.0 ((text : List ℕ)
         × IsFollowedAnswer ((store : O.Store) → IsTrue (O.Store.is_clean store)) script.now text
         × Appends (W.contents writer) (W.contents result.1) text) }
-    ensures error { IfErr result.0 (IsErrorOfFollowed script.now) }
+    ensures error { IfErr result.0 (IsErrorOfScript script.now) }
     ensures partly { IfErr result.0 (λ error. IsByKind error
         (IsPartOf ((store : O.Store) → IsTrue (O.Store.is_clean store)) script.now (W.contents writer) (W.contents result.1))
         (Keeps (W.contents writer) (W.contents result.1))) }
 {
     let programs = script.programs();
-    if programs.n() == 0 {
-        return (Err(CommandError::EmptyScript), writer);
-    }
     let Ok(config) = config_of(alloc, turns, script) else {
         return (Err(CommandError::NoMemory), writer);
     };
@@ -164,7 +133,7 @@ fn answer<R: Threads + Wait + Clock + Sync, O: Opener<R> + Sync, W: Write + Drop
 
 // As the caller is told why a run that was followed came to no end.
 fn error_of(fault: FollowFault, lacks_memory: bool) -> CommandError
-    ensures error { (script : ClusterFile) → 1 ≤ length script.cluster.processes → IsErrorOfFollowed script result }
+    ensures error { (script : ClusterFile) → 1 ≤ length script.cluster.processes → IsErrorOfScript script result }
     ensures unwanted { fault ≡ FollowFault.Unwanted → (result ≡ CommandError.NoMemory) ⊎ (result ≡ CommandError.CannotWrite) }
     ensures run { (f : _) → fault ≡ FollowFault.Run f → result ≡ error_of_run f }
 {

@@ -1,92 +1,87 @@
 //! The command `run --record`: a cluster that is run, and what its threads did.
 
-ghost use Rattle.std.specs.Prelude.{◌≡◌, ℕ, List, IsTrue, map, IfSome, IfOk, IfErr, OnOk, string_bytes};
+ghost use Rattle.std.specs.Prelude.{◌≡◌, ◌⊎◌, ◌≤◌, ℕ, List, IsTrue, length, IfOk, IfErr, OnOk, string_bytes};
 ghost use Rattle.std.specs.Io.KnownBytes.{Appends, Keeps};
+ghost use Rattle.om_scripts.specs.Programs.{programs_of};
 ghost use Rattle.om_commands.specs.Command.{IsSilent};
-ghost use Rattle.om_run_commands.specs.Run.{IsErrorOfRun, IsRun, IsRunAnswer};
+ghost use Rattle.om_run_commands.specs.Run.{IsReport, IsRunAnswer};
 ghost use Rattle.om_run_commands.specs.steps.Scripts.{IsErrorOfScript};
 
 use crate::cluster_script::ClusterScript;
+use crate::context::{RunContext, write_script};
 use crate::error::error_of_run;
-use crate::kept_script::KeptScript;
 use crate::record_text::record_text;
 use crate::run::{OpenGate, config_of};
-use crate::run_text::run_text;
-use om_commands::{CommandError, read_input, write_answer};
-use om_runner::{Opener, Recorder, run_and_record};
-use std::alloc::{AllocError, Global};
-use std::io::{Read, Write};
+use crate::run_text::report_text;
+use om_commands::{CommandError, write_answer};
+use om_runner::{Opener, Recorder, Report, run_and_record};
+use std::alloc::Global;
+use std::io::Write;
 use std::sync::Wait;
 use std::thread::Threads;
 use std::time::Clock;
 
-/// As `run` of [`crate::run`], and writes what the threads did as a script of `sim` to `record`, before the text: the lines of
-/// programs and processes, and then the events in one order, with comments. What they did until a run was refused is written too,
-/// if it can be.
-pub fn run_recorded<
+// As `run` of [`crate::run`], and writes what the threads did as a script of `sim` to the file of the context, before the text: the
+// lines of programs and processes, and then the events in one order, with comments. What they did until a run was refused is
+// written too, if it can be.
+pub(crate) fn run_recorded<
     R: Threads + Wait + Clock + Sync,
     O: Opener<R> + Sync,
-    I: Read,
+    C: RunContext,
     W: Write,
-    F: Write,
 >(
     rt: &R,
     alloc: Global,
     turns: u64,
     opener: &O,
-    reader: &mut I,
+    context: &mut C,
+    script: &ClusterScript,
     writer: &mut W,
-    record: &mut F,
 ) -> Result<(), CommandError>
-    ensures text { IfSome (I.remaining reader.old) (λ bytes. OnOk result ((text : List ℕ)
-        × IsRun ((store : O.Store) → IsTrue (O.Store.is_clean store)) bytes text
-        × Appends (W.contents writer.old) (W.contents writer.new) text)) }
-    ensures error { IfSome (I.remaining reader.old) (λ bytes. IfErr result (IsErrorOfRun bytes)) }
+    requires { 1 ≤ length script.now.cluster.processes }
+    ensures text { OnOk result ((text : List ℕ)
+        × IsRunAnswer ((store : O.Store) → IsTrue (O.Store.is_clean store)) script.now text
+        × Appends (W.contents writer.old) (W.contents writer.new) text) }
+    ensures error { IfErr result (IsErrorOfScript script.now) }
     ensures silent { IfErr result (λ error. IsSilent error (Keeps (W.contents writer.old) (W.contents writer.new))) }
 {
-    let text = answer_to(rt, alloc, turns, opener, reader, record)?;
+    let text = recorded(rt, alloc, turns, opener, context, script)?;
     write_answer(writer, text.as_bytes())
 }
 
-// The text that answers the script of an input. What the threads did is written.
-fn answer_to<R: Threads + Wait + Clock + Sync, O: Opener<R> + Sync, I: Read, F: Write>(
+// The text that answers a script. What the threads did is written.
+fn recorded<R: Threads + Wait + Clock + Sync, O: Opener<R> + Sync, C: RunContext>(
     rt: &R,
     alloc: Global,
     turns: u64,
     opener: &O,
-    reader: &mut I,
-    record: &mut F,
+    context: &mut C,
+    script: &ClusterScript,
 ) -> Result<String, CommandError>
-    ensures text { IfSome (I.remaining reader.old) (λ bytes.
-        IfOk result (λ text. IsRun ((store : O.Store) → IsTrue (O.Store.is_clean store)) bytes (string_bytes text))) }
-    ensures error { IfSome (I.remaining reader.old) (λ bytes. IfErr result (IsErrorOfRun bytes)) }
+    requires { 1 ≤ length script.now.cluster.processes }
+    ensures text { IfOk result (λ text.
+        IsRunAnswer ((store : O.Store) → IsTrue (O.Store.is_clean store)) script.now (string_bytes text)) }
+    ensures error { IfErr result (IsErrorOfScript script.now) }
 {
-    let kept = read_input(alloc, reader, KeptScript::new(alloc))?;
-    let (answer, events) = recorded(rt, alloc, turns, opener, kept)?;
-    let written = write_answer(record, &events);
+    let recorder = Recorder::new(alloc);
+    let answer = answer(rt, alloc, turns, opener, script, &recorder);
+    let written = write_record(alloc, context, script, recorder);
     let text = answer?;
     written?;
     Ok(text)
 }
 
-// The text that answers what was read, or why there is none; and the script of what the threads did.
-fn recorded<R: Threads + Wait + Clock + Sync, O: Opener<R> + Sync>(
-    rt: &R,
+// Writes what the threads of a cluster did.
+fn write_record<C: RunContext>(
     alloc: Global,
-    turns: u64,
-    opener: &O,
-    kept: KeptScript,
-) -> Result<(Result<String, CommandError>, Vec<u8>), AllocError>
-    ensures text { IfOk result (λ r. IfOk r.0 (λ text.
-        IsRunAnswer ((store : O.Store) → IsTrue (O.Store.is_clean store)) kept.script (string_bytes text))) }
-    ensures error { IfOk result (λ r. IfErr r.0 (IsErrorOfScript kept.script)) }
+    context: &mut C,
+    script: &ClusterScript,
+    recorder: Recorder,
+) -> Result<(), CommandError>
+    ensures { IfErr result (λ error. (error ≡ CommandError.NoMemory) ⊎ (error ≡ CommandError.CannotWrite)) }
 {
-    let KeptScript { script, mut lines } = kept;
-    let recorder = Recorder::new(alloc);
-    let answer = answer(rt, alloc, turns, opener, &script, &recorder);
     let events = record_text(alloc, script.programs(), &recorder.into_record())?;
-    lines.extend_from_slice(events.as_bytes())?;
-    Ok((answer, lines))
+    write_script(context, script, &events)
 }
 
 // The text that answers a script, while the recorder takes in what the threads do.
@@ -98,18 +93,31 @@ fn answer<R: Threads + Wait + Clock + Sync, O: Opener<R> + Sync>(
     script: &ClusterScript,
     recorder: &Recorder,
 ) -> Result<String, CommandError>
+    requires { 1 ≤ length script.now.cluster.processes }
     ensures text { IfOk result (λ text.
         IsRunAnswer ((store : O.Store) → IsTrue (O.Store.is_clean store)) script.now (string_bytes text)) }
     ensures error { IfErr result (IsErrorOfScript script.now) }
 {
-    let programs = script.programs();
-    if programs.n() == 0 {
-        return Err(CommandError::EmptyScript);
-    }
+    let report = report_of(rt, alloc, turns, opener, script, recorder)?;
+    Ok(report_text(alloc, script.programs(), &report)?)
+}
+
+// What a run of the cluster of a script ends with.
+fn report_of<R: Threads + Wait + Clock + Sync, O: Opener<R> + Sync>(
+    rt: &R,
+    alloc: Global,
+    turns: u64,
+    opener: &O,
+    script: &ClusterScript,
+    recorder: &Recorder,
+) -> Result<Report, CommandError>
+    requires { 1 ≤ length script.now.cluster.processes }
+    ensures report { IfOk result (IsReport ((store : O.Store) → IsTrue (O.Store.is_clean store)) (programs_of script.now.cluster)) }
+    ensures error { IfErr result (IsErrorOfScript script.now) }
+{
     let config = config_of(alloc, turns, script)?;
-    let report = match run_and_record(rt, alloc, &config, &OpenGate, opener, recorder) {
-        Ok(report) => report,
-        Err(fault) => return Err(error_of_run(fault)),
-    };
-    Ok(run_text(alloc, programs, &report.released, &report.statuses)?)
+    match run_and_record(rt, alloc, &config, &OpenGate, opener, recorder) {
+        Ok(report) => Ok(report),
+        Err(fault) => Err(error_of_run(fault)),
+    }
 }

@@ -2,6 +2,8 @@
 
 ghost use Rattle.std.specs.Prelude.{◌≡◌, ◌++◌, ◌≤◌, length, map, IfOk, OnOk, string_bytes};
 ghost use Rattle.om_manager.specs.Outputs.{held_of};
+ghost use Rattle.om_scripts.specs.Programs.{programs_of};
+ghost use Rattle.om_run_commands.specs.Run.{outputs_of};
 ghost use Rattle.om_run_commands.specs.RunText.{ends_text, run_text};
 ghost use Rattle.om_run_commands.specs.steps.Lines.{released_text};
 ghost use Rattle.om_run_commands.specs.steps.Lines.{end_line};
@@ -9,6 +11,7 @@ ghost use Rattle.om_run_commands.specs.steps.Lines.{end_line};
 use om_commands::{name_of, push_outputs, push_status};
 use om_manager::Output;
 use om_process::Status;
+use om_runner::Report;
 use om_scripts::Programs;
 use std::alloc::{AllocError, Global};
 use std::fmt::Write;
@@ -70,4 +73,17 @@ pub(crate) fn run_text(
     push_released(alloc, &mut text, programs, released)?;
     push_ends(&mut text, programs, statuses)?;
     Ok(text)
+}
+
+// The text of what a run of these processes ends with.
+pub(crate) fn report_text(
+    alloc: Global,
+    programs: &Programs,
+    report: &Report,
+) -> Result<String, AllocError>
+    requires released { length report.now.released.items ≡ length (programs_of programs.now) }
+    requires statuses { length report.now.statuses.items ≡ length (programs_of programs.now) }
+    ensures { IfOk result (λ text. string_bytes text ≡ run_text programs.now (outputs_of report.now) report.now.statuses.items) }
+{
+    run_text(alloc, programs, &report.released, &report.statuses)
 }

@@ -6,8 +6,7 @@ use crate::examples::{BANK, BANK_ENDS, PIPELINE, PIPELINE_ENDS, QUEUE, QUEUE_END
 use om_commands::CommandError;
 use om_files::{Connects, InTables};
 use om_interval::Pid;
-use om_run_commands::check::run_checked;
-use om_run_commands::run::run;
+use om_run_commands::{ClusterScript, RunContext, RunMode, run_file};
 use om_runner::{InMemory, OpenFault, Opener};
 use sqlite::{Connection, MemStore};
 use std::alloc::Global;
@@ -31,33 +30,47 @@ impl Connects for Databases {
     }
 }
 
-// Whether a run is checked.
-#[derive(Clone, Copy, Debug)]
-enum Way {
-    Plain,
-    Checked,
+// Has nothing to make ready for a run.
+#[derive(Drop)]
+struct Nothing;
+
+impl RunContext for Nothing {
+    fn begin(&mut self, _script: &ClusterScript) -> Result<(), CommandError> {
+        Ok(())
+    }
+
+    fn write(&mut self, _text: &[u8]) -> Result<(), CommandError> {
+        Ok(())
+    }
+
+    fn end(&mut self, _script: &ClusterScript, _outcome: Result<(), CommandError>) {}
 }
 
 // What a run over such stores answers and writes.
 fn carry_out<R: Threads + Wait + Clock + Sync, O: Opener<R> + Sync>(
     rt: &R,
     alloc: Global,
-    (way, turns): (Way, u64),
+    (mode, turns): (RunMode, u64),
     opener: &O,
     mut input: &[u8],
 ) -> (Result<(), CommandError>, Vec<u8>) {
-    let mut written = Vec::new(alloc);
-    let answer = match way {
-        Way::Plain => run(rt, alloc, turns, opener, &mut input, &mut written),
-        Way::Checked => run_checked(rt, alloc, turns, opener, &mut input, &mut written),
-    };
-    (answer, written)
+    let written = Vec::new(alloc);
+    run_file(
+        rt,
+        alloc,
+        mode,
+        turns,
+        opener,
+        &mut Nothing,
+        &mut input,
+        written,
+    )
 }
 
 // The turns of a worker.
 const TURNS: u64 = 50_000_000;
 
-// Each way of running the input writes the text, over stores in memory and in tables.
+// A run of the input writes the text, checked or not, over stores in memory and in tables.
 fn check_run<R: Threads + Wait + Clock + Abort + Sync>(
     rt: &R,
     alloc: Global,
@@ -67,17 +80,17 @@ fn check_run<R: Threads + Wait + Clock + Abort + Sync>(
     let tables = InTables {
         connects: Databases,
     };
-    for way in [Way::Plain, Way::Checked] {
-        let how = (way, TURNS);
+    for mode in [RunMode::Plain, RunMode::Check] {
+        let how = (mode, TURNS);
         let told = carry_out(rt, alloc, how, &InMemory, input.as_bytes());
         assert!(rt;
             told.0 == Ok(()) && told.1.as_slice() == text.as_bytes(),
-            "{way:?} {input}"
+            "{mode:?} {input}"
         );
         let told = carry_out(rt, alloc, how, &tables, input.as_bytes());
         assert!(rt;
             told.0 == Ok(()) && told.1.as_slice() == text.as_bytes(),
-            "{way:?} {input}"
+            "{mode:?} {input}"
         );
     }
 }

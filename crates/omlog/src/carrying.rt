@@ -2,23 +2,20 @@
 
 ghost use Rattle.std.specs.Prelude.{◌≡◌};
 
-use crate::checking::file_made_by;
 use crate::reasons::{Reasons, advice_on, rule_of};
 use crate::source::source_of;
 use crate::store_files::run_over_tables;
+use crate::surroundings::Job;
 use crate::watching::run_watched;
-use om_arguments::{Asked, Lines, Look, Request, Running, end, end_unasked, end_unread, parse};
+use om_arguments::{Asked, Lines, Look, Request, end, end_unasked, end_unread, parse};
 use om_commands::CommandError;
 use om_commands::decode::decode;
 use om_commands::frontier::frontier;
 use om_commands::sim::sim;
 use om_draw_command::draw::{Window, draw};
-use om_files::{
-    Clash, Files, Notes, PlaceError, Places, clash_with_streams, clashes_with_stores, fault_of,
-    first_unusable, replay_file, settle, show_file, steps_file,
-};
+use om_files::{Files, Notes, fault_of, replay_file, show_file, steps_file};
 use om_image::{ImageError, image};
-use om_run_commands::count_processes;
+use om_interval::MAX_PROCESSES;
 use om_runner::InMemory;
 use om_text::{LineError, read_text};
 use std::io::{Read, Write};
@@ -160,7 +157,13 @@ fn answer<R: Threads + Wait + Clock + Eprint + Sync, I: Read>(
         Request::Sim => sim(rt.alloc(), reader, writer),
         Request::Draw(lines) => draw(rt.alloc(), reader, writer, window_of(lines)),
         Request::Run(running) => {
-            run_over(rt, threads, (running, asked.input), reader, writer, reasons)
+            let input = asked.input;
+            let job = Job {
+                running,
+                input,
+                notes: None,
+            };
+            run_over(rt, threads, job, reader, reasons)
         }
         Request::Look(look) => look_into(rt, look, writer, reasons),
         // It has an end of its own.
@@ -210,111 +213,39 @@ fn look_at<W: Write>(rt: &HostRuntime, look: Look<'_>, writer: &mut W) -> Result
     }
 }
 
-// Runs the cluster that is read, over the files of the prefix or over memory. Before a file is made, the input is read, and is a
-// cluster file, and nothing that the run has anyway is overwritten.
-fn run_over<R: Threads + Wait + Clock + Eprint + Sync, I: Read, W: Write>(
+// Runs the cluster that is read, over the files of the prefix or over memory.
+fn run_over<R: Threads + Wait + Clock + Eprint + Sync, I: Read>(
     rt: &HostRuntime,
     threads: &R,
-    (running, input): (Running<'_>, Option<&str>),
+    job: Job<'_>,
     reader: &mut I,
-    writer: &mut W,
     reasons: &mut Reasons,
 ) -> Result<(), CommandError> {
-    let bytes = read_text(rt.alloc(), reader)?;
-    if let Some(path) = file_made_by(running.checking) {
-        let n = count_processes(rt.alloc(), &mut bytes.as_slice())?;
-        if let Some(clash) = clash_of(rt, running, path, input, n)? {
-            reasons.add(path, clash);
-            return Err(CommandError::CannotWrite);
-        }
-    }
-    match running.prefix {
-        Some(prefix) => run_over_files(rt, threads, running, prefix, &bytes, writer, reasons),
-        None => run_watched(rt, threads, running, &InMemory, &bytes, writer, reasons),
+    match job.running.prefix {
+        Some(prefix) => run_in_files(rt, threads, job, prefix, reader, reasons),
+        None => run_watched(rt, threads, job, &InMemory, reader, reasons),
     }
 }
 
-// What a file is for the run already that is to be written.
-fn clash_of(
-    rt: &HostRuntime,
-    running: Running<'_>,
-    path: &str,
-    input: Option<&str>,
-    n: usize,
-) -> Result<Option<Clash>, CommandError> {
-    if let Some(prefix) = running.prefix {
-        if clashes_with_stores(rt, path, prefix, n)? {
-            return Ok(Some(Clash::Store));
-        }
-    }
-    Ok(clash_with_streams(rt, path, input))
-}
-
-// Runs the cluster over files that are made for it. A name that is there refuses the run, and no file is left of it. Once it ended
-// well, each store is in its one file; where it was refused, the files that nobody wrote to are removed.
-fn run_over_files<R: Threads + Wait + Clock + Eprint + Sync, W: Write>(
+// Runs the cluster over the files of the prefix. It stands apart, since the type of the stores is great.
+#[inline(never)]
+fn run_in_files<R: Threads + Wait + Clock + Eprint + Sync, I: Read>(
     rt: &HostRuntime,
     threads: &R,
-    running: Running<'_>,
+    job: Job<'_>,
     prefix: &str,
-    bytes: &[u8],
-    writer: &mut W,
+    reader: &mut I,
     reasons: &mut Reasons,
 ) -> Result<(), CommandError> {
-    let mut counted = bytes;
-    let n = count_processes(rt.alloc(), &mut counted)?;
-    let notes = Notes::new(rt.alloc(), n)?;
-    let places = match Places::make(rt, prefix, n) {
-        Ok(places) => places,
-        Err(error) => return Err(not_made(error, reasons)),
-    };
+    let notes = Notes::new(rt.alloc(), MAX_PROCESSES)?;
     let files = Files {
         rt,
         prefix,
         notes: &notes,
     };
-    let outcome = run_in_files(rt, threads, running, files, bytes, writer, reasons);
-    match outcome {
-        Ok(()) => settle(rt, prefix, n),
-        Err(error) => {
-            if error == CommandError::StoreFault {
-                add_fault(rt, prefix, n, &notes, reasons);
-            }
-            places.remove_empty(rt, prefix);
-        }
-    }
-    outcome
-}
-
-// Runs the cluster over files, which are there. It stands apart, since the type of the stores is great.
-#[inline(never)]
-fn run_in_files<R: Threads + Wait + Clock + Eprint + Sync, W: Write>(
-    rt: &HostRuntime,
-    threads: &R,
-    running: Running<'_>,
-    files: Files<'_>,
-    bytes: &[u8],
-    writer: &mut W,
-    reasons: &mut Reasons,
-) -> Result<(), CommandError> {
-    run_over_tables(rt, threads, running, files, bytes, writer, reasons)
-}
-
-// Tells which name refused the stores.
-fn not_made(error: PlaceError, reasons: &mut Reasons) -> CommandError {
-    reasons.advise(&error);
-    CommandError::from(error)
-}
-
-// Tells of a store fault what the system answered, or else which file could not be used.
-fn add_fault(rt: &HostRuntime, prefix: &str, n: usize, notes: &Notes, reasons: &mut Reasons) {
-    if let Some((process, error)) = notes.first() {
-        if let Ok(file) = format!(in rt.alloc(); "{prefix}{process}.db") {
-            reasons.add(file.as_str(), error);
-        }
-        return;
-    }
-    if let Ok(Some(blamed)) = first_unusable(rt, prefix, n) {
-        reasons.advise(blamed);
-    }
+    let job = Job {
+        notes: Some(&notes),
+        ..job
+    };
+    run_over_tables(rt, threads, job, files, reader, reasons)
 }

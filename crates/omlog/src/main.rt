@@ -2,10 +2,10 @@
 #![tactic(auto)]
 
 mod carrying;
-mod checking;
 mod reasons;
 mod source;
 mod store_files;
+mod surroundings;
 mod watching;
 
 use std::process::ExitCode;

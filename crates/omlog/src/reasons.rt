@@ -19,9 +19,14 @@ pub(crate) struct Reasons {
 
 impl Reasons {
     pub(crate) fn new(rt: &HostRuntime, is_verbose: bool) -> Reasons {
+        Reasons::empty(rt.alloc(), is_verbose || rt.stderr().is_terminal())
+    }
+
+    // None yet.
+    pub(crate) fn empty(alloc: Global, are_heard: bool) -> Reasons {
         Reasons {
-            are_heard: is_verbose || rt.stderr().is_terminal(),
-            text: String::new(rt.alloc()),
+            are_heard,
+            text: String::new(alloc),
         }
     }
 
@@ -44,6 +49,11 @@ impl Reasons {
         if self.are_heard {
             let _ = self.text.push_str(lines);
         }
+    }
+
+    // Other reasons, behind these.
+    pub(crate) fn add_all(&mut self, others: &Reasons) {
+        self.add_lines(others.text.as_str());
     }
 
     // The line of an input that was refused, and the rule that it breaks.

@@ -1,57 +1,83 @@
 //! A run of which more is said on standard error: how far it has come, and what its processes waited for where it came to no end.
 
-use crate::checking::run_as;
+ghost use Rattle.std.specs.Prelude.{◌≡◌};
+ghost use Rattle.omlog.specs.Modes.{mode_of};
+
 use crate::reasons::Reasons;
-use om_arguments::Running;
+use crate::surroundings::{Job, Surroundings};
+use om_arguments::Checking;
 use om_commands::CommandError;
-use om_run_commands::{count_processes, waiting_text};
+use om_interval::MAX_PROCESSES;
+use om_run_commands::{RunMode, run_file};
 use om_runner::{Opener, Progress, Watch, Watched};
 use std::alloc::Global;
-use std::io::{IsTerminal, Write};
+use std::io::{IsTerminal, Read};
 use std::sync::Wait;
 use std::sync::atomic::AtomicBool;
 use std::sync::atomic::Ordering::SeqCst;
-use std::thread;
 use std::thread::{Parker, Threads};
 use std::time::{Clock, Duration};
+use std::{io, thread};
 
 // How many seconds after a line of progress the next comes.
 const PERIOD: u64 = 1;
 
-// Ends the lines of progress.
+// Begins the lines of progress, and ends them.
 #[derive(Drop)]
-struct End {
+pub(crate) struct Stage {
+    has_begun: AtomicBool,
     is_over: AtomicBool,
-    parker: Parker,
+    to_begin: Parker,
+    to_end: Parker,
 }
 
-impl End {
-    fn new() -> End {
-        End {
+impl Stage {
+    fn new() -> Stage {
+        Stage {
+            has_begun: AtomicBool::new(false),
             is_over: AtomicBool::new(false),
-            parker: Parker::new(),
+            to_begin: Parker::new(),
+            to_end: Parker::new(),
         }
     }
 
-    // The run is over.
-    fn come(&self) {
+    // The cluster starts.
+    pub(crate) fn begin(&self) {
+        self.has_begun.store(true, SeqCst);
+        self.to_begin.unpark();
+    }
+
+    // The run is over, or was refused before the cluster started.
+    fn end(&self) {
         self.is_over.store(true, SeqCst);
-        self.parker.unpark();
+        self.to_begin.unpark();
+        self.to_end.unpark();
+    }
+
+    // Waits until the cluster starts, or the run is over.
+    fn wait<R: Wait>(&self, rt: &R) {
+        for _ in rt.forever() {
+            if self.has_begun.load(SeqCst) || self.is_over.load(SeqCst) {
+                return;
+            }
+            self.to_begin.park(rt);
+        }
     }
 
     // Sleeps for a period, or until the run is over, and says whether it is.
     fn sleep<R: Wait>(&self, rt: &R) -> bool {
         if !self.is_over.load(SeqCst) {
-            self.parker.park_timeout(rt, Duration::from_secs(PERIOD));
+            self.to_end.park_timeout(rt, Duration::from_secs(PERIOD));
         }
         self.is_over.load(SeqCst)
     }
 }
 
-// Says each second how far the cluster has come, until the run is over. Where it cannot be said, nothing comes of it.
-fn say_progress<R: Wait + Eprint>(rt: &R, alloc: Global, watch: &Watch, end: &End) {
+// Says each second how far the cluster has come, from its start until the run is over. Where it cannot be said, nothing comes of it.
+fn say_progress<R: Wait + Eprint>(rt: &R, alloc: Global, watch: &Watch, stage: &Stage) {
+    stage.wait(rt);
     for _ in rt.forever() {
-        if end.sleep(rt) {
+        if stage.sleep(rt) {
             return;
         }
         if let Ok(sights) = watch.sights(rt, alloc) {
@@ -60,24 +86,55 @@ fn say_progress<R: Wait + Eprint>(rt: &R, alloc: Global, watch: &Watch, end: &En
     }
 }
 
-// Runs the cluster as it is asked for, while a thread beside says how far it has come.
-fn run_and_say<R: Threads + Wait + Clock + Eprint + Sync, O: Opener<R> + Sync, W: Write>(
-    rt: &HostRuntime,
+// Runs the cluster of an input as it is asked for, with what it has beside.
+#[inline(never)]
+fn run_as<'a, 'w, R: Threads + Wait + Clock + Sync, O: Opener<R> + Sync, I: Read>(
     threads: &R,
-    running: Running<'_>,
     opener: &O,
-    watch: &Watch,
-    bytes: &[u8],
-    writer: &mut W,
-    reasons: &mut Reasons,
+    surroundings: &mut Surroundings<'a, 'w, R>,
+    reader: &mut I,
 ) -> Result<(), CommandError> {
-    let end = End::new();
-    let (end, alloc) = (&end, rt.alloc());
+    let rt = surroundings.rt;
+    let running = surroundings.job.running;
+    let (outcome, _) = run_file(
+        threads,
+        rt.alloc(),
+        mode_of(running.checking),
+        running.turns,
+        opener,
+        surroundings,
+        reader,
+        io::writer(rt),
+    );
+    outcome
+}
+
+// How a run is carried out that is to be checked so.
+fn mode_of(checking: Checking<'_>) -> RunMode
+    ensures { result ≡ mode_of checking.entry }
+{
+    match checking {
+        Checking::Off => RunMode::Plain,
+        Checking::Check => RunMode::Check,
+        Checking::Witness(_) => RunMode::Witness,
+        Checking::Record(_) => RunMode::Record,
+        Checking::Follow => RunMode::Follow,
+    }
+}
+
+// Runs the cluster as it is asked for, while a thread beside says how far it has come.
+fn run_and_say<'a, 'w, R: Threads + Wait + Clock + Eprint + Sync, O: Opener<R> + Sync, I: Read>(
+    threads: &R,
+    opener: &O,
+    (watch, stage): (&Watch, &Stage),
+    surroundings: &mut Surroundings<'a, 'w, R>,
+    reader: &mut I,
+) -> Result<(), CommandError> {
+    let alloc = surroundings.rt.alloc();
     thread::scope(thread::scope_env(), threads, |scope| {
-        let beside = scope.spawn(move || say_progress(threads, alloc, watch, end));
-        let mut reader = bytes;
-        let outcome = run_as(rt, threads, running, opener, &mut reader, writer, reasons);
-        end.come();
+        let beside = scope.spawn(move || say_progress(threads, alloc, watch, stage));
+        let outcome = run_as(threads, opener, surroundings, reader);
+        stage.end();
         if let Ok(beside) = beside {
             beside.join(threads);
         }
@@ -85,74 +142,66 @@ fn run_and_say<R: Threads + Wait + Clock + Eprint + Sync, O: Opener<R> + Sync, W
     })
 }
 
-// Adds what each process was doing that had not ended.
-fn add_waiting<R: Wait>(
-    rt: &HostRuntime,
-    threads: &R,
-    watch: &Watch,
-    bytes: &[u8],
-    reasons: &mut Reasons,
-) {
-    let Ok(sights) = watch.sights(threads, rt.alloc()) else {
-        return;
-    };
-    let mut reader = bytes;
-    if let Ok(text) = waiting_text(rt.alloc(), &mut reader, &sights) {
-        reasons.add_lines(text.as_str());
-    }
-}
-
 // Runs the cluster as it is asked for, where somebody may watch its processes.
-fn run_seen<'a, R: Threads + Wait + Clock + Eprint + Sync, O: Opener<R> + Sync, W: Write>(
-    rt: &HostRuntime,
+fn run_seen<'a, 'w, R: Threads + Wait + Clock + Eprint + Sync, O: Opener<R> + Sync, I: Read>(
     threads: &R,
-    running: Running<'_>,
-    opener: &'a O,
-    watch: Option<&'a Watch>,
-    bytes: &[u8],
-    writer: &mut W,
-    reasons: &mut Reasons,
+    opener: &O,
+    stage: &Stage,
+    surroundings: &mut Surroundings<'a, 'w, R>,
+    reader: &mut I,
 ) -> Result<(), CommandError> {
+    let watch = surroundings.watch;
     let opener = Watched { opener, watch };
     match watch {
-        Some(watch) if rt.stderr().is_terminal() => {
-            run_and_say(rt, threads, running, &opener, watch, bytes, writer, reasons)
+        Some(watch) if surroundings.rt.stderr().is_terminal() => {
+            run_and_say(threads, &opener, (watch, stage), surroundings, reader)
         }
-        _ => {
-            let mut reader = bytes;
-            run_as(rt, threads, running, &opener, &mut reader, writer, reasons)
-        }
+        _ => run_as(threads, &opener, surroundings, reader),
     }
 }
 
-// Runs the cluster of an input, a cluster file, over stores that are made so. Where more is to be said, its processes are watched.
-pub(crate) fn run_watched<R: Threads + Wait + Clock + Eprint + Sync, O: Opener<R> + Sync, W: Write>(
-    rt: &HostRuntime,
-    threads: &R,
-    running: Running<'_>,
+// Runs the cluster of an input, with what it has beside; reasons come behind those that are there.
+fn run_beside<'a, 'w, R: Threads + Wait + Clock + Eprint + Sync, O: Opener<R> + Sync, I: Read>(
+    rt: &'a HostRuntime,
+    threads: &'a R,
+    job: Job<'a>,
+    (watch, stage): (Option<&'w Watch>, &'w Stage),
     opener: &O,
-    bytes: &[u8],
-    writer: &mut W,
+    reader: &mut I,
     reasons: &mut Reasons,
 ) -> Result<(), CommandError> {
+    let mut surroundings = Surroundings::new(rt, threads, job, watch, stage, reasons.are_heard);
+    let outcome = run_seen(threads, opener, stage, &mut surroundings, reader);
+    reasons.add_all(&surroundings.reasons);
+    outcome
+}
+
+// Runs the cluster of an input over stores that are made so. Where more is to be said, its processes are watched.
+pub(crate) fn run_watched<
+    'a,
+    R: Threads + Wait + Clock + Eprint + Sync,
+    O: Opener<R> + Sync,
+    I: Read,
+>(
+    rt: &'a HostRuntime,
+    threads: &'a R,
+    job: Job<'a>,
+    opener: &O,
+    reader: &mut I,
+    reasons: &mut Reasons,
+) -> Result<(), CommandError> {
+    let stage = Stage::new();
     if !reasons.are_heard {
-        return run_seen(rt, threads, running, opener, None, bytes, writer, reasons);
+        return run_beside(rt, threads, job, (None, &stage), opener, reader, reasons);
     }
-    let mut counted = bytes;
-    let n = count_processes(rt.alloc(), &mut counted)?;
-    let watch = &Watch::new(rt.alloc(), n)?;
-    let outcome = run_seen(
+    let watch = Watch::new(rt.alloc(), MAX_PROCESSES)?;
+    run_beside(
         rt,
         threads,
-        running,
+        job,
+        (Some(&watch), &stage),
         opener,
-        Some(watch),
-        bytes,
-        writer,
+        reader,
         reasons,
-    );
-    if outcome == Err(CommandError::OutOfTurns) {
-        add_waiting(rt, threads, watch, bytes, reasons);
-    }
-    outcome
+    )
 }

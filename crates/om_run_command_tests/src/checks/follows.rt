@@ -1,9 +1,9 @@
 //! Outputs that are written as they are released.
 
 use super::rings::{ring, ring_ends};
+use crate::rows::{Command, carry_out};
 use om_commands::CommandError;
-use om_run_commands::followed::run_followed;
-use om_runner::InMemory;
+use om_run_commands::RunMode;
 use std::alloc::Global;
 use std::io;
 use std::io::Write;
@@ -22,8 +22,9 @@ fn followed<R: Threads + Wait + Clock + Abort + Sync>(
     turns: u64,
     mut input: &[u8],
 ) -> (Result<(), CommandError>, String) {
+    let mode = RunMode::Follow;
     let written = Vec::new(alloc);
-    let (answer, written) = run_followed(rt, alloc, turns, &InMemory, &mut input, written);
+    let (answer, written) = carry_out(rt, alloc, Command { mode, turns }, &mut input, written);
     let text = String::from_utf8(written).ok().expect(rt, "text");
     (answer, text)
 }
@@ -134,7 +135,8 @@ fn narrowed<R: Threads + Wait + Clock + Abort + Sync>(
         taken: Vec::new(alloc),
         room,
     };
-    let (answer, writer) = run_followed(rt, alloc, TURNS, &InMemory, &mut input, writer);
+    let (mode, turns) = (RunMode::Follow, TURNS);
+    let (answer, writer) = carry_out(rt, alloc, Command { mode, turns }, &mut input, writer);
     let text = String::from_utf8(writer.taken).ok().expect(rt, "text");
     (answer, text)
 }

@@ -1,10 +1,11 @@
 //! Records of runs, played event by event.
 
 use super::rings::{ring, ring_ends};
+use crate::beside::Beside;
 use crate::rows::How::Writes;
 use crate::rows::check_answer;
 use om_commands::sim::sim;
-use om_run_commands::recorded::run_recorded;
+use om_run_commands::{RunMode, run_file};
 use om_runner::InMemory;
 use std::alloc::Global;
 use std::process::Abort;
@@ -57,20 +58,21 @@ fn recorded<R: Threads + Wait + Clock + Abort + Sync>(
     input: &str,
     n: u32,
 ) -> String {
-    let mut text = Vec::new(alloc);
-    let mut script = Vec::new(alloc);
-    let answer = run_recorded(
+    let mut beside = Beside::new(alloc);
+    let (answer, text) = run_file(
         rt,
         alloc,
+        RunMode::Record,
         TURNS,
         &InMemory,
+        &mut beside,
         &mut input.as_bytes(),
-        &mut text,
-        &mut script,
+        Vec::new(alloc),
     );
     let ends = ring_ends(rt, alloc, n);
     check_answer(rt, alloc, input, (answer, &text), (Writes, &ends));
-    text_of(rt, script)
+    let Beside { file, .. } = beside;
+    text_of(rt, file)
 }
 
 // What `sim` tells of a record.

@@ -1,9 +1,9 @@
 //! Texts of rings over stores in memory, checked and unchecked, with failures and without.
 
 use super::rings::{ring, ring_ends};
+use crate::beside::Beside;
 use om_commands::CommandError;
-use om_run_commands::check::run_checked;
-use om_run_commands::run::run;
+use om_run_commands::{RunMode, run_file};
 use om_runner::InMemory;
 use std::alloc::Global;
 use std::process::Abort;
@@ -11,43 +11,50 @@ use std::sync::Wait;
 use std::thread::Threads;
 use std::time::Clock;
 
-// Whether a run is checked.
-#[derive(Clone, Copy, Debug)]
-enum Way {
-    Plain,
-    Checked,
-}
-
 // What a run over stores in memory answers and writes.
 fn carry_out<R: Threads + Wait + Clock + Sync>(
     rt: &R,
     alloc: Global,
-    (way, turns): (Way, u64),
+    (mode, turns): (RunMode, u64),
     mut input: &[u8],
 ) -> (Result<(), CommandError>, Vec<u8>) {
-    let mut written = Vec::new(alloc);
-    let answer = match way {
-        Way::Plain => run(rt, alloc, turns, &InMemory, &mut input, &mut written),
-        Way::Checked => run_checked(rt, alloc, turns, &InMemory, &mut input, &mut written),
-    };
-    (answer, written)
+    let mut beside = Beside::new(alloc);
+    let written = Vec::new(alloc);
+    run_file(
+        rt,
+        alloc,
+        mode,
+        turns,
+        &InMemory,
+        &mut beside,
+        &mut input,
+        written,
+    )
 }
+
+// The modes in which all is written at the end.
+static MODES: [RunMode; 4] = [
+    RunMode::Plain,
+    RunMode::Check,
+    RunMode::Witness,
+    RunMode::Record,
+];
 
 // The turns of a worker.
 const TURNS: u64 = 50_000_000;
 
-// Each way of running the input writes the text.
+// A run of the input writes the text in each of these modes.
 fn check_run<R: Threads + Wait + Clock + Abort + Sync>(
     rt: &R,
     alloc: Global,
     input: &str,
     text: &str,
 ) {
-    for way in [Way::Plain, Way::Checked] {
-        let told = carry_out(rt, alloc, (way, TURNS), input.as_bytes());
+    for mode in &MODES {
+        let told = carry_out(rt, alloc, (*mode, TURNS), input.as_bytes());
         assert!(rt;
             told.0 == Ok(()) && told.1.as_slice() == text.as_bytes(),
-            "{way:?} {input}"
+            "{mode:?} {input}"
         );
     }
 }
@@ -73,11 +80,11 @@ fn rings_with_failures(rt: HostRuntime) {
 #[test]
 fn rings_without_turns(rt: HostRuntime) {
     let input = ring(&rt, rt.alloc(), 8, "kill p3 3\nkill p5 5\n");
-    for way in [Way::Plain, Way::Checked] {
-        let told = carry_out(&rt, rt.alloc(), (way, 1), input.as_bytes());
+    for mode in &MODES {
+        let told = carry_out(&rt, rt.alloc(), (*mode, 1), input.as_bytes());
         assert!(&rt;
             told.0 == Err(CommandError::OutOfTurns) && told.1.is_empty(),
-            "{way:?}"
+            "{mode:?}"
         );
     }
 }

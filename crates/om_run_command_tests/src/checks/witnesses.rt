@@ -2,10 +2,10 @@
 
 use super::plays::GATHER;
 use super::rings::ring;
-use crate::streams::Failing;
+use crate::beside::Beside;
 use om_commands::CommandError;
 use om_commands::sim::sim;
-use om_run_commands::check::run_with_witness;
+use om_run_commands::{RunMode, run_file};
 use om_runner::InMemory;
 use std::alloc::Global;
 use std::process::Abort;
@@ -31,20 +31,20 @@ fn outputs_of(rt: &impl Abort, alloc: Global, text: &[u8]) -> String {
 
 // Runs a cluster and plays its witness, which comes to the same outputs; and how many lines they have.
 fn check_witness<R: Threads + Wait + Clock + Abort + Sync>(rt: &R, alloc: Global, input: &str) {
-    let mut written = Vec::new(alloc);
-    let mut script = Vec::new(alloc);
+    let mut beside = Beside::new(alloc);
     let mut played = Vec::new(alloc);
-    let ran = run_with_witness(
+    let (ran, written) = run_file(
         rt,
         alloc,
+        RunMode::Witness,
         TURNS,
         &InMemory,
+        &mut beside,
         &mut input.as_bytes(),
-        &mut written,
-        &mut script,
+        Vec::new(alloc),
     );
     assert!(rt; ran == Ok(()), "{input}");
-    let simulated = sim(alloc, &mut script.as_slice(), &mut played);
+    let simulated = sim(alloc, &mut beside.file.as_slice(), &mut played);
     assert!(rt; simulated == Ok(()), "{input}");
     let outputs = outputs_of(rt, alloc, &written);
     assert!(rt;
@@ -67,18 +67,22 @@ fn witnesses_that_are_played(rt: HostRuntime) {
 // Nothing is written of a run whose witness cannot be.
 #[test]
 fn witnesses_that_are_not_written(rt: HostRuntime) {
-    let mut written = Vec::new(rt.alloc());
-    let told = run_with_witness(
-        &rt,
-        rt.alloc(),
-        TURNS,
-        &InMemory,
-        &mut GATHER.as_bytes(),
-        &mut written,
-        &mut Failing { calls: 3 },
-    );
-    assert!(&rt;
-        told == Err(CommandError::CannotWrite) && written.is_empty(),
-        "{told:?}"
-    );
+    for writes in 0..2 {
+        let mut beside = Beside::new(rt.alloc());
+        beside.writes = writes;
+        let (told, written) = run_file(
+            &rt,
+            rt.alloc(),
+            RunMode::Witness,
+            TURNS,
+            &InMemory,
+            &mut beside,
+            &mut GATHER.as_bytes(),
+            Vec::new(rt.alloc()),
+        );
+        assert!(&rt;
+            told == Err(CommandError::CannotWrite) && written.is_empty(),
+            "{told:?}"
+        );
+    }
 }

@@ -4,7 +4,7 @@ use Rattle.om_check.specs.declared.fault.PlayFault.TheVariants as playing
 use Rattle.om_runner.specs.declared.fault.RunFault.{RunFault}
 use Rattle.om_runner.specs.declared.fault.RunFault.TheVariants as running
 use Rattle.om_commands.specs.declared.error.CommandError.{CommandError}
-use Rattle.om_commands.specs.declared.error.CommandError.TheVariants.{NoMemory, StoreFault, OutOfTurns, GateShut, NoThread, Unlike}
+use Rattle.om_commands.specs.declared.error.CommandError.TheVariants.{NoMemory, StoreFault, StoreInUse, AnotherCluster, StoreMissing, OutOfTurns, GateShut, NoThread, Unlike}
 
 -- the run of a cluster came to no end
 abbrev pub error_of_run : RunFault → CommandError
@@ -13,9 +13,9 @@ error_of_run (running.GateShut pid) = GateShut
 error_of_run running.Memory = NoMemory
 error_of_run (running.Fault pid) = StoreFault
 error_of_run (running.Load pid) = StoreFault
-error_of_run (running.StoreInUse pid) = StoreFault
-error_of_run (running.AnotherCluster pid) = StoreFault
-error_of_run (running.StoreMissing pid) = StoreFault
+error_of_run (running.StoreInUse pid) = StoreInUse pid
+error_of_run (running.AnotherCluster pid) = AnotherCluster pid
+error_of_run (running.StoreMissing pid) = StoreMissing pid
 error_of_run running.NoThread = NoThread
 
 -- the run without failures was not played: its witnesses name none, or memory ran out

@@ -4,20 +4,20 @@ use Rattle.om_commands.specs.declared.error.CommandError.{CommandError}
 use Rattle.om_commands.specs.declared.error.CommandError.TheVariants as errors
 use Rattle.om_run_commands.specs.ClusterScript.{ClusterFile}
 
--- A script without a process is told, and so is it where a run comes to no end. Nothing else of the script is.
+-- The error of a script that was read, or its writer's: a script without a process is told, and so is it where a run comes to no end.
+-- Nothing else of the script is.
 abbrev pub IsErrorOfScript : ClusterFile → CommandError → Type 0
+IsErrorOfScript script errors.CannotWrite = Unit {0}
 IsErrorOfScript script errors.EmptyScript = length script.cluster.processes ≡ 0
 IsErrorOfScript script errors.NoMemory = Unit {0}
 IsErrorOfScript script errors.OutOfTurns = 1 ≤ length script.cluster.processes
 IsErrorOfScript script errors.GateShut = 1 ≤ length script.cluster.processes
 IsErrorOfScript script errors.StoreFault = 1 ≤ length script.cluster.processes
+IsErrorOfScript script (errors.StoreInUse process) = 1 ≤ length script.cluster.processes
+IsErrorOfScript script (errors.AnotherCluster process) = 1 ≤ length script.cluster.processes
+IsErrorOfScript script (errors.StoreMissing process) = 1 ≤ length script.cluster.processes
 IsErrorOfScript script errors.NoThread = 1 ≤ length script.cluster.processes
 IsErrorOfScript script _ = ⊥
-
--- the error of a script whose outputs are written while it runs, or the writer's
-abbrev pub IsErrorOfFollowed : ClusterFile → CommandError → Type 0
-IsErrorOfFollowed script errors.CannotWrite = Unit {0}
-IsErrorOfFollowed script error = IsErrorOfScript script error
 
 -- the errors are those of a run, and that it is unlike its check
 abbrev pub IsErrorOfCheckedScript : ClusterFile → CommandError → Type 0

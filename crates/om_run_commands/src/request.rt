@@ -1,0 +1,150 @@
+//! The request `run`: a cluster file is read once, and its cluster is run as it is asked for.
+
+ghost use Rattle.std.specs.Prelude.{◌≡◌, ◌≢◌, ◌≤◌, ℕ, List, IsTrue, length, IfSome, IfErr, OnOk};
+ghost use Rattle.std.specs.Io.KnownBytes.{Appends, Keeps};
+ghost use Rattle.om_commands.specs.Command.{IsSilent};
+ghost use Rattle.om_run_commands.specs.Follow.{IsPart, IsPartOf};
+ghost use Rattle.om_run_commands.specs.Modes.{IsErrorIn, IsRunIn};
+ghost use Rattle.om_run_commands.specs.Run.{IsByKind};
+ghost use Rattle.om_run_commands.specs.steps.Modes.{IsAnswerIn, IsErrorOfScriptIn};
+
+use crate::check::{run_checked, run_with_witness};
+use crate::cluster_script::ClusterScript;
+use crate::context::RunContext;
+use crate::followed::run_followed;
+use crate::mode::RunMode;
+use crate::recorded::run_recorded;
+use crate::run::run;
+use om_commands::{CommandError, read_input};
+use om_runner::Opener;
+use std::alloc::Global;
+use std::io::{Read, Write};
+use std::sync::Wait;
+use std::thread::Threads;
+use std::time::Clock;
+
+/// Reads a cluster file whole, has the context make ready what its run needs, and runs its cluster with a thread for each process
+/// over stores that `opener` makes. A worker takes at most so many `turns`. Then what each process put out and how each ended is
+/// written, and the context learns how the run ended; what else comes about is by the mode.
+///
+/// - `Check`: plays, in one thread, the run without failures in which each process receives what it received in its threads, and
+///   writes the text of that run, to the byte. Refused at last with `Unlike` where the threads' outputs or statuses are not
+///   those of that run, or there is none.
+/// - `Witness`: the same, and before the text that run is written to the context's file, as a script of `sim`.
+/// - `Record`: what the threads did is written to the context's file, as a script of `sim` with comments; what they did until a
+///   run was refused too, if it can be.
+/// - `Follow`: writes each output as soon as it is released, the lines of a process in order and each once, and at the end how each
+///   process ended. Where the run is refused, what was released by then is written; less where memory ran out or the writer refused.
+///
+/// Refused, nothing is written but with `Follow`, unless it was the writer that refused. A file that is refused has nothing made
+/// ready.
+pub fn run_file<
+    R: Threads + Wait + Clock + Sync,
+    O: Opener<R> + Sync,
+    C: RunContext,
+    I: Read,
+    W: Write + Drop,
+>(
+    rt: &R,
+    alloc: Global,
+    mode: RunMode,
+    turns: u64,
+    opener: &O,
+    context: &mut C,
+    reader: &mut I,
+    writer: W,
+) -> (Result<(), CommandError>, W)
+    ensures text { IfSome (I.remaining reader.old) (λ bytes. OnOk result.0 ((text : List ℕ)
+        × IsRunIn mode ((store : O.Store) → IsTrue (O.Store.is_clean store)) bytes text
+        × Appends (W.contents writer) (W.contents result.1) text)) }
+    ensures error { IfSome (I.remaining reader.old) (λ bytes. IfErr result.0 (IsErrorIn mode bytes)) }
+    ensures silent { mode ≢ RunMode.Follow
+        → IfErr result.0 (λ error. IsSilent error (Keeps (W.contents writer) (W.contents result.1))) }
+    ensures partly { mode ≡ RunMode.Follow → IfSome (I.remaining reader.old) (λ bytes. IfErr result.0 (λ error. IsByKind error
+        (IsPart ((store : O.Store) → IsTrue (O.Store.is_clean store)) bytes (W.contents writer) (W.contents result.1))
+        (Keeps (W.contents writer) (W.contents result.1)))) }
+{
+    match read_input(
+        alloc,
+        reader,
+        ClusterScript::new(alloc, mode.writes_script()),
+    ) {
+        Ok(script) => {
+            let told = run_script(rt, alloc, mode, turns, opener, context, &script, writer);
+            drop(script);
+            told
+        }
+        Err(error) => (Err(error), writer),
+    }
+}
+
+// Runs the cluster of a script, for which the context makes ready, and which has a process or is refused.
+fn run_script<
+    R: Threads + Wait + Clock + Sync,
+    O: Opener<R> + Sync,
+    C: RunContext,
+    W: Write + Drop,
+>(
+    rt: &R,
+    alloc: Global,
+    mode: RunMode,
+    turns: u64,
+    opener: &O,
+    context: &mut C,
+    script: &ClusterScript,
+    writer: W,
+) -> (Result<(), CommandError>, W)
+    ensures text { OnOk result.0 ((text : List ℕ)
+        × IsAnswerIn mode ((store : O.Store) → IsTrue (O.Store.is_clean store)) script.now text
+        × Appends (W.contents writer) (W.contents result.1) text) }
+    ensures error { IfErr result.0 (IsErrorOfScriptIn mode script.now) }
+    ensures silent { mode ≢ RunMode.Follow
+        → IfErr result.0 (λ error. IsSilent error (Keeps (W.contents writer) (W.contents result.1))) }
+    ensures partly { mode ≡ RunMode.Follow → IfErr result.0 (λ error. IsByKind error
+        (IsPartOf ((store : O.Store) → IsTrue (O.Store.is_clean store)) script.now (W.contents writer) (W.contents result.1))
+        (Keeps (W.contents writer) (W.contents result.1))) }
+{
+    if script.programs().n() == 0 {
+        return (Err(CommandError::EmptyScript), writer);
+    }
+    if let Err(error) = context.begin(script) {
+        return (Err(error), writer);
+    }
+    let (outcome, writer) = run_in(rt, alloc, mode, turns, opener, context, script, writer);
+    context.end(script, outcome);
+    (outcome, writer)
+}
+
+// Runs the cluster of a script by the mode.
+fn run_in<R: Threads + Wait + Clock + Sync, O: Opener<R> + Sync, C: RunContext, W: Write + Drop>(
+    rt: &R,
+    alloc: Global,
+    mode: RunMode,
+    turns: u64,
+    opener: &O,
+    context: &mut C,
+    script: &ClusterScript,
+    writer: W,
+) -> (Result<(), CommandError>, W)
+    requires { 1 ≤ length script.now.cluster.processes }
+    ensures text { OnOk result.0 ((text : List ℕ)
+        × IsAnswerIn mode ((store : O.Store) → IsTrue (O.Store.is_clean store)) script.now text
+        × Appends (W.contents writer) (W.contents result.1) text) }
+    ensures error { IfErr result.0 (IsErrorOfScriptIn mode script.now) }
+    ensures silent { mode ≢ RunMode.Follow
+        → IfErr result.0 (λ error. IsSilent error (Keeps (W.contents writer) (W.contents result.1))) }
+    ensures partly { mode ≡ RunMode.Follow → IfErr result.0 (λ error. IsByKind error
+        (IsPartOf ((store : O.Store) → IsTrue (O.Store.is_clean store)) script.now (W.contents writer) (W.contents result.1))
+        (Keeps (W.contents writer) (W.contents result.1))) }
+{
+    let mut writer = writer;
+    let to = &mut writer;
+    let outcome = match mode {
+        RunMode::Plain => run(rt, alloc, turns, opener, script, to),
+        RunMode::Check => run_checked(rt, alloc, turns, opener, script, to),
+        RunMode::Witness => run_with_witness(rt, alloc, turns, opener, context, script, to),
+        RunMode::Record => run_recorded(rt, alloc, turns, opener, context, script, to),
+        RunMode::Follow => return run_followed(rt, alloc, turns, opener, script, writer),
+    };
+    (outcome, writer)
+}
