@@ -15,7 +15,7 @@ abbrev pub about_text : List ℕ → List ℕ
 about_text (kind ∷ version ∷ own ∷ n ∷ extension ∷ a ∷ b ∷ c ∷ d ∷ image) =
     if (kind == ABOUT_KIND) && (version == ABOUT_VERSION)
     then codes " process " ++ decimal own ++ codes " of " ++ decimal n ++ extension_text extension
-        ++ codes " size " ++ decimal (from_le_bytes w32 (a ∷ b ∷ c ∷ d ∷ [])) ++ codes " bytes " ++ decimal (length image)
+    ++ codes " size " ++ decimal (from_le_bytes w32 (a ∷ b ∷ c ∷ d ∷ [])) ++ codes " bytes " ++ decimal (length image)
     else codes " damaged"
 about_text bytes = codes " damaged"
 

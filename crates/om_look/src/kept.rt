@@ -70,8 +70,7 @@ fn push_about_text(text: &mut String, bytes: &[u8]) -> Result<(), AllocError>
 {
     match bytes {
         [kind, version, own, n, extension, a, b, c, d, image @ ..]
-            if *kind == ABOUT_KIND && *version == ABOUT_VERSION =>
-        {
+            if *kind == ABOUT_KIND && *version == ABOUT_VERSION => {
             let size = u32::from_le_bytes([*a, *b, *c, *d]);
             let count = image.len();
             write!(text, " process {own} of {n}")?;

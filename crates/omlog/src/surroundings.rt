@@ -8,7 +8,8 @@ use crate::watching::Stage;
 use om_arguments::{Checking, Running};
 use om_commands::CommandError;
 use om_files::{
-    Clash, Notes, PlaceError, Places, clash_with_streams, clashes_with_stores, first_unusable, settle,
+    Clash, Notes, PlaceError, Places, clash_with_streams, clashes_with_stores, first_unusable,
+    settle,
 };
 use om_run_commands::{ClusterScript, RunContext, waiting_text};
 use om_runner::Watch;

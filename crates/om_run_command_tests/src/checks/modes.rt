@@ -6,7 +6,7 @@ use om_commands::CommandError;
 use om_interval::Pid;
 use om_run_commands::{RunMode, run_file};
 use om_runner::{InMemory, OpenFault, Opener};
-use om_stable::{MemStable, Stable, StoreError};
+use om_stable::{Ledger, LedgerRows, LedgerTable, MemStable, Stable, StoreError};
 use std::alloc::{AllocError, Global};
 use std::process::Abort;
 use std::sync::Wait;
