@@ -1,8 +1,7 @@
 //! The command `show`: what a store holds, and to where it can be replayed.
 
-ghost use Rattle.std.specs.Prelude.{◌≡◌, ◌++◌, ℕ, List, IfErr, OnOk, IsErrOf};
+ghost use Rattle.std.specs.Prelude.{◌≡◌, ℕ, List, IfErr, OnOk, IsErrOf};
 ghost use Rattle.std.specs.Io.KnownBytes.{Appends, Keeps};
-ghost use Rattle.om_look.specs.Kept.{kept_text};
 ghost use Rattle.om_look.specs.Show.{IsShown};
 ghost use Rattle.om_stable.specs.Calls.{IsCleanCall, UsesStore};
 ghost use Rattle.om_commands.specs.Command.{IsSilent};
@@ -11,8 +10,8 @@ ghost use Rattle.om_commands.specs.steps.Errors.{error_of_look};
 
 use crate::command::write_answer;
 use crate::error::CommandError;
-use om_look::{LookFault, content_text, kept_text};
-use om_stable::{Ledger, Stable};
+use om_look::{LookFault, content_text};
+use om_stable::Stable;
 use std::alloc::Global;
 use std::io::Write;
 
@@ -33,29 +32,6 @@ pub fn show<S: Stable, W: Write>(
     ensures used { UsesStore S.failed S.is_clean S.IsSound store.old (IsErrOf result CommandError.StoreFault) store.new }
 {
     let text = content_text(alloc, store)?;
-    write_answer(writer, text.as_bytes())
-}
-
-/// Writes what a store holds that keeps more beside its records: as [`show`], and behind it a line for what the store is of, for
-/// each released output, and for each record of senders. The store keeps all that it holds. Refused, nothing is written, unless
-/// it was the writer that refused.
-pub fn show_kept<S: Ledger, W: Write>(
-    alloc: Global,
-    store: &mut S,
-    writer: &mut W,
-) -> Result<(), CommandError>
-    ensures text { IsCleanCall S.is_clean S.IsSound store.old store.new
-        → OnOk result ((text : List ℕ) × IsShown (S.content store.old) text
-        × Appends (W.contents writer.old) (W.contents writer.new) (text ++ kept_text (S.ledger store.old))) }
-    ensures error { IfErr result IsNoMatterOfContent }
-    ensures silent { IfErr result (λ error. IsSilent error (Keeps (W.contents writer.old) (W.contents writer.new))) }
-    ensures same { IsCleanCall S.is_clean S.IsSound store.old store.new → S.content store.new ≡ S.content store.old }
-    ensures kept { IsCleanCall S.is_clean S.IsSound store.old store.new → S.ledger store.new ≡ S.ledger store.old }
-    ensures used { UsesStore S.failed S.is_clean S.IsSound store.old (IsErrOf result CommandError.StoreFault) store.new }
-{
-    let mut text = content_text(alloc, store)?;
-    let kept = kept_text(alloc, store)?;
-    text.push_str(&kept)?;
     write_answer(writer, text.as_bytes())
 }
 

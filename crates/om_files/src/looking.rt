@@ -11,7 +11,7 @@ ghost use Rattle.om_commands.specs.ReplaySteps.{IsStepsText};
 
 use crate::copying::copy_of;
 use om_commands::CommandError;
-use om_commands::show::{show, show_kept};
+use om_commands::show::show;
 use om_commands::steps::replay_steps;
 use om_tables::{SqlLedger, SqlStable};
 use sqlite::{Alter, Connection};
@@ -75,14 +75,14 @@ pub fn steps_over<S: Alter + Drop, W: Write>(
     }
 }
 
-/// Writes what the store in a file holds: one of two tables as [`show_over`] does, one of five, which a run can take up, as
-/// [`show_kept`] does. The file is only read. One that is not there, or has nothing, is a `StoreFault`.
+/// Writes the records that the store in a file holds, of two tables or of five, which a run can take up; see [`show_over`]. The
+/// file is only read. One that is not there, or has nothing, is a `StoreFault`.
 pub fn show_file<W: Write>(rt: &HostRuntime, file: &str, writer: &mut W) -> Result<(), CommandError>
     ensures error { IfErr result IsNoMatterOfContent }
     ensures silent { IfErr result (λ error. IsSilent error (Keeps (W.contents writer.old) (W.contents writer.new))) }
 {
     match SqlLedger::adopt(copy_of(rt, file)?) {
-        Ok(mut store) => show_kept(rt.alloc(), &mut store, writer),
+        Ok(mut store) => show(rt.alloc(), &mut store, writer),
         Err((_, conn)) => {
             let (told, _conn) = show_over(rt.alloc(), conn, writer);
             told

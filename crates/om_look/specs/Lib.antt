@@ -1,5 +1,4 @@
 pub mod About
-pub mod Kept
 pub mod Lines
 pub mod Rows
 pub mod Spans

@@ -4,8 +4,7 @@
 //!
 //! - what a store holds: `content` (the text of all), `lines` (a record as a line), `gathering` (the checkpoints), `stops` (how
 //!   far replays go), `spans` (intervals as ranges), `reading`
-//! - what a run is told that takes it up: `rows` (a manager's, and the senders of receipts), `about` (what the store is of), `kept`
-//!   (the text of what is kept for it)
+//! - what a run is told that takes it up: `rows` (a manager's, and the senders of receipts), `about` (what the store is of)
 //! - how a process goes on: `tracing`, `trace_text` (its lines), `writes` (what instructions write)
 #![tactic(auto)]
 
@@ -13,7 +12,6 @@ mod about;
 mod content;
 mod fault;
 mod gathering;
-mod kept;
 mod lines;
 mod reading;
 mod rows;
@@ -26,6 +24,5 @@ mod writes;
 pub use about::{ABOUT_KIND, ABOUT_VERSION, about_of};
 pub use content::content_text;
 pub use fault::LookFault;
-pub use kept::kept_text;
 pub use rows::{RowsFault, stored_rows, stored_senders};
 pub use tracing::trace;
