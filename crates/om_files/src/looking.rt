@@ -14,7 +14,8 @@ use om_commands::CommandError;
 use om_commands::show::show;
 use om_commands::steps::replay_steps;
 use om_tables::{SqlLedger, SqlStable};
-use sqlite::{Alter, Connection};
+use sqlite::{Alter, Connection, FileStore};
+use sqlite_disk::Memory;
 use std::alloc::Global;
 use std::io::Write;
 
@@ -82,12 +83,37 @@ pub fn show_file<W: Write>(rt: &HostRuntime, file: &str, writer: &mut W) -> Resu
     ensures silent { IfErr result (λ error. IsSilent error (Keeps (W.contents writer.old) (W.contents writer.new))) }
 {
     match SqlLedger::adopt(copy_of(rt, file)?) {
-        Ok(mut store) => show(rt.alloc(), &mut store, writer),
-        Err((_, conn)) => {
-            let (told, _conn) = show_over(rt.alloc(), conn, writer);
-            told
-        }
+        Ok(store) => show_ledger(rt.alloc(), store, writer),
+        Err((_, conn)) => show_copy(rt.alloc(), conn, writer),
     }
+}
+
+// The same of a store of five tables.
+#[inline(never)]
+fn show_ledger<W: Write>(
+    alloc: Global,
+    mut store: SqlLedger<FileStore<Memory>>,
+    writer: &mut W,
+) -> Result<(), CommandError>
+    ensures error { IfErr result IsNoMatterOfContent }
+    ensures silent { IfErr result (λ error. IsSilent error (Keeps (W.contents writer.old) (W.contents writer.new))) }
+{
+    show(alloc, &mut store, writer)
+}
+
+// The same of a store of two tables.
+#[inline(never)]
+fn show_copy<W: Write>(
+    alloc: Global,
+    conn: Connection<FileStore<Memory>>,
+    writer: &mut W,
+) -> Result<(), CommandError>
+    requires { conn.in_transaction ≡ false }
+    ensures error { IfErr result IsNoMatterOfContent }
+    ensures silent { IfErr result (λ error. IsSilent error (Keeps (W.contents writer.old) (W.contents writer.new))) }
+{
+    let (told, _conn) = show_over(alloc, conn, writer);
+    told
 }
 
 /// Writes how the process goes on whose store is in a file, of two tables or of five; see [`steps_over`]. The file is only read.
@@ -103,10 +129,39 @@ pub fn steps_file<W: Write>(
     ensures silent { IfErr result (λ error. IsSilent error (Keeps (W.contents writer.old) (W.contents writer.new))) }
 {
     match SqlLedger::adopt(copy_of(rt, file)?) {
-        Ok(mut store) => replay_steps(rt.alloc(), &mut store, interval, steps, traced, writer),
-        Err((_, conn)) => {
-            let (told, _conn) = steps_over(rt.alloc(), conn, interval, steps, traced, writer);
-            told
-        }
+        Ok(store) => steps_ledger(rt.alloc(), store, interval, steps, traced, writer),
+        Err((_, conn)) => steps_copy(rt.alloc(), conn, interval, steps, traced, writer),
     }
+}
+
+// The same of a store of five tables.
+#[inline(never)]
+fn steps_ledger<W: Write>(
+    alloc: Global,
+    mut store: SqlLedger<FileStore<Memory>>,
+    interval: u32,
+    steps: u64,
+    traced: bool,
+    writer: &mut W,
+) -> Result<(), CommandError>
+    ensures silent { IfErr result (λ error. IsSilent error (Keeps (W.contents writer.old) (W.contents writer.new))) }
+{
+    replay_steps(alloc, &mut store, interval, steps, traced, writer)
+}
+
+// The same of a store of two tables.
+#[inline(never)]
+fn steps_copy<W: Write>(
+    alloc: Global,
+    conn: Connection<FileStore<Memory>>,
+    interval: u32,
+    steps: u64,
+    traced: bool,
+    writer: &mut W,
+) -> Result<(), CommandError>
+    requires { conn.in_transaction ≡ false }
+    ensures silent { IfErr result (λ error. IsSilent error (Keeps (W.contents writer.old) (W.contents writer.new))) }
+{
+    let (told, _conn) = steps_over(alloc, conn, interval, steps, traced, writer);
+    told
 }

@@ -11,7 +11,8 @@ use crate::copying::copy_of;
 use om_commands::CommandError;
 use om_commands::replay::replay;
 use om_tables::{SqlLedger, SqlStable};
-use sqlite::{Alter, Connection};
+use sqlite::{Alter, Connection, FileStore};
+use sqlite_disk::Memory;
 use std::alloc::Global;
 use std::io::Write;
 
@@ -55,10 +56,35 @@ pub fn replay_file<W: Write>(
     ensures silent { IfErr result (λ error. IsSilent error (Keeps (W.contents writer.old) (W.contents writer.new))) }
 {
     match SqlLedger::adopt(copy_of(rt, file)?) {
-        Ok(mut store) => replay(rt.alloc(), &mut store, interval, writer),
-        Err((_, conn)) => {
-            let (told, _conn) = replay_over(rt.alloc(), conn, interval, writer);
-            told
-        }
+        Ok(store) => replay_ledger(rt.alloc(), store, interval, writer),
+        Err((_, conn)) => replay_copy(rt.alloc(), conn, interval, writer),
     }
+}
+
+// The same of a store of five tables.
+#[inline(never)]
+fn replay_ledger<W: Write>(
+    alloc: Global,
+    mut store: SqlLedger<FileStore<Memory>>,
+    interval: u32,
+    writer: &mut W,
+) -> Result<(), CommandError>
+    ensures silent { IfErr result (λ error. IsSilent error (Keeps (W.contents writer.old) (W.contents writer.new))) }
+{
+    replay(alloc, &mut store, interval, writer)
+}
+
+// The same of a store of two tables.
+#[inline(never)]
+fn replay_copy<W: Write>(
+    alloc: Global,
+    conn: Connection<FileStore<Memory>>,
+    interval: u32,
+    writer: &mut W,
+) -> Result<(), CommandError>
+    requires { conn.in_transaction ≡ false }
+    ensures silent { IfErr result (λ error. IsSilent error (Keeps (W.contents writer.old) (W.contents writer.new))) }
+{
+    let (told, _conn) = replay_over(alloc, conn, interval, writer);
+    told
 }

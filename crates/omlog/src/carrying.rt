@@ -247,5 +247,18 @@ fn run_in_files<R: Threads + Wait + Clock + Eprint + Sync, I: Read>(
         notes: Some(&notes),
         ..job
     };
+    run_over_files(rt, threads, job, files, reader, reasons)
+}
+
+// The same over these files: a call alone, for the sake of its proof.
+#[inline(never)]
+fn run_over_files<R: Threads + Wait + Clock + Eprint + Sync, I: Read>(
+    rt: &HostRuntime,
+    threads: &R,
+    job: Job<'_>,
+    files: Files<'_>,
+    reader: &mut I,
+    reasons: &mut Reasons,
+) -> Result<(), CommandError> {
     run_over_tables(rt, threads, job, files, reader, reasons)
 }
