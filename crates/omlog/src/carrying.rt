@@ -2,6 +2,7 @@
 
 ghost use Rattle.std.specs.Prelude.{◌≡◌};
 
+use crate::cluster_files::ClusterFiles;
 use crate::reasons::{Reasons, advice_on, rule_of};
 use crate::source::source_of;
 use crate::store_files::run_over_tables;
@@ -13,9 +14,8 @@ use om_commands::decode::decode;
 use om_commands::frontier::frontier;
 use om_commands::sim::sim;
 use om_draw_command::draw::{Window, draw};
-use om_files::{Files, Notes, fault_of, replay_file, show_file, steps_file};
+use om_files::{fault_of, replay_file, show_file, steps_file};
 use om_image::{ImageError, image};
-use om_interval::MAX_PROCESSES;
 use om_runner::InMemory;
 use om_text::{LineError, read_text};
 use std::io::{Read, Write};
@@ -158,12 +158,7 @@ fn answer<R: Threads + Wait + Clock + Eprint + Sync, I: Read>(
         Request::Draw(lines) => draw(rt.alloc(), reader, writer, window_of(lines)),
         Request::Run(running) => {
             let input = asked.input;
-            let job = Job {
-                running,
-                input,
-                notes: None,
-            };
-            run_over(rt, threads, job, reader, reasons)
+            run_over(rt, threads, Job { running, input }, reader, reasons)
         }
         Request::Look(look) => look_into(rt, look, writer, reasons),
         // It has an end of its own.
@@ -237,28 +232,6 @@ fn run_in_files<R: Threads + Wait + Clock + Eprint + Sync, I: Read>(
     reader: &mut I,
     reasons: &mut Reasons,
 ) -> Result<(), CommandError> {
-    let notes = Notes::new(rt.alloc(), MAX_PROCESSES)?;
-    let files = Files {
-        rt,
-        prefix,
-        notes: &notes,
-    };
-    let job = Job {
-        notes: Some(&notes),
-        ..job
-    };
-    run_over_files(rt, threads, job, files, reader, reasons)
-}
-
-// The same over these files: a call alone, for the sake of its proof.
-#[inline(never)]
-fn run_over_files<R: Threads + Wait + Clock + Eprint + Sync, I: Read>(
-    rt: &HostRuntime,
-    threads: &R,
-    job: Job<'_>,
-    files: Files<'_>,
-    reader: &mut I,
-    reasons: &mut Reasons,
-) -> Result<(), CommandError> {
+    let files = ClusterFiles { rt, prefix };
     run_over_tables(rt, threads, job, files, reader, reasons)
 }

@@ -2,6 +2,7 @@
 #![tactic(auto)]
 
 mod carrying;
+mod cluster_files;
 mod reasons;
 mod source;
 mod store_files;

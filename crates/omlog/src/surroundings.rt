@@ -8,8 +8,7 @@ use crate::watching::Stage;
 use om_arguments::{Checking, Running};
 use om_commands::CommandError;
 use om_files::{
-    Clash, Notes, PlaceError, Places, clash_with_streams, clashes_with_stores, first_unusable,
-    settle,
+    Clash, PlaceError, Places, clash_with_streams, clashes_with_stores, first_unusable, settle,
 };
 use om_run_commands::{ClusterScript, RunContext, waiting_text};
 use om_runner::Watch;
@@ -25,8 +24,6 @@ use std::{fs, io};
 pub(crate) struct Job<'a> {
     pub(crate) running: Running<'a>,
     pub(crate) input: Option<&'a str>,
-    // What the system answers where a file of its stores fails.
-    pub(crate) notes: Option<&'a Notes>,
 }
 
 // What a run has beside its input and its text.
@@ -197,15 +194,11 @@ impl<'a, 'w, R: Wait> Surroundings<'a, 'w, R> {
         }
     }
 
-    // What the system answered, or else which file could not be used.
+    // Which file could not be used.
     fn add_fault(&mut self, script: &ClusterScript) {
         let Some(prefix) = self.job.running.prefix else {
             return;
         };
-        if let Some((process, error)) = self.job.notes.and_then(Notes::first) {
-            self.add_store(process, error);
-            return;
-        }
         if let Ok(Some(blamed)) = first_unusable(self.rt, prefix, script.programs().n()) {
             self.reasons.advise(blamed);
         }
