@@ -15,8 +15,9 @@ ghost use Rattle.om_stable.specs.Ledger.{in_table};
 
 use crate::found::Found;
 use crate::output::read_output;
+use crate::receiving::{has_strays, received_in};
 use om_interval::{MAX_PROCESSES, Pid};
-use om_look::{RowsFault, about_of, stored_rows, stored_senders};
+use om_look::{RowsFault, about_of, stored_rows};
 use om_process::{Image, Made, PendingRow};
 use om_stable::{Ledger, LedgerTable, StoreError};
 use std::alloc::{AllocError, AllocFailed, Global};
@@ -102,8 +103,8 @@ pub fn find<S: Ledger>(
 {
     let tables = tables_of(alloc, store, own, n, image)?;
     let rows = stored_rows(alloc, store, own, n)?;
-    let received = stored_senders(alloc, store, own, n)?;
-    found_of(tables, rows, &received)
+    let has_strays = has_strays(alloc, store, own, n, &rows)?;
+    found_of(alloc, tables, rows, has_strays)
 }
 
 // What the further tables of a store hold.
@@ -226,10 +227,10 @@ fn senders_of(alloc: Global, rows: &[(u64, Vec<u8>)]) -> Result<Vec<u8>, FindFau
 }
 
 // Adds the senders of the receipts that follow on those without a gap.
-fn add_following(senders: &mut Vec<u8>, received: &[(u32, Pid)]) -> Result<(), AllocError> {
+fn add_following(senders: &mut Vec<u8>, received: &[(u32, u8)]) -> Result<(), AllocError> {
     for (interval, from) in received {
         if *interval as usize == senders.len() + 1 {
-            senders.push(from.index() as u8)?;
+            senders.push(*from)?;
         }
     }
     Ok(())
@@ -237,9 +238,10 @@ fn add_following(senders: &mut Vec<u8>, received: &[(u32, Pid)]) -> Result<(), A
 
 // All that was found. What holds something says what it is of.
 fn found_of(
+    alloc: Global,
     tables: Tables,
     rows: Vec<PendingRow>,
-    received: &[(u32, Pid)],
+    has_strays: bool,
 ) -> Result<Found, FindFault>
     ensures rows { IfOk result (λ found. found.rows ≡ rows) }
     ensures outputs { IfOk result (λ found. found.outputs ≡ tables.outputs) }
@@ -252,14 +254,15 @@ fn found_of(
         mut senders,
     } = tables;
     let kept = senders.len();
-    add_following(&mut senders, received)?;
+    let received = received_in(alloc, &rows)?;
+    add_following(&mut senders, &received)?;
     let found = Found {
         rows,
         outputs,
         senders,
         kept,
         has_about,
-        has_receipt: !received.is_empty(),
+        has_receipt: has_strays || !received.is_empty(),
     };
     if !has_about && (found.is_begun() || found.is_beyond_start()) {
         return Err(FindFault::Another);
