@@ -5,3 +5,5 @@
 mod places;
 #[cfg(test)]
 mod replay;
+#[cfg(test)]
+mod show;

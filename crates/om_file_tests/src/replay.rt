@@ -24,7 +24,7 @@ static PROGRAM: [u32; 11] = [
 ];
 
 // The receipt of 4 bytes that began interval 1 of process 1 of 3.
-const RECEIPT: [u8; 30] = [
+pub const RECEIPT: [u8; 30] = [
     0x52, 1, 1, 2, 1, 0, 0, 0, 0, 0, 0, 0, 0, 0, 0, 0, 3, 0, 0, 0, 0, 0, 0, 0, 4, 0, 0x93, 0x08,
     0x10, 0x00,
 ];
@@ -124,7 +124,7 @@ status ready
 ";
 
 // The process has started over the store, and these bytes are its receipt of interval 1.
-fn fill<S: Stable>(rt: &impl Abort, alloc: Global, store: &mut S, receipt: &[u8]) {
+pub fn fill<S: Stable>(rt: &impl Abort, alloc: Global, store: &mut S, receipt: &[u8]) {
     let mut image = Vec::new(alloc);
     for word in &PROGRAM {
         image

@@ -10,7 +10,8 @@
 //!   file that it is to write beside them is one that it has; `identity`: which file one is, whatever its names
 //! - `settling`: each store in its one file, behind a run; `blaming`: which file a refused run could not use
 //! - `copying`: the database of a file that is only read
-//! - `replaying`, `looking`: the commands `replay` and `show` over a connection, and over a file
+//! - `replaying`, `looking`: the commands `replay` and `show` over a connection, and over a file; `showing`: `show` of a store that
+//!   a run can take up
 #![tactic(auto)]
 
 mod blaming;
@@ -25,6 +26,7 @@ mod places;
 mod replaying;
 mod resuming;
 mod settling;
+mod showing;
 
 pub use blaming::{Blame, FileFault, fault_of, first_unusable};
 pub use clashing::{Clash, clash_with_streams, clashes_with_stores};
@@ -37,3 +39,4 @@ pub use places::{PlaceError, Places};
 pub use replaying::{replay_file, replay_over};
 pub use resuming::TakenUp;
 pub use settling::settle;
+pub use showing::show_all;

@@ -10,6 +10,7 @@ ghost use Rattle.om_commands.specs.Replay.{IsNoMatterOfContent, IsReplayError};
 ghost use Rattle.om_commands.specs.ReplaySteps.{IsStepsText};
 
 use crate::copying::copy_of;
+use crate::showing::show_all;
 use om_commands::CommandError;
 use om_commands::show::show;
 use om_commands::steps::replay_steps;
@@ -76,8 +77,8 @@ pub fn steps_over<S: Alter + Drop, W: Write>(
     }
 }
 
-/// Writes the records that the store in a file holds, of two tables or of five, which a run can take up; see [`show_over`]. The
-/// file is only read. One that is not there, or has nothing, is a `StoreFault`.
+/// Writes what the store in a file holds, of two tables, as [`show_over`] does, or of five, which a run can take up, as [`show_all`]
+/// does. The file is only read. One that is not there, or has nothing, is a `StoreFault`.
 pub fn show_file<W: Write>(rt: &HostRuntime, file: &str, writer: &mut W) -> Result<(), CommandError>
     ensures error { IfErr result IsNoMatterOfContent }
     ensures silent { IfErr result (λ error. IsSilent error (Keeps (W.contents writer.old) (W.contents writer.new))) }
@@ -98,7 +99,7 @@ fn show_ledger<W: Write>(
     ensures error { IfErr result IsNoMatterOfContent }
     ensures silent { IfErr result (λ error. IsSilent error (Keeps (W.contents writer.old) (W.contents writer.new))) }
 {
-    show(alloc, &mut store, writer)
+    show_all(alloc, &mut store, writer)
 }
 
 // The same of a store of two tables.
