@@ -1,6 +1,10 @@
-//! Tests of packets: sums as gdb's documentation and gdb itself write them, and bytes that are none.
+//! Tests of packets: sums as gdb's documentation and gdb itself write them, bytes that are none, what packets ask, and what is answered.
 #![tactic(auto)]
 
+#[cfg(test)]
+mod answering;
+#[cfg(test)]
+mod asking;
 #[cfg(test)]
 mod reading;
 #[cfg(test)]

@@ -1,0 +1,122 @@
+-- What the bytes of a packet ask.
+use Rattle.std.specs.Prelude.{ℕ, Bool, ◌||◌, ◌==◌, List, [], ◌∷◌, Option, Some, None, if◌then◌else◌, codes}
+use Rattle.std.specs.List.{slice_split}
+use Rattle.std.specs.Str.{bytes_eq}
+use Rattle.om_requests.specs.Numbers.{hex_number}
+use Rattle.om_requests.specs.declared.request.Command.TheVariants.{Where, Help}
+use Rattle.om_requests.specs.declared.request.Request.{Request}
+use Rattle.om_requests.specs.declared.request.Request.TheVariants as requests
+use Rattle.om_requests.specs.declared.request.Resume.TheVariants.{Step, Range, Continue}
+use Rattle.om_requests.specs.declared.request.Thread.{Thread}
+use Rattle.om_requests.specs.declared.request.Thread.TheVariants.{Any, Numbered}
+
+-- a comma, a colon or a semicolon: what parts the words of a packet, and nothing else does
+abbrev pub is_mark : ℕ → Bool
+is_mark byte = (byte == 44) || (byte == 58) || (byte == 59)
+
+-- the words of a packet, of which some are empty
+abbrev pub words_of : List ℕ → List (List ℕ)
+words_of packet = slice_split is_mark packet
+
+-- what is asked with two numbers
+abbrev pub with_two : (ℕ → ℕ → Request) → Option ℕ → Option ℕ → Request
+with_two ask (Some n) (Some k) = ask n k
+with_two ask (Some n) None = requests.Malformed
+with_two ask None other = requests.Malformed
+
+-- the memory from an address on, by the address and the words behind it, of which the one is the length
+abbrev pub memory_request : List ℕ → List (List ℕ) → Request
+memory_request address (length ∷ []) = with_two requests.Memory (hex_number address) (hex_number length)
+memory_request address _ = requests.Malformed
+
+-- a thread: any, for 0 and -1, or the one of a number
+abbrev pub numbered_thread : Option ℕ → Option Thread
+numbered_thread None = None
+numbered_thread (Some n) = Some (if n == 0 then Any else Numbered n)
+
+abbrev pub thread_of : List ℕ → Option Thread
+thread_of word = if bytes_eq word (codes "-1") then Some Any else numbered_thread (hex_number word)
+
+-- what is asked of a thread
+abbrev pub of_thread : (Thread → Request) → Option Thread → Request
+of_thread ask (Some thread) = ask thread
+of_thread ask None = requests.Malformed
+
+-- which thread is meant from now on: g for what is read of it, c for what goes on
+abbrev pub selection : List ℕ → Request
+selection [] = requests.Malformed
+selection (letter ∷ word) =
+    if letter == 103 then of_thread requests.Select (thread_of word)
+    else (if letter == 99 then of_thread requests.SelectGoing (thread_of word) else requests.Malformed)
+
+-- by the letter that begins the first word: m, H, T, and those that would change something, M X G P
+abbrev pub letter_request : ℕ → List ℕ → List (List ℕ) → Request
+letter_request letter word rest =
+    if letter == 109 then memory_request word rest
+    else (if letter == 72 then selection word
+    else (if letter == 84 then of_thread requests.IsAlive (thread_of word)
+    else (if (letter == 77) || (letter == 88) || (letter == 71) || (letter == 80) then requests.Write
+    else requests.Unknown)))
+
+abbrev pub by_letter : List ℕ → List (List ℕ) → Request
+by_letter [] rest = requests.Unknown
+by_letter (letter ∷ word) rest = letter_request letter word rest
+
+-- a piece of a text: from where on, and how many bytes of it
+abbrev pub transfer_of : List ℕ → List ℕ → List ℕ → List ℕ → Request
+transfer_of object annex offset length =
+    if bytes_eq object (codes "features")
+    then (if bytes_eq annex (codes "target.xml") then with_two requests.Target (hex_number offset) (hex_number length) else requests.Malformed)
+    else (if bytes_eq object (codes "threads") then with_two requests.Threads (hex_number offset) (hex_number length)
+    else requests.Unknown)
+
+abbrev pub transfer : List (List ℕ) → Request
+transfer (object ∷ action ∷ annex ∷ offset ∷ length ∷ []) =
+    if bytes_eq action (codes "read") then transfer_of object annex offset length else requests.Unknown
+transfer _ = requests.Unknown
+
+-- as long as pc is at the one address or above, and below the other
+abbrev pub range_request : List ℕ → List (List ℕ) → Request
+range_request from [] = requests.Malformed
+range_request from (to ∷ more) = with_two (λ a b. requests.Resume (Range a b)) (hex_number from) (hex_number to)
+
+-- how to go on, by the first action: s and S for one instruction, r for all within a range, c and C for as many as there are
+abbrev pub going : ℕ → List ℕ → List (List ℕ) → Request
+going letter word rest =
+    if (letter == 115) || (letter == 83) then requests.Resume Step
+    else (if (letter == 99) || (letter == 67) then requests.Resume Continue
+    else (if letter == 114 then range_request word rest else requests.Malformed))
+
+abbrev pub resume_request : List (List ℕ) → Request
+resume_request [] = requests.Malformed
+resume_request ([] ∷ rest) = requests.Malformed
+resume_request ((letter ∷ word) ∷ rest) = going letter word rest
+
+-- a command of the user, which is written in hexadecimal digits, as `where` here; help for all that is none
+abbrev pub monitor_request : List (List ℕ) → Request
+monitor_request (word ∷ []) = requests.Monitor (if bytes_eq word (codes "7768657265") then Where else Help)
+monitor_request _ = requests.Monitor Help
+
+-- by the whole first word
+abbrev pub by_word : List ℕ → List (List ℕ) → Request
+by_word first rest =
+    if bytes_eq first (codes "qSupported") then requests.Supported
+    else (if bytes_eq first (codes "QStartNoAckMode") then requests.StartNoAckMode
+    else (if bytes_eq first (codes "?") then requests.Why
+    else (if bytes_eq first (codes "g") then requests.Registers
+    else (if bytes_eq first (codes "qAttached") then requests.Attached
+    else (if bytes_eq first (codes "qXfer") then transfer rest
+    else (if bytes_eq first (codes "qRcmd") then monitor_request rest
+    else (if bytes_eq first (codes "vCont?") then requests.Actions
+    else (if bytes_eq first (codes "vCont") then resume_request rest
+    else (if bytes_eq first (codes "D") then requests.Detach
+    else (if bytes_eq first (codes "k") || bytes_eq first (codes "vKill") then requests.Kill
+    else by_letter first rest))))))))))
+
+-- what a packet asks, by its words
+abbrev pub request_by : List (List ℕ) → Request
+request_by [] = requests.Unknown
+request_by (first ∷ rest) = by_word first rest
+
+abbrev pub request_of : List ℕ → Request
+request_of packet = request_by (words_of packet)

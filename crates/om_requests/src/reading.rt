@@ -1,0 +1,223 @@
+//! What a packet asks.
+
+ghost use Rattle.std.specs.Prelude.{◌≡◌, IfOk, map};
+ghost use Rattle.om_requests.specs.Requests.{by_letter, by_word, going, letter_request, memory_request, monitor_request, range_request, request_by, request_of, resume_request, selection, thread_of, transfer, transfer_of};
+
+use crate::numbers::hex_number;
+use crate::request::{Command, Request, Resume, Thread};
+use crate::words::words_of;
+use std::alloc::{AllocError, Global};
+
+/// Tells what a packet of these bytes asks. Refused only where memory ran out.
+pub fn request_of(alloc: Global, packet: &[u8]) -> Result<Request, AllocError>
+    ensures { IfOk result (λ request. request ≡ request_of packet.now) }
+{
+    let words = words_of(alloc, packet)?;
+    Ok(request_by(&words))
+}
+
+fn request_by(words: &[&[u8]]) -> Request
+    ensures { result ≡ request_by (map (λ word. word.now) words.now) }
+{
+    match words {
+        [] => Request::Unknown,
+        [first, rest @ ..] => by_word(first, rest),
+    }
+}
+
+// By the whole first word.
+fn by_word(first: &[u8], rest: &[&[u8]]) -> Request
+    ensures { result ≡ by_word first.now (map (λ word. word.now) rest.now) }
+{
+    if first == b"qSupported".as_slice() {
+        return Request::Supported;
+    }
+    if first == b"QStartNoAckMode".as_slice() {
+        return Request::StartNoAckMode;
+    }
+    if first == b"?".as_slice() {
+        return Request::Why;
+    }
+    if first == b"g".as_slice() {
+        return Request::Registers;
+    }
+    if first == b"qAttached".as_slice() {
+        return Request::Attached;
+    }
+    if first == b"qXfer".as_slice() {
+        return transfer(rest);
+    }
+    if first == b"qRcmd".as_slice() {
+        return monitor_request(rest);
+    }
+    if first == b"vCont?".as_slice() {
+        return Request::Actions;
+    }
+    if first == b"vCont".as_slice() {
+        return resume_request(rest);
+    }
+    if first == b"D".as_slice() {
+        return Request::Detach;
+    }
+    if first == b"k".as_slice() || first == b"vKill".as_slice() {
+        return Request::Kill;
+    }
+    by_letter(first, rest)
+}
+
+// By the letter that begins the first word.
+fn by_letter(first: &[u8], rest: &[&[u8]]) -> Request
+    ensures { result ≡ by_letter first.now (map (λ word. word.now) rest.now) }
+{
+    match first {
+        [] => Request::Unknown,
+        [letter, word @ ..] => letter_request(*letter, word, rest),
+    }
+}
+
+fn letter_request(letter: u8, word: &[u8], rest: &[&[u8]]) -> Request
+    ensures { result ≡ letter_request letter word.now (map (λ word. word.now) rest.now) }
+{
+    if letter == b'm' {
+        return memory_request(word, rest);
+    }
+    if letter == b'H' {
+        return selection(word);
+    }
+    if letter == b'T' {
+        return match thread_of(word) {
+            Some(thread) => Request::IsAlive(thread),
+            None => Request::Malformed,
+        };
+    }
+    if letter == b'M' || letter == b'X' || letter == b'G' || letter == b'P' {
+        return Request::Write;
+    }
+    Request::Unknown
+}
+
+// Some bytes of memory.
+fn memory_request(address: &[u8], rest: &[&[u8]]) -> Request
+    ensures { result ≡ memory_request address.now (map (λ word. word.now) rest.now) }
+{
+    let [length] = rest else {
+        return Request::Malformed;
+    };
+    match (hex_number(address), hex_number(length)) {
+        (Some(address), Some(length)) => Request::Memory(address, length),
+        _ => Request::Malformed,
+    }
+}
+
+// Which thread is meant.
+fn selection(word: &[u8]) -> Request
+    ensures { result ≡ selection word.now }
+{
+    let [letter, word @ ..] = word else {
+        return Request::Malformed;
+    };
+    match (*letter, thread_of(word)) {
+        (b'g', Some(thread)) => Request::Select(thread),
+        (b'c', Some(thread)) => Request::SelectGoing(thread),
+        _ => Request::Malformed,
+    }
+}
+
+fn thread_of(word: &[u8]) -> Option<Thread>
+    ensures { result ≡ thread_of word.now }
+{
+    if word == b"-1".as_slice() {
+        return Some(Thread::Any);
+    }
+    match hex_number(word)? {
+        0 => Some(Thread::Any),
+        number => Some(Thread::Numbered(number)),
+    }
+}
+
+// A piece of a text.
+fn transfer(rest: &[&[u8]]) -> Request
+    ensures { result ≡ transfer (map (λ word. word.now) rest.now) }
+{
+    let [object, action, annex, offset, length] = rest else {
+        return Request::Unknown;
+    };
+    if *action != b"read".as_slice() {
+        return Request::Unknown;
+    }
+    transfer_of(object, annex, offset, length)
+}
+
+fn transfer_of(object: &[u8], annex: &[u8], offset: &[u8], length: &[u8]) -> Request
+    ensures { result ≡ transfer_of object.now annex.now offset.now length.now }
+{
+    let piece = (hex_number(offset), hex_number(length));
+    if object == b"features".as_slice() {
+        return match piece {
+            (Some(offset), Some(length)) if annex == b"target.xml".as_slice() => {
+                Request::Target(offset, length)
+            }
+            _ => Request::Malformed,
+        };
+    }
+    if object == b"threads".as_slice() {
+        return match piece {
+            (Some(offset), Some(length)) => Request::Threads(offset, length),
+            _ => Request::Malformed,
+        };
+    }
+    Request::Unknown
+}
+
+// A command of the user.
+fn monitor_request(rest: &[&[u8]]) -> Request
+    ensures { result ≡ monitor_request (map (λ word. word.now) rest.now) }
+{
+    let [word] = rest else {
+        return Request::Monitor(Command::Help);
+    };
+    if *word == b"7768657265".as_slice() {
+        return Request::Monitor(Command::Where);
+    }
+    Request::Monitor(Command::Help)
+}
+
+// How to go on, by the first action.
+fn resume_request(rest: &[&[u8]]) -> Request
+    ensures { result ≡ resume_request (map (λ word. word.now) rest.now) }
+{
+    let [action, rest @ ..] = rest else {
+        return Request::Malformed;
+    };
+    match *action {
+        [] => Request::Malformed,
+        [letter, word @ ..] => going(*letter, word, rest),
+    }
+}
+
+fn going(letter: u8, word: &[u8], rest: &[&[u8]]) -> Request
+    ensures { result ≡ going letter word.now (map (λ word. word.now) rest.now) }
+{
+    if letter == b's' || letter == b'S' {
+        return Request::Resume(Resume::Step);
+    }
+    if letter == b'c' || letter == b'C' {
+        return Request::Resume(Resume::Continue);
+    }
+    if letter == b'r' {
+        return range_request(word, rest);
+    }
+    Request::Malformed
+}
+
+fn range_request(from: &[u8], rest: &[&[u8]]) -> Request
+    ensures { result ≡ range_request from.now (map (λ word. word.now) rest.now) }
+{
+    let [to, ..] = rest else {
+        return Request::Malformed;
+    };
+    match (hex_number(from), hex_number(to)) {
+        (Some(from), Some(to)) => Request::Resume(Resume::Range(from, to)),
+        _ => Request::Malformed,
+    }
+}

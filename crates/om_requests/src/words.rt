@@ -1,0 +1,23 @@
+//! The words of a packet.
+
+ghost use Rattle.std.specs.Prelude.{◌≡◌, IfOk, map};
+ghost use Rattle.om_requests.specs.Requests.{is_mark, words_of};
+
+use std::alloc::{AllocError, Global};
+
+fn is_mark(byte: u8) -> bool
+    ensures { result ≡ is_mark byte }
+{
+    byte == b',' || byte == b':' || byte == b';'
+}
+
+// The words of a packet, which commas, colons and semicolons part.
+pub(crate) fn words_of(alloc: Global, packet: &[u8]) -> Result<Vec<&[u8]>, AllocError>
+    ensures { IfOk result (λ words. map (λ word. word.now) words.items ≡ words_of packet.now) }
+{
+    let mut words = Vec::new(alloc);
+    for word in packet.split(|b| is_mark(*b)) {
+        words.push(word)?;
+    }
+    Ok(words)
+}
