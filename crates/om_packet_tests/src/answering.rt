@@ -2,7 +2,7 @@
 
 use om_isa::Ext;
 use om_machine::Machine;
-use om_requests::{memory_text, registers_text};
+use om_requests::{memory_text, piece_text, registers_text, target_text};
 use std::alloc::Global;
 use std::process::Abort;
 
@@ -80,4 +80,33 @@ fn memory(rt: HostRuntime) {
         let text = memory_text(rt.alloc(), &machine, *address, *count).expect(&rt, "memory");
         assert_eq!(&rt; text.as_str(), *answer);
     }
+}
+
+// Offsets and numbers of bytes, and the pieces of a text of seven.
+static PIECES: [(u32, u32, &[u8]); 8] = [
+    (0, 7, b"labcdefg"),
+    (0, 6, b"mabcdef"),
+    (1, 6, b"lbcdefg"),
+    (1, 5, b"mbcdef"),
+    (6, 4096, b"lg"),
+    (7, 1, b"l"),
+    (0xffff_ffff, 0xffff_ffff, b"l"),
+    (2, 0, b"m"),
+];
+
+#[test]
+fn pieces(rt: HostRuntime) {
+    for (offset, count, piece) in &PIECES {
+        let found = piece_text(rt.alloc(), b"abcdefg", *offset, *count).expect(&rt, "memory");
+        assert_eq!(&rt; found.as_slice(), *piece);
+    }
+}
+
+#[test]
+fn registers_are_described(rt: HostRuntime) {
+    let text = target_text();
+    assert_eq!(&rt; text.matches("<reg ").count(), 33);
+    assert!(&rt; text.contains("<architecture>riscv:rv32</architecture>"));
+    assert!(&rt; text.contains("name=\"fp\" bitsize=\"32\" regnum=\"8\" type=\"data_ptr\""));
+    assert!(&rt; text.contains("name=\"pc\" bitsize=\"32\" regnum=\"32\" type=\"code_ptr\""));
 }

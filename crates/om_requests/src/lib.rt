@@ -11,7 +11,7 @@ mod reading;
 mod request;
 mod words;
 
-pub use answers::{ERROR, memory_text, registers_text};
+pub use answers::{ERROR, memory_text, piece_text, registers_text, target_text};
 pub use numbers::hex_number;
 pub use reading::request_of;
 pub use request::{Command, Request, Resume, Thread};
