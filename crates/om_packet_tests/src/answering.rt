@@ -1,6 +1,6 @@
 //! The texts of registers and memory, as gdb 13.1 understood them.
 
-use om_isa::Ext;
+use om_isa::{Ext, is_memory_size};
 use om_machine::Machine;
 use om_requests::{memory_text, piece_text, registers_text, target_text};
 use std::alloc::Global;
@@ -43,6 +43,7 @@ fn machine(rt: &impl Abort, alloc: Global) -> Machine {
             .expect(rt, "memory");
     }
     memory.resize(8192, 0).expect(rt, "memory");
+    assert!(rt; is_memory_size(memory.len()));
     Machine::restore(alloc, &regs, 0x18, 0, &memory, Ext::I).expect(rt, "memory")
 }
 
