@@ -1,4 +1,4 @@
--- A process that has ended, all of whose outputs are released, has put out exactly those.
+-- A process that is at rest, all of whose outputs are released, has put out exactly those.
 use Rattle.std.proofs.Common.{◌≡◌, ◌⊎◌, inl, inr, ℕ, zero, suc, ◌+◌, ◌≤◌, ◌<◌, List, [], ◌∷◌, ◌++◌, length, map, replicate, Some, refl, sym, ap, subst, ◌∙◌, arith, length-append}
 use Rattle.std.specs.Prelude.{slice_get}
 use Rattle.om_format.specs.declared.queue.QueueEntry.{QueueEntry}
@@ -11,6 +11,7 @@ use Rattle.om_process.specs.steps.Pieces.{KeepQueues}
 use Rattle.om_process.specs.Process.{Process, Program, Received, Move, Waits, Ends, Traps, Goes, Emits, empty_queue, made, moved, started}
 use Rattle.om_process.specs.Turns.{Reaches, Turns, next_move}
 use Rattle.om_process.specs.declared.status.Status.{Status}
+use Rattle.om_process.specs.declared.status.Status.TheVariants.{Ready, Waiting, Ended, Trapped}
 use Rattle.om_process.proofs.Making.{entry_stays}
 use Rattle.om_process.proofs.Parts.{same_move}
 use Rattle.om_process.proofs.Runs.{leads_grow, leads_once, turns_between, turns_grow}
@@ -21,11 +22,11 @@ use Rattle.om_world.specs.Holds.{StandsAt}
 use Rattle.om_world.specs.Live.{Legal, program_at, received}
 use Rattle.om_world.specs.World.{WorldState, output_entry}
 use Rattle.om_world.specs.declared.place.Place.{Place}
-use Rattle.om_check.specs.FailureFree.{ComesTo, IsRunBy}
-use Rattle.om_check.specs.Whole.{AreReleasedIn, AreStatusesOf, IsWhole}
+use Rattle.om_check.specs.FailureFree.{ComesTo, IsAtRest, IsRunBy, RestsWith}
+use Rattle.om_check.specs.Whole.{AreReleasedIn, AreStatusesOf, IsDone, IsUnderWay, IsWhole}
 
 -- ---- queues from 0 on
-abbrev FromZero : List QueueRecord → Type 0
+abbrev pub FromZero : List QueueRecord → Type 0
 FromZero [] = Unit {0}
 FromZero (q ∷ qs) = (q.first ≡ 0) × FromZero qs
 
@@ -39,7 +40,7 @@ zero_grown x [] (q ∷ qs) g z = absurd g
 zero_grown x (p ∷ ps) [] g z = absurd g
 zero_grown x (p ∷ ps) (q ∷ qs) g z = (g.0.0 ∙ z.0, zero_grown x ps qs g.1 z.1)
 
-zero_along : (program : Program) (own n : ℕ) (h : List Received) (t : Process) → Reaches program own n h t → FromZero t.queues
+pub zero_along : (program : Program) (own n : ℕ) (h : List Received) (t : Process) → Reaches program own n h t → FromZero t.queues
 zero_along program own n h t a =
     let b = a.1.0 in
     zero_grown b.interval b.queues t.queues (turns_grow own n a.0 b t a.1.2).1 (zero_grown (started program n).interval (started program n).queues b.queues (leads_grow own n h (started program n) b a.1.1).1 (zero_started n))
@@ -86,21 +87,27 @@ same_list (e ∷ es) (o ∷ os) long all =
     once : {a b : QueueEntry} → Some a ≡ Some b → a ≡ b
     once same = cc
 
--- ---- nothing comes after the end
-no_move : (s : Process) (move : Move) (t : Process) → IsEnd (status_of move) → moved s move ≡ Some t → ⊥
-no_move s Waits t end is = end
+-- ---- nothing comes after a rest
+pub rest_of : (status : Status) → IsEnd status → IsAtRest status
+rest_of Ready end = end
+rest_of Waiting end = tt
+rest_of (Ended code) end = tt
+rest_of (Trapped cause) end = tt
+
+no_move : (s : Process) (move : Move) (t : Process) → IsAtRest (status_of move) → moved s move ≡ Some t → ⊥
+no_move s Waits t end is = cc
 no_move s (Ends code) t end is = cc
 no_move s (Traps cause) t end is = cc
 no_move s (Goes next) t end is = end
 no_move s (Emits place body next) t end is = end
 
-pub last : (own n k : ℕ) (s t : Process) → IsEnd (status_of (next_move own n s.machine (made s.queues))) → Turns own n k s t → t ≡ s
+pub last : (own n k : ℕ) (s t : Process) → IsAtRest (status_of (next_move own n s.machine (made s.queues))) → Turns own n k s t → t ≡ s
 last own n zero s t end a = a
 last own n (suc k) s t end a = absurd (no_move s (next_move own n s.machine (made s.queues)) a.0 end a.1)
 
--- what another state along the same receipts has, the end has
-end_has : (program : Program) (own n place number : ℕ) (h : List Received) (s t : Process) (e : QueueEntry)
-    → Reaches program own n h s → Reaches program own n h t → IsEnd (status_of (next_move own n t.machine (made t.queues)))
+-- what another state along the same receipts has, the rest has
+pub end_has : (program : Program) (own n place number : ℕ) (h : List Received) (s t : Process) (e : QueueEntry)
+    → Reaches program own n h s → Reaches program own n h t → IsAtRest (status_of (next_move own n t.machine (made t.queues)))
     → HasEntry s.queues place number e → HasEntry t.queues place number e
 end_has program own n place number h s t e a b end has = go (le_or a.0 b.0)
   where
@@ -129,36 +136,41 @@ up_at zero p lt = absurd (omega (arith, lt))
 up_at (suc n) zero lt = refl
 up_at (suc n) (suc p) lt = up_at n p (omega (arith, lt))
 
-program_is : (programs : List Program) (p : ℕ) (program : Program) → slice_get programs p ≡ Some program → program_at programs p ≡ program
+pub program_is : (programs : List Program) (p : ℕ) (program : Program) → slice_get programs p ≡ Some program → program_at programs p ≡ program
 program_is [] p program at = cc
 program_is (q ∷ programs) zero program at = cc
 program_is (q ∷ programs) (suc p) program at = program_is programs p program at
 
-core_once : {c d : CoreState} → Some (Some c) ≡ Some (Some d) → c ≡ d
+pub core_once : {c d : CoreState} → Some (Some c) ≡ Some (Some d) → c ≡ d
 core_once same = cc
+
+-- what comes next in a core is what comes next where its receipts lead
+pub same_next : (c : CoreState) (p n : ℕ) (whole : Process) → c.own ≡ p → cluster_size c.now ≡ n → Keeps whole c.now
+    → move_of c ≡ next_move p n whole.machine (made whole.queues)
+same_next c p n whole own size keeps =
+    ap (λ o. next_move o (cluster_size c.now) c.now.machine (made c.now.queues)) own
+    ∙ ap (λ k. next_move p k c.now.machine (made c.now.queues)) size
+    ∙ same_move p n whole c.now keeps
 
 -- by the parts of what is known of one process
 ends_so : (w : WorldState) (program : Program) (p n : ℕ) (h : List Received) (c : CoreState) (whole s : Process) (outputs : List HeldOutput)
-    → c.own ≡ p → cluster_size c.now ≡ n → IsEnd (status_of (move_of c)) → made_by c ≡ length outputs
+    → c.own ≡ p → cluster_size c.now ≡ n → IsAtRest (status_of (move_of c)) → made_by c ≡ length outputs
     → Reaches program p n h whole → Keeps whole c.now → Reaches program p n h s
     → ((i : ℕ) (o : HeldOutput) → slice_get outputs i ≡ Some o → HasEntry s.queues n i (output_entry o))
-    → ComesTo program p n h outputs (status_of (move_of c))
+    → RestsWith program p n h outputs (status_of (move_of c))
 ends_so w program p n h c whole s outputs own size ended number reaches keeps other first = record {
   end = whole;
   reaches = reaches;
   status_is = ap status_of same;
-  ended = ended;
+  at_rest = ended;
   put_out = queue_is (queue_at whole.queues n) zeroth entries;
 }
   where
     same : move_of c ≡ next_move p n whole.machine (made whole.queues)
-    same =
-        ap (λ o. next_move o (cluster_size c.now) c.now.machine (made c.now.queues)) own
-        ∙ ap (λ k. next_move p k c.now.machine (made c.now.queues)) size
-        ∙ same_move p n whole c.now keeps
+    same = same_next c p n whole own size keeps
 
-    over : IsEnd (status_of (next_move p n whole.machine (made whole.queues)))
-    over = subst (λ move. IsEnd (status_of move)) same ended
+    over : IsAtRest (status_of (next_move p n whole.machine (made whole.queues)))
+    over = subst (λ move. IsAtRest (status_of move)) same ended
 
     zeroth : (queue_at whole.queues n).first ≡ 0
     zeroth = zero_at whole.queues n (zero_along program p n h whole reaches)
@@ -182,29 +194,52 @@ ends_so w program p n h c whole s outputs own size ended number reaches keeps ot
         ap (λ (f : ℕ). record { first = f; entries = q.entries }) none
         ∙ ap (λ (xs : List QueueEntry). record { first = 0; entries = xs }) es
 
-comes_to : (programs : List Program) (w : WorldState) (p : ℕ) (program : Program) (c : CoreState) → IsWhole programs w
+-- a process that is at rest, all of whose outputs are released
+abbrev pub IsRested : WorldState → ℕ → Type 0
+IsRested w p = (c : CoreState) × (slice_get w.cores p ≡ Some (Some c)) × (c.own ≡ p) × (cluster_size c.now ≡ length w.programs)
+    × IsAtRest (status_of (move_of c)) × (made_by c ≡ length (released_by w.manager p))
+
+-- it stands where its receipts lead
+pub stands_at : (programs : List Program) (w : WorldState) (p : ℕ) (c : CoreState) → IsUnderWay programs w → p < length programs
+    → slice_get w.cores p ≡ Some (Some c) → StandsAt w p c
+stands_at programs w p c way lt core =
+    (way.holds.up p c core (ap (λ places. slice_get places p) way.places ∙ up_at (length programs) p lt)).0
+
+pub rests_with : (programs : List Program) (w : WorldState) (p : ℕ) (program : Program) (c : CoreState) → IsUnderWay programs w → IsRested w p
     → slice_get programs p ≡ Some program → slice_get w.cores p ≡ Some (Some c)
-    → ComesTo program p (length programs) (received p w.live) (released_by w.manager p) (status_of (move_of c))
-comes_to programs w p program c whole at core =
+    → RestsWith program p (length programs) (received p w.live) (released_by w.manager p) (status_of (move_of c))
+rests_with programs w p program c way done at core =
     let lt = below programs p program at in
-    let these = whole.way.these in
-    let done = whole.done p lt in
+    let these = way.these in
     let is : done.0 ≡ c = core_once (sym done.1 ∙ core) in
-    let up : slice_get w.places p ≡ Some Place.Up = ap (λ places. slice_get places p) whole.way.places ∙ up_at (length programs) p lt in
-    let stands : StandsAt w p c = (whole.way.holds.up p c core up).0 in
+    let stands : StandsAt w p c = stands_at programs w p c way lt core in
     let long : length w.programs ≡ length programs = ap length these in
     let mine : program_at w.programs p ≡ program = ap (λ ps. program_at ps p) these ∙ program_is programs p program at in
-    let first = whole.way.holds.released p (subst (λ n. p < n) (sym long) lt) in
-    subst (λ n. ComesTo program p n (received p w.live) (released_by w.manager p) (status_of (move_of c))) long
+    let first = way.holds.released p (subst (λ n. p < n) (sym long) lt) in
+    subst (λ n. RestsWith program p n (received p w.live) (released_by w.manager p) (status_of (move_of c))) long
     (ends_so w program p (length w.programs) (received p w.live) c stands.whole first.0 (released_by w.manager p)
     (subst (λ (d : CoreState). d.own ≡ p) is done.2)
     (subst (λ (d : CoreState). cluster_size d.now ≡ length w.programs) is done.3)
-    (subst (λ (d : CoreState). IsEnd (status_of (move_of d))) is done.4)
+    (subst (λ (d : CoreState). IsAtRest (status_of (move_of d))) is done.4)
     (subst (λ (d : CoreState). made_by d ≡ length (released_by w.manager p)) is done.5)
     (subst (λ q. Reaches q p (length w.programs) (received p w.live) stands.whole) mine stands.reaches)
     stands.keeps
     (subst (λ q. Reaches q p (length w.programs) (received p w.live) first.0) mine first.1)
     first.2)
+
+pub rested_done : (w : WorldState) (p : ℕ) → IsDone w p → IsRested w p
+rested_done w p done = (done.0, done.1, done.2, done.3, rest_of (status_of (move_of done.0)) done.4, done.5)
+
+ended_core : (w : WorldState) (p : ℕ) (c : CoreState) → IsDone w p → slice_get w.cores p ≡ Some (Some c) → IsEnd (status_of (move_of c))
+ended_core w p c done core =
+    let is : done.0 ≡ c = core_once (sym done.1 ∙ core) in subst (λ (d : CoreState). IsEnd (status_of (move_of d))) is done.4
+
+comes_to : (programs : List Program) (w : WorldState) (p : ℕ) (program : Program) (c : CoreState) → IsWhole programs w
+    → slice_get programs p ≡ Some program → slice_get w.cores p ≡ Some (Some c)
+    → ComesTo program p (length programs) (received p w.live) (released_by w.manager p) (status_of (move_of c))
+comes_to programs w p program c whole at core =
+    let done = whole.done p (below programs p program at) in
+    (rests_with programs w p program c whole.way (rested_done w p done) at core, ended_core w p c done core)
 
 -- all of its processes do
 pub whole_run : (programs : List Program) (w : WorldState) (outputs : List (List HeldOutput)) (statuses : List Status) → IsWhole programs w

@@ -1,2 +1,11 @@
+pub mod AtRest
 pub mod Ending
+pub mod Ends
+pub mod Excluding
+pub mod Lists
+pub mod Numbers
 pub mod OneRun
+pub mod Orders
+pub mod Shown
+pub mod Stuck
+pub mod Walking

@@ -3,7 +3,7 @@ use Rattle.std.proofs.Common.{◌≡◌, ◌⊎◌, inl, inr, ℕ, zero, suc, �
 use Rattle.std.specs.Prelude.{slice_get}
 use Rattle.om_format.specs.declared.queue.QueueEntry.{QueueEntry}
 use Rattle.om_format.specs.Queues.{QueueRecord}
-use Rattle.om_process.specs.Core.{IsEnd, status_of}
+use Rattle.om_process.specs.Core.{status_of}
 use Rattle.om_process.specs.Kept.{queue_at}
 use Rattle.om_process.specs.Process.{Process, Program, Received, made, started}
 use Rattle.om_process.specs.Turns.{Reaches, Turns, next_move}
@@ -13,13 +13,14 @@ use Rattle.om_manager.specs.Outputs.{HeldOutput}
 use Rattle.om_world.specs.declared.entry.Entry.{Entry}
 use Rattle.om_world.specs.Live.{received}
 use Rattle.om_world.specs.World.{output_entry}
-use Rattle.om_check.specs.FailureFree.{ComesTo, IsRunBy}
+use Rattle.om_check.specs.FailureFree.{ComesTo, IsAtRest, IsRunBy}
+use Rattle.om_check.proofs.Lists.{head_is, tail_is}
 use Rattle.om_check.proofs.Ending.{below, last}
 
--- the receipts lead to one end at most
-one_end : (program : Program) (own n : ℕ) (h : List Received) (s t : Process) → Reaches program own n h s → Reaches program own n h t
-    → IsEnd (status_of (next_move own n s.machine (made s.queues))) → IsEnd (status_of (next_move own n t.machine (made t.queues))) → s ≡ t
-one_end program own n h s t a b s_ends t_ends = go (le_or a.0 b.0)
+-- the receipts lead to one rest at most
+pub one_rest : (program : Program) (own n : ℕ) (h : List Received) (s t : Process) → Reaches program own n h s → Reaches program own n h t
+    → IsAtRest (status_of (next_move own n s.machine (made s.queues))) → IsAtRest (status_of (next_move own n t.machine (made t.queues))) → s ≡ t
+one_rest program own n h s t a b s_rests t_rests = go (le_or a.0 b.0)
   where
     le_or : (x y : ℕ) → (x ≤ y) ⊎ (y ≤ x)
     le_or x y = grind arith
@@ -30,20 +31,14 @@ one_end program own n h s t a b s_ends t_ends = go (le_or a.0 b.0)
     go : (a.0 ≤ b.0) ⊎ (b.0 ≤ a.0) → s ≡ t
     go (inl le) =
         let on = turns_between own n a.0 b.0 a.1.0 s t a.1.2 (subst (λ x. Turns own n b.0 x t) (sym same) b.1.2) le in
-        sym (last own n on.0 s t s_ends on.1)
+        sym (last own n on.0 s t s_rests on.1)
     go (inr le) =
         let on = turns_between own n b.0 a.0 b.1.0 t s b.1.2 (subst (λ x. Turns own n a.0 x s) same a.1.2) le in
-        last own n on.0 t s t_ends on.1
+        last own n on.0 t s t_rests on.1
 
 -- entries are those of one list of outputs
 one_output : (o p : HeldOutput) → output_entry o ≡ output_entry p → o ≡ p
 one_output o p same = ap (λ (e : QueueEntry). record { interval = e.interval; bytes = e.body }) same
-
-head_is : {A : Type 0} (x y : A) (xs ys : List A) → x ∷ xs ≡ y ∷ ys → x ≡ y
-head_is x y xs ys same = cc
-
-tail_is : {A : Type 0} (x y : A) (xs ys : List A) → x ∷ xs ≡ y ∷ ys → xs ≡ ys
-tail_is x y xs ys same = cc
 
 one_list : (os ps : List HeldOutput) → map output_entry os ≡ map output_entry ps → os ≡ ps
 one_list [] [] same = refl
@@ -56,14 +51,17 @@ one_list (o ∷ os) (p ∷ ps) same =
 comes_once : (program : Program) (own n : ℕ) (h : List Received) (os ps : List HeldOutput) (s t : Status)
     → ComesTo program own n h os s → ComesTo program own n h ps t → (os ≡ ps) × (s ≡ t)
 comes_once program own n h os ps s t a b =
-    let same : a.end ≡ b.end = one_end program own n h a.end b.end a.reaches b.reaches (subst IsEnd a.status_is a.ended) (subst IsEnd b.status_is b.ended) in (
+    let s_rests = a.0 in
+    let t_rests = b.0 in
+    let same : s_rests.end ≡ t_rests.end = one_rest program own n h s_rests.end t_rests.end s_rests.reaches t_rests.reaches
+    (subst IsAtRest s_rests.status_is s_rests.at_rest) (subst IsAtRest t_rests.status_is t_rests.at_rest) in (
       one_list os ps
-          (ap (λ (q : QueueRecord). q.entries) (sym a.put_out ∙ ap (λ (e : Process). queue_at e.queues n) same ∙ b.put_out)),
-      a.status_is ∙ ap (λ (e : Process). status_of (next_move own n e.machine (made e.queues))) same ∙ sym b.status_is,
+          (ap (λ (q : QueueRecord). q.entries) (sym s_rests.put_out ∙ ap (λ (e : Process). queue_at e.queues n) same ∙ t_rests.put_out)),
+      s_rests.status_is ∙ ap (λ (e : Process). status_of (next_move own n e.machine (made e.queues))) same ∙ sym t_rests.status_is,
     )
 
 -- ---- lists by their places
-there : {A : Type 0} (xs : List A) (p : ℕ) → p < length xs → (x : A) × (slice_get xs p ≡ Some x)
+pub there : {A : Type 0} (xs : List A) (p : ℕ) → p < length xs → (x : A) × (slice_get xs p ≡ Some x)
 there [] p lt = absurd (omega (arith, lt))
 there (x ∷ xs) zero lt = (x, refl)
 there (x ∷ xs) (suc p) lt = there xs p (omega (arith, lt))

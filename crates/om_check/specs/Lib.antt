@@ -1,3 +1,5 @@
+pub mod Explored
 pub mod FailureFree
+pub mod Orders
 pub mod Whole
 pub mod steps

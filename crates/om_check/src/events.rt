@@ -1,7 +1,10 @@
 //! The events of a run without failures, each by itself.
 
-ghost use Rattle.std.specs.Prelude.{OnOk};
-ghost use Rattle.om_check.specs.steps.Playing.{StaysUnderWay};
+ghost use Rattle.std.specs.Prelude.{◌≡◌, ◌++◌, ◌∷◌, [], OnOk};
+ghost use Rattle.om_world.specs.declared.event.Event.{Event};
+ghost use Rattle.om_world.specs.declared.entry.Entry.{Entry};
+ghost use Rattle.om_world.specs.World.{IsKnown};
+ghost use Rattle.om_check.specs.steps.Playing.{StaysUnderWay, WasPlayed};
 
 use crate::fault::PlayFault;
 use om_interval::Pid;
@@ -17,7 +20,9 @@ pub(crate) fn run(
     pid: Pid,
     fuel: u64,
 ) -> Result<usize, PlayFault>
-    ensures { OnOk result (StaysUnderWay world.old world.new) }
+    ensures way { OnOk result (StaysUnderWay world.old world.new) }
+    ensures live { OnOk result (IsKnown world.new → world.new.live ≡ world.old.live) }
+    ensures played { OnOk result (WasPlayed world.old (Event.Run pid fuel) world.new) }
 {
     let process = pid.index();
     let answers = world.play(alloc, &[Event::Run { process, fuel }])?;
@@ -38,7 +43,9 @@ pub(crate) fn give(
     pid: Pid,
     frame: usize,
 ) -> Result<(), PlayFault>
-    ensures { OnOk result (StaysUnderWay world.old world.new) }
+    ensures way { OnOk result (StaysUnderWay world.old world.new) }
+    ensures live { OnOk result (IsKnown world.new → (e : Entry) × (world.new.live ≡ world.old.live ++ e ∷ [])) }
+    ensures played { OnOk result (WasPlayed world.old (Event.Give pid frame) world.new) }
 {
     let process = pid.index();
     let answers = world.play(alloc, &[Event::Give { process, frame }])?;
@@ -52,7 +59,9 @@ pub(crate) fn give(
 
 // Releases what a process put out.
 pub(crate) fn flush(world: &mut World<MemStable>, alloc: Global, pid: Pid) -> Result<(), PlayFault>
-    ensures { OnOk result (StaysUnderWay world.old world.new) }
+    ensures way { OnOk result (StaysUnderWay world.old world.new) }
+    ensures live { OnOk result (IsKnown world.new → world.new.live ≡ world.old.live) }
+    ensures played { OnOk result (WasPlayed world.old (Event.Flush pid) world.new) }
 {
     let process = pid.index();
     let answers = world.play(alloc, &[Event::Flush { process }])?;
@@ -68,7 +77,9 @@ pub(crate) fn checkpoint(
     alloc: Global,
     pid: Pid,
 ) -> Result<(), PlayFault>
-    ensures { OnOk result (StaysUnderWay world.old world.new) }
+    ensures way { OnOk result (StaysUnderWay world.old world.new) }
+    ensures live { OnOk result (IsKnown world.new → world.new.live ≡ world.old.live) }
+    ensures played { OnOk result (WasPlayed world.old (Event.Checkpoint pid) world.new) }
 {
     let process = pid.index();
     let answers = world.play(alloc, &[Event::Checkpoint { process }])?;
@@ -80,7 +91,9 @@ pub(crate) fn checkpoint(
 
 // Drops what the manager and the stores need not keep.
 pub(crate) fn prune(world: &mut World<MemStable>, alloc: Global) -> Result<(), PlayFault>
-    ensures { OnOk result (StaysUnderWay world.old world.new) }
+    ensures way { OnOk result (StaysUnderWay world.old world.new) }
+    ensures live { OnOk result (IsKnown world.new → world.new.live ≡ world.old.live) }
+    ensures played { OnOk result (WasPlayed world.old (Event.Prune) world.new) }
 {
     let answers = world.play(alloc, &[Event::Prune])?;
     match answers[0] {
@@ -91,7 +104,9 @@ pub(crate) fn prune(world: &mut World<MemStable>, alloc: Global) -> Result<(), P
 
 // Drops what a process need not keep.
 pub(crate) fn trim(world: &mut World<MemStable>, alloc: Global, pid: Pid) -> Result<(), PlayFault>
-    ensures { OnOk result (StaysUnderWay world.old world.new) }
+    ensures way { OnOk result (StaysUnderWay world.old world.new) }
+    ensures live { OnOk result (IsKnown world.new → world.new.live ≡ world.old.live) }
+    ensures played { OnOk result (WasPlayed world.old (Event.Trim pid) world.new) }
 {
     let process = pid.index();
     let answers = world.play(alloc, &[Event::Trim { process }])?;

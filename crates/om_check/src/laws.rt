@@ -6,8 +6,9 @@ ghost use Rattle.om_process.specs.declared.status.Status.{Status};
 ghost use Rattle.om_manager.specs.Outputs.{HeldOutput};
 ghost use Rattle.om_world.specs.World.{WorldState};
 ghost use Rattle.om_world.specs.declared.entry.Entry.{Entry};
-ghost use Rattle.om_check.specs.FailureFree.{IsRunBy};
-ghost use Rattle.om_check.specs.Whole.{AreReleasedIn, AreStatusesOf, IsWhole};
+ghost use Rattle.om_check.specs.FailureFree.{IsRunBy, IsStuckBy};
+ghost use Rattle.om_check.specs.Orders.{IsOver};
+ghost use Rattle.om_check.specs.Whole.{AreReleasedIn, AreStatusesOf, IsStuck, IsWhole};
 
 /// In the end of a world, what is released of its processes, and their statuses, are what its run without failures comes to.
 pub fn whole_run()
@@ -16,8 +17,24 @@ pub fn whole_run()
         → AreReleasedIn w outputs → AreStatusesOf w statuses → IsRunBy programs w.live outputs statuses }
 {}
 
+/// In a world in which nothing is left to happen, what is released of its processes, and their statuses, are those of a run without
+/// failures in which each has ended, or waits and has received all that was sent to it.
+pub fn stuck_run()
+    ensures { (programs : List Program) (w : WorldState) (outputs : List (List HeldOutput)) (statuses : List Status)
+        → IsStuck programs w → length outputs ≡ length programs → length statuses ≡ length programs
+        → AreReleasedIn w outputs → AreStatusesOf w statuses → IsStuckBy programs w.live outputs statuses }
+{}
+
 /// What was received in a run without failures determines what its processes put out, and how they end.
 pub fn one_run()
     ensures { (programs : List Program) (live : List Entry) (outputs others : List (List HeldOutput)) (statuses ends : List Status)
         → IsRunBy programs live outputs statuses → IsRunBy programs live others ends → (outputs ≡ others) × (statuses ≡ ends) }
+{}
+
+/// In a run without failures in which each process has ended, and in one that is stuck, nothing can be received any more.
+pub fn runs_end_over()
+    ensures whole { (programs : List Program) (live : List Entry) (outputs : List (List HeldOutput)) (statuses : List Status)
+        → IsRunBy programs live outputs statuses → IsOver programs live }
+    ensures stuck { (programs : List Program) (live : List Entry) (outputs : List (List HeldOutput)) (statuses : List Status)
+        → IsStuckBy programs live outputs statuses → IsOver programs live }
 {}

@@ -35,6 +35,17 @@ impl Lines {
         self.rows.get_mut(from)?.get_mut(to)?.frames.pop_front()
     }
 
+    // Whether a message of the one to the other was sent and not taken.
+    pub(crate) fn has(&self, from: usize, to: usize) -> bool {
+        match self.rows.get(from) {
+            Some(row) => match row.get(to) {
+                Some(line) => !line.frames.is_empty(),
+                None => false,
+            },
+            None => false,
+        }
+    }
+
     // Numbers what the one sent to the other since it was looked at last: it keeps so many messages now.
     pub(crate) fn number(&mut self, from: usize, to: usize, kept: usize) -> Result<(), AllocError> {
         let Some(row) = self.rows.get_mut(from) else {

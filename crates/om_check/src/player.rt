@@ -6,24 +6,18 @@ ghost use Rattle.om_check.specs.steps.Playing.{StaysUnderWay};
 
 use crate::events::{checkpoint, flush, give, prune, run, trim};
 use crate::fault::PlayFault;
-use crate::lines::Lines;
+use crate::stage::{RECEIPTS_KEPT, Stage};
 use om_interval::{MAX_PROCESSES, Pid};
 use om_process::Witness;
-use om_stable::MemStable;
-use om_world::{Event, World};
-use std::alloc::{AllocError, Global};
-
-/// After so many receipts the world drops what it need not keep.
-const RECEIPTS_KEPT: usize = 1_000;
+use om_world::Event;
+use std::alloc::AllocError;
 
 // A world, and what is still to happen.
 #[derive(Drop)]
 pub(crate) struct Player<'a> {
-    pub(crate) alloc: Global,
-    pub(crate) world: World<MemStable>,
+    pub(crate) stage: Stage,
     // By process.
     pub(crate) witnesses: &'a [Witness],
-    pub(crate) lines: Lines,
     // How many receipts there were since the world dropped what it need not keep.
     pub(crate) receipts: usize,
     // Whether what happens is to be kept, and what happened where it is.
@@ -34,7 +28,7 @@ pub(crate) struct Player<'a> {
 impl<'a> Player<'a> {
     // Keeps an event, where that is asked for.
     fn keep(&mut self, event: Event) -> Result<(), AllocError>
-        ensures { self.new.world ≡ self.old.world }
+        ensures { self.new.stage.world ≡ self.old.stage.world }
     {
         if self.keeps {
             self.events.push(event)?;
@@ -42,67 +36,48 @@ impl<'a> Player<'a> {
         Ok(())
     }
 
-    // How many messages to another a process keeps.
-    fn kept(&self, pid: Pid, to: usize) -> usize {
-        match self.world.core(pid) {
-            Some(core) if to < core.vec().n() => core.outbox(Pid::at(to)).len(),
-            _ => 0,
-        }
-    }
-
-    // Numbers what a process sent since it was looked at last.
-    fn number(&mut self, pid: Pid) -> Result<(), AllocError>
-        ensures { self.new.world ≡ self.old.world }
-    {
-        for to in 0..self.witnesses.len() {
-            let kept = self.kept(pid, to);
-            self.lines.number(pid.index(), to, kept)?;
-        }
-        Ok(())
-    }
-
     // How many instructions a process is still to finish.
     fn left(&self, pid: Pid) -> u64 {
-        match (self.world.core(pid), self.witnesses.get(pid.index())) {
-            (Some(core), Some(witness)) => witness.count.saturating_sub(core.machine().count()),
-            _ => 0,
+        match self.witnesses.get(pid.index()) {
+            Some(witness) => self.stage.left(pid, witness.count),
+            None => 0,
         }
     }
 
     // Runs a process until it waits or has ended.
     fn go(&mut self, pid: Pid) -> Result<(), PlayFault>
-        ensures { OnOk result (StaysUnderWay self.old.world self.new.world) }
+        ensures { OnOk result (StaysUnderWay self.old.stage.world self.new.stage.world) }
     {
         let fuel = self.left(pid);
         let process = pid.index();
         self.keep(Event::Run { process, fuel })?;
-        let sent = run(&mut self.world, self.alloc, pid, fuel)?;
+        let sent = run(&mut self.stage.world, self.stage.alloc, pid, fuel)?;
         if sent > 0 {
-            self.number(pid)?;
+            self.stage.number(self.witnesses.len(), pid)?;
         }
         Ok(())
     }
 
     // From whom a process is to receive next, if it is.
     fn sender(&self, pid: Pid) -> Option<u8> {
-        let core = self.world.core(pid)?;
+        let core = self.stage.world.core(pid)?;
         let witness = self.witnesses.get(pid.index())?;
         Some(*witness.senders.get(core.interval() as usize)?)
     }
 
     // Gives a process the message that it is to receive next, if that was sent, and says whether it was.
     fn receive(&mut self, pid: Pid) -> Result<bool, PlayFault>
-        ensures { OnOk result (StaysUnderWay self.old.world self.new.world) }
+        ensures { OnOk result (StaysUnderWay self.old.stage.world self.new.stage.world) }
     {
         let Some(from) = self.sender(pid) else {
             return Ok(false);
         };
         let process = pid.index();
-        let Some(frame) = self.lines.take(from as usize, process) else {
+        let Some(frame) = self.stage.lines.take(from as usize, process) else {
             return Ok(false);
         };
         self.keep(Event::Give { process, frame })?;
-        give(&mut self.world, self.alloc, pid, frame)?;
+        give(&mut self.stage.world, self.stage.alloc, pid, frame)?;
         self.receipts = self.receipts.saturating_add(1);
         self.go(pid)?;
         Ok(true)
@@ -111,7 +86,7 @@ impl<'a> Player<'a> {
     // Gives a process what it is to receive and was sent, up to so many that the world drops what it need not keep; and says
     // whether something was.
     fn receive_all(&mut self, pid: Pid) -> Result<bool, PlayFault>
-        ensures { OnOk result (StaysUnderWay self.old.world self.new.world) }
+        ensures { OnOk result (StaysUnderWay self.old.stage.world self.new.stage.world) }
     {
         for k in 0..RECEIPTS_KEPT {
             if !self.receive(pid)? {
@@ -123,28 +98,28 @@ impl<'a> Player<'a> {
 
     // Stores all that a process received, and its state.
     fn store(&mut self, pid: Pid) -> Result<(), PlayFault>
-        ensures { OnOk result (StaysUnderWay self.old.world self.new.world) }
+        ensures { OnOk result (StaysUnderWay self.old.stage.world self.new.stage.world) }
     {
-        flush(&mut self.world, self.alloc, pid)?;
-        checkpoint(&mut self.world, self.alloc, pid)
+        flush(&mut self.stage.world, self.stage.alloc, pid)?;
+        checkpoint(&mut self.stage.world, self.stage.alloc, pid)
     }
 
     // Drops what a process need not keep.
     fn trim(&mut self, pid: Pid) -> Result<(), PlayFault>
-        ensures { OnOk result (StaysUnderWay self.old.world self.new.world) }
+        ensures { OnOk result (StaysUnderWay self.old.stage.world self.new.stage.world) }
     {
-        trim(&mut self.world, self.alloc, pid)?;
-        self.number(pid)?;
+        trim(&mut self.stage.world, self.stage.alloc, pid)?;
+        self.stage.number(self.witnesses.len(), pid)?;
         Ok(())
     }
 
     // Releases what a process put out.
     fn release(&mut self, pid: Pid) -> Result<(), PlayFault>
-        ensures { OnOk result (StaysUnderWay self.old.world self.new.world) }
+        ensures { OnOk result (StaysUnderWay self.old.stage.world self.new.stage.world) }
     {
         let process = pid.index();
         self.keep(Event::Flush { process })?;
-        flush(&mut self.world, self.alloc, pid)
+        flush(&mut self.stage.world, self.stage.alloc, pid)
     }
 
     // How many receipts there are to be.
@@ -161,12 +136,12 @@ impl<'a> Player<'a> {
     // Stores the state of each of so many processes, and drops what need not be kept then.
     fn tidy(&mut self, n: usize) -> Result<(), PlayFault>
         requires { n ≤ MAX_PROCESSES }
-        ensures { OnOk result (StaysUnderWay self.old.world self.new.world) }
+        ensures { OnOk result (StaysUnderWay self.old.stage.world self.new.stage.world) }
     {
         for p in 0..n {
             self.store(Pid::at(p))?;
         }
-        prune(&mut self.world, self.alloc)?;
+        prune(&mut self.stage.world, self.stage.alloc)?;
         for p in 0..n {
             self.trim(Pid::at(p))?;
         }
@@ -177,7 +152,7 @@ impl<'a> Player<'a> {
     // Goes once round the processes, and says whether one received something.
     fn round(&mut self, n: usize) -> Result<bool, PlayFault>
         requires { n ≤ MAX_PROCESSES }
-        ensures { OnOk result (StaysUnderWay self.old.world self.new.world) }
+        ensures { OnOk result (StaysUnderWay self.old.stage.world self.new.stage.world) }
     {
         let mut went = false;
         for p in 0..n {
@@ -194,7 +169,7 @@ impl<'a> Player<'a> {
     // Goes round the processes for as long as one receives something.
     fn rounds(&mut self, n: usize) -> Result<(), PlayFault>
         requires { n ≤ MAX_PROCESSES }
-        ensures { OnOk result (StaysUnderWay self.old.world self.new.world) }
+        ensures { OnOk result (StaysUnderWay self.old.stage.world self.new.stage.world) }
     {
         for _ in 0..self.total() {
             if !self.round(n)? {
@@ -220,7 +195,7 @@ impl<'a> Player<'a> {
     // Plays all, of so many processes.
     pub(crate) fn play(&mut self, n: usize) -> Result<(), PlayFault>
         requires { n ≤ MAX_PROCESSES }
-        ensures { OnOk result (StaysUnderWay self.old.world self.new.world) }
+        ensures { OnOk result (StaysUnderWay self.old.stage.world self.new.stage.world) }
     {
         for p in 0..n {
             self.go(Pid::at(p))?;

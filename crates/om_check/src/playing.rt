@@ -4,13 +4,14 @@ ghost use Rattle.std.specs.Prelude.{◌≡◌, ◌≤◌, ◌<◌, ℕ, All, IfO
 ghost use Rattle.om_interval.specs.declared.pid.TheConstants.{MAX_PROCESSES};
 ghost use Rattle.om_process.specs.Images.{program_of};
 ghost use Rattle.om_world.specs.World.{IsEmpty};
+ghost use Rattle.om_world.specs.Started.{IsStarted};
 ghost use Rattle.om_process.specs.Core.{IsEnd};
 ghost use Rattle.om_check.specs.Whole.{IsDone, IsUnderWay, IsWhole};
 ghost use Rattle.om_manager.specs.State.{process_count};
 
 use crate::fault::PlayFault;
-use crate::lines::Lines;
 use crate::player::Player;
+use crate::stage::Stage;
 use om_interval::{MAX_PROCESSES, Pid};
 use om_process::{Image, Status, Witness};
 use om_stable::MemStable;
@@ -30,10 +31,11 @@ fn empty_stores(alloc: Global, n: usize) -> Result<Vec<MemStable>, AllocError>
 }
 
 // The world of these images at its start.
-fn begin(alloc: Global, images: &[Image]) -> Result<World<MemStable>, PlayFault>
+pub(crate) fn begin(alloc: Global, images: &[Image]) -> Result<World<MemStable>, PlayFault>
     requires some { 1 ≤ length images.now }
     requires few { length images.now ≤ MAX_PROCESSES }
-    ensures { IfOk result (IsUnderWay (map program_of images.now)) }
+    ensures way { IfOk result (IsUnderWay (map program_of images.now)) }
+    ensures start { IfOk result (IsStarted (map program_of images.now)) }
 {
     let stores = empty_stores(alloc, images.len())?;
     match World::start(alloc, images, stores) {
@@ -53,7 +55,7 @@ fn has_ended(status: Status) -> bool
 }
 
 // Whether a process has ended, and all that it put out is released.
-fn is_done(world: &World<MemStable>, pid: Pid) -> bool
+pub(crate) fn is_done(world: &World<MemStable>, pid: Pid) -> bool
     requires { pid < process_count world.now.manager }
     ensures { IsTrue result → IsDone world.now pid }
 {
@@ -92,17 +94,17 @@ fn played(
     ensures { IfOk result (λ end. IsWhole (map program_of images.now) end.0) }
 {
     let n = images.len();
+    let world = begin(alloc, images)?;
     let mut player = Player {
-        alloc,
-        world: begin(alloc, images)?,
+        stage: Stage::new(alloc, world, n)?,
         witnesses,
-        lines: Lines::new(alloc, n)?,
         receipts: 0,
         keeps,
         events: Vec::new(alloc),
     };
     player.play(n)?;
-    let Player { world, events, .. } = player;
+    let Player { stage, events, .. } = player;
+    let Stage { world, .. } = stage;
     all_done(&world, n)?;
     Ok((world, events))
 }

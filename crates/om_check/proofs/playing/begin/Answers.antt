@@ -6,8 +6,8 @@ use Rattle.std.proofs.lemmas.List.Elements.{All-map}
 use Rattle.om_world.specs.World.{IsEmpty, IsKnown}
 use Rattle.om_check.proofs.playing.begin.Goals as goal
 
-pub returns-in-Ok : goal.returns-in-Ok
-returns-in-Ok c =
+pub returns-in-Ok-clause-way : goal.returns-in-Ok-clause-way
+returns-in-Ok-clause-way c =
     let known : IsKnown c.in-Ok.world = (subst (λ held. All IsEmpty held) (sym c.in-Ok.ensures.origins) (All-map IsEmpty (λ s. s) c.in_ok-stores.stores.items c.in_ok-stores.ensures.empty), c.in-Ok.ensures.always (λ store. refl)) in
     record {
       these = c.in-Ok.ensures.started.programs;

@@ -1,0 +1,13 @@
+use Rattle.std.proofs.Common.{sym, subst}
+use Rattle.om_world.specs.declared.event.Event.{Event}
+use Rattle.om_check.specs.steps.Playing.{WasPlayed}
+use Rattle.om_check.proofs.Stuck.{live_known, one_event}
+use Rattle.om_check.proofs.trail.Trail.drop_kept.Goals as goal
+
+pub returns-clause-run : goal.returns-clause-run
+returns-clause-run c =
+    one_event _ _ _ _ _ _ c.in_ok-try_reserve.ensures.items c.push_reserved.ensures.items c.in_ok-trim.ensures.way
+    (subst (λ k. WasPlayed c.args.self.now.stage.world (Event.Trim k) c.trim.new.world) (sym c.index-process.ensures.place) c.in_ok-trim.ensures.played)
+
+pub returns-clause-live : goal.returns-clause-live
+returns-clause-live c = live_known _ _ c.in_ok-trim.ensures.way c.in_ok-trim.ensures.live

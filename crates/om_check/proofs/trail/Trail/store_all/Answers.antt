@@ -1,0 +1,12 @@
+use Rattle.om_check.proofs.Stuck.{goes_far, live_stays}
+use Rattle.om_check.proofs.trail.Trail.store_all.Goals as goal
+
+pub loop-p-preserved : goal.loop-p-preserved
+loop-p-preserved c =
+    let run = goes_far _ _ _ _ _ _ c.loop-p.invariant.run c.in_ok-release.ensures.run in
+    let live = live_stays _ _ c.args.self.now.stage.world c.loop-p.self.stage.world c.release.new.self.stage.world c.loop-p.invariant.run
+    c.loop-p.invariant.live c.in_ok-release.ensures.live in
+    record {
+      run = goes_far _ _ _ _ _ _ run c.in_ok-save.ensures.run;
+      live = live_stays _ _ c.args.self.now.stage.world c.release.new.self.stage.world c.save.new.self.stage.world run live c.in_ok-save.ensures.live;
+    }

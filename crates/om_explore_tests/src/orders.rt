@@ -1,0 +1,298 @@
+ghost use Rattle.std.specs.Prelude.{◌≡◌, IfOk, length};
+
+use om_check::{Delivery, End, Explored, PlayFault, Scheduler, explore};
+use om_interval::{MAX_PROCESSES, Pid};
+use om_isa::Ext;
+use om_manager::Output;
+use om_process::{Image, Status};
+use om_stable::MemStable;
+use om_world::World;
+use std::alloc::{AllocError, Global};
+use std::process::Abort;
+
+// Process 0 receives from each other one and puts out what came; each other one sends its number to process 0.
+pub static GATHERS: [u32; 25] = [
+    0x0040_0893,
+    0x0000_0073,
+    0x1000_0493,
+    0x0205_1A63,
+    0xFFF5_8913,
+    0x0409_0263,
+    0x1000_0513,
+    0x0040_0593,
+    0x0020_0893,
+    0x0000_0073,
+    0x0005_0593,
+    0x1000_0513,
+    0x0030_0893,
+    0x0000_0073,
+    0xFFF9_0913,
+    0xFD9F_F06F,
+    0x00A4_8023,
+    0x0000_0513,
+    0x1000_0593,
+    0x0010_0613,
+    0x0010_0893,
+    0x0000_0073,
+    0x0000_0513,
+    0x0000_0893,
+    0x0000_0073,
+];
+
+// Process 0 receives, and then as many messages more as the number of the sender says; each other one sends its number to process 0.
+pub static COUNTS: [u32; 25] = [
+    0x0040_0893,
+    0x0000_0073,
+    0x1000_0493,
+    0x0205_1A63,
+    0x1000_0513,
+    0x0040_0593,
+    0x0020_0893,
+    0x0000_0073,
+    0x0005_8913,
+    0x0209_0A63,
+    0x1000_0513,
+    0x0040_0593,
+    0x0020_0893,
+    0x0000_0073,
+    0xFFF9_0913,
+    0xFE9F_F06F,
+    0x00A4_8023,
+    0x0000_0513,
+    0x1000_0593,
+    0x0010_0613,
+    0x0010_0893,
+    0x0000_0073,
+    0x0000_0513,
+    0x0000_0893,
+    0x0000_0073,
+];
+
+// More than any of these runs takes.
+pub const MANY: u64 = 1_000;
+
+fn image(alloc: Global, words: &[u32]) -> Result<Image, AllocError> {
+    let mut bytes = Vec::new(alloc);
+    for word in words {
+        bytes.extend_from_slice(&word.to_le_bytes())?;
+    }
+    Ok(Image {
+        bytes,
+        size: 512,
+        ext: Ext::I,
+    })
+}
+
+fn three_stores(alloc: Global) -> Result<Vec<MemStable>, AllocError>
+    ensures { IfOk result (λ stores. length stores.items ≡ 3) }
+{
+    let mut stores = Vec::with_capacity(alloc, 3)?;
+    stores.push_reserved(MemStable::new(alloc));
+    stores.push_reserved(MemStable::new(alloc));
+    stores.push_reserved(MemStable::new(alloc));
+    Ok(stores)
+}
+
+pub fn images(alloc: Global, words: &[u32], n: usize) -> Result<Vec<Image>, AllocError>
+    ensures { IfOk result (λ images. length images.items ≡ n) }
+{
+    let mut images = Vec::new(alloc);
+    for _ in 0..n {
+        images.push(image(alloc, words)?)?;
+    }
+    Ok(images)
+}
+
+// Picks by a list of places, and behind its end the first.
+#[derive(Drop)]
+struct Listed {
+    places: Vec<usize>,
+    at: usize,
+}
+
+impl Scheduler for Listed {
+    fn pick(&mut self, _deliveries: &[Delivery]) -> Option<usize> {
+        let place = self.places.get(self.at).copied().unwrap_or(0);
+        self.at = self.at.saturating_add(1);
+        Some(place)
+    }
+}
+
+// Gives up at once.
+#[derive(Drop)]
+struct Never;
+
+impl Scheduler for Never {
+    fn pick(&mut self, _deliveries: &[Delivery]) -> Option<usize> {
+        None
+    }
+}
+
+// What the processes of a world put out, one behind the other.
+pub fn put_out(alloc: Global, world: &World<MemStable>) -> Result<Vec<u8>, AllocError> {
+    let mut bytes = Vec::new(alloc);
+    let manager = world.manager();
+    for p in 0..manager.recovery().n() {
+        add_outputs(&mut bytes, manager.released(Pid::at(p)))?;
+    }
+    Ok(bytes)
+}
+
+fn add_outputs(bytes: &mut Vec<u8>, outputs: &[Output]) -> Result<(), AllocError> {
+    for output in outputs {
+        bytes.extend_from_slice(output.bytes.as_slice())?;
+    }
+    Ok(())
+}
+
+// From whom process 0 received in a run, in order.
+fn senders(alloc: Global, run: &Explored) -> Result<Vec<u8>, AllocError> {
+    let mut senders = Vec::new(alloc);
+    for entry in run.world.live() {
+        if entry.to == Pid::at(0) {
+            senders.push(entry.from.index() as u8)?;
+        }
+    }
+    Ok(senders)
+}
+
+// The run of so many processes in which these places are picked.
+fn run(rt: &impl Abort, alloc: Global, words: &[u32], n: usize, places: &[usize]) -> Explored {
+    assert!(rt; n > 0);
+    assert!(rt; n <= MAX_PROCESSES);
+    let images = images(alloc, words, n).expect(rt, "memory");
+    let mut scheduler = Listed {
+        places: places.to_vec(alloc).expect(rt, "memory"),
+        at: 0,
+    };
+    let run = explore(alloc, &images, &mut scheduler, MANY).expect(rt, "a run");
+    run.expect(rt, "an end")
+}
+
+// How many processes there are, which places are picked, and what process 0 puts out.
+static GATHERED: [(usize, &[usize], &[u8]); 9] = [
+    (1, &[], &[]),
+    (2, &[0], &[1]),
+    (3, &[0, 0], &[1, 2]),
+    (3, &[1, 0], &[2, 1]),
+    (4, &[0, 0, 0], &[1, 2, 3]),
+    (4, &[0, 1, 0], &[1, 3, 2]),
+    (4, &[1, 0, 0], &[2, 1, 3]),
+    (4, &[2, 0, 0], &[3, 1, 2]),
+    (4, &[2, 1, 0], &[3, 2, 1]),
+];
+
+#[test]
+fn what_is_picked_is_received(rt: HostRuntime) {
+    let alloc = rt.alloc();
+    for (n, places, bytes) in &GATHERED {
+        let run = run(&rt, alloc, &GATHERS, *n, places);
+        assert_eq!(&rt; run.end, End::Whole);
+        assert_eq!(&rt;
+            put_out(alloc, &run.world).expect(&rt, "memory").as_slice(),
+            *bytes
+        );
+        assert_eq!(&rt;
+            senders(alloc, &run).expect(&rt, "memory").as_slice(),
+            *bytes
+        );
+    }
+}
+
+// Which places are picked, from whom process 0 receives, and whether it waits then.
+static COUNTED: [(&[usize], &[u8], End); 2] = [
+    (&[0, 0], &[1, 2], End::Whole),
+    (&[1, 0], &[2, 1], End::Stuck),
+];
+
+#[test]
+fn an_order_in_which_a_process_waits_for_ever(rt: HostRuntime) {
+    let alloc = rt.alloc();
+    for (places, from, end) in &COUNTED {
+        let run = run(&rt, alloc, &COUNTS, 3, places);
+        assert_eq!(&rt; run.end, *end);
+        assert_eq!(&rt;
+            senders(alloc, &run).expect(&rt, "memory").as_slice(),
+            *from
+        );
+        let core = run.world.core(Pid::at(0)).expect(&rt, "a core");
+        let waits = core.status() == Status::Waiting;
+        assert_eq!(&rt; waits, *end == End::Stuck);
+    }
+}
+
+// The events of a run, played anew, lead to what it led to.
+#[test]
+fn what_happened_is_told(rt: HostRuntime) {
+    let alloc = rt.alloc();
+    let run = run(&rt, alloc, &GATHERS, 3, &[1, 0]);
+    let images = images(alloc, &GATHERS, 3).expect(&rt, "memory");
+    let stores = three_stores(alloc).expect(&rt, "memory");
+    let mut world = World::start(alloc, &images, stores).expect(&rt, "a world");
+    let answers = world.play(alloc, &run.events).expect(&rt, "memory");
+    assert_eq!(&rt; answers.len(), run.events.len());
+    let bytes = put_out(alloc, &world).expect(&rt, "memory");
+    assert_eq!(&rt; bytes.as_slice(), [2, 1].as_slice());
+    assert_eq!(&rt; world.live().len(), 2);
+}
+
+// What comes of a run, in a word, and of which process.
+fn word_of(told: Result<Option<Explored>, PlayFault>) -> (&'static str, usize) {
+    match told {
+        Ok(run) => (run_word(&run), 0),
+        Err(fault) => fault_word(fault),
+    }
+}
+
+fn run_word(run: &Option<Explored>) -> &'static str {
+    if run.is_some() { "ended" } else { "given up" }
+}
+
+fn fault_word(fault: PlayFault) -> (&'static str, usize) {
+    match fault {
+        PlayFault::NotSent(pid) => ("not sent", pid.index()),
+        PlayFault::NotWaiting(pid) => ("not waiting", pid.index()),
+        PlayFault::Spent(pid) => ("spent", pid.index()),
+        PlayFault::NotEnded(pid) => ("not ended", pid.index()),
+        PlayFault::Memory => ("memory", 0),
+    }
+}
+
+// Process 0 of three finishes 5 instructions, 11 for each message, and 3 more before it ends.
+#[test]
+fn the_most_instructions(rt: HostRuntime) {
+    let alloc = rt.alloc();
+    let images = images(alloc, &GATHERS, 3).expect(&rt, "memory");
+    let mut first = Listed {
+        places: Vec::new(alloc),
+        at: 0,
+    };
+    let enough = word_of(explore(alloc, &images, &mut first, 30));
+    assert_eq!(&rt; enough, ("ended", 0));
+    first.at = 0;
+    let spent = word_of(explore(alloc, &images, &mut first, 29));
+    assert_eq!(&rt; spent, ("spent", 0));
+}
+
+#[test]
+fn a_run_is_given_up(rt: HostRuntime) {
+    let alloc = rt.alloc();
+    let images = images(alloc, &GATHERS, 3).expect(&rt, "memory");
+    let never = word_of(explore(alloc, &images, &mut Never, MANY));
+    assert_eq!(&rt; never, ("given up", 0));
+    let mut beyond = Listed {
+        places: vec![in alloc; 2].expect(&rt, "memory"),
+        at: 0,
+    };
+    let none_there = word_of(explore(alloc, &images, &mut beyond, MANY));
+    assert_eq!(&rt; none_there, ("given up", 0));
+    let alone = images_of_one(&rt, alloc);
+    let ended = word_of(explore(alloc, &alone, &mut Never, MANY));
+    assert_eq!(&rt; ended, ("ended", 0));
+}
+
+fn images_of_one(rt: &impl Abort, alloc: Global) -> Vec<Image>
+    ensures { length result.items ≡ 1 }
+{
+    images(alloc, &GATHERS, 1).expect(rt, "memory")
+}
