@@ -23,3 +23,5 @@ mod threads;
 mod waiting;
 #[cfg(test)]
 mod watching;
+#[cfg(test)]
+mod worlds;

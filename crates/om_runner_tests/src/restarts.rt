@@ -19,14 +19,14 @@ const ALL: u64 = 1_000_000_000;
 
 // The stores of a cluster, which outlive its runs, and how many calls of them pass before the program is stopped.
 #[derive(Drop)]
-struct Shelf {
-    stores: Vec<Mutex<MemLedger>>,
+pub struct Shelf {
+    pub stores: Vec<Mutex<MemLedger>>,
     calls: AtomicU64,
 }
 
 // One of them, as a run has it. Nothing is said of what it holds.
 #[derive(Drop)]
-struct Left<'a> {
+pub struct Left<'a> {
     store: &'a Mutex<MemLedger>,
     calls: &'a AtomicU64,
     failures: u64,
@@ -189,6 +189,18 @@ impl<'a> Ledger for Left<'a> {
     }
 }
 
+// The store of a process on a shelf.
+pub fn store_on(shelf: &Shelf, p: usize) -> Option<Left<'_>> {
+    match shelf.stores.get(p) {
+        Some(store) => Some(Left {
+            store,
+            calls: &shelf.calls,
+            failures: 0,
+        }),
+        None => None,
+    }
+}
+
 // Makes stores of what stands on a shelf.
 #[derive(Drop)]
 struct OnShelf<'a> {
@@ -199,12 +211,8 @@ impl<'a, R> Opener<R> for OnShelf<'a> {
     type Store = Left<'a>;
 
     fn make(&self, _rt: &R, _alloc: Global, pid: Pid) -> Result<Left<'a>, OpenFault> {
-        match self.shelf.stores.get(pid.index()) {
-            Some(store) => Ok(Left {
-                store,
-                calls: &self.shelf.calls,
-                failures: 0,
-            }),
+        match store_on(self.shelf, pid.index()) {
+            Some(store) => Ok(store),
             None => Err(OpenFault::Refused),
         }
     }
@@ -215,7 +223,7 @@ impl<'a, R> Opener<R> for OnShelf<'a> {
 }
 
 // So many stores that hold nothing.
-fn blank_shelf(rt: &impl Abort, alloc: Global, n: usize) -> Shelf {
+pub fn blank_shelf(rt: &impl Abort, alloc: Global, n: usize) -> Shelf {
     let mut stores = Vec::new(alloc);
     for _ in 0..n {
         let store = Mutex::new(MemLedger::new(alloc));
@@ -252,7 +260,7 @@ fn are_all_from(witness: &Witness, before: u32) -> bool {
 
 // A run over a shelf to its end: the outputs and the codes are those of a ring of so many, and each process received all from the
 // one before it.
-fn assert_run<R: Threads + Wait + Clock + Abort + Sync>(
+pub fn assert_run<R: Threads + Wait + Clock + Abort + Sync>(
     rt: &R,
     alloc: Global,
     config: &Config,

@@ -10,6 +10,7 @@ use om_stable::{
 use std::alloc::{AllocError, Global};
 use std::process::Abort;
 
+mod stops;
 mod tables;
 
 // The last number of a table.

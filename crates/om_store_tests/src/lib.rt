@@ -6,4 +6,6 @@ mod databases;
 #[cfg(test)]
 mod ledgers;
 #[cfg(test)]
+mod stopping;
+#[cfg(test)]
 mod stores;

@@ -12,7 +12,7 @@ fn connected(rt: &impl Abort, alloc: Global) -> Connection<MemStore> {
 }
 
 #[inline(never)]
-fn taken_up<S: Alter + Drop>(
+pub(super) fn taken_up<S: Alter + Drop>(
     rt: &impl Abort,
     alloc: Global,
     conn: Connection<S>,

@@ -2,17 +2,13 @@
 
 use super::{checkpoint_at, receipts_from};
 use crate::databases::store_over;
+use crate::stopping::{ENDLESS, Which, bytes_of, calls_of, closed, open};
 use om_stable::{MemStable, Stable, StoreError};
 use om_tables::SqlStable;
-use sqlite::{Alter, Connection, FileStore, Files, Options};
-use sqlite_disk::{Disk, Fuse, Memory};
+use sqlite::{Alter, Connection, Files};
+use sqlite_disk::{Fuse, Memory};
 use std::alloc::Global;
 use std::process::Abort;
-
-type Stopping = FileStore<Fuse<Memory>>;
-
-// Calls of the two files that never stop.
-const ENDLESS: (u64, u64) = (u64::MAX, u64::MAX);
 
 // The call that a stop falls into, over a store with receipts 1 to 3 and checkpoints 0 and 2.
 #[derive(Clone, Copy)]
@@ -21,13 +17,6 @@ enum Change {
     PutCheckpoint,
     Cut,
     Prune,
-}
-
-// Which of the two files stops.
-#[derive(Clone, Copy)]
-enum Which {
-    Log,
-    Database,
 }
 
 // How a run ended.
@@ -109,26 +98,6 @@ fn expected(alloc: Global, change: Option<Change>) -> Result<Held, StoreError> {
     content_of(alloc, &mut store)
 }
 
-// Opens files with these bytes, which stop after so many calls of each.
-fn open(alloc: Global, bytes: (&[u8], &[u8]), calls: (u64, u64)) -> Option<Connection<Stopping>> {
-    let mut log = Memory::new(alloc);
-    let mut db = Memory::new(alloc);
-    if log.write_at(0, bytes.0).is_err() || db.write_at(0, bytes.1).is_err() {
-        return None;
-    }
-    let files = Files {
-        log: Fuse::new(log, calls.0),
-        db: Fuse::new(db, calls.1),
-    };
-    match Connection::open_files(alloc, files, Options::new(1)) {
-        Ok(conn) => Some(conn),
-        Err((_, left)) => {
-            let _files = left.into_files();
-            None
-        }
-    }
-}
-
 // What is done with a store.
 #[derive(Clone, Copy)]
 enum Task {
@@ -194,11 +163,6 @@ fn handed_back<S: Alter + Drop>(store: SqlStable<S>) -> S {
     store.into_connection().into_store()
 }
 
-#[inline(never)]
-fn closed(store: Stopping) -> Files<Fuse<Memory>> {
-    store.close()
-}
-
 // Opens files with these bytes and does the task, as far as the stop lets it. This is the one place where the generic
 // calls meet the files: each such place is dear to prove.
 fn done(
@@ -211,11 +175,6 @@ fn done(
     let conn = open(alloc, bytes, calls)?;
     let (outcome, store) = done_over(rt, alloc, conn, task);
     Some((outcome, closed(store)))
-}
-
-// The bytes of the files.
-fn bytes_of(files: &Files<Fuse<Memory>>) -> (&[u8], &[u8]) {
-    (files.log.inner().bytes(), files.db.inner().bytes())
 }
 
 // The files of a store that was filled without a stop.
@@ -276,14 +235,6 @@ fn holds_nothing(rt: &impl Abort, alloc: Global, files: &Files<Fuse<Memory>>) ->
     match found(rt, alloc, files) {
         Some(held) => held.receipts.is_empty() && held.checkpoints.is_empty(),
         None => false,
-    }
-}
-
-// The calls of both files before a stop, of which one has so many.
-fn calls_of(which: Which, calls: u64) -> (u64, u64) {
-    match which {
-        Which::Log => (calls, u64::MAX),
-        Which::Database => (u64::MAX, calls),
     }
 }
 
