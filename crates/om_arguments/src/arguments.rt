@@ -1,9 +1,10 @@
 //! The subcommands: their helps, and what the words of a command line ask of them.
 
 ghost use Rattle.std.specs.Prelude.{◌≡◌, IfOk, Some};
-ghost use Rattle.om_arguments.specs.steps.Requests.{asked_by, ext_of, subcommand_named};
+ghost use Rattle.om_arguments.specs.steps.Requests.{asked_by, ext_of, form_of, subcommand_named};
 
 use crate::draw_request::{DRAW, Lines, draw_command, lines_of};
+use crate::explore_request::{EXPLORE, Exploring, explore_command, exploring_of};
 use crate::look_requests::{
     Look, REPLAY, SHOW, replay_command, replay_request, show_command, show_request,
 };
@@ -23,18 +24,21 @@ state is an interval of each process to which all can go back together after a
 failure: none of them depends on an interval of another that is lost.
 
 Begin with run: it takes a cluster file, and processes that fail come back by
-themselves. With sim the same is played by hand, event by event. frontier
+themselves; explore tells whether what it writes depends on the order of
+messages. With sim the same is played by hand, event by event. frontier
 computes recovery states from records alone, show and replay look into the store
 of a process, and decode tells what words of programs mean. Each says with
 --help what it reads and writes, and has an example; -h lists its options alone.
 
-run, sim, draw, frontier and decode read FILE, where one is named, and standard
-input else, also for -.
+run, explore, sim, draw, frontier and decode read FILE, where one is named, and
+standard input else, also for -.
 
 Status:
   0   done, or a help text or the version was asked for
-  1   refused: a line on standard error says why
+  1   refused: a line on standard error says why; or run --strict, and a process
+      trapped
   2   the arguments are not understood
+  141 whoever read standard output has closed it
 
 Beside what its own help says, a command may be refused with:
   too long       the input has more than 16 MiB
@@ -142,6 +146,8 @@ In the end:
   recovery X0 ..                   the greatest recoverable state
   proc NAME inc I interval X STATUS, or proc NAME down
   out NAME NUMBER HEX              an output that may be released
+
+With --text the bytes of outputs are written as text, as by run.
 A faulty script is refused whole: 'line N: ..' on standard error, status 1.
 
 Example: c sends its first 4 bytes to process 1, which puts them out. They may
@@ -206,9 +212,20 @@ With --follow each output is written as soon as it is released: the lines of a
 process in order, those of different processes as they come. What was released
 by then is written too where the run is refused.
 
+With --text the bytes of outputs are written as text between quotation marks,
+in place of HEX, with the escapes of C: \\\" \\\\ \\n \\t \\r, and any other byte that
+is no printable ASCII as a backslash and three octal digits.
+
+With --raw NAME only the bytes that the process NAME put out are written, one
+output behind the other, when the run has ended.
+
+With --strict the status is 1, too, where a process trapped; what is written is
+the same.
+
 With --verbose, and where standard error is a terminal, more is said there, and
-nothing else changes: what was refused and why; where turns ran out, of each
-process that had not ended what it did or waited for, and in which interval.
+nothing else changes: what was refused and why; which processes trapped, and of
+what; where turns ran out, of each process that had not ended what it did or
+waited for, and in which interval.
 On a terminal a line each second says how far the run has come: instructions of
 all processes, messages, the round of recovery, and the recovery state.
 
@@ -240,6 +257,7 @@ Refused, on standard error, status 1:
   store missing        with --resume: a store holds nothing, and others do
   no thread            a thread cannot be made
   unlike its check     what the cluster wrote is not what that run writes
+  no such process      with --raw: no process has this name
   cannot write         also: FILE cannot be made
 A faulty file is refused whole: 'line N: ..' on standard error, status 1.
 
@@ -296,6 +314,12 @@ const RECORD: &str = "record";
 
 const FOLLOW: &str = "follow";
 
+const RAW: &str = "raw";
+
+const TEXT: &str = "text";
+
+const STRICT: &str = "strict";
+
 const VERBOSE: &str = "verbose";
 
 const INPUT: &str = "INPUT";
@@ -314,6 +338,7 @@ pub(crate) enum Subcommand {
     Sim,
     Draw,
     Run,
+    Explore,
     Replay,
     Show,
     Image,
@@ -324,9 +349,10 @@ pub(crate) enum Subcommand {
 pub enum Request<'a> {
     Decode(Ext),
     Frontier,
-    Sim,
+    Sim(OutputForm),
     Draw(Lines),
     Run(Running<'a>),
+    Explore(Exploring<'a>),
     Look(Look<'a>),
     Image {
         ext: Ext,
@@ -345,12 +371,24 @@ pub struct Running<'a> {
     /// Whether the run goes on from its stores where there are any.
     pub resumes: bool,
     pub checking: Checking<'a>,
+    pub form: OutputForm,
+    /// Whether a process that trapped is a failure.
+    pub strict: bool,
     /// Whether more is said on standard error.
     pub verbose: bool,
 }
 
+/// How the bytes of outputs are written.
+#[derive(Clone, Copy, Debug, PartialEq, Eq)]
+pub enum OutputForm {
+    Hex,
+    /// As text between quotation marks.
+    Text,
+}
+
 /// Whether a run is compared with the run without failures that it comes to, and the file that this is written to; or the
-/// file that what its threads did is written to; or whether outputs are written as they are released.
+/// file that what its threads did is written to; or whether outputs are written as they are released; or the process whose
+/// outputs are written alone.
 #[derive(Clone, Copy, Debug, PartialEq, Eq)]
 pub enum Checking<'a> {
     Off,
@@ -358,6 +396,7 @@ pub enum Checking<'a> {
     Witness(&'a str),
     Record(&'a str),
     Follow,
+    Raw(&'a str),
 }
 
 /// A request, and the file that is read in place of standard input, where one is named.
@@ -421,9 +460,10 @@ fn request_of<'a>(
     match subcommand {
         Subcommand::Decode => Ok(Request::Decode(ext_of(found.get_flag(M)))),
         Subcommand::Frontier => Ok(Request::Frontier),
-        Subcommand::Sim => Ok(Request::Sim),
+        Subcommand::Sim => Ok(Request::Sim(form_of(found.get_flag(TEXT)))),
         Subcommand::Draw => Ok(Request::Draw(lines_of(found)?)),
         Subcommand::Run => run_request(found),
+        Subcommand::Explore => Ok(Request::Explore(exploring_of(found)?)),
         Subcommand::Replay => Ok(Request::Look(replay_request(found)?)),
         Subcommand::Show => Ok(Request::Look(show_request(found)?)),
         Subcommand::Image => image_request(found),
@@ -440,6 +480,7 @@ fn subcommand_of(name: &str) -> Option<Subcommand>
         SIM => Some(Subcommand::Sim),
         DRAW => Some(Subcommand::Draw),
         RUN => Some(Subcommand::Run),
+        EXPLORE => Some(Subcommand::Explore),
         REPLAY => Some(Subcommand::Replay),
         SHOW => Some(Subcommand::Show),
         IMAGE => Some(Subcommand::Image),
@@ -457,6 +498,7 @@ fn name_of(subcommand: Subcommand) -> &'static str
         Subcommand::Sim => SIM,
         Subcommand::Draw => DRAW,
         Subcommand::Run => RUN,
+        Subcommand::Explore => EXPLORE,
         Subcommand::Replay => REPLAY,
         Subcommand::Show => SHOW,
         Subcommand::Image => IMAGE,
@@ -481,11 +523,25 @@ fn ext_of(with_m: bool) -> Ext
     if with_m { Ext::Im } else { Ext::I }
 }
 
+// How the bytes of outputs are to be written, by the flag `--text`.
+fn form_of(with_text: bool) -> OutputForm
+    ensures { result ≡ form_of with_text }
+{
+    if with_text {
+        OutputForm::Text
+    } else {
+        OutputForm::Hex
+    }
+}
+
 // How a run is to be checked, recorded or followed: with a file for its witness it always is checked. The command line takes no
 // other two of them together.
 fn checking_of<'a>(found: &ArgMatches<'a>) -> Checking<'a> {
     if let Some(path) = found.get_str(WITNESS) {
         return Checking::Witness(path);
+    }
+    if let Some(name) = found.get_str(RAW) {
+        return Checking::Raw(name);
     }
     match found.get_str(RECORD) {
         Some(path) => Checking::Record(path),
@@ -508,6 +564,8 @@ fn run_request<'a>(found: &ArgMatches<'a>) -> Result<Request<'a>, Mistake<'a>>
         prefix: found.get_str(STORE),
         resumes: found.get_flag(RESUME),
         checking: checking_of(found),
+        form: form_of(found.get_flag(TEXT)),
+        strict: found.get_flag(STRICT),
         verbose: found.get_flag(VERBOSE),
     }))
 }
@@ -538,6 +596,7 @@ fn with_scripts<'a>(alloc: Global, command: Command<'a>) -> Result<Command<'a>, 
 fn with_clusters<'a>(alloc: Global, command: Command<'a>) -> Result<Command<'a>, AllocError> {
     command
         .subcommand(command_of(alloc, Subcommand::Run)?)?
+        .subcommand(command_of(alloc, Subcommand::Explore)?)?
         .subcommand(command_of(alloc, Subcommand::Replay)?)?
         .subcommand(command_of(alloc, Subcommand::Show)?)
 }
@@ -546,9 +605,10 @@ fn command_of<'a>(alloc: Global, subcommand: Subcommand) -> Result<Command<'a>, 
     match subcommand {
         Subcommand::Decode => decode_command(alloc)?.arg(input_file(alloc)),
         Subcommand::Frontier => frontier_command(alloc).arg(input_file(alloc)),
-        Subcommand::Sim => sim_command(alloc).arg(input_file(alloc)),
+        Subcommand::Sim => sim_command(alloc)?.arg(input_file(alloc)),
         Subcommand::Draw => draw_command(alloc)?.arg(input_file(alloc)),
         Subcommand::Run => run_command(alloc)?.arg(input_file(alloc)),
+        Subcommand::Explore => explore_command(alloc)?.arg(input_file(alloc)),
         Subcommand::Replay => replay_command(alloc),
         Subcommand::Show => show_command(alloc),
         Subcommand::Image => image_command(alloc),
@@ -597,10 +657,11 @@ fn frontier_command<'a>(alloc: Global) -> Command<'a> {
         .after_long_help(FRONTIER_HELP)
 }
 
-fn sim_command<'a>(alloc: Global) -> Command<'a> {
+fn sim_command<'a>(alloc: Global) -> Result<Command<'a>, AllocError> {
     Command::new(alloc, SIM)
         .about("Logged processes that are played event by event")
         .after_long_help(SIM_HELP)
+        .arg(text_option(alloc))
 }
 
 fn run_command<'a>(alloc: Global) -> Result<Command<'a>, AllocError> {
@@ -610,7 +671,15 @@ fn run_command<'a>(alloc: Global) -> Result<Command<'a>, AllocError> {
         .arg(turns_option(alloc))?
         .arg(store_option(alloc))?
         .arg(resume_option(alloc)?)?;
-    with_tellings(alloc, with_checks(alloc, command)?)
+    with_forms(alloc, with_tellings(alloc, with_checks(alloc, command)?)?)
+}
+
+// With the options that say how outputs are written, and what is a failure.
+fn with_forms<'a>(alloc: Global, command: Command<'a>) -> Result<Command<'a>, AllocError> {
+    command
+        .arg(text_option(alloc))?
+        .arg(raw_option(alloc)?)?
+        .arg(strict_option(alloc))
 }
 
 // With the options that check a run.
@@ -679,6 +748,32 @@ fn follow_option<'a>(alloc: Global) -> Result<Arg<'a>, AllocError> {
         .conflicts_with(CHECK)?
         .conflicts_with(WITNESS)?
         .conflicts_with(RECORD)
+}
+
+fn text_option<'a>(alloc: Global) -> Arg<'a> {
+    Arg::new(alloc, TEXT)
+        .long(TEXT)
+        .help("Write the bytes of outputs as text with the escapes of C")
+        .action(ArgAction::SetTrue)
+}
+
+fn raw_option<'a>(alloc: Global) -> Result<Arg<'a>, AllocError> {
+    Arg::new(alloc, RAW)
+        .long(RAW)
+        .value_name("NAME")
+        .help("Write only the bytes that the process NAME put out")
+        .conflicts_with(CHECK)?
+        .conflicts_with(WITNESS)?
+        .conflicts_with(RECORD)?
+        .conflicts_with(FOLLOW)?
+        .conflicts_with(TEXT)
+}
+
+fn strict_option<'a>(alloc: Global) -> Arg<'a> {
+    Arg::new(alloc, STRICT)
+        .long(STRICT)
+        .help("End with status 1 where a process trapped")
+        .action(ArgAction::SetTrue)
 }
 
 fn verbose_option<'a>(alloc: Global) -> Arg<'a> {

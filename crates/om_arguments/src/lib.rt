@@ -1,19 +1,22 @@
 //! The command line: what its words ask for, and how a command ends.
 //!
-//! - `arguments`: the subcommands, their helps and their requests, with `draw_request` and `look_requests`; `mistake` (what is
-//!   wrong with a value)
+//! - `arguments`: the subcommands, their helps and their requests, with `draw_request`, `explore_request` and `look_requests`;
+//!   `mistake` (what is wrong with a value)
 //! - `ending`: the status, and the line on standard error
 #![tactic(auto)]
 
 mod arguments;
 mod draw_request;
 mod ending;
+mod explore_request;
 mod look_requests;
 mod mistake;
 
 pub use arguments::{
-    Asked, Checking, FRONTIER_HELP, HELP, IMAGE_HELP, RUN_HELP, Request, Running, SIM_HELP, parse,
+    Asked, Checking, FRONTIER_HELP, HELP, IMAGE_HELP, OutputForm, RUN_HELP, Request, Running,
+    SIM_HELP, parse,
 };
 pub use draw_request::Lines;
+pub use explore_request::{EXPLORE_HELP, Exploring};
 pub use ending::{end, end_unasked, end_unread};
 pub use look_requests::{Look, REPLAY_HELP};

@@ -23,9 +23,22 @@ Writes what the store FILE of a process holds:
   replay X to Y
       omlog replay FILE answers for these intervals, and for no others
 
+Where run --resume made the store, a line follows for each row of what it keeps
+beside its records:
+
+  about 0 process P of N program W memory S image B
+      what the store is of: process P of N, and its program: of rv32i or
+      rv32im, with S bytes of memory and an image of B
+  senders X HEX
+      the senders of the receipts behind the first X, two digits each
+  output X interval Y HEX
+      a released output: its number, the interval that made it, and its bytes,
+      - where there are none
+
 A record that is none is a line, too, and the rest goes on: the interval, and
 damaged with its first fault: short, kind, version, field OFFSET or trailing.
-One that names another interval is damaged interval Y.
+One that names another interval is damaged interval Y. A row that is none is
+damaged; of an output damaged short or damaged trailing.
 
 Refused, on standard error, status 1:
   store fault         FILE is not there, or is no store

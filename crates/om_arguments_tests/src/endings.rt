@@ -7,7 +7,7 @@ use std::io;
 use std::process::{Abort, ExitCode};
 
 // Words that are mistaken, and all that is told of them.
-static MISTAKES: [(&[&str], &str); 10] = [
+static MISTAKES: [(&[&str], &str); 12] = [
     (
         &["omlog", "replay", "s0.db", "x"],
         "error: invalid value 'x' for '<INTERVAL>': it is no number of 32 bits\n\nUsage: omlog replay [OPTIONS] <FILE> <INTERVAL>\n\nFor more information, try '--help'.\n",
@@ -41,7 +41,7 @@ static MISTAKES: [(&[&str], &str); 10] = [
     ),
     (
         &["omlog", "sim", "a", "b"],
-        "error: unexpected argument 'b' found\n\nUsage: omlog sim [FILE]\n\nFor more information, try '--help'.\n",
+        "error: unexpected argument 'b' found\n\nUsage: omlog sim [OPTIONS] [FILE]\n\nFor more information, try '--help'.\n",
     ),
     (
         &["omlog", "show"],
@@ -54,6 +54,14 @@ static MISTAKES: [(&[&str], &str); 10] = [
     (
         &["omlog", "run", "--resume"],
         "error: the following required arguments were not provided:\n  --store <PREFIX>\n\nUsage: omlog run --store <PREFIX> --resume [FILE]\n\nFor more information, try '--help'.\n",
+    ),
+    (
+        &["omlog", "run", "--raw", "p", "--text"],
+        "error: the argument '--raw <NAME>' cannot be used with '--text'\n\nUsage: omlog run --raw <NAME> [FILE]\n\nFor more information, try '--help'.\n",
+    ),
+    (
+        &["omlog", "run", "--raw", "p", "--follow"],
+        "error: the argument '--raw <NAME>' cannot be used with '--follow'\n\nUsage: omlog run --raw <NAME> [FILE]\n\nFor more information, try '--help'.\n",
     ),
 ];
 

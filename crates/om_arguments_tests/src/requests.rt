@@ -1,11 +1,11 @@
 //! Command lines, and what they ask for.
 
-use om_arguments::{Asked, Checking, Lines, Look, Request, Running, parse};
+use om_arguments::{Asked, Checking, Lines, Look, OutputForm, Request, Running, parse};
 use om_isa::Ext;
 use std::alloc::Global;
 use std::process::Abort;
 
-static PLAIN: [(&[&str], Request<'static>, Option<&str>); 12] = [
+static PLAIN: [(&[&str], Request<'static>, Option<&str>); 13] = [
     (&["omlog", "decode"], Request::Decode(Ext::I), None),
     (
         &["omlog", "decode", "--m", "words"],
@@ -20,8 +20,17 @@ static PLAIN: [(&[&str], Request<'static>, Option<&str>); 12] = [
         Request::Frontier,
         Some("./-"),
     ),
-    (&["omlog", "sim"], Request::Sim, None),
-    (&["omlog", "sim", "--", "-x"], Request::Sim, Some("-x")),
+    (&["omlog", "sim"], Request::Sim(OutputForm::Hex), None),
+    (
+        &["omlog", "sim", "--", "-x"],
+        Request::Sim(OutputForm::Hex),
+        Some("-x"),
+    ),
+    (
+        &["omlog", "sim", "--text", "s"],
+        Request::Sim(OutputForm::Text),
+        Some("s"),
+    ),
     (
         &["omlog", "draw"],
         Request::Draw(Lines {
@@ -102,7 +111,7 @@ type Run = (
     Option<&'static str>,
 );
 
-static RUNS: [(&[&str], Run); 8] = [
+static RUNS: [(&[&str], Run); 9] = [
     (&["omlog", "run"], (50_000_000, None, Checking::Off, None)),
     (
         &["omlog", "run", "ring.txt"],
@@ -139,6 +148,10 @@ static RUNS: [(&[&str], Run); 8] = [
         &["omlog", "run", "--follow"],
         (50_000_000, None, Checking::Follow, None),
     ),
+    (
+        &["omlog", "run", "--raw", "p0", "c"],
+        (50_000_000, None, Checking::Raw("p0"), Some("c")),
+    ),
 ];
 
 static LOUD: [&str; 3] = ["omlog", "run", "--verbose"];
@@ -148,6 +161,8 @@ const VERBOSE: Running<'static> = Running {
     prefix: None,
     resumes: false,
     checking: Checking::Off,
+    form: OutputForm::Hex,
+    strict: false,
     verbose: true,
 };
 
@@ -158,6 +173,20 @@ const RESUMED: Running<'static> = Running {
     prefix: Some("s"),
     resumes: true,
     checking: Checking::Check,
+    form: OutputForm::Hex,
+    strict: false,
+    verbose: false,
+};
+
+static TOLD: [&str; 5] = ["omlog", "run", "--strict", "--follow", "--text"];
+
+const AS_TEXT: Running<'static> = Running {
+    turns: 50_000_000,
+    prefix: None,
+    resumes: false,
+    checking: Checking::Follow,
+    form: OutputForm::Text,
+    strict: true,
     verbose: false,
 };
 
@@ -184,12 +213,15 @@ fn words_and_what_they_ask_for(rt: HostRuntime) {
     }
     check(&rt, rt.alloc(), &LOUD, Request::Run(VERBOSE), None);
     check(&rt, rt.alloc(), &AGAIN, Request::Run(RESUMED), None);
+    check(&rt, rt.alloc(), &TOLD, Request::Run(AS_TEXT), None);
     for (words, (turns, prefix, checking, input)) in &RUNS {
         let running = Running {
             turns: *turns,
             prefix: *prefix,
             resumes: false,
             checking: *checking,
+            form: OutputForm::Hex,
+            strict: false,
             verbose: false,
         };
         check(&rt, rt.alloc(), words, Request::Run(running), *input);

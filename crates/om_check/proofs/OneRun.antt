@@ -13,7 +13,8 @@ use Rattle.om_manager.specs.Outputs.{HeldOutput}
 use Rattle.om_world.specs.declared.entry.Entry.{Entry}
 use Rattle.om_world.specs.Live.{received}
 use Rattle.om_world.specs.World.{output_entry}
-use Rattle.om_check.specs.FailureFree.{ComesTo, IsAtRest, IsRunBy}
+use Rattle.om_check.specs.FailureFree.{IsAtRest, IsRestBy, IsRunBy, IsStuckBy, RestsWith}
+use Rattle.om_check.specs.Orders.{IsSameRun}
 use Rattle.om_check.proofs.Lists.{head_is, tail_is}
 use Rattle.om_check.proofs.Ending.{below, last}
 
@@ -47,17 +48,15 @@ one_list (o ∷ os) [] same = cc
 one_list (o ∷ os) (p ∷ ps) same =
     ap (λ x. x ∷ os) (one_output o p (head_is _ _ _ _ same)) ∙ ap (λ xs. p ∷ xs) (one_list os ps (tail_is _ _ _ _ same))
 
--- one process comes to one end
-comes_once : (program : Program) (own n : ℕ) (h : List Received) (os ps : List HeldOutput) (s t : Status)
-    → ComesTo program own n h os s → ComesTo program own n h ps t → (os ≡ ps) × (s ≡ t)
-comes_once program own n h os ps s t a b =
-    let s_rests = a.0 in
-    let t_rests = b.0 in
-    let same : s_rests.end ≡ t_rests.end = one_rest program own n h s_rests.end t_rests.end s_rests.reaches t_rests.reaches
-    (subst IsAtRest s_rests.status_is s_rests.at_rest) (subst IsAtRest t_rests.status_is t_rests.at_rest) in (
+-- one process comes to one rest
+rests_once : (program : Program) (own n : ℕ) (h g : List Received) (os ps : List HeldOutput) (s t : Status) → h ≡ g
+    → RestsWith program own n h os s → RestsWith program own n g ps t → (os ≡ ps) × (s ≡ t)
+rests_once program own n h g os ps s t one a b =
+    let same : a.end ≡ b.end = one_rest program own n h a.end b.end a.reaches (subst (λ r. Reaches program own n r b.end) (sym one) b.reaches)
+    (subst IsAtRest a.status_is a.at_rest) (subst IsAtRest b.status_is b.at_rest) in (
       one_list os ps
-          (ap (λ (q : QueueRecord). q.entries) (sym s_rests.put_out ∙ ap (λ (e : Process). queue_at e.queues n) same ∙ t_rests.put_out)),
-      s_rests.status_is ∙ ap (λ (e : Process). status_of (next_move own n e.machine (made e.queues))) same ∙ sym t_rests.status_is,
+          (ap (λ (q : QueueRecord). q.entries) (sym a.put_out ∙ ap (λ (e : Process). queue_at e.queues n) same ∙ b.put_out)),
+      a.status_is ∙ ap (λ (e : Process). status_of (next_move own n e.machine (made e.queues))) same ∙ sym b.status_is,
     )
 
 -- ---- lists by their places
@@ -74,27 +73,51 @@ by_place (x ∷ xs) [] long same = absurd (omega (arith, long))
 by_place (x ∷ xs) (y ∷ ys) long same =
     ap (λ z. z ∷ xs) (same 0 x y refl refl) ∙ ap (λ zs. y ∷ zs) (by_place xs ys (omega (arith, long)) (λ p a b at bt. same (suc p) a b at bt))
 
-pub one_run : (programs : List Program) (live : List Entry) (outputs others : List (List HeldOutput)) (statuses ends : List Status)
-    → IsRunBy programs live outputs statuses → IsRunBy programs live others ends → (outputs ≡ others) × (statuses ≡ ends)
-one_run programs live outputs others statuses ends a b = (
+-- ---- a run is at rest in one way
+pub rests : (programs : List Program) (live : List Entry) (outputs : List (List HeldOutput)) (statuses : List Status)
+    → IsRunBy programs live outputs statuses → IsRestBy programs live outputs statuses
+rests programs live outputs statuses run = record {
+  legal = run.legal;
+  processes = run.processes;
+  stands = run.ends;
+  each = λ p program out status at out_at status_at. (run.each p program out status at out_at status_at).0;
+}
+
+pub stuck_rests : (programs : List Program) (live : List Entry) (outputs : List (List HeldOutput)) (statuses : List Status)
+    → IsStuckBy programs live outputs statuses → IsRestBy programs live outputs statuses
+stuck_rests programs live outputs statuses stuck = record {
+  legal = stuck.legal;
+  processes = stuck.processes;
+  stands = stuck.stands;
+  each = stuck.each;
+}
+
+pub one_rest_of : (programs : List Program) (live other : List Entry) (outputs others : List (List HeldOutput)) (statuses ends : List Status)
+    → IsRestBy programs live outputs statuses → IsRestBy programs other others ends → IsSameRun live other → (outputs ≡ others) × (statuses ≡ ends)
+one_rest_of programs live other outputs others statuses ends a b one = (
   by_place outputs others (a.processes ∙ sym b.processes) outs,
-  by_place statuses ends (a.ends ∙ sym b.ends) stats,
+  by_place statuses ends (a.stands ∙ sym b.stands) stats,
 )
   where
     outs : (p : ℕ) (os ps : List HeldOutput) → slice_get outputs p ≡ Some os → slice_get others p ≡ Some ps → os ≡ ps
     outs p os ps at bt =
         let lt : p < length programs = subst (λ k. p < k) a.processes (below outputs p os at) in
         let program = there programs p lt in
-        let s = there statuses p (subst (λ k. p < k) (sym a.ends) lt) in
-        let t = there ends p (subst (λ k. p < k) (sym b.ends) lt) in
-        (comes_once program.0 p (length programs) (received p live) os ps s.0 t.0
+        let s = there statuses p (subst (λ k. p < k) (sym a.stands) lt) in
+        let t = there ends p (subst (λ k. p < k) (sym b.stands) lt) in
+        (rests_once program.0 p (length programs) (received p live) (received p other) os ps s.0 t.0 (one p)
         (a.each p program.0 os s.0 program.1 at s.1) (b.each p program.0 ps t.0 program.1 bt t.1)).0
 
     stats : (p : ℕ) (s t : Status) → slice_get statuses p ≡ Some s → slice_get ends p ≡ Some t → s ≡ t
     stats p s t at bt =
-        let lt : p < length programs = subst (λ k. p < k) a.ends (below statuses p s at) in
+        let lt : p < length programs = subst (λ k. p < k) a.stands (below statuses p s at) in
         let program = there programs p lt in
         let os = there outputs p (subst (λ k. p < k) (sym a.processes) lt) in
         let ps = there others p (subst (λ k. p < k) (sym b.processes) lt) in
-        (comes_once program.0 p (length programs) (received p live) os.0 ps.0 s t
+        (rests_once program.0 p (length programs) (received p live) (received p other) os.0 ps.0 s t (one p)
         (a.each p program.0 os.0 s program.1 os.1 at) (b.each p program.0 ps.0 t program.1 ps.1 bt)).1
+
+pub one_run : (programs : List Program) (live : List Entry) (outputs others : List (List HeldOutput)) (statuses ends : List Status)
+    → IsRunBy programs live outputs statuses → IsRunBy programs live others ends → (outputs ≡ others) × (statuses ≡ ends)
+one_run programs live outputs others statuses ends a b =
+    one_rest_of programs live live outputs others statuses ends (rests programs live outputs statuses a) (rests programs live others ends b) (λ p. refl)

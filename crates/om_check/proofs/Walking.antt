@@ -1,17 +1,19 @@
 -- What is ahead as a walk goes on, ends and turns back.
-use Rattle.std.proofs.Common.{◌≡◌, ◌⊎◌, inl, inr, ℕ, ◌+◌, ◌<◌, List, [], ◌∷◌, ◌++◌, length, Bool, true, false, refl, sym, ap, subst, ◌∙◌}
-use Rattle.std.specs.Prelude.{slice_index_or, take}
-use Rattle.std.proofs.lemmas.List.{append_assoc, take_more}
+use Rattle.std.proofs.Common.{◌≡◌, ◌⊎◌, inl, inr, ℕ, ◌+◌, ◌<◌, ◌≤◌, arith, List, [], ◌∷◌, ◌++◌, length, Bool, true, false, refl, sym, ap, subst, ◌∙◌}
+use Rattle.std.specs.Prelude.{IsTrue, slice_index_or, take}
+use Rattle.std.specs.List.{IsAmong}
+use Rattle.std.proofs.Math.Seq.{get_or-append_seam}
+use Rattle.std.proofs.lemmas.List.{append_assoc, get_or_append_left, length-append, take_more}
 use Rattle.om_process.specs.Process.{Program}
 use Rattle.om_world.specs.Live.{Legal, MayFollow}
 use Rattle.om_world.specs.World.{WorldState}
 use Rattle.om_world.specs.declared.entry.Entry.{Entry}
 use Rattle.om_check.specs.declared.exploring.Delivery.{Delivery}
 use Rattle.om_check.specs.declared.walk.Choice.{Choice}
-use Rattle.om_check.specs.Orders.{IsOver, IsSameRun}
+use Rattle.om_check.specs.Orders.{HasAll, IsOver, IsSameRun}
 use Rattle.om_check.specs.Whole.{IsUnderWay}
 use Rattle.om_check.specs.steps.Playing.{HasDelivered, IsGoingOn}
-use Rattle.om_check.specs.steps.Walks.{HasTaken, IsAhead, IsAtEnd, IsExcluded, IsLeft, IsOpen, IsSeenOrAhead, IsWalked, LeavesNone, StaysAhead, TurnsTo, declining, deliveries_of, taken_of, taking}
+use Rattle.om_check.specs.steps.Walks.{AreSeenOrAhead, HasShown, HasTaken, IsAhead, IsAtEnd, IsExcluded, IsLeft, IsOpen, IsSeenOrAhead, IsWalked, LeavesNone, StaysAhead, TurnsTo, declining, deliveries_of, taken_of, taking}
 use Rattle.om_check.proofs.AtRest.{not_over, over_same}
 use Rattle.om_check.proofs.Orders.{comes_to_it, declined_more, deliveries_more, goes_on, left_back, left_more, left_now, left_turned, taken_more}
 
@@ -131,6 +133,69 @@ walk_ends programs HasSeen Sees old new w n all walked keeps shown none before r
     by : ((live : List Entry) × Sees live × IsSameRun run live) ⊎ IsLeft programs run new → (live : List Entry) × Sees live × IsSameRun run live
     by (inl seen) = seen
     by (inr left) = absurd (none run left)
+
+-- ---- the runs that were shown, one more of them
+among_before : (runs : List (List Entry)) (live run : List Entry) → IsAmong runs run → IsAmong (runs ++ live ∷ []) run
+among_before runs live run among = (
+  among.0,
+  (more (length-append runs (live ∷ [])) among.1.0, among.1.1 ∙ sym (get_or_append_left runs (live ∷ []) run among.0 among.1.0)),
+)
+  where
+    more : {k m n : ℕ} → n ≡ m + 1 → k < m → k < n
+    more is lt = omega (arith, is, lt)
+
+among_last : (runs : List (List Entry)) (live : List Entry) → IsAmong (runs ++ live ∷ []) live
+among_last runs live =
+    (length runs, (less (length-append runs (live ∷ [])), sym (get_or-append_seam runs live [] live)))
+  where
+    less : {m n : ℕ} → n ≡ m + 1 → m < n
+    less is = omega (arith, is)
+
+-- the walk turns back with what was shown
+pub all_turn : (programs : List Program) (HasSeen Sees : List (List Entry) → Type 0) (old new next : List Choice) (w : WorldState) (n : ℕ)
+    → n ≡ length w.programs → IsWalked programs old new w → ((runs : List (List Entry)) → HasSeen runs → HasShown Sees runs w n)
+    → TurnsTo programs new next → AreSeenOrAhead HasSeen programs old → AreSeenOrAhead Sees programs next
+all_turn programs HasSeen Sees old new next w n all walked shown turns before = by (shown before.0 before.1)
+  where
+    by : HasShown Sees before.0 w n → AreSeenOrAhead Sees programs next
+    by (inl sees) = (
+      before.0 ++ w.live ∷ [],
+      sees,
+      walk_turns programs (IsAmong before.0) (IsAmong (before.0 ++ w.live ∷ [])) old new next w n all walked
+      (among_before before.0 w.live) (inl (among_last before.0 w.live)) turns before.2,
+    )
+    by (inr going) = (
+      before.0,
+      going.0,
+      walk_turns programs (IsAmong before.0) (IsAmong before.0) old new next w n all walked (λ live among. among) (inr going.1)
+      turns before.2,
+    )
+
+-- with no next walk all were shown
+pub all_end : (programs : List Program) (HasSeen Sees : List (List Entry) → Type 0) (old new : List Choice) (w : WorldState) (n : ℕ)
+    → n ≡ length w.programs → IsWalked programs old new w → ((runs : List (List Entry)) → HasSeen runs → HasShown Sees runs w n)
+    → LeavesNone programs new → AreSeenOrAhead HasSeen programs old
+    → (runs : List (List Entry)) × Sees runs × (IsTrue true → HasAll programs runs)
+all_end programs HasSeen Sees old new w n all walked shown none before = by (shown before.0 before.1)
+  where
+    by : HasShown Sees before.0 w n → (runs : List (List Entry)) × Sees runs × (IsTrue true → HasAll programs runs)
+    by (inl sees) = (
+      before.0 ++ w.live ∷ [],
+      sees,
+      λ is. walk_ends programs (IsAmong before.0) (IsAmong (before.0 ++ w.live ∷ [])) old new w n all walked
+      (among_before before.0 w.live) (inl (among_last before.0 w.live)) none before.2,
+    )
+    by (inr going) = (
+      before.0,
+      going.0,
+      λ is. walk_ends programs (IsAmong before.0) (IsAmong before.0) old new w n all walked (λ live among. among) (inr going.1)
+      none before.2,
+    )
+
+-- where it was not all, some were shown
+pub all_ahead : (programs : List Program) (HasSeen : List (List Entry) → Type 0) (walk : List Choice) → AreSeenOrAhead HasSeen programs walk
+    → (runs : List (List Entry)) × HasSeen runs × (IsTrue false → HasAll programs runs)
+all_ahead programs HasSeen walk before = (before.0, before.1, λ is. cc)
 
 -- ---- from the start of a walk to its end
 pub walked_so : (programs : List Program) (mid last new : WorldState) (before walk choices first : List Choice) → IsUnderWay programs mid → IsUnderWay programs last

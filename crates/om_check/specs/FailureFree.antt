@@ -57,3 +57,12 @@ pub record IsStuckBy (programs : List Program) (live : List Entry) (outputs : Li
       → slice_get programs p ≡ Some program → slice_get outputs p ≡ Some out → slice_get statuses p ≡ Some status
       → RestsWith program p (length programs) (received p live) out status
   pub waits : (p : ℕ) → slice_get statuses p ≡ Some Waiting → HasReceivedAll programs live p
+
+-- what the processes put out, and how each stands, once nothing comes next by itself in the run without failures in which this was received
+pub record IsRestBy (programs : List Program) (live : List Entry) (outputs : List (List HeldOutput)) (statuses : List Status) : Type 0 where
+  pub legal : Legal programs live
+  pub processes : length outputs ≡ length programs
+  pub stands : length statuses ≡ length programs
+  pub each : (p : ℕ) (program : Program) (out : List HeldOutput) (status : Status)
+      → slice_get programs p ≡ Some program → slice_get outputs p ≡ Some out → slice_get statuses p ≡ Some status
+      → RestsWith program p (length programs) (received p live) out status

@@ -1,15 +1,15 @@
 //! All runs without failures that there can be, up to the order of receipts of different processes.
 
-ghost use Rattle.std.specs.Prelude.{◌≡◌, ◌⊎◌, ◌≤◌, ◌++◌, ◌∷◌, [], List, IfOk, IsTrue, OnOk, length, map};
+ghost use Rattle.std.specs.Prelude.{◌≡◌, ◌≤◌, ◌++◌, ◌∷◌, [], List, IfOk, IsTrue, OnOk, length, map};
 ghost use Rattle.om_interval.specs.declared.pid.TheConstants.{MAX_PROCESSES};
 ghost use Rattle.om_process.specs.Images.{program_of};
 ghost use Rattle.om_process.specs.Process.{Program};
 ghost use Rattle.om_world.specs.declared.entry.Entry.{Entry};
 ghost use Rattle.om_check.specs.Explored.{IsExplored, LeadTo};
-ghost use Rattle.om_check.specs.Orders.{IsOver, IsSameRun};
+ghost use Rattle.om_check.specs.Orders.{HasAll};
 ghost use Rattle.om_check.specs.Whole.{IsUnderWay};
-ghost use Rattle.om_check.specs.steps.Playing.{HasDelivered, IsGoingOn, StaysARun};
-ghost use Rattle.om_check.specs.steps.Walks.{HasTaken, IsAtEnd, IsWalked, StaysAhead, taking};
+ghost use Rattle.om_check.specs.steps.Playing.{HasDelivered, StaysARun};
+ghost use Rattle.om_check.specs.steps.Walks.{HasShown, HasTaken, IsAtEnd, IsWalked, StaysAhead, taking};
 
 use crate::ended::ended;
 use crate::exploring::Explored;
@@ -28,14 +28,13 @@ pub trait Visitor {
     /// The programs whose runs it is shown.
     ghost programs: { Self → List Program };
 
-    /// It was shown a run in which this was received.
-    ghost has_seen: { Self → List Entry → Type 0 };
+    /// These are the runs that it was shown, one after another: what was received in each.
+    ghost has_seen: { Self → List (List Entry) → Type 0 };
 
     /// Takes in a run.
     fn visit(&mut self, run: Explored) -> Result<(), AllocError>
         requires { IsExplored (Self.programs self.old) run }
-        ensures seen { OnOk result (Self.has_seen self.new run.world.live) }
-        ensures keeps { OnOk result ((live : List Entry) → Self.has_seen self.old live → Self.has_seen self.new live) }
+        ensures seen { OnOk result ((runs : List (List Entry)) → Self.has_seen self.old runs → Self.has_seen self.new (runs ++ run.world.live ∷ [])) }
         ensures same { Self.programs self.new ≡ Self.programs self.old };
 }
 
@@ -157,8 +156,7 @@ fn show<V: Visitor>(visitor: &mut V, trail: Trail, n: usize) -> Result<(), PlayF
     requires all { n ≡ length trail.stage.world.programs }
     requires way { IsUnderWay (V.programs visitor.old) trail.stage.world }
     requires led { LeadTo (V.programs visitor.old) trail.events.items trail.stage.world }
-    ensures shown { OnOk result (V.has_seen visitor.new trail.stage.world.live ⊎ IsGoingOn trail.stage.world n) }
-    ensures keeps { OnOk result ((live : List Entry) → V.has_seen visitor.old live → V.has_seen visitor.new live) }
+    ensures shown { OnOk result ((runs : List (List Entry)) → V.has_seen visitor.old runs → HasShown (V.has_seen visitor.new) runs trail.stage.world n) }
     ensures same { V.programs visitor.new ≡ V.programs visitor.old }
 {
     match ended(trail, n)? {
@@ -185,8 +183,9 @@ pub fn explore_all<V: Visitor>(
     requires some { 1 ≤ length images.now }
     requires few { length images.now ≤ MAX_PROCESSES }
     requires shown { V.programs visitor.old ≡ map program_of images.now }
-    ensures all { IfOk result (λ all. IsTrue all → (run : List Entry) → IsOver (map program_of images.now) run
-        → (live : List Entry) × V.has_seen visitor.new live × IsSameRun run live) }
+    requires new { V.has_seen visitor.old [] }
+    ensures all { IfOk result (λ all. (runs : List (List Entry)) × V.has_seen visitor.new runs
+        × (IsTrue all → HasAll (map program_of images.now) runs)) }
     ensures programs { V.programs visitor.new ≡ V.programs visitor.old }
 {
     let mut choices = Vec::new(alloc);

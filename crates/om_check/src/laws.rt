@@ -6,8 +6,8 @@ ghost use Rattle.om_process.specs.declared.status.Status.{Status};
 ghost use Rattle.om_manager.specs.Outputs.{HeldOutput};
 ghost use Rattle.om_world.specs.World.{WorldState};
 ghost use Rattle.om_world.specs.declared.entry.Entry.{Entry};
-ghost use Rattle.om_check.specs.FailureFree.{IsRunBy, IsStuckBy};
-ghost use Rattle.om_check.specs.Orders.{IsOver};
+ghost use Rattle.om_check.specs.FailureFree.{IsRestBy, IsRunBy, IsStuckBy};
+ghost use Rattle.om_check.specs.Orders.{IsOver, IsSameRun};
 ghost use Rattle.om_check.specs.Whole.{AreReleasedIn, AreStatusesOf, IsStuck, IsWhole};
 
 /// In the end of a world, what is released of its processes, and their statuses, are what its run without failures comes to.
@@ -37,4 +37,19 @@ pub fn runs_end_over()
         → IsRunBy programs live outputs statuses → IsOver programs live }
     ensures stuck { (programs : List Program) (live : List Entry) (outputs : List (List HeldOutput)) (statuses : List Status)
         → IsStuckBy programs live outputs statuses → IsOver programs live }
+{}
+
+/// Where each process has ended, and where nothing is left to happen, each is at rest.
+pub fn runs_rest()
+    ensures whole { (programs : List Program) (live : List Entry) (outputs : List (List HeldOutput)) (statuses : List Status)
+        → IsRunBy programs live outputs statuses → IsRestBy programs live outputs statuses }
+    ensures stuck { (programs : List Program) (live : List Entry) (outputs : List (List HeldOutput)) (statuses : List Status)
+        → IsStuckBy programs live outputs statuses → IsRestBy programs live outputs statuses }
+{}
+
+/// Two runs without failures in which each process receives the same put out the same, and stand the same once they are at rest.
+pub fn one_rest()
+    ensures { (programs : List Program) (live other : List Entry) (outputs others : List (List HeldOutput)) (statuses ends : List Status)
+        → IsRestBy programs live outputs statuses → IsRestBy programs other others ends → IsSameRun live other
+        → (outputs ≡ others) × (statuses ≡ ends) }
 {}

@@ -1,9 +1,9 @@
 use crate::rows::How::{Refused, Writes};
 use crate::rows::{Command, Row, check};
-use om_commands::CommandError;
 use om_commands::decode::decode;
 use om_commands::frontier::frontier;
 use om_commands::sim::sim;
+use om_commands::{BytesForm, CommandError};
 use om_isa::Ext;
 use om_text::MAX_BYTES;
 use std::alloc::Global;
@@ -157,7 +157,12 @@ fn unread(alloc: Global) -> ([Result<(), CommandError>; 3], usize) {
     let answers = [
         frontier(alloc, &mut Failing { calls: 3 }, &mut written),
         decode(alloc, Ext::I, &mut Failing { calls: 3 }, &mut written),
-        sim(alloc, &mut Failing { calls: 3 }, &mut written),
+        sim(
+            alloc,
+            BytesForm::Hex,
+            &mut Failing { calls: 3 },
+            &mut written,
+        ),
     ];
     (answers, written.len())
 }
@@ -173,7 +178,7 @@ fn unwritten(alloc: Global) -> [Result<(), CommandError>; 3] {
             &mut b"00000073".as_slice(),
             &mut Failing { calls: 3 },
         ),
-        sim(alloc, &mut one, &mut Failing { calls: 3 }),
+        sim(alloc, BytesForm::Hex, &mut one, &mut Failing { calls: 3 }),
     ]
 }
 

@@ -58,7 +58,7 @@ pub fn check_end(
     }
 }
 
-static LINES: [(CommandError, &str); 18] = [
+static LINES: [(CommandError, &str); 19] = [
     (CommandError::TooLong, "too long"),
     (CommandError::CannotRead, "cannot read"),
     (CommandError::CannotWrite, "cannot write"),
@@ -83,6 +83,7 @@ static LINES: [(CommandError, &str); 18] = [
     (CommandError::AnotherCluster(3), "another cluster"),
     (CommandError::StoreMissing(3), "store missing"),
     (CommandError::Unlike, "unlike its check"),
+    (CommandError::NoSuchProcess, "no such process"),
 ];
 
 #[test]

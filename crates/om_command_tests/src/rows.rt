@@ -1,10 +1,10 @@
 //! Rows of the commands that read a text: what a command is given, and what it must write or be refused with.
 
 use crate::ending::check_end;
-use om_commands::CommandError;
 use om_commands::decode::decode;
 use om_commands::frontier::frontier;
 use om_commands::sim::sim;
+use om_commands::{BytesForm, CommandError};
 use om_isa::Ext;
 use std::alloc::Global;
 use std::process::Abort;
@@ -15,6 +15,8 @@ pub enum Command {
     Frontier,
     Decode(Ext),
     Sim,
+    /// With the bytes of outputs as text.
+    SimText,
 }
 
 /// How the text of a row is meant.
@@ -63,7 +65,8 @@ fn carry_out(
     match command {
         Command::Frontier => frontier(alloc, &mut input, written),
         Command::Decode(ext) => decode(alloc, ext, &mut input, written),
-        Command::Sim => sim(alloc, &mut input, written),
+        Command::Sim => sim(alloc, BytesForm::Hex, &mut input, written),
+        Command::SimText => sim(alloc, BytesForm::Text, &mut input, written),
     }
 }
 

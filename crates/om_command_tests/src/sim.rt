@@ -260,6 +260,53 @@ static FAULTY: [Row; 25] = [
     ("checkpoint x\n", Refused, "line 1: bad number"),
 ];
 
+// A process puts out the bytes 22 5c 0a 09 0d 20 7e 7f 00 38 ff 1f and then none, and another "hi".
+const SPEAK: &str = "\
+program p 64 00300893 02c00513 00c00593 00000073 00300893 00000593 00000073 00000893 00000513 00000073 00000013 \
+090a5c22 7f7e200d 1fff3800
+program q 64 00300893 01800513 00200593 00000073 00000893 00000073 00006968
+proc p p
+proc q q
+run 0 100
+run 1 100
+";
+
+static SPOKEN: [Row; 1] = [(
+    "",
+    Writes,
+    "\
+ran 9 ended 0 sent 0 made 2
+ran 5 ended 0 sent 0 made 1
+recovery 0 0
+proc p inc 0 interval 0 ended 0
+proc q inc 0 interval 0 ended 0
+out p 0 225c0a090d207e7f0038ff1f
+out p 1 -
+out q 0 6869
+",
+)];
+
+// The same in the escapes of C: a digit behind three octal ones is a byte of its own.
+static QUOTED: [Row; 1] = [(
+    "",
+    Writes,
+    r#"ran 9 ended 0 sent 0 made 2
+ran 5 ended 0 sent 0 made 1
+recovery 0 0
+proc p inc 0 interval 0 ended 0
+proc q inc 0 interval 0 ended 0
+out p 0 "\"\\\n\t\r ~\177\0008\377\037"
+out p 1 ""
+out q 0 "hi"
+"#,
+)];
+
+#[test]
+fn outputs_in_their_forms(rt: HostRuntime) {
+    check(&rt, rt.alloc(), Command::Sim, SPEAK, &SPOKEN);
+    check(&rt, rt.alloc(), Command::SimText, SPEAK, &QUOTED);
+}
+
 #[test]
 fn scripts_and_their_answers(rt: HostRuntime) {
     check(&rt, rt.alloc(), Command::Sim, THREE, &EVENTS);

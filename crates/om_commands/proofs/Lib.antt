@@ -1,4 +1,5 @@
 pub mod DecodeLemmas
+pub mod QuotedLemmas
 pub mod ReportLemmas
 pub mod ScriptLemmas
 pub mod SimLemmas

@@ -27,6 +27,7 @@ use Rattle.om_commands.specs.Sim.{IsBegun, IsErrorOfSim, IsPlayed, IsSim, IsSimA
 use Rattle.om_commands.specs.SimScript.{EventScript, event_script_line, no_events}
 use Rattle.om_commands.specs.SimText.{answers_text, end_text}
 use Rattle.om_commands.specs.steps.Lines.{bytes_at}
+use Rattle.om_commands.specs.declared.bytes_text.BytesForm.{BytesForm}
 use Rattle.om_commands.specs.declared.error.CommandError.{CommandError}
 use Rattle.om_commands.specs.declared.error.CommandError.TheVariants.{EmptyScript, NoMemory}
 
@@ -84,36 +85,36 @@ pub all_same : (stores : List Content) → All IsEmpty stores → All IsEmpty (m
 all_same stores all = All-map IsEmpty (λ s. s) stores all
 
 -- a script is told by what its events give
-pub is_played : {A E : Type 0} (spelled : A → List ℕ) (script : EventScript) (cluster : Cluster) (begun end : WorldState) (events : List Event) (answers told : List Answer) (r : Result A E)
+pub is_played : {A E : Type 0} (form : BytesForm) (spelled : A → List ℕ) (script : EventScript) (cluster : Cluster) (begun end : WorldState) (events : List Event) (answers told : List Answer) (r : Result A E)
     → cluster ≡ script.cluster → events ≡ script.events → told ≡ answers → Played begun events answers end → IsKnown end → All IsFaultless answers
-    → IfOk r (λ text. spelled text ≡ answers_text told ++ end_text cluster (length cluster.processes) end)
-    → IfOk r (λ text. IsPlayed script begun (spelled text))
-is_played spelled script cluster begun end events answers told (Ok text) same_cluster same_events same_answers played known faultless written = (
+    → IfOk r (λ text. spelled text ≡ answers_text told ++ end_text form cluster (length cluster.processes) end)
+    → IfOk r (λ text. IsPlayed form script begun (spelled text))
+is_played form spelled script cluster begun end events answers told (Ok text) same_cluster same_events same_answers played known faultless written = (
   end,
   answers,
   subst (λ es. Played begun es answers end) same_events played,
   known,
   faultless,
   written
-      ∙ ap (λ xs. answers_text xs ++ end_text cluster (length cluster.processes) end) same_answers
-      ∙ ap (λ c. answers_text answers ++ end_text c (length c.processes) end) same_cluster,
+      ∙ ap (λ xs. answers_text xs ++ end_text form cluster (length cluster.processes) end) same_answers
+      ∙ ap (λ c. answers_text answers ++ end_text form c (length c.processes) end) same_cluster,
 )
-is_played spelled script cluster begun end events answers told (Err e) same_cluster same_events same_answers played known faultless written = tt
+is_played form spelled script cluster begun end events answers told (Err e) same_cluster same_events same_answers played known faultless written = tt
 
 -- a script is answered by what is played from the start of its world
-pub is_answer : (script : EventScript) (cluster : Cluster) (begun : WorldState) (text : List ℕ) → cluster ≡ script.cluster
-    → IsBegun (programs_of cluster) begun → IsPlayed script begun text → IsSimAnswer script text
-is_answer script cluster begun text same is_begun played =
+pub is_answer : (form : BytesForm) (script : EventScript) (cluster : Cluster) (begun : WorldState) (text : List ℕ) → cluster ≡ script.cluster
+    → IsBegun (programs_of cluster) begun → IsPlayed form script begun text → IsSimAnswer form script text
+is_answer form script cluster begun text same is_begun played =
     (begun, subst (λ c. IsBegun (programs_of c) begun) same is_begun, played)
 
 -- the answer to a script is that to the bytes that it is read from
-pub text_of_answer : {A : Type 0} (spelled : A → List ℕ) (remaining : Option (List ℕ)) (start script : EventScript) (r : Result A CommandError)
+pub text_of_answer : {A : Type 0} (form : BytesForm) (spelled : A → List ℕ) (remaining : Option (List ℕ)) (start script : EventScript) (r : Result A CommandError)
     → start ≡ no_events → IfSome remaining (λ bytes. IsScript event_script_line start bytes script)
-    → IfOk r (λ text. IsSimAnswer script (spelled text)) → IfSome remaining (λ bytes. IfOk r (λ text. IsSim bytes (spelled text)))
-text_of_answer spelled None start script r is read answer = tt
-text_of_answer spelled (Some bytes) start script (Ok text) is read answer =
+    → IfOk r (λ text. IsSimAnswer form script (spelled text)) → IfSome remaining (λ bytes. IfOk r (λ text. IsSim form bytes (spelled text)))
+text_of_answer form spelled None start script r is read answer = tt
+text_of_answer form spelled (Some bytes) start script (Ok text) is read answer =
     record { script = script; is_script = subst (λ s. IsScript event_script_line s bytes script) is read; answer = answer }
-text_of_answer spelled (Some bytes) start script (Err e) is read answer = tt
+text_of_answer form spelled (Some bytes) start script (Err e) is read answer = tt
 
 -- the error of a script is that of the bytes that it is read from
 of_script : (bytes : List ℕ) (script : EventScript) (error : CommandError) → IsScript event_script_line no_events bytes script

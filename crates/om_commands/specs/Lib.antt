@@ -2,6 +2,7 @@ pub mod Command
 pub mod Decode
 pub mod Events
 pub mod Frontier
+pub mod Quoted
 pub mod RecordScript
 pub mod Replay
 pub mod ReplaySteps

@@ -10,6 +10,7 @@ use Rattle.om_world.specs.declared.event.Answer.{Answer}
 use Rattle.om_commands.specs.Command.{AnswersScript, IsErrorOf}
 use Rattle.om_commands.specs.SimScript.{EventScript, event_script_line, no_events}
 use Rattle.om_commands.specs.SimText.{answers_text, end_text}
+use Rattle.om_commands.specs.declared.bytes_text.BytesForm.{BytesForm}
 use Rattle.om_commands.specs.declared.error.CommandError.{CommandError}
 
 -- the error is that of these bytes, where a script without a process is empty
@@ -20,16 +21,16 @@ IsErrorOfSim bytes error = IsErrorOf event_script_line no_events (λ script. len
 abbrev pub IsBegun : List Program → WorldState → Type 0
 IsBegun programs w = IsStarted programs w × IsKnown w × Holds w
 
--- the answers to the events of a script, played from this world on, and how it stands in the end; no store failed
-abbrev pub IsPlayed : EventScript → WorldState → List ℕ → Type 0
-IsPlayed script begun text =
+-- the answers to the events of a script, played from this world on, and how it stands in the end, with outputs in a form; no store failed
+abbrev pub IsPlayed : BytesForm → EventScript → WorldState → List ℕ → Type 0
+IsPlayed form script begun text =
     (end : WorldState) × (answers : List Answer) × Played begun script.events answers end × IsKnown end
-    × All IsFaultless answers × (text ≡ answers_text answers ++ end_text script.cluster (length script.cluster.processes) end)
+    × All IsFaultless answers × (text ≡ answers_text answers ++ end_text form script.cluster (length script.cluster.processes) end)
 
 -- the same, from the start of its world
-abbrev pub IsSimAnswer : EventScript → List ℕ → Type 0
-IsSimAnswer script text = (begun : WorldState) × IsBegun (programs_of script.cluster) begun × IsPlayed script begun text
+abbrev pub IsSimAnswer : BytesForm → EventScript → List ℕ → Type 0
+IsSimAnswer form script text = (begun : WorldState) × IsBegun (programs_of script.cluster) begun × IsPlayed form script begun text
 
 -- the answer to the script that these bytes are
-abbrev pub IsSim : List ℕ → List ℕ → Type 0
-IsSim bytes text = AnswersScript event_script_line no_events IsSimAnswer bytes text
+abbrev pub IsSim : BytesForm → List ℕ → List ℕ → Type 0
+IsSim form bytes text = AnswersScript event_script_line no_events (IsSimAnswer form) bytes text

@@ -5,11 +5,12 @@ use Rattle.om_manager.specs.Outputs.{HeldOutput}
 use Rattle.om_manager.specs.State.{released_by}
 use Rattle.om_process.specs.Core.{CoreState, move_of, status_of}
 use Rattle.om_scripts.specs.Programs.{Cluster}
-use Rattle.om_look.specs.Trace.{body_text}
 use Rattle.om_world.specs.World.{WorldState}
 use Rattle.om_world.specs.Texts.{answer_text, status_text}
 use Rattle.om_world.specs.declared.event.Answer.{Answer}
+use Rattle.om_commands.specs.Quoted.{bytes_text}
 use Rattle.om_commands.specs.Report.{intervals_text}
+use Rattle.om_commands.specs.declared.bytes_text.BytesForm.{BytesForm}
 
 -- a line for each answer
 abbrev pub answers_text : List Answer → List ℕ
@@ -25,18 +26,18 @@ core_text (Some (Some c)) =
     codes "inc " ++ decimal c.inc ++ codes " interval " ++ decimal c.now.interval ++ 32 ∷ status_text (status_of (move_of c))
 core_text _ = codes "down"
 
--- the line of an output, by its number
-abbrev pub output_line : List ℕ → ℕ → List ℕ → List ℕ
-output_line name number bytes = codes "out " ++ name ++ 32 ∷ decimal number ++ 32 ∷ body_text bytes ++ 10 ∷ []
+-- the line of an output, by its number, with its bytes in a form
+abbrev pub output_line : BytesForm → List ℕ → ℕ → List ℕ → List ℕ
+output_line form name number bytes = codes "out " ++ name ++ 32 ∷ decimal number ++ 32 ∷ bytes_text form bytes ++ 10 ∷ []
 
 -- a line for each output of a process
-abbrev pub outputs_text : List ℕ → List HeldOutput → List ℕ
-outputs_text name outputs =
-    flat_map (λ number. output_line name number (slice_index_or outputs number (record { interval = 0; bytes = [] })).bytes) (range_with_len 0 (length outputs))
+abbrev pub outputs_text : BytesForm → List ℕ → List HeldOutput → List ℕ
+outputs_text form name outputs =
+    flat_map (λ number. output_line form name number (slice_index_or outputs number (record { interval = 0; bytes = [] })).bytes) (range_with_len 0 (length outputs))
 
 -- how a world of n processes stands: the recovery state, each process, and then what is released of each
-abbrev pub end_text : Cluster → ℕ → WorldState → List ℕ
-end_text cluster n w =
+abbrev pub end_text : BytesForm → Cluster → ℕ → WorldState → List ℕ
+end_text form cluster n w =
     codes "recovery" ++ intervals_text w.manager.recovery
     ++ flat_map (λ p. codes "proc " ++ name_at cluster p ++ 32 ∷ core_text (slice_get w.cores p) ++ 10 ∷ []) (range_with_len 0 n)
-    ++ flat_map (λ p. outputs_text (name_at cluster p) (released_by w.manager p)) (range_with_len 0 n)
+    ++ flat_map (λ p. outputs_text form (name_at cluster p) (released_by w.manager p)) (range_with_len 0 n)

@@ -8,7 +8,7 @@ use om_text::{BuildError, ReadError, ScriptError};
 use std::alloc::AllocError;
 use thiserror::Error;
 
-/// Why a command was refused. What is read, or what a store holds, determines all but `CannotRead`, `CannotWrite`,
+/// Why a command was refused. What is read, what a store holds, or what is asked for determines all but `CannotRead`, `CannotWrite`,
 /// `NoMemory`, `StoreFault`, `StoreInUse`, `AnotherCluster`, `StoreMissing`, and those of threads: `OutOfTurns`, `GateShut`, `NoThread` and `Unlike`.
 #[derive(Clone, Copy, Debug, PartialEq, Eq, Error)]
 pub enum CommandError {
@@ -51,6 +51,9 @@ pub enum CommandError {
     NoThread,
     #[error("unlike its check")]
     Unlike,
+    /// The process that was asked for is none of the cluster.
+    #[error("no such process")]
+    NoSuchProcess,
 }
 
 impl From<ReadError> for CommandError {

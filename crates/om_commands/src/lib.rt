@@ -9,15 +9,18 @@
 //! - what all share: `command` (reads the input, writes the answer), `error`
 //! - `frontier`: with `record_script` (its lines), `report` (the texts of answers)
 //! - `decode`: with `word_script`
-//! - `sim`: with `sim_script` and `events` (its lines), `sim_text` (the texts of answers)
+//! - `sim`: with `sim_script` and `events` (its lines), `sim_text` (the texts of answers), `bytes_text` (those of outputs)
 //! - `replay` with `state_text`, and `steps`; `show`
+//! - `laws`
 #![tactic(auto)]
 
+mod bytes_text;
 mod command;
 pub mod decode;
 mod error;
 mod events;
 pub mod frontier;
+pub mod laws;
 mod record_script;
 pub mod replay;
 mod report;
@@ -29,6 +32,7 @@ mod state_text;
 pub mod steps;
 mod word_script;
 
+pub use bytes_text::{BytesForm, push_bytes, push_bytes_in};
 pub use command::{read_input, write_answer};
 pub use error::CommandError;
 pub use report::push_state;

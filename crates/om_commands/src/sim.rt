@@ -12,6 +12,7 @@ ghost use Rattle.om_world.specs.World.{IsEmpty, IsKnown};
 ghost use Rattle.om_commands.specs.Command.{IsSilent};
 ghost use Rattle.om_commands.specs.Sim.{IsBegun, IsErrorOfSim, IsPlayed, IsSim, IsSimAnswer};
 
+use crate::bytes_text::BytesForm;
 use crate::command::{read_input, write_answer};
 use crate::error::CommandError;
 use crate::sim_script::SimScript;
@@ -24,35 +25,40 @@ use std::alloc::{AllocError, Global};
 use std::io::{Read, Write};
 
 /// Reads a script of programs, processes and events whole, plays the events over stores in memory, and then writes the
-/// answer to each and how the world stands in the end.
+/// answer to each and how the world stands in the end, with the bytes of outputs in a form.
 pub fn sim<R: Read, W: Write>(
     alloc: Global,
+    form: BytesForm,
     reader: &mut R,
     writer: &mut W,
 ) -> Result<(), CommandError>
-    ensures text { IfSome (R.remaining reader.old) (λ bytes. OnOk result ((text : List ℕ) × IsSim bytes text
+    ensures text { IfSome (R.remaining reader.old) (λ bytes. OnOk result ((text : List ℕ) × IsSim form bytes text
         × Appends (W.contents writer.old) (W.contents writer.new) text)) }
     ensures error { IfSome (R.remaining reader.old) (λ bytes.
         IfErr result (IsErrorOfSim bytes)) }
     ensures silent { IfErr result (λ error. IsSilent error (Keeps (W.contents writer.old) (W.contents writer.new))) }
 {
-    let text = answer_to(alloc, reader)?;
+    let text = answer_to(alloc, form, reader)?;
     write_answer(writer, text.as_bytes())
 }
 
 // The text that answers the script of an input.
-fn answer_to<R: Read>(alloc: Global, reader: &mut R) -> Result<String, CommandError>
-    ensures text { IfSome (R.remaining reader.old) (λ bytes. IfOk result (λ text. IsSim bytes (string_bytes text))) }
+fn answer_to<R: Read>(
+    alloc: Global,
+    form: BytesForm,
+    reader: &mut R,
+) -> Result<String, CommandError>
+    ensures text { IfSome (R.remaining reader.old) (λ bytes. IfOk result (λ text. IsSim form bytes (string_bytes text))) }
     ensures error { IfSome (R.remaining reader.old) (λ bytes.
         IfErr result (IsErrorOfSim bytes)) }
 {
     let script = read_input(alloc, reader, SimScript::new(alloc))?;
-    answer(alloc, &script)
+    answer(alloc, form, &script)
 }
 
 // The text that answers a script.
-fn answer(alloc: Global, script: &SimScript) -> Result<String, CommandError>
-    ensures text { IfOk result (λ text. IsSimAnswer script.now (string_bytes text)) }
+fn answer(alloc: Global, form: BytesForm, script: &SimScript) -> Result<String, CommandError>
+    ensures text { IfOk result (λ text. IsSimAnswer form script.now (string_bytes text)) }
     ensures error { IfErr result (λ error. (error ≡ CommandError.NoMemory)
         ⊎ ((error ≡ CommandError.EmptyScript) × (length script.now.cluster.processes ≡ 0))) }
 {
@@ -61,7 +67,7 @@ fn answer(alloc: Global, script: &SimScript) -> Result<String, CommandError>
         return Err(CommandError::EmptyScript);
     }
     let mut world = start(alloc, programs)?;
-    Ok(told(alloc, script, &mut world)?)
+    Ok(told(alloc, form, script, &mut world)?)
 }
 
 /// The world of these programs at its start, over stores that hold nothing. Refused where memory runs out.
@@ -78,15 +84,16 @@ pub fn start(alloc: Global, programs: &Programs) -> Result<World<MemStable>, All
 // Plays the events of a script, and tells the answers and how the world stands in the end.
 fn told(
     alloc: Global,
+    form: BytesForm,
     script: &SimScript,
     world: &mut World<MemStable>,
 ) -> Result<String, AllocError>
     requires known { IsKnown world.old }
     requires managed { length script.now.cluster.processes ≤ process_count world.old.manager }
-    ensures { IfOk result (λ text. IsPlayed script.now world.old (string_bytes text)) }
+    ensures { IfOk result (λ text. IsPlayed form script.now world.old (string_bytes text)) }
 {
     let answers = play(alloc, world, script.events())?;
-    sim_text(alloc, script.programs(), world, &answers)
+    sim_text(alloc, form, script.programs(), world, &answers)
 }
 
 // So many stores that hold nothing.

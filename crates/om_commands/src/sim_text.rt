@@ -7,10 +7,10 @@ ghost use Rattle.om_manager.specs.Outputs.{held_of};
 ghost use Rattle.om_manager.specs.State.{process_count};
 ghost use Rattle.om_commands.specs.SimText.{answers_text, core_text, name_at, output_line, outputs_text};
 ghost use Rattle.om_commands.specs.steps.Lines.{process_line, released_text, written_end};
-ghost use Rattle.om_look.specs.Trace.{body_text};
 ghost use Rattle.om_world.specs.Texts.{answer_text, refusal_word};
 ghost use Rattle.om_world.specs.declared.event.Answer.{Answer};
 
+use crate::bytes_text::{BytesForm, push_bytes_in};
 use crate::report::push_state;
 use crate::state_text::push_status;
 use om_interval::Pid;
@@ -177,28 +177,19 @@ fn push_processes<S: Stable>(
     Ok(())
 }
 
-// Writes bytes in hexadecimal, and a mark where there is none.
-fn push_bytes(alloc: Global, text: &mut String, bytes: &[u8]) -> Result<(), AllocError>
-    ensures { OnOk result (string_bytes text.new ≡ string_bytes text.old ++ body_text bytes.now) }
-{
-    if bytes.is_empty() {
-        return text.push('-');
-    }
-    text.push_str(&hex::encode(alloc, bytes)?)
-}
-
-/// Writes the line of an output: the name of its process, its number, and its bytes in hexadecimal.
+/// Writes the line of an output: the name of its process, its number, and its bytes.
 pub fn push_output(
     alloc: Global,
     text: &mut String,
+    form: BytesForm,
     name: &str,
     number: u64,
     bytes: &[u8],
 ) -> Result<(), AllocError>
-    ensures { OnOk result (string_bytes text.new ≡ string_bytes text.old ++ output_line name.now number bytes.now) }
+    ensures { OnOk result (string_bytes text.new ≡ string_bytes text.old ++ output_line form name.now number bytes.now) }
 {
     write!(text, "out {name} {number} ")?;
-    push_bytes(alloc, text, bytes)?;
+    push_bytes_in(alloc, text, form, bytes)?;
     text.push('\n')
 }
 
@@ -206,15 +197,17 @@ pub fn push_output(
 pub fn push_outputs(
     alloc: Global,
     text: &mut String,
+    form: BytesForm,
     name: &str,
     outputs: &[Output],
 ) -> Result<(), AllocError>
-    ensures { OnOk result (string_bytes text.new ≡ string_bytes text.old ++ outputs_text name.now (map held_of outputs.now)) }
+    ensures { OnOk result (string_bytes text.new ≡ string_bytes text.old ++ outputs_text form name.now (map held_of outputs.now)) }
 {
     for number in 0..outputs.len() {
         push_output(
             alloc,
             text,
+            form,
             name,
             number as u64,
             outputs[number].bytes.as_slice(),
@@ -227,6 +220,7 @@ pub fn push_outputs(
 fn push_released(
     alloc: Global,
     text: &mut String,
+    form: BytesForm,
     programs: &Programs,
     manager: &Manager,
     n: usize,
@@ -235,11 +229,11 @@ fn push_released(
     requires few { n ≤ MAX_PROCESSES }
     requires managed { n ≤ process_count manager.now }
     ensures { OnOk result (string_bytes text.new ≡ string_bytes text.old
-        ++ flat_map (released_text programs.now manager.now) (range_with_len 0 n)) }
+        ++ flat_map (released_text form programs.now manager.now) (range_with_len 0 n)) }
 {
     for p in 0..n {
         let name = name_of(programs, p);
-        push_outputs(alloc, text, name, manager.released(Pid::at(p)))?;
+        push_outputs(alloc, text, form, name, manager.released(Pid::at(p)))?;
     }
     Ok(())
 }
@@ -248,6 +242,7 @@ fn push_released(
 fn push_end<S: Stable>(
     alloc: Global,
     text: &mut String,
+    form: BytesForm,
     programs: &Programs,
     world: &World<S>,
     n: usize,
@@ -255,27 +250,28 @@ fn push_end<S: Stable>(
     requires processes { n ≤ length programs.now.processes }
     requires few { n ≤ MAX_PROCESSES }
     requires managed { n ≤ process_count world.now.manager }
-    ensures { OnOk result (string_bytes text.new ≡ string_bytes text.old ++ written_end programs.now n world.now) }
+    ensures { OnOk result (string_bytes text.new ≡ string_bytes text.old ++ written_end form programs.now n world.now) }
 {
     text.push_str("recovery")?;
     push_state(text, &world.manager().recovery())?;
     push_processes(text, programs, world, n)?;
-    push_released(alloc, text, programs, world.manager(), n)
+    push_released(alloc, text, form, programs, world.manager(), n)
 }
 
 // The text of a world whose processes are those of these programs, and that has answered events so.
 pub(crate) fn sim_text<S: Stable>(
     alloc: Global,
+    form: BytesForm,
     programs: &Programs,
     world: &World<S>,
     answers: &[Answer],
 ) -> Result<String, AllocError>
     requires managed { length programs.now.processes ≤ process_count world.now.manager }
     ensures { IfOk result (λ text. string_bytes text ≡ answers_text answers.now
-        ++ written_end programs.now (length programs.now.processes) world.now) }
+        ++ written_end form programs.now (length programs.now.processes) world.now) }
 {
     let mut text = String::new(alloc);
     push_answers(&mut text, answers)?;
-    push_end(alloc, &mut text, programs, world, programs.n())?;
+    push_end(alloc, &mut text, form, programs, world, programs.n())?;
     Ok(text)
 }

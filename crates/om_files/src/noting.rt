@@ -1,9 +1,12 @@
 //! What the system answered where a file of a cluster failed.
 
+ghost use Rattle.std.specs.Prelude.{◌≡◌, ◌↔◌, ◌<◌, IfOk, IfSome, IsSome};
+
 use om_interval::Pid;
 use sqlite_disk::{Disk, Tally};
 use std::alloc::{AllocError, Global};
 use std::io;
+use std::marker::Model;
 use std::sync::atomic::AtomicI32;
 use std::sync::atomic::Ordering::SeqCst;
 
@@ -33,15 +36,29 @@ impl Note {
     }
 }
 
-/// A note for each process of a cluster.
+/// A note for each process of a cluster. No contract can say what stands in one.
 #[derive(Drop)]
 pub struct Notes {
     notes: Vec<Note>,
 }
 
+// Of how many processes they are.
+impl Model for Notes {
+    ghost use Rattle.std.specs.Prelude.{ℕ, vec_len};
+    ghost use Rattle.std.specs.Coded.{coded_ℕ};
+
+    ghost Value = { ℕ };
+
+    ghost coded = { coded_ℕ };
+
+    ghost view = { λ n. vec_len n.notes };
+}
+
 impl Notes {
-    /// Of so many processes, which met no error yet.
-    pub fn new(alloc: Global, n: usize) -> Result<Notes, AllocError> {
+    /// Makes those of so many processes, which met no error yet. Refused only where memory ran out.
+    pub fn new(alloc: Global, n: usize) -> Result<Notes, AllocError>
+        ensures many { IfOk result (λ notes. notes ≡ n) }
+    {
         let mut notes = Vec::with_capacity(alloc, n)?;
         for _ in 0..n {
             let code = AtomicI32::new(NONE);
@@ -50,12 +67,16 @@ impl Notes {
         Ok(Notes { notes })
     }
 
-    pub(crate) fn of(&self, pid: Pid) -> Option<&Note> {
+    pub(crate) fn of(&self, pid: Pid) -> Option<&Note>
+        ensures there { IsSome result ↔ (pid < self.now) }
+    {
         self.notes.get(pid.index())
     }
 
-    /// The first process whose files met an error, and what the system answered.
-    pub fn first(&self) -> Option<(usize, io::Error)> {
+    /// Returns the first process whose files met an error, with what the system answered; none where none did.
+    pub fn first(&self) -> Option<(usize, io::Error)>
+        ensures place { IfSome result (λ first. first.0 < self.now) }
+    {
         for (process, note) in self.notes.iter().enumerate() {
             if let Some(error) = note.error() {
                 return Some((process, error));

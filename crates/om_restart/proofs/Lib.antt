@@ -1,1 +1,3 @@
+pub mod AlongLemmas
+pub mod SenderLemmas
 mod TableLemmas

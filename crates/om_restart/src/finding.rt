@@ -1,21 +1,23 @@
 //! The look into a store that a run may take up.
 
-ghost use Rattle.std.specs.Prelude.{◌≡◌, ◌≤◌, ◌∷◌, [], false, IfOk, IsErrOf, IsTrue};
+ghost use Rattle.std.specs.Prelude.{◌≡◌, ◌≤◌, ◌↔◌, ◌∷◌, ℕ, List, [], false, IfOk, IsErrOf, IsTrue, take};
 ghost use Rattle.std.specs.FinMap as map;
 ghost use Rattle.std.specs.List.{AllZip};
 ghost use Rattle.om_interval.specs.declared.pid.TheConstants.{MAX_PROCESSES};
 ghost use Rattle.om_look.specs.Rows.{AreRowsOf};
 ghost use Rattle.om_process.specs.Images.{program_of};
 ghost use Rattle.om_restart.specs.Abouts.{IsAboutOf};
+ghost use Rattle.om_restart.specs.Beyond.{HasReceipt, HasStray};
 ghost use Rattle.om_restart.specs.Outputs.{IsRowOfOutput};
+ghost use Rattle.om_restart.specs.Senders.{AreSendersIn, GoOnAlong};
 ghost use Rattle.om_restart.specs.declared.finding.FindFault.TheVariants.{Memory};
 ghost use Rattle.om_stable.specs.Calls.{IsCleanCall, UsesStore};
-ghost use Rattle.om_stable.specs.Content.{rows_of};
+ghost use Rattle.om_stable.specs.Content.{Content, rows_of};
 ghost use Rattle.om_stable.specs.Ledger.{in_table};
 
 use crate::found::Found;
 use crate::output::read_output;
-use crate::receiving::{has_strays, received_in};
+use crate::receiving::{add_following, has_strays, received_in};
 use om_interval::{MAX_PROCESSES, Pid};
 use om_look::{RowsFault, about_of, stored_rows};
 use om_process::{Image, Made, PendingRow};
@@ -98,6 +100,12 @@ pub fn find<S: Ledger>(
         → IfOk result (λ found. AllZip IsRowOfOutput (map.entries (S.ledger store.old).outputs) found.outputs.items) }
     ensures about { IsCleanCall S.is_clean S.IsSound store.old store.new
         → IfOk result (λ found. IsAboutOf own n (program_of image.now) (map.entries (S.ledger store.old).about) found.has_about) }
+    ensures kept { IsCleanCall S.is_clean S.IsSound store.old store.new
+        → IfOk result (λ found. AreSendersIn (map.entries (S.ledger store.old).senders) (take found.kept found.senders.items)) }
+    ensures senders { IsCleanCall S.is_clean S.IsSound store.old store.new
+        → IfOk result (λ found. GoOnAlong own n (S.content store.old) found.rows.items found.kept found.senders.items) }
+    ensures receipt { IsCleanCall S.is_clean S.IsSound store.old store.new
+        → IfOk result (λ found. IsTrue found.has_receipt ↔ HasReceipt (S.content store.old) found.rows.items) }
     ensures same { IsCleanCall S.is_clean S.IsSound store.old store.new → S.content store.new ≡ S.content store.old }
     ensures used { UsesStore S.failed S.is_clean S.IsSound store.old (IsErrOf result FindFault.Fault) store.new }
 {
@@ -128,6 +136,8 @@ fn tables_of<S: Ledger>(
         → IfOk result (λ tables. AllZip IsRowOfOutput (map.entries (S.ledger store.old).outputs) tables.outputs.items) }
     ensures about { IsCleanCall S.is_clean S.IsSound store.old store.new
         → IfOk result (λ tables. IsAboutOf own n (program_of image.now) (map.entries (S.ledger store.old).about) tables.has_about) }
+    ensures senders { IsCleanCall S.is_clean S.IsSound store.old store.new
+        → IfOk result (λ tables. AreSendersIn (map.entries (S.ledger store.old).senders) tables.senders.items) }
     ensures same { IsCleanCall S.is_clean S.IsSound store.old store.new → S.content store.new ≡ S.content store.old }
     ensures used { UsesStore S.failed S.is_clean S.IsSound store.old (IsErrOf result FindFault.Fault) store.new }
 {
@@ -169,6 +179,7 @@ fn tables_in(
     requires { n ≤ MAX_PROCESSES }
     ensures outputs { IfOk result (λ tables. AllZip IsRowOfOutput (rows_of outputs.now) tables.outputs.items) }
     ensures about { IfOk result (λ tables. IsAboutOf own n (program_of image.now) (rows_of about.now) tables.has_about) }
+    ensures senders { IfOk result (λ tables. AreSendersIn (rows_of senders.now) tables.senders.items) }
     ensures never_fault { IsErrOf result FindFault.Fault → ⊥ }
 {
     let own_about = about_of(alloc, own, n, image)?;
@@ -214,6 +225,7 @@ fn outputs_of(alloc: Global, rows: &[(u64, Vec<u8>)]) -> Result<Vec<Made>, FindF
 
 // The senders that are the rows of a table, of which each begins behind the one before.
 fn senders_of(alloc: Global, rows: &[(u64, Vec<u8>)]) -> Result<Vec<u8>, FindFault>
+    ensures senders { IfOk result (λ senders. AreSendersIn (rows_of rows.now) senders.items) }
     ensures never_fault { IsErrOf result FindFault.Fault → ⊥ }
 {
     let mut senders = Vec::new(alloc);
@@ -226,16 +238,6 @@ fn senders_of(alloc: Global, rows: &[(u64, Vec<u8>)]) -> Result<Vec<u8>, FindFau
     Ok(senders)
 }
 
-// Adds the senders of the receipts that follow on those without a gap.
-fn add_following(senders: &mut Vec<u8>, received: &[(u32, u8)]) -> Result<(), AllocError> {
-    for (interval, from) in received {
-        if *interval as usize == senders.len() + 1 {
-            senders.push(*from)?;
-        }
-    }
-    Ok(())
-}
-
 // All that was found. What holds something says what it is of.
 fn found_of(
     alloc: Global,
@@ -246,6 +248,13 @@ fn found_of(
     ensures rows { IfOk result (λ found. found.rows ≡ rows) }
     ensures outputs { IfOk result (λ found. found.outputs ≡ tables.outputs) }
     ensures about { IfOk result (λ found. found.has_about ≡ tables.has_about) }
+    ensures kept { (known : List (ℕ × List ℕ)) → AreSendersIn known tables.senders.items
+        → IfOk result (λ found. AreSendersIn known (take found.kept found.senders.items)) }
+    ensures senders { (own n : ℕ) (held : Content) → n ≤ MAX_PROCESSES → AreRowsOf own n held rows.items
+        → IfOk result (λ found. GoOnAlong own n held found.rows.items found.kept found.senders.items) }
+    ensures receipt { (own n : ℕ) (held : Content) → n ≤ MAX_PROCESSES → AreRowsOf own n held rows.items
+        → (IsTrue has_strays ↔ HasStray held rows.items)
+        → IfOk result (λ found. IsTrue found.has_receipt ↔ HasReceipt held found.rows.items) }
     ensures never_fault { IsErrOf result FindFault.Fault → ⊥ }
 {
     let Tables {

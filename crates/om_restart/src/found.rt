@@ -1,3 +1,6 @@
+ghost use Rattle.std.specs.Prelude.{◌<◌, ◌↔◌, IsTrue, length};
+ghost use Rattle.om_restart.specs.Beyond.{IsBeyondStart};
+
 use om_process::{Made, PendingRow};
 
 /// What was found in the store of a process that a run may take up.
@@ -18,13 +21,17 @@ pub struct Found {
 }
 
 impl Found {
-    /// Whether the store has a checkpoint, from which a process can come back.
-    pub fn is_begun(&self) -> bool {
+    /// Tells whether the store has a checkpoint, from which a process can come back.
+    pub fn is_begun(&self) -> bool
+        ensures { IsTrue result ↔ (0 < length self.now.rows.items) }
+    {
         !self.rows.is_empty()
     }
 
-    /// Whether the store holds more than the checkpoint of a process at its start: then all processes had theirs.
-    pub fn is_beyond_start(&self) -> bool {
+    /// Tells whether the store holds more than the checkpoint of a process at its start: then all processes had theirs.
+    pub fn is_beyond_start(&self) -> bool
+        ensures { IsTrue result ↔ IsBeyondStart self.now }
+    {
         if self.rows.len() > 1 || self.has_receipt {
             return true;
         }

@@ -1,8 +1,14 @@
 //! The receipts of a store, as its rows tell them: so that the records are read once.
 
-ghost use Rattle.std.specs.Prelude.{◌≡◌, IsErrOf};
+ghost use Rattle.std.specs.Prelude.{◌≡◌, ◌<◌, ◌≤◌, ◌↔◌, ℕ, IfNone, IfOk, IfSome, IsErrOf, IsTrue, Some, length};
+ghost use Rattle.std.specs.List.{All, Any};
+ghost use Rattle.std.specs.List.Sorted.{IsNonDecreasingBy};
+ghost use Rattle.om_process.specs.declared.limits.TheConstants.{LAST_INTERVAL};
+ghost use Rattle.om_restart.specs.Beyond.{HasStray};
 ghost use Rattle.om_restart.specs.declared.finding.FindFault.{FindFault};
+ghost use Rattle.om_restart.specs.steps.Receiving.{AreReceivedBy, GoOnBehind, IsFirstChange, IsFrom};
 ghost use Rattle.om_stable.specs.Calls.{IsCleanCall, UsesStore};
+ghost use Rattle.om_stable.specs.Content.{between, rows_of};
 
 use crate::finding::FindFault;
 use om_format::{DecodeError, decode_receipt};
@@ -11,32 +17,69 @@ use om_process::{LAST_INTERVAL, PendingRow};
 use om_stable::{Stable, StoreError};
 use std::alloc::{AllocError, Global};
 
+// The first place at which two lists differ, among those that both have.
+fn first_change(old: &[u32], new: &[u32]) -> Option<usize>
+    ensures found { IfSome result (λ q. IsFirstChange old.now new.now q) }
+    ensures none { IfNone result ((q : ℕ) → IsFirstChange old.now new.now q → ⊥) }
+{
+    for place in 0..old.len().min(new.len()) {
+        if old[place] != new[place] {
+            return Some(place);
+        }
+    }
+    None
+}
+
 // The place of the sender of the receipt that gave a row, by the row before it: the one of which a message more was got. A
 // checkpoint's row is not given by a receipt.
-fn sender_of(before: &PendingRow, row: &PendingRow) -> Option<u8> {
+fn sender_of(before: &PendingRow, row: &PendingRow) -> Option<u8>
+    ensures told { IfSome result (λ q. IsFrom before.now row.now q) }
+    ensures all { (q : ℕ) → IsFrom before.now row.now q → q < 256 → result ≡ Some q }
+{
     if row.ckpt {
         return None;
     }
-    let (old, new) = (before.got.as_slice(), row.got.as_slice());
-    let place = old.iter().zip(new).position(|(a, b)| a != b)?;
-    u8::try_from(place).ok()
+    match first_change(before.got.as_slice(), row.got.as_slice()) {
+        Some(place) if place < 256 => Some(place as u8),
+        _ => None,
+    }
 }
 
 // The interval and the sender of each receipt that gave a row, ascending.
-pub(crate) fn received_in(
-    alloc: Global,
-    rows: &[PendingRow],
-) -> Result<Vec<(u32, u8)>, AllocError> {
+pub(crate) fn received_in(alloc: Global, rows: &[PendingRow]) -> Result<Vec<(u32, u8)>, AllocError>
+    ensures told { IfOk result (λ received. AreReceivedBy (length rows.now) rows.now received.items) }
+    ensures ascending { IfOk result (λ received. IsNonDecreasingBy (λ e. e.0) received.items) }
+{
+    let mut received = in_order_of(alloc, rows)?;
+    received.sort_unstable_by_key(|(interval, _)| *interval);
+    Ok(received)
+}
+
+// The same, in the order of the rows.
+fn in_order_of(alloc: Global, rows: &[PendingRow]) -> Result<Vec<(u32, u8)>, AllocError>
+    ensures { IfOk result (λ received. AreReceivedBy (length rows.now) rows.now received.items) }
+{
     let mut received = Vec::new(alloc);
-    let mut before = None;
-    for row in rows {
-        if let Some(from) = before.and_then(|before| sender_of(before, row)) {
+    for at in 1..rows.len() {
+        let row = &rows[at];
+        if let Some(from) = sender_of(&rows[at - 1], row) {
             received.push((row.x, from))?;
         }
-        before = Some(row);
     }
-    received.sort_unstable();
     Ok(received)
+}
+
+// Adds the senders of the receipts that follow on those without a gap.
+pub(crate) fn add_following(senders: &mut Vec<u8>, received: &[(u32, u8)]) -> Result<(), AllocError>
+    requires { IsNonDecreasingBy (λ e. e.0) received.now }
+    ensures { IfOk result (λ _. GoOnBehind received.now senders.old.items senders.new.items) }
+{
+    for (interval, from) in received {
+        if *interval as usize == senders.len() + 1 {
+            senders.push(*from)?;
+        }
+    }
+    Ok(())
 }
 
 // Whether there are receipts behind the newest row, or any where there is none: they follow on nothing. Each is one of process
@@ -48,6 +91,8 @@ pub(crate) fn has_strays<S: Stable>(
     n: usize,
     rows: &[PendingRow],
 ) -> Result<bool, FindFault>
+    ensures strays { IsCleanCall S.is_clean S.IsSound store.old store.new
+        → IfOk result (λ has. IsTrue has ↔ HasStray (S.content store.old) rows.now) }
     ensures same { IsCleanCall S.is_clean S.IsSound store.old store.new → S.content store.new ≡ S.content store.old }
     ensures used { UsesStore S.failed S.is_clean S.IsSound store.old (IsErrOf result FindFault.Fault) store.new }
 {
@@ -57,7 +102,10 @@ pub(crate) fn has_strays<S: Stable>(
 }
 
 // The newest interval of the rows.
-fn newest(rows: &[PendingRow]) -> u32 {
+fn newest(rows: &[PendingRow]) -> u32
+    ensures highest { All (λ row. row.x ≤ result) rows.now }
+    ensures one { 0 < result → Any (λ row. row.x ≡ result) rows.now }
+{
     rows.iter().map(|row| row.x).max().unwrap_or(0)
 }
 
@@ -67,6 +115,8 @@ fn receipts_after<S: Stable>(
     store: &mut S,
     after: u32,
 ) -> Result<Vec<(u32, Vec<u8>)>, FindFault>
+    ensures found { IsCleanCall S.is_clean S.IsSound store.old store.new
+        → IfOk result (λ found. rows_of found.items ≡ between (S.content store.old).receipts after LAST_INTERVAL) }
     ensures same { IsCleanCall S.is_clean S.IsSound store.old store.new → S.content store.new ≡ S.content store.old }
     ensures used { UsesStore S.failed S.is_clean S.IsSound store.old (IsErrOf result FindFault.Fault) store.new }
 {

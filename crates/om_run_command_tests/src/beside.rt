@@ -3,6 +3,7 @@
 ghost use Rattle.std.specs.Prelude.{◌≡◌};
 
 use om_commands::CommandError;
+use om_process::Status;
 use om_run_commands::{ClusterScript, RunContext};
 use std::alloc::Global;
 
@@ -54,8 +55,11 @@ impl RunContext for Beside {
         Ok(())
     }
 
-    fn end(&mut self, _script: &ClusterScript, outcome: Result<(), CommandError>) {
-        self.outcome = Some(outcome);
+    fn end(&mut self, _script: &ClusterScript, outcome: Result<&[Status], CommandError>) {
+        self.outcome = Some(match outcome {
+            Ok(_) => Ok(()),
+            Err(error) => Err(error),
+        });
         self.ended = self.ended.saturating_add(1);
     }
 }

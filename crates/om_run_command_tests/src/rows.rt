@@ -1,7 +1,8 @@
 //! Rows of the commands that run a cluster: what a command is given, and what it must write or be refused with.
 
 use crate::beside::Beside;
-use om_commands::CommandError;
+use om_commands::{BytesForm, CommandError};
+use om_process::Status;
 use om_run_commands::{RunMode, run_file};
 use om_runner::InMemory;
 use std::alloc::Global;
@@ -11,10 +12,11 @@ use std::sync::Wait;
 use std::thread::Threads;
 use std::time::Clock;
 
-/// A run over stores in memory, in which a worker takes so many turns.
+/// A run over stores in memory, in which a worker takes so many turns, with the bytes of outputs in a form.
 #[derive(Clone, Copy)]
 pub struct Command {
-    pub mode: RunMode,
+    pub mode: RunMode<'static>,
+    pub form: BytesForm,
     pub turns: u64,
 }
 
@@ -68,17 +70,27 @@ pub fn carry_out<R: Threads + Wait + Clock + Sync, I: Read, W: Write + Drop>(
     writer: W,
 ) -> (Result<(), CommandError>, W) {
     let mut beside = Beside::new(alloc);
-    let Command { mode, turns } = command;
-    run_file(
+    let Command { mode, form, turns } = command;
+    let (answer, writer) = run_file(
         rt,
         alloc,
         mode,
+        form,
         turns,
         &InMemory,
         &mut beside,
         reader,
         writer,
-    )
+    );
+    (outcome_of(answer), writer)
+}
+
+/// Whether a run ended well, or why it was refused.
+pub fn outcome_of(answer: Result<Vec<Status>, CommandError>) -> Result<(), CommandError> {
+    match answer {
+        Ok(_) => Ok(()),
+        Err(error) => Err(error),
+    }
 }
 
 /// Compares what a command answered to this input, and what it wrote.

@@ -2,7 +2,8 @@
 
 use crate::beside::Beside;
 use crate::rows::How::{Refused, Writes};
-use crate::rows::{Command, How, Row, check, check_answer, check_input};
+use crate::rows::{Command, How, Row, carry_out, check, check_answer, check_input, outcome_of};
+use om_commands::{BytesForm, CommandError};
 use om_interval::Pid;
 use om_run_commands::{RunMode, run_file};
 use om_runner::{OpenFault, Opener};
@@ -76,7 +77,7 @@ static FAILURES: [(usize, How, &str); 2] = [
     (65, Refused, "line 67: too many"),
 ];
 
-static MODES: [RunMode; 5] = [
+static MODES: [RunMode<'static>; 5] = [
     RunMode::Plain,
     RunMode::Check,
     RunMode::Witness,
@@ -87,10 +88,94 @@ static MODES: [RunMode; 5] = [
 #[test]
 fn cluster_files_and_their_texts(rt: HostRuntime) {
     for mode in &MODES {
-        let (mode, turns) = (*mode, TURNS);
-        check(&rt, rt.alloc(), Command { mode, turns }, ONE, &LINES);
-        check(&rt, rt.alloc(), Command { mode, turns }, "", &FAULTY);
-        check(&rt, rt.alloc(), Command { mode, turns: 1 }, "", &ENDLESS);
+        let command = Command {
+            mode: *mode,
+            form: BytesForm::Hex,
+            turns: TURNS,
+        };
+        check(&rt, rt.alloc(), command, ONE, &LINES);
+        check(&rt, rt.alloc(), command, "", &FAULTY);
+        check(
+            &rt,
+            rt.alloc(),
+            Command {
+                turns: 1,
+                ..command
+            },
+            "",
+            &ENDLESS,
+        );
+    }
+}
+
+// p puts out the bytes 22 5c 0a 09 0d 20 7e 7f 00 38 ff 1f and then "hi".
+const SPEAK: &str = "\
+program speak 64 00300893 03000513 00c00593 00000073 00300893 03c00513 00200593 00000073 00000893 00000513 00000073 00000013 \
+090a5c22 7f7e200d 1fff3800 00006968
+program quiet 16 00000893 00000073
+proc p speak
+proc q quiet
+";
+
+static HEX: [Row; 1] = [(
+    "",
+    Writes,
+    "out p 0 225c0a090d207e7f0038ff1f\nout p 1 6869\nend p ended 0\nend q ended 0\n",
+)];
+
+static TEXT: [Row; 1] = [(
+    "",
+    Writes,
+    r#"out p 0 "\"\\\n\t\r ~\177\0008\377\037"
+out p 1 "hi"
+end p ended 0
+end q ended 0
+"#,
+)];
+
+// Each mode writes outputs in the form that it is given.
+#[test]
+fn outputs_in_their_forms(rt: HostRuntime) {
+    for mode in &MODES {
+        let command = Command {
+            mode: *mode,
+            form: BytesForm::Hex,
+            turns: TURNS,
+        };
+        check(&rt, rt.alloc(), command, SPEAK, &HEX);
+        check(
+            &rt,
+            rt.alloc(),
+            Command {
+                form: BytesForm::Text,
+                ..command
+            },
+            SPEAK,
+            &TEXT,
+        );
+    }
+}
+
+// By the process that is asked for: its bytes alone, one output behind the other; and a name of no process.
+static RAW: [(&str, Result<(), CommandError>, &[u8]); 4] = [
+    ("p", Ok(()), b"\"\\\n\t\r ~\x7f\x008\xff\x1fhi"),
+    ("q", Ok(()), b""),
+    ("speak", Err(CommandError::NoSuchProcess), b""),
+    ("", Err(CommandError::NoSuchProcess), b""),
+];
+
+#[test]
+fn outputs_of_one_process_alone(rt: HostRuntime) {
+    for (name, outcome, bytes) in &RAW {
+        let command = Command {
+            mode: RunMode::Raw(*name),
+            form: BytesForm::Hex,
+            turns: TURNS,
+        };
+        let mut reader = SPEAK.as_bytes();
+        let written = Vec::new(rt.alloc());
+        let told = carry_out(&rt, rt.alloc(), command, &mut reader, written);
+        assert!(&rt; told.0 == *outcome && told.1.as_slice() == *bytes, "{name}");
     }
 }
 
@@ -101,15 +186,12 @@ fn failures_that_are_planned(rt: HostRuntime) {
             .repeat(rt.alloc(), *count)
             .expect(&rt, "memory");
         let input = format!(in rt.alloc(); "{ONE}{kills}").expect(&rt, "memory");
-        let (mode, turns) = (RunMode::Plain, TURNS);
-        check_input(
-            &rt,
-            rt.alloc(),
-            Command { mode, turns },
-            &input,
-            *how,
-            wanted,
-        );
+        let command = Command {
+            mode: RunMode::Plain,
+            form: BytesForm::Hex,
+            turns: TURNS,
+        };
+        check_input(&rt, rt.alloc(), command, &input, *how, wanted);
     }
 }
 
@@ -133,8 +215,9 @@ impl<R> Opener<R> for Refusing {
 
 const TWO: &str = "program a 16 00000893 00000073\nproc p a\nproc q a\n";
 
-static REFUSALS: [(usize, OpenFault, How, &str); 3] = [
+static REFUSALS: [(usize, OpenFault, How, &str); 4] = [
     (1, OpenFault::Refused, Refused, "store fault"),
+    (1, OpenFault::InUse, Refused, "store in use"),
     (1, OpenFault::Memory, Refused, "no memory"),
     (
         2,
@@ -155,12 +238,14 @@ fn stores_that_are_not_made(rt: HostRuntime) {
             &rt,
             rt.alloc(),
             RunMode::Plain,
+            BytesForm::Hex,
             TURNS,
             &opener,
             &mut Beside::new(rt.alloc()),
             &mut TWO.as_bytes(),
             Vec::new(rt.alloc()),
         );
+        let answer = outcome_of(answer);
         check_answer(&rt, rt.alloc(), TWO, (answer, &written), (*how, wanted));
     }
 }

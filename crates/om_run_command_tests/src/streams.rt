@@ -1,7 +1,7 @@
 //! Streams that fail in the midst of the commands that run a cluster.
 
 use crate::rows::{Command, carry_out};
-use om_commands::CommandError;
+use om_commands::{BytesForm, CommandError};
 use om_run_commands::RunMode;
 use std::alloc::Global;
 use std::io;
@@ -44,7 +44,7 @@ impl Write for Failing {
 
 const ONE: &[u8] = b"program a 16 00000893 00000073\nproc p a\n";
 
-static MODES: [RunMode; 5] = [
+static MODES: [RunMode<'static>; 5] = [
     RunMode::Plain,
     RunMode::Check,
     RunMode::Witness,
@@ -72,6 +72,7 @@ fn streams_that_fail(rt: HostRuntime) {
     for mode in &MODES {
         let command = Command {
             mode: *mode,
+            form: BytesForm::Hex,
             turns: 1_000,
         };
         check_streams(&rt, rt.alloc(), command);

@@ -22,24 +22,26 @@ use Rattle.om_run_commands.proofs.RunLemmas.{is_report, ok_at}
 use Rattle.om_run_commands.specs.ClusterScript.{ClusterFile, cluster_file_line, no_settings}
 use Rattle.om_commands.specs.Command.{IsErrorOf, IsScript}
 use Rattle.om_run_commands.specs.steps.Errors.{error_of_run}
-use Rattle.om_run_commands.specs.Follow.{IsFollowedAnswer, IsFollowedRun, IsPart, IsPartOf, told_text}
+use Rattle.om_run_commands.specs.Follow.{IsPart, IsPartOf, told_text}
+use Rattle.om_run_commands.specs.steps.Modes.{IsFollowedTo}
 use Rattle.om_run_commands.specs.steps.Lines.{told_line}
 use Rattle.om_run_commands.specs.Run.{IsByKind}
 use Rattle.om_run_commands.specs.steps.Scripts.{IsErrorOfScript}
 use Rattle.om_run_commands.specs.RunText.{ends_text}
+use Rattle.om_commands.specs.declared.bytes_text.BytesForm.{BytesForm}
 use Rattle.om_commands.specs.declared.error.CommandError.{CommandError}
 use Rattle.om_commands.specs.declared.error.CommandError.TheVariants as errors
 
 -- one line more was written
-pub line_more : (cluster : Cluster) (a b c : Option (List ℕ)) (told : List Told) (t : Told) (line : List ℕ) → Appends a b (told_text cluster told) → Appends b c line
-    → line ≡ told_line cluster t → Appends a c (told_text cluster (told ++ t ∷ []))
-line_more cluster a b c told t line before more is =
-    let text : told_text cluster (told ++ t ∷ []) ≡ told_text cluster told ++ told_line cluster t =
-    flat_map-append (told_line cluster) told (t ∷ []) ∙ ap (λ l. told_text cluster told ++ l) (append-nil (told_line cluster t))
+pub line_more : (form : BytesForm) (cluster : Cluster) (a b c : Option (List ℕ)) (told : List Told) (t : Told) (line : List ℕ) → Appends a b (told_text form cluster told) → Appends b c line
+    → line ≡ told_line form cluster t → Appends a c (told_text form cluster (told ++ t ∷ []))
+line_more form cluster a b c told t line before more is =
+    let text : told_text form cluster (told ++ t ∷ []) ≡ told_text form cluster told ++ told_line form cluster t =
+    flat_map-append (told_line form cluster) told (t ∷ []) ∙ ap (λ l. told_text form cluster told ++ l) (append-nil (told_line form cluster t))
     in subst (Appends a c) (sym text) (Appends-trans a b c _ _ before (subst (Appends b c) is more))
 
 -- a script is answered by the lines of what its run told, and then by how it ended
-pub is_followed : (over_clean : Type 0) (script : ClusterFile) (images : List Image) (report : Report) (statuses : List Status) (a b c : Option (List ℕ))
+pub is_followed : (form : BytesForm) (over_clean : Type 0) (script : ClusterFile) (images : List Image) (report : Report) (statuses : List Status) (a b c : Option (List ℕ))
     → map program_of images ≡ programs_of script.cluster
     → AreAllReleased report.front.vec report.released.items → (over_clean → AreOutputsOf images report.released.items)
     → length report.released.items ≡ length images
@@ -47,37 +49,39 @@ pub is_followed : (over_clean : Type 0) (script : ClusterFile) (images : List Im
     → (over_clean → AreAlongOf images report.statuses.items)
     → (over_clean → HaveAllOf images report.statuses.items report.released.items)
     → statuses ≡ report.statuses.items
-    → (told : List Told) × Appends a b (told_text script.cluster told) × TellsAll told report.released.items
+    → (told : List Told) × Appends a b (told_text form script.cluster told) × TellsAll told report.released.items
     → Appends b c (ends_text script.cluster statuses)
-    → (text : List ℕ) × IsFollowedAnswer over_clean script text × Appends a c text
-is_followed over_clean script images report statuses a b c same_programs are_released made processes number ended along all same_statuses lines ends = (
-  told_text script.cluster lines.0 ++ ends_text script.cluster report.statuses.items,
-  record {
-    report = report;
-    is_report = is_report over_clean (programs_of script.cluster) images report same_programs are_released made processes number ended along all;
-    told = lines.0;
-    tells_all = lines.2;
-    is_text = refl;
-  },
+    → (text : List ℕ) × IsFollowedTo form over_clean report.statuses.items script text × Appends a c text
+is_followed form over_clean script images report statuses a b c same_programs are_released made processes number ended along all same_statuses lines ends = (
+  told_text form script.cluster lines.0 ++ ends_text script.cluster report.statuses.items,
+  (
+    record {
+      report = report;
+      is_report = is_report over_clean (programs_of script.cluster) images report same_programs are_released made processes number ended along all;
+      told = lines.0;
+      tells_all = lines.2;
+      is_text = refl;
+    },
+    (told_text form script.cluster lines.0, refl),
+  ),
   Appends-trans a b c _ _ lines.1 (subst (λ ss. Appends b c (ends_text script.cluster ss)) same_statuses ends),
 )
 
 -- so where the report is what a run answered, and the ends are written
-pub text_of_report : {A E : Type 0} (over_clean : Type 0) (script : ClusterFile) (cluster : Cluster) (images : List Image) (r : Result Report E) (report : Report)
-    (statuses : List Status) (w : Result A CommandError) (a b c : Option (List ℕ)) (same_after : Type 0)
+pub text_of_report : {E : Type 0} (form : BytesForm) (over_clean : Type 0) (script : ClusterFile) (cluster : Cluster) (images : List Image) (r : Result Report E) (report : Report)
+    (statuses : List Status) (a b c : Option (List ℕ)) (same_after : Type 0)
     → r ≡ Ok report → cluster ≡ script.cluster → map program_of images ≡ programs_of script.cluster
     → IfOk r (λ report. AreAllReleased report.front.vec report.released.items)
     → (over_clean → IfOk r (λ report. AreOutputsOf images report.released.items)) → IfOk r (λ report. length report.released.items ≡ length images)
     → IfOk r (λ report. length report.statuses.items ≡ length images) → IfOk r (λ report. All IsEnd report.statuses.items)
     → (over_clean → IfOk r (λ report. AreAlongOf images report.statuses.items))
     → (over_clean → IfOk r (λ report. HaveAllOf images report.statuses.items report.released.items))
-    → IfOk r (λ report. (told : List Told) × (same_after × Appends a b (told_text cluster told)) × TellsAll told report.released.items)
-    → statuses ≡ report.statuses.items → OnOk w (Appends b c (ends_text cluster statuses))
-    → OnOk w ((text : List ℕ) × IsFollowedAnswer over_clean script text × Appends a c text)
-text_of_report over_clean script cluster images r report statuses (Err e) a b c same_after is same programs released made processes number ended along have told same_statuses ends = tt
-text_of_report over_clean script cluster images r report statuses (Ok x) a b c same_after is same programs released made processes number ended along have told same_statuses ends =
-    let all = ok_at (λ report. (told : List Told) × (same_after × Appends a b (told_text cluster told)) × TellsAll told report.released.items) r report is told in
-    is_followed over_clean script images report statuses a b c programs
+    → IfOk r (λ report. (told : List Told) × (same_after × Appends a b (told_text form cluster told)) × TellsAll told report.released.items)
+    → statuses ≡ report.statuses.items → Appends b c (ends_text cluster statuses)
+    → (text : List ℕ) × IsFollowedTo form over_clean report.statuses.items script text × Appends a c text
+text_of_report form over_clean script cluster images r report statuses a b c same_after is same programs released made processes number ended along have told same_statuses ends =
+    let all = ok_at (λ report. (told : List Told) × (same_after × Appends a b (told_text form cluster told)) × TellsAll told report.released.items) r report is told in
+    is_followed form over_clean script images report statuses a b c programs
     (ok_at (λ report. AreAllReleased report.front.vec report.released.items) r report is released)
     (λ clean. ok_at (λ report. AreOutputsOf images report.released.items) r report is (made clean))
     (ok_at (λ report. length report.released.items ≡ length images) r report is processes)
@@ -85,7 +89,7 @@ text_of_report over_clean script cluster images r report statuses (Ok x) a b c s
     (ok_at (λ report. All IsEnd report.statuses.items) r report is ended)
     (λ clean. ok_at (λ report. AreAlongOf images report.statuses.items) r report is (along clean))
     (λ clean. ok_at (λ report. HaveAllOf images report.statuses.items report.released.items) r report is (have clean))
-    same_statuses (all.0, subst (λ k. Appends a b (told_text k all.0)) same all.1.1, all.2)
+    same_statuses (all.0, subst (λ k. Appends a b (told_text form k all.0)) same all.1.1, all.2)
     (subst (λ k. Appends b c (ends_text k statuses)) same ends)
 
 -- of a run that comes to no end a part is written
@@ -111,30 +115,30 @@ partly_of_fault Unwanted error part none unwanted run is = partly_refused error 
 partly_of_fault (Run f) error part none unwanted run is = subst (λ e. IsByKind e part none) (sym (run f refl)) (partly_run f part none (is (λ same. cc)))
 
 -- what was told of a cluster's run is a part of the answer to its script
-pub part_told : (over_clean : Type 0) (script : ClusterFile) (cluster : Cluster) (images : List Image) (same_after : Type 0) (a b : Option (List ℕ)) → cluster ≡ script.cluster
+pub part_told : (form : BytesForm) (over_clean : Type 0) (script : ClusterFile) (cluster : Cluster) (images : List Image) (same_after : Type 0) (a b : Option (List ℕ)) → cluster ≡ script.cluster
     → map program_of images ≡ programs_of script.cluster
-    → (told : List Told) × (same_after × Appends a b (told_text cluster told)) × AreInOrder told × (over_clean → AreToldMade (map program_of images) (length images) told)
-    → IsPartOf over_clean script a b
-part_told over_clean script cluster images same_after a b same programs is = (
+    → (told : List Told) × (same_after × Appends a b (told_text form cluster told)) × AreInOrder told × (over_clean → AreToldMade (map program_of images) (length images) told)
+    → IsPartOf form over_clean script a b
+part_told form over_clean script cluster images same_after a b same programs is = (
   is.0,
   is.2,
   λ clean. subst (λ ps. AreToldMade ps (length ps) is.0) programs (subst (λ n. AreToldMade (map program_of images) n is.0) (sym (length-map images program_of)) (is.3 clean)),
-  subst (λ c. Appends a b (told_text c is.0)) same is.1.1,
+  subst (λ c. Appends a b (told_text form c is.0)) same is.1.1,
 )
 
 -- of a run that comes to no end what was told is written
-pub part_of_run : (over_clean : Type 0) (script : ClusterFile) (cluster : Cluster) (images : List Image) (r : Result Report FollowFault) (fault : FollowFault)
+pub part_of_run : (form : BytesForm) (over_clean : Type 0) (script : ClusterFile) (cluster : Cluster) (images : List Image) (r : Result Report FollowFault) (fault : FollowFault)
     (error : CommandError) (same_after : Type 0) (a b : Option (List ℕ)) (none : Type 0)
     → r ≡ Err fault → cluster ≡ script.cluster → map program_of images ≡ programs_of script.cluster
     → (fault ≡ Unwanted → (error ≡ errors.NoMemory) ⊎ (error ≡ errors.CannotWrite)) → ((f : RunFault) → fault ≡ Run f → error ≡ error_of_run f)
-    → IfErr r (λ fault. fault ≢ Unwanted → (told : List Told) × (same_after × Appends a b (told_text cluster told)) × AreInOrder told
+    → IfErr r (λ fault. fault ≢ Unwanted → (told : List Told) × (same_after × Appends a b (told_text form cluster told)) × AreInOrder told
     × (over_clean → AreToldMade (map program_of images) (length images) told))
-    → IsByKind error (IsPartOf over_clean script a b) none
-part_of_run over_clean script cluster images r fault error same_after a b none is same programs unwanted run partly =
-    let told = subst (λ x. IfErr x (λ fault. fault ≢ Unwanted → (told : List Told) × (same_after × Appends a b (told_text cluster told)) × AreInOrder told
+    → IsByKind error (IsPartOf form over_clean script a b) none
+part_of_run form over_clean script cluster images r fault error same_after a b none is same programs unwanted run partly =
+    let told = subst (λ x. IfErr x (λ fault. fault ≢ Unwanted → (told : List Told) × (same_after × Appends a b (told_text form cluster told)) × AreInOrder told
     × (over_clean → AreToldMade (map program_of images) (length images) told))) is partly in
-    partly_of_fault fault error (IsPartOf over_clean script a b) none unwanted run
-    (λ wanted. part_told over_clean script cluster images same_after a b same programs (told wanted))
+    partly_of_fault fault error (IsPartOf form over_clean script a b) none unwanted run
+    (λ wanted. part_told form over_clean script cluster images same_after a b same programs (told wanted))
 
 -- the other two errors may come of any script
 pub refused_is_error : (script : ClusterFile) (error : CommandError) → (error ≡ errors.NoMemory) ⊎ (error ≡ errors.CannotWrite) → IsErrorOfScript script error
@@ -161,40 +165,42 @@ partly_unread bytes (errors.Damaged y) part none is kept = kept
 partly_unread bytes (errors.MissingReceipt y) part none is kept = kept
 partly_unread bytes (errors.Mismatch y) part none is kept = kept
 partly_unread bytes errors.Unlike part none is kept = kept
+partly_unread bytes errors.NoSuchProcess part none is kept = kept
 
-pub partly_of_reading : (over_clean : Type 0) (remaining : Option (List ℕ)) (start : ClusterFile) (error : CommandError) (contents : Option (List ℕ)) → start ≡ no_settings
+pub partly_of_reading : (form : BytesForm) (over_clean : Type 0) (remaining : Option (List ℕ)) (start : ClusterFile) (error : CommandError) (contents : Option (List ℕ)) → start ≡ no_settings
     → IfSome remaining (λ bytes. IsErrorOf cluster_file_line start (λ _. ⊥) bytes error)
-    → IfSome remaining (λ bytes. IsByKind error (IsPart over_clean bytes contents contents) (Keeps contents contents))
-partly_of_reading over_clean None start error contents is wrong = tt
-partly_of_reading over_clean (Some bytes) start error contents is wrong =
+    → IfSome remaining (λ bytes. IsByKind error (IsPart form over_clean bytes contents contents) (Keeps contents contents))
+partly_of_reading form over_clean None start error contents is wrong = tt
+partly_of_reading form over_clean (Some bytes) start error contents is wrong =
     partly_unread bytes error _ _ (subst (λ s. IsErrorOf cluster_file_line s (λ _. ⊥) bytes error) is wrong) (Keeps-refl contents)
 
 -- a part of the answer to a script is one of the answer to its bytes
-part_of : (over_clean : Type 0) (bytes : List ℕ) (script : ClusterFile) (error : CommandError) (a b : Option (List ℕ)) → IsScript cluster_file_line no_settings bytes script
-    → IsByKind error (IsPartOf over_clean script a b) (Keeps a b) → IsByKind error (IsPart over_clean bytes a b) (Keeps a b)
-part_of over_clean bytes script errors.CannotWrite a b read is = tt
-part_of over_clean bytes script errors.NoMemory a b read is = tt
-part_of over_clean bytes script errors.OutOfTurns a b read is = record { script = script; is_script = read; part = is }
-part_of over_clean bytes script errors.GateShut a b read is = record { script = script; is_script = read; part = is }
-part_of over_clean bytes script errors.StoreFault a b read is = record { script = script; is_script = read; part = is }
-part_of over_clean bytes script (errors.StoreInUse process) a b read is = record { script = script; is_script = read; part = is }
-part_of over_clean bytes script (errors.AnotherCluster process) a b read is = record { script = script; is_script = read; part = is }
-part_of over_clean bytes script (errors.StoreMissing process) a b read is = record { script = script; is_script = read; part = is }
-part_of over_clean bytes script errors.NoThread a b read is = record { script = script; is_script = read; part = is }
-part_of over_clean bytes script errors.TooLong a b read is = is
-part_of over_clean bytes script errors.CannotRead a b read is = is
-part_of over_clean bytes script errors.EmptyScript a b read is = is
-part_of over_clean bytes script (errors.Script error) a b read is = is
-part_of over_clean bytes script errors.NoCheckpoint a b read is = is
-part_of over_clean bytes script (errors.Damaged y) a b read is = is
-part_of over_clean bytes script (errors.MissingReceipt y) a b read is = is
-part_of over_clean bytes script (errors.Mismatch y) a b read is = is
-part_of over_clean bytes script errors.Unlike a b read is = is
+part_of : (form : BytesForm) (over_clean : Type 0) (bytes : List ℕ) (script : ClusterFile) (error : CommandError) (a b : Option (List ℕ)) → IsScript cluster_file_line no_settings bytes script
+    → IsByKind error (IsPartOf form over_clean script a b) (Keeps a b) → IsByKind error (IsPart form over_clean bytes a b) (Keeps a b)
+part_of form over_clean bytes script errors.CannotWrite a b read is = tt
+part_of form over_clean bytes script errors.NoMemory a b read is = tt
+part_of form over_clean bytes script errors.OutOfTurns a b read is = record { script = script; is_script = read; part = is }
+part_of form over_clean bytes script errors.GateShut a b read is = record { script = script; is_script = read; part = is }
+part_of form over_clean bytes script errors.StoreFault a b read is = record { script = script; is_script = read; part = is }
+part_of form over_clean bytes script (errors.StoreInUse process) a b read is = record { script = script; is_script = read; part = is }
+part_of form over_clean bytes script (errors.AnotherCluster process) a b read is = record { script = script; is_script = read; part = is }
+part_of form over_clean bytes script (errors.StoreMissing process) a b read is = record { script = script; is_script = read; part = is }
+part_of form over_clean bytes script errors.NoThread a b read is = record { script = script; is_script = read; part = is }
+part_of form over_clean bytes script errors.TooLong a b read is = is
+part_of form over_clean bytes script errors.CannotRead a b read is = is
+part_of form over_clean bytes script errors.EmptyScript a b read is = is
+part_of form over_clean bytes script (errors.Script error) a b read is = is
+part_of form over_clean bytes script errors.NoCheckpoint a b read is = is
+part_of form over_clean bytes script (errors.Damaged y) a b read is = is
+part_of form over_clean bytes script (errors.MissingReceipt y) a b read is = is
+part_of form over_clean bytes script (errors.Mismatch y) a b read is = is
+part_of form over_clean bytes script errors.Unlike a b read is = is
+part_of form over_clean bytes script errors.NoSuchProcess a b read is = is
 
-pub partly_of_answer : {A : Type 0} (over_clean : Type 0) (remaining : Option (List ℕ)) (start script : ClusterFile) (r : Result A CommandError) (a b : Option (List ℕ)) → start ≡ no_settings
-    → IfSome remaining (λ bytes. IsScript cluster_file_line start bytes script) → IfErr r (λ error. IsByKind error (IsPartOf over_clean script a b) (Keeps a b))
-    → IfSome remaining (λ bytes. IfErr r (λ error. IsByKind error (IsPart over_clean bytes a b) (Keeps a b)))
-partly_of_answer over_clean None start script r a b is read part = tt
-partly_of_answer over_clean (Some bytes) start script (Ok x) a b is read part = tt
-partly_of_answer over_clean (Some bytes) start script (Err e) a b is read part =
-    part_of over_clean bytes script e a b (subst (λ s. IsScript cluster_file_line s bytes script) is read) part
+pub partly_of_answer : {A : Type 0} (form : BytesForm) (over_clean : Type 0) (remaining : Option (List ℕ)) (start script : ClusterFile) (r : Result A CommandError) (a b : Option (List ℕ)) → start ≡ no_settings
+    → IfSome remaining (λ bytes. IsScript cluster_file_line start bytes script) → IfErr r (λ error. IsByKind error (IsPartOf form over_clean script a b) (Keeps a b))
+    → IfSome remaining (λ bytes. IfErr r (λ error. IsByKind error (IsPart form over_clean bytes a b) (Keeps a b)))
+partly_of_answer form over_clean None start script r a b is read part = tt
+partly_of_answer form over_clean (Some bytes) start script (Ok x) a b is read part = tt
+partly_of_answer form over_clean (Some bytes) start script (Err e) a b is read part =
+    part_of form over_clean bytes script e a b (subst (λ s. IsScript cluster_file_line s bytes script) is read) part

@@ -1,34 +1,50 @@
 -- What a run of any mode answers and is refused with, by the script that was read, and by the bytes that it was read from.
 use Rattle.std.proofs.Common.{◌≡◌, ℕ, Option, None, Some, Result, Ok, Err, List, subst}
-use Rattle.std.specs.Prelude.{IfErr, IfSome, OnOk}
+use Rattle.std.specs.Prelude.{IfErr, IfOk, IfSome, Vec}
 use Rattle.std.specs.Io.KnownBytes.{Appends}
+use Rattle.std.specs.declared.alloc.Global.{Global}
+use Rattle.om_process.specs.declared.status.Status.{Status}
 use Rattle.om_commands.specs.Command.{IsScript}
+use Rattle.om_commands.specs.declared.bytes_text.BytesForm.{BytesForm}
 use Rattle.om_commands.specs.declared.error.CommandError.{CommandError}
+use Rattle.om_commands.specs.declared.error.CommandError.TheVariants as errors
+use Rattle.om_scripts.specs.Programs.{Cluster}
 use Rattle.om_run_commands.specs.ClusterScript.{ClusterFile, cluster_file_line, no_settings}
 use Rattle.om_run_commands.specs.Modes.{IsErrorIn, IsRunIn}
 use Rattle.om_run_commands.specs.declared.mode.RunMode.{RunMode}
 use Rattle.om_run_commands.specs.declared.mode.RunMode.TheVariants as modes
-use Rattle.om_run_commands.specs.steps.Modes.{IsAnswerIn, IsErrorOfScriptIn}
+use Rattle.om_run_commands.specs.steps.Modes.{IsAnswerIn, IsErrorOfScriptIn, LacksIn}
 use Rattle.om_run_commands.proofs.CheckLemmas.{of_checked}
-use Rattle.om_run_commands.proofs.RunLemmas.{of_script}
+use Rattle.om_run_commands.proofs.RunLemmas.{of_raw, of_script}
 
 -- ---- answers
-of_answer : (mode : RunMode) (over_clean : Type 0) (bytes : List ℕ) (script : ClusterFile) (text : List ℕ) → IsScript cluster_file_line no_settings bytes script
-    → IsAnswerIn mode over_clean script text → IsRunIn mode over_clean bytes text
-of_answer modes.Plain over_clean bytes script text read is = record { script = script; is_script = read; answer = is }
-of_answer modes.Check over_clean bytes script text read is = record { script = script; is_script = read; answer = is }
-of_answer modes.Witness over_clean bytes script text read is = record { script = script; is_script = read; answer = is }
-of_answer modes.Record over_clean bytes script text read is = record { script = script; is_script = read; answer = is }
-of_answer modes.Follow over_clean bytes script text read is = record { script = script; is_script = read; answer = is }
+of_answer : (mode : RunMode) (form : BytesForm) (over_clean : Type 0) (statuses : List Status) (bytes : List ℕ) (script : ClusterFile) (text : List ℕ)
+    → IsScript cluster_file_line no_settings bytes script
+    → IsAnswerIn mode form over_clean statuses script text → IsRunIn mode form over_clean statuses bytes text
+of_answer modes.Plain form over_clean statuses bytes script text read is =
+    (record { script = script; is_script = read; answer = is.0 }, record { script = script; is_script = read; answer = is.1 })
+of_answer modes.Check form over_clean statuses bytes script text read is =
+    (record { script = script; is_script = read; answer = is.0 }, record { script = script; is_script = read; answer = is.1 })
+of_answer modes.Witness form over_clean statuses bytes script text read is =
+    (record { script = script; is_script = read; answer = is.0 }, record { script = script; is_script = read; answer = is.1 })
+of_answer modes.Record form over_clean statuses bytes script text read is =
+    (record { script = script; is_script = read; answer = is.0 }, record { script = script; is_script = read; answer = is.1 })
+of_answer modes.Follow form over_clean statuses bytes script text read is =
+    (record { script = script; is_script = read; answer = is.0 }, record { script = script; is_script = read; answer = is.1 })
+of_answer (modes.Raw name) form over_clean statuses bytes script text read is = record { script = script; is_script = read; answer = is }
 
-pub text_of_answer : {A : Type 0} (mode : RunMode) (over_clean : Type 0) (remaining : Option (List ℕ)) (start script : ClusterFile) (r : Result A CommandError)
+pub text_of_answer : (mode : RunMode) (form : BytesForm) (over_clean : Type 0) (remaining : Option (List ℕ)) (start script : ClusterFile)
+    (r : Result (Vec Status Global) CommandError)
     (a b : Option (List ℕ)) → start ≡ no_settings → IfSome remaining (λ bytes. IsScript cluster_file_line start bytes script)
-    → OnOk r ((text : List ℕ) × IsAnswerIn mode over_clean script text × Appends a b text)
-    → IfSome remaining (λ bytes. OnOk r ((text : List ℕ) × IsRunIn mode over_clean bytes text × Appends a b text))
-text_of_answer mode over_clean None start script r a b is read answer = tt
-text_of_answer mode over_clean (Some bytes) start script (Ok x) a b is read answer =
-    (answer.0, of_answer mode over_clean bytes script answer.0 (subst (λ s. IsScript cluster_file_line s bytes script) is read) answer.1, answer.2)
-text_of_answer mode over_clean (Some bytes) start script (Err e) a b is read answer = tt
+    → IfOk r (λ statuses. (text : List ℕ) × IsAnswerIn mode form over_clean statuses.items script text × Appends a b text)
+    → IfSome remaining (λ bytes. IfOk r (λ statuses. (text : List ℕ) × IsRunIn mode form over_clean statuses.items bytes text × Appends a b text))
+text_of_answer mode form over_clean None start script r a b is read answer = tt
+text_of_answer mode form over_clean (Some bytes) start script (Ok statuses) a b is read answer = (
+  answer.0,
+  of_answer mode form over_clean statuses.items bytes script answer.0 (subst (λ s. IsScript cluster_file_line s bytes script) is read) answer.1,
+  answer.2,
+)
+text_of_answer mode form over_clean (Some bytes) start script (Err e) a b is read answer = tt
 
 -- ---- errors of a script
 of_error : (mode : RunMode) (bytes : List ℕ) (script : ClusterFile) (error : CommandError) → IsScript cluster_file_line no_settings bytes script
@@ -38,6 +54,7 @@ of_error modes.Check bytes script error read told = of_checked bytes script erro
 of_error modes.Witness bytes script error read told = of_checked bytes script error read told
 of_error modes.Record bytes script error read told = of_script bytes script error read told
 of_error modes.Follow bytes script error read told = of_script bytes script error read told
+of_error (modes.Raw name) bytes script error read told = of_raw name.now bytes script error read told
 
 pub error_of_answer : {A : Type 0} (mode : RunMode) (remaining : Option (List ℕ)) (start script : ClusterFile) (r : Result A CommandError) → start ≡ no_settings
     → IfSome remaining (λ bytes. IsScript cluster_file_line start bytes script) → IfErr r (IsErrorOfScriptIn mode script)
@@ -46,3 +63,12 @@ error_of_answer mode None start script r is read error = tt
 error_of_answer mode (Some bytes) start script (Ok x) is read error = tt
 error_of_answer mode (Some bytes) start script (Err e) is read error =
     of_error mode bytes script e (subst (λ s. IsScript cluster_file_line s bytes script) is read) error
+
+-- ---- a process that is none of the cluster
+pub lacks_is_error : (mode : RunMode) (script : ClusterFile) → LacksIn mode script.cluster → IsErrorOfScriptIn mode script errors.NoSuchProcess
+lacks_is_error modes.Plain script never = absurd never
+lacks_is_error modes.Check script never = absurd never
+lacks_is_error modes.Witness script never = absurd never
+lacks_is_error modes.Record script never = absurd never
+lacks_is_error modes.Follow script never = absurd never
+lacks_is_error (modes.Raw name) script lacks = lacks

@@ -1,6 +1,7 @@
 -- What is read of the report of a run, and why a run of a script is refused.
-use Rattle.std.proofs.Common.{◌≡◌, ℕ, ◌<◌, ◌≤◌, Option, Result, Ok, Err, List, [], length, get_or, map, sym, ap, subst, ◌∙◌, arith}
-use Rattle.std.specs.Prelude.{All, Vec, IfOk, OnOk}
+use Rattle.std.proofs.Common.{◌≡◌, ℕ, ◌<◌, ◌≤◌, None, Option, Result, Ok, Err, List, [], ◌++◌, length, get_or, map, refl, sym, ap, subst, ◌∙◌, arith}
+use Rattle.std.specs.Prelude.{All, Vec, IfOk, OnOk, slice_index_or}
+use Rattle.std.specs.List.{flat_map, range_with_len}
 use Rattle.std.specs.Io.KnownBytes.{Appends}
 use Rattle.std.specs.declared.alloc.Global.{Global}
 use Rattle.std.proofs.lemmas.List.{get_or-map, length-map}
@@ -20,9 +21,12 @@ use Rattle.om_runner.specs.declared.fault.RunFault.TheVariants as running
 use Rattle.om_run_commands.specs.steps.Errors.{error_of_run}
 use Rattle.om_run_commands.specs.ClusterScript.{ClusterFile, cluster_file_line, no_settings}
 use Rattle.om_commands.specs.Command.{IsScript}
-use Rattle.om_run_commands.specs.Run.{IsReport, IsErrorOfRun, IsRunAnswer, outputs_of}
-use Rattle.om_run_commands.specs.RunText.{run_text}
-use Rattle.om_run_commands.specs.steps.Scripts.{IsErrorOfScript}
+use Rattle.om_run_commands.specs.Run.{IsErrorOfRawRun, IsErrorOfRun, IsRawAnswer, IsReport, outputs_of}
+use Rattle.om_run_commands.specs.RunText.{ends_text, raw_text, run_text_in}
+use Rattle.om_run_commands.specs.steps.Lines.{released_text}
+use Rattle.om_run_commands.specs.steps.Modes.{IsToldAnswer}
+use Rattle.om_run_commands.specs.steps.Scripts.{IsErrorOfRawScript, IsErrorOfScript}
+use Rattle.om_commands.specs.declared.bytes_text.BytesForm.{BytesForm}
 use Rattle.om_commands.specs.declared.error.CommandError.{CommandError}
 use Rattle.om_commands.specs.declared.error.CommandError.TheVariants as errors
 
@@ -97,17 +101,41 @@ report_of_run over_clean programs images r report is same_programs are_released 
     (λ clean. all-of-whole images report.statuses.items report.released.items
     (ok_at (λ report. AreWholeOf images report.statuses.items report.released.items) r report is (whole clean)))
 
--- the text of a report answers its script
-pub is_answer : (over_clean : Type 0) (script : ClusterFile) (cluster : Cluster) (report : Report) (text : List ℕ) → IsReport over_clean (programs_of script.cluster) report
-    → cluster ≡ script.cluster → text ≡ run_text cluster (outputs_of report) report.statuses.items → IsRunAnswer over_clean script text
-is_answer over_clean script cluster report text is same written =
-    (report, is, written ∙ ap (λ k. run_text k (outputs_of report) report.statuses.items) same)
+-- the text of a report answers its script, and says how its processes ended
+pub told_of_report : (form : BytesForm) (over_clean : Type 0) (script : ClusterFile) (report : Report) (r : Result (Vec Status Global) CommandError)
+    (a b : Option (List ℕ)) → IsReport over_clean (programs_of script.cluster) report
+    → OnOk r (Appends a b (run_text_in form script.cluster (outputs_of report) report.statuses.items)) → IfOk r (λ statuses. statuses ≡ report.statuses)
+    → IfOk r (λ statuses. (text : List ℕ) × IsToldAnswer form over_clean statuses.items script text × Appends a b text)
+told_of_report form over_clean script report (Ok statuses) a b is done same = (
+  run_text_in form script.cluster (outputs_of report) report.statuses.items,
+  (
+    (report, is, refl),
+    (
+      released_text form script.cluster (outputs_of report),
+      ap {A = Vec Status Global} (λ v. released_text form script.cluster (outputs_of report) ++ ends_text script.cluster v.items) (sym same),
+    ),
+  ),
+  done,
+)
+told_of_report form over_clean script report (Err e) a b is done same = tt
 
--- an answer is what was written of it
-pub answer_written : {A E : Type 0} (P : List ℕ → Type 0) (r : Result A E) (a b : Option (List ℕ)) (text read : List ℕ) → P text → read ≡ text
-    → OnOk r (Appends a b read) → OnOk r ((t : List ℕ) × P t × Appends a b t)
-answer_written P (Ok x) a b text read is same done = (text, is, subst (Appends a b) same done)
-answer_written P (Err e) a b text read is same done = tt
+-- the bytes that a process put out answer a script
+pub raw_of_report : (name : List ℕ) (over_clean : Type 0) (script : ClusterFile) (cluster : Cluster) (report : Report) (released : List (Vec Output Global))
+    (text read : List ℕ) (a b : Option (List ℕ)) → IsReport over_clean (programs_of script.cluster) report → cluster ≡ script.cluster
+    → released ≡ report.released.items → text ≡ raw_text name cluster (map (λ os. map held_of os.items) released) → read ≡ text → Appends a b read
+    → (text : List ℕ) × IsRawAnswer name over_clean report.statuses.items script text × Appends a b text
+raw_of_report name over_clean script cluster report released text read a b is same same_released written same_read done = (
+  text,
+  record {
+    report = report;
+    is_report = is;
+    ended = refl;
+    is_text = written
+        ∙ ap (λ c. raw_text name c (map (λ os. map held_of os.items) released)) same
+        ∙ ap (λ os. raw_text name script.cluster (map (λ os. map held_of os.items) os)) same_released;
+  },
+  subst (Appends a b) same_read done,
+)
 
 -- as many as the programs are as many as the processes
 pub as_many : (cluster : Cluster) (n : ℕ) → n ≡ length (programs_of cluster) → n ≡ length cluster.processes
@@ -134,6 +162,30 @@ of_script bytes script (errors.Damaged y) read never = absurd never
 of_script bytes script (errors.MissingReceipt y) read never = absurd never
 of_script bytes script (errors.Mismatch y) read never = absurd never
 of_script bytes script errors.Unlike read never = absurd never
+of_script bytes script errors.NoSuchProcess read never = absurd never
+
+-- so is one where there is no process of a name
+pub of_raw : (name bytes : List ℕ) (script : ClusterFile) (error : CommandError) → IsScript cluster_file_line no_settings bytes script
+    → IsErrorOfRawScript name script error → IsErrorOfRawRun name bytes error
+of_raw name bytes script errors.NoSuchProcess read lacks = (script, read, lacks)
+of_raw name bytes script errors.Unlike read told = of_script bytes script errors.Unlike read told
+of_raw name bytes script errors.NoMemory read told = of_script bytes script errors.NoMemory read told
+of_raw name bytes script errors.OutOfTurns read told = of_script bytes script errors.OutOfTurns read told
+of_raw name bytes script errors.GateShut read told = of_script bytes script errors.GateShut read told
+of_raw name bytes script errors.StoreFault read told = of_script bytes script errors.StoreFault read told
+of_raw name bytes script errors.NoThread read told = of_script bytes script errors.NoThread read told
+of_raw name bytes script errors.TooLong read told = of_script bytes script errors.TooLong read told
+of_raw name bytes script errors.CannotRead read told = of_script bytes script errors.CannotRead read told
+of_raw name bytes script errors.CannotWrite read told = of_script bytes script errors.CannotWrite read told
+of_raw name bytes script errors.EmptyScript read told = of_script bytes script errors.EmptyScript read told
+of_raw name bytes script errors.NoCheckpoint read told = of_script bytes script errors.NoCheckpoint read told
+of_raw name bytes script (errors.StoreInUse process) read told = of_script bytes script (errors.StoreInUse process) read told
+of_raw name bytes script (errors.AnotherCluster process) read told = of_script bytes script (errors.AnotherCluster process) read told
+of_raw name bytes script (errors.StoreMissing process) read told = of_script bytes script (errors.StoreMissing process) read told
+of_raw name bytes script (errors.Script error) read told = of_script bytes script (errors.Script error) read told
+of_raw name bytes script (errors.Damaged y) read told = of_script bytes script (errors.Damaged y) read told
+of_raw name bytes script (errors.MissingReceipt y) read told = of_script bytes script (errors.MissingReceipt y) read told
+of_raw name bytes script (errors.Mismatch y) read told = of_script bytes script (errors.Mismatch y) read told
 
 -- the fault of a run is an error of its script
 pub error_of_fault : (script : ClusterFile) (fault : RunFault) → 1 ≤ length script.cluster.processes

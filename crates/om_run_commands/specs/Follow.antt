@@ -10,32 +10,33 @@ use Rattle.om_run_commands.specs.ClusterScript.{ClusterFile, cluster_file_line, 
 use Rattle.om_run_commands.specs.Run.{IsReport}
 use Rattle.om_run_commands.specs.RunText.{ends_text}
 use Rattle.om_commands.specs.SimText.{name_at, output_line}
+use Rattle.om_commands.specs.declared.bytes_text.BytesForm.{BytesForm}
 
--- a line for each output, in their order
-abbrev pub told_text : Cluster → List Told → List ℕ
-told_text cluster told = flat_map (λ t. output_line (name_at cluster t.process) t.number t.bytes) told
+-- a line for each output, in their order, with its bytes in a form
+abbrev pub told_text : BytesForm → Cluster → List Told → List ℕ
+told_text form cluster told = flat_map (λ t. output_line form (name_at cluster t.process) t.number t.bytes) told
 
 -- The text of what a run of the cluster of a script ends with: a line for each output that is released, those of a process in
 -- order and each once, and then how each process ended.
-pub record IsFollowedAnswer (over_clean : Type 0) (script : ClusterFile) (text : List ℕ) : Type 0 where
+pub record IsFollowedAnswer (form : BytesForm) (over_clean : Type 0) (script : ClusterFile) (text : List ℕ) : Type 0 where
   pub report : Report
   pub is_report : IsReport over_clean (programs_of script.cluster) report
   pub told : List Told
   pub tells_all : TellsAll told report.released.items
-  pub is_text : text ≡ told_text script.cluster told ++ ends_text script.cluster report.statuses.items
+  pub is_text : text ≡ told_text form script.cluster told ++ ends_text script.cluster report.statuses.items
 
 -- the answer to the cluster file that these bytes are
-abbrev pub IsFollowedRun : Type 0 → List ℕ → List ℕ → Type 0
-IsFollowedRun over_clean bytes text = AnswersScript cluster_file_line no_settings (IsFollowedAnswer over_clean) bytes text
+abbrev pub IsFollowedRun : BytesForm → Type 0 → List ℕ → List ℕ → Type 0
+IsFollowedRun form over_clean bytes text = AnswersScript cluster_file_line no_settings (IsFollowedAnswer form over_clean) bytes text
 
 -- what was written is a line for each of some outputs, those of a process in order of their numbers, from 0 without a gap; over
 -- clean stores each is its program's
-abbrev pub IsPartOf : Type 0 → ClusterFile → Option (List ℕ) → Option (List ℕ) → Type 0
-IsPartOf over_clean script before after = (told : List Told) × AreInOrder told
-    × (over_clean → AreToldMade (programs_of script.cluster) (length (programs_of script.cluster)) told) × Appends before after (told_text script.cluster told)
+abbrev pub IsPartOf : BytesForm → Type 0 → ClusterFile → Option (List ℕ) → Option (List ℕ) → Type 0
+IsPartOf form over_clean script before after = (told : List Told) × AreInOrder told
+    × (over_clean → AreToldMade (programs_of script.cluster) (length (programs_of script.cluster)) told) × Appends before after (told_text form script.cluster told)
 
 -- so it is for the cluster file that these bytes are
-pub record IsPart (over_clean : Type 0) (bytes : List ℕ) (before after : Option (List ℕ)) : Type 0 where
+pub record IsPart (form : BytesForm) (over_clean : Type 0) (bytes : List ℕ) (before after : Option (List ℕ)) : Type 0 where
   pub script : ClusterFile
   pub is_script : IsScript cluster_file_line no_settings bytes script
-  pub part : IsPartOf over_clean script before after
+  pub part : IsPartOf form over_clean script before after

@@ -1,7 +1,9 @@
 pub mod Check
 pub mod ClusterScript
+pub mod EventText
 pub mod Follow
 pub mod Modes
 pub mod Run
 pub mod RunText
+pub mod Trapped
 pub mod steps

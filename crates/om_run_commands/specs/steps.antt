@@ -4,4 +4,3 @@ pub mod Scripts
 pub mod Settings
 pub mod Lines
 pub mod Errors
-pub mod EventText

@@ -1,8 +1,8 @@
 //! The command `run --check`: a cluster that is run, and compared with the run without failures that it comes to.
 
-ghost use Rattle.std.specs.Prelude.{◌≡◌, ◌≤◌, ℕ, List, length, IfOk, IfErr, OnOk, string_bytes};
+ghost use Rattle.std.specs.Prelude.{◌≡◌, ◌≤◌, ℕ, List, length, IfOk, IfErr};
 ghost use Rattle.std.specs.Io.KnownBytes.{Appends, Keeps};
-ghost use Rattle.om_run_commands.specs.Check.{IsFailureFreeText};
+ghost use Rattle.om_run_commands.specs.steps.Modes.{IsCheckedAnswer};
 ghost use Rattle.om_run_commands.specs.steps.Scripts.{IsErrorOfCheckedScript, IsErrorOfScript};
 ghost use Rattle.om_commands.specs.Command.{IsSilent};
 
@@ -12,10 +12,9 @@ use crate::context::{RunContext, write_script};
 use crate::error::error_of_run;
 use crate::event_text::events_text;
 use crate::run::{OpenGate, config_of};
-use om_commands::{CommandError, write_answer};
-use om_process::Witness;
+use om_commands::{BytesForm, CommandError, write_answer};
+use om_process::{Status, Witness};
 use om_runner::{Opener, Report, run_and_keep_witnesses};
-use om_world::Event;
 use std::alloc::Global;
 use std::io::Write;
 use std::sync::Wait;
@@ -31,19 +30,22 @@ use std::time::Clock;
 pub(crate) fn run_checked<R: Threads + Wait + Clock + Sync, O: Opener<R> + Sync, W: Write>(
     rt: &R,
     alloc: Global,
+    form: BytesForm,
     turns: u64,
     opener: &O,
     script: &ClusterScript,
     writer: &mut W,
-) -> Result<(), CommandError>
+) -> Result<Vec<Status>, CommandError>
     requires { 1 ≤ length script.now.cluster.processes }
-    ensures text { OnOk result ((text : List ℕ) × IsFailureFreeText script.now.cluster text
+    ensures text { IfOk result (λ statuses. (text : List ℕ) × IsCheckedAnswer form statuses.items script.now text
         × Appends (W.contents writer.old) (W.contents writer.new) text) }
     ensures error { IfErr result (IsErrorOfCheckedScript script.now) }
     ensures silent { IfErr result (λ error. IsSilent error (Keeps (W.contents writer.old) (W.contents writer.new))) }
 {
-    let text = answer(rt, alloc, turns, opener, script)?;
-    write_answer(writer, text.as_bytes())
+    let (report, witnesses) = reported(rt, alloc, turns, opener, script)?;
+    let text = checked_text(alloc, form, script.programs(), &report, &witnesses)?;
+    write_answer(writer, text.as_bytes())?;
+    Ok(report.statuses)
 }
 
 // As [`run_checked`], and writes that run as a script of `sim` to the file of the context, before the text: the lines of programs
@@ -56,22 +58,25 @@ pub(crate) fn run_with_witness<
 >(
     rt: &R,
     alloc: Global,
+    form: BytesForm,
     turns: u64,
     opener: &O,
     context: &mut C,
     script: &ClusterScript,
     writer: &mut W,
-) -> Result<(), CommandError>
+) -> Result<Vec<Status>, CommandError>
     requires { 1 ≤ length script.now.cluster.processes }
-    ensures text { OnOk result ((text : List ℕ) × IsFailureFreeText script.now.cluster text
+    ensures text { IfOk result (λ statuses. (text : List ℕ) × IsCheckedAnswer form statuses.items script.now text
         × Appends (W.contents writer.old) (W.contents writer.new) text) }
     ensures error { IfErr result (IsErrorOfCheckedScript script.now) }
     ensures silent { IfErr result (λ error. IsSilent error (Keeps (W.contents writer.old) (W.contents writer.new))) }
 {
-    let (text, events) = answer_with_events(rt, alloc, turns, opener, script)?;
+    let (report, witnesses) = reported(rt, alloc, turns, opener, script)?;
+    let (text, events) = checked_events(alloc, form, script.programs(), &report, &witnesses)?;
     let events = events_text(alloc, &events)?;
     write_script(context, script, &events)?;
-    write_answer(writer, text.as_bytes())
+    write_answer(writer, text.as_bytes())?;
+    Ok(report.statuses)
 }
 
 // What threads report of the cluster of a script, and what each process did.
@@ -87,36 +92,4 @@ fn reported<R: Threads + Wait + Clock + Sync, O: Opener<R> + Sync>(
 {
     let config = config_of(alloc, turns, script)?;
     run_and_keep_witnesses(rt, alloc, &config, &OpenGate, opener).map_err(error_of_run)
-}
-
-// The text that answers a script.
-fn answer<R: Threads + Wait + Clock + Sync, O: Opener<R> + Sync>(
-    rt: &R,
-    alloc: Global,
-    turns: u64,
-    opener: &O,
-    script: &ClusterScript,
-) -> Result<String, CommandError>
-    requires { 1 ≤ length script.now.cluster.processes }
-    ensures text { IfOk result (λ text. IsFailureFreeText script.now.cluster (string_bytes text)) }
-    ensures error { IfErr result (IsErrorOfCheckedScript script.now) }
-{
-    let (report, witnesses) = reported(rt, alloc, turns, opener, script)?;
-    checked_text(alloc, script.programs(), &report, &witnesses)
-}
-
-// The same, and the events of its run without failures.
-fn answer_with_events<R: Threads + Wait + Clock + Sync, O: Opener<R> + Sync>(
-    rt: &R,
-    alloc: Global,
-    turns: u64,
-    opener: &O,
-    script: &ClusterScript,
-) -> Result<(String, Vec<Event>), CommandError>
-    requires { 1 ≤ length script.now.cluster.processes }
-    ensures text { IfOk result (λ r. IsFailureFreeText script.now.cluster (string_bytes r.0)) }
-    ensures error { IfErr result (IsErrorOfCheckedScript script.now) }
-{
-    let (report, witnesses) = reported(rt, alloc, turns, opener, script)?;
-    checked_events(alloc, script.programs(), &report, &witnesses)
 }

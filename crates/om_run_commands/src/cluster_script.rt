@@ -100,8 +100,8 @@ impl ClusterScript {
         self.fuel
     }
 
-    // The lines of programs and processes, one space between two words; nothing where they were not kept.
-    pub(crate) fn lines(&self) -> &[u8] {
+    /// The lines of programs and processes, one space between two words; nothing where they were not kept.
+    pub fn lines(&self) -> &[u8] {
         match &self.lines {
             Some(lines) => lines.as_slice(),
             None => &[],

@@ -5,6 +5,7 @@ ghost use Rattle.om_run_commands.specs.Modes.{IsErrorOfContext};
 
 use crate::cluster_script::ClusterScript;
 use om_commands::CommandError;
+use om_process::Status;
 
 /// What a run has beside its input and its text: what is made for it before it starts, and a file for a script.
 pub trait RunContext {
@@ -16,8 +17,8 @@ pub trait RunContext {
     fn write(&mut self, text: &[u8]) -> Result<(), CommandError>
         ensures { IfErr result (λ error. error ≡ CommandError.CannotWrite) };
 
-    /// Learns how the run ended that it made ready.
-    fn end(&mut self, script: &ClusterScript, outcome: Result<(), CommandError>);
+    /// Learns how the run ended that it made ready: by process, how it ended; or why the run was refused.
+    fn end(&mut self, script: &ClusterScript, outcome: Result<&[Status], CommandError>);
 }
 
 // Writes a script of `sim`: the lines of programs and processes, and then these of what happens.

@@ -1,7 +1,7 @@
 //! The text of events: lines of a script of `sim`.
 
 ghost use Rattle.std.specs.Prelude.{◌≡◌, ◌++◌, ◌∷◌, [], IfOk, OnOk, string_bytes};
-ghost use Rattle.om_run_commands.specs.steps.EventText.{events_text};
+ghost use Rattle.om_run_commands.specs.EventText.{events_text};
 ghost use Rattle.om_world.specs.Texts.{event_text};
 
 use om_world::Event;
@@ -34,8 +34,8 @@ pub(crate) fn push_event(text: &mut String, event: Event) -> Result<(), AllocErr
     text.push('\n')
 }
 
-// A line for each event.
-pub(crate) fn events_text(alloc: Global, events: &[Event]) -> Result<String, AllocError>
+/// The lines of a script of `sim` that tell what is to happen, one for each event.
+pub fn events_text(alloc: Global, events: &[Event]) -> Result<String, AllocError>
     ensures { IfOk result (λ text. string_bytes text ≡ events_text events.now) }
 {
     let mut text = String::new(alloc);

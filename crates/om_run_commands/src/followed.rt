@@ -5,8 +5,9 @@ ghost use Rattle.std.specs.Io.KnownBytes.{Appends, Keeps};
 ghost use Rattle.om_runner.specs.Telling.{told_of};
 ghost use Rattle.om_run_commands.specs.ClusterScript.{ClusterFile};
 ghost use Rattle.om_run_commands.specs.steps.Errors.{error_of_run};
-ghost use Rattle.om_run_commands.specs.Follow.{IsFollowedAnswer, IsPartOf, told_text};
+ghost use Rattle.om_run_commands.specs.Follow.{IsPartOf, told_text};
 ghost use Rattle.om_run_commands.specs.steps.Lines.{told_line};
+ghost use Rattle.om_run_commands.specs.steps.Modes.{IsFollowedTo};
 ghost use Rattle.om_run_commands.specs.Run.{IsByKind};
 ghost use Rattle.om_run_commands.specs.steps.Scripts.{IsErrorOfScript};
 ghost use Rattle.om_run_commands.specs.RunText.{ends_text};
@@ -16,7 +17,7 @@ use crate::cluster_script::ClusterScript;
 use crate::error::error_of_run;
 use crate::run::{OpenGate, config_of};
 use crate::run_text::push_ends;
-use om_commands::{CommandError, name_of, push_output, write_answer};
+use om_commands::{BytesForm, CommandError, name_of, push_output, write_answer};
 use om_interval::Pid;
 use om_manager::Output;
 use om_process::Status;
@@ -32,6 +33,7 @@ use std::time::Clock;
 #[derive(Drop)]
 struct Lines<'a, W: Write + Drop> {
     alloc: Global,
+    form: BytesForm,
     programs: &'a Programs,
     writer: W,
     // Whether it wants no more because memory ran out.
@@ -39,10 +41,9 @@ struct Lines<'a, W: Write + Drop> {
 }
 
 // The name of a process, and none where there is no such process.
-fn name_in(programs: &Programs, pid: Pid) -> &str
-    ensures { result.now ≡ name_at programs.now pid }
+pub(crate) fn name_in(programs: &Programs, p: usize) -> &str
+    ensures { result.now ≡ name_at programs.now p }
 {
-    let p = pid.index();
     if p < programs.n() {
         name_of(programs, p)
     } else {
@@ -53,17 +54,19 @@ fn name_in(programs: &Programs, pid: Pid) -> &str
 // The line of an output of a process.
 fn line_of(
     alloc: Global,
+    form: BytesForm,
     programs: &Programs,
     pid: Pid,
     output: &Output,
 ) -> Result<String, AllocError>
-    ensures { IfOk result (λ line. string_bytes line ≡ told_line programs.now (told_of pid output.now)) }
+    ensures { IfOk result (λ line. string_bytes line ≡ told_line form programs.now (told_of pid output.now)) }
 {
     let mut text = String::new(alloc);
     push_output(
         alloc,
         &mut text,
-        name_in(programs, pid),
+        form,
+        name_in(programs, pid.index()),
         output.seq,
         output.bytes.as_slice(),
     )?;
@@ -71,11 +74,11 @@ fn line_of(
 }
 
 impl<'a, W: Write + Drop> Follower for Lines<'a, W> {
-    ghost Tells = { λ before after told. (after.programs.now ≡ before.programs.now)
-        × Appends (W.contents before.writer) (W.contents after.writer) (told_text before.programs.now told) };
+    ghost Tells = { λ before after told. ((after.programs.now ≡ before.programs.now) × (after.form ≡ before.form))
+        × Appends (W.contents before.writer) (W.contents after.writer) (told_text before.form before.programs.now told) };
 
     fn tell(&mut self, pid: Pid, output: &Output) -> bool {
-        let Ok(line) = line_of(self.alloc, self.programs, pid, output) else {
+        let Ok(line) = line_of(self.alloc, self.form, self.programs, pid, output) else {
             self.lacks_memory = true;
             return false;
         };
@@ -93,18 +96,19 @@ impl<'a, W: Write + Drop> Follower for Lines<'a, W> {
 pub(crate) fn run_followed<R: Threads + Wait + Clock + Sync, O: Opener<R> + Sync, W: Write + Drop>(
     rt: &R,
     alloc: Global,
+    form: BytesForm,
     turns: u64,
     opener: &O,
     script: &ClusterScript,
     writer: W,
-) -> (Result<(), CommandError>, W)
+) -> (Result<Vec<Status>, CommandError>, W)
     requires { 1 ≤ length script.now.cluster.processes }
-    ensures text { OnOk result.0 ((text : List ℕ)
-        × IsFollowedAnswer ((store : O.Store) → IsTrue (O.Store.is_clean store)) script.now text
+    ensures text { IfOk result.0 (λ statuses. (text : List ℕ)
+        × IsFollowedTo form ((store : O.Store) → IsTrue (O.Store.is_clean store)) statuses.items script.now text
         × Appends (W.contents writer) (W.contents result.1) text) }
     ensures error { IfErr result.0 (IsErrorOfScript script.now) }
     ensures partly { IfErr result.0 (λ error. IsByKind error
-        (IsPartOf ((store : O.Store) → IsTrue (O.Store.is_clean store)) script.now (W.contents writer) (W.contents result.1))
+        (IsPartOf form ((store : O.Store) → IsTrue (O.Store.is_clean store)) script.now (W.contents writer) (W.contents result.1))
         (Keeps (W.contents writer) (W.contents result.1))) }
 {
     let programs = script.programs();
@@ -113,6 +117,7 @@ pub(crate) fn run_followed<R: Threads + Wait + Clock + Sync, O: Opener<R> + Sync
     };
     let lines = Lines {
         alloc,
+        form,
         programs,
         writer,
         lacks_memory: false,
@@ -127,8 +132,10 @@ pub(crate) fn run_followed<R: Threads + Wait + Clock + Sync, O: Opener<R> + Sync
         Ok(report) => report,
         Err(fault) => return (Err(error_of(fault, lacks_memory)), writer),
     };
-    let written = write_ends(alloc, programs, &report.statuses, &mut writer);
-    (written, writer)
+    match write_ends(alloc, programs, &report.statuses, &mut writer) {
+        Ok(()) => (Ok(report.statuses), writer),
+        Err(error) => (Err(error), writer),
+    }
 }
 
 // As the caller is told why a run that was followed came to no end.

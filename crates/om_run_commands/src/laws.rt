@@ -1,15 +1,16 @@
 //! What is said of the texts of runs without failures.
 
 ghost use Rattle.std.specs.Prelude.{◌≡◌, ℕ, List};
+ghost use Rattle.om_commands.specs.declared.bytes_text.BytesForm.{BytesForm};
 ghost use Rattle.om_scripts.specs.Programs.{Cluster};
 ghost use Rattle.om_world.specs.declared.entry.Entry.{Entry};
-ghost use Rattle.om_run_commands.specs.Check.{IsTextBy};
+ghost use Rattle.om_run_commands.specs.Check.{IsTextIn};
 ghost use Rattle.om_run_commands.specs.declared.cluster_script.TheConstants.{DEFAULT_CHECKPOINT, DEFAULT_FLUSH, DEFAULT_FUEL, MAX_KILLS};
 
 /// What is received in a run without failures determines its text.
 pub fn one_text()
-    ensures { (cluster : Cluster) (live : List Entry) (text other : List ℕ) → IsTextBy cluster live text → IsTextBy cluster live other
-        → text ≡ other }
+    ensures { (form : BytesForm) (cluster : Cluster) (live : List Entry) (text other : List ℕ) → IsTextIn form cluster live text
+        → IsTextIn form cluster live other → text ≡ other }
 {}
 
 /// A cluster file has at most so many kills, and these numbers hold where it names none.

@@ -8,7 +8,7 @@
 //! - `request`: a run in all its modes, over the bytes of a cluster file; `mode`, `context` (what a run has beside its input and
 //!   its text)
 //! - what all modes share: `cluster_script` (the lines), `run_text` (the text of a run), `error`, `laws`
-//! - `run`; `waiting` (what its processes wait for)
+//! - `run`; `waiting` (what its processes wait for), `trapped` (which of them trapped)
 //! - `check`: `run --check` and `run --witness`, with `checked` (the comparison) and `event_text` (the run without failures as a
 //!   script)
 //! - `followed`: `run --follow`
@@ -29,11 +29,15 @@ mod recorded;
 mod request;
 mod run;
 mod run_text;
+mod trapped;
 mod waiting;
 
 pub use checked::{checked_events, checked_text};
 pub use cluster_script::ClusterScript;
 pub use context::RunContext;
+pub use event_text::events_text;
 pub use mode::RunMode;
 pub use request::run_file;
+pub use run_text::report_text;
+pub use trapped::{has_trapped, trapped_text};
 pub use waiting::waiting_text;

@@ -1,19 +1,20 @@
 //! The command `run --record`: a cluster that is run, and what its threads did.
 
-ghost use Rattle.std.specs.Prelude.{◌≡◌, ◌⊎◌, ◌≤◌, ℕ, List, IsTrue, length, IfOk, IfErr, OnOk, string_bytes};
+ghost use Rattle.std.specs.Prelude.{◌≡◌, ◌⊎◌, ◌≤◌, ℕ, List, IsTrue, length, IfOk, IfErr};
 ghost use Rattle.std.specs.Io.KnownBytes.{Appends, Keeps};
 ghost use Rattle.om_scripts.specs.Programs.{programs_of};
 ghost use Rattle.om_commands.specs.Command.{IsSilent};
-ghost use Rattle.om_run_commands.specs.Run.{IsReport, IsRunAnswer};
+ghost use Rattle.om_run_commands.specs.Run.{IsReport};
+ghost use Rattle.om_run_commands.specs.steps.Modes.{IsToldAnswer};
 ghost use Rattle.om_run_commands.specs.steps.Scripts.{IsErrorOfScript};
 
 use crate::cluster_script::ClusterScript;
 use crate::context::{RunContext, write_script};
 use crate::error::error_of_run;
 use crate::record_text::record_text;
-use crate::run::{OpenGate, config_of};
-use crate::run_text::report_text;
-use om_commands::{CommandError, write_answer};
+use crate::run::{OpenGate, config_of, write_report};
+use om_commands::{BytesForm, CommandError};
+use om_process::Status;
 use om_runner::{Opener, Recorder, Report, run_and_record};
 use std::alloc::Global;
 use std::io::Write;
@@ -32,24 +33,25 @@ pub(crate) fn run_recorded<
 >(
     rt: &R,
     alloc: Global,
+    form: BytesForm,
     turns: u64,
     opener: &O,
     context: &mut C,
     script: &ClusterScript,
     writer: &mut W,
-) -> Result<(), CommandError>
+) -> Result<Vec<Status>, CommandError>
     requires { 1 ≤ length script.now.cluster.processes }
-    ensures text { OnOk result ((text : List ℕ)
-        × IsRunAnswer ((store : O.Store) → IsTrue (O.Store.is_clean store)) script.now text
+    ensures text { IfOk result (λ statuses. (text : List ℕ)
+        × IsToldAnswer form ((store : O.Store) → IsTrue (O.Store.is_clean store)) statuses.items script.now text
         × Appends (W.contents writer.old) (W.contents writer.new) text) }
     ensures error { IfErr result (IsErrorOfScript script.now) }
     ensures silent { IfErr result (λ error. IsSilent error (Keeps (W.contents writer.old) (W.contents writer.new))) }
 {
-    let text = recorded(rt, alloc, turns, opener, context, script)?;
-    write_answer(writer, text.as_bytes())
+    let report = recorded(rt, alloc, turns, opener, context, script)?;
+    write_report(alloc, form, script, report, writer)
 }
 
-// The text that answers a script. What the threads did is written.
+// What a run of the cluster of a script ends with. What the threads did is written.
 fn recorded<R: Threads + Wait + Clock + Sync, O: Opener<R> + Sync, C: RunContext>(
     rt: &R,
     alloc: Global,
@@ -57,18 +59,17 @@ fn recorded<R: Threads + Wait + Clock + Sync, O: Opener<R> + Sync, C: RunContext
     opener: &O,
     context: &mut C,
     script: &ClusterScript,
-) -> Result<String, CommandError>
+) -> Result<Report, CommandError>
     requires { 1 ≤ length script.now.cluster.processes }
-    ensures text { IfOk result (λ text.
-        IsRunAnswer ((store : O.Store) → IsTrue (O.Store.is_clean store)) script.now (string_bytes text)) }
+    ensures report { IfOk result (IsReport ((store : O.Store) → IsTrue (O.Store.is_clean store)) (programs_of script.now.cluster)) }
     ensures error { IfErr result (IsErrorOfScript script.now) }
 {
     let recorder = Recorder::new(alloc);
-    let answer = answer(rt, alloc, turns, opener, script, &recorder);
+    let ended = report_of(rt, alloc, turns, opener, script, &recorder);
     let written = write_record(alloc, context, script, recorder);
-    let text = answer?;
+    let report = ended?;
     written?;
-    Ok(text)
+    Ok(report)
 }
 
 // Writes what the threads of a cluster did.
@@ -84,25 +85,7 @@ fn write_record<C: RunContext>(
     write_script(context, script, &events)
 }
 
-// The text that answers a script, while the recorder takes in what the threads do.
-fn answer<R: Threads + Wait + Clock + Sync, O: Opener<R> + Sync>(
-    rt: &R,
-    alloc: Global,
-    turns: u64,
-    opener: &O,
-    script: &ClusterScript,
-    recorder: &Recorder,
-) -> Result<String, CommandError>
-    requires { 1 ≤ length script.now.cluster.processes }
-    ensures text { IfOk result (λ text.
-        IsRunAnswer ((store : O.Store) → IsTrue (O.Store.is_clean store)) script.now (string_bytes text)) }
-    ensures error { IfErr result (IsErrorOfScript script.now) }
-{
-    let report = report_of(rt, alloc, turns, opener, script, recorder)?;
-    Ok(report_text(alloc, script.programs(), &report)?)
-}
-
-// What a run of the cluster of a script ends with.
+// What a run of the cluster of a script ends with, while the recorder takes in what the threads do.
 fn report_of<R: Threads + Wait + Clock + Sync, O: Opener<R> + Sync>(
     rt: &R,
     alloc: Global,

@@ -1,6 +1,6 @@
 //! The request `run`: a cluster file is read once, and its cluster is run as it is asked for.
 
-ghost use Rattle.std.specs.Prelude.{◌≡◌, ◌≢◌, ◌≤◌, ℕ, List, IsTrue, length, IfSome, IfErr, OnOk};
+ghost use Rattle.std.specs.Prelude.{◌≡◌, ◌≢◌, ◌≤◌, ℕ, List, IsTrue, length, IfSome, IfErr, IfOk};
 ghost use Rattle.std.specs.Io.KnownBytes.{Appends, Keeps};
 ghost use Rattle.om_commands.specs.Command.{IsSilent};
 ghost use Rattle.om_run_commands.specs.Follow.{IsPart, IsPartOf};
@@ -14,8 +14,9 @@ use crate::context::RunContext;
 use crate::followed::run_followed;
 use crate::mode::RunMode;
 use crate::recorded::run_recorded;
-use crate::run::run;
-use om_commands::{CommandError, read_input};
+use crate::run::{run, run_raw};
+use om_commands::{BytesForm, CommandError, read_input};
+use om_process::Status;
 use om_runner::Opener;
 use std::alloc::Global;
 use std::io::{Read, Write};
@@ -24,8 +25,9 @@ use std::thread::Threads;
 use std::time::Clock;
 
 /// Reads a cluster file whole, has the context make ready what its run needs, and runs its cluster with a thread for each process
-/// over stores that `opener` makes. A worker takes at most so many `turns`. Then what each process put out and how each ended is
-/// written, and the context learns how the run ended; what else comes about is by the mode.
+/// over stores that `opener` makes. A worker takes at most so many `turns`. Then what each process put out, with its bytes in the
+/// form, and how each ended is written; how each ended is answered too, by process, and the context learns it. What else comes about
+/// is by the mode.
 ///
 /// - `Check`: plays, in one thread, the run without failures in which each process receives what it received in its threads, and
 ///   writes the text of that run, to the byte. Refused at last with `Unlike` where the threads' outputs or statuses are not
@@ -35,6 +37,8 @@ use std::time::Clock;
 ///   run was refused too, if it can be.
 /// - `Follow`: writes each output as soon as it is released, the lines of a process in order and each once, and at the end how each
 ///   process ended. Where the run is refused, what was released by then is written; less where memory ran out or the writer refused.
+/// - `Raw`: writes only the bytes that the process of this name put out, one output behind the other. Refused with `NoSuchProcess`
+///   where there is none of this name, before anything is made ready.
 ///
 /// Refused, nothing is written but with `Follow`, unless it was the writer that refused. A file that is refused has nothing made
 /// ready.
@@ -47,21 +51,22 @@ pub fn run_file<
 >(
     rt: &R,
     alloc: Global,
-    mode: RunMode,
+    mode: RunMode<'_>,
+    form: BytesForm,
     turns: u64,
     opener: &O,
     context: &mut C,
     reader: &mut I,
     writer: W,
-) -> (Result<(), CommandError>, W)
-    ensures text { IfSome (I.remaining reader.old) (λ bytes. OnOk result.0 ((text : List ℕ)
-        × IsRunIn mode ((store : O.Store) → IsTrue (O.Store.is_clean store)) bytes text
+) -> (Result<Vec<Status>, CommandError>, W)
+    ensures text { IfSome (I.remaining reader.old) (λ bytes. IfOk result.0 (λ statuses. (text : List ℕ)
+        × IsRunIn mode.entry form ((store : O.Store) → IsTrue (O.Store.is_clean store)) statuses.items bytes text
         × Appends (W.contents writer) (W.contents result.1) text)) }
-    ensures error { IfSome (I.remaining reader.old) (λ bytes. IfErr result.0 (IsErrorIn mode bytes)) }
-    ensures silent { mode ≢ RunMode.Follow
+    ensures error { IfSome (I.remaining reader.old) (λ bytes. IfErr result.0 (IsErrorIn mode.entry bytes)) }
+    ensures silent { mode.entry ≢ RunMode.Follow
         → IfErr result.0 (λ error. IsSilent error (Keeps (W.contents writer) (W.contents result.1))) }
-    ensures partly { mode ≡ RunMode.Follow → IfSome (I.remaining reader.old) (λ bytes. IfErr result.0 (λ error. IsByKind error
-        (IsPart ((store : O.Store) → IsTrue (O.Store.is_clean store)) bytes (W.contents writer) (W.contents result.1))
+    ensures partly { mode.entry ≡ RunMode.Follow → IfSome (I.remaining reader.old) (λ bytes. IfErr result.0 (λ error. IsByKind error
+        (IsPart form ((store : O.Store) → IsTrue (O.Store.is_clean store)) bytes (W.contents writer) (W.contents result.1))
         (Keeps (W.contents writer) (W.contents result.1)))) }
 {
     match read_input(
@@ -70,7 +75,9 @@ pub fn run_file<
         ClusterScript::new(alloc, mode.writes_script()),
     ) {
         Ok(script) => {
-            let told = run_script(rt, alloc, mode, turns, opener, context, &script, writer);
+            let told = run_script(
+                rt, alloc, mode, form, turns, opener, context, &script, writer,
+            );
             drop(script);
             told
         }
@@ -78,7 +85,8 @@ pub fn run_file<
     }
 }
 
-// Runs the cluster of a script, for which the context makes ready, and which has a process or is refused.
+// Runs the cluster of a script, for which the context makes ready, and which has a process, and the one that is asked for, or is
+// refused.
 fn run_script<
     R: Threads + Wait + Clock + Sync,
     O: Opener<R> + Sync,
@@ -87,64 +95,98 @@ fn run_script<
 >(
     rt: &R,
     alloc: Global,
-    mode: RunMode,
+    mode: RunMode<'_>,
+    form: BytesForm,
     turns: u64,
     opener: &O,
     context: &mut C,
     script: &ClusterScript,
     writer: W,
-) -> (Result<(), CommandError>, W)
-    ensures text { OnOk result.0 ((text : List ℕ)
-        × IsAnswerIn mode ((store : O.Store) → IsTrue (O.Store.is_clean store)) script.now text
+) -> (Result<Vec<Status>, CommandError>, W)
+    ensures text { IfOk result.0 (λ statuses. (text : List ℕ)
+        × IsAnswerIn mode.entry form ((store : O.Store) → IsTrue (O.Store.is_clean store)) statuses.items script.now text
         × Appends (W.contents writer) (W.contents result.1) text) }
-    ensures error { IfErr result.0 (IsErrorOfScriptIn mode script.now) }
-    ensures silent { mode ≢ RunMode.Follow
+    ensures error { IfErr result.0 (IsErrorOfScriptIn mode.entry script.now) }
+    ensures silent { mode.entry ≢ RunMode.Follow
         → IfErr result.0 (λ error. IsSilent error (Keeps (W.contents writer) (W.contents result.1))) }
-    ensures partly { mode ≡ RunMode.Follow → IfErr result.0 (λ error. IsByKind error
-        (IsPartOf ((store : O.Store) → IsTrue (O.Store.is_clean store)) script.now (W.contents writer) (W.contents result.1))
+    ensures partly { mode.entry ≡ RunMode.Follow → IfErr result.0 (λ error. IsByKind error
+        (IsPartOf form ((store : O.Store) → IsTrue (O.Store.is_clean store)) script.now (W.contents writer) (W.contents result.1))
         (Keeps (W.contents writer) (W.contents result.1))) }
 {
     if script.programs().n() == 0 {
         return (Err(CommandError::EmptyScript), writer);
     }
+    if mode.lacks(script.programs()) {
+        return (Err(CommandError::NoSuchProcess), writer);
+    }
     if let Err(error) = context.begin(script) {
         return (Err(error), writer);
     }
-    let (outcome, writer) = run_in(rt, alloc, mode, turns, opener, context, script, writer);
-    context.end(script, outcome);
+    let (outcome, writer) = run_in(
+        rt, alloc, mode, form, turns, opener, context, script, writer,
+    );
+    tell_end(context, script, &outcome);
     (outcome, writer)
+}
+
+// Has the context learn how its run ended.
+fn tell_end<C: RunContext>(
+    context: &mut C,
+    script: &ClusterScript,
+    outcome: &Result<Vec<Status>, CommandError>,
+) {
+    match outcome {
+        Ok(statuses) => context.end(script, Ok(statuses.as_slice())),
+        Err(error) => context.end(script, Err(*error)),
+    }
 }
 
 // Runs the cluster of a script by the mode.
 fn run_in<R: Threads + Wait + Clock + Sync, O: Opener<R> + Sync, C: RunContext, W: Write + Drop>(
     rt: &R,
     alloc: Global,
-    mode: RunMode,
+    mode: RunMode<'_>,
+    form: BytesForm,
     turns: u64,
     opener: &O,
     context: &mut C,
     script: &ClusterScript,
     writer: W,
-) -> (Result<(), CommandError>, W)
+) -> (Result<Vec<Status>, CommandError>, W)
     requires { 1 ≤ length script.now.cluster.processes }
-    ensures text { OnOk result.0 ((text : List ℕ)
-        × IsAnswerIn mode ((store : O.Store) → IsTrue (O.Store.is_clean store)) script.now text
+    ensures text { IfOk result.0 (λ statuses. (text : List ℕ)
+        × IsAnswerIn mode.entry form ((store : O.Store) → IsTrue (O.Store.is_clean store)) statuses.items script.now text
         × Appends (W.contents writer) (W.contents result.1) text) }
-    ensures error { IfErr result.0 (IsErrorOfScriptIn mode script.now) }
-    ensures silent { mode ≢ RunMode.Follow
+    ensures error { IfErr result.0 (IsErrorOfScriptIn mode.entry script.now) }
+    ensures silent { mode.entry ≢ RunMode.Follow
         → IfErr result.0 (λ error. IsSilent error (Keeps (W.contents writer) (W.contents result.1))) }
-    ensures partly { mode ≡ RunMode.Follow → IfErr result.0 (λ error. IsByKind error
-        (IsPartOf ((store : O.Store) → IsTrue (O.Store.is_clean store)) script.now (W.contents writer) (W.contents result.1))
+    ensures partly { mode.entry ≡ RunMode.Follow → IfErr result.0 (λ error. IsByKind error
+        (IsPartOf form ((store : O.Store) → IsTrue (O.Store.is_clean store)) script.now (W.contents writer) (W.contents result.1))
         (Keeps (W.contents writer) (W.contents result.1))) }
 {
     let mut writer = writer;
     let to = &mut writer;
-    let outcome = match mode {
-        RunMode::Plain => run(rt, alloc, turns, opener, script, to),
-        RunMode::Check => run_checked(rt, alloc, turns, opener, script, to),
-        RunMode::Witness => run_with_witness(rt, alloc, turns, opener, context, script, to),
-        RunMode::Record => run_recorded(rt, alloc, turns, opener, context, script, to),
-        RunMode::Follow => return run_followed(rt, alloc, turns, opener, script, writer),
-    };
-    (outcome, writer)
+    match mode {
+        RunMode::Plain => {
+            let outcome = run(rt, alloc, form, turns, opener, script, to);
+            (outcome, writer)
+        }
+        RunMode::Check => {
+            let outcome = run_checked(rt, alloc, form, turns, opener, script, to);
+            (outcome, writer)
+        }
+        RunMode::Witness => {
+            let outcome = run_with_witness(rt, alloc, form, turns, opener, context, script, to);
+            (outcome, writer)
+        }
+        RunMode::Record => {
+            let outcome = run_recorded(rt, alloc, form, turns, opener, context, script, to);
+            (outcome, writer)
+        }
+        RunMode::Follow => run_followed(rt, alloc, form, turns, opener, script, writer),
+        RunMode::Raw(name) => {
+            let outcome = run_raw(rt, alloc, name, turns, opener, script, to);
+            (outcome, writer)
+        }
+    }
 }

@@ -1,19 +1,22 @@
 //! The command `run`: a cluster of logged processes, a thread for each.
 
-ghost use Rattle.std.specs.Prelude.{◌≡◌, ◌≤◌, ℕ, List, IsTrue, length, map, IfOk, IfErr, OnOk, string_bytes};
+ghost use Rattle.std.specs.Prelude.{◌≡◌, ◌⊎◌, ◌≤◌, ℕ, List, IsTrue, length, map, IfOk, IfErr, OnOk};
 ghost use Rattle.std.specs.Io.KnownBytes.{Appends, Keeps};
 ghost use Rattle.om_interval.specs.declared.pid.TheConstants.{MAX_PROCESSES};
 ghost use Rattle.om_process.specs.Images.{program_of};
 ghost use Rattle.om_scripts.specs.Programs.{programs_of};
 ghost use Rattle.om_commands.specs.Command.{IsSilent};
-ghost use Rattle.om_run_commands.specs.Run.{IsReport, IsRunAnswer};
+ghost use Rattle.om_run_commands.specs.Run.{IsRawAnswer, IsReport, outputs_of};
+ghost use Rattle.om_run_commands.specs.RunText.{run_text_in};
+ghost use Rattle.om_run_commands.specs.steps.Modes.{IsToldAnswer};
 ghost use Rattle.om_run_commands.specs.steps.Scripts.{IsErrorOfScript};
 
 use crate::cluster_script::ClusterScript;
 use crate::error::error_of_run;
-use crate::run_text::report_text;
-use om_commands::{CommandError, write_answer};
+use crate::run_text::{raw_text, report_text};
+use om_commands::{BytesForm, CommandError, write_answer};
 use om_interval::{MAX_PROCESSES, Pid};
+use om_process::Status;
 use om_runner::{Config, Gate, Opener, Report, run_cluster};
 use std::alloc::{AllocError, Global};
 use std::io::Write;
@@ -35,41 +38,70 @@ impl Gate for OpenGate {
 }
 
 // Runs the cluster of a script with a thread for each process over stores that `opener` makes, and then writes what each put out
-// and how each ended. A worker takes at most so many `turns`. Refused, nothing is written, unless it was the writer that refused.
+// and how each ended, which is answered too. A worker takes at most so many `turns`. Refused, nothing is written, unless it was the
+// writer that refused.
 pub(crate) fn run<R: Threads + Wait + Clock + Sync, O: Opener<R> + Sync, W: Write>(
     rt: &R,
     alloc: Global,
+    form: BytesForm,
     turns: u64,
     opener: &O,
     script: &ClusterScript,
     writer: &mut W,
-) -> Result<(), CommandError>
+) -> Result<Vec<Status>, CommandError>
     requires { 1 ≤ length script.now.cluster.processes }
-    ensures text { OnOk result ((text : List ℕ)
-        × IsRunAnswer ((store : O.Store) → IsTrue (O.Store.is_clean store)) script.now text
+    ensures text { IfOk result (λ statuses. (text : List ℕ)
+        × IsToldAnswer form ((store : O.Store) → IsTrue (O.Store.is_clean store)) statuses.items script.now text
         × Appends (W.contents writer.old) (W.contents writer.new) text) }
     ensures error { IfErr result (IsErrorOfScript script.now) }
     ensures silent { IfErr result (λ error. IsSilent error (Keeps (W.contents writer.old) (W.contents writer.new))) }
 {
-    let text = answer(rt, alloc, turns, opener, script)?;
-    write_answer(writer, text.as_bytes())
+    let report = report_of(rt, alloc, turns, opener, script)?;
+    write_report(alloc, form, script, report, writer)
 }
 
-// The text that answers a script.
-fn answer<R: Threads + Wait + Clock + Sync, O: Opener<R> + Sync>(
+// The same, but written are the bytes alone that the process of a name put out.
+pub(crate) fn run_raw<R: Threads + Wait + Clock + Sync, O: Opener<R> + Sync, W: Write>(
     rt: &R,
     alloc: Global,
+    name: &str,
     turns: u64,
     opener: &O,
     script: &ClusterScript,
-) -> Result<String, CommandError>
+    writer: &mut W,
+) -> Result<Vec<Status>, CommandError>
     requires { 1 ≤ length script.now.cluster.processes }
-    ensures text { IfOk result (λ text.
-        IsRunAnswer ((store : O.Store) → IsTrue (O.Store.is_clean store)) script.now (string_bytes text)) }
+    ensures text { IfOk result (λ statuses. (text : List ℕ)
+        × IsRawAnswer name.now ((store : O.Store) → IsTrue (O.Store.is_clean store)) statuses.items script.now text
+        × Appends (W.contents writer.old) (W.contents writer.new) text) }
     ensures error { IfErr result (IsErrorOfScript script.now) }
+    ensures silent { IfErr result (λ error. IsSilent error (Keeps (W.contents writer.old) (W.contents writer.new))) }
 {
     let report = report_of(rt, alloc, turns, opener, script)?;
-    Ok(report_text(alloc, script.programs(), &report)?)
+    let text = raw_text(alloc, name, script.programs(), &report.released)?;
+    write_answer(writer, &text)?;
+    Ok(report.statuses)
+}
+
+// Writes what a run of the cluster of a script ends with, and answers how its processes ended.
+pub(crate) fn write_report<W: Write>(
+    alloc: Global,
+    form: BytesForm,
+    script: &ClusterScript,
+    report: Report,
+    writer: &mut W,
+) -> Result<Vec<Status>, CommandError>
+    requires released { length report.released.items ≡ length (programs_of script.now.cluster) }
+    requires statuses { length report.statuses.items ≡ length (programs_of script.now.cluster) }
+    ensures text { OnOk result (Appends (W.contents writer.old) (W.contents writer.new)
+        (run_text_in form script.now.cluster (outputs_of report) report.statuses.items)) }
+    ensures statuses { IfOk result (λ statuses. statuses ≡ report.statuses) }
+    ensures error { IfErr result (λ error. (error ≡ CommandError.NoMemory) ⊎ (error ≡ CommandError.CannotWrite)) }
+    ensures silent { IfErr result (λ error. IsSilent error (Keeps (W.contents writer.old) (W.contents writer.new))) }
+{
+    let text = report_text(alloc, form, script.programs(), &report)?;
+    write_answer(writer, text.as_bytes())?;
+    Ok(report.statuses)
 }
 
 // What a run of the cluster of a script ends with.

@@ -1,14 +1,15 @@
 //! The text of a run of a cluster: what each process put out, and how it ended.
 
-ghost use Rattle.std.specs.Prelude.{◌≡◌, ◌++◌, ◌≤◌, length, map, IfOk, OnOk, string_bytes};
+ghost use Rattle.std.specs.Prelude.{◌≡◌, ◌++◌, ◌≤◌, [], length, map, IfOk, OnOk, string_bytes, if◌then◌else◌};
+ghost use Rattle.std.specs.Str.{bytes_eq};
 ghost use Rattle.om_manager.specs.Outputs.{held_of};
 ghost use Rattle.om_scripts.specs.Programs.{programs_of};
 ghost use Rattle.om_run_commands.specs.Run.{outputs_of};
-ghost use Rattle.om_run_commands.specs.RunText.{ends_text, run_text};
+ghost use Rattle.om_run_commands.specs.RunText.{bytes_of, ends_text, raw_text, run_text_in};
 ghost use Rattle.om_run_commands.specs.steps.Lines.{released_text};
 ghost use Rattle.om_run_commands.specs.steps.Lines.{end_line};
 
-use om_commands::{name_of, push_outputs, push_status};
+use om_commands::{BytesForm, name_of, push_outputs, push_status};
 use om_manager::Output;
 use om_process::Status;
 use om_runner::Report;
@@ -20,15 +21,16 @@ use std::fmt::Write;
 fn push_released(
     alloc: Global,
     text: &mut String,
+    form: BytesForm,
     programs: &Programs,
     released: &[Vec<Output>],
 ) -> Result<(), AllocError>
     requires { length released.now ≤ length programs.now.processes }
     ensures { OnOk result (string_bytes text.new ≡ string_bytes text.old
-        ++ released_text programs.now (map (λ outputs. map held_of outputs.items) released.now)) }
+        ++ released_text form programs.now (map (λ outputs. map held_of outputs.items) released.now)) }
 {
     for p in 0..released.len() {
-        push_outputs(alloc, text, name_of(programs, p), &released[p])?;
+        push_outputs(alloc, text, form, name_of(programs, p), &released[p])?;
     }
     Ok(())
 }
@@ -60,6 +62,7 @@ pub(crate) fn push_ends(
 // The text of a run of these processes: by process what it put out and is released, and how it ended.
 pub(crate) fn run_text(
     alloc: Global,
+    form: BytesForm,
     programs: &Programs,
     released: &[Vec<Output>],
     statuses: &[Status],
@@ -67,23 +70,68 @@ pub(crate) fn run_text(
     requires released { length released.now ≤ length programs.now.processes }
     requires statuses { length statuses.now ≤ length programs.now.processes }
     ensures { IfOk result (λ text. string_bytes text
-        ≡ run_text programs.now (map (λ outputs. map held_of outputs.items) released.now) statuses.now) }
+        ≡ run_text_in form programs.now (map (λ outputs. map held_of outputs.items) released.now) statuses.now) }
 {
     let mut text = String::new(alloc);
-    push_released(alloc, &mut text, programs, released)?;
+    push_released(alloc, &mut text, form, programs, released)?;
     push_ends(&mut text, programs, statuses)?;
     Ok(text)
 }
 
-// The text of what a run of these processes ends with.
-pub(crate) fn report_text(
+/// The text of what a run of these processes ends with: by process what it put out and is released, and then how each ended.
+pub fn report_text(
     alloc: Global,
+    form: BytesForm,
     programs: &Programs,
     report: &Report,
 ) -> Result<String, AllocError>
     requires released { length report.now.released.items ≡ length (programs_of programs.now) }
     requires statuses { length report.now.statuses.items ≡ length (programs_of programs.now) }
-    ensures { IfOk result (λ text. string_bytes text ≡ run_text programs.now (outputs_of report.now) report.now.statuses.items) }
+    ensures { IfOk result (λ text. string_bytes text ≡ run_text_in form programs.now (outputs_of report.now) report.now.statuses.items) }
 {
-    run_text(alloc, programs, &report.released, &report.statuses)
+    run_text(alloc, form, programs, &report.released, &report.statuses)
+}
+
+// Adds the bytes of outputs, one behind the other.
+fn add_bytes(bytes: &mut Vec<u8>, outputs: &[Output]) -> Result<(), AllocError>
+    ensures { OnOk result (bytes.new.items ≡ bytes.old.items ++ bytes_of (map held_of outputs.now)) }
+{
+    for output in outputs {
+        bytes.extend_from_slice(output.bytes.as_slice())?;
+    }
+    Ok(())
+}
+
+// Adds the bytes of the outputs of a process, where its name is the one that is wanted.
+fn add_named(
+    bytes: &mut Vec<u8>,
+    name: &str,
+    wanted: &str,
+    outputs: &[Output],
+) -> Result<(), AllocError>
+    ensures { OnOk result (bytes.new.items ≡ bytes.old.items
+        ++ (if bytes_eq name.now wanted.now then bytes_of (map held_of outputs.now) else [])) }
+{
+    if name == wanted {
+        add_bytes(bytes, outputs)?;
+    }
+    Ok(())
+}
+
+// The bytes that the process of a name put out and are released.
+pub(crate) fn raw_text(
+    alloc: Global,
+    name: &str,
+    programs: &Programs,
+    released: &[Vec<Output>],
+) -> Result<Vec<u8>, AllocError>
+    requires { length released.now ≤ length programs.now.processes }
+    ensures { IfOk result (λ bytes. bytes.items
+        ≡ raw_text name.now programs.now (map (λ outputs. map held_of outputs.items) released.now)) }
+{
+    let mut bytes = Vec::new(alloc);
+    for p in 0..released.len() {
+        add_named(&mut bytes, name_of(programs, p), name, &released[p])?;
+    }
+    Ok(bytes)
 }

@@ -11,3 +11,4 @@ pub mod Turning
 pub mod Refusals
 pub mod Sights
 pub mod Following
+pub mod Keeping

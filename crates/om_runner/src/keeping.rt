@@ -1,6 +1,8 @@
 //! What a store is given beside its records, for a run that takes it up after a crash of the whole program.
 
-ghost use Rattle.std.specs.Prelude.{◌≡◌, ◌+◌, ◌≤◌, IfOk, length};
+ghost use Rattle.std.specs.Prelude.{◌≡◌, ◌+◌, ◌≤◌, [], if◌then◌else◌, nat_eq, IfOk, length, max, min};
+ghost use Rattle.om_runner.specs.steps.Keeping.{first_number, kept_from, released_recs, sender_recs};
+ghost use Rattle.om_stable.specs.Content.{bytes_of};
 ghost use Rattle.om_stable.specs.declared.ledger.TheConstants.{LEDGER_NUMBERS};
 
 use crate::manager_link::Limits;
@@ -20,7 +22,9 @@ struct NewRows {
 
 impl NewRows {
     // No rows.
-    fn none(alloc: Global) -> NewRows {
+    fn none(alloc: Global) -> NewRows
+        ensures { result.recs.items ≡ [] }
+    {
         NewRows {
             first: 0,
             recs: Vec::new(alloc),
@@ -40,7 +44,9 @@ impl NewRows {
 
     // As a store is given them.
     fn rows(&self) -> LedgerRows<'_>
-        ensures { result.first + length result.recs.now ≤ LEDGER_NUMBERS }
+        ensures room { result.first + length result.recs.now ≤ LEDGER_NUMBERS }
+        ensures first { result.first ≡ self.now.first }
+        ensures recs { result.recs.now ≡ self.now.recs.items }
     {
         LedgerRows {
             first: self.first,
@@ -60,7 +66,11 @@ pub(crate) struct Deposit {
 
 impl Deposit {
     // Nothing.
-    pub(crate) fn none(alloc: Global) -> Deposit {
+    pub(crate) fn none(alloc: Global) -> Deposit
+        ensures outputs { result.outputs.recs.items ≡ [] }
+        ensures senders { result.senders.recs.items ≡ [] }
+        ensures known { result.known ≡ 0 }
+    {
         Deposit {
             outputs: NewRows::none(alloc),
             senders: NewRows::none(alloc),
@@ -70,14 +80,18 @@ impl Deposit {
 
     // The outputs.
     pub(crate) fn outputs(&self) -> LedgerRows<'_>
-        ensures { result.first + length result.recs.now ≤ LEDGER_NUMBERS }
+        ensures room { result.first + length result.recs.now ≤ LEDGER_NUMBERS }
+        ensures first { result.first ≡ self.now.outputs.first }
+        ensures recs { result.recs.now ≡ self.now.outputs.recs.items }
     {
         self.outputs.rows()
     }
 
     // The senders of receipts.
     pub(crate) fn senders(&self) -> LedgerRows<'_>
-        ensures { result.first + length result.recs.now ≤ LEDGER_NUMBERS }
+        ensures room { result.first + length result.recs.now ≤ LEDGER_NUMBERS }
+        ensures first { result.first ≡ self.now.senders.first }
+        ensures recs { result.recs.now ≡ self.now.senders.recs.items }
     {
         self.senders.rows()
     }
@@ -100,7 +114,15 @@ impl Kept {
         core: &ProcCore,
         limits: &Limits,
         senders: &[u8],
-    ) -> Result<Deposit, WorkerFault> {
+    ) -> Result<Deposit, WorkerFault>
+        ensures outputs { IfOk result (λ d. bytes_of d.outputs.recs.items
+            ≡ released_recs (kept_from core.now self.now.outputs) limits.now.bounds.released) }
+        ensures numbered { IfOk result (λ d. d.outputs.first ≡ first_number (kept_from core.now self.now.outputs)) }
+        ensures senders { IfOk result (λ d. bytes_of d.senders.recs.items
+            ≡ sender_recs senders.now self.now.senders (min (length senders.now) limits.now.checkpoint)) }
+        ensures behind { IfOk result (λ d. d.senders.first ≡ self.now.senders) }
+        ensures known { IfOk result (λ d. d.known ≡ min (length senders.now) limits.now.checkpoint) }
+    {
         let outputs = released_rows(
             alloc,
             core.outputs_from(self.outputs),
@@ -115,7 +137,11 @@ impl Kept {
     }
 
     // The store has what it was given.
-    pub(crate) fn add(&mut self, deposit: &Deposit) {
+    pub(crate) fn add(&mut self, deposit: &Deposit)
+        ensures outputs { let rows = deposit.now.outputs in
+            self.new.outputs ≡ (if nat_eq (length rows.recs.items) 0 then self.old.outputs else rows.first + length rows.recs.items) }
+        ensures senders { self.new.senders ≡ max self.old.senders deposit.now.known }
+    {
         if !deposit.outputs.recs.is_empty() {
             self.outputs = deposit
                 .outputs
@@ -127,19 +153,33 @@ impl Kept {
 }
 
 // The rows of those of the outputs that are released.
-fn released_rows(alloc: Global, outputs: &[Made], released: u64) -> Result<NewRows, WorkerFault> {
-    let mut recs = Vec::new(alloc);
-    for output in outputs {
-        if output.seq < released {
-            recs.push(output_record(alloc, output)?)
-                .map_err(AllocError::from)?;
-        }
-    }
+fn released_rows(alloc: Global, outputs: &[Made], released: u64) -> Result<NewRows, WorkerFault>
+    ensures first { IfOk result (λ rows. rows.first ≡ first_number outputs.now) }
+    ensures recs { IfOk result (λ rows. bytes_of rows.recs.items ≡ released_recs outputs.now released) }
+{
+    let recs = released_records(alloc, outputs, released)?;
     let first = match outputs.first() {
         Some(output) => output.seq,
         None => 0,
     };
     NewRows::of(first, recs)
+}
+
+// Their records.
+fn released_records(
+    alloc: Global,
+    outputs: &[Made],
+    released: u64,
+) -> Result<Vec<Vec<u8>>, AllocError>
+    ensures { IfOk result (λ recs. bytes_of recs.items ≡ released_recs outputs.now released) }
+{
+    let mut recs = Vec::new(alloc);
+    for output in outputs {
+        if output.seq < released {
+            recs.push(output_record(alloc, output)?)?;
+        }
+    }
+    Ok(recs)
 }
 
 // The row of the senders from a number of receipts on, up to another.
@@ -150,6 +190,8 @@ fn sender_rows(
     to: usize,
 ) -> Result<NewRows, WorkerFault>
     requires { to ≤ length senders.now }
+    ensures first { IfOk result (λ rows. rows.first ≡ from) }
+    ensures recs { IfOk result (λ rows. bytes_of rows.recs.items ≡ sender_recs senders.now from to) }
 {
     let mut recs = Vec::new(alloc);
     if from < to {

@@ -1,6 +1,6 @@
 //! What the thread of a process does.
 
-ghost use Rattle.std.specs.Prelude.{◌≡◌, ◌<◌, ◌+◌, ◌⊎◌, ◌↔◌, [], Contains, false, IfNone, IfOk, IfSome, IsTrue, Ok, OnOk, Some, length, slice_get};
+ghost use Rattle.std.specs.Prelude.{◌≡◌, ◌<◌, ◌+◌, ◌⊎◌, ◌↔◌, [], Contains, false, IfNone, IfOk, IfSome, IsTrue, Ok, OnOk, Some, length, slice_get, true};
 ghost use Rattle.om_member.specs.Handed.{outputs_from};
 ghost use Rattle.om_process.specs.Stores.{flushed};
 ghost use Rattle.om_process.specs.Core.{IsEnd};
@@ -273,6 +273,8 @@ impl<'a, K: Naming> Worker<'a, K> {
     ) -> Result<(), WorkerFault>
         requires { K.OverClean → ⊥ }
         ensures same { self.new.links ≡ self.old.links }
+        ensures past { OnOk result (self.new.past ≡ record { keeps = true; senders = found.senders.items; count = 0 }) }
+        ensures kept { OnOk result (self.new.kept ≡ Some (record { outputs = length found.outputs.items; senders = found.kept })) }
     {
         self.manager_link
             .take_up(rt, alloc, &found.rows, &found.outputs)?;

@@ -8,6 +8,8 @@ mod barriers;
 #[cfg(test)]
 mod boards;
 #[cfg(test)]
+mod checked_restarts;
+#[cfg(test)]
 mod clusters;
 #[cfg(test)]
 mod inboxes;

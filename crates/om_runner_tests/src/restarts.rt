@@ -8,8 +8,8 @@ use om_runner::{Config, OpenFault, Opener, Report, RunFault, run_and_keep_witnes
 use om_stable::{Ledger, LedgerRows, LedgerTable, MemLedger, Stable, StoreError};
 use std::alloc::Global;
 use std::process::Abort;
-use std::sync::atomic::AtomicU64;
 use std::sync::atomic::Ordering::SeqCst;
+use std::sync::atomic::{AtomicBool, AtomicU64};
 use std::sync::{Mutex, MutexGuard, Wait};
 use std::thread::Threads;
 use std::time::Clock;
@@ -17,18 +17,26 @@ use std::time::Clock;
 // How many calls of its stores a run has that nothing stops.
 const ALL: u64 = 1_000_000_000;
 
-// The stores of a cluster, which outlive its runs, and how many calls of them pass before the program is stopped.
+// The stores of a cluster, which outlive its runs.
 #[derive(Drop)]
 pub struct Shelf {
     pub stores: Vec<Mutex<MemLedger>>,
-    calls: AtomicU64,
+    // How many calls of them pass before the program is stopped.
+    pub calls: AtomicU64,
+    // It is stopped too once they were given so many receipts.
+    pub room: AtomicU64,
+    // How many receipts they were given, and how often they were cut.
+    pub receipts: AtomicU64,
+    pub cuts: AtomicU64,
+    // Whether they tell wrong senders of the receipts that they dropped.
+    pub lie: AtomicBool,
 }
 
 // One of them, as a run has it. Nothing is said of what it holds.
 #[derive(Drop)]
 pub struct Left<'a> {
+    shelf: &'a Shelf,
     store: &'a Mutex<MemLedger>,
-    calls: &'a AtomicU64,
     failures: u64,
 }
 
@@ -44,14 +52,23 @@ fn told<T>(failures: &mut u64, answer: Result<T, StoreError>) -> Result<T, Store
     answer
 }
 
+// Names another of three processes as the first sender of each row.
+fn falsify(rows: &mut [(u64, Vec<u8>)]) {
+    for (_, senders) in rows {
+        if let Some(first) = senders.first_mut() {
+            *first = (*first % 3 + 1) % 3;
+        }
+    }
+}
+
 impl<'a> Left<'a> {
     // The store, for a call that passes: none does once the program is stopped.
     fn open(&self) -> Result<MutexGuard<'a, MemLedger>, StoreError>
         ensures { result ≢ Err StoreError.Present }
     {
-        let left = self.calls.load(SeqCst);
-        self.calls.store(left.saturating_sub(1), SeqCst);
-        if left == 0 {
+        let left = self.shelf.calls.load(SeqCst);
+        self.shelf.calls.store(left.saturating_sub(1), SeqCst);
+        if left == 0 || self.shelf.receipts.load(SeqCst) >= self.shelf.room.load(SeqCst) {
             return Err(StoreError::Fault);
         }
         match self.store.try_lock() {
@@ -85,6 +102,9 @@ impl<'a> Stable for Left<'a> {
             Ok(mut store) => store.put_receipts(alloc, first, recs),
             Err(error) => Err(error),
         };
+        if answer.is_ok() {
+            self.shelf.receipts.fetch_add(recs.len() as u64, SeqCst);
+        }
         told(&mut self.failures, answer)
     }
 
@@ -122,6 +142,9 @@ impl<'a> Stable for Left<'a> {
             Ok(mut store) => store.cut(alloc, r),
             Err(error) => Err(error),
         };
+        if answer.is_ok() {
+            self.shelf.cuts.fetch_add(1, SeqCst);
+        }
         told(&mut self.failures, answer)
     }
 
@@ -171,6 +194,12 @@ impl<'a> Ledger for Left<'a> {
             Ok(mut store) => store.all_in(alloc, table),
             Err(error) => Err(error),
         };
+        let mut answer = answer;
+        if let Ok(rows) = &mut answer {
+            if table == LedgerTable::Senders && self.shelf.lie.load(SeqCst) {
+                falsify(rows);
+            }
+        }
         told(&mut self.failures, answer)
     }
 
@@ -193,8 +222,8 @@ impl<'a> Ledger for Left<'a> {
 pub fn store_on(shelf: &Shelf, p: usize) -> Option<Left<'_>> {
     match shelf.stores.get(p) {
         Some(store) => Some(Left {
+            shelf,
             store,
-            calls: &shelf.calls,
             failures: 0,
         }),
         None => None,
@@ -203,8 +232,8 @@ pub fn store_on(shelf: &Shelf, p: usize) -> Option<Left<'_>> {
 
 // Makes stores of what stands on a shelf.
 #[derive(Drop)]
-struct OnShelf<'a> {
-    shelf: &'a Shelf,
+pub struct OnShelf<'a> {
+    pub shelf: &'a Shelf,
 }
 
 impl<'a, R> Opener<R> for OnShelf<'a> {
@@ -232,6 +261,10 @@ pub fn blank_shelf(rt: &impl Abort, alloc: Global, n: usize) -> Shelf {
     Shelf {
         stores,
         calls: AtomicU64::new(ALL),
+        room: AtomicU64::new(ALL),
+        receipts: AtomicU64::new(0),
+        cuts: AtomicU64::new(0),
+        lie: AtomicBool::new(false),
     }
 }
 

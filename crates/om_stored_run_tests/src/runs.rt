@@ -3,9 +3,10 @@
 ghost use Rattle.std.specs.Prelude.{◌≡◌, false, IfOk};
 
 use crate::examples::{BANK, BANK_ENDS, PIPELINE, PIPELINE_ENDS, QUEUE, QUEUE_ENDS};
-use om_commands::CommandError;
+use om_commands::{BytesForm, CommandError};
 use om_files::{Connects, InTables};
 use om_interval::Pid;
+use om_process::Status;
 use om_run_commands::{ClusterScript, RunContext, RunMode, run_file};
 use om_runner::{InMemory, OpenFault, Opener};
 use sqlite::{Connection, MemStore};
@@ -43,28 +44,33 @@ impl RunContext for Nothing {
         Ok(())
     }
 
-    fn end(&mut self, _script: &ClusterScript, _outcome: Result<(), CommandError>) {}
+    fn end(&mut self, _script: &ClusterScript, _outcome: Result<&[Status], CommandError>) {}
 }
 
 // What a run over such stores answers and writes.
 fn carry_out<R: Threads + Wait + Clock + Sync, O: Opener<R> + Sync>(
     rt: &R,
     alloc: Global,
-    (mode, turns): (RunMode, u64),
+    (mode, turns): (RunMode<'static>, u64),
     opener: &O,
     mut input: &[u8],
 ) -> (Result<(), CommandError>, Vec<u8>) {
     let written = Vec::new(alloc);
-    run_file(
+    let (answer, written) = run_file(
         rt,
         alloc,
         mode,
+        BytesForm::Hex,
         turns,
         opener,
         &mut Nothing,
         &mut input,
         written,
-    )
+    );
+    match answer {
+        Ok(_) => (Ok(()), written),
+        Err(error) => (Err(error), written),
+    }
 }
 
 // The turns of a worker.

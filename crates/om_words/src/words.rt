@@ -66,7 +66,7 @@ static IMAGE_FAULTS: [Row; 4] = [
     (Word::Line(LineError::ImageTooLong), "image too long"),
 ];
 
-static RUN_FAULTS: [Row; 9] = [
+static RUN_FAULTS: [Row; 10] = [
     (Word::Fault(CommandError::EmptyScript), "empty script"),
     (Word::Fault(CommandError::OutOfTurns), "out of turns"),
     (Word::Fault(CommandError::StoreFault), "store fault"),
@@ -78,6 +78,7 @@ static RUN_FAULTS: [Row; 9] = [
     (Word::Fault(CommandError::StoreMissing(0)), "store missing"),
     (Word::Fault(CommandError::NoThread), "no thread"),
     (Word::Fault(CommandError::Unlike), "unlike its check"),
+    (Word::Fault(CommandError::NoSuchProcess), "no such process"),
     (Word::Fault(CommandError::CannotWrite), "cannot write"),
 ];
 

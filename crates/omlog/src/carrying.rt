@@ -1,18 +1,22 @@
 //! What the words of the command line ask for is carried out.
 
 ghost use Rattle.std.specs.Prelude.{◌≡◌};
+ghost use Rattle.omlog.specs.Modes.{form_of};
 
 use crate::cluster_files::ClusterFiles;
+use crate::exploring::explore_over;
+use crate::failure::Failure;
+use crate::output::Output;
 use crate::reasons::{Reasons, advice_on, rule_of};
 use crate::source::source_of;
 use crate::store_files::run_over_tables;
 use crate::surroundings::Job;
 use crate::watching::run_watched;
-use om_arguments::{Asked, Lines, Look, Request, end, end_unasked, end_unread, parse};
-use om_commands::CommandError;
+use om_arguments::{Asked, Lines, Look, OutputForm, Request, end, end_unasked, end_unread, parse};
 use om_commands::decode::decode;
 use om_commands::frontier::frontier;
 use om_commands::sim::sim;
+use om_commands::{BytesForm, CommandError};
 use om_draw_command::draw::{Window, draw};
 use om_files::{fault_of, replay_file, show_file, steps_file};
 use om_image::{ImageError, image};
@@ -25,6 +29,9 @@ use std::sync::Wait;
 use std::thread::Threads;
 use std::time::Clock;
 use std::{env, io};
+
+// The status of a program whose standard output was closed: that of one that the signal 13, SIGPIPE, ended.
+const CLOSED_PIPE: u8 = 128 + 13;
 
 // Runs the program on its arguments and standard streams: the status is 0 where it is done, 1 where a command was
 // refused, and 2 where the arguments were.
@@ -66,7 +73,17 @@ fn ended<R: Threads + Wait + Clock + Eprint + Sync>(
                 reasons,
             )
         }
-        _ => end(rt, carry_out(rt, threads, asked, reasons)),
+        _ => end_carried(rt, carry_out(rt, threads, asked, reasons)),
+    }
+}
+
+// Ends a command. Whoever has closed standard output is told nothing.
+fn end_carried(rt: &HostRuntime, outcome: Result<(), Failure>) -> ExitCode {
+    match outcome {
+        Ok(()) => ExitCode::SUCCESS,
+        Err(Failure::Refused(error)) => end(rt, Err(error)),
+        Err(Failure::Unread) => ExitCode::from(CLOSED_PIPE),
+        Err(Failure::Trapped) => ExitCode::FAILURE,
     }
 }
 
@@ -101,14 +118,14 @@ fn carry_out<R: Threads + Wait + Clock + Eprint + Sync>(
     threads: &R,
     asked: Asked<'_>,
     reasons: &mut Reasons,
-) -> Result<(), CommandError> {
+) -> Result<(), Failure> {
     let reader = &mut source_of(rt, asked.input, reasons)?;
     let outcome = if reasons.are_heard && reads_text(asked.request) {
         carry_out_over(rt, threads, asked, reader, reasons)
     } else {
         answer(rt, threads, asked, reader, reasons)
     };
-    if let Err(error) = outcome {
+    if let Err(Failure::Refused(error)) = outcome {
         if let Some(advice) = advice_on(error) {
             reasons.advise(advice);
         }
@@ -120,9 +137,10 @@ fn reads_text(request: Request<'_>) -> bool {
     match request {
         Request::Decode(_)
         | Request::Frontier
-        | Request::Sim
+        | Request::Sim(_)
         | Request::Draw(_)
-        | Request::Run(_) => true,
+        | Request::Run(_)
+        | Request::Explore(_) => true,
         Request::Look(_) | Request::Image { .. } => false,
     }
 }
@@ -134,10 +152,10 @@ fn carry_out_over<R: Threads + Wait + Clock + Eprint + Sync, I: Read>(
     asked: Asked<'_>,
     reader: &mut I,
     reasons: &mut Reasons,
-) -> Result<(), CommandError> {
-    let bytes = read_text(rt.alloc(), reader)?;
+) -> Result<(), Failure> {
+    let bytes = read_text(rt.alloc(), reader).map_err(CommandError::from)?;
     let outcome = answer(rt, threads, asked, &mut bytes.as_slice(), reasons);
-    if let Err(CommandError::Script(refused)) = outcome {
+    if let Err(Failure::Refused(CommandError::Script(refused))) = outcome {
         reasons.add_line(asked.input.unwrap_or("standard input"), &bytes, refused);
     }
     outcome
@@ -149,20 +167,46 @@ fn answer<R: Threads + Wait + Clock + Eprint + Sync, I: Read>(
     asked: Asked<'_>,
     reader: &mut I,
     reasons: &mut Reasons,
+) -> Result<(), Failure> {
+    if let Request::Run(running) = asked.request {
+        let input = asked.input;
+        return run_over(rt, threads, Job { running, input }, reader, reasons);
+    }
+    let mut writer = Output::new(rt);
+    let outcome = match asked.request {
+        Request::Explore(exploring) => {
+            explore_over(rt, threads, exploring, reader, &mut writer, reasons)
+        }
+        request => answer_at_once(rt, request, reader, &mut writer, reasons),
+    };
+    writer.ended(outcome)
+}
+
+// Carries out what is asked, where it is no run.
+fn answer_at_once<I: Read, W: Write>(
+    rt: &HostRuntime,
+    request: Request<'_>,
+    reader: &mut I,
+    writer: &mut W,
+    reasons: &mut Reasons,
 ) -> Result<(), CommandError> {
-    let writer = &mut io::writer(rt);
-    match asked.request {
+    match request {
         Request::Decode(ext) => decode(rt.alloc(), ext, reader, writer),
         Request::Frontier => frontier(rt.alloc(), reader, writer),
-        Request::Sim => sim(rt.alloc(), reader, writer),
+        Request::Sim(form) => sim(rt.alloc(), form_of(form), reader, writer),
         Request::Draw(lines) => draw(rt.alloc(), reader, writer, window_of(lines)),
-        Request::Run(running) => {
-            let input = asked.input;
-            run_over(rt, threads, Job { running, input }, reader, reasons)
-        }
         Request::Look(look) => look_into(rt, look, writer, reasons),
-        // It has an end of its own.
-        Request::Image { .. } => Ok(()),
+        // These have ends of their own.
+        Request::Run(_) | Request::Explore(_) | Request::Image { .. } => Ok(()),
+    }
+}
+
+pub(crate) fn form_of(form: OutputForm) -> BytesForm
+    ensures { result ≡ form_of form }
+{
+    match form {
+        OutputForm::Hex => BytesForm::Hex,
+        OutputForm::Text => BytesForm::Text,
     }
 }
 
@@ -215,7 +259,7 @@ fn run_over<R: Threads + Wait + Clock + Eprint + Sync, I: Read>(
     job: Job<'_>,
     reader: &mut I,
     reasons: &mut Reasons,
-) -> Result<(), CommandError> {
+) -> Result<(), Failure> {
     match job.running.prefix {
         Some(prefix) => run_in_files(rt, threads, job, prefix, reader, reasons),
         None => run_watched(rt, threads, job, &InMemory, reader, reasons),
@@ -231,7 +275,7 @@ fn run_in_files<R: Threads + Wait + Clock + Eprint + Sync, I: Read>(
     prefix: &str,
     reader: &mut I,
     reasons: &mut Reasons,
-) -> Result<(), CommandError> {
+) -> Result<(), Failure> {
     let files = ClusterFiles { rt, prefix };
     run_over_tables(rt, threads, job, files, reader, reasons)
 }

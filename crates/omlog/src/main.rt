@@ -3,6 +3,9 @@
 
 mod carrying;
 mod cluster_files;
+mod exploring;
+mod failure;
+mod output;
 mod reasons;
 mod source;
 mod store_files;

@@ -1,9 +1,9 @@
 //! Clusters over stores in files.
 
+use crate::failure::Failure;
 use crate::reasons::Reasons;
 use crate::surroundings::Job;
 use crate::watching::run_watched;
-use om_commands::CommandError;
 use om_files::{Connects, InTables, TakenUp};
 use std::io::Read;
 use std::sync::Wait;
@@ -22,7 +22,7 @@ pub(crate) fn run_over_tables<
     connects: C,
     reader: &mut I,
     reasons: &mut Reasons,
-) -> Result<(), CommandError> {
+) -> Result<(), Failure> {
     if job.running.resumes {
         run_again(rt, threads, job, connects, reader, reasons)
     } else {
@@ -38,7 +38,7 @@ fn run_anew<R: Threads + Wait + Clock + Eprint + Sync, C: Connects + Sync + Drop
     connects: C,
     reader: &mut I,
     reasons: &mut Reasons,
-) -> Result<(), CommandError> {
+) -> Result<(), Failure> {
     let opener = InTables { connects };
     run_watched(rt, threads, job, &opener, reader, reasons)
 }
@@ -51,7 +51,7 @@ fn run_again<R: Threads + Wait + Clock + Eprint + Sync, C: Connects + Sync + Dro
     connects: C,
     reader: &mut I,
     reasons: &mut Reasons,
-) -> Result<(), CommandError> {
+) -> Result<(), Failure> {
     let opener = TakenUp { connects };
     run_watched(rt, threads, job, &opener, reader, reasons)
 }

@@ -10,7 +10,8 @@ use om_commands::CommandError;
 use om_files::{
     Clash, PlaceError, Places, clash_with_streams, clashes_with_stores, first_unusable, settle,
 };
-use om_run_commands::{ClusterScript, RunContext, waiting_text};
+use om_process::Status;
+use om_run_commands::{ClusterScript, RunContext, trapped_text, waiting_text};
 use om_runner::Watch;
 use std::alloc::AllocError;
 use std::fmt::Display;
@@ -63,9 +64,12 @@ impl<'a, 'w, R: Wait> RunContext for Surroundings<'a, 'w, R> {
     }
 
     // Once the run ended well, each store is in its one file; where it was refused, the files that nobody wrote to are removed.
-    fn end(&mut self, script: &ClusterScript, outcome: Result<(), CommandError>) {
+    fn end(&mut self, script: &ClusterScript, outcome: Result<&[Status], CommandError>) {
         match outcome {
-            Ok(()) => self.settle(script),
+            Ok(statuses) => {
+                self.settle(script);
+                self.add_trapped(script, statuses);
+            }
             Err(error) => {
                 self.blame(script, error);
                 self.remove_empty();
@@ -204,6 +208,13 @@ impl<'a, 'w, R: Wait> Surroundings<'a, 'w, R> {
         }
     }
 
+    // Which processes trapped, and of what.
+    fn add_trapped(&mut self, script: &ClusterScript, statuses: &[Status]) {
+        if let Ok(text) = trapped_text(self.rt.alloc(), script, statuses) {
+            self.reasons.add_lines(text.as_str());
+        }
+    }
+
     fn add_waiting(&mut self, script: &ClusterScript) {
         let Some(watch) = self.watch else {
             return;
@@ -220,7 +231,7 @@ impl<'a, 'w, R: Wait> Surroundings<'a, 'w, R> {
 // The name of the file that is made for it, if any.
 fn file_made_by<'a>(checking: Checking<'a>) -> Option<&'a str> {
     match checking {
-        Checking::Off | Checking::Check | Checking::Follow => None,
+        Checking::Off | Checking::Check | Checking::Follow | Checking::Raw(_) => None,
         Checking::Witness(path) | Checking::Record(path) => Some(path),
     }
 }

@@ -3,21 +3,23 @@
 ghost use Rattle.std.specs.Prelude.{◌≡◌};
 ghost use Rattle.omlog.specs.Modes.{mode_of};
 
+use crate::carrying::form_of;
+use crate::failure::Failure;
+use crate::output::Output;
 use crate::reasons::Reasons;
 use crate::surroundings::{Job, Surroundings};
 use om_arguments::Checking;
-use om_commands::CommandError;
 use om_interval::MAX_PROCESSES;
-use om_run_commands::{RunMode, run_file};
+use om_run_commands::{RunMode, has_trapped, run_file};
 use om_runner::{Opener, Progress, Watch, Watched};
 use std::alloc::Global;
 use std::io::{IsTerminal, Read};
 use std::sync::Wait;
 use std::sync::atomic::AtomicBool;
 use std::sync::atomic::Ordering::SeqCst;
+use std::thread;
 use std::thread::{Parker, Threads};
 use std::time::{Clock, Duration};
-use std::{io, thread};
 
 // How many seconds after a line of progress the next comes.
 const PERIOD: u64 = 1;
@@ -93,24 +95,29 @@ fn run_as<'a, 'w, R: Threads + Wait + Clock + Sync, O: Opener<R> + Sync, I: Read
     opener: &O,
     surroundings: &mut Surroundings<'a, 'w, R>,
     reader: &mut I,
-) -> Result<(), CommandError> {
+) -> Result<(), Failure> {
     let rt = surroundings.rt;
     let running = surroundings.job.running;
-    let (outcome, _) = run_file(
+    let (outcome, output) = run_file(
         threads,
         rt.alloc(),
         mode_of(running.checking),
+        form_of(running.form),
         running.turns,
         opener,
         surroundings,
         reader,
-        io::writer(rt),
+        Output::new(rt),
     );
-    outcome
+    let statuses = output.ended(outcome)?;
+    if running.strict && has_trapped(&statuses) {
+        return Err(Failure::Trapped);
+    }
+    Ok(())
 }
 
 // How a run is carried out that is to be checked so.
-fn mode_of(checking: Checking<'_>) -> RunMode
+fn mode_of<'a>(checking: Checking<'a>) -> RunMode<'a>
     ensures { result ≡ mode_of checking.entry }
 {
     match checking {
@@ -119,6 +126,7 @@ fn mode_of(checking: Checking<'_>) -> RunMode
         Checking::Witness(_) => RunMode::Witness,
         Checking::Record(_) => RunMode::Record,
         Checking::Follow => RunMode::Follow,
+        Checking::Raw(name) => RunMode::Raw(name),
     }
 }
 
@@ -129,7 +137,7 @@ fn run_and_say<'a, 'w, R: Threads + Wait + Clock + Eprint + Sync, O: Opener<R> +
     (watch, stage): (&Watch, &Stage),
     surroundings: &mut Surroundings<'a, 'w, R>,
     reader: &mut I,
-) -> Result<(), CommandError> {
+) -> Result<(), Failure> {
     let alloc = surroundings.rt.alloc();
     thread::scope(thread::scope_env(), threads, |scope| {
         let beside = scope.spawn(move || say_progress(threads, alloc, watch, stage));
@@ -149,7 +157,7 @@ fn run_seen<'a, 'w, R: Threads + Wait + Clock + Eprint + Sync, O: Opener<R> + Sy
     stage: &Stage,
     surroundings: &mut Surroundings<'a, 'w, R>,
     reader: &mut I,
-) -> Result<(), CommandError> {
+) -> Result<(), Failure> {
     let watch = surroundings.watch;
     let opener = Watched { opener, watch };
     match watch {
@@ -169,7 +177,7 @@ fn run_beside<'a, 'w, R: Threads + Wait + Clock + Eprint + Sync, O: Opener<R> + 
     opener: &O,
     reader: &mut I,
     reasons: &mut Reasons,
-) -> Result<(), CommandError> {
+) -> Result<(), Failure> {
     let mut surroundings = Surroundings::new(rt, threads, job, watch, stage, reasons.are_heard);
     let outcome = run_seen(threads, opener, stage, &mut surroundings, reader);
     reasons.add_all(&surroundings.reasons);
@@ -189,7 +197,7 @@ pub(crate) fn run_watched<
     opener: &O,
     reader: &mut I,
     reasons: &mut Reasons,
-) -> Result<(), CommandError> {
+) -> Result<(), Failure> {
     let stage = Stage::new();
     if !reasons.are_heard {
         return run_beside(rt, threads, job, (None, &stage), opener, reader, reasons);

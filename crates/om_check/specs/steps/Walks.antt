@@ -1,5 +1,6 @@
 -- What is left of the runs that there can be, where some are gone through.
 use Rattle.std.specs.Prelude.{◌≡◌, ◌≢◌, ◌⊎◌, ℕ, ◌<◌, List, [], ◌∷◌, ◌++◌, map, length, slice_get, IsTrue, Some, true, false, if◌then◌else◌}
+use Rattle.std.specs.List.{IsAmong}
 use Rattle.om_process.specs.Core.{CoreState, cluster_size, move_of, status_of}
 use Rattle.om_process.specs.declared.status.Status.TheVariants.{Waiting}
 use Rattle.om_process.specs.Process.{Program, Received}
@@ -11,6 +12,7 @@ use Rattle.om_check.specs.declared.walk.Choice.{Choice}
 use Rattle.om_check.specs.FailureFree.{IsAtRest}
 use Rattle.om_check.specs.Whole.{IsUnderWay, KeepsReceived}
 use Rattle.om_check.specs.Orders.{IsOver, IsSameRun}
+use Rattle.om_check.specs.steps.Playing.{IsGoingOn}
 
 -- who received from whom, in order
 abbrev pub deliveries_of : List Entry → List Delivery
@@ -93,6 +95,15 @@ IsPassed w walk n p = (c : CoreState) × (slice_get w.cores p ≡ Some (Some c))
 -- a run in which the same was received was shown, or the run is ahead
 abbrev pub IsSeenOrAhead : (List Entry → Type 0) → List Program → List Entry → List Choice → Type 0
 IsSeenOrAhead HasSeen programs run walk = ((live : List Entry) × HasSeen live × IsSameRun run live) ⊎ IsAhead programs run walk
+
+-- these runs were shown, and of every run that is over one that is the same is among them, or the run is ahead
+abbrev pub AreSeenOrAhead : (List (List Entry) → Type 0) → List Program → List Choice → Type 0
+AreSeenOrAhead HasSeen programs walk = (runs : List (List Entry)) × HasSeen runs
+    × ((run : List Entry) → IsOver programs run → IsSeenOrAhead (IsAmong runs) programs run walk)
+
+-- behind these runs that of the world was shown, or none, since one of its first n processes can still receive something
+abbrev pub HasShown : (List (List Entry) → Type 0) → List (List Entry) → WorldState → ℕ → Type 0
+HasShown HasSeen runs w n = HasSeen (runs ++ w.live ∷ []) ⊎ (HasSeen runs × IsGoingOn w n)
 
 -- along these choices the world has come to an end
 pub record IsWalked (programs : List Program) (old new : List Choice) (w : WorldState) : Type 0 where

@@ -13,6 +13,7 @@ use Rattle.om_world.specs.Texts.{status_text}
 use Rattle.om_world.specs.World.{WorldState}
 use Rattle.om_commands.specs.Report.{intervals_text}
 use Rattle.om_commands.specs.SimText.{core_text, name_at, outputs_text}
+use Rattle.om_commands.specs.declared.bytes_text.BytesForm.{BytesForm}
 use Rattle.om_commands.specs.declared.state_text.TheConstants.{ROW_BYTES}
 
 -- the line of a register
@@ -44,8 +45,8 @@ abbrev pub process_line : Cluster → List (Option CoreState) → ℕ → List �
 process_line cluster cores p = codes "proc " ++ name_at cluster p ++ 32 ∷ core_text (slice_get cores p) ++ 10 ∷ []
 
 -- the lines of what is released of a process
-abbrev pub released_text : Cluster → ManagerState → ℕ → List ℕ
-released_text cluster manager p = outputs_text (name_at cluster p) (released_by manager p)
+abbrev pub released_text : BytesForm → Cluster → ManagerState → ℕ → List ℕ
+released_text form cluster manager p = outputs_text form (name_at cluster p) (released_by manager p)
 
 abbrev pub bytes_at : List HeldOutput → ℕ → List ℕ
 bytes_at outputs number = (slice_index_or outputs number (record { interval = 0; bytes = [] })).bytes
@@ -57,8 +58,8 @@ written_state c =
     ++ codes "status " ++ status_text (status_of (move_of c)) ++ 10 ∷ []
 
 -- how a world of n processes stands, as it is written
-abbrev pub written_end : Cluster → ℕ → WorldState → List ℕ
-written_end cluster n w =
+abbrev pub written_end : BytesForm → Cluster → ℕ → WorldState → List ℕ
+written_end form cluster n w =
     codes "recovery" ++ intervals_text w.manager.recovery
     ++ flat_map (process_line cluster w.cores) (range_with_len 0 n)
-    ++ flat_map (released_text cluster w.manager) (range_with_len 0 n)
+    ++ flat_map (released_text form cluster w.manager) (range_with_len 0 n)

@@ -2,7 +2,7 @@
 
 use super::rings::{ring, ring_ends};
 use crate::rows::{Command, carry_out};
-use om_commands::CommandError;
+use om_commands::{BytesForm, CommandError};
 use om_run_commands::RunMode;
 use std::alloc::Global;
 use std::io;
@@ -22,9 +22,10 @@ fn followed<R: Threads + Wait + Clock + Abort + Sync>(
     turns: u64,
     mut input: &[u8],
 ) -> (Result<(), CommandError>, String) {
-    let mode = RunMode::Follow;
+    let (mode, form) = (RunMode::Follow, BytesForm::Hex);
     let written = Vec::new(alloc);
-    let (answer, written) = carry_out(rt, alloc, Command { mode, turns }, &mut input, written);
+    let command = Command { mode, form, turns };
+    let (answer, written) = carry_out(rt, alloc, command, &mut input, written);
     let text = String::from_utf8(written).ok().expect(rt, "text");
     (answer, text)
 }
@@ -135,8 +136,9 @@ fn narrowed<R: Threads + Wait + Clock + Abort + Sync>(
         taken: Vec::new(alloc),
         room,
     };
-    let (mode, turns) = (RunMode::Follow, TURNS);
-    let (answer, writer) = carry_out(rt, alloc, Command { mode, turns }, &mut input, writer);
+    let (mode, form, turns) = (RunMode::Follow, BytesForm::Hex, TURNS);
+    let command = Command { mode, form, turns };
+    let (answer, writer) = carry_out(rt, alloc, command, &mut input, writer);
     let text = String::from_utf8(writer.taken).ok().expect(rt, "text");
     (answer, text)
 }

@@ -2,7 +2,8 @@
 
 use super::rings::ring;
 use crate::beside::Beside;
-use om_commands::CommandError;
+use crate::rows::outcome_of;
+use om_commands::{BytesForm, CommandError};
 use om_interval::Pid;
 use om_run_commands::{RunMode, run_file};
 use om_runner::{InMemory, OpenFault, Opener};
@@ -175,17 +176,21 @@ const ALTERED_ENDS: &str = "out r 0 930810ff93081000\nend s ended 0\nend r ended
 fn carry_out<R: Threads + Wait + Clock + Sync, O: Opener<R> + Sync>(
     rt: &R,
     alloc: Global,
-    mode: RunMode,
+    mode: RunMode<'static>,
     opener: &O,
     beside: &mut Beside,
     mut input: &[u8],
 ) -> (Result<(), CommandError>, Vec<u8>) {
     let written = Vec::new(alloc);
-    run_file(rt, alloc, mode, TURNS, opener, beside, &mut input, written)
+    let form = BytesForm::Hex;
+    let (answer, written) = run_file(
+        rt, alloc, mode, form, TURNS, opener, beside, &mut input, written,
+    );
+    (outcome_of(answer), written)
 }
 
 // By mode: what is answered and written where the stores alter what they are given. Only a check sees it.
-static ALTERED: [(RunMode, Result<(), CommandError>, &str); 5] = [
+static ALTERED: [(RunMode<'static>, Result<(), CommandError>, &str); 5] = [
     (RunMode::Plain, Ok(()), ALTERED_ENDS),
     (RunMode::Check, Err(CommandError::Unlike), ""),
     (RunMode::Witness, Err(CommandError::Unlike), ""),
@@ -193,7 +198,11 @@ static ALTERED: [(RunMode, Result<(), CommandError>, &str); 5] = [
     (RunMode::Follow, Ok(()), ALTERED_ENDS),
 ];
 
-fn check_altered<R: Threads + Wait + Clock + Abort + Sync>(rt: &R, alloc: Global, mode: RunMode) {
+fn check_altered<R: Threads + Wait + Clock + Abort + Sync>(
+    rt: &R,
+    alloc: Global,
+    mode: RunMode<'static>,
+) {
     let mut beside = Beside::new(alloc);
     let input = TWICE.as_bytes();
     let told = carry_out(rt, alloc, mode, &AllAltering, &mut beside, input);
@@ -222,7 +231,7 @@ fn stores_that_alter_are_seen_by_a_check(rt: HostRuntime) {
 }
 
 // By mode: whether the file has a script, and one with comments.
-static FILES: [(RunMode, bool, bool); 5] = [
+static FILES: [(RunMode<'static>, bool, bool); 5] = [
     (RunMode::Plain, false, false),
     (RunMode::Check, false, false),
     (RunMode::Witness, true, false),

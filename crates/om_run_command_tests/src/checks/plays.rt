@@ -4,7 +4,7 @@ ghost use Rattle.std.specs.Prelude.{◌≡◌, ◌≤◌, IfOk, length};
 
 use om_bytes::Bytes;
 use om_check::{PlayFault, play};
-use om_commands::CommandError;
+use om_commands::{BytesForm, CommandError};
 use om_interval::Pid;
 use om_isa::Ext;
 use om_manager::Output;
@@ -271,7 +271,7 @@ fn checked(
     let mut report = gathered(alloc, images)?;
     spoil(alloc, &mut report, how);
     let witnesses = gather_witnesses(alloc, senders, 1_000)?;
-    checked_text(alloc, programs, &report, &witnesses)
+    checked_text(alloc, BytesForm::Hex, programs, &report, &witnesses)
 }
 
 fn check_checks(rt: &impl Abort, alloc: Global, programs: &Programs, images: &[Image])

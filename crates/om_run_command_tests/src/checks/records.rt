@@ -3,7 +3,8 @@
 use super::rings::{ring, ring_ends};
 use crate::beside::Beside;
 use crate::rows::How::Writes;
-use crate::rows::check_answer;
+use crate::rows::{check_answer, outcome_of};
+use om_commands::BytesForm;
 use om_commands::sim::sim;
 use om_run_commands::{RunMode, run_file};
 use om_runner::InMemory;
@@ -63,6 +64,7 @@ fn recorded<R: Threads + Wait + Clock + Abort + Sync>(
         rt,
         alloc,
         RunMode::Record,
+        BytesForm::Hex,
         TURNS,
         &InMemory,
         &mut beside,
@@ -70,6 +72,7 @@ fn recorded<R: Threads + Wait + Clock + Abort + Sync>(
         Vec::new(alloc),
     );
     let ends = ring_ends(rt, alloc, n);
+    let answer = outcome_of(answer);
     check_answer(rt, alloc, input, (answer, &text), (Writes, &ends));
     let Beside { file, .. } = beside;
     text_of(rt, file)
@@ -78,7 +81,7 @@ fn recorded<R: Threads + Wait + Clock + Abort + Sync>(
 // What `sim` tells of a record.
 fn played(rt: &impl Abort, alloc: Global, script: &str) -> String {
     let mut told = Vec::new(alloc);
-    let answer = sim(alloc, &mut script.as_bytes(), &mut told);
+    let answer = sim(alloc, BytesForm::Hex, &mut script.as_bytes(), &mut told);
     assert!(rt; answer.is_ok(), "{script}");
     text_of(rt, told)
 }

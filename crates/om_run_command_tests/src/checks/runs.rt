@@ -2,7 +2,8 @@
 
 use super::rings::{ring, ring_ends};
 use crate::beside::Beside;
-use om_commands::CommandError;
+use crate::rows::outcome_of;
+use om_commands::{BytesForm, CommandError};
 use om_run_commands::{RunMode, run_file};
 use om_runner::InMemory;
 use std::alloc::Global;
@@ -15,25 +16,27 @@ use std::time::Clock;
 fn carry_out<R: Threads + Wait + Clock + Sync>(
     rt: &R,
     alloc: Global,
-    (mode, turns): (RunMode, u64),
+    (mode, turns): (RunMode<'static>, u64),
     mut input: &[u8],
 ) -> (Result<(), CommandError>, Vec<u8>) {
     let mut beside = Beside::new(alloc);
     let written = Vec::new(alloc);
-    run_file(
+    let (answer, written) = run_file(
         rt,
         alloc,
         mode,
+        BytesForm::Hex,
         turns,
         &InMemory,
         &mut beside,
         &mut input,
         written,
-    )
+    );
+    (outcome_of(answer), written)
 }
 
 // The modes in which all is written at the end.
-static MODES: [RunMode; 4] = [
+static MODES: [RunMode<'static>; 4] = [
     RunMode::Plain,
     RunMode::Check,
     RunMode::Witness,

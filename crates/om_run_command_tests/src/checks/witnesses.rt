@@ -3,8 +3,9 @@
 use super::plays::GATHER;
 use super::rings::ring;
 use crate::beside::Beside;
-use om_commands::CommandError;
+use crate::rows::outcome_of;
 use om_commands::sim::sim;
+use om_commands::{BytesForm, CommandError};
 use om_run_commands::{RunMode, run_file};
 use om_runner::InMemory;
 use std::alloc::Global;
@@ -37,14 +38,20 @@ fn check_witness<R: Threads + Wait + Clock + Abort + Sync>(rt: &R, alloc: Global
         rt,
         alloc,
         RunMode::Witness,
+        BytesForm::Hex,
         TURNS,
         &InMemory,
         &mut beside,
         &mut input.as_bytes(),
         Vec::new(alloc),
     );
-    assert!(rt; ran == Ok(()), "{input}");
-    let simulated = sim(alloc, &mut beside.file.as_slice(), &mut played);
+    assert!(rt; ran.is_ok(), "{input}");
+    let simulated = sim(
+        alloc,
+        BytesForm::Hex,
+        &mut beside.file.as_slice(),
+        &mut played,
+    );
     assert!(rt; simulated == Ok(()), "{input}");
     let outputs = outputs_of(rt, alloc, &written);
     assert!(rt;
@@ -74,6 +81,7 @@ fn witnesses_that_are_not_written(rt: HostRuntime) {
             &rt,
             rt.alloc(),
             RunMode::Witness,
+            BytesForm::Hex,
             TURNS,
             &InMemory,
             &mut beside,
@@ -81,8 +89,8 @@ fn witnesses_that_are_not_written(rt: HostRuntime) {
             Vec::new(rt.alloc()),
         );
         assert!(&rt;
-            told == Err(CommandError::CannotWrite) && written.is_empty(),
-            "{told:?}"
+            outcome_of(told) == Err(CommandError::CannotWrite) && written.is_empty(),
+            "{writes}"
         );
     }
 }

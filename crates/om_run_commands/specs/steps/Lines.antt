@@ -7,16 +7,17 @@ use Rattle.om_runner.specs.Telling.{Told}
 use Rattle.om_scripts.specs.Programs.{Cluster}
 use Rattle.om_world.specs.Texts.{status_text}
 use Rattle.om_commands.specs.SimText.{name_at, output_line, outputs_text}
+use Rattle.om_commands.specs.declared.bytes_text.BytesForm.{BytesForm}
 
 -- the line of an output
-abbrev pub told_line : Cluster → Told → List ℕ
-told_line cluster t = output_line (name_at cluster t.process) t.number t.bytes
+abbrev pub told_line : BytesForm → Cluster → Told → List ℕ
+told_line form cluster t = output_line form (name_at cluster t.process) t.number t.bytes
 
 -- the line of how a process ended
 abbrev pub end_line : List ℕ → Status → List ℕ
 end_line name status = codes "end " ++ name ++ 32 ∷ status_text status ++ 10 ∷ []
 
 -- the outputs of each process, in the order of the processes
-abbrev pub released_text : Cluster → List (List HeldOutput) → List ℕ
-released_text cluster released =
-    flat_map (λ p. outputs_text (name_at cluster p) (slice_index_or released p [])) (range_with_len 0 (length released))
+abbrev pub released_text : BytesForm → Cluster → List (List HeldOutput) → List ℕ
+released_text form cluster released =
+    flat_map (λ p. outputs_text form (name_at cluster p) (slice_index_or released p [])) (range_with_len 0 (length released))

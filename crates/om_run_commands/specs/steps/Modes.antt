@@ -1,21 +1,39 @@
 -- What is answered to a script that was read and what refuses it, by how its cluster is run.
-use Rattle.std.specs.Prelude.{ℕ, List}
+use Rattle.std.specs.Prelude.{◌≡◌, ◌≢◌, ℕ, List, None}
+use Rattle.om_process.specs.declared.status.Status.{Status}
+use Rattle.om_scripts.specs.Named.{place_of}
+use Rattle.om_scripts.specs.Programs.{Cluster}
+use Rattle.om_commands.specs.declared.bytes_text.BytesForm.{BytesForm}
 use Rattle.om_commands.specs.declared.error.CommandError.{CommandError}
-use Rattle.om_run_commands.specs.Check.{IsFailureFreeText}
+use Rattle.om_run_commands.specs.Check.{IsFailureFreeIn}
 use Rattle.om_run_commands.specs.ClusterScript.{ClusterFile}
 use Rattle.om_run_commands.specs.Follow.{IsFollowedAnswer}
-use Rattle.om_run_commands.specs.Run.{IsRunAnswer}
+use Rattle.om_run_commands.specs.Run.{IsRawAnswer, IsRunAnswer}
+use Rattle.om_run_commands.specs.RunText.{TellsEnds}
 use Rattle.om_run_commands.specs.declared.mode.RunMode.{RunMode}
 use Rattle.om_run_commands.specs.declared.mode.RunMode.TheVariants as modes
-use Rattle.om_run_commands.specs.steps.Scripts.{IsErrorOfCheckedScript, IsErrorOfScript}
+use Rattle.om_run_commands.specs.steps.Scripts.{IsErrorOfCheckedScript, IsErrorOfRawScript, IsErrorOfScript}
 
--- the text answers the script in a run of this mode
-abbrev pub IsAnswerIn : RunMode → Type 0 → ClusterFile → List ℕ → Type 0
-IsAnswerIn modes.Plain over_clean script text = IsRunAnswer over_clean script text
-IsAnswerIn modes.Check over_clean script text = IsFailureFreeText script.cluster text
-IsAnswerIn modes.Witness over_clean script text = IsFailureFreeText script.cluster text
-IsAnswerIn modes.Record over_clean script text = IsRunAnswer over_clean script text
-IsAnswerIn modes.Follow over_clean script text = IsFollowedAnswer over_clean script text
+-- the text of what a run of the cluster of a script ends with, which says how its processes ended
+abbrev pub IsToldAnswer : BytesForm → Type 0 → List Status → ClusterFile → List ℕ → Type 0
+IsToldAnswer form over_clean statuses script text = IsRunAnswer form over_clean script text × TellsEnds script.cluster statuses text
+
+-- the text of its run without failures, which says so too
+abbrev pub IsCheckedAnswer : BytesForm → List Status → ClusterFile → List ℕ → Type 0
+IsCheckedAnswer form statuses script text = IsFailureFreeIn form script.cluster text × TellsEnds script.cluster statuses text
+
+-- what was written as it was released, and then how its processes ended
+abbrev pub IsFollowedTo : BytesForm → Type 0 → List Status → ClusterFile → List ℕ → Type 0
+IsFollowedTo form over_clean statuses script text = IsFollowedAnswer form over_clean script text × TellsEnds script.cluster statuses text
+
+-- the text answers the script in a run of this mode that ended with these statuses
+abbrev pub IsAnswerIn : RunMode → BytesForm → Type 0 → List Status → ClusterFile → List ℕ → Type 0
+IsAnswerIn modes.Plain form over_clean statuses script text = IsToldAnswer form over_clean statuses script text
+IsAnswerIn modes.Check form over_clean statuses script text = IsCheckedAnswer form statuses script text
+IsAnswerIn modes.Witness form over_clean statuses script text = IsCheckedAnswer form statuses script text
+IsAnswerIn modes.Record form over_clean statuses script text = IsToldAnswer form over_clean statuses script text
+IsAnswerIn modes.Follow form over_clean statuses script text = IsFollowedTo form over_clean statuses script text
+IsAnswerIn (modes.Raw name) form over_clean statuses script text = IsRawAnswer name.now over_clean statuses script text
 
 -- the error refuses the script in a run of this mode
 abbrev pub IsErrorOfScriptIn : RunMode → ClusterFile → CommandError → Type 0
@@ -24,3 +42,9 @@ IsErrorOfScriptIn modes.Check script error = IsErrorOfCheckedScript script error
 IsErrorOfScriptIn modes.Witness script error = IsErrorOfCheckedScript script error
 IsErrorOfScriptIn modes.Record script error = IsErrorOfScript script error
 IsErrorOfScriptIn modes.Follow script error = IsErrorOfScript script error
+IsErrorOfScriptIn (modes.Raw name) script error = IsErrorOfRawScript name.now script error
+
+-- the process whose outputs are asked for is none of the cluster
+abbrev pub LacksIn : RunMode → Cluster → Type 0
+LacksIn (modes.Raw name) cluster = place_of name.now cluster.processes ≡ None
+LacksIn _ cluster = ⊥

@@ -1,5 +1,6 @@
 -- The errors of a script that was read, before it is known of which bytes.
-use Rattle.std.specs.Prelude.{◌≡◌, ◌≤◌, length}
+use Rattle.std.specs.Prelude.{◌≡◌, ℕ, ◌≤◌, List, None, length}
+use Rattle.om_scripts.specs.Named.{place_of}
 use Rattle.om_commands.specs.declared.error.CommandError.{CommandError}
 use Rattle.om_commands.specs.declared.error.CommandError.TheVariants as errors
 use Rattle.om_run_commands.specs.ClusterScript.{ClusterFile}
@@ -23,3 +24,8 @@ IsErrorOfScript script _ = ⊥
 abbrev pub IsErrorOfCheckedScript : ClusterFile → CommandError → Type 0
 IsErrorOfCheckedScript script errors.Unlike = 1 ≤ length script.cluster.processes
 IsErrorOfCheckedScript script error = IsErrorOfScript script error
+
+-- the errors are those of a run, and that there is no process of the name
+abbrev pub IsErrorOfRawScript : List ℕ → ClusterFile → CommandError → Type 0
+IsErrorOfRawScript name script errors.NoSuchProcess = place_of name script.cluster.processes ≡ None
+IsErrorOfRawScript name script error = IsErrorOfScript script error

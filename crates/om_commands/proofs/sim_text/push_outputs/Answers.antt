@@ -14,6 +14,6 @@ loop-number-preserved c =
     let outputs = c.args.outputs.now in
     let bytes : c.as_slice.result.now ≡ bytes_at (map held_of outputs) number =
     held-bytes outputs number c.index-outputs-number.result c.as_slice.result.now c.loop-number-test.true c.as_slice.ensures in
-    text_grows (λ k. output_line name k (bytes_at (map held_of outputs) k)) number (string_bytes c.args.text.now) before
+    text_grows (λ k. output_line c.args.form name k (bytes_at (map held_of outputs) k)) number (string_bytes c.args.text.now) before
     (string_bytes c.push_output.new.text) c.loop-number.invariant
-    (c.in_ok-push_output.ensures ∙ ap (λ bs. before ++ output_line name number bs) bytes)
+    (c.in_ok-push_output.ensures ∙ ap (λ bs. before ++ output_line c.args.form name number bs) bytes)

@@ -10,4 +10,4 @@ abbrev pub invariant-loop-number : goal.invariant-loop-number
 invariant-loop-number l =
     string_bytes l.text
     ≡ string_bytes l.initial.text
-    ++ flat_map (λ number. output_line l.name number (bytes_at (map held_of l.outputs) number)) (range_with_len 0 l.number)
+    ++ flat_map (λ number. output_line l.form l.name number (bytes_at (map held_of l.outputs) number)) (range_with_len 0 l.number)

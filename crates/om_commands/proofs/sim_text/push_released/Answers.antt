@@ -11,9 +11,9 @@ loop-p-preserved c =
     let before = string_bytes c.loop-p.text in
     let name = name_at c.args.programs.now c.loop-p.p in
     let outputs = map held_of c.released.result.now in
-    text_grows (released_text c.args.programs.now c.args.manager.now) c.loop-p.p (string_bytes c.args.text.now) before
+    text_grows (released_text c.args.form c.args.programs.now c.args.manager.now) c.loop-p.p (string_bytes c.args.text.now) before
     (string_bytes c.push_outputs.new.text) c.loop-p.invariant
     (c.in_ok-push_outputs.ensures
-    ∙ ap (λ name. before ++ outputs_text name outputs) c.name_of-name.ensures
-    ∙ ap (λ os. before ++ outputs_text name os) c.released.ensures.outputs
-    ∙ ap (λ p. before ++ outputs_text name (released_by c.args.manager.now p)) c.at.ensures)
+    ∙ ap (λ name. before ++ outputs_text c.args.form name outputs) c.name_of-name.ensures
+    ∙ ap (λ os. before ++ outputs_text c.args.form name os) c.released.ensures.outputs
+    ∙ ap (λ p. before ++ outputs_text c.args.form name (released_by c.args.manager.now p)) c.at.ensures)

@@ -1,5 +1,5 @@
 use Rattle.std.proofs.Common.{◌≡◌, ◌++◌, take, string_bytes}
-use Rattle.om_run_commands.specs.steps.EventText.{events_text}
+use Rattle.om_run_commands.specs.EventText.{events_text}
 use Rattle.om_run_commands.proofs.event_text.push_events.Given as goal
 
 abbrev pub invariant-loop-event : goal.invariant-loop-event

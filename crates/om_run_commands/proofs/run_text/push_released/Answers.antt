@@ -12,10 +12,10 @@ loop-p-preserved c =
     let released = c.args.released.now in
     let before = string_bytes c.loop-p.text in
     let name = name_at cluster c.loop-p.p in
-    text_grows (λ p. outputs_text (name_at cluster p) (slice_index_or (map (λ outputs. map held_of outputs.items) released) p []))
+    text_grows (λ p. outputs_text c.args.form (name_at cluster p) (slice_index_or (map (λ outputs. map held_of outputs.items) released) p []))
     c.loop-p.p (string_bytes c.args.text.now) before (string_bytes c.push_outputs.new.text) c.loop-p.invariant
     (c.in_ok-push_outputs.ensures
-    ∙ ap (λ name. before ++ outputs_text name (map held_of c.deref.result.now)) c.name_of.ensures
-    ∙ ap (λ held. before ++ outputs_text name held)
+    ∙ ap (λ name. before ++ outputs_text c.args.form name (map held_of c.deref.result.now)) c.name_of.ensures
+    ∙ ap (λ held. before ++ outputs_text c.args.form name held)
     (outputs-at released c.loop-p.p c.index-released-p.result c.deref.result.now c.loop-p-test.true
     c.deref.ensures.value c.index-released-p.is))

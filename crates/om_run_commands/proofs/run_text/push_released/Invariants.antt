@@ -10,5 +10,5 @@ abbrev pub invariant-loop-p : goal.invariant-loop-p
 invariant-loop-p l =
     string_bytes l.text
     ≡ string_bytes l.initial.text
-    ++ flat_map (λ p. outputs_text (name_at l.programs p) (slice_index_or (map (λ outputs. map held_of outputs.items) l.released) p []))
+    ++ flat_map (λ p. outputs_text l.form (name_at l.programs p) (slice_index_or (map (λ outputs. map held_of outputs.items) l.released) p []))
     (range_with_len 0 l.p)

@@ -1,0 +1,26 @@
+//! What is no good end of a command.
+
+use om_commands::CommandError;
+use std::alloc::AllocError;
+
+// Why a command came to no good end.
+#[derive(Clone, Copy)]
+pub(crate) enum Failure {
+    Refused(CommandError),
+    // Whoever read standard output has closed it, and wants no more.
+    Unread,
+    // A process trapped, where that is a failure.
+    Trapped,
+}
+
+impl From<CommandError> for Failure {
+    fn from(error: CommandError) -> Failure {
+        Failure::Refused(error)
+    }
+}
+
+impl From<AllocError> for Failure {
+    fn from(_e: AllocError) -> Failure {
+        Failure::Refused(CommandError::NoMemory)
+    }
+}
