@@ -17,6 +17,6 @@ pub use arguments::{
     SIM_HELP, parse,
 };
 pub use draw_request::Lines;
-pub use explore_request::{EXPLORE_HELP, Exploring};
 pub use ending::{end, end_unasked, end_unread};
+pub use explore_request::{EXPLORE_HELP, Exploring};
 pub use look_requests::{Look, REPLAY_HELP};

@@ -162,13 +162,13 @@ all_turn programs HasSeen Sees old new next w n all walked shown turns before = 
       before.0 ++ w.live ∷ [],
       sees,
       walk_turns programs (IsAmong before.0) (IsAmong (before.0 ++ w.live ∷ [])) old new next w n all walked
-      (among_before before.0 w.live) (inl (among_last before.0 w.live)) turns before.2,
+          (among_before before.0 w.live) (inl (among_last before.0 w.live)) turns before.2,
     )
     by (inr going) = (
       before.0,
       going.0,
       walk_turns programs (IsAmong before.0) (IsAmong before.0) old new next w n all walked (λ live among. among) (inr going.1)
-      turns before.2,
+          turns before.2,
     )
 
 -- with no next walk all were shown
@@ -183,13 +183,13 @@ all_end programs HasSeen Sees old new w n all walked shown none before = by (sho
       before.0 ++ w.live ∷ [],
       sees,
       λ is. walk_ends programs (IsAmong before.0) (IsAmong (before.0 ++ w.live ∷ [])) old new w n all walked
-      (among_before before.0 w.live) (inl (among_last before.0 w.live)) none before.2,
+          (among_before before.0 w.live) (inl (among_last before.0 w.live)) none before.2,
     )
     by (inr going) = (
       before.0,
       going.0,
       λ is. walk_ends programs (IsAmong before.0) (IsAmong before.0) old new w n all walked (λ live among. among) (inr going.1)
-      none before.2,
+          none before.2,
     )
 
 -- where it was not all, some were shown

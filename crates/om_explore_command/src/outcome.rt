@@ -10,9 +10,9 @@ ghost use Rattle.om_explore_command.specs.Outcomes.{IsOutcome};
 ghost use Rattle.om_explore_command.specs.steps.{HasCore};
 
 use om_check::Explored;
+use om_commands::BytesForm;
 use om_interval::{MAX_PROCESSES, Pid};
 use om_process::Status;
-use om_commands::BytesForm;
 use om_run_commands::report_text;
 use om_runner::Report;
 use om_scripts::Programs;

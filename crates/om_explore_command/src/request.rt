@@ -75,12 +75,7 @@ fn explored_text<C: ExploreContext>(
     let limit = options.turns.saturating_mul(script.fuel());
     let exploration = explored(alloc, programs, options, limit, context)?;
     write_wanted(alloc, script, &exploration, context)?;
-    Ok(exploration_text(
-        alloc,
-        programs,
-        &exploration,
-        options.is_all,
-    )?)
+    Ok(exploration_text(alloc, programs, &exploration, options.is_all)?)
 }
 
 // The text that answers a script.

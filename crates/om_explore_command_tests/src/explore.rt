@@ -3,8 +3,8 @@
 ghost use Rattle.std.specs.Prelude.{◌≡◌};
 
 use crate::clusters::{COUNTS, GATHERS, LOCK, RING, SIX, TWO};
-use om_commands::{BytesForm, CommandError};
 use om_commands::sim::sim;
+use om_commands::{BytesForm, CommandError};
 use om_explore_command::{ExploreContext, Options, explore_file};
 use std::alloc::Global;
 use std::process::Abort;

@@ -39,7 +39,8 @@ impl<'a, 'r, R: Clock> ExploreContext for Beside<'a, 'r, R> {
         if now < self.next.get() {
             return;
         }
-        self.next.set(now.saturating_add(Duration::from_secs(PERIOD)));
+        self.next
+            .set(now.saturating_add(Duration::from_secs(PERIOD)));
         if let Ok(line) = format!(in self.rt.alloc(); "{runs} runs, {texts} texts") {
             let _ = self.rt.eprintln(line.as_str());
         }
@@ -73,11 +74,7 @@ fn write_new(rt: &HostRuntime, path: &str, bytes: &[u8]) -> io::Result<()> {
 }
 
 // Nothing may have the name of the first witness: what comes of a long exploration is not refused at its end.
-fn refuse_taken(
-    rt: &HostRuntime,
-    prefix: &str,
-    reasons: &mut Reasons,
-) -> Result<(), CommandError>
+fn refuse_taken(rt: &HostRuntime, prefix: &str, reasons: &mut Reasons) -> Result<(), CommandError>
     ensures { IfErr result (λ error. error ≡ CommandError.CannotWrite) }
 {
     let Ok(path) = format!(in rt.alloc(); "{prefix}1") else {
