@@ -7,6 +7,7 @@ use om_stable::{
     FuseStable, LEDGER_NUMBERS, Ledger, LedgerRows, LedgerTable, MemLedger, MemStable, Stable,
     StoreError,
 };
+use om_tables::CachingLedger;
 use std::alloc::{AllocError, Global};
 use std::process::Abort;
 
@@ -212,6 +213,12 @@ fn play<S: Ledger>(rt: &impl Abort, alloc: Global, store: &mut S) {
 #[test]
 fn ledgers_in_memory(rt: HostRuntime) {
     let mut store = MemLedger::new(rt.alloc());
+    play(&rt, rt.alloc(), &mut store);
+}
+
+#[test]
+fn ledgers_behind_a_cache(rt: HostRuntime) {
+    let mut store = CachingLedger::new(MemLedger::new(rt.alloc()));
     play(&rt, rt.alloc(), &mut store);
 }
 

@@ -1,6 +1,8 @@
-//! Tests of the stores: in memory, behind a fuse, and in tables, also over files that stop.
+//! Tests of the stores: in memory, behind a fuse or a cache, and in tables, also over files that stop.
 #![tactic(auto)]
 
+#[cfg(test)]
+mod caches;
 #[cfg(test)]
 mod databases;
 #[cfg(test)]

@@ -1,3 +1,4 @@
 pub mod Store
+pub mod Cached
 pub mod Tables
 pub mod steps

@@ -5,9 +5,11 @@
 //! its statements go, and the disk as far as the store says that it is clean.
 //!
 //! In an order of reading: `sql_stable` (the store, its calls), `creating` (the tables), `inserting`, `reading`, `deleting`,
-//! `error`, `laws` (theorems over the definitions), `sql_ledger` (the store of five tables), `further` (what it has beside records).
+//! `error`, `laws` (theorems over the definitions), `sql_ledger` (the store of five tables), `further` (what it has beside records),
+//! `caching_ledger` (a ledger whose first reading is kept for the second).
 #![tactic(auto)]
 
+mod caching_ledger;
 mod creating;
 mod deleting;
 mod error;
@@ -18,6 +20,7 @@ mod reading;
 mod sql_ledger;
 mod sql_stable;
 
+pub use caching_ledger::{Cache, CachedReceipts, CachingLedger};
 pub use error::TablesError;
 pub use sql_ledger::SqlLedger;
 pub use sql_stable::SqlStable;

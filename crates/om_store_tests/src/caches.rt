@@ -1,0 +1,185 @@
+//! A ledger whose first reading is kept for the second. What is behind the cache stops at a call, which shows whether a reading
+//! came to it.
+
+use om_stable::{FuseStable, Ledger, LedgerRows, LedgerTable, MemLedger, Stable, StoreError};
+use om_tables::CachingLedger;
+use std::alloc::Global;
+use std::process::Abort;
+
+// One record.
+fn record(rt: &impl Abort, alloc: Global, bytes: &[u8]) -> Vec<Vec<u8>> {
+    let rec = bytes.to_vec(alloc).expect(rt, "memory");
+    Vec::from_array(alloc, [rec]).expect(rt, "memory")
+}
+
+const ONE: &[u8] = b"one";
+
+const TWO: &[u8] = b"two";
+
+const THREE: &[u8] = b"three";
+
+const FOUR: &[u8] = b"four";
+
+// Receipts 1 to 3 and checkpoint 0.
+fn filled(rt: &impl Abort, alloc: Global) -> MemLedger {
+    let mut store = MemLedger::new(alloc);
+    for (first, bytes) in [(1u32, ONE), (2, TWO), (3, THREE)] {
+        let recs = record(rt, alloc, bytes);
+        assert_eq!(rt; store.put_receipts(alloc, first, &recs), Ok(()));
+    }
+    assert_eq!(rt; store.put_checkpoint(alloc, 0, b"zero"), Ok(()));
+    store
+}
+
+type Cached = CachingLedger<FuseStable<MemLedger>>;
+
+// Behind the cache so many calls pass before one that is stopped.
+fn cached(rt: &impl Abort, alloc: Global, calls: u64) -> Cached {
+    CachingLedger::new(FuseStable::new(filled(rt, alloc), calls))
+}
+
+// Asserts that these receipts are read above `after` and at or below `to`.
+fn check(
+    rt: &impl Abort,
+    alloc: Global,
+    store: &mut Cached,
+    (after, to): (u32, u32),
+    want: &[(u32, &[u8])],
+) {
+    let Ok(found) = store.receipts(alloc, after, to) else {
+        panic!(rt; "not read");
+    };
+    assert_eq!(rt; found.len(), want.len());
+    for ((x, bytes), (number, rec)) in found.iter().zip(want) {
+        assert_eq!(rt; (*x, bytes.as_slice()), (*number, *rec));
+    }
+}
+
+// Asserts that a reading comes to what is behind the cache, where it is stopped.
+fn check_stopped(rt: &impl Abort, alloc: Global, store: &mut Cached, (after, to): (u32, u32)) {
+    let found = store.receipts(alloc, after, to);
+    assert!(rt; matches!(found, Err(StoreError::Fault)));
+    assert_eq!(rt; store.failures(), 1);
+}
+
+const ALL: (u32, u32) = (0, u32::MAX);
+
+// The second reading, up to where it asks, and the third, which is read anew.
+#[test]
+fn a_second_reading_is_answered_from_the_first(rt: HostRuntime) {
+    let alloc = rt.alloc();
+    for to in [0u32, 1, 2, 3, u32::MAX] {
+        let mut store = cached(&rt, alloc, 1);
+        check(
+            &rt,
+            alloc,
+            &mut store,
+            ALL,
+            &[(1, ONE), (2, TWO), (3, THREE)],
+        );
+        let all: [(u32, &[u8]); 3] = [(1, ONE), (2, TWO), (3, THREE)];
+        check(&rt, alloc, &mut store, (0, to), &all[..to.min(3) as usize]);
+        check_stopped(&rt, alloc, &mut store, ALL);
+        check(&rt, alloc, &mut store, ALL, &all);
+    }
+}
+
+// What begins elsewhere or goes further is read anew, and what was read first stays.
+#[test]
+fn other_readings_are_read_anew(rt: HostRuntime) {
+    let alloc = rt.alloc();
+    for other in [(0, 3), (1, 4), (2, 3)] {
+        let mut store = cached(&rt, alloc, 1);
+        check(&rt, alloc, &mut store, (1, 3), &[(2, TWO), (3, THREE)]);
+        check_stopped(&rt, alloc, &mut store, other);
+        check(&rt, alloc, &mut store, (1, 2), &[(2, TWO)]);
+    }
+}
+
+// A change of a record.
+#[derive(Clone, Copy)]
+enum Change {
+    PutReceipt,
+    PutCheckpoint,
+    Cut,
+    Prune,
+    Shed,
+}
+
+fn make_change(rt: &impl Abort, alloc: Global, store: &mut Cached, change: Change) {
+    let done = match change {
+        Change::PutReceipt => put_four(rt, alloc, store),
+        Change::PutCheckpoint => store.put_checkpoint(alloc, 2, b"at two"),
+        Change::Cut => store.cut(alloc, 1),
+        Change::Prune => store.prune(alloc, 1),
+        Change::Shed => shed(alloc, store),
+    };
+    assert_eq!(rt; done, Ok(()));
+}
+
+fn shed(alloc: Global, store: &mut Cached) -> Result<(), StoreError> {
+    let none = LedgerRows {
+        first: 0,
+        recs: &[],
+    };
+    store.shed(alloc, 2, none, none)
+}
+
+fn put_four(rt: &impl Abort, alloc: Global, store: &mut Cached) -> Result<(), StoreError> {
+    let recs = record(rt, alloc, FOUR);
+    store.put_receipts(alloc, 4, &recs)
+}
+
+// Behind a change nothing that was read before is handed out.
+#[test]
+fn a_change_spends_what_was_read(rt: HostRuntime) {
+    let alloc = rt.alloc();
+    let rows: [(Change, &[(u32, &[u8])]); 5] = [
+        (
+            Change::PutReceipt,
+            &[(1, ONE), (2, TWO), (3, THREE), (4, FOUR)],
+        ),
+        (Change::PutCheckpoint, &[(1, ONE), (2, TWO), (3, THREE)]),
+        (Change::Cut, &[(1, ONE)]),
+        (Change::Prune, &[(2, TWO), (3, THREE)]),
+        (Change::Shed, &[(3, THREE)]),
+    ];
+    for (what, want) in rows {
+        let mut store = cached(&rt, alloc, 2);
+        check(
+            &rt,
+            alloc,
+            &mut store,
+            ALL,
+            &[(1, ONE), (2, TWO), (3, THREE)],
+        );
+        make_change(&rt, alloc, &mut store, what);
+        check_stopped(&rt, alloc, &mut store, ALL);
+        check(&rt, alloc, &mut store, ALL, want);
+    }
+}
+
+// What changes no record spends nothing: a table of the ledger, and looks.
+#[test]
+fn other_calls_leave_what_was_read(rt: HostRuntime) {
+    let alloc = rt.alloc();
+    let mut store = cached(&rt, alloc, 4);
+    check(
+        &rt,
+        alloc,
+        &mut store,
+        ALL,
+        &[(1, ONE), (2, TWO), (3, THREE)],
+    );
+    let recs = record(&rt, alloc, b"about");
+    assert_eq!(rt; store.put_in(alloc, LedgerTable::About, 0, &recs), Ok(()));
+    let about = store.all_in(alloc, LedgerTable::About).expect(&rt, "read");
+    assert_eq!(rt;
+        (about.len(), about[0].0, about[0].1.as_slice()),
+        (1, 0, b"about".as_slice())
+    );
+    let checkpoint = store.effective(alloc, 3).expect(&rt, "read");
+    assert_eq!(rt; checkpoint.map(|(x, _)| x), Some(0));
+    check(&rt, alloc, &mut store, (0, 1), &[(1, ONE)]);
+    check_stopped(&rt, alloc, &mut store, ALL);
+}
