@@ -1,13 +1,17 @@
 //! A ledger whose first reading is kept for the second. What is behind the cache stops at a call, which shows whether a reading
 //! came to it.
 
+ghost use Rattle.std.specs.Prelude.{◌≡◌, length};
+
 use om_stable::{FuseStable, Ledger, LedgerRows, LedgerTable, MemLedger, Stable, StoreError};
 use om_tables::CachingLedger;
 use std::alloc::Global;
 use std::process::Abort;
 
 // One record.
-fn record(rt: &impl Abort, alloc: Global, bytes: &[u8]) -> Vec<Vec<u8>> {
+fn record(rt: &impl Abort, alloc: Global, bytes: &[u8]) -> Vec<Vec<u8>>
+    ensures { length result.items ≡ 1 }
+{
     let rec = bytes.to_vec(alloc).expect(rt, "memory");
     Vec::from_array(alloc, [rec]).expect(rt, "memory")
 }
@@ -20,12 +24,25 @@ const THREE: &[u8] = b"three";
 
 const FOUR: &[u8] = b"four";
 
+// Puts one receipt.
+fn put_receipt<S: Stable>(
+    rt: &impl Abort,
+    alloc: Global,
+    store: &mut S,
+    x: u32,
+    bytes: &[u8],
+) -> Result<(), StoreError> {
+    let recs = record(rt, alloc, bytes);
+    assert!(rt; x <= 4);
+    store.put_receipts(alloc, x, &recs)
+}
+
 // Receipts 1 to 3 and checkpoint 0.
 fn filled(rt: &impl Abort, alloc: Global) -> MemLedger {
     let mut store = MemLedger::new(alloc);
-    for (first, bytes) in [(1u32, ONE), (2, TWO), (3, THREE)] {
-        let recs = record(rt, alloc, bytes);
-        assert_eq!(rt; store.put_receipts(alloc, first, &recs), Ok(()));
+    for (x, bytes) in [(1u32, ONE), (2, TWO), (3, THREE)] {
+        let put = put_receipt(rt, alloc, &mut store, x, bytes);
+        assert_eq!(rt; put, Ok(()));
     }
     assert_eq!(rt; store.put_checkpoint(alloc, 0, b"zero"), Ok(()));
     store
@@ -68,19 +85,20 @@ const ALL: (u32, u32) = (0, u32::MAX);
 #[test]
 fn a_second_reading_is_answered_from_the_first(rt: HostRuntime) {
     let alloc = rt.alloc();
-    for to in [0u32, 1, 2, 3, u32::MAX] {
+    let all: &[(u32, &[u8])] = &[(1, ONE), (2, TWO), (3, THREE)];
+    let rows: [(u32, &[(u32, &[u8])]); 5] = [
+        (0, &[]),
+        (1, &[(1, ONE)]),
+        (2, &[(1, ONE), (2, TWO)]),
+        (3, all),
+        (u32::MAX, all),
+    ];
+    for (to, want) in rows {
         let mut store = cached(&rt, alloc, 1);
-        check(
-            &rt,
-            alloc,
-            &mut store,
-            ALL,
-            &[(1, ONE), (2, TWO), (3, THREE)],
-        );
-        let all: [(u32, &[u8]); 3] = [(1, ONE), (2, TWO), (3, THREE)];
-        check(&rt, alloc, &mut store, (0, to), &all[..to.min(3) as usize]);
+        check(&rt, alloc, &mut store, ALL, all);
+        check(&rt, alloc, &mut store, (0, to), want);
         check_stopped(&rt, alloc, &mut store, ALL);
-        check(&rt, alloc, &mut store, ALL, &all);
+        check(&rt, alloc, &mut store, ALL, all);
     }
 }
 
@@ -108,7 +126,7 @@ enum Change {
 
 fn make_change(rt: &impl Abort, alloc: Global, store: &mut Cached, change: Change) {
     let done = match change {
-        Change::PutReceipt => put_four(rt, alloc, store),
+        Change::PutReceipt => put_receipt(rt, alloc, store, 4, FOUR),
         Change::PutCheckpoint => store.put_checkpoint(alloc, 2, b"at two"),
         Change::Cut => store.cut(alloc, 1),
         Change::Prune => store.prune(alloc, 1),
@@ -123,11 +141,6 @@ fn shed(alloc: Global, store: &mut Cached) -> Result<(), StoreError> {
         recs: &[],
     };
     store.shed(alloc, 2, none, none)
-}
-
-fn put_four(rt: &impl Abort, alloc: Global, store: &mut Cached) -> Result<(), StoreError> {
-    let recs = record(rt, alloc, FOUR);
-    store.put_receipts(alloc, 4, &recs)
 }
 
 // Behind a change nothing that was read before is handed out.
@@ -159,6 +172,15 @@ fn a_change_spends_what_was_read(rt: HostRuntime) {
     }
 }
 
+// Asserts what is read of the table of what the store is of.
+fn check_about(rt: &impl Abort, alloc: Global, store: &mut Cached) {
+    let about = store.all_in(alloc, LedgerTable::About).expect(rt, "read");
+    assert_eq!(rt; about.len(), 1);
+    for (number, bytes) in &about {
+        assert_eq!(rt; (*number, bytes.as_slice()), (0, b"about".as_slice()));
+    }
+}
+
 // What changes no record spends nothing: a table of the ledger, and looks.
 #[test]
 fn other_calls_leave_what_was_read(rt: HostRuntime) {
@@ -173,11 +195,7 @@ fn other_calls_leave_what_was_read(rt: HostRuntime) {
     );
     let recs = record(&rt, alloc, b"about");
     assert_eq!(rt; store.put_in(alloc, LedgerTable::About, 0, &recs), Ok(()));
-    let about = store.all_in(alloc, LedgerTable::About).expect(&rt, "read");
-    assert_eq!(rt;
-        (about.len(), about[0].0, about[0].1.as_slice()),
-        (1, 0, b"about".as_slice())
-    );
+    check_about(&rt, alloc, &mut store);
     let checkpoint = store.effective(alloc, 3).expect(&rt, "read");
     assert_eq!(rt; checkpoint.map(|(x, _)| x), Some(0));
     check(&rt, alloc, &mut store, (0, 1), &[(1, ONE)]);
