@@ -2,6 +2,10 @@
 #![tactic(auto)]
 
 #[cfg(test)]
+mod asking;
+#[cfg(test)]
 mod clusters;
+#[cfg(test)]
+mod clusters_in_c;
 #[cfg(test)]
 mod explore;

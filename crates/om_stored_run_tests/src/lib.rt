@@ -4,6 +4,4 @@
 #[cfg(test)]
 mod clusters;
 #[cfg(test)]
-mod examples;
-#[cfg(test)]
 mod runs;

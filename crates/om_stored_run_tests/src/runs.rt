@@ -2,8 +2,8 @@
 
 ghost use Rattle.std.specs.Prelude.{◌≡◌, false, IfOk};
 
-use crate::examples::{BANK, BANK_ENDS, PIPELINE, PIPELINE_ENDS, QUEUE, QUEUE_ENDS};
 use om_commands::{BytesForm, CommandError};
+use om_examples::{BANK, BANK_ENDS, PIPELINE, PIPELINE_ENDS, QUEUE, QUEUE_ENDS};
 use om_files::{Connects, InTables};
 use om_interval::Pid;
 use om_process::Status;

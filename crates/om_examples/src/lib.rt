@@ -1,4 +1,5 @@
 //! The cluster files of `examples/c`, and what their programs print.
+#![tactic(auto)]
 
 /// The text of `examples/c/queue.txt`.
 pub const QUEUE: &str = "\
