@@ -1,5 +1,7 @@
 //! A cluster file whose run is ended between two failures, and taken up with a check.
 
+ghost use Rattle.std.specs.Prelude.{◌≤◌};
+
 use crate::clusters::RING;
 use crate::restarts::{OnShelf, Shelf, blank_shelf};
 use om_commands::{BytesForm, CommandError};
@@ -125,8 +127,16 @@ fn start<R: Threads + Wait + Clock + Abort + Sync>(
 }
 
 // How many failures there are before the ring was given so many receipts.
-fn failures_before(receipts: u64) -> u64 {
-    u64::from(receipts > 3) + u64::from(receipts > 13)
+fn failures_before(receipts: u64) -> u64
+    ensures { result ≤ 2 }
+{
+    if receipts > 13 {
+        2
+    } else if receipts > 3 {
+        1
+    } else {
+        0
+    }
 }
 
 // Each start cuts the stores of all three, and each failure that of one.
@@ -136,7 +146,9 @@ fn assert_start(rt: &impl Abort, start: Outcome, receipts: u64, failures: u64, i
     } else {
         start.answer == Err(CommandError::StoreFault) && start.text.is_empty()
     };
-    let is_so = is_told && start.receipts == receipts && start.cuts == 3 + failures;
+    let is_so = is_told
+        && start.receipts == receipts
+        && start.cuts.checked_sub(3) == Some(failures);
     assert!(rt; is_so, "{receipts} {failures} {start:?}");
 }
 
