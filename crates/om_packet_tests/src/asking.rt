@@ -5,7 +5,7 @@ use std::alloc::Global;
 use std::process::Abort;
 
 // As gdb sent them.
-static SENT: [(&[u8], Request); 33] = [
+static SENT: [(&[u8], Request); 37] = [
     (
         b"qSupported:multiprocess+;swbreak+;hwbreak+;qRelocInsn+;fork-events+;vfork-events+;exec-events+;vContSupported+;QThreadEvents+;no-resumed+;memory-tagging+;xmlRegisters=i386",
         Request::Supported,
@@ -38,6 +38,10 @@ static SENT: [(&[u8], Request); 33] = [
     (b"vCont;s:1;c", Request::Resume(Resume::Step)),
     (b"vCont;C20:1;c", Request::Resume(Resume::Continue)),
     (b"vCont;r18,24:2;c", Request::Resume(Resume::Range(24, 36))),
+    (b"Z0,18,4", Request::SetBreak(24)),
+    (b"z0,18,4", Request::ClearBreak(24)),
+    (b"bs", Request::BackStep),
+    (b"bc", Request::BackContinue),
     (b"qRcmd,7768657265", Request::Monitor(Command::Where)),
     (b"D", Request::Detach),
     (b"D;1", Request::Detach),
@@ -48,7 +52,7 @@ static SENT: [(&[u8], Request); 33] = [
 ];
 
 // With numbers and words that they cannot have, and unknown ones.
-static OTHERS: [(&[u8], Request); 26] = [
+static OTHERS: [(&[u8], Request); 32] = [
     (b"", Request::Unknown),
     (b",", Request::Unknown),
     (b"\x00\xff", Request::Unknown),
@@ -69,6 +73,13 @@ static OTHERS: [(&[u8], Request); 26] = [
     (b"m-1,4", Request::Malformed),
     (b"m+1,4", Request::Malformed),
     (b"m23g,4", Request::Malformed),
+    // Breakpoints without an address, or with one that is too great; and other kinds, which are watchpoints.
+    (b"Z0", Request::Malformed),
+    (b"Z0,", Request::Malformed),
+    (b"z1,100000000,4", Request::Malformed),
+    (b"Z2,238,4", Request::Unknown),
+    (b"z4,238,4", Request::Unknown),
+    (b"bsc", Request::Unknown),
     (b"H", Request::Malformed),
     (b"Hg", Request::Malformed),
     (b"Hx1", Request::Malformed),

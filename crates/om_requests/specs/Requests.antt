@@ -1,5 +1,5 @@
 -- What the bytes of a packet ask.
-use Rattle.std.specs.Prelude.{ℕ, Bool, ◌||◌, ◌==◌, List, [], ◌∷◌, Option, Some, None, if◌then◌else◌, codes}
+use Rattle.std.specs.Prelude.{ℕ, Bool, true, false, ◌||◌, ◌==◌, List, [], ◌∷◌, Option, Some, None, if◌then◌else◌, codes}
 use Rattle.std.specs.List.{slice_split}
 use Rattle.std.specs.Str.{bytes_eq}
 use Rattle.om_requests.specs.Numbers.{hex_number}
@@ -49,14 +49,29 @@ selection (letter ∷ word) =
     if letter == 103 then of_thread requests.Select (thread_of word)
     else (if letter == 99 then of_thread requests.SelectGoing (thread_of word) else requests.Malformed)
 
--- by the letter that begins the first word: m, H, T, and those that would change something, M X G P
+-- a breakpoint is set or taken away, by its address
+abbrev pub break_at : Bool → Option ℕ → Request
+break_at sets None = requests.Malformed
+break_at sets (Some address) = if sets then requests.SetBreak address else requests.ClearBreak address
+
+-- by its kind: 0 and 1 are breakpoints, and no other is known
+abbrev pub is_break : List ℕ → Bool
+is_break kind = bytes_eq kind (codes "0") || bytes_eq kind (codes "1")
+
+abbrev pub break_request : Bool → List ℕ → List (List ℕ) → Request
+break_request sets kind [] = requests.Malformed
+break_request sets kind (address ∷ more) = if is_break kind then break_at sets (hex_number address) else requests.Unknown
+
+-- by the letter that begins the first word: m, H, T, Z, z, and those that would change something, M X G P
 abbrev pub letter_request : ℕ → List ℕ → List (List ℕ) → Request
 letter_request letter word rest =
     if letter == 109 then memory_request word rest
     else (if letter == 72 then selection word
     else (if letter == 84 then of_thread requests.IsAlive (thread_of word)
+    else (if letter == 90 then break_request true word rest
+    else (if letter == 122 then break_request false word rest
     else (if (letter == 77) || (letter == 88) || (letter == 71) || (letter == 80) then requests.Write
-    else requests.Unknown)))
+    else requests.Unknown)))))
 
 abbrev pub by_letter : List ℕ → List (List ℕ) → Request
 by_letter [] rest = requests.Unknown
@@ -109,9 +124,11 @@ by_word first rest =
     else (if bytes_eq first (codes "qRcmd") then monitor_request rest
     else (if bytes_eq first (codes "vCont?") then requests.Actions
     else (if bytes_eq first (codes "vCont") then resume_request rest
+    else (if bytes_eq first (codes "bs") then requests.BackStep
+    else (if bytes_eq first (codes "bc") then requests.BackContinue
     else (if bytes_eq first (codes "D") then requests.Detach
     else (if bytes_eq first (codes "k") || bytes_eq first (codes "vKill") then requests.Kill
-    else by_letter first rest))))))))))
+    else by_letter first rest))))))))))))
 
 -- what a packet asks, by its words
 abbrev pub request_by : List (List ℕ) → Request

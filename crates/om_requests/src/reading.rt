@@ -1,7 +1,7 @@
 //! What a packet asks.
 
 ghost use Rattle.std.specs.Prelude.{◌≡◌, IfOk, map};
-ghost use Rattle.om_requests.specs.Requests.{by_letter, by_word, going, letter_request, memory_request, monitor_request, range_request, request_by, request_of, resume_request, selection, thread_of, transfer, transfer_of};
+ghost use Rattle.om_requests.specs.Requests.{break_request, by_letter, by_word, going, is_break, letter_request, memory_request, monitor_request, range_request, request_by, request_of, resume_request, selection, thread_of, transfer, transfer_of};
 
 use crate::numbers::hex_number;
 use crate::request::{Command, Request, Resume, Thread};
@@ -56,6 +56,12 @@ fn by_word(first: &[u8], rest: &[&[u8]]) -> Request
     if first == b"vCont".as_slice() {
         return resume_request(rest);
     }
+    if first == b"bs".as_slice() {
+        return Request::BackStep;
+    }
+    if first == b"bc".as_slice() {
+        return Request::BackContinue;
+    }
     if first == b"D".as_slice() {
         return Request::Detach;
     }
@@ -90,10 +96,39 @@ fn letter_request(letter: u8, word: &[u8], rest: &[&[u8]]) -> Request
             None => Request::Malformed,
         };
     }
+    if letter == b'Z' {
+        return break_request(true, word, rest);
+    }
+    if letter == b'z' {
+        return break_request(false, word, rest);
+    }
     if letter == b'M' || letter == b'X' || letter == b'G' || letter == b'P' {
         return Request::Write;
     }
     Request::Unknown
+}
+
+fn is_break(kind: &[u8]) -> bool
+    ensures { result ≡ is_break kind.now }
+{
+    kind == b"0".as_slice() || kind == b"1".as_slice()
+}
+
+// A breakpoint that is set or taken away.
+fn break_request(sets: bool, kind: &[u8], rest: &[&[u8]]) -> Request
+    ensures { result ≡ break_request sets kind.now (map (λ word. word.now) rest.now) }
+{
+    let [address, ..] = rest else {
+        return Request::Malformed;
+    };
+    if !is_break(kind) {
+        return Request::Unknown;
+    }
+    match hex_number(address) {
+        Some(address) if sets => Request::SetBreak(address),
+        Some(address) => Request::ClearBreak(address),
+        None => Request::Malformed,
+    }
 }
 
 // Some bytes of memory.

@@ -56,6 +56,14 @@ pub enum Request {
     Actions,
     /// To go on: `vCont;ACTION..`.
     Resume(Resume),
+    /// To go back by one instruction: `bs`.
+    BackStep,
+    /// To go back until something stops it: `bc`.
+    BackContinue,
+    /// To stop before the instruction at an address: `Z0,ADDRESS,KIND`, or `Z1`.
+    SetBreak(u32),
+    /// Not to stop there any more: `z0,ADDRESS,KIND`, or `z1`.
+    ClearBreak(u32),
     /// A command of the user: `qRcmd,HEX`.
     Monitor(Command),
     /// To leave: `D`.
