@@ -8,7 +8,7 @@ use crate::explore_request::{EXPLORE, Exploring, explore_command, exploring_of};
 use crate::look_requests::{
     Look, REPLAY, SHOW, replay_command, replay_request, show_command, show_request,
 };
-use crate::mistake::{Mistake, long_number_for, needed};
+use crate::mistake::{Mistake, long_number_for, needed, number_up_to};
 use clap::error::ErrorKind;
 use clap::{Arg, ArgAction, ArgMatches, Command, Error};
 use om_isa::Ext;
@@ -36,7 +36,7 @@ standard input else, also for -.
 Status:
   0   done, or a help text or the version was asked for
   1   refused: a line on standard error says why; or run --strict, and a process
-      trapped
+      trapped or a kill did not come
   2   the arguments are not understood
   141 whoever read standard output has closed it
 
@@ -197,9 +197,10 @@ failures however often it was ended. The programs and the order of the processes
 are to be those of before; all else may differ. Such stores keep more, and a run
 without --resume does not take them.
 
-With --check the run without failures in which each process receives the same
-messages in the same order is played, in one thread, when the cluster has
-ended. What is written is its text, where that is the cluster's to the byte.
+With --check the run is compared before anything is written: when the cluster
+has ended, a run without failures in which each process receives the same
+messages in the same order is played in one thread. Where both have the same
+text, to the byte, it is written; else the run is refused: unlike its check.
 With --witness FILE the same is done, and that run is written to FILE: sim
 plays it event by event, to the same outputs.
 
@@ -219,13 +220,18 @@ is no printable ASCII as a backslash and three octal digits.
 With --raw NAME only the bytes that the process NAME put out are written, one
 output behind the other, when the run has ended.
 
-With --strict the status is 1, too, where a process trapped; what is written is
-the same.
+With --kills N as many kills, 64 at most, are drawn by --seed S in place of the
+lines kill: each of any process, at an interval from 1 to 4, 16, 64, 256 or 1024.
+The same seed draws the same. A kill behind the last message that its process
+receives does not come. What is written is the same.
+
+With --strict the status is 1, too, where a process trapped or a line kill did
+not come; what is written is the same.
 
 With --verbose, and where standard error is a terminal, more is said there, and
-nothing else changes: what was refused and why; which processes trapped, and of
-what; where turns ran out, of each process that had not ended what it did or
-waited for, and in which interval.
+nothing else changes: what was refused and why; which processes trapped, of what
+and at which pc; which kills did not come; where turns ran out, of each process
+that had not ended what it did or waited for, and in which interval.
 On a terminal a line each second says how far the run has come: instructions of
 all processes, messages, the round of recovery, and the recovery state.
 
@@ -320,6 +326,13 @@ const TEXT: &str = "text";
 
 const STRICT: &str = "strict";
 
+const KILLS: &str = "kills";
+
+const SEED: &str = "seed";
+
+// The most kills that are drawn: as many as a cluster file may have.
+const MAX_KILLS: u32 = 64;
+
 const VERBOSE: &str = "verbose";
 
 const INPUT: &str = "INPUT";
@@ -372,10 +385,19 @@ pub struct Running<'a> {
     pub resumes: bool,
     pub checking: Checking<'a>,
     pub form: OutputForm,
-    /// Whether a process that trapped is a failure.
+    /// What is drawn in place of the kills of the cluster file.
+    pub kills: Option<Kills>,
+    /// Whether a process that trapped is a failure, and a line `kill` that did not come.
     pub strict: bool,
     /// Whether more is said on standard error.
     pub verbose: bool,
+}
+
+/// How many kills are drawn, 64 at most, and by which seed.
+#[derive(Clone, Copy, Debug, PartialEq, Eq)]
+pub struct Kills {
+    pub count: u32,
+    pub seed: u64,
 }
 
 /// How the bytes of outputs are written.
@@ -524,7 +546,7 @@ fn ext_of(with_m: bool) -> Ext
 }
 
 // How the bytes of outputs are to be written, by the flag `--text`.
-fn form_of(with_text: bool) -> OutputForm
+pub(crate) fn form_of(with_text: bool) -> OutputForm
     ensures { result ≡ form_of with_text }
 {
     if with_text {
@@ -551,7 +573,20 @@ fn checking_of<'a>(found: &ArgMatches<'a>) -> Checking<'a> {
     }
 }
 
-// The request to run a cluster, where its turns are a number.
+// The kills that are to be drawn, if any are, where their numbers are numbers.
+fn kills_of<'a>(found: &ArgMatches<'a>) -> Result<Option<Kills>, Mistake<'a>> {
+    let Some(count) = found.get_str(KILLS) else {
+        return Ok(None);
+    };
+    let count = number_up_to("--kills <N>", count, MAX_KILLS)?;
+    let seed = match found.get_str(SEED) {
+        Some(seed) => long_number_for("--seed <S>", seed)?,
+        None => 0,
+    };
+    Ok(Some(Kills { count, seed }))
+}
+
+// The request to run a cluster, where its turns and what else is a number are numbers.
 fn run_request<'a>(found: &ArgMatches<'a>) -> Result<Request<'a>, Mistake<'a>>
     ensures { IfOk result (λ request. asked_by request ≡ Subcommand.Run) }
 {
@@ -565,6 +600,7 @@ fn run_request<'a>(found: &ArgMatches<'a>) -> Result<Request<'a>, Mistake<'a>>
         resumes: found.get_flag(RESUME),
         checking: checking_of(found),
         form: form_of(found.get_flag(TEXT)),
+        kills: kills_of(found)?,
         strict: found.get_flag(STRICT),
         verbose: found.get_flag(VERBOSE),
     }))
@@ -671,7 +707,13 @@ fn run_command<'a>(alloc: Global) -> Result<Command<'a>, AllocError> {
         .arg(turns_option(alloc))?
         .arg(store_option(alloc))?
         .arg(resume_option(alloc)?)?;
-    with_forms(alloc, with_tellings(alloc, with_checks(alloc, command)?)?)
+    let command = with_tellings(alloc, with_checks(alloc, command)?)?;
+    with_forms(alloc, with_kills(alloc, command)?)
+}
+
+// With the options that say which processes are to fail.
+fn with_kills<'a>(alloc: Global, command: Command<'a>) -> Result<Command<'a>, AllocError> {
+    command.arg(kills_option(alloc))?.arg(seed_option(alloc)?)
 }
 
 // With the options that say how outputs are written, and what is a failure.
@@ -769,10 +811,25 @@ fn raw_option<'a>(alloc: Global) -> Result<Arg<'a>, AllocError> {
         .conflicts_with(TEXT)
 }
 
+fn kills_option<'a>(alloc: Global) -> Arg<'a> {
+    Arg::new(alloc, KILLS)
+        .long(KILLS)
+        .value_name("N")
+        .help("Draw N kills, at most 64, in place of those of FILE")
+}
+
+fn seed_option<'a>(alloc: Global) -> Result<Arg<'a>, AllocError> {
+    Arg::new(alloc, SEED)
+        .long(SEED)
+        .value_name("S")
+        .help("Which kills are drawn, a number of 64 bits [default: 0]")
+        .requires_arg(KILLS)
+}
+
 fn strict_option<'a>(alloc: Global) -> Arg<'a> {
     Arg::new(alloc, STRICT)
         .long(STRICT)
-        .help("End with status 1 where a process trapped")
+        .help("End with status 1 where a process trapped, or a line kill did not come")
         .action(ArgAction::SetTrue)
 }
 

@@ -13,8 +13,8 @@ mod look_requests;
 mod mistake;
 
 pub use arguments::{
-    Asked, Checking, FRONTIER_HELP, HELP, IMAGE_HELP, OutputForm, RUN_HELP, Request, Running,
-    SIM_HELP, parse,
+    Asked, Checking, FRONTIER_HELP, HELP, IMAGE_HELP, Kills, OutputForm, RUN_HELP, Request,
+    Running, SIM_HELP, parse,
 };
 pub use draw_request::Lines;
 pub use ending::{end, end_unasked, end_unread};

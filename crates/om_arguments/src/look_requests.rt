@@ -4,6 +4,7 @@ ghost use Rattle.std.specs.Prelude.{◌≡◌, IfOk};
 ghost use Rattle.om_arguments.specs.steps.Requests.{looked_by};
 ghost use Rattle.om_arguments.specs.declared.arguments.Subcommand.{Subcommand};
 
+use crate::arguments::{OutputForm, form_of};
 use crate::mistake::{Mistake, long_number_for, needed, number_for};
 use clap::{Arg, ArgAction, ArgMatches, Command};
 use std::alloc::{AllocError, Global};
@@ -34,6 +35,14 @@ beside its records:
   output X interval Y HEX
       a released output: its number, the interval that made it, and its bytes,
       - where there are none
+
+With --bodies a line follows for each message, which shows what came in it:
+
+  body X from Q HEX
+      the message that began interval X, from process Q: its bytes, - where
+      there are none; of a receipt that is damaged there is no such line
+
+With --text too these bytes are written as text, as by run.
 
 A record that is none is a line, too, and the rest goes on: the interval, and
 damaged with its first fault: short, kind, version, field OFFSET or trailing.
@@ -73,6 +82,9 @@ With --trace too, these lines stand before it, in order:
   send P NUMBER HEX   it sent a message to process P
   out NUMBER HEX      it made an output
 
+With --short, of rows of memory that are all zeros and follow one another only
+the first is written, and one line * stands for the others.
+
 Refused, on standard error, status 1:
   no checkpoint       none is stored at INTERVAL or below
   damaged Y           the record of interval Y cannot be read
@@ -102,24 +114,33 @@ const STEPS: &str = "steps";
 
 const TRACE: &str = "trace";
 
+const BODIES: &str = "bodies";
+
+const TEXT: &str = "text";
+
+const SHORT: &str = "short";
+
 /// What is looked for in the store of a process.
 #[derive(Clone, Copy, Debug, PartialEq, Eq)]
 pub enum Look<'a> {
-    /// What it holds.
+    /// What it holds, and in which form with the bodies of messages.
     Show {
         file: &'a str,
+        bodies: Option<OutputForm>,
     },
-    /// The state in an interval.
+    /// The state in an interval, and whether rows of zeros are folded.
     Replay {
         file: &'a str,
         interval: u32,
+        short: bool,
     },
-    /// The state so many instructions behind, and whether with a trace.
+    /// The state so many instructions behind, whether with a trace, and whether rows of zeros are folded.
     Steps {
         file: &'a str,
         interval: u32,
         steps: u64,
         traced: bool,
+        short: bool,
     },
 }
 
@@ -129,7 +150,16 @@ pub(crate) fn show_request<'a>(found: &ArgMatches<'a>) -> Result<Look<'a>, Mista
 {
     Ok(Look::Show {
         file: needed(found, FILE)?,
+        bodies: bodies_of(found),
     })
+}
+
+// In which form the bodies of messages are asked for.
+fn bodies_of<'a>(found: &ArgMatches<'a>) -> Option<OutputForm> {
+    if found.get_flag(BODIES) {
+        return Some(form_of(found.get_flag(TEXT)));
+    }
+    None
 }
 
 // The request to replay from a file to an interval, and so many steps on, where these are numbers.
@@ -138,14 +168,20 @@ pub(crate) fn replay_request<'a>(found: &ArgMatches<'a>) -> Result<Look<'a>, Mis
 {
     let file = needed(found, FILE)?;
     let interval = number_for("<INTERVAL>", needed(found, INTERVAL)?)?;
+    let short = found.get_flag(SHORT);
     let Some(steps) = found.get_str(STEPS) else {
-        return Ok(Look::Replay { file, interval });
+        return Ok(Look::Replay {
+            file,
+            interval,
+            short,
+        });
     };
     Ok(Look::Steps {
         file,
         interval,
         steps: long_number_for("--steps <K>", steps)?,
         traced: found.get_flag(TRACE),
+        short,
     })
 }
 
@@ -153,7 +189,9 @@ pub(crate) fn show_command<'a>(alloc: Global) -> Result<Command<'a>, AllocError>
     Command::new(alloc, SHOW)
         .about("What the store of a process holds, and to where it can be replayed")
         .after_long_help(SHOW_HELP)
-        .arg(store_file(alloc))
+        .arg(store_file(alloc))?
+        .arg(bodies_option(alloc))?
+        .arg(text_option(alloc)?)
 }
 
 pub(crate) fn replay_command<'a>(alloc: Global) -> Result<Command<'a>, AllocError> {
@@ -163,7 +201,30 @@ pub(crate) fn replay_command<'a>(alloc: Global) -> Result<Command<'a>, AllocErro
         .arg(store_file(alloc))?
         .arg(interval_argument(alloc))?
         .arg(steps_option(alloc))?
-        .arg(trace_option(alloc)?)
+        .arg(trace_option(alloc)?)?
+        .arg(short_option(alloc))
+}
+
+fn bodies_option<'a>(alloc: Global) -> Arg<'a> {
+    Arg::new(alloc, BODIES)
+        .long(BODIES)
+        .help("Write the bodies of messages too")
+        .action(ArgAction::SetTrue)
+}
+
+fn text_option<'a>(alloc: Global) -> Result<Arg<'a>, AllocError> {
+    Arg::new(alloc, TEXT)
+        .long(TEXT)
+        .help("Write them as text with the escapes of C")
+        .action(ArgAction::SetTrue)
+        .requires_arg(BODIES)
+}
+
+fn short_option<'a>(alloc: Global) -> Arg<'a> {
+    Arg::new(alloc, SHORT)
+        .long(SHORT)
+        .help("Fold rows of memory that are all zeros")
+        .action(ArgAction::SetTrue)
 }
 
 fn interval_argument<'a>(alloc: Global) -> Arg<'a> {

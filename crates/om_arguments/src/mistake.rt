@@ -1,6 +1,6 @@
 //! What is wrong with the arguments of a subcommand, and how their numbers are read.
 
-ghost use Rattle.std.specs.Prelude.{◌≡◌, IfErr, IfOk, Some, None};
+ghost use Rattle.std.specs.Prelude.{◌≡◌, ◌≤◌, IfErr, IfOk, Some, None};
 ghost use Rattle.om_text.specs.Numbers.{long_number_of as long_number, number_of as number};
 
 use clap::ArgMatches;
@@ -18,6 +18,12 @@ pub(crate) enum Mistake<'a> {
         word: &'a str,
         bits: u32,
     },
+    // The number that the value of an argument is lies above the greatest that it may be.
+    TooGreat {
+        argument: &'a str,
+        word: &'a str,
+        greatest: u32,
+    },
 }
 
 impl<'a> fmt::Display for Mistake<'a> {
@@ -31,6 +37,14 @@ impl<'a> fmt::Display for Mistake<'a> {
             } => write!(
                 f,
                 "invalid value '{word}' for '{argument}': it is no number of {bits} bits"
+            ),
+            Mistake::TooGreat {
+                argument,
+                word,
+                greatest,
+            } => write!(
+                f,
+                "invalid value '{word}' for '{argument}': it is above {greatest}"
             ),
         }
     }
@@ -52,6 +66,26 @@ pub(crate) fn number_for<'a>(argument: &'a str, word: &'a str) -> Result<u32, Mi
         word,
         bits,
     })
+}
+
+// The number that the value of an argument is: digits alone, and at most so great.
+pub(crate) fn number_up_to<'a>(
+    argument: &'a str,
+    word: &'a str,
+    greatest: u32,
+) -> Result<u32, Mistake<'a>>
+    ensures number { IfOk result (λ n. number word.now ≡ Some n) }
+    ensures most { IfOk result (λ n. n ≤ greatest) }
+{
+    let n = number_for(argument, word)?;
+    if n > greatest {
+        return Err(Mistake::TooGreat {
+            argument,
+            word,
+            greatest,
+        });
+    }
+    Ok(n)
 }
 
 // The number of 64 bits that the value of an argument is: digits alone.

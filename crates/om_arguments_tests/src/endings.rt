@@ -7,7 +7,7 @@ use std::io;
 use std::process::{Abort, ExitCode};
 
 // Words that are mistaken, and all that is told of them.
-static MISTAKES: [(&[&str], &str); 12] = [
+static MISTAKES: [(&[&str], &str); 16] = [
     (
         &["omlog", "replay", "s0.db", "x"],
         "error: invalid value 'x' for '<INTERVAL>': it is no number of 32 bits\n\nUsage: omlog replay [OPTIONS] <FILE> <INTERVAL>\n\nFor more information, try '--help'.\n",
@@ -48,12 +48,28 @@ static MISTAKES: [(&[&str], &str); 12] = [
         "error: the following required arguments were not provided:\n  <FILE>\n\nUsage: omlog show <FILE>\n\nFor more information, try '--help'.\n",
     ),
     (
+        &["omlog", "show", "--text", "s0.db"],
+        "error: the following required arguments were not provided:\n  --bodies\n\nUsage: omlog show --bodies --text <FILE>\n\nFor more information, try '--help'.\n",
+    ),
+    (
         &["omlog", "run", "--check", "--record", "r"],
         "error: the argument '--check' cannot be used with '--record <FILE>'\n\nUsage: omlog run --check [FILE]\n\nFor more information, try '--help'.\n",
     ),
     (
         &["omlog", "run", "--resume"],
         "error: the following required arguments were not provided:\n  --store <PREFIX>\n\nUsage: omlog run --store <PREFIX> --resume [FILE]\n\nFor more information, try '--help'.\n",
+    ),
+    (
+        &["omlog", "run", "--kills", "65"],
+        "error: invalid value '65' for '--kills <N>': it is above 64\n\nUsage: omlog run [OPTIONS] [FILE]\n\nFor more information, try '--help'.\n",
+    ),
+    (
+        &["omlog", "run", "--kills", "4294967296"],
+        "error: invalid value '4294967296' for '--kills <N>': it is no number of 32 bits\n\nUsage: omlog run [OPTIONS] [FILE]\n\nFor more information, try '--help'.\n",
+    ),
+    (
+        &["omlog", "run", "--seed", "1"],
+        "error: the following required arguments were not provided:\n  --kills <N>\n\nUsage: omlog run --kills <N> --seed <S> [FILE]\n\nFor more information, try '--help'.\n",
     ),
     (
         &["omlog", "run", "--raw", "p", "--text"],
@@ -106,13 +122,15 @@ static SHORT_HELP: [&str; 3] = ["omlog", "show", "-h"];
 const SUMMARY: &str = "\
 What the store of a process holds, and to where it can be replayed
 
-Usage: omlog show <FILE>
+Usage: omlog show [OPTIONS] <FILE>
 
 Arguments:
   <FILE>  The store of the process
 
 Options:
-  -h, --help  Print help (see more with '--help')
+      --bodies  Write the bodies of messages too
+      --text    Write them as text with the escapes of C
+  -h, --help    Print help (see more with '--help')
 ";
 
 #[test]

@@ -1,6 +1,6 @@
 //! Command lines, and what they ask for.
 
-use om_arguments::{Asked, Checking, Lines, Look, OutputForm, Request, Running, parse};
+use om_arguments::{Asked, Checking, Kills, Lines, Look, OutputForm, Request, Running, parse};
 use om_isa::Ext;
 use std::alloc::Global;
 use std::process::Abort;
@@ -67,13 +67,42 @@ static PLAIN: [(&[&str], Request<'static>, Option<&str>); 13] = [
     ),
 ];
 
-static LOOKS: [(&[&str], Look<'static>); 4] = [
-    (&["omlog", "show", "s0.db"], Look::Show { file: "s0.db" }),
+static LOOKS: [(&[&str], Look<'static>); 8] = [
+    (
+        &["omlog", "show", "s0.db"],
+        Look::Show {
+            file: "s0.db",
+            bodies: None,
+        },
+    ),
+    (
+        &["omlog", "show", "--bodies", "s0.db"],
+        Look::Show {
+            file: "s0.db",
+            bodies: Some(OutputForm::Hex),
+        },
+    ),
+    (
+        &["omlog", "show", "--text", "s0.db", "--bodies"],
+        Look::Show {
+            file: "s0.db",
+            bodies: Some(OutputForm::Text),
+        },
+    ),
     (
         &["omlog", "replay", "s0.db", "4294967295"],
         Look::Replay {
             file: "s0.db",
             interval: 4_294_967_295,
+            short: false,
+        },
+    ),
+    (
+        &["omlog", "replay", "--short", "s0.db", "1"],
+        Look::Replay {
+            file: "s0.db",
+            interval: 1,
+            short: true,
         },
     ),
     (
@@ -90,6 +119,7 @@ static LOOKS: [(&[&str], Look<'static>); 4] = [
             interval: 0,
             steps: u64::MAX,
             traced: false,
+            short: false,
         },
     ),
     (
@@ -99,6 +129,17 @@ static LOOKS: [(&[&str], Look<'static>); 4] = [
             interval: 2,
             steps: 1,
             traced: true,
+            short: false,
+        },
+    ),
+    (
+        &["omlog", "replay", "f", "2", "--steps", "1", "--short"],
+        Look::Steps {
+            file: "f",
+            interval: 2,
+            steps: 1,
+            traced: false,
+            short: true,
         },
     ),
 ];
@@ -162,6 +203,7 @@ const VERBOSE: Running<'static> = Running {
     resumes: false,
     checking: Checking::Off,
     form: OutputForm::Hex,
+    kills: None,
     strict: false,
     verbose: true,
 };
@@ -174,6 +216,7 @@ const RESUMED: Running<'static> = Running {
     resumes: true,
     checking: Checking::Check,
     form: OutputForm::Hex,
+    kills: None,
     strict: false,
     verbose: false,
 };
@@ -186,9 +229,35 @@ const AS_TEXT: Running<'static> = Running {
     resumes: false,
     checking: Checking::Follow,
     form: OutputForm::Text,
+    kills: None,
     strict: true,
     verbose: false,
 };
+
+static KILLED: [&str; 6] = [
+    "omlog",
+    "run",
+    "--seed",
+    "18446744073709551615",
+    "--kills",
+    "64",
+];
+
+static KILLED_BY_0: [&str; 5] = ["omlog", "run", "--kills", "0", "c"];
+
+// A run that is plain but for its kills.
+fn killed(count: u32, seed: u64) -> Running<'static> {
+    Running {
+        turns: 50_000_000,
+        prefix: None,
+        resumes: false,
+        checking: Checking::Off,
+        form: OutputForm::Hex,
+        kills: Some(Kills { count, seed }),
+        strict: false,
+        verbose: false,
+    }
+}
 
 fn check(
     rt: &impl Abort,
@@ -214,6 +283,10 @@ fn words_and_what_they_ask_for(rt: HostRuntime) {
     check(&rt, rt.alloc(), &LOUD, Request::Run(VERBOSE), None);
     check(&rt, rt.alloc(), &AGAIN, Request::Run(RESUMED), None);
     check(&rt, rt.alloc(), &TOLD, Request::Run(AS_TEXT), None);
+    let most = Request::Run(killed(64, u64::MAX));
+    check(&rt, rt.alloc(), &KILLED, most, None);
+    let none = Request::Run(killed(0, 0));
+    check(&rt, rt.alloc(), &KILLED_BY_0, none, Some("c"));
     for (words, (turns, prefix, checking, input)) in &RUNS {
         let running = Running {
             turns: *turns,
@@ -221,6 +294,7 @@ fn words_and_what_they_ask_for(rt: HostRuntime) {
             resumes: false,
             checking: *checking,
             form: OutputForm::Hex,
+            kills: None,
             strict: false,
             verbose: false,
         };

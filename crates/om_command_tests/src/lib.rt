@@ -6,9 +6,13 @@ mod commands;
 #[cfg(test)]
 mod ending;
 #[cfg(test)]
+mod folding;
+#[cfg(test)]
 mod image;
 #[cfg(test)]
 mod programs;
+#[cfg(test)]
+mod reasons;
 #[cfg(test)]
 mod rows;
 #[cfg(test)]

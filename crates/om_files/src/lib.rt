@@ -11,10 +11,11 @@
 //! - `settling`: each store in its one file, behind a run; `blaming`: which file a refused run could not use
 //! - `copying`: the database of a file that is only read
 //! - `replaying`, `looking`: the commands `replay` and `show` over a connection, and over a file; `showing`: `show` of a store that
-//!   a run can take up
+//!   a run can take up; `bodies`: `show` with the bodies of messages
 #![tactic(auto)]
 
 mod blaming;
+mod bodies;
 mod clashing;
 mod connecting;
 mod copying;
@@ -29,6 +30,7 @@ mod settling;
 mod showing;
 
 pub use blaming::{Blame, FileFault, fault_of, first_unusable};
+pub use bodies::{show_all_bodies, show_bodies, show_bodies_file};
 pub use clashing::{Clash, clash_with_streams, clashes_with_stores};
 pub use connecting::{Connects, InTables};
 pub use files::Files;

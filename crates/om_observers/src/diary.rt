@@ -1,4 +1,4 @@
-//! What a worker tells the recorder of a run, and the herald of its outputs.
+//! What a worker tells the recorder of a run, the herald of its outputs, and whoever watches its failures.
 
 ghost use Rattle.std.specs.Prelude.{◌<◌};
 ghost use Rattle.om_process.specs.Core.{cluster_size};
@@ -6,6 +6,7 @@ ghost use Rattle.om_process.specs.Core.{cluster_size};
 use crate::herald::Herald;
 use crate::observers::Observers;
 use crate::recorder::{Act, Letter, Recorder};
+use crate::watch::Watch;
 use om_board::Front;
 use om_format::Message;
 use om_interval::{MAX_PROCESSES, Pid, Verdict};
@@ -14,13 +15,14 @@ use om_process::{Accept, ProcCore, Ran, Status};
 use std::alloc::{AllocError, Global};
 use std::sync::Wait;
 
-/// Tells what the worker of a process did. Without a recorder and a herald it does nothing.
+/// Tells what the worker of a process did. Without observers it does nothing.
 #[derive(Drop)]
 pub struct Diary<'a> {
     alloc: Global,
     own: Pid,
     recorder: Option<&'a Recorder>,
     herald: Option<&'a Herald>,
+    watch: Option<&'a Watch>,
     // The instructions that the process finished, and that are not told yet: they have sent nothing.
     steps: u64,
     // By receiver, the number from which on messages are not told yet.
@@ -90,6 +92,7 @@ impl<'a> Diary<'a> {
         let Observers {
             recorder,
             herald,
+            watch,
             ..
         } = observers;
         Diary {
@@ -97,6 +100,7 @@ impl<'a> Diary<'a> {
             own,
             recorder,
             herald,
+            watch,
             steps: 0,
             next: [0; MAX_PROCESSES],
             interval: 0,
@@ -221,7 +225,16 @@ impl<'a> Diary<'a> {
     ) -> Result<(), AllocError> {
         let (process, interval) = (self.own, self.interval);
         self.tell(rt, &[Act::Fail { process, interval }])?;
+        self.show_failure(rt)?;
         self.finished(rt, front, is_finished)
+    }
+
+    // Shows whoever watches that the process failed after a receipt. One that is taken up failed before it received.
+    fn show_failure<R: Wait>(&self, rt: &R) -> Result<(), AllocError> {
+        match self.watch {
+            Some(watch) if self.interval > 0 => watch.fail(rt, self.own, self.interval),
+            _ => Ok(()),
+        }
     }
 
     /// Tells that the process has joined, under the board's lock; it may have finished the round.

@@ -13,6 +13,8 @@ use std::sync::{Mutex, Wait};
 pub struct Watch {
     // By process.
     sights: Vec<Mutex<Sight>>,
+    // By failure, in order, the process and the interval that it had just begun.
+    failures: Mutex<Vec<(Pid, u32)>>,
 }
 
 // Of how many processes it is.
@@ -36,7 +38,10 @@ impl Watch {
         for _ in 0..n {
             sights.push(Mutex::new(Sight::new()))?;
         }
-        Ok(Watch { sights })
+        Ok(Watch {
+            sights,
+            failures: Mutex::new(Vec::new(alloc)),
+        })
     }
 
     /// What was seen last of each process, by number.
@@ -63,5 +68,16 @@ impl Watch {
         if let Some(place) = self.sights.get(pid.index()) {
             *place.lock(rt) = sight;
         }
+    }
+
+    /// Takes in that a process failed right after it began an interval. Refused where memory ran out.
+    pub fn fail<R: Wait>(&self, rt: &R, pid: Pid, interval: u32) -> Result<(), AllocError> {
+        self.failures.lock(rt).push((pid, interval))?;
+        Ok(())
+    }
+
+    /// The failures so far, in order: by failure, the process and the interval that it had just begun. Refused where memory ran out.
+    pub fn failures<R: Wait>(&self, rt: &R, alloc: Global) -> Result<Vec<(Pid, u32)>, AllocError> {
+        self.failures.lock(rt).to_vec(alloc)
     }
 }

@@ -3,6 +3,7 @@
 mod follows;
 mod modes;
 mod plays;
+mod random_kills;
 mod records;
 mod rings;
 mod runs;

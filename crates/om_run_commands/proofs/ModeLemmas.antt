@@ -1,5 +1,5 @@
 -- What a run of any mode answers and is refused with, by the script that was read, and by the bytes that it was read from.
-use Rattle.std.proofs.Common.{◌≡◌, ℕ, Option, None, Some, Result, Ok, Err, List, subst}
+use Rattle.std.proofs.Common.{◌≡◌, ℕ, Option, None, Some, Result, Ok, Err, List, sym, subst}
 use Rattle.std.specs.Prelude.{IfErr, IfOk, IfSome, Vec}
 use Rattle.std.specs.Io.KnownBytes.{Appends}
 use Rattle.std.specs.declared.alloc.Global.{Global}
@@ -13,6 +13,8 @@ use Rattle.om_run_commands.specs.ClusterScript.{ClusterFile, cluster_file_line, 
 use Rattle.om_run_commands.specs.Modes.{IsErrorIn, IsRunIn}
 use Rattle.om_run_commands.specs.declared.mode.RunMode.{RunMode}
 use Rattle.om_run_commands.specs.declared.mode.RunMode.TheVariants as modes
+use Rattle.om_run_commands.specs.Follow.{IsPartOf}
+use Rattle.om_run_commands.specs.Run.{IsByKind}
 use Rattle.om_run_commands.specs.steps.Modes.{IsAnswerIn, IsErrorOfScriptIn, LacksIn}
 use Rattle.om_run_commands.proofs.CheckLemmas.{of_checked}
 use Rattle.om_run_commands.proofs.RunLemmas.{of_raw, of_script}
@@ -72,3 +74,64 @@ lacks_is_error modes.Witness script never = absurd never
 lacks_is_error modes.Record script never = absurd never
 lacks_is_error modes.Follow script never = absurd never
 lacks_is_error (modes.Raw name) script lacks = lacks
+
+-- ---- other kills
+answer_of_others : (mode : RunMode) (form : BytesForm) (over_clean : Type 0) (statuses : List Status) (script : ClusterFile) (kills : List (ℕ × ℕ))
+    (text : List ℕ) → IsAnswerIn mode form over_clean statuses (record script { kills = kills }) text → IsAnswerIn mode form over_clean statuses script text
+answer_of_others modes.Plain form over_clean statuses script kills text is = is
+answer_of_others modes.Check form over_clean statuses script kills text is = is
+answer_of_others modes.Witness form over_clean statuses script kills text is = is
+answer_of_others modes.Record form over_clean statuses script kills text is = is
+answer_of_others modes.Follow form over_clean statuses script kills text is = (
+  record {
+    report = is.0.report;
+    is_report = is.0.is_report;
+    told = is.0.told;
+    tells_all = is.0.tells_all;
+    is_text = is.0.is_text;
+  },
+  is.1,
+)
+answer_of_others (modes.Raw name) form over_clean statuses script kills text is = record {
+  report = is.report;
+  is_report = is.is_report;
+  ended = is.ended;
+  is_text = is.is_text;
+}
+
+error_of_others : (mode : RunMode) (script : ClusterFile) (kills : List (ℕ × ℕ)) (error : CommandError)
+    → IsErrorOfScriptIn mode (record script { kills = kills }) error → IsErrorOfScriptIn mode script error
+error_of_others modes.Plain script kills error told = told
+error_of_others modes.Check script kills error told = told
+error_of_others modes.Witness script kills error told = told
+error_of_others modes.Record script kills error told = told
+error_of_others modes.Follow script kills error told = told
+error_of_others (modes.Raw name) script kills error told = told
+
+-- what a script answers whose kills are others, its cluster file does
+pub text_with_others : (mode : RunMode) (form : BytesForm) (over_clean : Type 0) (script next : ClusterFile) (r : Result (Vec Status Global) CommandError)
+    (a b : Option (List ℕ)) → next ≡ record script { kills = next.kills }
+    → IfOk r (λ statuses. (text : List ℕ) × IsAnswerIn mode form over_clean statuses.items next text × Appends a b text)
+    → IfOk r (λ statuses. (text : List ℕ) × IsAnswerIn mode form over_clean statuses.items script text × Appends a b text)
+text_with_others mode form over_clean script next (Ok statuses) a b is answer = (
+  answer.0,
+  answer_of_others mode form over_clean statuses.items script next.kills answer.0
+      (subst (λ s. IsAnswerIn mode form over_clean statuses.items s answer.0) is answer.1),
+  answer.2,
+)
+text_with_others mode form over_clean script next (Err e) a b is answer = tt
+
+pub error_with_others : {A : Type 0} (mode : RunMode) (script next : ClusterFile) (r : Result A CommandError)
+    → next ≡ record script { kills = next.kills }
+    → IfErr r (IsErrorOfScriptIn mode next) → IfErr r (IsErrorOfScriptIn mode script)
+error_with_others mode script next (Ok x) is error = tt
+error_with_others mode script next (Err e) is error =
+    error_of_others mode script next.kills e (subst (λ s. IsErrorOfScriptIn mode s e) is error)
+
+pub partly_with_others : {A : Type 0} (form : BytesForm) (over_clean : Type 0) (script next : ClusterFile) (r : Result A CommandError) (a b : Option (List ℕ))
+    (other : Type 0) → next ≡ record script { kills = next.kills }
+    → IfErr r (λ error. IsByKind error (IsPartOf form over_clean next a b) other)
+    → IfErr r (λ error. IsByKind error (IsPartOf form over_clean script a b) other)
+partly_with_others form over_clean script next (Ok x) a b other is partly = tt
+partly_with_others form over_clean script next (Err e) a b other is partly =
+    subst (λ s. IsByKind e (IsPartOf form over_clean s a b) other) is partly

@@ -2,7 +2,9 @@ pub mod Check
 pub mod ClusterScript
 pub mod EventText
 pub mod Follow
+pub mod KillsLeft
 pub mod Modes
+pub mod RandomKills
 pub mod Run
 pub mod RunText
 pub mod Trapped

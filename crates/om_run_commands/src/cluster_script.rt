@@ -108,6 +108,13 @@ impl ClusterScript {
         }
     }
 
+    /// Has these kills in place of those of its lines.
+    pub fn set_kills(&mut self, kills: Vec<(Pid, u32)>)
+        ensures { self.new ≡ record self.old { kills = kills.items } }
+    {
+        self.kills = kills;
+    }
+
     // Takes in a line `kill NAME INTERVAL`, by the words behind its first, as do the others.
     fn add_kill(&mut self, words: &[&[u8]]) -> Result<(), BuildError<LineError>>
         ensures { Gives (λ _. self.new) result (kill_line self.old (map (λ word. word.now) words.now)) }

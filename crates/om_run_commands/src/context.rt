@@ -4,11 +4,17 @@ ghost use Rattle.std.specs.Prelude.{◌≡◌, IfErr};
 ghost use Rattle.om_run_commands.specs.Modes.{IsErrorOfContext};
 
 use crate::cluster_script::ClusterScript;
+use crate::random_kills::RandomKills;
 use om_commands::CommandError;
 use om_process::Status;
 
 /// What a run has beside its input and its text: what is made for it before it starts, and a file for a script.
 pub trait RunContext {
+    /// The kills that are drawn in place of those of the cluster file, if any are.
+    fn random_kills(&self) -> Option<RandomKills> {
+        None
+    }
+
     /// Makes ready what the run of this cluster needs, before it starts. Refused, the cluster is not run.
     fn begin(&mut self, script: &ClusterScript) -> Result<(), CommandError>
         ensures { IfErr result IsErrorOfContext };

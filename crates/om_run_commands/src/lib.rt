@@ -7,8 +7,9 @@
 //!
 //! - `request`: a run in all its modes, over the bytes of a cluster file; `mode`, `context` (what a run has beside its input and
 //!   its text)
-//! - what all modes share: `cluster_script` (the lines), `run_text` (the text of a run), `error`, `laws`
-//! - `run`; `waiting` (what its processes wait for), `trapped` (which of them trapped)
+//! - what all modes share: `cluster_script` (the lines), `random_kills` (kills that are drawn in place of lines), `run_text` (the text of a run), `error`, `laws`
+//! - `run`; `waiting` (what its processes wait for), `trapped` (which of them trapped),
+//!   `kills_left` (which kills did not come)
 //! - `check`: `run --check` and `run --witness`, with `checked` (the comparison) and `event_text` (the run without failures as a
 //!   script)
 //! - `followed`: `run --follow`
@@ -22,8 +23,10 @@ mod context;
 mod error;
 mod event_text;
 mod followed;
+mod kills_left;
 pub mod laws;
 mod mode;
+mod random_kills;
 mod record_text;
 mod recorded;
 mod request;
@@ -36,7 +39,9 @@ pub use checked::{checked_events, checked_text};
 pub use cluster_script::ClusterScript;
 pub use context::RunContext;
 pub use event_text::events_text;
+pub use kills_left::{has_kills_left, kills_left_text};
 pub use mode::RunMode;
+pub use random_kills::{LAST_DRAWN, RandomKills};
 pub use request::run_file;
 pub use run_text::report_text;
 pub use trapped::{has_trapped, trapped_text};

@@ -13,12 +13,13 @@ use crate::cluster_script::ClusterScript;
 use crate::context::RunContext;
 use crate::followed::run_followed;
 use crate::mode::RunMode;
+use crate::random_kills::RandomKills;
 use crate::recorded::run_recorded;
 use crate::run::{run, run_raw};
 use om_commands::{BytesForm, CommandError, read_input};
 use om_process::Status;
 use om_runner::Opener;
-use std::alloc::Global;
+use std::alloc::{AllocError, Global};
 use std::io::{Read, Write};
 use std::sync::Wait;
 use std::thread::Threads;
@@ -74,15 +75,63 @@ pub fn run_file<
         reader,
         ClusterScript::new(alloc, mode.writes_script()),
     ) {
-        Ok(script) => {
-            let told = run_script(
-                rt, alloc, mode, form, turns, opener, context, &script, writer,
-            );
-            drop(script);
-            told
-        }
+        Ok(script) => run_read(
+            rt, alloc, mode, form, turns, opener, context, script, writer,
+        ),
         Err(error) => (Err(error), writer),
     }
+}
+
+// Runs the cluster of a script that was read, with kills in place of its own where the context has some drawn.
+fn run_read<R: Threads + Wait + Clock + Sync, O: Opener<R> + Sync, C: RunContext, W: Write + Drop>(
+    rt: &R,
+    alloc: Global,
+    mode: RunMode<'_>,
+    form: BytesForm,
+    turns: u64,
+    opener: &O,
+    context: &mut C,
+    script: ClusterScript,
+    writer: W,
+) -> (Result<Vec<Status>, CommandError>, W)
+    ensures text { IfOk result.0 (λ statuses. (text : List ℕ)
+        × IsAnswerIn mode.entry form ((store : O.Store) → IsTrue (O.Store.is_clean store)) statuses.items script text
+        × Appends (W.contents writer) (W.contents result.1) text) }
+    ensures error { IfErr result.0 (IsErrorOfScriptIn mode.entry script) }
+    ensures silent { mode.entry ≢ RunMode.Follow
+        → IfErr result.0 (λ error. IsSilent error (Keeps (W.contents writer) (W.contents result.1))) }
+    ensures partly { mode.entry ≡ RunMode.Follow → IfErr result.0 (λ error. IsByKind error
+        (IsPartOf form ((store : O.Store) → IsTrue (O.Store.is_clean store)) script (W.contents writer) (W.contents result.1))
+        (Keeps (W.contents writer) (W.contents result.1))) }
+{
+    let mut script = script;
+    if draw_kills(alloc, context.random_kills(), &mut script).is_err() {
+        drop(script);
+        return (Err(CommandError::NoMemory), writer);
+    }
+    let told = run_script(
+        rt, alloc, mode, form, turns, opener, context, &script, writer,
+    );
+    drop(script);
+    told
+}
+
+// Has a script have kills that are drawn in place of its own, where any are and there is a process.
+fn draw_kills(
+    alloc: Global,
+    random_kills: Option<RandomKills>,
+    script: &mut ClusterScript,
+) -> Result<(), AllocError>
+    ensures { script.new ≡ record script.old { kills = script.new.kills } }
+{
+    let Some(random_kills) = random_kills else {
+        return Ok(());
+    };
+    let n = script.programs().n();
+    if n > 0 {
+        script.set_kills(random_kills.of(alloc, n)?);
+    }
+    Ok(())
 }
 
 // Runs the cluster of a script, for which the context makes ready, and which has a process, and the one that is asked for, or is

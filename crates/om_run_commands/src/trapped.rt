@@ -2,12 +2,14 @@
 
 ghost use Rattle.std.specs.Prelude.{◌≡◌, ◌++◌, IfOk, OnOk, string_bytes};
 ghost use Rattle.std.specs.List.{list_any};
-ghost use Rattle.om_run_commands.specs.Trapped.{cause_words, is_trap, trap_line, traps_text};
+ghost use Rattle.om_look.specs.Trace.{word_text};
+ghost use Rattle.om_run_commands.specs.Trapped.{cause_line, cause_words, is_trap, status_line, trap_line, traps_text};
 
 use crate::cluster_script::ClusterScript;
 use crate::followed::name_in;
 use om_machine::Cause;
 use om_process::Status;
+use om_runner::{Doing, Sight};
 use om_scripts::Programs;
 use std::alloc::{AllocError, Global};
 use std::fmt::Write;
@@ -30,40 +32,95 @@ fn is_trap(status: Status) -> bool
     matches!(status, Status::Trapped(_))
 }
 
-/// Says which processes of a cluster file trapped: a line for each, with its name, the number of the cause, and what it is.
-/// Refused where memory ran out.
+/// Says which processes of a cluster file trapped, by what was seen of each in the end: a line for each, with its name, the number of
+/// the cause, what it is, and pc. Refused where memory ran out.
 pub fn trapped_text(
     alloc: Global,
     script: &ClusterScript,
-    statuses: &[Status],
+    sights: &[Sight],
 ) -> Result<String, AllocError>
-    ensures { IfOk result (λ text. string_bytes text ≡ traps_text script.now.cluster statuses.now) }
+    ensures { IfOk result (λ text. string_bytes text ≡ traps_text script.now.cluster sights.now) }
 {
     let mut text = String::new(alloc);
-    push_traps(&mut text, script.programs(), statuses)?;
+    push_traps(alloc, &mut text, script.programs(), sights)?;
     Ok(text)
 }
 
 // Writes a line for each process that trapped.
-fn push_traps(text: &mut String, programs: &Programs, statuses: &[Status]) -> Result<(), AllocError>
-    ensures { OnOk result (string_bytes text.new ≡ string_bytes text.old ++ traps_text programs.now statuses.now) }
+fn push_traps(
+    alloc: Global,
+    text: &mut String,
+    programs: &Programs,
+    sights: &[Sight],
+) -> Result<(), AllocError>
+    ensures { OnOk result (string_bytes text.new ≡ string_bytes text.old ++ traps_text programs.now sights.now) }
 {
-    for p in 0..statuses.len() {
-        push_trap(text, name_in(programs, p), statuses[p])?;
+    for p in 0..sights.len() {
+        push_trap(
+            alloc,
+            text,
+            name_in(programs, p),
+            sights[p].doing,
+            sights[p].pc,
+        )?;
     }
     Ok(())
 }
 
 // Writes the line of a process, where it trapped.
-fn push_trap(text: &mut String, name: &str, status: Status) -> Result<(), AllocError>
-    ensures { OnOk result (string_bytes text.new ≡ string_bytes text.old ++ trap_line name.now status) }
+fn push_trap(
+    alloc: Global,
+    text: &mut String,
+    name: &str,
+    doing: Doing,
+    pc: u32,
+) -> Result<(), AllocError>
+    ensures { OnOk result (string_bytes text.new ≡ string_bytes text.old ++ trap_line name.now doing pc) }
 {
-    let Status::Trapped(cause) = status else {
-        return Ok(());
-    };
+    match doing {
+        Doing::Up(status) => push_status(alloc, text, name, status, pc),
+        _ => Ok(()),
+    }
+}
+
+// Writes the line of a process with this status, where it trapped.
+fn push_status(
+    alloc: Global,
+    text: &mut String,
+    name: &str,
+    status: Status,
+    pc: u32,
+) -> Result<(), AllocError>
+    ensures { OnOk result (string_bytes text.new ≡ string_bytes text.old ++ status_line name.now status pc) }
+{
+    match status {
+        Status::Trapped(cause) => push_cause(alloc, text, name, cause, pc),
+        _ => Ok(()),
+    }
+}
+
+// Writes the line of a process that trapped.
+fn push_cause(
+    alloc: Global,
+    text: &mut String,
+    name: &str,
+    cause: Cause,
+    pc: u32,
+) -> Result<(), AllocError>
+    ensures { OnOk result (string_bytes text.new ≡ string_bytes text.old ++ cause_line name.now cause pc) }
+{
     let number = cause.number();
     let words = cause_words(cause);
-    write!(text, "{name}: trapped {number}, {words}\n")
+    write!(text, "{name}: trapped {number}, {words}, at ")?;
+    push_word(alloc, text, pc)?;
+    text.push('\n')
+}
+
+// Writes a number in eight hexadecimal digits.
+fn push_word(alloc: Global, text: &mut String, word: u32) -> Result<(), AllocError>
+    ensures { OnOk result (string_bytes text.new ≡ string_bytes text.old ++ word_text word) }
+{
+    text.push_str(&hex::encode(alloc, word.to_be_bytes())?)
 }
 
 // What a cause is.

@@ -7,7 +7,7 @@ ghost use Rattle.om_process.specs.Core.{IsEnd};
 ghost use Rattle.om_runner.specs.steps.Acts.{HasDeclared, HasJoined, HasReleasedAnother, UnderLock};
 ghost use Rattle.om_runner.specs.steps.Nodes.{AreAlwaysClean};
 ghost use Rattle.om_runner.specs.steps.Places.{member_of};
-ghost use Rattle.om_runner.specs.steps.Sights.{doing_at};
+ghost use Rattle.om_runner.specs.steps.Sights.{doing_at, sight_at, sight_of};
 ghost use Rattle.om_runner.specs.steps.Turning.{HasNothingToSay, HasReported, HasRested, IsTurnOf, pause_turns, place_after};
 ghost use Rattle.om_runner.specs.steps.Wiring.{HasEnds};
 
@@ -26,7 +26,7 @@ use om_board::{Front, Look, Naming, Pass, Shared};
 use om_format::Message;
 use om_interval::{Pid, Verdict};
 use om_observers::{Diary, Doing, Observers, Past, Sight, Watch};
-use om_process::{Accept, Status, Witness};
+use om_process::{Accept, ProcCore, Status, Witness};
 use om_restart::Found;
 use om_stable::{Ledger, Stable};
 use std::alloc::Global;
@@ -66,15 +66,31 @@ impl<'a, S: Stable> Place<'a, S> {
         }
     }
 
-    // The interval that the process is in, and how many instructions it has finished, where it is not down.
-    fn reached(&self) -> Option<(u32, u64)> {
+    // What is seen of the process there, once this was seen of it before: of one that is down, what it does.
+    fn sight(&self, before: Sight) -> Sight
+        ensures { result ≡ sight_at before self.now }
+    {
+        let doing = self.doing();
         match self {
             Place::Up(node) | Place::Called(node) | Place::In(node) | Place::Over(node) => {
-                let core = node.core();
-                Some((core.interval(), core.machine().count()))
+                sight_of(node.core(), doing, before)
             }
-            Place::Failed(_) | Place::Down(_) => None,
+            Place::Failed(_) | Place::Down(_) => Sight { doing, ..before },
         }
+    }
+}
+
+// What is seen of a process that does this, once this was seen of it before.
+fn sight_of(core: &ProcCore, doing: Doing, before: Sight) -> Sight
+    ensures { result ≡ sight_of doing before core.now }
+{
+    let machine = core.machine();
+    Sight {
+        doing,
+        interval: core.interval(),
+        count: machine.count(),
+        pc: machine.pc(),
+        ..before
     }
 }
 
@@ -409,15 +425,13 @@ impl<'a, K: Naming> Worker<'a, K> {
             return;
         };
         let pid = self.manager_link.pid;
-        let old = watch.sight(rt, pid).unwrap_or(Sight::new());
-        let (interval, count) = turned.0.reached().unwrap_or((old.interval, old.count));
+        let before = watch.sight(rt, pid).unwrap_or(Sight::new());
+        let seen = turned.0.sight(before);
         let sight = Sight {
-            doing: turned.0.doing(),
-            interval,
-            count,
             put: self.links.put(),
             taken: self.links.taken(),
             front: Some(self.manager_link.read(rt, &mut turned.1)),
+            ..seen
         };
         watch.show(rt, pid, sight);
     }

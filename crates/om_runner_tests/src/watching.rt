@@ -1,6 +1,8 @@
 use crate::clusters::{Always, Fused, ring, unstopped};
 use crate::rows::front;
 use crate::waiting::{ENDS, WAITS, cluster};
+use om_interval::Pid;
+use om_machine::Cause;
 use om_process::Status;
 use om_runner::{Config, Doing, Progress, RunFault, Sight, Watch, Watched, run_cluster};
 use std::alloc::Global;
@@ -19,6 +21,15 @@ const COUNTS: [u32; 19] = [
     0x10000513, 0x00400593, 0x00000073,
 ];
 
+// addi x5, x0, 7; jal x0, 8; and behind what is jumped over, ebreak.
+const BREAKS: [u32; 4] = [0x00700293, 0x0080006F, 0x00000000, 0x00100073];
+
+// Process 0 sends 4 bytes to process 1, which receives them, and loads from address -4.
+const FAULTS: [u32; 15] = [
+    0x00400893, 0x00000073, 0x02051063, 0x00100893, 0x00100513, 0x10000593, 0x00400613, 0x00000073,
+    0x00000893, 0x00000073, 0x00200893, 0x10000513, 0x00400593, 0x00000073, 0xFFC02303,
+];
+
 // Why the run of a cluster that is watched came to no end.
 fn fault_of<'a, R: Threads + Wait + Clock + Abort + Sync>(
     rt: &R,
@@ -33,16 +44,26 @@ fn fault_of<'a, R: Threads + Wait + Clock + Abort + Sync>(
     run_cluster(rt, alloc, config, &Always(true), &watched).err()
 }
 
+// Why the run of a cluster came to no end, and who watched it.
+fn watched<R: Threads + Wait + Clock + Abort + Sync>(
+    rt: &R,
+    alloc: Global,
+    config: &Config,
+) -> (Option<RunFault>, Watch) {
+    let set = AtomicBool::new(true);
+    let opener = unstopped(&set);
+    let watch = Watch::new(alloc, config.images.len()).expect(rt, "memory");
+    let fault = fault_of(rt, alloc, config, &opener, &watch);
+    (fault, watch)
+}
+
 // What was seen of the processes of a cluster, and why its run came to no end.
 pub fn seen<R: Threads + Wait + Clock + Abort + Sync>(
     rt: &R,
     alloc: Global,
     config: &Config,
 ) -> (Option<RunFault>, Vec<Sight>) {
-    let set = AtomicBool::new(true);
-    let opener = unstopped(&set);
-    let watch = Watch::new(alloc, config.images.len()).expect(rt, "memory");
-    let fault = fault_of(rt, alloc, config, &opener, &watch);
+    let (fault, watch) = watched(rt, alloc, config);
     let sights = watch.sights(rt, alloc).expect(rt, "memory");
     (fault, sights)
 }
@@ -121,6 +142,70 @@ fn those_that_ended_are_seen(rt: HostRuntime) {
     assert_ring_is_seen(&rt, rt.alloc(), &[(3, 3), (5, 5)], 2);
 }
 
+// Where and when this process was seen to trap, and of what.
+fn assert_trap(
+    rt: &impl Abort,
+    sight: Option<&Sight>,
+    cause: Cause,
+    (interval, count, pc): (u32, u64, u32),
+) {
+    let sight = sight.expect(rt, "a sight");
+    assert!(rt;
+        sight.doing == Doing::Up(Status::Trapped(cause)),
+        "{sight:?}"
+    );
+    assert!(rt;
+        sight.interval == interval && sight.count == count,
+        "{sight:?}"
+    );
+    assert!(rt; sight.pc == pc, "{sight:?}");
+}
+
+// The instruction that traps is not finished: pc is its address.
+#[test]
+fn where_a_process_trapped_is_seen(rt: HostRuntime) {
+    let alloc = rt.alloc();
+    let breaks = cluster(&rt, alloc, (1, &BREAKS), &[], u64::MAX);
+    let (fault, sights) = seen(&rt, alloc, &breaks);
+    assert!(&rt; fault.is_none());
+    assert_trap(&rt, sights.first(), Cause::Break, (0, 2, 12));
+    let faults = cluster(&rt, alloc, (2, &FAULTS), &[], u64::MAX);
+    let (fault, sights) = seen(&rt, alloc, &faults);
+    assert!(&rt; fault.is_none());
+    assert_trap(&rt, sights.get(1), Cause::DataOutside, (1, 7, 56));
+}
+
+// Whether this failure is one of these.
+fn has_failure(failures: &[(Pid, u32)], p: usize, interval: u32) -> bool {
+    failures
+        .iter()
+        .any(|failure| failure.0.index() == p && failure.1 == interval)
+}
+
+// The failures that were seen of a ring of eight of which these are to fail.
+fn failures_of<R: Threads + Wait + Clock + Abort + Sync>(
+    rt: &R,
+    alloc: Global,
+    kills: &[(u32, u32)],
+) -> Vec<(Pid, u32)> {
+    let config = ring(rt, alloc, 8, kills);
+    let (fault, watch) = watched(rt, alloc, &config);
+    drop(config);
+    assert!(rt; fault.is_none());
+    watch.failures(rt, alloc).expect(rt, "memory")
+}
+
+// Of the kills that are planned those alone are seen that came: none is at the start, and none behind the six receipts.
+#[test]
+fn failures_are_seen(rt: HostRuntime) {
+    let alloc = rt.alloc();
+    assert!(&rt; failures_of(&rt, alloc, &[]).is_empty());
+    let failures = failures_of(&rt, alloc, &[(5, 5), (2, 7), (3, 3), (4, 0)]);
+    assert!(&rt; failures.len() == 2);
+    assert!(&rt; has_failure(&failures, 3, 3));
+    assert!(&rt; has_failure(&failures, 5, 5));
+}
+
 // One that waits for a message.
 fn sight(
     rt: &impl Abort,
@@ -133,6 +218,7 @@ fn sight(
         doing: WAITING,
         interval: 5,
         count,
+        pc: 0,
         put,
         taken,
         front: Some(front(rt, version, 1, vec)),

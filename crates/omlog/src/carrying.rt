@@ -1,13 +1,15 @@
 //! What the words of the command line ask for is carried out.
 
-ghost use Rattle.std.specs.Prelude.{◌≡◌};
+ghost use Rattle.std.specs.Prelude.{◌≡◌, OnOk};
+ghost use Rattle.std.specs.Io.KnownBytes.{Appends};
+ghost use Rattle.om_folding.specs.Folding.{folded};
 ghost use Rattle.omlog.specs.Modes.{form_of};
 
 use crate::cluster_files::ClusterFiles;
 use crate::exploring::explore_over;
 use crate::failure::Failure;
 use crate::output::Output;
-use crate::reasons::{Reasons, advice_on, rule_of};
+use crate::reasons::Reasons;
 use crate::source::source_of;
 use crate::store_files::run_over_tables;
 use crate::surroundings::Job;
@@ -16,12 +18,15 @@ use om_arguments::{Asked, Lines, Look, OutputForm, Request, end, end_unasked, en
 use om_commands::decode::decode;
 use om_commands::frontier::frontier;
 use om_commands::sim::sim;
-use om_commands::{BytesForm, CommandError};
+use om_commands::{BytesForm, CommandError, write_answer};
 use om_draw_command::draw::{Window, draw};
-use om_files::{fault_of, replay_file, show_file, steps_file};
+use om_files::{fault_of, replay_file, show_bodies_file, show_file, steps_file};
+use om_folding::fold_zero_rows;
 use om_image::{ImageError, image};
+use om_reasons::{advice_on, rule_of};
 use om_runner::InMemory;
 use om_text::{LineError, read_text};
+use std::alloc::Global;
 use std::io::{Read, Write};
 use std::process::ExitCode;
 use std::rt::Runtime;
@@ -83,7 +88,7 @@ fn end_carried(rt: &HostRuntime, outcome: Result<(), Failure>) -> ExitCode {
         Ok(()) => ExitCode::SUCCESS,
         Err(Failure::Refused(error)) => end(rt, Err(error)),
         Err(Failure::Unread) => ExitCode::from(CLOSED_PIPE),
-        Err(Failure::Trapped) => ExitCode::FAILURE,
+        Err(Failure::Strict) => ExitCode::FAILURE,
     }
 }
 
@@ -126,11 +131,20 @@ fn carry_out<R: Threads + Wait + Clock + Eprint + Sync>(
         answer(rt, threads, asked, reader, reasons)
     };
     if let Err(Failure::Refused(error)) = outcome {
-        if let Some(advice) = advice_on(error) {
-            reasons.advise(advice);
-        }
+        advise(reasons, error);
     }
     outcome
+}
+
+// What may be done about a fault. Where a file could not be read or written, that is told already.
+fn advise(reasons: &mut Reasons, error: CommandError) {
+    let is_stream = matches!(error, CommandError::CannotRead | CommandError::CannotWrite);
+    if is_stream && !reasons.is_empty() {
+        return;
+    }
+    if let Some(advice) = advice_on(error) {
+        reasons.advise(advice);
+    }
 }
 
 fn reads_text(request: Request<'_>) -> bool {
@@ -235,19 +249,57 @@ fn look_into<W: Write>(
 
 fn file_of<'a>(look: Look<'a>) -> &'a str {
     match look {
-        Look::Show { file } | Look::Replay { file, .. } | Look::Steps { file, .. } => file,
+        Look::Show { file, .. } | Look::Replay { file, .. } | Look::Steps { file, .. } => file,
     }
 }
 
+// Writes what a look is to show. Where rows of zeros are to be folded, it is made whole before it is written.
 fn look_at<W: Write>(rt: &HostRuntime, look: Look<'_>, writer: &mut W) -> Result<(), CommandError> {
+    if !is_short(look) {
+        return look_long(rt, look, writer);
+    }
+    let mut text = Vec::new(rt.alloc());
+    match look_long(rt, look, &mut text) {
+        // Only memory refuses what is written there.
+        Err(CommandError::CannotWrite) => Err(CommandError::NoMemory),
+        Err(error) => Err(error),
+        Ok(()) => write_folded(rt.alloc(), &text, writer),
+    }
+}
+
+fn is_short(look: Look<'_>) -> bool {
     match look {
-        Look::Show { file } => show_file(rt, file, writer),
-        Look::Replay { file, interval } => replay_file(rt, file, interval, writer),
+        Look::Show { .. } => false,
+        Look::Replay { short, .. } | Look::Steps { short, .. } => short,
+    }
+}
+
+fn write_folded<W: Write>(alloc: Global, text: &[u8], writer: &mut W) -> Result<(), CommandError>
+    ensures { OnOk result (Appends (W.contents writer.old) (W.contents writer.new) (folded text.now)) }
+{
+    let short = fold_zero_rows(alloc, text)?;
+    write_answer(writer, &short)
+}
+
+// Writes it with all rows.
+fn look_long<W: Write>(
+    rt: &HostRuntime,
+    look: Look<'_>,
+    writer: &mut W,
+) -> Result<(), CommandError> {
+    match look {
+        Look::Show { file, bodies: None } => show_file(rt, file, writer),
+        Look::Show {
+            file,
+            bodies: Some(form),
+        } => show_bodies_file(rt, file, form_of(form), writer),
+        Look::Replay { file, interval, .. } => replay_file(rt, file, interval, writer),
         Look::Steps {
             file,
             interval,
             steps,
             traced,
+            ..
         } => steps_file(rt, file, interval, steps, traced, writer),
     }
 }

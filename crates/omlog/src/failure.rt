@@ -9,8 +9,8 @@ pub(crate) enum Failure {
     Refused(CommandError),
     // Whoever read standard output has closed it, and wants no more.
     Unread,
-    // A process trapped, where that is a failure.
-    Trapped,
+    // A process trapped or a kill did not come, where that is a failure.
+    Strict,
 }
 
 impl From<CommandError> for Failure {

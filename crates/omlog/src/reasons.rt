@@ -1,7 +1,7 @@
 //! Why a command was refused, in more words than the line that tells it.
 
-use om_commands::CommandError;
-use om_text::{LineError, ScriptError};
+use om_reasons::rule_of;
+use om_text::ScriptError;
 use std::alloc::Global;
 use std::fmt::{Display, Write};
 use std::io::IsTerminal;
@@ -28,6 +28,11 @@ impl Reasons {
             are_heard,
             text: String::new(alloc),
         }
+    }
+
+    // Whether nothing is told yet.
+    pub(crate) fn is_empty(&self) -> bool {
+        self.text.is_empty()
     }
 
     // What is the matter with a file.
@@ -93,41 +98,4 @@ fn shown(alloc: Global, line: &[u8]) -> Result<String, std::alloc::AllocError> {
         text.push_str(" ..")?;
     }
     Ok(text)
-}
-
-// The rule that a faulty line breaks.
-pub(crate) fn rule_of(error: LineError) -> &'static str {
-    match error {
-        LineError::UnknownLine => "no line begins with this word",
-        LineError::WrongCount => "a line of this kind has another count of words",
-        LineError::BadNumber => "a number is digits alone, and within what its line takes",
-        LineError::BadWord => "a word is eight hexadecimal digits",
-        LineError::BadName => "a name is 1 to 32 letters, digits and _",
-        LineError::NameTaken => "a line above gave this name",
-        LineError::NoSuchName => "no line above gave a name that stands here",
-        LineError::OutOfPlace => "lines of this kind stand further above",
-        LineError::TooMany =>
-            "there are more of these than the 16 processes or 64 kills that may be",
-        LineError::BadSize => "a size is 4 to 65536, a multiple of 4",
-        LineError::ImageTooLong => "the words take more bytes than the size",
-    }
-}
-
-// What may be done about an error of which a file tells nothing.
-pub(crate) fn advice_on(error: CommandError) -> Option<&'static str> {
-    match error {
-        CommandError::TooLong => Some("an input has at most 16777216 bytes"),
-        CommandError::EmptyScript => Some("the input names no process"),
-        CommandError::NoCheckpoint | CommandError::MissingReceipt(_) => Some(
-            "omlog show FILE says which intervals can be replayed",
-        ),
-        CommandError::Damaged(_) | CommandError::Mismatch(_) => Some(
-            "the store was changed behind its run, or is of another process",
-        ),
-        CommandError::OutOfTurns => Some(
-            "waits: a message that it needs never comes; runs: it needs more turns (--turns) or more instructions in each (the line fuel)",
-        ),
-        CommandError::NoThread => Some("each process runs in a thread of its own"),
-        _ => None,
-    }
 }

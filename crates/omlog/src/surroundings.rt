@@ -5,13 +5,16 @@ ghost use Rattle.om_run_commands.specs.Modes.{IsErrorOfContext};
 
 use crate::reasons::Reasons;
 use crate::watching::Stage;
-use om_arguments::{Checking, Running};
+use om_arguments::{Checking, Kills, Running};
 use om_commands::CommandError;
 use om_files::{
     Clash, PlaceError, Places, clash_with_streams, clashes_with_stores, first_unusable, settle,
 };
 use om_process::Status;
-use om_run_commands::{ClusterScript, RunContext, trapped_text, waiting_text};
+use om_run_commands::{
+    ClusterScript, RandomKills, RunContext, has_kills_left, kills_left_text, trapped_text,
+    waiting_text,
+};
 use om_runner::Watch;
 use std::alloc::AllocError;
 use std::fmt::Display;
@@ -37,6 +40,8 @@ pub(crate) struct Surroundings<'a, 'w, R> {
     pub(crate) watch: Option<&'w Watch>,
     stage: &'w Stage,
     pub(crate) reasons: Reasons,
+    // Whether a kill of the input did not come, or it cannot be told.
+    pub(crate) lacks_kill: bool,
     // The files of the stores.
     places: Option<Places>,
     // The file of a witness or a record.
@@ -44,6 +49,12 @@ pub(crate) struct Surroundings<'a, 'w, R> {
 }
 
 impl<'a, 'w, R: Wait> RunContext for Surroundings<'a, 'w, R> {
+    fn random_kills(&self) -> Option<RandomKills> {
+        let Kills { count, seed } = self.job.running.kills?;
+        let count = count as usize;
+        Some(RandomKills { count, seed })
+    }
+
     fn begin(&mut self, script: &ClusterScript) -> Result<(), CommandError> {
         let n = script.programs().n();
         self.refuse_clash(n)?;
@@ -66,9 +77,10 @@ impl<'a, 'w, R: Wait> RunContext for Surroundings<'a, 'w, R> {
     // Once the run ended well, each store is in its one file; where it was refused, the files that nobody wrote to are removed.
     fn end(&mut self, script: &ClusterScript, outcome: Result<&[Status], CommandError>) {
         match outcome {
-            Ok(statuses) => {
+            Ok(_) => {
                 self.settle(script);
-                self.add_trapped(script, statuses);
+                self.add_trapped(script);
+                self.add_kills_left(script);
             }
             Err(error) => {
                 self.blame(script, error);
@@ -95,6 +107,7 @@ impl<'a, 'w, R: Wait> Surroundings<'a, 'w, R> {
             watch,
             stage,
             reasons: Reasons::empty(rt.alloc(), are_heard),
+            lacks_kill: false,
             places: None,
             file: None,
         }
@@ -177,7 +190,10 @@ impl<'a, 'w, R: Wait> Surroundings<'a, 'w, R> {
     fn blame(&mut self, script: &ClusterScript, error: CommandError) {
         match error {
             CommandError::StoreFault => self.add_fault(script),
-            CommandError::OutOfTurns => self.add_waiting(script),
+            CommandError::OutOfTurns => {
+                self.add_waiting(script);
+                self.add_kills_left(script);
+            }
             CommandError::StoreInUse(process) => self.add_store(process, "is in use"),
             CommandError::AnotherCluster(process) => self.add_store(
                 process,
@@ -209,8 +225,30 @@ impl<'a, 'w, R: Wait> Surroundings<'a, 'w, R> {
     }
 
     // Which processes trapped, and of what.
-    fn add_trapped(&mut self, script: &ClusterScript, statuses: &[Status]) {
-        if let Ok(text) = trapped_text(self.rt.alloc(), script, statuses) {
+    fn add_trapped(&mut self, script: &ClusterScript) {
+        let Some(watch) = self.watch else {
+            return;
+        };
+        let Ok(sights) = watch.sights(self.threads, self.rt.alloc()) else {
+            return;
+        };
+        if let Ok(text) = trapped_text(self.rt.alloc(), script, &sights) {
+            self.reasons.add_lines(text.as_str());
+        }
+    }
+
+    // Which kills did not come. Those that are drawn need not.
+    fn add_kills_left(&mut self, script: &ClusterScript) {
+        let Some(watch) = self.watch else {
+            return;
+        };
+        let Ok(failures) = watch.failures(self.threads, self.rt.alloc()) else {
+            self.lacks_kill = true;
+            return;
+        };
+        let are_drawn = self.job.running.kills.is_some();
+        self.lacks_kill = !are_drawn && has_kills_left(script.kills(), &failures);
+        if let Ok(text) = kills_left_text(self.rt.alloc(), script, &failures) {
             self.reasons.add_lines(text.as_str());
         }
     }

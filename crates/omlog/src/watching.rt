@@ -110,8 +110,8 @@ fn run_as<'a, 'w, R: Threads + Wait + Clock + Sync, O: Opener<R> + Sync, I: Read
         Output::new(rt),
     );
     let statuses = output.ended(outcome)?;
-    if running.strict && has_trapped(&statuses) {
-        return Err(Failure::Trapped);
+    if running.strict && (has_trapped(&statuses) || surroundings.lacks_kill) {
+        return Err(Failure::Strict);
     }
     Ok(())
 }
@@ -184,7 +184,8 @@ fn run_beside<'a, 'w, R: Threads + Wait + Clock + Eprint + Sync, O: Opener<R> + 
     outcome
 }
 
-// Runs the cluster of an input over stores that are made so. Where more is to be said, its processes are watched.
+// Runs the cluster of an input over stores that are made so. Where more is to be said, or each kill is to come, its processes are
+// watched.
 pub(crate) fn run_watched<
     'a,
     R: Threads + Wait + Clock + Eprint + Sync,
@@ -199,7 +200,7 @@ pub(crate) fn run_watched<
     reasons: &mut Reasons,
 ) -> Result<(), Failure> {
     let stage = Stage::new();
-    if !reasons.are_heard {
+    if !reasons.are_heard && !job.running.strict {
         return run_beside(rt, threads, job, (None, &stage), opener, reader, reasons);
     }
     let watch = Watch::new(rt.alloc(), MAX_PROCESSES)?;

@@ -36,9 +36,9 @@ subcommand_named name =
 
 -- the subcommand that looks into a store so
 abbrev pub looked_by : Look → Subcommand
-looked_by (looks.Show file) = Show
-looked_by (looks.Replay file interval) = Replay
-looked_by (looks.Steps file interval steps traced) = Replay
+looked_by (looks.Show file bodies) = Show
+looked_by (looks.Replay file interval short) = Replay
+looked_by (looks.Steps file interval steps traced short) = Replay
 
 -- the subcommand that a request is of
 abbrev pub asked_by : Request → Subcommand

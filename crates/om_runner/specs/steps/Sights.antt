@@ -1,7 +1,8 @@
 -- What is shown of a process.
-use Rattle.om_process.specs.Core.{move_of, status_of}
+use Rattle.om_process.specs.Core.{CoreState, move_of, status_of}
 use Rattle.om_observers.specs.declared.sight.Doing.{Doing}
 use Rattle.om_observers.specs.declared.sight.Doing.TheVariants as shown
+use Rattle.om_observers.specs.declared.sight.Sight.{Sight}
 use Rattle.om_runner.specs.declared.worker.Place.{Place}
 use Rattle.om_runner.specs.declared.worker.Place.TheVariants.{Up, Called, In, Failed, Down, Over}
 
@@ -13,3 +14,21 @@ doing_at (Called node) = shown.Called
 doing_at (In node) = shown.Joined
 doing_at (Failed down_node) = shown.Down
 doing_at (Down down_node) = shown.Down
+
+-- what is seen of a process that does this, once this was seen of it before
+abbrev pub sight_of : Doing → Sight → CoreState → Sight
+sight_of doing before core = record before {
+  doing = doing;
+  interval = core.now.interval;
+  count = core.now.machine.count;
+  pc = core.now.machine.pc;
+}
+
+-- what is seen of a process that stands there, once this was seen of it before; of one that is down, what it does
+abbrev pub sight_at : {S : Type 0} → Sight → Place S → Sight
+sight_at before (Up node) = sight_of (shown.Up (status_of (move_of node.core))) before node.core
+sight_at before (Over node) = sight_of (shown.Up (status_of (move_of node.core))) before node.core
+sight_at before (Called node) = sight_of shown.Called before node.core
+sight_at before (In node) = sight_of shown.Joined before node.core
+sight_at before (Failed down_node) = record before { doing = shown.Down }
+sight_at before (Down down_node) = record before { doing = shown.Down }

@@ -1,9 +1,8 @@
 use Rattle.std.proofs.Common.{◌≡◌, ◌++◌, string_bytes}
 use Rattle.std.specs.Prelude.{slice_index_or}
 use Rattle.std.specs.List.{flat_map, range_with_len}
-use Rattle.om_process.specs.declared.status.Status.TheVariants.{Ready}
 use Rattle.om_commands.specs.SimText.{name_at}
-use Rattle.om_run_commands.specs.Trapped.{trap_line}
+use Rattle.om_run_commands.specs.Trapped.{trap_line, unseen}
 use Rattle.om_run_commands.proofs.trapped.push_traps.Given as goal
 
 -- the lines of the processes so far
@@ -11,4 +10,4 @@ abbrev pub invariant-loop-p : goal.invariant-loop-p
 invariant-loop-p l =
     string_bytes l.text
     ≡ string_bytes l.initial.text
-    ++ flat_map (λ p. trap_line (name_at l.programs p) (slice_index_or l.statuses p Ready)) (range_with_len 0 l.p)
+    ++ flat_map (λ p. let at = slice_index_or l.sights p unseen in trap_line (name_at l.programs p) at.doing at.pc) (range_with_len 0 l.p)
