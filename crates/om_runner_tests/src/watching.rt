@@ -219,6 +219,7 @@ fn sight(
         interval: 5,
         count,
         pc: 0,
+        refused: 0,
         put,
         taken,
         front: Some(front(rt, version, 1, vec)),
