@@ -152,10 +152,19 @@ refused_one own n p =
 
 -- those of turns, and then of more
 pub refused_add : (own n j k : ℕ) (s t : Process) → Turns own n j s t → refused_sends own n (j + k) s ≡ refused_sends own n j s + refused_sends own n k t
-refused_add own n zero k s t same = ap (refused_sends own n k) (sym same)
+refused_add own n zero k s t same =
+    let e : 0 + k ≡ k = omega arith in
+    let first : refused_sends own n (0 + k) s ≡ refused_sends own n k s = ap (λ i. refused_sends own n i s) e in
+    let next : refused_sends own n k s ≡ refused_sends own n k t = ap (refused_sends own n k) (sym same) in
+    let none : refused_sends own n zero s ≡ 0 = refl in
+    omega arith
 refused_add own n (suc j) k s t turns =
+    let one : ℕ = if is_refused_send n (made s.queues) (next_of s.machine).0 then 1 else 0 in
+    let e : suc j + k ≡ suc (j + k) = omega arith in
+    let all : refused_sends own n (suc j + k) s ≡ one + option_map_or (refused_sends own n (j + k)) (next_turn own n s) 0 = ap (λ i. refused_sends own n i s) e in
+    let some : refused_sends own n (suc j) s ≡ one + option_map_or (refused_sends own n j) (next_turn own n s) 0 = refl in
     let first : option_map_or (refused_sends own n (j + k)) (next_turn own n s) 0 ≡ refused_sends own n (j + k) turns.0 = ap (λ o. option_map_or (refused_sends own n (j + k)) o 0) turns.1 in
-    let same : option_map_or (refused_sends own n j) (next_turn own n s) 0 ≡ refused_sends own n j turns.0 = ap (λ o. option_map_or (refused_sends own n j) o 0) turns.1 in
+    let next : option_map_or (refused_sends own n j) (next_turn own n s) 0 ≡ refused_sends own n j turns.0 = ap (λ o. option_map_or (refused_sends own n j) o 0) turns.1 in
     let more : refused_sends own n (j + k) turns.0 ≡ refused_sends own n j turns.0 + refused_sends own n k t = refused_add own n j k turns.0 t turns.2 in
     omega arith
 

@@ -1,6 +1,9 @@
 //! What a process does at an event of its machine.
 
-ghost use Rattle.std.specs.Prelude.{◌≡◌, ℕ, ◌++◌, ◌∷◌, [], length};
+ghost use Rattle.std.specs.Prelude.{◌≡◌, ◌≤◌, ◌<◌, ℕ, ◌++◌, ◌∷◌, [], false, length, slice_index};
+ghost use Rattle.om_format.specs.declared.limits.TheConstants.{MAX_BODY};
+ghost use Rattle.om_interval.specs.declared.pid.TheConstants.{MAX_PROCESSES};
+ghost use Rattle.om_process.specs.declared.limits.TheConstants.{LAST_NUMBER};
 ghost use Rattle.om_machine.specs.State.{State};
 ghost use Rattle.om_process.specs.Turns.{after_event, may_not_send};
 ghost use Rattle.om_process.specs.Core.{status_of};
@@ -63,7 +66,10 @@ pub fn plan_at(machine: &Machine, sent: &DepVec, event: Event) -> Plan
 /// Whether a process, which sent so many messages, may not send so many bytes to this one: there is none, they are too many, or the
 /// numbers of its messages are used up.
 pub fn may_not_send(sent: &DepVec, to: u32, len: u32) -> bool
-    ensures { (made : ℕ) → result ≡ may_not_send (length sent.now) (sent.now ++ made ∷ []) to len }
+    ensures told { (made : ℕ) → result ≡ may_not_send (length sent.now) (sent.now ++ made ∷ []) to len }
+    ensures there { result ≡ false → (to < length sent.now) × (to < MAX_PROCESSES) }
+    ensures short { result ≡ false → len ≤ MAX_BODY }
+    ensures numbered { result ≡ false → slice_index sent.now to < LAST_NUMBER }
 {
     to as usize >= sent.n()
         || len as usize > MAX_BODY
