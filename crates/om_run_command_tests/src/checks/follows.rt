@@ -81,6 +81,23 @@ fn what_was_released_is_written(rt: HostRuntime) {
     );
 }
 
+// By process: its bytes that were released, where the run is refused. At the end nothing more would have been written.
+#[test]
+fn bytes_that_were_released_are_written(rt: HostRuntime) {
+    for (name, bytes) in [("a", b"\x93\x08\x10\x00".as_slice()), ("c", b"".as_slice())] {
+        let (mode, form) = (RunMode::FollowRaw(name), BytesForm::Hex);
+        let turns = 100_000;
+        let command = Command { mode, form, turns };
+        let mut input = ENDLESS.as_bytes();
+        let written = Vec::new(rt.alloc());
+        let told = carry_out(&rt, rt.alloc(), command, &mut input, written);
+        assert!(&rt;
+            told.0 == Err(CommandError::OutOfTurns) && told.1.as_slice() == bytes,
+            "{name}"
+        );
+    }
+}
+
 // r puts out its first bytes, and only then takes a message of q, which it sends back. q puts out what comes back: after r's output
 // is released.
 const PAIR: &str =
