@@ -1,17 +1,19 @@
 -- What a run of any mode answers and is refused with, by the script that was read, and by the bytes that it was read from.
-use Rattle.std.proofs.Common.{◌≡◌, ℕ, Option, None, Some, Result, Ok, Err, List, sym, subst}
+use Rattle.std.proofs.Common.{◌≡◌, ℕ, Option, None, Some, Result, Ok, Err, List, [], false, true, refl, sym, subst}
 use Rattle.std.specs.Prelude.{IfErr, IfOk, IfSome, Vec}
 use Rattle.std.specs.Io.KnownBytes.{Appends, Keeps}
-use Rattle.std.proofs.KnownBytes.{Keeps-refl}
+use Rattle.std.proofs.KnownBytes.{Appends-nil, Keeps-refl}
+use Rattle.om_board.proofs.ListLemmas.{none_in}
 use Rattle.std.specs.declared.alloc.Global.{Global}
 use Rattle.om_process.specs.declared.status.Status.{Status}
 use Rattle.om_commands.specs.Command.{IsErrorOf, IsScript}
 use Rattle.om_commands.specs.declared.bytes_text.BytesForm.{BytesForm}
 use Rattle.om_commands.specs.declared.error.CommandError.{CommandError}
 use Rattle.om_commands.specs.declared.error.CommandError.TheVariants as errors
+use Rattle.om_scripts.specs.Named.{place_of}
 use Rattle.om_scripts.specs.Programs.{Cluster}
 use Rattle.om_run_commands.specs.ClusterScript.{ClusterFile, cluster_file_line, no_settings}
-use Rattle.om_run_commands.specs.Modes.{IsErrorIn, IsPartIn, IsRunIn}
+use Rattle.om_run_commands.specs.Modes.{IsErrorIn, IsErrorOfContext, IsFollowing, IsPartIn, IsRunIn}
 use Rattle.om_run_commands.specs.declared.mode.RunMode.{RunMode}
 use Rattle.om_run_commands.specs.declared.mode.RunMode.TheVariants as modes
 use Rattle.om_run_commands.specs.Run.{IsByKind}
@@ -193,3 +195,53 @@ pub partly_of_reading : (mode : RunMode) (form : BytesForm) (over_clean : Type 0
 partly_of_reading mode form over_clean None start error contents is wrong = tt
 partly_of_reading mode form over_clean (Some bytes) start error contents is wrong =
     partly_unread bytes error _ _ (subst (λ s. IsErrorOf cluster_file_line s (λ _. ⊥) bytes error) is wrong) (Keeps-refl contents)
+
+-- ---- a run that was not made ready
+place_there : (o : Option ℕ) → (o ≡ None → false ≡ true) → (p : ℕ) × (o ≡ Some p)
+place_there (Some p) lacks = (p, refl)
+place_there None lacks =
+    let no : false ≡ true = lacks refl in
+    let never : ⊥ = cc in
+    absurd never
+
+-- nothing that was written is a part, where the process is there that is asked for
+nothing_written : (mode : RunMode) (form : BytesForm) (over_clean : Type 0) (script : ClusterFile) (cluster : Cluster) (a : Option (List ℕ))
+    → cluster ≡ script.cluster → IsFollowing mode → (LacksIn mode cluster → false ≡ true) → IsPartOfScriptIn mode form over_clean script a a
+nothing_written modes.Plain form over_clean script cluster a same never lacks = absurd never
+nothing_written modes.Check form over_clean script cluster a same never lacks = absurd never
+nothing_written modes.Witness form over_clean script cluster a same never lacks = absurd never
+nothing_written modes.Record form over_clean script cluster a same never lacks = absurd never
+nothing_written modes.Follow form over_clean script cluster a same follows lacks =
+    ([], λ p i t at. absurd (none_in i t at), λ clean p i t at. absurd (none_in i t at), Appends-nil a)
+nothing_written (modes.Raw name) form over_clean script cluster a same never lacks = absurd never
+nothing_written (modes.FollowRaw name) form over_clean script cluster a same follows lacks =
+    let named = place_there (place_of name.now script.cluster.processes)
+    (λ (none : place_of name.now script.cluster.processes ≡ None). lacks (subst (λ (k : Cluster). place_of name.now k.processes ≡ None) (sym same) none))
+    in (named.0, named.1, ([], λ p i t at. absurd (none_in i t at), λ clean p i t at. absurd (none_in i t at), Appends-nil a))
+
+by_context : (error : CommandError) (part none : Type 0) → IsErrorOfContext error → part → IsByKind error part none
+by_context errors.CannotWrite part none told is = tt
+by_context errors.NoMemory part none told is = tt
+by_context errors.StoreFault part none told is = is
+by_context errors.OutOfTurns part none never is = absurd never
+by_context errors.GateShut part none never is = absurd never
+by_context (errors.StoreInUse process) part none never is = absurd never
+by_context (errors.AnotherCluster process) part none never is = absurd never
+by_context (errors.StoreMissing process) part none never is = absurd never
+by_context errors.NoThread part none never is = absurd never
+by_context errors.TooLong part none never is = absurd never
+by_context errors.CannotRead part none never is = absurd never
+by_context errors.EmptyScript part none never is = absurd never
+by_context (errors.Script error) part none never is = absurd never
+by_context errors.NoCheckpoint part none never is = absurd never
+by_context (errors.Damaged y) part none never is = absurd never
+by_context (errors.MissingReceipt y) part none never is = absurd never
+by_context (errors.Mismatch y) part none never is = absurd never
+by_context errors.Unlike part none never is = absurd never
+by_context errors.NoSuchProcess part none never is = absurd never
+
+pub partly_of_context : (mode : RunMode) (form : BytesForm) (over_clean : Type 0) (script : ClusterFile) (cluster : Cluster) (error : CommandError) (a : Option (List ℕ))
+    (none : Type 0) → IsErrorOfContext error → cluster ≡ script.cluster → IsFollowing mode → (LacksIn mode cluster → false ≡ true)
+    → IsByKind error (IsPartOfScriptIn mode form over_clean script a a) none
+partly_of_context mode form over_clean script cluster error a none told same follows lacks =
+    by_context error (IsPartOfScriptIn mode form over_clean script a a) none told (nothing_written mode form over_clean script cluster a same follows lacks)

@@ -1,6 +1,6 @@
 //! The command `run --follow --raw`: a cluster of which the bytes of one process are written as they are released.
 
-ghost use Rattle.std.specs.Prelude.{◌≡◌, ◌≤◌, ℕ, IfErr, IfOk, IsTrue, length};
+ghost use Rattle.std.specs.Prelude.{◌≡◌, ◌≤◌, ℕ, IfErr, IfOk, IsTrue, List, length};
 ghost use Rattle.std.specs.Io.KnownBytes.{Appends, Keeps};
 ghost use Rattle.om_run_commands.specs.Follow.{IsBytesAnswer, IsFollowedRawAnswer, IsPartOfBytes, IsRawPartOf, bytes_told};
 ghost use Rattle.om_run_commands.specs.Run.{IsByKind};

@@ -12,8 +12,8 @@ returns-in-Ok-ended-clause-text g c =
     c.in-Ok-ended.is c.in-Ok.ensures.programs
     run.ensures.released run.ensures.made run.ensures.processes run.ensures.statuses run.ensures.ended run.ensures.along run.ensures.all run.ensures.told
 
-pub returns-in-Err-clause-partly : goal.returns-in-Err-clause-partly
-returns-in-Err-clause-partly g c =
+pub returns-clause-partly : goal.returns-clause-partly
+returns-clause-partly g c =
     let run = c.run_and_follow-ended in
     part_of_bytes c.args.pid ((store : g.row.O-Store.Denot) → IsTrue (g.O.Store.Stable.is_clean store)) c.args.script.now c.in-Ok.config.images.items
     run.result.0 c.in-Err.fault c.error_of.result (run.result.1.pid ≡ c.args.pid)
