@@ -10,6 +10,9 @@ use om_runner::{OpenFault, Opener};
 use om_stable::MemStable;
 use std::alloc::Global;
 use std::process::Abort;
+use std::sync::Wait;
+use std::thread::Threads;
+use std::time::Clock;
 
 // The turns of a worker where nothing else is said.
 const TURNS: u64 = 50_000_000;

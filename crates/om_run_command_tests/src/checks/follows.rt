@@ -81,21 +81,29 @@ fn what_was_released_is_written(rt: HostRuntime) {
     );
 }
 
-// By process: its bytes that were released, where the run is refused. At the end nothing more would have been written.
+// What a run that is followed writes of one process.
+fn followed_raw<R: Threads + Wait + Clock + Abort + Sync>(
+    rt: &R,
+    alloc: Global,
+    name: &'static str,
+    turns: u64,
+    mut input: &[u8],
+) -> (Result<(), CommandError>, Vec<u8>) {
+    let (mode, form) = (RunMode::FollowRaw(name), BytesForm::Hex);
+    let command = Command { mode, form, turns };
+    carry_out(rt, alloc, command, &mut input, Vec::new(alloc))
+}
+
+// The bytes that were released of a process are written where the run is refused: at its end nothing more would have been.
 #[test]
 fn bytes_that_were_released_are_written(rt: HostRuntime) {
-    for (name, bytes) in [("a", b"\x93\x08\x10\x00".as_slice()), ("c", b"".as_slice())] {
-        let (mode, form) = (RunMode::FollowRaw(name), BytesForm::Hex);
-        let turns = 100_000;
-        let command = Command { mode, form, turns };
-        let mut input = ENDLESS.as_bytes();
-        let written = Vec::new(rt.alloc());
-        let told = carry_out(&rt, rt.alloc(), command, &mut input, written);
-        assert!(&rt;
-            told.0 == Err(CommandError::OutOfTurns) && told.1.as_slice() == bytes,
-            "{name}"
-        );
-    }
+    let file = ENDLESS.as_bytes();
+    let of_a = followed_raw(&rt, rt.alloc(), "a", 100_000, file);
+    assert!(&rt;
+        of_a.0 == Err(CommandError::OutOfTurns) && of_a.1.as_slice() == b"\x93\x08\x10\x00"
+    );
+    let of_c = followed_raw(&rt, rt.alloc(), "c", 1_000, file);
+    assert!(&rt; of_c.0 == Err(CommandError::OutOfTurns) && of_c.1.is_empty());
 }
 
 // r puts out its first bytes, and only then takes a message of q, which it sends back. q puts out what comes back: after r's output
