@@ -218,7 +218,8 @@ in place of HEX, with the escapes of C: \\\" \\\\ \\n \\t \\r, and any other byt
 is no printable ASCII as a backslash and three octal digits.
 
 With --raw NAME only the bytes that the process NAME put out are written, one
-output behind the other, when the run has ended.
+output behind the other, when the run has ended; with --follow too, each output
+as soon as it is released.
 
 With --kills N as many kills, 64 at most, are drawn by --seed S in place of the
 lines kill: each of any process, at an interval from 1 to 4, 16, 64, 256 or 1024.
@@ -420,6 +421,7 @@ pub enum Checking<'a> {
     Record(&'a str),
     Follow,
     Raw(&'a str),
+    FollowRaw(&'a str),
 }
 
 /// A request, and the file that is read in place of standard input, where one is named.
@@ -557,20 +559,29 @@ pub(crate) fn form_of(with_text: bool) -> OutputForm
     }
 }
 
-// How a run is to be checked, recorded or followed: with a file for its witness it always is checked. The command line takes no
-// other two of them together.
+// How a run is to be checked, recorded or followed: with a file for its witness it always is checked, and the bytes of one process
+// may be followed. The command line takes no other two of them together.
 fn checking_of<'a>(found: &ArgMatches<'a>) -> Checking<'a> {
     if let Some(path) = found.get_str(WITNESS) {
         return Checking::Witness(path);
     }
     if let Some(name) = found.get_str(RAW) {
-        return Checking::Raw(name);
+        return raw_of(name, found.get_flag(FOLLOW));
     }
     match found.get_str(RECORD) {
         Some(path) => Checking::Record(path),
         None if found.get_flag(CHECK) => Checking::Check,
         None if found.get_flag(FOLLOW) => Checking::Follow,
         None => Checking::Off,
+    }
+}
+
+// How the bytes of a process are to be written: at the end, or as they are released.
+fn raw_of<'a>(name: &'a str, follows: bool) -> Checking<'a> {
+    if follows {
+        Checking::FollowRaw(name)
+    } else {
+        Checking::Raw(name)
     }
 }
 
@@ -808,7 +819,6 @@ fn raw_option<'a>(alloc: Global) -> Result<Arg<'a>, AllocError> {
         .conflicts_with(CHECK)?
         .conflicts_with(WITNESS)?
         .conflicts_with(RECORD)?
-        .conflicts_with(FOLLOW)?
         .conflicts_with(TEXT)
 }
 

@@ -76,8 +76,8 @@ static MISTAKES: [(&[&str], &str); 16] = [
         "error: the argument '--raw <NAME>' cannot be used with '--text'\n\nUsage: omlog run --raw <NAME> [FILE]\n\nFor more information, try '--help'.\n",
     ),
     (
-        &["omlog", "run", "--raw", "p", "--follow"],
-        "error: the argument '--raw <NAME>' cannot be used with '--follow'\n\nUsage: omlog run --raw <NAME> [FILE]\n\nFor more information, try '--help'.\n",
+        &["omlog", "run", "--raw", "p", "--check"],
+        "error: the argument '--raw <NAME>' cannot be used with '--check'\n\nUsage: omlog run --raw <NAME> [FILE]\n\nFor more information, try '--help'.\n",
     ),
 ];
 

@@ -152,7 +152,7 @@ type Run = (
     Option<&'static str>,
 );
 
-static RUNS: [(&[&str], Run); 9] = [
+static RUNS: [(&[&str], Run); 10] = [
     (&["omlog", "run"], (50_000_000, None, Checking::Off, None)),
     (
         &["omlog", "run", "ring.txt"],
@@ -192,6 +192,10 @@ static RUNS: [(&[&str], Run); 9] = [
     (
         &["omlog", "run", "--raw", "p0", "c"],
         (50_000_000, None, Checking::Raw("p0"), Some("c")),
+    ),
+    (
+        &["omlog", "run", "--follow", "--raw", "p0"],
+        (50_000_000, None, Checking::FollowRaw("p0"), None),
     ),
 ];
 

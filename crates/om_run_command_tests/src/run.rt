@@ -10,6 +10,9 @@ use om_runner::{OpenFault, Opener};
 use om_stable::MemStable;
 use std::alloc::Global;
 use std::process::Abort;
+use std::sync::Wait;
+use std::thread::Threads;
+use std::time::Clock;
 
 // The turns of a worker where nothing else is said.
 const TURNS: u64 = 50_000_000;
@@ -164,18 +167,30 @@ static RAW: [(&str, Result<(), CommandError>, &[u8]); 4] = [
     ("", Err(CommandError::NoSuchProcess), b""),
 ];
 
+// What is written of a run in which one process alone is written of.
+fn check_alone<R: Threads + Wait + Clock + Abort + Sync>(
+    rt: &R,
+    alloc: Global,
+    mode: RunMode<'static>,
+    outcome: Result<(), CommandError>,
+    bytes: &[u8],
+) {
+    let command = Command {
+        mode,
+        form: BytesForm::Hex,
+        turns: TURNS,
+    };
+    let mut reader = SPEAK.as_bytes();
+    let told = carry_out(rt, alloc, command, &mut reader, Vec::new(alloc));
+    assert!(rt; told.0 == outcome && told.1.as_slice() == bytes, "{mode:?}");
+}
+
 #[test]
 fn outputs_of_one_process_alone(rt: HostRuntime) {
     for (name, outcome, bytes) in &RAW {
-        let command = Command {
-            mode: RunMode::Raw(*name),
-            form: BytesForm::Hex,
-            turns: TURNS,
-        };
-        let mut reader = SPEAK.as_bytes();
-        let written = Vec::new(rt.alloc());
-        let told = carry_out(&rt, rt.alloc(), command, &mut reader, written);
-        assert!(&rt; told.0 == *outcome && told.1.as_slice() == *bytes, "{name}");
+        for mode in [RunMode::Raw(*name), RunMode::FollowRaw(*name)] {
+            check_alone(&rt, rt.alloc(), mode, *outcome, *bytes);
+        }
     }
 }
 

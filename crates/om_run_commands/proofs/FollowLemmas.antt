@@ -146,7 +146,7 @@ refused_is_error script error (inl is) = subst (IsErrorOfScript script) (sym is)
 refused_is_error script error (inr is) = subst (IsErrorOfScript script) (sym is) tt
 
 -- nothing is written where the script could not be read
-partly_unread : (bytes : List ℕ) (error : CommandError) (part none : Type 0) → IsErrorOf cluster_file_line no_settings (λ _. ⊥) bytes error → none → IsByKind error part none
+pub partly_unread : (bytes : List ℕ) (error : CommandError) (part none : Type 0) → IsErrorOf cluster_file_line no_settings (λ _. ⊥) bytes error → none → IsByKind error part none
 partly_unread bytes errors.CannotWrite part none is kept = tt
 partly_unread bytes errors.NoMemory part none is kept = tt
 partly_unread bytes errors.OutOfTurns part none never kept = absurd never
@@ -166,41 +166,3 @@ partly_unread bytes (errors.MissingReceipt y) part none is kept = kept
 partly_unread bytes (errors.Mismatch y) part none is kept = kept
 partly_unread bytes errors.Unlike part none is kept = kept
 partly_unread bytes errors.NoSuchProcess part none is kept = kept
-
-pub partly_of_reading : (form : BytesForm) (over_clean : Type 0) (remaining : Option (List ℕ)) (start : ClusterFile) (error : CommandError) (contents : Option (List ℕ)) → start ≡ no_settings
-    → IfSome remaining (λ bytes. IsErrorOf cluster_file_line start (λ _. ⊥) bytes error)
-    → IfSome remaining (λ bytes. IsByKind error (IsPart form over_clean bytes contents contents) (Keeps contents contents))
-partly_of_reading form over_clean None start error contents is wrong = tt
-partly_of_reading form over_clean (Some bytes) start error contents is wrong =
-    partly_unread bytes error _ _ (subst (λ s. IsErrorOf cluster_file_line s (λ _. ⊥) bytes error) is wrong) (Keeps-refl contents)
-
--- a part of the answer to a script is one of the answer to its bytes
-part_of : (form : BytesForm) (over_clean : Type 0) (bytes : List ℕ) (script : ClusterFile) (error : CommandError) (a b : Option (List ℕ)) → IsScript cluster_file_line no_settings bytes script
-    → IsByKind error (IsPartOf form over_clean script a b) (Keeps a b) → IsByKind error (IsPart form over_clean bytes a b) (Keeps a b)
-part_of form over_clean bytes script errors.CannotWrite a b read is = tt
-part_of form over_clean bytes script errors.NoMemory a b read is = tt
-part_of form over_clean bytes script errors.OutOfTurns a b read is = record { script = script; is_script = read; part = is }
-part_of form over_clean bytes script errors.GateShut a b read is = record { script = script; is_script = read; part = is }
-part_of form over_clean bytes script errors.StoreFault a b read is = record { script = script; is_script = read; part = is }
-part_of form over_clean bytes script (errors.StoreInUse process) a b read is = record { script = script; is_script = read; part = is }
-part_of form over_clean bytes script (errors.AnotherCluster process) a b read is = record { script = script; is_script = read; part = is }
-part_of form over_clean bytes script (errors.StoreMissing process) a b read is = record { script = script; is_script = read; part = is }
-part_of form over_clean bytes script errors.NoThread a b read is = record { script = script; is_script = read; part = is }
-part_of form over_clean bytes script errors.TooLong a b read is = is
-part_of form over_clean bytes script errors.CannotRead a b read is = is
-part_of form over_clean bytes script errors.EmptyScript a b read is = is
-part_of form over_clean bytes script (errors.Script error) a b read is = is
-part_of form over_clean bytes script errors.NoCheckpoint a b read is = is
-part_of form over_clean bytes script (errors.Damaged y) a b read is = is
-part_of form over_clean bytes script (errors.MissingReceipt y) a b read is = is
-part_of form over_clean bytes script (errors.Mismatch y) a b read is = is
-part_of form over_clean bytes script errors.Unlike a b read is = is
-part_of form over_clean bytes script errors.NoSuchProcess a b read is = is
-
-pub partly_of_answer : {A : Type 0} (form : BytesForm) (over_clean : Type 0) (remaining : Option (List ℕ)) (start script : ClusterFile) (r : Result A CommandError) (a b : Option (List ℕ)) → start ≡ no_settings
-    → IfSome remaining (λ bytes. IsScript cluster_file_line start bytes script) → IfErr r (λ error. IsByKind error (IsPartOf form over_clean script a b) (Keeps a b))
-    → IfSome remaining (λ bytes. IfErr r (λ error. IsByKind error (IsPart form over_clean bytes a b) (Keeps a b)))
-partly_of_answer form over_clean None start script r a b is read part = tt
-partly_of_answer form over_clean (Some bytes) start script (Ok x) a b is read part = tt
-partly_of_answer form over_clean (Some bytes) start script (Err e) a b is read part =
-    part_of form over_clean bytes script e a b (subst (λ s. IsScript cluster_file_line s bytes script) is read) part

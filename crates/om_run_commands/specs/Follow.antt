@@ -1,14 +1,16 @@
--- What the command `run --follow` writes.
-use Rattle.std.specs.Prelude.{◌≡◌, ℕ, List, ◌++◌, Option, length}
+-- What the command `run --follow` writes, with `--raw` too.
+use Rattle.std.specs.Prelude.{◌≡◌, ℕ, List, [], ◌++◌, Option, Some, length, slice_index_or}
 use Rattle.std.specs.Io.KnownBytes.{Appends}
 use Rattle.std.specs.List.{flat_map}
 use Rattle.om_runner.specs.declared.report.Report.{Report}
+use Rattle.om_process.specs.declared.status.Status.{Status}
+use Rattle.om_scripts.specs.Named.{place_of}
 use Rattle.om_scripts.specs.Programs.{Cluster, programs_of}
-use Rattle.om_runner.specs.Telling.{AreInOrder, AreToldMade, TellsAll, Told}
+use Rattle.om_runner.specs.Telling.{AreInOrder, AreToldMade, TellsAll, Told, of_process}
 use Rattle.om_commands.specs.Command.{AnswersScript, IsScript}
 use Rattle.om_run_commands.specs.ClusterScript.{ClusterFile, cluster_file_line, no_settings}
-use Rattle.om_run_commands.specs.Run.{IsReport}
-use Rattle.om_run_commands.specs.RunText.{ends_text}
+use Rattle.om_run_commands.specs.Run.{IsReport, outputs_of}
+use Rattle.om_run_commands.specs.RunText.{bytes_of, ends_text}
 use Rattle.om_commands.specs.SimText.{name_at, output_line}
 use Rattle.om_commands.specs.declared.bytes_text.BytesForm.{BytesForm}
 
@@ -40,3 +42,41 @@ pub record IsPart (form : BytesForm) (over_clean : Type 0) (bytes : List ℕ) (b
   pub script : ClusterFile
   pub is_script : IsScript cluster_file_line no_settings bytes script
   pub part : IsPartOf form over_clean script before after
+
+-- the bytes of what was told of process p, one output behind the other
+abbrev pub bytes_told : ℕ → List Told → List ℕ
+bytes_told p told = flat_map (λ t. t.bytes) (of_process p told)
+
+-- The text is the bytes of the outputs that are released of process p, one behind the other, in a run of the cluster of a script that
+-- ended with these statuses.
+pub record IsBytesAnswer (p : ℕ) (over_clean : Type 0) (statuses : List Status) (script : ClusterFile) (text : List ℕ) : Type 0 where
+  pub report : Report
+  pub is_report : IsReport over_clean (programs_of script.cluster) report
+  pub ended : statuses ≡ report.statuses.items
+  pub is_text : text ≡ bytes_of (slice_index_or (outputs_of report) p [])
+
+-- the same of the process of a name
+abbrev pub IsFollowedRawAnswer : List ℕ → Type 0 → List Status → ClusterFile → List ℕ → Type 0
+IsFollowedRawAnswer name over_clean statuses script text =
+    (p : ℕ) × (place_of name script.cluster.processes ≡ Some p) × IsBytesAnswer p over_clean statuses script text
+
+-- the answer to the cluster file that these bytes are
+abbrev pub IsFollowedRawRun : List ℕ → Type 0 → List Status → List ℕ → List ℕ → Type 0
+IsFollowedRawRun name over_clean statuses bytes text =
+    AnswersScript cluster_file_line no_settings (IsFollowedRawAnswer name over_clean statuses) bytes text
+
+-- what was written is the bytes of the first outputs of process p, one behind the other; over clean stores each is its program's
+abbrev pub IsPartOfBytes : ℕ → Type 0 → ClusterFile → Option (List ℕ) → Option (List ℕ) → Type 0
+IsPartOfBytes p over_clean script before after = (told : List Told) × AreInOrder told
+    × (over_clean → AreToldMade (programs_of script.cluster) (length (programs_of script.cluster)) told) × Appends before after (bytes_told p told)
+
+-- the same of the process of a name
+abbrev pub IsRawPartOf : List ℕ → Type 0 → ClusterFile → Option (List ℕ) → Option (List ℕ) → Type 0
+IsRawPartOf name over_clean script before after =
+    (p : ℕ) × (place_of name script.cluster.processes ≡ Some p) × IsPartOfBytes p over_clean script before after
+
+-- so it is for the cluster file that these bytes are
+pub record IsRawPart (name : List ℕ) (over_clean : Type 0) (bytes : List ℕ) (before after : Option (List ℕ)) : Type 0 where
+  pub script : ClusterFile
+  pub is_script : IsScript cluster_file_line no_settings bytes script
+  pub part : IsRawPartOf name over_clean script before after

@@ -139,7 +139,7 @@ pub(crate) fn run_followed<R: Threads + Wait + Clock + Sync, O: Opener<R> + Sync
 }
 
 // As the caller is told why a run that was followed came to no end.
-fn error_of(fault: FollowFault, lacks_memory: bool) -> CommandError
+pub(crate) fn error_of(fault: FollowFault, lacks_memory: bool) -> CommandError
     ensures error { (script : ClusterFile) → 1 ≤ length script.cluster.processes → IsErrorOfScript script result }
     ensures unwanted { fault ≡ FollowFault.Unwanted → (result ≡ CommandError.NoMemory) ⊎ (result ≡ CommandError.CannotWrite) }
     ensures run { (f : _) → fault ≡ FollowFault.Run f → result ≡ error_of_run f }

@@ -12,7 +12,7 @@
 //!   `kills_left` (which kills did not come)
 //! - `check`: `run --check` and `run --witness`, with `checked` (the comparison) and `event_text` (the run without failures as a
 //!   script)
-//! - `followed`: `run --follow`
+//! - `followed`: `run --follow`; `followed_raw`: with `--raw` too
 //! - `recorded`: `run --record`, with `record_text`
 #![tactic(auto)]
 
@@ -23,6 +23,7 @@ mod context;
 mod error;
 mod event_text;
 mod followed;
+mod followed_raw;
 mod kills_left;
 pub mod laws;
 mod mode;

@@ -20,6 +20,8 @@ pub enum RunMode<'a> {
     Follow,
     /// By nobody: the bytes that the process of this name put out are written at its end, and nothing else.
     Raw(&'a str),
+    /// The same bytes are written as they are released.
+    FollowRaw(&'a str),
 }
 
 impl<'a> RunMode<'a> {
@@ -35,7 +37,7 @@ impl<'a> RunMode<'a> {
         ensures { IsTrue result ↔ LacksIn self.entry programs.now }
     {
         match self {
-            RunMode::Raw(name) => programs.place(name).is_none(),
+            RunMode::Raw(name) | RunMode::FollowRaw(name) => programs.place(name).is_none(),
             _ => false,
         }
     }

@@ -1,17 +1,17 @@
 //! The request `run`: a cluster file is read once, and its cluster is run as it is asked for.
 
-ghost use Rattle.std.specs.Prelude.{◌≡◌, ◌≢◌, ◌≤◌, ℕ, List, IsTrue, length, IfSome, IfErr, IfOk};
+ghost use Rattle.std.specs.Prelude.{◌≡◌, ◌≤◌, ℕ, List, IsTrue, length, IfSome, IfErr, IfOk};
 ghost use Rattle.std.specs.Io.KnownBytes.{Appends, Keeps};
 ghost use Rattle.om_commands.specs.Command.{IsSilent};
-ghost use Rattle.om_run_commands.specs.Follow.{IsPart, IsPartOf};
-ghost use Rattle.om_run_commands.specs.Modes.{IsErrorIn, IsRunIn};
+ghost use Rattle.om_run_commands.specs.Modes.{IsErrorIn, IsFollowing, IsPartIn, IsRunIn};
 ghost use Rattle.om_run_commands.specs.Run.{IsByKind};
-ghost use Rattle.om_run_commands.specs.steps.Modes.{IsAnswerIn, IsErrorOfScriptIn};
+ghost use Rattle.om_run_commands.specs.steps.Modes.{IsAnswerIn, IsErrorOfScriptIn, IsPartOfScriptIn};
 
 use crate::check::{run_checked, run_with_witness};
 use crate::cluster_script::ClusterScript;
 use crate::context::RunContext;
 use crate::followed::run_followed;
+use crate::followed_raw::run_followed_raw;
 use crate::mode::RunMode;
 use crate::random_kills::RandomKills;
 use crate::recorded::run_recorded;
@@ -40,8 +40,9 @@ use std::time::Clock;
 ///   process ended. Where the run is refused, what was released by then is written; less where memory ran out or the writer refused.
 /// - `Raw`: writes only the bytes that the process of this name put out, one output behind the other. Refused with `NoSuchProcess`
 ///   where there is none of this name, before anything is made ready.
+/// - `FollowRaw`: the same bytes, each output as soon as it is released. Where the run is refused, those that were released by then.
 ///
-/// Refused, nothing is written but with `Follow`, unless it was the writer that refused. A file that is refused has nothing made
+/// Refused, nothing is written but with `Follow` and `FollowRaw`, unless it was the writer that refused. A file that is refused has nothing made
 /// ready.
 pub fn run_file<
     R: Threads + Wait + Clock + Sync,
@@ -64,10 +65,10 @@ pub fn run_file<
         × IsRunIn mode.entry form ((store : O.Store) → IsTrue (O.Store.is_clean store)) statuses.items bytes text
         × Appends (W.contents writer) (W.contents result.1) text)) }
     ensures error { IfSome (I.remaining reader.old) (λ bytes. IfErr result.0 (IsErrorIn mode.entry bytes)) }
-    ensures silent { mode.entry ≢ RunMode.Follow
+    ensures silent { (IsFollowing mode.entry → ⊥)
         → IfErr result.0 (λ error. IsSilent error (Keeps (W.contents writer) (W.contents result.1))) }
-    ensures partly { mode.entry ≡ RunMode.Follow → IfSome (I.remaining reader.old) (λ bytes. IfErr result.0 (λ error. IsByKind error
-        (IsPart form ((store : O.Store) → IsTrue (O.Store.is_clean store)) bytes (W.contents writer) (W.contents result.1))
+    ensures partly { IsFollowing mode.entry → IfSome (I.remaining reader.old) (λ bytes. IfErr result.0 (λ error. IsByKind error
+        (IsPartIn mode.entry form ((store : O.Store) → IsTrue (O.Store.is_clean store)) bytes (W.contents writer) (W.contents result.1))
         (Keeps (W.contents writer) (W.contents result.1)))) }
 {
     match read_input(
@@ -98,10 +99,10 @@ fn run_read<R: Threads + Wait + Clock + Sync, O: Opener<R> + Sync, C: RunContext
         × IsAnswerIn mode.entry form ((store : O.Store) → IsTrue (O.Store.is_clean store)) statuses.items script text
         × Appends (W.contents writer) (W.contents result.1) text) }
     ensures error { IfErr result.0 (IsErrorOfScriptIn mode.entry script) }
-    ensures silent { mode.entry ≢ RunMode.Follow
+    ensures silent { (IsFollowing mode.entry → ⊥)
         → IfErr result.0 (λ error. IsSilent error (Keeps (W.contents writer) (W.contents result.1))) }
-    ensures partly { mode.entry ≡ RunMode.Follow → IfErr result.0 (λ error. IsByKind error
-        (IsPartOf form ((store : O.Store) → IsTrue (O.Store.is_clean store)) script (W.contents writer) (W.contents result.1))
+    ensures partly { IsFollowing mode.entry → IfErr result.0 (λ error. IsByKind error
+        (IsPartOfScriptIn mode.entry form ((store : O.Store) → IsTrue (O.Store.is_clean store)) script (W.contents writer) (W.contents result.1))
         (Keeps (W.contents writer) (W.contents result.1))) }
 {
     let mut script = script;
@@ -156,10 +157,10 @@ fn run_script<
         × IsAnswerIn mode.entry form ((store : O.Store) → IsTrue (O.Store.is_clean store)) statuses.items script.now text
         × Appends (W.contents writer) (W.contents result.1) text) }
     ensures error { IfErr result.0 (IsErrorOfScriptIn mode.entry script.now) }
-    ensures silent { mode.entry ≢ RunMode.Follow
+    ensures silent { (IsFollowing mode.entry → ⊥)
         → IfErr result.0 (λ error. IsSilent error (Keeps (W.contents writer) (W.contents result.1))) }
-    ensures partly { mode.entry ≡ RunMode.Follow → IfErr result.0 (λ error. IsByKind error
-        (IsPartOf form ((store : O.Store) → IsTrue (O.Store.is_clean store)) script.now (W.contents writer) (W.contents result.1))
+    ensures partly { IsFollowing mode.entry → IfErr result.0 (λ error. IsByKind error
+        (IsPartOfScriptIn mode.entry form ((store : O.Store) → IsTrue (O.Store.is_clean store)) script.now (W.contents writer) (W.contents result.1))
         (Keeps (W.contents writer) (W.contents result.1))) }
 {
     if script.programs().n() == 0 {
@@ -207,10 +208,10 @@ fn run_in<R: Threads + Wait + Clock + Sync, O: Opener<R> + Sync, C: RunContext, 
         × IsAnswerIn mode.entry form ((store : O.Store) → IsTrue (O.Store.is_clean store)) statuses.items script.now text
         × Appends (W.contents writer) (W.contents result.1) text) }
     ensures error { IfErr result.0 (IsErrorOfScriptIn mode.entry script.now) }
-    ensures silent { mode.entry ≢ RunMode.Follow
+    ensures silent { (IsFollowing mode.entry → ⊥)
         → IfErr result.0 (λ error. IsSilent error (Keeps (W.contents writer) (W.contents result.1))) }
-    ensures partly { mode.entry ≡ RunMode.Follow → IfErr result.0 (λ error. IsByKind error
-        (IsPartOf form ((store : O.Store) → IsTrue (O.Store.is_clean store)) script.now (W.contents writer) (W.contents result.1))
+    ensures partly { IsFollowing mode.entry → IfErr result.0 (λ error. IsByKind error
+        (IsPartOfScriptIn mode.entry form ((store : O.Store) → IsTrue (O.Store.is_clean store)) script.now (W.contents writer) (W.contents result.1))
         (Keeps (W.contents writer) (W.contents result.1))) }
 {
     let mut writer = writer;
@@ -237,5 +238,8 @@ fn run_in<R: Threads + Wait + Clock + Sync, O: Opener<R> + Sync, C: RunContext, 
             let outcome = run_raw(rt, alloc, name, turns, opener, script, to);
             (outcome, writer)
         }
+        RunMode::FollowRaw(name) => run_followed_raw(
+            rt, alloc, name, turns, opener, script, writer,
+        ),
     }
 }

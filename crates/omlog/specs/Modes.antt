@@ -16,6 +16,7 @@ mode_of (asked.Witness path) = modes.Witness
 mode_of (asked.Record path) = modes.Record
 mode_of asked.Follow = modes.Follow
 mode_of (asked.Raw name) = modes.Raw name
+mode_of (asked.FollowRaw name) = modes.FollowRaw name
 
 -- the form of bytes that is asked for
 abbrev pub form_of : OutputForm → BytesForm

@@ -272,7 +272,11 @@ impl<'a, 'w, R: Wait> Surroundings<'a, 'w, R> {
 // The name of the file that is made for it, if any.
 fn file_made_by<'a>(checking: Checking<'a>) -> Option<&'a str> {
     match checking {
-        Checking::Off | Checking::Check | Checking::Follow | Checking::Raw(_) => None,
+        Checking::Off
+        | Checking::Check
+        | Checking::Follow
+        | Checking::Raw(_)
+        | Checking::FollowRaw(_) => None,
         Checking::Witness(path) | Checking::Record(path) => Some(path),
     }
 }

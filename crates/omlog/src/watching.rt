@@ -127,6 +127,7 @@ fn mode_of<'a>(checking: Checking<'a>) -> RunMode<'a>
         Checking::Record(_) => RunMode::Record,
         Checking::Follow => RunMode::Follow,
         Checking::Raw(name) => RunMode::Raw(name),
+        Checking::FollowRaw(name) => RunMode::FollowRaw(name),
     }
 }
 

@@ -81,6 +81,31 @@ fn what_was_released_is_written(rt: HostRuntime) {
     );
 }
 
+// What a run that is followed writes of one process.
+fn followed_raw<R: Threads + Wait + Clock + Abort + Sync>(
+    rt: &R,
+    alloc: Global,
+    name: &'static str,
+    turns: u64,
+    mut input: &[u8],
+) -> (Result<(), CommandError>, Vec<u8>) {
+    let (mode, form) = (RunMode::FollowRaw(name), BytesForm::Hex);
+    let command = Command { mode, form, turns };
+    carry_out(rt, alloc, command, &mut input, Vec::new(alloc))
+}
+
+// The bytes that were released of a process are written where the run is refused: at its end nothing more would have been.
+#[test]
+fn bytes_that_were_released_are_written(rt: HostRuntime) {
+    let file = ENDLESS.as_bytes();
+    let of_a = followed_raw(&rt, rt.alloc(), "a", 100_000, file);
+    assert!(&rt;
+        of_a.0 == Err(CommandError::OutOfTurns) && of_a.1.as_slice() == b"\x93\x08\x10\x00"
+    );
+    let of_c = followed_raw(&rt, rt.alloc(), "c", 1_000, file);
+    assert!(&rt; of_c.0 == Err(CommandError::OutOfTurns) && of_c.1.is_empty());
+}
+
 // r puts out its first bytes, and only then takes a message of q, which it sends back. q puts out what comes back: after r's output
 // is released.
 const PAIR: &str =

@@ -1,5 +1,5 @@
 -- What is answered to a script that was read and what refuses it, by how its cluster is run.
-use Rattle.std.specs.Prelude.{◌≡◌, ◌≢◌, ℕ, List, None}
+use Rattle.std.specs.Prelude.{◌≡◌, ◌≢◌, ℕ, List, None, Option}
 use Rattle.om_process.specs.declared.status.Status.{Status}
 use Rattle.om_scripts.specs.Named.{place_of}
 use Rattle.om_scripts.specs.Programs.{Cluster}
@@ -7,7 +7,7 @@ use Rattle.om_commands.specs.declared.bytes_text.BytesForm.{BytesForm}
 use Rattle.om_commands.specs.declared.error.CommandError.{CommandError}
 use Rattle.om_run_commands.specs.Check.{IsFailureFreeIn}
 use Rattle.om_run_commands.specs.ClusterScript.{ClusterFile}
-use Rattle.om_run_commands.specs.Follow.{IsFollowedAnswer}
+use Rattle.om_run_commands.specs.Follow.{IsFollowedAnswer, IsFollowedRawAnswer, IsPartOf, IsRawPartOf}
 use Rattle.om_run_commands.specs.Run.{IsRawAnswer, IsRunAnswer}
 use Rattle.om_run_commands.specs.RunText.{TellsEnds}
 use Rattle.om_run_commands.specs.declared.mode.RunMode.{RunMode}
@@ -34,6 +34,7 @@ IsAnswerIn modes.Witness form over_clean statuses script text = IsCheckedAnswer 
 IsAnswerIn modes.Record form over_clean statuses script text = IsToldAnswer form over_clean statuses script text
 IsAnswerIn modes.Follow form over_clean statuses script text = IsFollowedTo form over_clean statuses script text
 IsAnswerIn (modes.Raw name) form over_clean statuses script text = IsRawAnswer name.now over_clean statuses script text
+IsAnswerIn (modes.FollowRaw name) form over_clean statuses script text = IsFollowedRawAnswer name.now over_clean statuses script text
 
 -- the error refuses the script in a run of this mode
 abbrev pub IsErrorOfScriptIn : RunMode → ClusterFile → CommandError → Type 0
@@ -43,8 +44,16 @@ IsErrorOfScriptIn modes.Witness script error = IsErrorOfCheckedScript script err
 IsErrorOfScriptIn modes.Record script error = IsErrorOfScript script error
 IsErrorOfScriptIn modes.Follow script error = IsErrorOfScript script error
 IsErrorOfScriptIn (modes.Raw name) script error = IsErrorOfRawScript name.now script error
+IsErrorOfScriptIn (modes.FollowRaw name) script error = IsErrorOfRawScript name.now script error
+
+-- what was written of a run of a mode that follows, and came to no end
+abbrev pub IsPartOfScriptIn : RunMode → BytesForm → Type 0 → ClusterFile → Option (List ℕ) → Option (List ℕ) → Type 0
+IsPartOfScriptIn modes.Follow form over_clean script before after = IsPartOf form over_clean script before after
+IsPartOfScriptIn (modes.FollowRaw name) form over_clean script before after = IsRawPartOf name.now over_clean script before after
+IsPartOfScriptIn _ form over_clean script before after = ⊥
 
 -- the process whose outputs are asked for is none of the cluster
 abbrev pub LacksIn : RunMode → Cluster → Type 0
 LacksIn (modes.Raw name) cluster = place_of name.now cluster.processes ≡ None
+LacksIn (modes.FollowRaw name) cluster = place_of name.now cluster.processes ≡ None
 LacksIn _ cluster = ⊥

@@ -17,6 +17,6 @@ returns-clause-error g c =
 pub returns-clause-partly : goal.returns-clause-partly
 returns-clause-partly g c follows =
     let told = c.run_script-told in
-    partly_with_others c.args.form ((store : g.row.O-Store.Denot) → IsTrue (g.O.Store.Stable.is_clean store)) c.args.script c.draw_kills.new.script told.result.0
+    partly_with_others c.args.mode c.args.form ((store : g.row.O-Store.Denot) → IsTrue (g.O.Store.Stable.is_clean store)) c.args.script c.draw_kills.new.script told.result.0
     (g.W.Write.contents c.args.writer) (g.W.Write.contents told.result.1) (Keeps (g.W.Write.contents c.args.writer) (g.W.Write.contents told.result.1))
     c.draw_kills.ensures (told.ensures.partly follows)
