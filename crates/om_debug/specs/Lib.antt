@@ -1,0 +1,4 @@
+pub mod Moments
+pub mod Stops
+pub mod Told
+pub mod Watching
