@@ -232,8 +232,9 @@ not come; what is written is the same.
 
 With --verbose, and where standard error is a terminal, more is said there, and
 nothing else changes: what was refused and why; which processes trapped, of what
-and at which pc; which kills did not come; where turns ran out, of each process
-that had not ended what it did or waited for, and in which interval.
+and at which pc; how many sends of each were refused; which kills did not come;
+where turns ran out, of each process that had not ended what it did or waited
+for, and in which interval.
 On a terminal a line each second says how far the run has come: instructions of
 all processes, messages, the round of recovery, and the recovery state.
 

@@ -25,4 +25,4 @@ pub use about::{ABOUT_KIND, ABOUT_VERSION, about_of};
 pub use content::content_text;
 pub use fault::LookFault;
 pub use rows::{RowsFault, stored_rows, stored_senders};
-pub use tracing::trace;
+pub use tracing::{Traced, trace};

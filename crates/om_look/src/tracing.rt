@@ -13,7 +13,7 @@ use crate::trace_text::{kept_of, push_line, push_made};
 use crate::writes::what_it_writes;
 use om_isa::{Inst, decode};
 use om_machine::{Event, Machine};
-use om_process::{ProcCore, Ran};
+use om_process::{ProcCore, Status};
 use std::alloc::{AllocError, Global};
 
 /// An instruction before it is carried out.
@@ -28,6 +28,15 @@ pub struct Before {
     pub event: Event,
 }
 
+/// How a trace ended.
+#[derive(Clone, Copy, Debug, PartialEq, Eq)]
+pub struct Traced {
+    /// The number of instructions that were finished.
+    pub steps: u64,
+    /// What the process is about to do.
+    pub status: Status,
+}
+
 /// Runs the process, at most `fuel` instructions, and writes a line for each to the text, one for each message that is sent,
 /// and one for each output that is made. Where memory runs out some turns may be taken, and some lines written.
 pub fn trace(
@@ -35,14 +44,14 @@ pub fn trace(
     core: &mut ProcCore,
     fuel: u64,
     text: &mut Vec<u8>,
-) -> Result<Ran, AllocError>
-    ensures lines { IfOk result (λ ran. (lines : List ℕ)
-        × IsTrace core.old.own (cluster_size core.old.now) ran.steps core.old.now core.new.now lines
+) -> Result<Traced, AllocError>
+    ensures lines { IfOk result (λ traced. (lines : List ℕ)
+        × IsTrace core.old.own (cluster_size core.old.now) traced.steps core.old.now core.new.now lines
         × (text.new.items ≡ text.old.items ++ lines)) }
-    ensures turns { IfOk result (λ ran. CoreTurns ran.steps core.old core.new) }
-    ensures within { IfOk result (λ ran. ran.steps ≤ fuel) }
-    ensures status { IfOk result (λ ran. ran.status ≡ status_of (move_of core.new)) }
-    ensures no_more { IfOk result (λ ran. ran.steps < fuel → core_turn core.new ≡ None) }
+    ensures turns { IfOk result (λ traced. CoreTurns traced.steps core.old core.new) }
+    ensures within { IfOk result (λ traced. traced.steps ≤ fuel) }
+    ensures status { IfOk result (λ traced. traced.status ≡ status_of (move_of core.new)) }
+    ensures no_more { IfOk result (λ traced. traced.steps < fuel → core_turn core.new ≡ None) }
     ensures at_most { (k : ℕ) × (k ≤ fuel) × CoreTurns k core.old core.new }
     ensures rest { core.new ≡ with_now core.old core.new.now }
     ensures size { cluster_size core.new.now ≡ cluster_size core.old.now }
@@ -50,14 +59,14 @@ pub fn trace(
     let mut steps = 0;
     while steps < fuel {
         if !turn(alloc, core, text)? {
-            return Ok(Ran {
+            return Ok(Traced {
                 steps,
                 status: core.status(),
             });
         }
         steps += 1;
     }
-    Ok(Ran {
+    Ok(Traced {
         steps,
         status: core.status(),
     })

@@ -2,8 +2,8 @@
 
 use om_interval::Pid;
 use om_isa::Ext;
-use om_look::trace;
-use om_process::{ProcCore, Ran, Status};
+use om_look::{Traced, trace};
+use om_process::{ProcCore, Status};
 use om_stable::MemStable;
 use std::alloc::Global;
 use std::process::Abort;
@@ -64,9 +64,12 @@ fn check(
     (steps, ready): (u64, bool),
 ) {
     let mut text = Vec::new(alloc);
-    let ran: Ran = trace(alloc, core, fuel, &mut text).expect(rt, "memory");
+    let traced: Traced = trace(alloc, core, fuel, &mut text).expect(rt, "memory");
     assert_eq!(rt; text.as_slice(), lines.as_bytes());
-    assert_eq!(rt; (ran.steps, ran.status == Status::Ready), (steps, ready));
+    assert_eq!(rt;
+        (traced.steps, traced.status == Status::Ready),
+        (steps, ready)
+    );
 }
 
 #[test]

@@ -29,6 +29,8 @@ pub struct Diary<'a> {
     next: [u32; MAX_PROCESSES],
     // The interval of the process.
     interval: u32,
+    // How many of its sends were refused.
+    refused: u64,
 }
 
 // Whether the process keeps a message that is not told yet.
@@ -104,7 +106,13 @@ impl<'a> Diary<'a> {
             steps: 0,
             next: [0; MAX_PROCESSES],
             interval: 0,
+            refused: 0,
         }
+    }
+
+    /// How many sends of the process were refused, of all that was told here.
+    pub fn refused(&self) -> u64 {
+        self.refused
     }
 
     /// Tells whether the run is recorded.
@@ -139,6 +147,7 @@ impl<'a> Diary<'a> {
 
     /// Tells that the process ran, before others can see what it sent; where it sent nothing and goes on, it is told later.
     pub fn ran<R: Wait>(&mut self, rt: &R, core: &ProcCore, ran: Ran) -> Result<(), AllocError> {
+        self.refused = self.refused.saturating_add(ran.refused);
         let Some(recorder) = self.recorder else {
             return Ok(());
         };

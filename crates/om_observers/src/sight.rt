@@ -48,6 +48,8 @@ pub struct Sight {
     pub count: u64,
     /// Its pc; of one that trapped, where it did.
     pub pc: u32,
+    /// How many of its sends were refused, also such as were rolled back: to no process, too long, or with no number left.
+    pub refused: u64,
     /// How many messages were put into inboxes for it, each as often as it was.
     pub put: u64,
     /// How many messages were taken from inboxes for it, also such as it had received before.
@@ -59,13 +61,14 @@ pub struct Sight {
 impl Sight {
     /// Of a process that was not started yet.
     pub fn new() -> Sight
-        ensures begins { result ≡ record { doing = Begins; interval = 0; count = 0; pc = 0; put = 0; taken = 0; front = None } }
+        ensures begins { result ≡ record { doing = Begins; interval = 0; count = 0; pc = 0; refused = 0; put = 0; taken = 0; front = None } }
     {
         Sight {
             doing: Doing::Begins,
             interval: 0,
             count: 0,
             pc: 0,
+            refused: 0,
             put: 0,
             taken: 0,
             front: None,

@@ -19,9 +19,9 @@ use Rattle.om_process.specs.declared.status.Status.{Status}
 use Rattle.om_process.specs.declared.status.Status.TheVariants.{Ready, Waiting, Ended, Trapped}
 use Rattle.om_process.specs.Process.{Process, Move, Waits, Ends, Traps, Goes, Emits, made, moved, emitted, raised}
 use Rattle.om_process.specs.steps.Pieces.{with_entry}
-use Rattle.om_process.specs.Turns.{next_move, next_turn, after_event, emits, Turns, IsWaiting}
+use Rattle.om_process.specs.Turns.{next_move, next_turn, after_event, emits, is_refused_send, refused_sends, Turns, IsWaiting}
 use Rattle.om_process.specs.steps.Planned.{planned, stopped}
-use Rattle.om_process.specs.Core.{CoreState, cluster_size, move_of, status_of, LoggedRecord, AreLast}
+use Rattle.om_process.specs.Core.{CoreState, cluster_size, core_refuses, move_of, status_of, LoggedRecord, AreLast}
 use Rattle.om_process.specs.steps.Lawful.{CoreParts, IsCore}
 use Rattle.om_isa.specs.declared.ext.Ext.{Ext}
 use Rattle.om_format.specs.Checkpoints.{IsCheckpoint}
@@ -31,7 +31,7 @@ use Rattle.om_format.specs.declared.version.Version.TheVariants.{V2}
 use Rattle.om_format.proofs.Entries.{are_entries-drop, are_entries-push, are_entries_later, all_entries_later}
 use Rattle.om_process.specs.Trims.{trimmed_queue, trimmed_queues}
 use Rattle.om_process.specs.declared.row.PendingRow.{PendingRow}
-use Rattle.om_process.proofs.Going.{turns_add}
+use Rattle.om_process.proofs.Going.{refused_add, refused_one, turns_add}
 use Rattle.om_process.proofs.QueueLemmas.{all_entries_trimmed, end_trimmed, ends_trimmed, ends-append, emitted-append, emitted-last, ends_emitted, all_entries_emitted, end_with}
 use Rattle.om_format.specs.declared.queue.QueueEntry.{QueueEntry}
 use Rattle.om_format.specs.declared.limits.TheConstants.{MAX_BODY}
@@ -285,6 +285,18 @@ pub turns_on : (s t u : CoreState) (j k : ℕ) → t.own ≡ s.own → cluster_s
 turns_on s t u j k own size first more =
     turns_add s.own (cluster_size s.now) j k s.now t.now u.now first
     (subst (λ n. Turns s.own n k t.now u.now) size (subst (λ o. Turns o (cluster_size t.now) k t.now u.now) own more))
+
+-- sends that are refused on the way to a state, and on from it
+pub refuses_on : (s t : CoreState) (j k : ℕ) → t.own ≡ s.own → cluster_size t.now ≡ cluster_size s.now → Turns s.own (cluster_size s.now) j s.now t.now → core_refuses (j + k) s ≡ core_refuses j s + core_refuses k t
+refuses_on s t j k own size first =
+    refused_add s.own (cluster_size s.now) j k s.now t.now first
+    ∙ ap (λ x. core_refuses j s + refused_sends x (cluster_size s.now) k t.now) (sym own)
+    ∙ ap (λ x. core_refuses j s + refused_sends t.own x k t.now) (sym size)
+
+-- those of one turn, at an event
+pub refuses_one : (t : CoreState) (event : Event) → (next_of t.now.machine).0 ≡ event → core_refuses 1 t ≡ (if is_refused_send (cluster_size t.now) (made t.now.queues) event then 1 else 0)
+refuses_one t event at =
+    refused_one t.own (cluster_size t.now) t.now ∙ ap (λ e. if is_refused_send (cluster_size t.now) (made t.now.queues) e then 1 else 0) at
 
 -- and one turn more
 pub turn_on : (s t u : CoreState) (j : ℕ) → t.own ≡ s.own → cluster_size t.now ≡ cluster_size s.now → Turns s.own (cluster_size s.now) j s.now t.now → next_turn t.own (cluster_size t.now) t.now ≡ Some u.now → Turns s.own (cluster_size s.now) (j + 1) s.now u.now

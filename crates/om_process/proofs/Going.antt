@@ -1,6 +1,7 @@
 -- Runs of the machine are turns of the process, and turns count.
-use Rattle.std.proofs.Common.{◌≡◌, ℕ, zero, suc, ◌+◌, List, Bool, true, false, Some, refl, sym, ap, subst, ◌∙◌, arith}
+use Rattle.std.proofs.Common.{◌≡◌, ℕ, zero, suc, ◌+◌, List, Bool, true, false, Option, Some, None, refl, sym, ap, subst, ◌∙◌, arith}
 use Rattle.std.specs.Prelude.{if◌then◌else◌}
+use Rattle.std.specs.Option.{option_map_or}
 use Rattle.om_machine.specs.State.{State, moved_to, put, written}
 use Rattle.om_machine.specs.Step.{Steps, StepsOn}
 use Rattle.om_machine.specs.derived.NextStep.{next_of}
@@ -14,7 +15,7 @@ use Rattle.om_machine.specs.declared.event.Cause.{Cause}
 use Rattle.om_process.specs.declared.limits.TheConstants.{REFUSED}
 use Rattle.om_process.specs.Process.{Process, Move, Waits, Ends, Traps, Goes, Emits, made, moved}
 use Rattle.om_process.specs.steps.Pieces.{with_machine}
-use Rattle.om_process.specs.Turns.{next_move, next_turn, after_event, emits, refuses, Turns}
+use Rattle.om_process.specs.Turns.{next_move, next_turn, after_event, emits, refuses, is_refused_send, refused_sends, Turns}
 use Rattle.om_process.proofs.Basics.{some_once, some_none}
 
 step_turn : (own n : ℕ) (p : Process) (m : State) → Steps p.machine Went m → next_turn own n p ≡ Some (with_machine p m)
@@ -137,3 +138,43 @@ stays_turns own n (suc k) s t turns =
     let first = stays_moved s turns.0 (next_move own n s.machine (made s.queues)) turns.1 in
     let rest = stays_turns own n k turns.0 t turns.2 in
     rest ∙ ap (λ (p : Process). record { machine = t.machine; interval = p.interval; vec = p.vec; got = p.got; queues = t.queues }) first
+
+-- ---- sends that are refused
+refused_none : (own n : ℕ) (next : Option Process) → option_map_or (refused_sends own n 0) next 0 ≡ 0
+refused_none own n None = refl
+refused_none own n (Some p) = refl
+
+-- those of one turn
+pub refused_one : (own n : ℕ) (p : Process) → refused_sends own n 1 p ≡ (if is_refused_send n (made p.queues) (next_of p.machine).0 then 1 else 0)
+refused_one own n p =
+    let none : option_map_or (refused_sends own n 0) (next_turn own n p) 0 ≡ 0 = refused_none own n (next_turn own n p) in
+    omega arith
+
+-- those of turns, and then of more
+pub refused_add : (own n j k : ℕ) (s t : Process) → Turns own n j s t → refused_sends own n (j + k) s ≡ refused_sends own n j s + refused_sends own n k t
+refused_add own n zero k s t same =
+    let e : 0 + k ≡ k = omega arith in
+    let first : refused_sends own n (0 + k) s ≡ refused_sends own n k s = ap (λ i. refused_sends own n i s) e in
+    let next : refused_sends own n k s ≡ refused_sends own n k t = ap (refused_sends own n k) (sym same) in
+    let none : refused_sends own n zero s ≡ 0 = refl in
+    omega arith
+refused_add own n (suc j) k s t turns =
+    let one : ℕ = if is_refused_send n (made s.queues) (next_of s.machine).0 then 1 else 0 in
+    let e : suc j + k ≡ suc (j + k) = omega arith in
+    let all : refused_sends own n (suc j + k) s ≡ one + option_map_or (refused_sends own n (j + k)) (next_turn own n s) 0 = ap (λ i. refused_sends own n i s) e in
+    let some : refused_sends own n (suc j) s ≡ one + option_map_or (refused_sends own n j) (next_turn own n s) 0 = refl in
+    let first : option_map_or (refused_sends own n (j + k)) (next_turn own n s) 0 ≡ refused_sends own n (j + k) turns.0 = ap (λ o. option_map_or (refused_sends own n (j + k)) o 0) turns.1 in
+    let next : option_map_or (refused_sends own n j) (next_turn own n s) 0 ≡ refused_sends own n j turns.0 = ap (λ o. option_map_or (refused_sends own n j) o 0) turns.1 in
+    let more : refused_sends own n (j + k) turns.0 ≡ refused_sends own n j turns.0 + refused_sends own n k t = refused_add own n j k turns.0 t turns.2 in
+    omega arith
+
+-- the machine alone refuses none
+pub goes_refuse : (own n k : ℕ) (p : Process) (m : State) → StepsOn k p.machine m → refused_sends own n k p ≡ 0
+goes_refuse own n zero p m same = refl
+goes_refuse own n (suc k) p m goes =
+    let before : refused_sends own n k p ≡ 0 = goes_refuse own n k p goes.0 goes.1 in
+    let q = with_machine p goes.0 in
+    let last : refused_sends own n 1 q ≡ 0 = refused_one own n q ∙ ap (λ e. if is_refused_send n (made p.queues) e.0 then 1 else 0) (steps-next goes.0 Went m goes.2) in
+    let all : refused_sends own n (k + 1) p ≡ refused_sends own n k p + refused_sends own n 1 q = refused_add own n k 1 p q (goes_turns own n k p goes.0 goes.1) in
+    let e : suc k ≡ k + 1 = omega arith in
+    ap (λ i. refused_sends own n i p) e ∙ (omega arith)

@@ -6,7 +6,7 @@ use Rattle.om_process.specs.declared.status.Status.{Status}
 use Rattle.om_process.specs.declared.status.Status.TheVariants.{Ready, Waiting, Ended, Trapped}
 use Rattle.om_process.specs.declared.row.PendingRow.{PendingRow}
 use Rattle.om_process.specs.Process.{Process, Move, Waits, Ends, Traps, made}
-use Rattle.om_process.specs.Turns.{Turns, next_move, next_turn}
+use Rattle.om_process.specs.Turns.{Turns, next_move, next_turn, refused_sends}
 
 -- a receipt in the volatile log, with the vector and the numbers got right after it
 pub record LoggedRecord : Type 0 where
@@ -62,6 +62,10 @@ core_turn c = next_turn c.own (cluster_size c.now) c.now
 -- so many turns lead from the process of the first core to that of the second
 abbrev pub CoreTurns : ℕ → CoreState → CoreState → Type 0
 CoreTurns k c d = Turns c.own (cluster_size c.now) k c.now d.now
+
+-- how many sends so many turns of a core refuse
+abbrev pub core_refuses : ℕ → CoreState → ℕ
+core_refuses k c = refused_sends c.own (cluster_size c.now) k c.now
 
 -- only the process changed
 abbrev pub with_now : CoreState → Process → CoreState

@@ -1,5 +1,6 @@
 -- Turns of a process, and what receipts lead to.
-use Rattle.std.specs.Prelude.{◌≡◌, ℕ, zero, suc, ◌+◌, List, [], ◌∷◌, length, slice_index, slice_range, Option, Some, if◌then◌else◌, nat_lt, nat_le, ◌||◌}
+use Rattle.std.specs.Prelude.{◌≡◌, ℕ, zero, suc, ◌+◌, List, [], ◌∷◌, length, slice_index, slice_range, Option, Some, Bool, false, if◌then◌else◌, nat_lt, nat_le, ◌||◌}
+use Rattle.std.specs.Option.{option_map_or}
 use Rattle.om_machine.specs.State.{State}
 use Rattle.om_machine.specs.derived.NextStep.{next_of}
 use Rattle.om_machine.specs.Finishing.{finished_word, finished_who}
@@ -22,13 +23,18 @@ emits place addr len m =
 abbrev pub refuses : State → Move
 refuses m = Goes (finished_word REFUSED m)
 
+-- a process of n, which made so many messages and outputs, may not send so many bytes to this one: there is none, they are too many, or
+-- the numbers of its messages are used up
+abbrev pub may_not_send : ℕ → List ℕ → ℕ → ℕ → Bool
+may_not_send n counts to len = nat_le n to || (nat_lt MAX_BODY len || nat_le LAST_NUMBER (slice_index counts to))
+
 -- what comes after an event of the machine: process `own` of n, which made so many messages and outputs
 abbrev pub after_event : ℕ → ℕ → State → List ℕ → Event → State → Move
 after_event own n m counts Went next = Goes next
 after_event own n m counts (Trap cause) next = Traps cause
 after_event own n m counts (Call (Exit code)) next = Ends code
 after_event own n m counts (Call (Send to addr len)) next =
-    if nat_le n to || (nat_lt MAX_BODY len || nat_le LAST_NUMBER (slice_index counts to)) then refuses m else emits to addr len m
+    if may_not_send n counts to len then refuses m else emits to addr len m
 after_event own n m counts (Call (Receive addr cap)) next =
     if nat_le (addr + cap) (length m.memory) then Waits else Traps BufferOutside
 after_event own n m counts (Call (Output addr len)) next =
@@ -64,3 +70,14 @@ Along program own n h k t = (a : Process) × Leads own n h (started program n) a
 -- the same for some number of turns
 abbrev pub Reaches : Program → ℕ → ℕ → List Received → Process → Type 0
 Reaches program own n h t = (k : ℕ) × Along program own n h k t
+
+-- the event is a send that is refused
+abbrev pub is_refused_send : ℕ → List ℕ → Event → Bool
+is_refused_send n counts (Call (Send to addr len)) = may_not_send n counts to len
+is_refused_send n counts _ = false
+
+-- how many sends so many turns refuse
+abbrev pub refused_sends : ℕ → ℕ → ℕ → Process → ℕ
+refused_sends own n zero p = 0
+refused_sends own n (suc k) p =
+    (if is_refused_send n (made p.queues) (next_of p.machine).0 then 1 else 0) + option_map_or (refused_sends own n k) (next_turn own n p) 0

@@ -1,8 +1,11 @@
 //! What a process does at an event of its machine.
 
-ghost use Rattle.std.specs.Prelude.{◌≡◌, ℕ, ◌++◌, ◌∷◌, [], length};
+ghost use Rattle.std.specs.Prelude.{◌≡◌, ◌≤◌, ◌<◌, ℕ, ◌++◌, ◌∷◌, [], false, length, slice_index};
+ghost use Rattle.om_format.specs.declared.limits.TheConstants.{MAX_BODY};
+ghost use Rattle.om_interval.specs.declared.pid.TheConstants.{MAX_PROCESSES};
+ghost use Rattle.om_process.specs.declared.limits.TheConstants.{LAST_NUMBER};
 ghost use Rattle.om_machine.specs.State.{State};
-ghost use Rattle.om_process.specs.Turns.{after_event};
+ghost use Rattle.om_process.specs.Turns.{after_event, may_not_send};
 ghost use Rattle.om_process.specs.Core.{status_of};
 ghost use Rattle.om_process.specs.steps.Planned.{planned, Fits};
 
@@ -60,21 +63,29 @@ pub fn plan_at(machine: &Machine, sent: &DepVec, event: Event) -> Plan
     }
 }
 
+/// Whether a process, which sent so many messages, may not send so many bytes to this one: there is none, they are too many, or the
+/// numbers of its messages are used up.
+pub fn may_not_send(sent: &DepVec, to: u32, len: u32) -> bool
+    ensures told { (made : ℕ) → result ≡ may_not_send (length sent.now) (sent.now ++ made ∷ []) to len }
+    ensures there { result ≡ false → (to < length sent.now) × (to < MAX_PROCESSES) }
+    ensures short { result ≡ false → len ≤ MAX_BODY }
+    ensures numbered { result ≡ false → slice_index sent.now to < LAST_NUMBER }
+{
+    to as usize >= sent.n()
+        || len as usize > MAX_BODY
+        || sent.get(Pid::at(to as usize)) >= LAST_NUMBER
+}
+
 fn send_at(machine: &Machine, sent: &DepVec, to: u32, addr: u32, len: u32) -> Plan
     ensures planned { (own made : ℕ) (next : State) → planned own (length sent.now) machine.now next result
         ≡ after_event own (length sent.now) machine.now (sent.now ++ made ∷ []) (Event.Call (EnvCall.Send to addr len)) next }
     ensures fits { Fits sent.now machine.now (Event.Call (EnvCall.Send to addr len)) result }
 {
-    let n = sent.n();
-    if to as usize >= n || len as usize > MAX_BODY {
-        return Plan::Refuse;
-    }
-    let place = Pid::at(to as usize);
-    if sent.get(place) >= LAST_NUMBER {
+    if may_not_send(sent, to, len) {
         Plan::Refuse
     } else if machine.bytes(addr, len).is_some() {
         Plan::Send {
-            to: place,
+            to: Pid::at(to as usize),
             addr,
             len,
         }

@@ -3,7 +3,8 @@
 ghost use Rattle.std.specs.Prelude.{ℕ, ◌≡◌, ◌≢◌, ◌+◌, ◌<◌, ◌≤◌, length, slice_index, slice_range, Option, None, Some, IfOk, OnOk, OnErr, IfSome};
 ghost use Rattle.om_machine.specs.derived.NextStep.{next_of};
 ghost use Rattle.om_machine.specs.Finishing.{TakesWord, finished_who, finished_word};
-ghost use Rattle.om_process.specs.Core.{CoreTurns, cluster_size, core_turn, move_of, status_of, with_now};
+ghost use Rattle.om_process.specs.Core.{CoreTurns, cluster_size, core_refuses, core_turn, move_of, status_of, with_now};
+ghost use Rattle.om_process.specs.Turns.{is_refused_send};
 ghost use Rattle.om_process.specs.steps.Planned.{IsBuffer, with_bytes_emitted};
 ghost use Rattle.om_process.specs.Process.{Process, IsEmission, emitted, made};
 ghost use Rattle.om_process.specs.steps.Pieces.{with_machine};
@@ -11,7 +12,7 @@ ghost use Rattle.om_format.specs.declared.limits.TheConstants.{MAX_BODY};
 ghost use Rattle.om_process.specs.declared.limits.TheConstants.{LAST_NUMBER};
 
 use crate::limits::REFUSED;
-use crate::plan::{Plan, plan_at};
+use crate::plan::{Plan, may_not_send, plan_at};
 use crate::proc_core::ProcCore;
 use crate::queues::Messages;
 use crate::status::Status;
@@ -27,6 +28,8 @@ pub struct Ran {
     pub steps: u64,
     /// What the process is about to do.
     pub status: Status,
+    /// How many of the instructions were sends that are refused: to no process, too long, or with no number left.
+    pub refused: u64,
 }
 
 // A body of bytes of memory.
@@ -61,6 +64,7 @@ impl ProcCore {
     // Runs the machine alone, until it stands or the fuel is used up.
     fn go(&mut self, fuel: u64) -> om_machine::Ran
         ensures turns { CoreTurns result.steps self.old self.new }
+        ensures none_refused { core_refuses result.steps self.old ≡ 0 }
         ensures rest { self.new ≡ with_now self.old self.new.now }
         ensures size { cluster_size self.new.now ≡ cluster_size self.old.now }
         ensures within { result.steps ≤ fuel }
@@ -122,6 +126,16 @@ impl ProcCore {
         self.machine.finish_who(self.pid.index() as u32, n);
     }
 
+    // Whether the event is a send that is refused.
+    fn refuses(&self, event: Event) -> bool
+        ensures { result ≡ is_refused_send (cluster_size self.now.now) (made self.now.now.queues) event }
+    {
+        match event {
+            Event::Call(EnvCall::Send { to, len, .. }) => may_not_send(&self.sent, to, len),
+            _ => false,
+        }
+    }
+
     // One turn at this event of the machine, or what it is about to do where there is none.
     fn turn(&mut self, alloc: Global, event: Event) -> Result<Option<Status>, AllocError>
         requires at { (next_of self.old.now.machine).0 ≡ event }
@@ -153,6 +167,7 @@ impl ProcCore {
         ensures turns { IfOk result (λ ran. CoreTurns ran.steps self.old self.new) }
         ensures within { IfOk result (λ ran. ran.steps ≤ fuel) }
         ensures status { IfOk result (λ ran. ran.status ≡ status_of (move_of self.new)) }
+        ensures refused { IfOk result (λ ran. ran.refused ≡ core_refuses ran.steps self.old) }
         ensures stops { IfOk result (λ ran. ran.steps < fuel → ran.status ≢ Status.Ready) }
         ensures no_more { IfOk result (λ ran. ran.steps < fuel → core_turn self.new ≡ None) }
         ensures due { OnErr result ((p : Process) × (core_turn self.new ≡ Some p)) }
@@ -162,19 +177,27 @@ impl ProcCore {
         ensures size { cluster_size self.new.now ≡ cluster_size self.old.now }
     {
         let mut steps = 0;
+        let mut refused = 0;
         while steps < fuel {
             let ran = self.go(fuel - steps);
             steps += ran.steps;
             if steps < fuel {
+                let is_refused = self.refuses(ran.event);
                 if let Some(status) = self.turn(alloc, ran.event)? {
-                    return Ok(Ran { steps, status });
+                    return Ok(Ran {
+                        steps,
+                        status,
+                        refused,
+                    });
                 }
                 steps += 1;
+                refused += u64::from(is_refused);
             }
         }
         Ok(Ran {
             steps,
             status: self.status(),
+            refused,
         })
     }
 }

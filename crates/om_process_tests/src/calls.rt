@@ -31,6 +31,12 @@ const EIGHT: &str = "9305800073000000";
 // Sends to process 1.
 const SENDS: &str = "930810001305100073000000";
 
+// Sends 257 bytes to process 0, and then, as x10 says that it was refused, to process 2^32 - 1.
+const SENDS_TOO_LONG: &str = "93081000130610107300000073000000";
+
+// Sends 256 bytes to process 0.
+const SENDS_LONGEST: &str = "930810001306001073000000";
+
 // The start of process `pid` of `n` with this program, over a store of its own.
 fn start(
     rt: &impl Abort,
@@ -72,23 +78,38 @@ fn has_outputs(core: &ProcCore, from: u64, count: usize, bytes: &[u8]) -> bool {
 }
 
 // Whether a process of one stopped for this cause after so many steps, with this value in x10 and nothing sent.
-fn has_stopped(core: &ProcCore, ran: Ran, steps: u64, cause: Cause, value: u32) -> bool {
+fn has_stopped(
+    core: &ProcCore,
+    ran: Ran,
+    (steps, refused): (u64, u64),
+    cause: Cause,
+    value: u32,
+) -> bool {
     let status = Status::Trapped(cause);
     core.vec().n() == 1
         && core.outbox(Pid::at(0)).is_empty()
-        && (ran, core.status()) == (Ran { steps, status }, status)
+        && (ran, core.status())
+            == (
+                Ran {
+                    steps,
+                    status,
+                    refused,
+                },
+                status,
+            )
         && x(core, 10) == Some(value)
 }
 
-// Program, size, the steps, why it stops, x10, and how many outputs it makes.
-type Call = (&'static str, u32, u64, Cause, u32, usize);
+// Program, size, the steps and of these the sends that are refused, why it stops, x10, and how many outputs it makes.
+type Call = (&'static str, u32, (u64, u64), Cause, u32, usize);
 
-// A send to a process that is not there, an output of 8 bytes, one of which a byte lies outside memory, and one that is too long.
-const CALLS: [Call; 4] = [
-    (SENDS, 12, 3, FetchOutside, u32::MAX, 0),
-    (OUTPUTS_EIGHT, 16, 4, FetchOutside, 0, 1),
-    (OUTPUTS_NINE, 16, 3, BufferOutside, 8, 0),
-    (OUTPUTS_TOO_LONG, 16, 4, FetchOutside, u32::MAX, 0),
+// A send to a process that is not there, one that is too long and then one to no process, an output of 8 bytes, one of which a byte lies outside memory, and one that is too long.
+const CALLS: [Call; 5] = [
+    (SENDS, 12, (3, 1), FetchOutside, u32::MAX, 0),
+    (SENDS_TOO_LONG, 16, (4, 2), FetchOutside, u32::MAX, 0),
+    (OUTPUTS_EIGHT, 16, (4, 0), FetchOutside, 0, 1),
+    (OUTPUTS_NINE, 16, (3, 0), BufferOutside, 8, 0),
+    (OUTPUTS_TOO_LONG, 16, (4, 0), FetchOutside, u32::MAX, 0),
 ];
 
 fn is_carried_out(rt: &impl Abort, alloc: Global, call: Call) -> bool {
@@ -211,8 +232,28 @@ fn assert_kept(rt: &impl Abort, alloc: Global, core: &ProcCore, k: usize, is_kep
 fn sent(rt: &impl Abort, alloc: Global) -> ProcCore {
     let mut core = started(rt, alloc, SENDS_FIRST, 64, (2, 3));
     let status = Status::Ended(0);
-    assert!(rt; run(rt, alloc, &mut core, 10) == Ran { steps: 5, status });
+    let refused = 0;
+    let wanted = Ran {
+        steps: 5,
+        status,
+        refused,
+    };
+    assert!(rt; run(rt, alloc, &mut core, 10) == wanted);
     core
+}
+
+// Of the longest message nothing is refused; what is carried out in one run counts there alone.
+#[test]
+fn sends_that_are_refused_are_counted(rt: HostRuntime) {
+    let heap = rt.alloc();
+    let mut longest = started(&rt, heap, SENDS_LONGEST, 512, (0, 1));
+    assert_eq!(&rt; run(&rt, heap, &mut longest, 10).refused, 0);
+    assert_eq!(&rt; longest.outbox(Pid::at(0)).len(), 1);
+    let mut core = started(&rt, heap, SENDS_TOO_LONG, 16, (0, 1));
+    for refused in [0, 1, 1, 0] {
+        let fuel = if refused == 0 { 2 } else { 1 };
+        assert_eq!(&rt; run(&rt, heap, &mut core, fuel).refused, refused);
+    }
 }
 
 #[test]

@@ -1,10 +1,13 @@
-//! What is said of processes where turns ran out, of those that trapped, and of kills that did not come.
+//! What is said of processes where turns ran out, of those that trapped, of sends that were refused, and of kills that did not
+//! come.
 
 use om_commands::read_input;
 use om_interval::Pid;
 use om_machine::Cause;
 use om_process::Status;
-use om_run_commands::{ClusterScript, has_kills_left, kills_left_text, trapped_text, waiting_text};
+use om_run_commands::{
+    ClusterScript, has_kills_left, kills_left_text, refused_sends_text, trapped_text, waiting_text,
+};
 use om_runner::{Doing, Sight};
 use std::alloc::Global;
 use std::process::Abort;
@@ -84,6 +87,22 @@ fn those_that_trapped_are_named(rt: HostRuntime) {
         "a: trapped 1, no instruction has the word at pc, at 00000044\n\
 c: trapped 6, a load or a store outside memory, at fffffffc\ne: trapped 9, 2^64 - 1 instructions, at 00000000\n"
     );
+}
+
+// A line for each process of which sends were refused, also of one that did not trap, and none for the others.
+#[test]
+fn refused_sends_are_told(rt: HostRuntime) {
+    let mut sights = [
+        trap(Cause::Break, 0),
+        sight(Doing::Up(Status::Ended(0)), 9),
+        sight(Doing::Up(Status::Ended(1)), 2),
+    ];
+    sights[0].refused = u64::MAX;
+    sights[2].refused = 1;
+    let script = script_of(&rt, rt.alloc(), FILE);
+    let text = refused_sends_text(rt.alloc(), &script, &sights).expect(&rt, "memory");
+    let wanted = "a: refused sends: 18446744073709551615\nc: refused sends: 1\n";
+    assert_eq!(&rt; text.as_str(), wanted);
 }
 
 // Kills of the processes of FILE, of which two are alike.

@@ -5,6 +5,7 @@ pub mod Follow
 pub mod KillsLeft
 pub mod Modes
 pub mod RandomKills
+pub mod RefusedSends
 pub mod Run
 pub mod RunText
 pub mod Trapped

@@ -47,7 +47,7 @@ trap_line name _ pc = []
 
 -- a process of which nothing was seen
 abbrev pub unseen : Sight
-unseen = record { doing = Begins; interval = 0; count = 0; pc = 0; put = 0; taken = 0; front = None }
+unseen = record { doing = Begins; interval = 0; count = 0; pc = 0; refused = 0; put = 0; taken = 0; front = None }
 
 -- by what was seen of each process, a line for each that trapped, in their order
 abbrev pub traps_text : Cluster → List Sight → List ℕ

@@ -428,6 +428,7 @@ impl<'a, K: Naming> Worker<'a, K> {
         let before = watch.sight(rt, pid).unwrap_or(Sight::new());
         let seen = turned.0.sight(before);
         let sight = Sight {
+            refused: self.diary.refused(),
             put: self.links.put(),
             taken: self.links.taken(),
             front: Some(self.manager_link.read(rt, &mut turned.1)),

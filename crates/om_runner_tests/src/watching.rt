@@ -175,6 +175,30 @@ fn where_a_process_trapped_is_seen(rt: HostRuntime) {
     assert_trap(&rt, sights.get(1), Cause::DataOutside, (1, 7, 56));
 }
 
+// Sends 257 bytes to process 0, then, as x10 says that it was refused, to process 2^32 - 1, and ends.
+const REFUSED: [u32; 6] = [
+    0x00100893, 0x10100613, 0x00000073, 0x00000073, 0x00000893, 0x00000073,
+];
+
+// Also where each turn is of one instruction.
+#[test]
+fn sends_that_are_refused_are_seen(rt: HostRuntime) {
+    let alloc = rt.alloc();
+    let mut refused = cluster(&rt, alloc, (2, &REFUSED), &[], u64::MAX);
+    for fuel in [1, 1000] {
+        refused.fuel = fuel;
+        let (fault, sights) = seen(&rt, alloc, &refused);
+        assert!(&rt; fault.is_none());
+        assert!(&rt; sights.len() == 2);
+        for sight in &sights {
+            assert!(&rt; sight.refused == 2 && sight.count == 5, "{sight:?}");
+        }
+    }
+    let breaks = cluster(&rt, alloc, (1, &BREAKS), &[], u64::MAX);
+    let (_, sights) = seen(&rt, alloc, &breaks);
+    assert!(&rt; sights.first().is_some_and(|sight| sight.refused == 0));
+}
+
 // Whether this failure is one of these.
 fn has_failure(failures: &[(Pid, u32)], p: usize, interval: u32) -> bool {
     failures
@@ -219,6 +243,7 @@ fn sight(
         interval: 5,
         count,
         pc: 0,
+        refused: 0,
         put,
         taken,
         front: Some(front(rt, version, 1, vec)),

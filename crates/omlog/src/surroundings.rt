@@ -12,8 +12,8 @@ use om_files::{
 };
 use om_process::Status;
 use om_run_commands::{
-    ClusterScript, RandomKills, RunContext, has_kills_left, kills_left_text, trapped_text,
-    waiting_text,
+    ClusterScript, RandomKills, RunContext, has_kills_left, kills_left_text, refused_sends_text,
+    trapped_text, waiting_text,
 };
 use om_runner::Watch;
 use std::alloc::AllocError;
@@ -233,6 +233,9 @@ impl<'a, 'w, R: Wait> Surroundings<'a, 'w, R> {
             return;
         };
         if let Ok(text) = trapped_text(self.rt.alloc(), script, &sights) {
+            self.reasons.add_lines(text.as_str());
+        }
+        if let Ok(text) = refused_sends_text(self.rt.alloc(), script, &sights) {
             self.reasons.add_lines(text.as_str());
         }
     }
