@@ -19,7 +19,6 @@ use om_commands::decode::decode;
 use om_commands::frontier::frontier;
 use om_commands::sim::sim;
 use om_commands::{BytesForm, CommandError, write_answer};
-use om_debug_command::debug;
 use om_draw_command::draw::{Window, draw};
 use om_files::{fault_of, replay_file, show_bodies_file, show_file, steps_file};
 use om_folding::fold_zero_rows;
@@ -155,8 +154,7 @@ fn reads_text(request: Request<'_>) -> bool {
         | Request::Sim(_)
         | Request::Draw(_)
         | Request::Run(_)
-        | Request::Explore(_)
-        | Request::Debug { .. } => true,
+        | Request::Explore(_) => true,
         Request::Look(_) | Request::Image { .. } => false,
     }
 }
@@ -211,7 +209,6 @@ fn answer_at_once<I: Read, W: Write>(
         Request::Frontier => frontier(rt.alloc(), reader, writer),
         Request::Sim(form) => sim(rt.alloc(), form_of(form), reader, writer),
         Request::Draw(lines) => draw(rt.alloc(), reader, writer, window_of(lines)),
-        Request::Debug { process } => debug(rt.alloc(), process, reader, &mut rt.reader(), writer),
         Request::Look(look) => look_into(rt, look, writer, reasons),
         // These have ends of their own.
         Request::Run(_) | Request::Explore(_) | Request::Image { .. } => Ok(()),
