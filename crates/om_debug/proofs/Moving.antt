@@ -3,7 +3,7 @@ use Rattle.std.proofs.Common.{◌≡◌, ℕ, ◌++◌, List, [], refl, sym, ap,
 use Rattle.std.proofs.lemmas.List.{append-nil, append_assoc}
 use Rattle.om_timeline.specs.declared.deed.Deed.{Deed}
 use Rattle.om_timeline.specs.Timeline.{TimelineState, at, with_deeds}
-use Rattle.om_debug.specs.Stops.{IsMoved}
+use Rattle.om_debug.specs.Stops.{DebugState, IsMoved, with_timeline}
 
 pub moved_not : (t : TimelineState) → IsMoved t t
 moved_not t = record { more = []; is = ap (λ ds. record t { deeds = ds }) (sym (append-nil t.deeds)) }
@@ -30,3 +30,7 @@ moved_then old mid new first second =
           ∙ ap (λ (t : TimelineState). record t { deeds = t.deeds ++ second.more; event = new.event; turns = new.turns }) first.is
           ∙ ap (λ ds. record old { deeds = ds; event = new.event; turns = new.turns }) (append_assoc old.deeds first.more second.more);
     }
+
+-- only the timeline is another, again
+pub same_then : (a b c : DebugState) → b ≡ with_timeline a b.timeline → c ≡ with_timeline b c.timeline → c ≡ with_timeline a c.timeline
+same_then a b c first second = second ∙ ap (λ (d : DebugState). with_timeline d c.timeline) first

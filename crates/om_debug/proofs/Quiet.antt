@@ -6,6 +6,7 @@ use Rattle.std.proofs.lemmas.List.{take-append-le}
 use Rattle.std.proofs.lemmas.Bool.Decides.{nat_tests}
 use Rattle.om_machine.specs.State.{State}
 use Rattle.om_machine.specs.derived.NextStep.{next_of}
+use Rattle.om_world.proofs.Lists.{none_in, once}
 use Rattle.om_requests.specs.declared.request.Watch.{Watch}
 use Rattle.om_timeline.specs.declared.deed.Deed.{Deed}
 use Rattle.om_timeline.specs.declared.deed.Deed.TheVariants.{Nothing, Ran, Took, Fell, Back}
@@ -58,6 +59,17 @@ turns_some : (ds : List Deed) (e : ℕ) → 0 < turns_at ds e → e < length ds
 turns_some [] e h = absurd (omega (arith, h))
 turns_some (d ∷ ds) zero h = omega arith
 turns_some (d ∷ ds) (suc e) h = let r = turns_some ds e h in omega (arith, r)
+
+-- the turns of the deed at a place
+pub turns_got : (ds : List Deed) (e : ℕ) (d : Deed) → slice_get ds e ≡ Some d → turns_at ds e ≡ turns_in d
+turns_got [] e d at = absurd (none_in e d at)
+turns_got (x ∷ ds) zero d at = ap turns_in (once x d at)
+turns_got (x ∷ ds) (suc e) d at = turns_got ds e d at
+
+pub turns_past : (ds : List Deed) (e : ℕ) → length ds ≤ e → turns_at ds e ≡ 0
+turns_past [] e h = refl
+turns_past (d ∷ ds) zero h = absurd (omega (arith, h))
+turns_past (d ∷ ds) (suc e) h = turns_past ds e (omega (arith, h))
 
 ran_of : (d : Deed) → 0 < turns_in d → d ≡ Ran (turns_in d)
 ran_of Nothing h = absurd (omega (arith, h))
@@ -199,7 +211,7 @@ none_first : (a : Option Access) → first_met a [] ≡ None
 none_first None = refl
 none_first (Some a) = refl
 
-none_met : (m : State) (deed : Option Deed) (next : Next) → watch_met [] m deed next ≡ None
+pub none_met : (m : State) (deed : Option Deed) (next : Next) → watch_met [] m deed next ≡ None
 none_met m None next = refl
 none_met m (Some Nothing) next = refl
 none_met m (Some (Ran all)) Still = refl

@@ -1,5 +1,5 @@
 //! Forward to a stop, and back to one.
-#![tactic(auto, using(crate::proofs::Moving::moved_then, crate::proofs::Moving::moved_at, crate::proofs::Moving::moved_to, crate::proofs::Moving::moved_with, crate::proofs::Moving::moved_same, crate::proofs::Moving::moved_not))]
+#![tactic(auto, using(crate::proofs::Moving::moved_then, crate::proofs::Moving::same_then, crate::proofs::Moving::moved_at, crate::proofs::Moving::moved_to, crate::proofs::Moving::moved_with, crate::proofs::Moving::moved_same, crate::proofs::Moving::moved_not))]
 
 ghost use Rattle.std.specs.Prelude.{◌≡◌, ◌↔◌, ◌-◌, ◌<◌, ◌≤◌, IfOk, IfSome, None, OnErr, OnOk, length, true};
 ghost use Rattle.om_timeline.specs.Deeds.{turns_at};
@@ -33,6 +33,7 @@ fn is_before(one: Position, other: Position) -> bool
 }
 
 // How many turns are left of the event at a position.
+#[tactic(auto, using(crate::proofs::Quiet::turns_got, crate::proofs::Quiet::turns_past))]
 fn turns_left(deeds: &[Deed], at: Position) -> u64
     ensures { result ≡ turns_at deeds.now at.event - at.turns }
 {
@@ -47,7 +48,7 @@ fn turns_left(deeds: &[Deed], at: Position) -> u64
 
 impl Debugger {
     // Goes on to the first stop at or behind the position.
-    #[tactic(auto, using(crate::proofs::Moving::moved_then, crate::proofs::Moving::moved_not, crate::proofs::Quiet::passed_none, crate::proofs::Quiet::passed_then))]
+    #[tactic(auto, using(crate::proofs::Moving::moved_then, crate::proofs::Moving::same_then, crate::proofs::Moving::moved_not, crate::proofs::Quiet::passed_none, crate::proofs::Quiet::passed_then))]
     pub(crate) fn forward(&mut self, how: Resume) -> Result<Stop, PlayFault>
         ensures moved { IsMoved self.old.timeline self.new.timeline }
         ensures same { self.new ≡ with_timeline self.old self.new.timeline }
@@ -63,7 +64,7 @@ impl Debugger {
     }
 
     // A piece of the way, and what stops it.
-    #[tactic(auto, using(crate::proofs::Moving::moved_then, crate::proofs::Moving::moved_with, crate::proofs::Moving::moved_same, crate::proofs::Moving::moved_not, crate::proofs::Quiet::passed_none, crate::proofs::Quiet::passed_then))]
+    #[tactic(auto, using(crate::proofs::Moving::moved_then, crate::proofs::Moving::same_then, crate::proofs::Moving::moved_with, crate::proofs::Moving::moved_same, crate::proofs::Moving::moved_not, crate::proofs::Quiet::passed_none, crate::proofs::Quiet::passed_then))]
     fn advance(&mut self, how: Resume) -> Result<Option<Stop>, PlayFault>
         ensures within { IsWithin self.old.timeline }
         ensures moved { IsMoved self.old.timeline self.new.timeline }

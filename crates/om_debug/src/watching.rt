@@ -1,6 +1,6 @@
 //! Which bytes of memory an instruction or a message reads or writes, and which watchpoint that meets.
 
-ghost use Rattle.std.specs.Prelude.{◌≡◌, length, slice_get};
+ghost use Rattle.std.specs.Prelude.{◌≡◌, Some, length, slice_get};
 ghost use Rattle.om_machine.specs.derived.NextStep.{next_of};
 ghost use Rattle.om_machine.specs.Effects.{address_of};
 ghost use Rattle.om_debug.specs.Moments.{next_at};
@@ -29,9 +29,9 @@ fn inst_at(machine: &Machine) -> Option<Inst>
     if at + 4 > memory.len() {
         return None;
     }
-    let low = u32::from(memory[at]) + 256 * u32::from(memory[at + 1]);
-    let high = u32::from(memory[at + 2]) + 256 * u32::from(memory[at + 3]);
-    decode(low + 65536 * high, machine.ext())
+    let mut bytes = [0; 4];
+    bytes.copy_from_slice(&memory[at..at + 4]);
+    decode(u32::from_le_bytes(bytes), machine.ext())
 }
 
 fn bytes_at(machine: &Machine, base: Reg, imm: Imm12, length: u32, writes: bool) -> Access
@@ -113,7 +113,15 @@ fn meets(watch: Watch, access: Access) -> bool
 fn first_met(watches: &[Watch], access: Option<Access>) -> Option<Watch>
     ensures { result ≡ first_met access watches.now }
 {
-    let access = access?;
+    match access {
+        Some(access) => first_met_by(watches, access),
+        None => None,
+    }
+}
+
+fn first_met_by(watches: &[Watch], access: Access) -> Option<Watch>
+    ensures { result ≡ first_met (Some access) watches.now }
+{
     for watch in watches {
         if meets(*watch, access) {
             return Some(*watch);
@@ -150,6 +158,7 @@ fn first_changed(watches: &[Watch], before: &Machine, after: &Machine) -> Option
 }
 
 // The watchpoint that what comes next at a position meets.
+#[tactic(auto, using(crate::proofs::Quiet::none_met))]
 pub(crate) fn watch_met(
     watches: &[Watch],
     machine: &Machine,

@@ -5,3 +5,4 @@ pub mod Reading
 pub mod Staying
 pub mod Taping
 pub mod Turning
+pub mod Walking

@@ -1,10 +1,12 @@
 -- Positions of a tape, and the machine there.
-use Rattle.std.proofs.Common.{◌≡◌, ℕ, zero, suc, ◌+◌, ◌<◌, ◌≤◌, List, [], ◌∷◌, ◌++◌, length, take, Option, Some, None, refl, sym, ap, subst, ◌∙◌, arith, length-append}
+use Rattle.std.proofs.Common.{◌≡◌, ℕ, zero, suc, ◌+◌, ◌<◌, ◌≤◌, List, [], ◌∷◌, ◌++◌, length, take, get_or, Option, Some, None, Bool, true, false, Result, Ok, Err, IfOk, OnErr, refl, sym, ap, subst, ◌∙◌, arith, length-append}
 use Rattle.std.specs.Prelude.{slice_get}
+use Rattle.std.proofs.lemmas.Option.{slice_get_read}
 use Rattle.om_machine.specs.State.{State}
 use Rattle.om_world.specs.World.{WorldState}
 use Rattle.om_world.proofs.Lists.{none_in, once}
 use Rattle.om_timeline.specs.declared.deed.Deed.{Deed}
+use Rattle.om_timeline.specs.declared.fault.PlayFault.{PlayFault}
 use Rattle.om_timeline.specs.Alone.{turns_alone}
 use Rattle.om_timeline.specs.Deeds.{after_deed, after_deeds, at_position, turns_at, turns_in}
 use Rattle.om_timeline.specs.Shown.{ShownAt}
@@ -23,6 +25,10 @@ pub none_behind : (deeds : List Deed) (event : ℕ) → length deeds ≤ event �
 none_behind [] event behind = refl
 none_behind (d ∷ deeds) zero behind = absurd (omega (arith, behind))
 none_behind (d ∷ deeds) (suc event) behind = none_behind deeds event (omega (arith, behind))
+
+-- the same of what is read there
+pub turns_read : (deeds : List Deed) (event : ℕ) (deed : Deed) → event < length deeds → deed ≡ get_or deeds event deed → turns_at deeds event ≡ turns_in deed
+turns_read deeds event deed there read = turns_there deeds event deed (slice_get_read deeds (length deeds) event deed refl there read)
 
 take_before : {A : Type 0} (xs ys : List A) (k : ℕ) → k ≤ length xs → take k (xs ++ ys) ≡ take k xs
 take_before [] [] zero within = refl
@@ -59,6 +65,20 @@ placed_on t m next own n event turns more p few gone = record {
   here = gone ∙ ap (λ i. turns_alone i n more m) p.is_own ∙ ap (λ i. turns_alone t.own i more m) p.is_n ∙ ap (turns_alone t.own t.n more) p.here
       ∙ sym (joined t.own t.n turns more (after_deeds t.own t.n t.first (take event t.deeds)));
 }
+
+-- under another name of the process
+pub placed_as : (t : TapeState) (m : State) (own n own2 n2 event turns : ℕ) → own2 ≡ own → n2 ≡ n → IsPlaced t m own n event turns → IsPlaced t m own2 n2 event turns
+placed_as t m own n own2 n2 event turns is_own is_n p = record { is_own = is_own ∙ p.is_own; is_n = is_n ∙ p.is_n; within = p.within; few = p.few; here = p.here }
+
+-- with what came of one event more
+pub placed_filmed : (result : Result Bool PlayFault) (old new : TapeState) (m : State) (own n event turns : ℕ)
+    → IfOk result (λ more. more ≡ true → (deed : Deed) × (new ≡ record old { deeds = old.deeds ++ deed ∷ [] }))
+    → IfOk result (λ more. more ≡ false → new ≡ old) → OnErr result (new ≡ old) → IsPlaced old m own n event turns → IsPlaced new m own n event turns
+placed_filmed (Ok true) old new m own n event turns more end refused p =
+    let longer = more refl in
+    subst (λ t. IsPlaced t m own n event turns) (sym longer.1) (placed_longer old (longer.0 ∷ []) m own n event turns p)
+placed_filmed (Ok false) old new m own n event turns more end refused p = subst (λ t. IsPlaced t m own n event turns) (sym (end refl)) p
+placed_filmed (Err fault) old new m own n event turns more end refused p = subst (λ t. IsPlaced t m own n event turns) (sym refused) p
 
 -- behind the event
 pub placed_behind : (t : TapeState) (m next : State) (own n event turns : ℕ) (deed : Deed) → IsPlaced t m own n event turns → slice_get t.deeds event ≡ Some deed → event < length t.deeds

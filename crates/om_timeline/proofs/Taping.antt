@@ -92,3 +92,21 @@ tape_longer t old new e deed at tape next =
     let there : length t.deeds < length t.events = inside t.events (length t.deeds) e at in
     let long : length (t.deeds ++ deed ∷ []) ≡ length t.deeds + 1 = length-append t.deeds (deed ∷ []) in
     tape_goes (longer t deed) new (omega (arith, there, long)) (goes_longer t old new e deed at (tape.goes_on refl) next)
+
+-- ---- as the code has them
+pub tape_begun : (own n : ℕ) (first : State) (events : List Event) (w begun : WorldState) (deeds : List Deed) (c : CoreState) → IsKnown w → Holds w → HasSeat own n w → slice_get w.cores own ≡ Some (Some c) → first ≡ c.now.machine
+    → begun ≡ w → deeds ≡ [] → IsTape (record { own = own; n = n; first = first; begun = begun; events = events; deeds = deeds }) None w
+tape_begun own n first events w begun deeds c known holds seat at is same none =
+    subst (λ b. IsTape (record { own = own; n = n; first = first; begun = b; events = events; deeds = deeds }) None w) (sym same)
+    (subst (λ ds. IsTape (record { own = own; n = n; first = first; begun = w; events = events; deeds = ds }) None w) (sym none)
+    (tape_new own n first events w c known holds seat at is))
+
+pub film_longer : (t : TapeState) (fault : Option PlayFault) (deeds : List Deed) (old new : WorldState) (e : Event) (deed : Deed) → fault ≡ None → slice_get t.events (length t.deeds) ≡ Some e
+    → IsTape t fault old → IsNextDeed t.own t.n old e deed new → deeds ≡ t.deeds ++ deed ∷ [] → IsTape (record t { deeds = deeds }) fault new
+film_longer t fault deeds old new e deed none at tape next is =
+    subst (λ ds. IsTape (record t { deeds = ds }) fault new) (sym is)
+    (subst (λ f. IsTape (longer t deed) f new) (sym none) (tape_longer t old new e deed at (subst (λ f. IsTape t f old) none tape) next))
+
+pub film_lost : (t : TapeState) (fault : PlayFault) (before : Option PlayFault) (deeds : List Deed) (old new : WorldState) → IsTape t before old → deeds ≡ t.deeds → IsTape (record t { deeds = deeds }) (Some fault) new
+film_lost t fault before deeds old new tape is =
+    subst (λ ds. IsTape (record t { deeds = ds }) (Some fault) new) (sym is) (tape_lost t fault before old new tape)

@@ -234,8 +234,9 @@ impl Tape {
         ensures all { IfOk result (λ more. more ≡ false → length self.old.deeds ≡ length self.old.events) }
         ensures refused { OnErr result (self.new ≡ self.old) }
     {
-        if let Some(fault) = self.fault {
-            return Err(fault);
+        match self.fault {
+            Some(fault) => return Err(fault),
+            None => {}
         }
         let place = self.deeds.len();
         if place >= self.events.len() {

@@ -9,6 +9,7 @@ ghost use Rattle.om_timeline.specs.Alone.{move_alone};
 ghost use Rattle.om_timeline.specs.Deeds.{turns_at};
 ghost use Rattle.om_timeline.specs.Shown.{ShownAt};
 ghost use Rattle.om_timeline.specs.Timeline.{IsBegin, at, machine_here, with_deeds};
+ghost use Rattle.om_timeline.specs.steps.Placed.{IsLeft};
 
 use crate::alone::{Alone, copy_of};
 use crate::deed::Deed;
@@ -108,6 +109,7 @@ impl Timeline {
         ensures here { result.now ≡ machine_here self.now }
         ensures shown { ShownAt self.now.process self.now.first self.now.begun self.now.events self.now.event self.now.turns result.now }
     {
+        self.tape.told();
         &self.here.machine
     }
 
@@ -224,24 +226,51 @@ impl Timeline {
         ensures stays { (event : ℕ) × (turns : ℕ) × (self.new ≡ at self.old event turns) }
     {
         let deeds = self.tape.deeds();
-        if to.event > deeds.len() || to.turns > turns_at(deeds, to.event) {
+        if to.event > deeds.len() {
             return Ok(false);
         }
+        if to.turns > turns_at(deeds, to.event) {
+            return Ok(false);
+        }
+        self.jump(alloc, to)?;
+        Ok(true)
+    }
+
+    // Goes to a position that was played.
+    #[tactic(auto, using(crate::proofs::Walking::gone_there, crate::proofs::Walking::jumped, crate::proofs::Walking::stays_then, crate::proofs::Walking::few_left, crate::proofs::Walking::few_there, crate::proofs::Walking::left_turns, crate::proofs::Walking::left_event, crate::proofs::Walking::left_deeds, crate::proofs::Walking::stays_left))]
+    fn jump(&mut self, alloc: Global, to: Position) -> Result<(), AllocError>
+        requires event { to.event ≤ length self.old.deeds }
+        requires turns { to.turns ≤ turns_at self.old.deeds to.event }
+        ensures there { OnOk result (self.new ≡ at self.old to.event to.turns) }
+        ensures stays { (event : ℕ) × (turns : ℕ) × (self.new ≡ at self.old event turns) }
+    {
         if to.event == self.at.event && to.turns >= self.at.turns {
             self.go(to.turns - self.at.turns);
-            return Ok(true);
+            return Ok(());
         }
-        if to.event <= self.at.event {
+        self.leave(alloc, to.event)?;
+        self.walk(alloc, to.event)?;
+        self.go(to.turns);
+        Ok(())
+    }
+
+    // Goes to before an event that is not behind another one.
+    #[tactic(auto, using(crate::proofs::Walking::left_back, crate::proofs::Walking::left_on))]
+    fn leave(&mut self, alloc: Global, to: usize) -> Result<(), AllocError>
+        requires { to ≤ length self.old.deeds }
+        ensures left { OnOk result (IsLeft self.old self.new to) }
+        ensures refused { OnErr result (self.new ≡ self.old) }
+    {
+        if to <= self.at.event {
             self.rewind(alloc)?;
         } else {
             self.pass(alloc)?;
         }
-        self.walk(alloc, to.event)?;
-        self.go(to.turns);
-        Ok(true)
+        Ok(())
     }
 
     // Goes on from before an event to before another that was played.
+    #[tactic(auto, using(crate::proofs::Walking::begun_at, crate::proofs::Walking::walked_on, crate::proofs::Walking::walked_to, crate::proofs::Walking::stays_at))]
     fn walk(&mut self, alloc: Global, to: usize) -> Result<(), AllocError>
         requires before { self.old.turns ≡ 0 }
         requires order { self.old.event ≤ to }
@@ -259,6 +288,7 @@ impl Timeline {
 }
 
 // How many turns the deed at a place has.
+#[tactic(auto, using(crate::proofs::Placing::turns_read, crate::proofs::Placing::none_behind))]
 fn turns_at(deeds: &[Deed], event: usize) -> u64
     ensures { result ≡ turns_at deeds.now event }
 {
@@ -266,7 +296,10 @@ fn turns_at(deeds: &[Deed], event: usize) -> u64
         return 0;
     }
     match &deeds[event] {
+        Deed::Nothing => 0,
         Deed::Ran(turns) => *turns,
-        _ => 0,
+        Deed::Took(..) => 0,
+        Deed::Fell => 0,
+        Deed::Back(_) => 0,
     }
 }
