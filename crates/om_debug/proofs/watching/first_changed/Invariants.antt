@@ -1,7 +1,0 @@
-use Rattle.std.proofs.Common.{◌≡◌, drop, Some}
-use Rattle.om_debug.specs.Watching.{first_changed}
-use Rattle.om_debug.proofs.watching.first_changed.Given as goal
-
--- what is met of the rest is what is met of all
-abbrev pub invariant-loop-watch : goal.invariant-loop-watch
-invariant-loop-watch l = first_changed l.before.now l.after.now (drop l.watch-index l.watches) ≡ first_changed l.before.now l.after.now l.watches

@@ -1,4 +1,0 @@
-pub mod Moments
-pub mod Stops
-pub mod Told
-pub mod Watching
