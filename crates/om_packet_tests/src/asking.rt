@@ -1,11 +1,29 @@
 //! What packets ask: those that gdb 13.1 sends, and some that it does not.
 
-use om_requests::{Command, Request, Resume, Thread, hex_number, request_of};
+use om_requests::{Command, Request, Resume, Thread, Watch, Watched, hex_number, request_of};
 use std::alloc::Global;
 use std::process::Abort;
 
+const WRITES: Watch = Watch {
+    kind: Watched::Writes,
+    address: 568,
+    length: 4,
+};
+
+const READS: Watch = Watch {
+    kind: Watched::Reads,
+    address: 568,
+    length: 4,
+};
+
+const BOTH: Watch = Watch {
+    kind: Watched::Both,
+    address: 568,
+    length: 4,
+};
+
 // As gdb sent them.
-static SENT: [(&[u8], Request); 37] = [
+static SENT: [(&[u8], Request); 45] = [
     (
         b"qSupported:multiprocess+;swbreak+;hwbreak+;qRelocInsn+;fork-events+;vfork-events+;exec-events+;vContSupported+;QThreadEvents+;no-resumed+;memory-tagging+;xmlRegisters=i386",
         Request::Supported,
@@ -43,6 +61,20 @@ static SENT: [(&[u8], Request); 37] = [
     (b"bs", Request::BackStep),
     (b"bc", Request::BackContinue),
     (b"qRcmd,7768657265", Request::Monitor(Command::Where)),
+    (b"qRcmd,6576656e7473", Request::Monitor(Command::Events)),
+    (
+        b"qRcmd,676f746f20323339",
+        Request::Monitor(Command::Goto(239)),
+    ),
+    (
+        b"qRcmd,676f746f2034323934393637323935",
+        Request::Monitor(Command::Goto(4_294_967_295)),
+    ),
+    (b"qRcmd,68656c70", Request::Monitor(Command::Help)),
+    (b"Z2,238,4", Request::SetWatch(WRITES)),
+    (b"Z3,238,4", Request::SetWatch(READS)),
+    (b"Z4,238,4", Request::SetWatch(BOTH)),
+    (b"z2,238,4", Request::ClearWatch(WRITES)),
     (b"D", Request::Detach),
     (b"D;1", Request::Detach),
     (b"vKill;a410", Request::Kill),
@@ -52,7 +84,7 @@ static SENT: [(&[u8], Request); 37] = [
 ];
 
 // With numbers and words that they cannot have, and unknown ones.
-static OTHERS: [(&[u8], Request); 32] = [
+static OTHERS: [(&[u8], Request); 40] = [
     (b"", Request::Unknown),
     (b",", Request::Unknown),
     (b"\x00\xff", Request::Unknown),
@@ -73,12 +105,24 @@ static OTHERS: [(&[u8], Request); 32] = [
     (b"m-1,4", Request::Malformed),
     (b"m+1,4", Request::Malformed),
     (b"m23g,4", Request::Malformed),
-    // Breakpoints without an address, or with one that is too great; and other kinds, which are watchpoints.
+    // Breakpoints without an address, or with one that is too great; watchpoints without a length; and other kinds.
     (b"Z0", Request::Malformed),
     (b"Z0,", Request::Malformed),
     (b"z1,100000000,4", Request::Malformed),
-    (b"Z2,238,4", Request::Unknown),
-    (b"z4,238,4", Request::Unknown),
+    (b"Z2,238", Request::Malformed),
+    (b"Z3,100000000,4", Request::Malformed),
+    (b"z4,238,", Request::Malformed),
+    (b"Z5,238,4", Request::Unknown),
+    (b"Z22,238,4", Request::Unknown),
+    // Commands that are none, by an odd number of digits, a digit that is none, no number, and the first number that is too great.
+    (b"qRcmd", Request::Monitor(Command::Help)),
+    (b"qRcmd,776865726", Request::Monitor(Command::Help)),
+    (b"qRcmd,77686572zz", Request::Monitor(Command::Help)),
+    (b"qRcmd,676f746f20", Request::Monitor(Command::Help)),
+    (
+        b"qRcmd,676f746f2034323934393637323936",
+        Request::Monitor(Command::Help),
+    ),
     (b"bsc", Request::Unknown),
     (b"H", Request::Malformed),
     (b"Hg", Request::Malformed),

@@ -1,14 +1,21 @@
 -- What the bytes of a packet ask.
-use Rattle.std.specs.Prelude.{ℕ, Bool, true, false, ◌||◌, ◌==◌, List, [], ◌∷◌, Option, Some, None, if◌then◌else◌, codes}
+use Rattle.std.specs.Prelude.{ℕ, Bool, true, false, ◌||◌, ◌==◌, List, [], ◌∷◌, take, drop, Option, Some, None, Result, Ok, Err, if◌then◌else◌, codes}
 use Rattle.std.specs.List.{slice_split}
 use Rattle.std.specs.Str.{bytes_eq}
+use Rattle.hex.specs.Hex.{decode_of}
+use Rattle.hex.specs.declared.error.FromHexError.{FromHexError}
+use Rattle.om_text.specs.Numbers.{number_of}
 use Rattle.om_requests.specs.Numbers.{hex_number}
-use Rattle.om_requests.specs.declared.request.Command.TheVariants.{Where, Help}
+use Rattle.om_requests.specs.declared.request.Command.{Command}
+use Rattle.om_requests.specs.declared.request.Command.TheVariants.{Where, Events, Goto, Help}
 use Rattle.om_requests.specs.declared.request.Request.{Request}
 use Rattle.om_requests.specs.declared.request.Request.TheVariants as requests
 use Rattle.om_requests.specs.declared.request.Resume.TheVariants.{Step, Range, Continue}
 use Rattle.om_requests.specs.declared.request.Thread.{Thread}
 use Rattle.om_requests.specs.declared.request.Thread.TheVariants.{Any, Numbered}
+use Rattle.om_requests.specs.declared.request.Watch.{Watch}
+use Rattle.om_requests.specs.declared.request.Watched.{Watched}
+use Rattle.om_requests.specs.declared.request.Watched.TheVariants.{Writes, Reads, Both}
 
 -- a comma, a colon or a semicolon: what parts the words of a packet, and nothing else does
 abbrev pub is_mark : ℕ → Bool
@@ -54,13 +61,38 @@ abbrev pub break_at : Bool → Option ℕ → Request
 break_at sets None = requests.Malformed
 break_at sets (Some address) = if sets then requests.SetBreak address else requests.ClearBreak address
 
--- by its kind: 0 and 1 are breakpoints, and no other is known
+-- by its kind: 0 and 1 are breakpoints
 abbrev pub is_break : List ℕ → Bool
 is_break kind = bytes_eq kind (codes "0") || bytes_eq kind (codes "1")
 
+-- and 2 to 4 are watchpoints
+abbrev pub watched_of : List ℕ → Option Watched
+watched_of kind =
+    if bytes_eq kind (codes "2") then Some Writes
+    else (if bytes_eq kind (codes "3") then Some Reads
+    else (if bytes_eq kind (codes "4") then Some Both else None))
+
+abbrev pub watch_at : Bool → Watch → Request
+watch_at sets watch = if sets then requests.SetWatch watch else requests.ClearWatch watch
+
+-- a watchpoint is set or taken away, by its address and the words behind it, of which the first is its length
+abbrev pub watch_of : Bool → Watched → Option ℕ → Option ℕ → Request
+watch_of sets kind (Some address) (Some length) = watch_at sets (record { kind = kind; address = address; length = length })
+watch_of sets kind (Some address) None = requests.Malformed
+watch_of sets kind None other = requests.Malformed
+
+abbrev pub watch_request : Bool → Watched → Option ℕ → List (List ℕ) → Request
+watch_request sets kind address [] = requests.Malformed
+watch_request sets kind address (length ∷ more) = watch_of sets kind address (hex_number length)
+
+abbrev pub watched_request : Bool → Option Watched → Option ℕ → List (List ℕ) → Request
+watched_request sets None address rest = requests.Unknown
+watched_request sets (Some kind) address rest = watch_request sets kind address rest
+
 abbrev pub break_request : Bool → List ℕ → List (List ℕ) → Request
 break_request sets kind [] = requests.Malformed
-break_request sets kind (address ∷ more) = if is_break kind then break_at sets (hex_number address) else requests.Unknown
+break_request sets kind (address ∷ more) =
+    if is_break kind then break_at sets (hex_number address) else watched_request sets (watched_of kind) (hex_number address) more
 
 -- by the letter that begins the first word: m, H, T, Z, z, and those that would change something, M X G P
 abbrev pub letter_request : ℕ → List ℕ → List (List ℕ) → Request
@@ -107,12 +139,27 @@ resume_request [] = requests.Malformed
 resume_request ([] ∷ rest) = requests.Malformed
 resume_request ((letter ∷ word) ∷ rest) = going letter word rest
 
--- a command of the user, which is written in hexadecimal digits, as `where` here; help for all that is none
+-- a command of the user: help for all that is none
+abbrev pub goto_command : Option ℕ → Command
+goto_command None = Help
+goto_command (Some event) = Goto event
+
+abbrev pub command_of : List ℕ → Command
+command_of text =
+    if bytes_eq text (codes "where") then Where
+    else (if bytes_eq text (codes "events") then Events
+    else (if bytes_eq (take 5 text) (codes "goto ") then goto_command (number_of (drop 5 text)) else Help))
+
+-- which is written in hexadecimal digits
+abbrev pub decoded_command : Result (List ℕ) FromHexError → Command
+decoded_command (Ok text) = command_of text
+decoded_command (Err error) = Help
+
 abbrev pub monitor_request : List (List ℕ) → Request
-monitor_request (word ∷ []) = requests.Monitor (if bytes_eq word (codes "7768657265") then Where else Help)
+monitor_request (word ∷ []) = requests.Monitor (decoded_command (decode_of word))
 monitor_request _ = requests.Monitor Help
 
--- by the whole first word
+-- by the whole first word, where that is no command of the user
 abbrev pub by_word : List ℕ → List (List ℕ) → Request
 by_word first rest =
     if bytes_eq first (codes "qSupported") then requests.Supported
@@ -121,19 +168,18 @@ by_word first rest =
     else (if bytes_eq first (codes "g") then requests.Registers
     else (if bytes_eq first (codes "qAttached") then requests.Attached
     else (if bytes_eq first (codes "qXfer") then transfer rest
-    else (if bytes_eq first (codes "qRcmd") then monitor_request rest
     else (if bytes_eq first (codes "vCont?") then requests.Actions
     else (if bytes_eq first (codes "vCont") then resume_request rest
     else (if bytes_eq first (codes "bs") then requests.BackStep
     else (if bytes_eq first (codes "bc") then requests.BackContinue
     else (if bytes_eq first (codes "D") then requests.Detach
     else (if bytes_eq first (codes "k") || bytes_eq first (codes "vKill") then requests.Kill
-    else by_letter first rest))))))))))))
+    else by_letter first rest)))))))))))
 
 -- what a packet asks, by its words
 abbrev pub request_by : List (List ℕ) → Request
 request_by [] = requests.Unknown
-request_by (first ∷ rest) = by_word first rest
+request_by (first ∷ rest) = if bytes_eq first (codes "qRcmd") then monitor_request rest else by_word first rest
 
 abbrev pub request_of : List ℕ → Request
 request_of packet = request_by (words_of packet)

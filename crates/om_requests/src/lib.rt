@@ -14,4 +14,4 @@ mod words;
 pub use answers::{ERROR, memory_text, piece_text, registers_text, target_text};
 pub use numbers::hex_number;
 pub use reading::request_of;
-pub use request::{Command, Request, Resume, Thread};
+pub use request::{Command, Request, Resume, Thread, Watch, Watched};

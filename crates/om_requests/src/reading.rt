@@ -1,11 +1,13 @@
 //! What a packet asks.
 
 ghost use Rattle.std.specs.Prelude.{◌≡◌, IfOk, map};
-ghost use Rattle.om_requests.specs.Requests.{break_request, by_letter, by_word, going, is_break, letter_request, memory_request, monitor_request, range_request, request_by, request_of, resume_request, selection, thread_of, transfer, transfer_of};
+ghost use Rattle.om_requests.specs.Requests.{break_at, break_request, by_letter, command_of, goto_command, by_word, going, is_break, letter_request, memory_request, monitor_request, range_request, request_by, request_of, resume_request, selection, thread_of, transfer, transfer_of, watch_at, watch_request, watched_of};
 
 use crate::numbers::hex_number;
-use crate::request::{Command, Request, Resume, Thread};
+use crate::request::{Command, Request, Resume, Thread, Watch, Watched};
 use crate::words::words_of;
+use hex::FromHexError;
+use om_text::number_of;
 use std::alloc::{AllocError, Global};
 
 /// Tells what a packet of these bytes asks. Refused only where memory ran out.
@@ -13,19 +15,20 @@ pub fn request_of(alloc: Global, packet: &[u8]) -> Result<Request, AllocError>
     ensures { IfOk result (λ request. request ≡ request_of packet.now) }
 {
     let words = words_of(alloc, packet)?;
-    Ok(request_by(&words))
+    request_by(alloc, &words)
 }
 
-fn request_by(words: &[&[u8]]) -> Request
-    ensures { result ≡ request_by (map (λ word. word.now) words.now) }
+fn request_by(alloc: Global, words: &[&[u8]]) -> Result<Request, AllocError>
+    ensures { IfOk result (λ request. request ≡ request_by (map (λ word. word.now) words.now)) }
 {
     match words {
-        [] => Request::Unknown,
-        [first, rest @ ..] => by_word(first, rest),
+        [] => Ok(Request::Unknown),
+        [first, rest @ ..] if *first == b"qRcmd".as_slice() => monitor_request(alloc, rest),
+        [first, rest @ ..] => Ok(by_word(first, rest)),
     }
 }
 
-// By the whole first word.
+// By the whole first word, where that is no command of the user.
 fn by_word(first: &[u8], rest: &[&[u8]]) -> Request
     ensures { result ≡ by_word first.now (map (λ word. word.now) rest.now) }
 {
@@ -46,9 +49,6 @@ fn by_word(first: &[u8], rest: &[&[u8]]) -> Request
     }
     if first == b"qXfer".as_slice() {
         return transfer(rest);
-    }
-    if first == b"qRcmd".as_slice() {
-        return monitor_request(rest);
     }
     if first == b"vCont?".as_slice() {
         return Request::Actions;
@@ -114,20 +114,74 @@ fn is_break(kind: &[u8]) -> bool
     kind == b"0".as_slice() || kind == b"1".as_slice()
 }
 
-// A breakpoint that is set or taken away.
+// A breakpoint or a watchpoint that is set or taken away.
 fn break_request(sets: bool, kind: &[u8], rest: &[&[u8]]) -> Request
     ensures { result ≡ break_request sets kind.now (map (λ word. word.now) rest.now) }
 {
-    let [address, ..] = rest else {
+    let [address, rest @ ..] = rest else {
         return Request::Malformed;
     };
-    if !is_break(kind) {
-        return Request::Unknown;
+    if is_break(kind) {
+        return break_at(sets, hex_number(address));
     }
-    match hex_number(address) {
+    match watched_of(kind) {
+        Some(kind) => watch_request(sets, kind, hex_number(address), rest),
+        None => Request::Unknown,
+    }
+}
+
+fn break_at(sets: bool, address: Option<u32>) -> Request
+    ensures { result ≡ break_at sets address }
+{
+    match address {
         Some(address) if sets => Request::SetBreak(address),
         Some(address) => Request::ClearBreak(address),
         None => Request::Malformed,
+    }
+}
+
+// Which accesses the kind of a watchpoint means.
+fn watched_of(kind: &[u8]) -> Option<Watched>
+    ensures { result ≡ watched_of kind.now }
+{
+    if kind == b"2".as_slice() {
+        return Some(Watched::Writes);
+    }
+    if kind == b"3".as_slice() {
+        return Some(Watched::Reads);
+    }
+    if kind == b"4".as_slice() {
+        return Some(Watched::Both);
+    }
+    None
+}
+
+fn watch_request(sets: bool, kind: Watched, address: Option<u32>, rest: &[&[u8]]) -> Request
+    ensures { result ≡ watch_request sets kind address (map (λ word. word.now) rest.now) }
+{
+    let [length, ..] = rest else {
+        return Request::Malformed;
+    };
+    match (address, hex_number(length)) {
+        (Some(address), Some(length)) => watch_at(
+            sets,
+            Watch {
+                kind,
+                address,
+                length,
+            },
+        ),
+        _ => Request::Malformed,
+    }
+}
+
+fn watch_at(sets: bool, watch: Watch) -> Request
+    ensures { result ≡ watch_at sets watch }
+{
+    if sets {
+        Request::SetWatch(watch)
+    } else {
+        Request::ClearWatch(watch)
     }
 }
 
@@ -205,16 +259,41 @@ fn transfer_of(object: &[u8], annex: &[u8], offset: &[u8], length: &[u8]) -> Req
 }
 
 // A command of the user.
-fn monitor_request(rest: &[&[u8]]) -> Request
-    ensures { result ≡ monitor_request (map (λ word. word.now) rest.now) }
+fn monitor_request(alloc: Global, rest: &[&[u8]]) -> Result<Request, AllocError>
+    ensures { IfOk result (λ request. request ≡ monitor_request (map (λ word. word.now) rest.now)) }
 {
     let [word] = rest else {
-        return Request::Monitor(Command::Help);
+        return Ok(Request::Monitor(Command::Help));
     };
-    if *word == b"7768657265".as_slice() {
-        return Request::Monitor(Command::Where);
+    match hex::decode(alloc, *word) {
+        Ok(text) => Ok(Request::Monitor(command_of(&text))),
+        Err(FromHexError::OutOfMemory) => Err(AllocError),
+        Err(_) => Ok(Request::Monitor(Command::Help)),
     }
-    Request::Monitor(Command::Help)
+}
+
+fn command_of(text: &[u8]) -> Command
+    ensures { result ≡ command_of text.now }
+{
+    if text == b"where".as_slice() {
+        return Command::Where;
+    }
+    if text == b"events".as_slice() {
+        return Command::Events;
+    }
+    match text {
+        [b'g', b'o', b't', b'o', b' ', word @ ..] => goto_command(number_of(word)),
+        _ => Command::Help,
+    }
+}
+
+fn goto_command(event: Option<u32>) -> Command
+    ensures { result ≡ goto_command event }
+{
+    match event {
+        Some(event) => Command::Goto(event),
+        None => Command::Help,
+    }
 }
 
 // How to go on, by the first action.

@@ -18,11 +18,31 @@ pub enum Resume {
     Continue,
 }
 
+/// Which accesses a watchpoint stops at.
+#[derive(Clone, Copy, Debug, PartialEq, Eq)]
+pub enum Watched {
+    Writes,
+    Reads,
+    Both,
+}
+
+/// A watchpoint: so many bytes of memory from an address on.
+#[derive(Clone, Copy, Debug, PartialEq, Eq)]
+pub struct Watch {
+    pub kind: Watched,
+    pub address: u32,
+    pub length: u32,
+}
+
 /// A command of the user for what answers.
 #[derive(Clone, Copy, Debug, PartialEq, Eq)]
 pub enum Command {
-    /// Where time stands, and each process.
+    /// Where time stands, and the process.
     Where,
+    /// The events around.
+    Events,
+    /// To go to before the event of this number.
+    Goto(u32),
     /// Which commands there are.
     Help,
 }
@@ -64,6 +84,10 @@ pub enum Request {
     SetBreak(u32),
     /// Not to stop there any more: `z0,ADDRESS,KIND`, or `z1`.
     ClearBreak(u32),
+    /// To stop before an access to these bytes: `Z2,ADDRESS,LENGTH`, or `Z3`, or `Z4`.
+    SetWatch(Watch),
+    /// Not to stop there any more: `z2,ADDRESS,LENGTH`, or `z3`, or `z4`.
+    ClearWatch(Watch),
     /// A command of the user: `qRcmd,HEX`.
     Monitor(Command),
     /// To leave: `D`.
