@@ -100,7 +100,8 @@ fn bytes_that_were_released_are_written(rt: HostRuntime) {
     let file = ENDLESS.as_bytes();
     let of_a = followed_raw(&rt, rt.alloc(), "a", 100_000, file);
     assert!(&rt;
-        of_a.0 == Err(CommandError::OutOfTurns) && of_a.1.as_slice() == b"\x93\x08\x10\x00"
+        of_a.0 == Err(CommandError::OutOfTurns)
+            && of_a.1.as_slice() == b"\x93\x08\x10\x00".as_slice()
     );
     let of_c = followed_raw(&rt, rt.alloc(), "c", 1_000, file);
     assert!(&rt; of_c.0 == Err(CommandError::OutOfTurns) && of_c.1.is_empty());
