@@ -1,5 +1,0 @@
-//! Tests of any moment of a record.
-#![tactic(auto)]
-
-#[cfg(test)]
-mod moments;
