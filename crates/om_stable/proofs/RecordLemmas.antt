@@ -128,6 +128,16 @@ put_and_gone m n first rs k count long within free run = same_records n m (λ q.
     (λ over. run.above q over ∙ get-with_all_above m first rs q (omega arith)) (cases_lt q (first + k)))
     (cases_lt q first))
 
+-- records that were put and have gone again: what was before
+pub taken_back : (m now n : Records) (first : ℕ) (recs : List (Vec ℕ Global)) → now ≡ with_all m first (bytes_of recs) → IsFree m first (length recs)
+    → RunGone now n first (length recs) → n ≡ m
+taken_back m now n first recs put free run =
+    put_and_gone m n first (bytes_of recs) (length recs) (length recs) (length-map recs (λ (r : Vec ℕ Global). r.items)) (omega arith) free record {
+      gone = run.gone;
+      below = λ q h. run.below q h ∙ ap (λ m. get m q) put;
+      above = λ q h. run.above q h ∙ ap (λ m. get m q) put;
+    }
+
 -- ---- the bytes of records
 pub length-bytes_of_taken : (recs : List (Vec ℕ Global)) (k : ℕ) → k ≤ length recs → length (bytes_of (take k recs)) ≡ k
 length-bytes_of_taken recs k h = length-map (take k recs) (λ (r : Vec ℕ Global). r.items) ∙ length-take-le k recs h

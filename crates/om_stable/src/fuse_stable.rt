@@ -1,7 +1,8 @@
 ghost use Rattle.std.specs.Prelude.{◌≡◌};
 
+use crate::batch::WriteBatch;
 use crate::error::StoreError;
-use crate::ledger::{Ledger, LedgerRows, LedgerTable};
+use crate::ledger::{Ledger, LedgerTable};
 use crate::stable::Stable;
 use std::alloc::Global;
 
@@ -161,14 +162,8 @@ impl<S: Ledger> Ledger for FuseStable<S> {
         self.inner.all_in(alloc, table)
     }
 
-    fn shed(
-        &mut self,
-        alloc: Global,
-        c: u32,
-        outputs: LedgerRows<'_>,
-        senders: LedgerRows<'_>,
-    ) -> Result<(), StoreError> {
+    fn put_batch(&mut self, alloc: Global, batch: &WriteBatch<'_>) -> Result<(), StoreError> {
         self.stop.pass()?;
-        self.inner.shed(alloc, c, outputs, senders)
+        self.inner.put_batch(alloc, batch)
     }
 }

@@ -1,10 +1,13 @@
-ghost use Rattle.std.specs.Prelude.{◌≡◌, ◌≢◌, ◌⊎◌, ℕ, ◌+◌, ◌≤◌, Bool, true, false, Option, length, IsTrue, IfOk, OnOk, OnErr, IsErrOf};
+ghost use Rattle.std.specs.Prelude.{◌≡◌, ◌≢◌, ℕ, ◌+◌, ◌≤◌, Bool, true, false, Option, length, IsTrue, IfOk, OnOk, OnErr, IsErrOf};
 ghost use Rattle.std.specs.FinMap as map;
 ghost use Rattle.om_stable.specs.declared.error.StoreError.{StoreError};
-ghost use Rattle.om_stable.specs.Content.{IsFree, IsTaken, bytes_of, rows_of, kept_by_prune};
+ghost use Rattle.om_stable.specs.Content.{IsFree, IsTaken, bytes_of, rows_of};
 ghost use Rattle.om_stable.specs.Calls.{IsCleanCall, UsesStore};
+ghost use Rattle.om_stable.specs.Batches.{Collides, HasRoom, HasTableRoom, entered, written};
+ghost use Rattle.om_stable.specs.declared.stable.TheConstants.{INTERVALS};
 ghost use Rattle.om_stable.specs.Ledger.{LedgerContent, in_table, with_rows};
 
+use crate::batch::WriteBatch;
 use crate::error::StoreError;
 use crate::stable::Stable;
 use std::alloc::Global;
@@ -81,31 +84,28 @@ pub trait Ledger: Stable {
         ensures never_present { result ≢ Err StoreError.Present }
         ensures call { UsesStore Self.failed Self.is_clean Self.IsSound self.old (IsErrOf result StoreError.Fault) self.new };
 
-    /// Puts outputs and senders and prunes to `c`, all of it or nothing, in one transaction where there are some. Refused as
-    /// `put_in` is, with the store as it was.
-    fn shed(
-        &mut self,
-        alloc: Global,
-        c: u32,
-        outputs: LedgerRows<'_>,
-        senders: LedgerRows<'_>,
-    ) -> Result<(), StoreError>
-        requires outputs { outputs.first + length outputs.recs.now ≤ LEDGER_NUMBERS }
-        requires senders { senders.first + length senders.recs.now ≤ LEDGER_NUMBERS }
-        ensures put { IsCleanCall Self.is_clean Self.IsSound self.old self.new → IsTrue (keeps self.old)
-            → OnOk result (ledger self.new ≡ with_rows (with_rows (ledger self.old) LedgerTable.Outputs outputs.entry.first
-            (bytes_of outputs.entry.recs.now)) LedgerTable.Senders senders.entry.first (bytes_of senders.entry.recs.now)) }
-        ensures pruned { IsCleanCall Self.is_clean Self.IsSound self.old self.new
-            → OnOk result (Self.content self.new ≡ kept_by_prune (Self.content self.old) c) }
+    /// Writes a batch in one transaction, all of it or nothing. Refused as `put_in` is, with the store as it was: Present,
+    /// Fault, Memory.
+    fn put_batch(&mut self, alloc: Global, batch: &WriteBatch<'_>) -> Result<(), StoreError>
+        requires receipts { batch.now.first + length batch.now.receipts.now ≤ INTERVALS }
+        requires outputs { batch.now.outputs.first + length batch.now.outputs.recs.now ≤ LEDGER_NUMBERS }
+        requires senders { batch.now.senders.first + length batch.now.senders.recs.now ≤ LEDGER_NUMBERS }
+        ensures put { IsCleanCall Self.is_clean Self.IsSound self.old self.new
+            → OnOk result (Self.content self.new ≡ written batch.now (Self.content self.old)) }
+        ensures put_in { IsCleanCall Self.is_clean Self.IsSound self.old self.new → IsTrue (keeps self.old)
+            → OnOk result (ledger self.new ≡ entered batch.now (ledger self.old)) }
+        ensures free { IsCleanCall Self.is_clean Self.IsSound self.old self.new
+            → OnOk result (HasRoom batch.now (Self.content self.old)) }
+        ensures free_in { IsCleanCall Self.is_clean Self.IsSound self.old self.new → IsTrue (keeps self.old)
+            → OnOk result (HasTableRoom batch.now (ledger self.old)) }
         ensures present { IsCleanCall Self.is_clean Self.IsSound self.old self.new → IsErrOf result StoreError.Present
-            → IsTaken (ledger self.old).outputs outputs.entry.first (length outputs.entry.recs.now)
-            ⊎ IsTaken (ledger self.old).senders senders.entry.first (length senders.entry.recs.now) }
+            → Collides batch.now (Self.content self.old) (ledger self.old) }
         ensures passed { IsCleanCall Self.is_clean Self.IsSound self.old self.new → keeps self.old ≡ false
             → ledger self.new ≡ ledger self.old }
         ensures refused { IsCleanCall Self.is_clean Self.IsSound self.old self.new
-            → OnErr result (ledger self.new ≡ ledger self.old) }
-        ensures unpruned { IsCleanCall Self.is_clean Self.IsSound self.old self.new
             → OnErr result (Self.content self.new ≡ Self.content self.old) }
+        ensures refused_in { IsCleanCall Self.is_clean Self.IsSound self.old self.new
+            → OnErr result (ledger self.new ≡ ledger self.old) }
         ensures kind { keeps self.new ≡ keeps self.old }
         ensures call { UsesStore Self.failed Self.is_clean Self.IsSound self.old (IsErrOf result StoreError.Fault) self.new };
 

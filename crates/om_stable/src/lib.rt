@@ -5,9 +5,10 @@
 //!
 //! In an order of reading: `stable` (the trait, and what each call leaves), `error`, `mem_stable` (in memory), `record_tree`
 //! (records by interval), `fuse_stable` (a store that stops after so many calls), `ledger` (the trait of stores that are taken up
-//! again), `mem_ledger` (such a store in memory), `row_tree` (its tables), `laws` (theorems over the definitions).
+//! again), `batch` (what is written in one transaction), `mem_ledger` (such a store in memory), `row_tree` (its tables), `laws` (theorems over the definitions).
 #![tactic(auto)]
 
+mod batch;
 mod error;
 mod fuse_stable;
 pub mod laws;
@@ -18,6 +19,7 @@ mod record_tree;
 mod row_tree;
 mod stable;
 
+pub use batch::{NewCheckpoint, WriteBatch};
 pub use error::StoreError;
 pub use fuse_stable::{FuseStable, Stop};
 pub use ledger::{LEDGER_NUMBERS, Ledger, LedgerRows, LedgerTable};

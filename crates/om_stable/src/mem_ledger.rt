@@ -1,9 +1,11 @@
-ghost use Rattle.std.specs.Prelude.{◌≡◌, ◌≢◌, ◌+◌, ◌≤◌, true, Some, length, OnOk, OnErr, IsErrOf};
+ghost use Rattle.std.specs.Prelude.{◌≡◌, ◌≢◌, ◌⊎◌, ◌+◌, ◌≤◌, true, Some, length, OnOk, OnErr, IsErrOf};
 ghost use Rattle.om_stable.specs.Content.{nothing, with_all, bytes_of, IsFree, IsTaken};
+ghost use Rattle.om_stable.specs.Batches.{HasTableRoom, entered};
 ghost use Rattle.om_stable.specs.Ledger.{blank};
 
+use crate::batch::WriteBatch;
 use crate::error::StoreError;
-use crate::ledger::{LEDGER_NUMBERS, Ledger, LedgerRows, LedgerTable};
+use crate::ledger::{LEDGER_NUMBERS, Ledger, LedgerTable};
 use crate::mem_stable::MemStable;
 use crate::row_tree::RowTree;
 use crate::stable::Stable;
@@ -46,6 +48,29 @@ impl MemLedger {
             senders: RowTree::new(alloc),
             about: RowTree::new(alloc),
         }
+    }
+
+    // Enters the outputs and the senders of a batch, all of them or none.
+    fn enter(&mut self, alloc: Global, batch: &WriteBatch<'_>) -> Result<(), StoreError>
+        requires outputs { batch.now.outputs.first + length batch.now.outputs.recs.now ≤ LEDGER_NUMBERS }
+        requires senders { batch.now.senders.first + length batch.now.senders.recs.now ≤ LEDGER_NUMBERS }
+        ensures put { OnOk result (self.new.ledger ≡ entered batch.now self.old.ledger) }
+        ensures free { OnOk result (HasTableRoom batch.now self.old.ledger) }
+        ensures present { IsErrOf result StoreError.Present
+            → IsTaken self.old.ledger.outputs batch.now.outputs.first (length batch.now.outputs.recs.now)
+            ⊎ IsTaken self.old.ledger.senders batch.now.senders.first (length batch.now.senders.recs.now) }
+        ensures refused { OnErr result (self.new.ledger ≡ self.old.ledger) }
+        ensures records { self.new.content ≡ self.old.content }
+        ensures never_fault { result ≢ Err StoreError.Fault }
+    {
+        let (outputs, senders) = (batch.outputs, batch.senders);
+        put_rows(alloc, &mut self.outputs, outputs.first, outputs.recs)?;
+        if let Err(error) = put_rows(alloc, &mut self.senders, senders.first, senders.recs) {
+            // What was put goes again, so the tables are as they were.
+            self.outputs.remove_run(outputs.first, outputs.recs.len());
+            return Err(error);
+        }
+        Ok(())
     }
 }
 
@@ -135,20 +160,16 @@ impl Ledger for MemLedger {
         Ok(found)
     }
 
-    fn shed(
-        &mut self,
-        alloc: Global,
-        c: u32,
-        outputs: LedgerRows<'_>,
-        senders: LedgerRows<'_>,
-    ) -> Result<(), StoreError> {
-        put_rows(alloc, &mut self.outputs, outputs.first, outputs.recs)?;
-        if let Err(error) = put_rows(alloc, &mut self.senders, senders.first, senders.recs) {
-            // What was put goes again, so the tables are as they were.
-            self.outputs.remove_run(outputs.first, outputs.recs.len());
+    fn put_batch(&mut self, alloc: Global, batch: &WriteBatch<'_>) -> Result<(), StoreError> {
+        self.enter(alloc, batch)?;
+        if let Err(error) = self.records.put_batch(alloc, batch) {
+            // What was entered goes again, so the tables are as they were.
+            self.outputs
+                .remove_run(batch.outputs.first, batch.outputs.recs.len());
+            self.senders
+                .remove_run(batch.senders.first, batch.senders.recs.len());
             return Err(error);
         }
-        self.records.drop_below(c);
         Ok(())
     }
 }

@@ -1,9 +1,11 @@
-ghost use Rattle.std.specs.Prelude.{◌≡◌, ◌≢◌, true, Some};
+ghost use Rattle.std.specs.Prelude.{◌≡◌, ◌≢◌, true, Some, None, IfSome, IsErrOf, OnErr, OnOk};
 ghost use Rattle.std.specs.FinMap as map;
+ghost use Rattle.om_stable.specs.Batches.{IsHeld, pruned_to, with_new};
 ghost use Rattle.om_stable.specs.Content.{kept_by_prune};
 
+use crate::batch::{NewCheckpoint, WriteBatch};
 use crate::error::StoreError;
-use crate::ledger::{Ledger, LedgerRows, LedgerTable};
+use crate::ledger::{Ledger, LedgerTable};
 use crate::record_tree::RecordTree;
 use crate::stable::Stable;
 use std::alloc::Global;
@@ -45,6 +47,33 @@ impl MemStable {
     {
         self.receipts.keep_from(u64::from(c) + 1);
         self.checkpoints.keep_from(u64::from(c));
+    }
+
+    // Prunes, where something is to be pruned.
+    fn prune_to(&mut self, to: Option<u32>)
+        ensures { self.new ≡ pruned_to self.old to }
+    {
+        if let Some(c) = to {
+            self.drop_below(c);
+        }
+    }
+
+    // Puts a checkpoint, where there is one.
+    fn put_new(
+        &mut self,
+        alloc: Global,
+        checkpoint: Option<NewCheckpoint<'_>>,
+    ) -> Result<(), StoreError>
+        ensures put { OnOk result (self.new ≡ with_new self.old checkpoint.entry) }
+        ensures free { OnOk result (IfSome checkpoint.entry (λ c. map.get self.old.checkpoints c.x ≡ None)) }
+        ensures present { IsErrOf result StoreError.Present → IsHeld self.old checkpoint.entry }
+        ensures refused { OnErr result (self.new ≡ self.old) }
+        ensures never_fault { result ≢ Err StoreError.Fault }
+    {
+        match checkpoint {
+            Some(new) => self.put_checkpoint(alloc, new.x, new.bytes),
+            None => Ok(()),
+        }
     }
 }
 
@@ -140,14 +169,14 @@ impl Ledger for MemStable {
         Ok(Vec::new(alloc))
     }
 
-    fn shed(
-        &mut self,
-        _alloc: Global,
-        c: u32,
-        _outputs: LedgerRows<'_>,
-        _senders: LedgerRows<'_>,
-    ) -> Result<(), StoreError> {
-        self.drop_below(c);
+    fn put_batch(&mut self, alloc: Global, batch: &WriteBatch<'_>) -> Result<(), StoreError> {
+        self.put_receipts(alloc, batch.first, batch.receipts)?;
+        if let Err(error) = self.put_new(alloc, batch.checkpoint) {
+            // What was put goes again, so the receipts are as they were.
+            self.receipts.remove_run(batch.first, batch.receipts.len());
+            return Err(error);
+        }
+        self.prune_to(batch.prune_to);
         Ok(())
     }
 }

@@ -95,7 +95,7 @@ impl RecordTree {
     }
 
     // Removes the records at the `count` intervals from `first` on.
-    fn remove_run(&mut self, first: u32, count: usize)
+    pub(crate) fn remove_run(&mut self, first: u32, count: usize)
         requires { first + count ≤ INTERVALS }
         ensures gone { IsFree self.new first count }
         ensures below { (q : ℕ) → q < first → map.get self.new q ≡ map.get self.old q }

@@ -3,7 +3,9 @@
 
 ghost use Rattle.std.specs.Prelude.{◌≡◌, length};
 
-use om_stable::{FuseStable, Ledger, LedgerRows, LedgerTable, MemLedger, Stable, StoreError};
+use om_stable::{
+    FuseStable, Ledger, LedgerRows, LedgerTable, MemLedger, Stable, StoreError, WriteBatch,
+};
 use om_tables::CachingLedger;
 use std::alloc::Global;
 use std::process::Abort;
@@ -140,7 +142,15 @@ fn shed(alloc: Global, store: &mut Cached) -> Result<(), StoreError> {
         first: 0,
         recs: &[],
     };
-    store.shed(alloc, 2, none, none)
+    let batch = WriteBatch {
+        first: 0,
+        receipts: &[],
+        checkpoint: None,
+        outputs: none,
+        senders: none,
+        prune_to: Some(2),
+    };
+    store.put_batch(alloc, &batch)
 }
 
 // Behind a change nothing that was read before is handed out.

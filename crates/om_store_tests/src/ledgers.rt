@@ -2,15 +2,17 @@
 
 ghost use Rattle.std.specs.Prelude.{◌≡◌, ◌+◌, ◌≤◌, length, true};
 ghost use Rattle.om_stable.specs.declared.ledger.TheConstants.{LEDGER_NUMBERS};
+ghost use Rattle.om_stable.specs.declared.stable.TheConstants.{INTERVALS};
 
 use om_stable::{
-    FuseStable, LEDGER_NUMBERS, Ledger, LedgerRows, LedgerTable, MemLedger, MemStable, Stable,
-    StoreError,
+    FuseStable, INTERVALS, LEDGER_NUMBERS, Ledger, LedgerRows, LedgerTable, MemLedger, MemStable,
+    NewCheckpoint, Stable, StoreError, WriteBatch,
 };
 use om_tables::CachingLedger;
 use std::alloc::{AllocError, Global};
 use std::process::Abort;
 
+mod batches;
 mod stops;
 mod tables;
 
@@ -20,12 +22,24 @@ const LAST: u64 = LEDGER_NUMBERS - 1;
 // So many records from a number on.
 type Some = (u64, usize);
 
+// A batch: its receipts, as many from an interval on, the interval of its checkpoint, its outputs and senders, and to where it is
+// pruned.
+#[derive(Clone, Copy)]
+struct Batch {
+    receipts: (u32, usize),
+    checkpoint: Option<u32>,
+    outputs: Some,
+    senders: Some,
+    prune_to: Option<u32>,
+}
+
 // A call of a ledger.
 #[derive(Clone, Copy)]
 enum Call {
     Put(LedgerTable, u64, usize),
     /// Outputs and senders, and the checkpoint to which it is pruned.
     Shed(u32, Some, Some),
+    Write(Batch),
 }
 
 // A call, why it is refused, and the numbers of the outputs and the senders that are there afterwards.
@@ -136,31 +150,75 @@ fn made<S: Ledger>(
             assert!(rt; fits(first, &recs));
             store.put_in(alloc, table, first, &recs)
         }
-        Call::Shed(c, outputs, senders) => shed(rt, alloc, store, c, outputs, senders),
+        Call::Shed(c, outputs, senders) => {
+            let batch = Batch {
+                receipts: (0, 0),
+                checkpoint: None,
+                outputs,
+                senders,
+                prune_to: Option::Some(c),
+            };
+            written(rt, alloc, store, batch)
+        }
+        Call::Write(batch) => written(rt, alloc, store, batch),
     }
 }
 
-fn shed<S: Ledger>(
+// So many receipts, each with the bytes of its interval.
+fn receipts((first, count): (u32, usize), alloc: Global) -> Result<Vec<Vec<u8>>, AllocError> {
+    let mut recs = Vec::new(alloc);
+    for k in 0..count {
+        recs.push(
+            u64::from(first)
+                .saturating_add(k as u64)
+                .to_le_bytes()
+                .to_vec(alloc)?,
+        )?;
+    }
+    Ok(recs)
+}
+
+fn written<S: Ledger>(
     rt: &impl Abort,
     alloc: Global,
     store: &mut S,
-    c: u32,
-    outputs: Some,
-    senders: Some,
+    batch: Batch,
 ) -> Result<(), StoreError> {
-    let told = records(alloc, LedgerTable::Outputs, outputs)?;
-    let from = records(alloc, LedgerTable::Senders, senders)?;
-    assert!(rt; fits(outputs.0, &told));
-    assert!(rt; fits(senders.0, &from));
+    let received = receipts(batch.receipts, alloc)?;
+    let told = records(alloc, LedgerTable::Outputs, batch.outputs)?;
+    let from = records(alloc, LedgerTable::Senders, batch.senders)?;
+    assert!(rt; fits(batch.outputs.0, &told));
+    assert!(rt; fits(batch.senders.0, &from));
+    assert!(rt; have_intervals(batch.receipts.0, &received));
+    let new = b"new".to_vec(alloc)?;
+    let checkpoint = match batch.checkpoint {
+        Some(x) => Some(NewCheckpoint { x, bytes: &new }),
+        None => None,
+    };
     let outputs = LedgerRows {
-        first: outputs.0,
+        first: batch.outputs.0,
         recs: &told,
     };
     let senders = LedgerRows {
-        first: senders.0,
+        first: batch.senders.0,
         recs: &from,
     };
-    store.shed(alloc, c, outputs, senders)
+    let batch = WriteBatch {
+        first: batch.receipts.0,
+        receipts: &received,
+        checkpoint,
+        outputs,
+        senders,
+        prune_to: batch.prune_to,
+    };
+    store.put_batch(alloc, &batch)
+}
+
+// Whether so many receipts from an interval on have intervals.
+fn have_intervals(first: u32, recs: &[Vec<u8>]) -> bool
+    ensures { result ≡ true → first + length recs.now ≤ INTERVALS }
+{
+    u64::from(first).saturating_add(recs.len() as u64) <= INTERVALS
 }
 
 // Asserts that a table has records at these numbers alone, each as it was put.

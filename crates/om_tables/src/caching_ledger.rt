@@ -7,7 +7,7 @@ ghost use Rattle.std.specs.Prelude.{◌≡◌, nat_le, IfOk, IfSome, IsTrue, fil
 ghost use Rattle.om_stable.specs.Content.{Records, between, rows_of};
 ghost use Rattle.om_tables.specs.Cached.{Covers, IsOf};
 
-use om_stable::{Ledger, LedgerRows, LedgerTable, Stable, StoreError};
+use om_stable::{Ledger, LedgerTable, Stable, StoreError, WriteBatch};
 use std::alloc::{AllocError, Global};
 use std::mem;
 
@@ -209,14 +209,8 @@ impl<S: Ledger> Ledger for CachingLedger<S> {
         self.inner.all_in(alloc, table)
     }
 
-    fn shed(
-        &mut self,
-        alloc: Global,
-        c: u32,
-        outputs: LedgerRows<'_>,
-        senders: LedgerRows<'_>,
-    ) -> Result<(), StoreError> {
+    fn put_batch(&mut self, alloc: Global, batch: &WriteBatch<'_>) -> Result<(), StoreError> {
         self.cache.spend();
-        self.inner.shed(alloc, c, outputs, senders)
+        self.inner.put_batch(alloc, batch)
     }
 }

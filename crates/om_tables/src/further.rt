@@ -1,11 +1,12 @@
 //! The further tables of a ledger are made, filled and read. No clause says what they hold.
 ghost use Rattle.std.specs.Prelude.{◌≡◌, ◌+◌, ◌≤◌, pos, length, false};
 ghost use Rattle.om_stable.specs.declared.ledger.TheConstants.{LEDGER_NUMBERS};
+ghost use Rattle.om_stable.specs.declared.stable.TheConstants.{INTERVALS};
 ghost use Rattle.sqlite.specs.Held.{state};
 
 use crate::creating::create_both;
-use crate::deleting::prune_both;
-use om_stable::{LedgerRows, LedgerTable};
+use crate::writing::write_records;
+use om_stable::{LedgerTable, WriteBatch};
 use sqlite::{Alter, Connection, Error, Row, Transaction, params};
 use std::alloc::Global;
 
@@ -93,22 +94,22 @@ pub(crate) fn put_rows<S: Alter>(
     tx.commit()
 }
 
-// Puts outputs and senders, and removes what a prune to `at` removes, or nothing of it.
-pub(crate) fn shed<S: Alter>(
+// Writes all of a batch, or nothing of it.
+pub(crate) fn write_five<S: Alter>(
     conn: &mut Connection<S>,
-    at: u32,
-    outputs: LedgerRows<'_>,
-    senders: LedgerRows<'_>,
+    batch: &WriteBatch<'_>,
 ) -> Result<(), Error>
-    requires outputs { outputs.first + length outputs.recs.now ≤ LEDGER_NUMBERS }
-    requires senders { senders.first + length senders.recs.now ≤ LEDGER_NUMBERS }
+    requires receipts { batch.now.first + length batch.now.receipts.now ≤ INTERVALS }
+    requires outputs { batch.now.outputs.first + length batch.now.outputs.recs.now ≤ LEDGER_NUMBERS }
+    requires senders { batch.now.senders.first + length batch.now.senders.recs.now ≤ LEDGER_NUMBERS }
     requires idle { (state S.Store conn.old).in_transaction ≡ false }
     ensures idle { (state S.Store conn.new).in_transaction ≡ false }
 {
+    let (outputs, senders) = (batch.outputs, batch.senders);
     let mut tx = conn.transaction();
+    write_records(&mut tx, batch)?;
     insert_rows(&mut tx, LedgerTable::Outputs, outputs.first, outputs.recs)?;
     insert_rows(&mut tx, LedgerTable::Senders, senders.first, senders.recs)?;
-    prune_both(&mut tx, at)?;
     tx.commit()
 }
 

@@ -23,7 +23,7 @@ fn insert_receipt<S: Alter>(
     )
 }
 
-fn insert_checkpoint<S: Alter>(
+pub(crate) fn insert_checkpoint<S: Alter>(
     tx: &mut Transaction<'_, S>,
     x: u32,
     body: &[u8],
@@ -38,7 +38,7 @@ fn insert_checkpoint<S: Alter>(
     )
 }
 
-fn insert_receipts<S: Alter>(
+pub(crate) fn insert_receipts<S: Alter>(
     tx: &mut Transaction<'_, S>,
     first: u32,
     recs: &[Vec<u8>],

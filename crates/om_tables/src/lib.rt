@@ -4,7 +4,7 @@
 //! A call is one transaction of a few statements; it costs what SQLite's trees cost. The kit's `sqlite` is trusted as far as
 //! its statements go, and the disk as far as the store says that it is clean.
 //!
-//! In an order of reading: `sql_stable` (the store, its calls), `creating` (the tables), `inserting`, `reading`, `deleting`,
+//! In an order of reading: `sql_stable` (the store, its calls), `creating` (the tables), `inserting`, `reading`, `deleting`, `writing` (all of that in one transaction),
 //! `error`, `laws` (theorems over the definitions), `sql_ledger` (the store of five tables), `further` (what it has beside records),
 //! `caching_ledger` (a ledger whose first reading is kept for the second).
 #![tactic(auto)]
@@ -19,6 +19,7 @@ pub mod laws;
 mod reading;
 mod sql_ledger;
 mod sql_stable;
+mod writing;
 
 pub use caching_ledger::{Cache, CachedReceipts, CachingLedger};
 pub use error::TablesError;

@@ -7,7 +7,7 @@ ghost use Rattle.sqlite.specs.Held.{state};
 use crate::error::TablesError;
 use crate::further::create_five;
 use crate::sql_stable::{SqlStable, refusal_of};
-use om_stable::{Ledger, LedgerRows, LedgerTable, Stable, StoreError};
+use om_stable::{Ledger, LedgerTable, Stable, StoreError, WriteBatch};
 use sqlite::{Alter, Connection};
 use sqlite_schema::schema::{Schema, Table};
 use std::alloc::Global;
@@ -219,13 +219,7 @@ impl<S: Alter + Drop> Ledger for SqlLedger<S> {
         self.store.all_in(alloc, table)
     }
 
-    fn shed(
-        &mut self,
-        _alloc: Global,
-        c: u32,
-        outputs: LedgerRows<'_>,
-        senders: LedgerRows<'_>,
-    ) -> Result<(), StoreError> {
-        self.store.shed(c, outputs, senders)
+    fn put_batch(&mut self, _alloc: Global, batch: &WriteBatch<'_>) -> Result<(), StoreError> {
+        self.store.write_five(batch)
     }
 }

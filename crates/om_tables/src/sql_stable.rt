@@ -1,18 +1,22 @@
 //! The store over tables, as a `Stable`.
-ghost use Rattle.std.specs.Prelude.{◌≡◌, ◌≢◌, ◌≤◌, ◌+◌, length, ℕ, [], ◌∷◌, map, codes, false, IsTrue, Some, None, ◌↔◌, is_ok, IfOk, IfErr, IsErrOf, OnOk, OnErr};
+ghost use Rattle.std.specs.Prelude.{◌≡◌, ◌≢◌, ◌≤◌, ◌+◌, length, ℕ, [], ◌∷◌, map, codes, false, IsTrue, Some, None, ◌↔◌, is_ok, IsSome, IfOk, IfErr, IfSome, IsErrOf, OnOk, OnErr};
 ghost use Rattle.std.specs.Result.{result_err};
 ghost use Rattle.std.specs.FinMap as map;
 ghost use Rattle.om_stable.specs.Count.{Rose};
 ghost use Rattle.om_stable.specs.declared.error.StoreError.TheVariants.{Fault};
+ghost use Rattle.om_stable.specs.Batches.{IsHeld, written};
+ghost use Rattle.om_stable.specs.Content.{IsFree, IsTaken};
 ghost use Rattle.om_stable.specs.declared.ledger.TheConstants.{LEDGER_NUMBERS};
+ghost use Rattle.om_stable.specs.declared.stable.TheConstants.{INTERVALS};
 ghost use Rattle.om_tables.specs.Tables.{no_schema};
 ghost use Rattle.om_tables.specs.Store.{content_in, IsFormed, HasBothTables, LeavesCommitted, is_sure};
+ghost use Rattle.om_tables.specs.steps.Statements.{Same};
 ghost use Rattle.sqlite.specs.Held.{state};
 
 use crate::creating::create_tables;
 use crate::error::TablesError;
-use crate::{deleting, further, inserting, reading};
-use om_stable::{Ledger, LedgerRows, LedgerTable, Stable, StoreError};
+use crate::{deleting, further, inserting, reading, writing};
+use om_stable::{Ledger, LedgerTable, NewCheckpoint, Stable, StoreError, WriteBatch};
 use sqlite::{Alter, Connection, Error, ErrorCode};
 use sqlite_schema::schema::{Constraint, Schema, Table};
 use std::alloc::Global;
@@ -136,20 +140,94 @@ impl<S: Alter> SqlStable<S> {
         told(&mut self.failures, found)
     }
 
-    // Puts outputs and senders and prunes to `c`, in one transaction.
-    pub(crate) fn shed(
-        &mut self,
-        c: u32,
-        outputs: LedgerRows<'_>,
-        senders: LedgerRows<'_>,
-    ) -> Result<(), StoreError>
-        requires outputs { outputs.first + length outputs.recs.now ≤ LEDGER_NUMBERS }
-        requires senders { senders.first + length senders.recs.now ≤ LEDGER_NUMBERS }
+    // Writes a batch into all five tables, all of it or nothing. A number that is taken answers Present.
+    pub(crate) fn write_five(&mut self, batch: &WriteBatch<'_>) -> Result<(), StoreError>
+        requires receipts { batch.now.first + length batch.now.receipts.now ≤ INTERVALS }
+        requires outputs { batch.now.outputs.first + length batch.now.outputs.recs.now ≤ LEDGER_NUMBERS }
+        requires senders { batch.now.senders.first + length batch.now.senders.recs.now ≤ LEDGER_NUMBERS }
         ensures fault { result_err result ≡ Some Fault → Rose self.old.failures self.new.failures }
         ensures count { self.old.failures ≤ self.new.failures }
     {
-        let done = further::shed(&mut self.conn, c, outputs, senders);
-        put_told(&mut self.failures, done)
+        let written = further::write_five(&mut self.conn, batch);
+        put_told(&mut self.failures, written)
+    }
+
+    // Answers Present where one of the `count` intervals from `first` on has a receipt.
+    fn check_receipts(&mut self, first: u32, count: usize) -> Result<(), StoreError>
+        requires { first + count ≤ INTERVALS }
+        ensures free { IsTrue (is_sure (state S.Store self.new.connection)) → IsFormed (state S.Store self.old.connection)
+            → OnOk result (IsFree (content_in (state S.Store self.old.connection).now).receipts first count) }
+        ensures present { IsTrue (is_sure (state S.Store self.new.connection)) → IsFormed (state S.Store self.old.connection)
+            → IsErrOf result StoreError.Present → IsTaken (content_in (state S.Store self.old.connection).now).receipts first count }
+        ensures same { IsTrue (is_sure (state S.Store self.new.connection)) → IsFormed (state S.Store self.old.connection)
+            → Same (state S.Store self.old.connection) (state S.Store self.new.connection) }
+        ensures clean { IsTrue (is_sure (state S.Store self.new.connection)) → IsTrue (is_sure (state S.Store self.old.connection)) }
+        ensures fault { result_err result ≡ Some Fault → Rose self.old.failures self.new.failures }
+        ensures count { self.old.failures ≤ self.new.failures }
+        ensures kept { result_err result ≢ Some Fault → self.new.failures ≡ self.old.failures }
+    {
+        let found = reading::has_any_receipt(&mut self.conn, first, count);
+        if told(&mut self.failures, found)? {
+            return Err(StoreError::Present);
+        }
+        Ok(())
+    }
+
+    // Answers Present where `x` has a checkpoint.
+    fn check_checkpoint(&mut self, x: u32) -> Result<(), StoreError>
+        ensures free { IsTrue (is_sure (state S.Store self.new.connection)) → IsFormed (state S.Store self.old.connection)
+            → OnOk result (map.get (content_in (state S.Store self.old.connection).now).checkpoints x ≡ None) }
+        ensures present { IsTrue (is_sure (state S.Store self.new.connection)) → IsFormed (state S.Store self.old.connection)
+            → IsErrOf result StoreError.Present → IsSome (map.get (content_in (state S.Store self.old.connection).now).checkpoints x) }
+        ensures same { IsTrue (is_sure (state S.Store self.new.connection)) → IsFormed (state S.Store self.old.connection)
+            → Same (state S.Store self.old.connection) (state S.Store self.new.connection) }
+        ensures clean { IsTrue (is_sure (state S.Store self.new.connection)) → IsTrue (is_sure (state S.Store self.old.connection)) }
+        ensures fault { result_err result ≡ Some Fault → Rose self.old.failures self.new.failures }
+        ensures count { self.old.failures ≤ self.new.failures }
+        ensures kept { result_err result ≢ Some Fault → self.new.failures ≡ self.old.failures }
+    {
+        let found = reading::has_checkpoint(&mut self.conn, x);
+        if told(&mut self.failures, found)? {
+            return Err(StoreError::Present);
+        }
+        Ok(())
+    }
+
+    // Answers Present where the checkpoint has the interval of another, if it is one.
+    fn check_new(&mut self, checkpoint: Option<NewCheckpoint<'_>>) -> Result<(), StoreError>
+        ensures free { IsTrue (is_sure (state S.Store self.new.connection)) → IsFormed (state S.Store self.old.connection)
+            → OnOk result (IfSome checkpoint.entry (λ c. map.get (content_in (state S.Store self.old.connection).now).checkpoints c.x ≡ None)) }
+        ensures present { IsTrue (is_sure (state S.Store self.new.connection)) → IsFormed (state S.Store self.old.connection)
+            → IsErrOf result StoreError.Present → IsHeld (content_in (state S.Store self.old.connection).now) checkpoint.entry }
+        ensures same { IsTrue (is_sure (state S.Store self.new.connection)) → IsFormed (state S.Store self.old.connection)
+            → Same (state S.Store self.old.connection) (state S.Store self.new.connection) }
+        ensures clean { IsTrue (is_sure (state S.Store self.new.connection)) → IsTrue (is_sure (state S.Store self.old.connection)) }
+        ensures fault { result_err result ≡ Some Fault → Rose self.old.failures self.new.failures }
+        ensures count { self.old.failures ≤ self.new.failures }
+        ensures kept { result_err result ≢ Some Fault → self.new.failures ≡ self.old.failures }
+    {
+        match checkpoint {
+            Some(new) => self.check_checkpoint(new.x),
+            None => Ok(()),
+        }
+    }
+
+    // Writes the records of a batch, all of them or none.
+    fn write(&mut self, batch: &WriteBatch<'_>) -> Result<(), StoreError>
+        requires { batch.now.first + length batch.now.receipts.now ≤ INTERVALS }
+        ensures put { IsTrue (is_sure (state S.Store self.new.connection)) → IsFormed (state S.Store self.old.connection)
+            → OnOk result (content_in (state S.Store self.new.connection).now ≡ written batch.now (content_in (state S.Store self.old.connection).now)) }
+        ensures refused { IsTrue (is_sure (state S.Store self.new.connection)) → IsFormed (state S.Store self.old.connection)
+            → OnErr result (content_in (state S.Store self.new.connection).now ≡ content_in (state S.Store self.old.connection).now) }
+        ensures formed { IsTrue (is_sure (state S.Store self.new.connection)) → IsFormed (state S.Store self.old.connection)
+            → IsFormed (state S.Store self.new.connection) }
+        ensures clean { IsTrue (is_sure (state S.Store self.new.connection)) → IsTrue (is_sure (state S.Store self.old.connection)) }
+        ensures never_present { result ≢ Err StoreError.Present }
+        ensures fault { result_err result ≡ Some Fault → Rose self.old.failures self.new.failures }
+        ensures count { self.old.failures ≤ self.new.failures }
+    {
+        let done = writing::write(&mut self.conn, batch);
+        told(&mut self.failures, done)
     }
 }
 
@@ -314,13 +392,9 @@ impl<S: Alter + Drop> Ledger for SqlStable<S> {
         Ok(Vec::new(alloc))
     }
 
-    fn shed(
-        &mut self,
-        alloc: Global,
-        c: u32,
-        _outputs: LedgerRows<'_>,
-        _senders: LedgerRows<'_>,
-    ) -> Result<(), StoreError> {
-        self.prune(alloc, c)
+    fn put_batch(&mut self, _alloc: Global, batch: &WriteBatch<'_>) -> Result<(), StoreError> {
+        self.check_receipts(batch.first, batch.receipts.len())?;
+        self.check_new(batch.checkpoint)?;
+        self.write(batch)
     }
 }

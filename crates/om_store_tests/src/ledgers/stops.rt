@@ -11,11 +11,12 @@ use std::alloc::Global;
 use std::process::Abort;
 
 // The calls that a stop falls into, over a store with checkpoints 0 and 2, outputs 0 and 1 and senders at 0.
-static CALLS: [Call; 4] = [
+static CALLS: [Call; 5] = [
     Call::Put(LedgerTable::Outputs, 2, 3),
     Call::Put(LedgerTable::Senders, 1, 1),
     Call::Put(LedgerTable::About, 0, 1),
     Call::Shed(2, (2, 2), (1, 1)),
+    Call::Write(super::batches::WHOLE),
 ];
 
 // How a run ended.
@@ -48,8 +49,11 @@ struct Held {
     outputs: Vec<(u64, Vec<u8>)>,
     senders: Vec<(u64, Vec<u8>)>,
     about: Vec<(u64, Vec<u8>)>,
+    receipts: Vec<(u32, Vec<u8>)>,
     // The newest up to 1, and up to 2.
     checkpoints: (Option<u32>, Option<u32>),
+    // The newest of all.
+    newest: Option<u32>,
 }
 
 #[inline(never)]
@@ -58,7 +62,9 @@ fn content_of<S: Ledger>(alloc: Global, store: &mut S) -> Result<Held, StoreErro
         outputs: store.all_in(alloc, LedgerTable::Outputs)?,
         senders: store.all_in(alloc, LedgerTable::Senders)?,
         about: store.all_in(alloc, LedgerTable::About)?,
+        receipts: store.receipts(alloc, 0, u32::MAX)?,
         checkpoints: checkpoints(alloc, store),
+        newest: store.effective(alloc, u32::MAX)?.map(|(x, _)| x),
     })
 }
 

@@ -7,7 +7,7 @@ use sqlite::{Alter, Connection, MemStore};
 use std::alloc::Global;
 use std::process::Abort;
 
-fn connected(rt: &impl Abort, alloc: Global) -> Connection<MemStore> {
+pub(super) fn connected(rt: &impl Abort, alloc: Global) -> Connection<MemStore> {
     Connection::open_in_memory(alloc).expect(rt, "memory")
 }
 
@@ -22,7 +22,7 @@ pub(super) fn taken_up<S: Alter + Drop>(
 }
 
 #[inline(never)]
-fn expected<S: Alter + Drop>(
+pub(super) fn expected<S: Alter + Drop>(
     rt: &impl Abort,
     store: Result<SqlLedger<S>, (TablesError, Connection<S>)>,
 ) -> SqlLedger<S> {

@@ -1,0 +1,187 @@
+//! Batches: all of one is written, or nothing of it.
+
+use super::tables::{connected, expected, taken_up};
+use super::{Batch, Call, check_table, made};
+use om_stable::{FuseStable, Ledger, LedgerTable, MemLedger, MemStable, StoreError};
+use om_tables::{CachingLedger, SqlStable};
+use std::alloc::Global;
+use std::process::Abort;
+
+// A batch with something of each kind, over a store with checkpoints 0 and 2, receipts 1 to 3, outputs 0 and 1 and senders at 0.
+pub(super) const WHOLE: Batch = Batch {
+    receipts: (4, 3),
+    checkpoint: Some(6),
+    outputs: (2, 2),
+    senders: (1, 1),
+    prune_to: Some(2),
+};
+
+// The same but for one part, which takes a place that is taken.
+const TAKEN: [Batch; 4] = [
+    Batch {
+        receipts: (3, 3),
+        ..WHOLE
+    },
+    Batch {
+        checkpoint: Some(2),
+        ..WHOLE
+    },
+    Batch {
+        outputs: (1, 2),
+        ..WHOLE
+    },
+    Batch {
+        senders: (0, 2),
+        ..WHOLE
+    },
+];
+
+// A batch without receipts, pruned to the checkpoint that it brings, and one with nothing in it.
+const PRUNED: Batch = Batch {
+    receipts: (7, 0),
+    checkpoint: Some(9),
+    outputs: (4, 0),
+    senders: (2, 0),
+    prune_to: Some(9),
+};
+
+const NOTHING: Batch = Batch {
+    receipts: (0, 0),
+    checkpoint: None,
+    outputs: (0, 0),
+    senders: (0, 0),
+    prune_to: None,
+};
+
+fn write<S: Ledger>(
+    rt: &impl Abort,
+    alloc: Global,
+    store: &mut S,
+    batch: Batch,
+) -> Result<(), StoreError> {
+    made(rt, alloc, store, Call::Write(batch))
+}
+
+fn fill<S: Ledger>(rt: &impl Abort, alloc: Global, store: &mut S) {
+    assert_eq!(rt; super::fill(alloc, store), Ok(()));
+    let first = Batch {
+        receipts: (1, 3),
+        outputs: (0, 2),
+        senders: (0, 1),
+        ..NOTHING
+    };
+    assert_eq!(rt; write(rt, alloc, store, first), Ok(()));
+}
+
+// Asserts that the store has receipts of these intervals, each with its bytes, and checkpoints of these among 0 to 9.
+fn check<S: Ledger>(
+    rt: &impl Abort,
+    alloc: Global,
+    store: &mut S,
+    receipts: &[u32],
+    checkpoints: &[u32],
+) {
+    let found = store.receipts(alloc, 0, u32::MAX).ok().expect(rt, "read");
+    assert_eq!(rt; found.len(), receipts.len());
+    for ((x, bytes), want) in found.iter().zip(receipts) {
+        assert_eq!(rt; *x, *want);
+        assert_eq!(rt; bytes.as_slice(), u64::from(*want).to_le_bytes().as_slice());
+    }
+    let mut newest = None;
+    for x in 0..10u32 {
+        if checkpoints.contains(&x) {
+            newest = Some(x);
+        }
+        let held = store.effective(alloc, x).ok().flatten().map(|(c, _)| c);
+        assert_eq!(rt; held, newest, "checkpoint at {x}");
+    }
+}
+
+fn check_tables<S: Ledger>(
+    rt: &impl Abort,
+    alloc: Global,
+    store: &mut S,
+    outputs: &[u64],
+    senders: &[u64],
+) {
+    check_table(rt, alloc, store, LedgerTable::Outputs, outputs);
+    check_table(rt, alloc, store, LedgerTable::Senders, senders);
+}
+
+// Each batch that collides leaves all as it was; then the others are written.
+fn play<S: Ledger>(rt: &impl Abort, alloc: Global, store: &mut S) {
+    fill(rt, alloc, store);
+    for batch in &TAKEN {
+        let refused = write(rt, alloc, store, *batch);
+        assert_eq!(rt; refused, Err(StoreError::Present));
+        check(rt, alloc, store, &[1, 2, 3], &[0, 2]);
+        check_tables(rt, alloc, store, &[0, 1], &[0]);
+    }
+    assert_eq!(rt; write(rt, alloc, store, WHOLE), Ok(()));
+    check(rt, alloc, store, &[3, 4, 5, 6], &[2, 6]);
+    check_tables(rt, alloc, store, &[0, 1, 2, 3], &[0, 1]);
+    assert_eq!(rt; write(rt, alloc, store, NOTHING), Ok(()));
+    check(rt, alloc, store, &[3, 4, 5, 6], &[2, 6]);
+    assert_eq!(rt; write(rt, alloc, store, PRUNED), Ok(()));
+    check(rt, alloc, store, &[], &[9]);
+    check_tables(rt, alloc, store, &[0, 1, 2, 3], &[0, 1]);
+}
+
+#[test]
+fn batches_in_memory(rt: HostRuntime) {
+    play(&rt, rt.alloc(), &mut MemLedger::new(rt.alloc()));
+}
+
+#[test]
+fn batches_behind_a_cache(rt: HostRuntime) {
+    let mut store = CachingLedger::new(MemLedger::new(rt.alloc()));
+    play(&rt, rt.alloc(), &mut store);
+}
+
+#[test]
+fn batches_in_five_tables(rt: HostRuntime) {
+    let alloc = rt.alloc();
+    let mut store = expected(&rt, taken_up(&rt, alloc, connected(&rt, alloc)));
+    play(&rt, alloc, &mut store);
+}
+
+// A store without tables passes over outputs and senders, and looks at the rest.
+fn play_without_tables<S: Ledger>(rt: &impl Abort, alloc: Global, store: &mut S) {
+    fill(rt, alloc, store);
+    for batch in &TAKEN[..2] {
+        let refused = write(rt, alloc, store, *batch);
+        assert_eq!(rt; refused, Err(StoreError::Present));
+        check(rt, alloc, store, &[1, 2, 3], &[0, 2]);
+    }
+    assert_eq!(rt; write(rt, alloc, store, WHOLE), Ok(()));
+    check(rt, alloc, store, &[3, 4, 5, 6], &[2, 6]);
+    check_tables(rt, alloc, store, &[], &[]);
+}
+
+#[test]
+fn batches_without_tables(rt: HostRuntime) {
+    play_without_tables(&rt, rt.alloc(), &mut MemStable::new(rt.alloc()));
+}
+
+#[test]
+fn batches_in_two_tables(rt: HostRuntime) {
+    let alloc = rt.alloc();
+    let conn = connected(&rt, alloc);
+    assert!(rt; conn.is_autocommit());
+    let Ok(mut store) = SqlStable::create(alloc, conn) else {
+        panic!(rt; "not made");
+    };
+    play_without_tables(&rt, alloc, &mut store);
+}
+
+// A fuse stops a batch, which leaves all as it was.
+#[test]
+fn a_batch_behind_a_fuse(rt: HostRuntime) {
+    let mut inner = MemLedger::new(rt.alloc());
+    fill(&rt, rt.alloc(), &mut inner);
+    let mut store = FuseStable::new(inner, 0);
+    let stopped = write(&rt, rt.alloc(), &mut store, WHOLE);
+    assert_eq!(rt; stopped, Err(StoreError::Fault));
+    check(&rt, rt.alloc(), &mut store, &[1, 2, 3], &[0, 2]);
+    assert_eq!(rt; write(&rt, rt.alloc(), &mut store, WHOLE), Ok(()));
+}

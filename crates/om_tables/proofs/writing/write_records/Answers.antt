@@ -1,0 +1,5 @@
+use Rattle.om_tables.proofs.DeleteLemmas.{performs_both}
+use Rattle.om_tables.proofs.writing.write_records.Goals as goal
+
+pub returns-clause-performs : goal.returns-clause-performs
+returns-clause-performs g c = performs_both _ _ _ _ _ c.in_ok-insert_both.ensures.performs c.in_ok-prune_to.ensures.performs
