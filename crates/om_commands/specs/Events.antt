@@ -6,7 +6,7 @@ use Rattle.om_text.specs.Reading.{◌>>=◌, or_error}
 use Rattle.om_text.specs.declared.error.LineError.{LineError}
 use Rattle.om_text.specs.declared.error.LineError.TheVariants.{UnknownLine, WrongCount, BadNumber}
 use Rattle.om_world.specs.declared.event.Event.{Event}
-use Rattle.om_world.specs.declared.event.Event.TheVariants.{Run, Give, Flush, Checkpoint, Fail, Join, Resume, Resend, Trim, Prune}
+use Rattle.om_world.specs.declared.event.Event.TheVariants.{Run, Give, Flush, FlushFirst, Checkpoint, Fail, Join, Resume, Resend, Trim, Prune}
 
 -- the process that the one word stands for
 abbrev pub process_in : List (List ℕ) → Result ℕ LineError
@@ -26,13 +26,18 @@ abbrev pub prune_line : List (List ℕ) → Result Event LineError
 prune_line [] = Ok Prune
 prune_line _ = Err WrongCount
 
+-- `flush`, by the words behind it: a process, and how many receipts where not all are meant
+abbrev pub flush_line : List (List ℕ) → Result Event LineError
+flush_line (process ∷ []) = (process_in (process ∷ []) >>= λ p. Ok (Flush p))
+flush_line words = event_of_two FlushFirst number_of words
+
 -- the event of a line, by its first word and those behind it
 abbrev pub event_line : List ℕ → List (List ℕ) → Result Event LineError
 event_line first words =
     if bytes_eq first (codes "run") then event_of_two Run long_number_of words
     else (if bytes_eq first (codes "give") then event_of_two Give number_of words
     else (if bytes_eq first (codes "prune") then prune_line words
-    else (if bytes_eq first (codes "flush") then (process_in words >>= λ p. Ok (Flush p))
+    else (if bytes_eq first (codes "flush") then flush_line words
     else (if bytes_eq first (codes "checkpoint") then (process_in words >>= λ p. Ok (Checkpoint p))
     else (if bytes_eq first (codes "fail") then (process_in words >>= λ p. Ok (Fail p))
     else (if bytes_eq first (codes "join") then (process_in words >>= λ p. Ok (Join p))

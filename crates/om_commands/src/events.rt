@@ -4,7 +4,7 @@ ghost use Rattle.std.specs.Prelude.{◌≡◌, map};
 ghost use Rattle.om_text.specs.Reading.{or_error};
 ghost use Rattle.om_text.specs.Numbers.{long_number_of, number_of};
 ghost use Rattle.om_text.specs.declared.error.LineError.{LineError};
-ghost use Rattle.om_commands.specs.Events.{event_line, event_of_two, process_in, prune_line};
+ghost use Rattle.om_commands.specs.Events.{event_line, event_of_two, flush_line, process_in, prune_line};
 ghost use Rattle.om_commands.specs.steps.Events.{event_at};
 ghost use Rattle.om_world.specs.declared.event.Event.{Event};
 
@@ -32,8 +32,7 @@ fn event_at(first: &[u8], words: &[&[u8]]) -> Result<Event, LineError>
     ensures { result ≡ event_at first.now (map (λ word. word.now) words.now) }
 {
     if first == b"flush".as_slice() {
-        let process = process_in(words)?;
-        return Ok(Event::Flush { process });
+        return flush_of(words);
     }
     if first == b"checkpoint".as_slice() {
         let process = process_in(words)?;
@@ -60,6 +59,22 @@ fn event_at(first: &[u8], words: &[&[u8]]) -> Result<Event, LineError>
         return Ok(Event::Trim { process });
     }
     Err(LineError::UnknownLine)
+}
+
+// A flush of the whole log, or of so many receipts of it.
+fn flush_of(words: &[&[u8]]) -> Result<Event, LineError>
+    ensures { result ≡ flush_line (map (λ word. word.now) words.now) }
+{
+    if let [_] = words {
+        let process = process_in(words)?;
+        return Ok(Event::Flush { process });
+    }
+    let [process, count] = words else {
+        return Err(LineError::WrongCount);
+    };
+    let process = place_of(process)?;
+    let count = place_of(count)?;
+    Ok(Event::FlushFirst { process, count })
 }
 
 // The process that the one word stands for.

@@ -1,5 +1,5 @@
 -- One process with its store, and what its acts do to it.
-use Rattle.std.specs.Prelude.{◌≡◌, ◌≢◌, ℕ, ◌≤◌, List, [], ◌∷◌, ◌++◌, length, drop, Bool, IsTrue, IsSome, true, Option, None, Some, Result, Ok, Err, OnErr, IfOk}
+use Rattle.std.specs.Prelude.{◌≡◌, ◌≢◌, ℕ, ◌≤◌, List, [], ◌∷◌, ◌++◌, length, drop, take, Bool, IsTrue, IsSome, true, Option, None, Some, Result, Ok, Err, OnErr, IfOk}
 use Rattle.std.specs.FinMap.{get}
 use Rattle.om_interval.specs.declared.verdict.Verdict.{Verdict}
 use Rattle.om_format.specs.declared.message.Message.{Message}
@@ -10,7 +10,7 @@ use Rattle.om_stable.specs.declared.error.StoreError.TheVariants.{Fault, Present
 use Rattle.om_process.specs.Accepts.{Answers, taken}
 use Rattle.om_process.specs.Core.{CoreState, CoreTurns, cluster_size, settled, with_now, with_pending, RunsTo}
 use Rattle.om_process.specs.Stored.{CanReplay, IsNoMatterOfContent, IsReplay, TheProcess}
-use Rattle.om_process.specs.Stores.{HasGainedCheckpoint, HasGainedLog, checkpointed, first_logged, flushed}
+use Rattle.om_process.specs.Stores.{HasGainedCheckpoint, HasGainedFirst, HasGainedLog, checkpointed, first_logged, flushed, flushed_first}
 use Rattle.om_process.specs.Trims.{trimmed}
 use Rattle.om_process.specs.declared.accept.Accept.{Accept}
 use Rattle.om_process.specs.declared.accept.Accept.TheVariants as accepts
@@ -18,14 +18,14 @@ use Rattle.om_process.specs.declared.down.Down.{Down}
 use Rattle.om_process.specs.declared.replay.ReplayFault.{ReplayFault}
 use Rattle.om_process.specs.declared.replay.ReplayFault.TheVariants as replays
 use Rattle.om_process.specs.declared.turns.Ran.{Ran}
-use Rattle.om_recover.specs.declared.row.RowKind.{RowKind}
-use Rattle.om_recover.specs.declared.row.RowKind.TheVariants.{Checkpoint, Log}
 use Rattle.om_manager.specs.Rounds.{Failing, Joining}
 use Rattle.om_manager.specs.State.{ManagerState}
 use Rattle.om_manager.specs.declared.answers.FailError.{FailError}
 use Rattle.om_manager.specs.declared.answers.Gathered.{Gathered}
 use Rattle.om_manager.specs.declared.answers.JoinError.{JoinError}
 use Rattle.om_manager.specs.declared.answers.RecordError.{RecordError}
+use Rattle.om_member.specs.declared.batch.Batch.{Batch}
+use Rattle.om_member.specs.declared.batch.Batch.TheVariants.{Checkpoint, First, Log}
 use Rattle.om_member.specs.declared.member.Member.{Member}
 use Rattle.om_member.specs.declared.member.Standing.{Standing}
 use Rattle.om_member.specs.declared.member.Standing.TheVariants as stands
@@ -51,30 +51,34 @@ pub record WasCalled {S : Type 0} (content : S → Content) (failed : S → ℕ)
   pub used : UsesStore failed is_clean IsSound before HasFailed after
   pub did : IsTrue (is_clean after) → IsSound before → Did (content before) (content after)
 
--- the store has gained what the core keeps of a kind: the receipts of its log, or a checkpoint of now, where none was
-abbrev pub HasGained : RowKind → CoreState → Content → Content → Type 0
+-- the store has gained a batch of what the core keeps: receipts of its log, or a checkpoint of now, where none was
+abbrev pub HasGained : Batch → CoreState → Content → Content → Type 0
 HasGained Log c before after = HasGainedLog c before after
+HasGained (First k) c before after = HasGainedFirst k c before after
 HasGained Checkpoint c before after = (get before.checkpoints c.now.interval ≡ None) × HasGainedCheckpoint c before after
 
 -- the core once that is stored
-abbrev pub stored : RowKind → CoreState → CoreState
+abbrev pub stored : Batch → CoreState → CoreState
 stored Log c = flushed c
+stored (First k) c = flushed_first k c
 stored Checkpoint c = checkpointed c
 
 -- what a store answered: it gained what was put there, or nothing, and then it was present only where one was there
-abbrev pub Gained : RowKind → CoreState → Result (Unit {0}) StoreError → Content → Content → Type 0
+abbrev pub Gained : Batch → CoreState → Result (Unit {0}) StoreError → Content → Content → Type 0
 Gained kind c (Ok done) before after = HasGained kind c before after
 Gained Log c (Err fault) before after =
     (after ≡ before) × (fault ≡ Present → IsTaken before.receipts (first_logged c) (length c.log))
+Gained (First k) c (Err fault) before after =
+    (after ≡ before) × (fault ≡ Present → IsTaken before.receipts (first_logged c) (length (take k c.log)))
 Gained Checkpoint c (Err fault) before after = (after ≡ before) × (fault ≡ Present → IsSome (get before.checkpoints c.now.interval))
 
-abbrev pub after_store : RowKind → CoreState → Result (Unit {0}) StoreError → CoreState
+abbrev pub after_store : Batch → CoreState → Result (Unit {0}) StoreError → CoreState
 after_store kind c (Ok done) = stored kind c
 after_store kind c (Err why) = c
 
--- a process that is up stored what it keeps of a kind, or its store refused
+-- a process that is up stored a batch of what it keeps, or its store refused
 pub record HasStored {S : Type 0} (content : S → Content) (failed : S → ℕ) (is_clean : S → Bool) (IsSound : S → Type 0)
-    (kind : RowKind) (old : Member S) (answer : Result (Unit {0}) StoreError) (new : Member S) : Type 0 where
+    (kind : Batch) (old : Member S) (answer : Result (Unit {0}) StoreError) (new : Member S) : Type 0 where
   pub core : CoreState
   pub up : old.standing ≡ stands.Up core
   pub others : new ≡ record old { standing = stands.Up (after_store kind core answer); store = new.store }

@@ -11,13 +11,13 @@ ghost use Rattle.om_member.specs.Keeps.{Keeps};
 ghost use Rattle.om_member.specs.Members.{HasComeBack, HasDeclared, HasJoined, HasNoted, HasRun, HasStored, HasTrimmed, IsNotIn, IsNotUp, IsOffered, StaysDown, TakesTurns, WasCalled, WasPruned, core_of};
 ghost use Rattle.om_member.specs.declared.member.Standing.TheVariants as stands;
 
+use crate::batch::Batch;
 use crate::office::Office;
 use crate::{handing, telling};
 use om_format::Message;
 use om_interval::{Bounds, Pid, Starts, Verdict};
 use om_manager::{FailError, Gathered, JoinError, OutputError, RecordError};
 use om_process::{Accept, Down, ProcCore, Ran, ReplayFault};
-use om_recover::RowKind;
 use om_stable::{Stable, StoreError};
 use std::alloc::{AllocError, Global};
 use std::mem;
@@ -154,9 +154,9 @@ impl<S: Stable> Member<S> {
 
 // What a process does with its store.
 impl<S: Stable> Member<S> {
-    /// Stores what a process that is up keeps of a kind: its log, or a checkpoint of now. Refused with what its store answers,
-    /// or with `Memory`; that leaves the process, and what the store holds.
-    pub fn store(&mut self, alloc: Global, kind: RowKind) -> Result<Result<(), StoreError>, NotUp>
+    /// Stores a batch of what a process that is up keeps. Refused with what its store answers, or with `Memory`; that leaves the
+    /// process, and what the store holds.
+    pub fn store(&mut self, alloc: Global, kind: Batch) -> Result<Result<(), StoreError>, NotUp>
         ensures stored { IfOk result (λ answer. HasStored S.content S.failed S.is_clean S.IsSound kind self.old answer self.new) }
         ensures faultless { ((store : S) → S.failed store ≡ 0) → result ≢ Ok (Err StoreError.Fault) }
         ensures not_up { OnErr result (IsNotUp self.old.standing) }
@@ -164,8 +164,9 @@ impl<S: Stable> Member<S> {
     {
         match &mut self.standing {
             Standing::Up(core) => match kind {
-                RowKind::Log => Ok(core.flush(alloc, &mut self.store)),
-                RowKind::Checkpoint => Ok(core.checkpoint(alloc, &mut self.store)),
+                Batch::Log => Ok(core.flush(alloc, &mut self.store)),
+                Batch::First(count) => Ok(core.flush_first(alloc, &mut self.store, count)),
+                Batch::Checkpoint => Ok(core.checkpoint(alloc, &mut self.store)),
             },
             _ => Err(NotUp),
         }

@@ -13,7 +13,7 @@ use Rattle.om_world.specs.declared.event.Answer.{Answer}
 use Rattle.om_world.specs.declared.event.Event.{Event}
 use Rattle.om_interval.specs.declared.pid.TheConstants.{MAX_PROCESSES}
 use Rattle.om_picture.specs.Drawing.{Edge, IsLaneOf, IsSketchOf, LaneState, Sketch, all_marks, held_in, held_of, lane_in, lane_marks, lane_of, lanes_marks, new_lane, waiting_marks}
-use Rattle.om_picture.specs.Fates.{EventRow, Fate, ended_after, fate_behind, fate_of, has_ended, highest, interval_after, interval_behind, is_loose, is_of, is_process, is_store, loose_after, next_ended, next_interval, next_loose, next_place, step_row, stores}
+use Rattle.om_picture.specs.Fates.{EventRow, Fate, Progress, ended_after, fate_behind, fate_of, has_ended, has_loose, highest, interval_behind, is_of, is_process, next_ended, next_place, next_progress, progress_after, progress_behind, step_row}
 use Rattle.om_picture.specs.Held.{Held, covered_by, held_behind, is_any_elsewhere, left_by, may_wait, releases, left_behind}
 use Rattle.om_picture.specs.Marks.{AreTheSame, EventMark, event_marks, fated_marks, is_reached, marks_among, marks_on, released_at, released_below, row_marks, shape_marks, sure_marks}
 use Rattle.om_picture.specs.Places.{ArePlaced, IsPlacedBehind, has_column, is_shown, rightmost, shows_on}
@@ -25,10 +25,13 @@ use Rattle.om_sheet.specs.declared.sheet.Shape.{Shape}
 use Rattle.om_sheet.specs.declared.sheet.Spot.{Spot}
 use Rattle.om_sheet.specs.declared.shown.Shown.{Shown}
 use Rattle.om_sheet.specs.declared.step.Step.{Step}
-use Rattle.om_picture.specs.steps.Adding.{AreNew, IsAmid, LaneShows, LearnsAll, PlacesEvent, Reaches, SettlesAll, SettlesIf, Shows, ShowsEvent, ShowsOn, Stays, amid_marks, fate_amid, fate_now, freed_below, frees, is_stored_by, lane_number, now_marks, shows_at}
-use Rattle.om_picture.proofs.FateLemmas.{end_fate, ended_more, ended_told, fated_same, first_fate, highest_more, interval_more, interval_told, loose_more, loose_told, open_fate, place_again, round_fate, store_shown, waiting_alike, waiting_all}
+use Rattle.om_picture.specs.steps.Adding.{AreNew, IsAmid, LaneShows, LearnsAll, PlacesEvent, Reaches, SettlesAll, SettlesIf, Shows, ShowsEvent, ShowsOn, Stays, amid_marks, fate_amid, fate_now, freed_below, frees, lane_number, now_marks, shows_at}
+use Rattle.om_picture.proofs.FateLemmas.{end_fate, ended_more, ended_told, first_fate, highest_more, open_fate, place_again, progress_more, progress_told, round_fate, waiting_alike}
 use Rattle.om_picture.proofs.HeldLemmas.{held_more, left_none, left_own}
 use Rattle.om_picture.proofs.LaneLemmas.{all_counted, lane_counted, lanes_alike}
+
+abbrev start : Progress
+start = record { interval = 0; safe = 0 }
 
 -- ---- whose event it is
 of_own : (p : ℕ) (row : EventRow) → process_of row.entry.event ≡ Some p → is_of p row ≡ true
@@ -43,71 +46,39 @@ of_other p q row is away = ap (λ (o : Option ℕ). is_process q o) is ∙ elim 
 of_none : (q : ℕ) (row : EventRow) → process_of row.entry.event ≡ None → is_of q row ≡ false
 of_none q row is = ap (λ (o : Option ℕ). is_process q o) is
 
+other_progress : (q : ℕ) (was : Progress) (row : EventRow) → is_of q row ≡ false → next_progress q was row ≡ was
+other_progress q was row other = ap (λ (b : Bool). if b then progress_after row.entry.event row.entry.answer was else was) other
+
 -- an event of another process changes no fate and stores nothing
 other_marks : (row : EventRow) (later : List EventRow) (q : ℕ) (lane : LaneState) → is_of q row ≡ false
     → lane_marks (row ∷ later) q lane ≡ amid_marks row later q lane
 other_marks row later q lane other =
-    waiting_alike (λ i stored. fate_behind q i stored lane.reached (row ∷ later)) (λ i stored. fate_amid row later q i stored lane.reached)
-    (λ (i : ℕ) (stored : Bool).
-    first_fate row later q i lane.reached stored
-    ∙ ap (λ (b : Bool). fate_amid row later q i (stored || (b && is_store row.entry.event row.entry.answer)) lane.reached) other
-    ∙ ap (λ (b : Bool). fate_amid row later q i b lane.reached) (or-false stored)) lane.stored lane.waiting
-
-other_interval : (q was : ℕ) (row : EventRow) → is_of q row ≡ false → next_interval q was row ≡ was
-other_interval q was row other = ap (λ (b : Bool). if b then interval_after row.entry.event row.entry.answer was else was) other
+    waiting_alike (λ i. fate_behind q i lane.reached lane.progress (row ∷ later)) (λ i. fate_amid row later q i lane.reached lane.progress)
+    (λ (i : ℕ).
+    first_fate row later q i lane.reached lane.progress
+    ∙ ap (λ (w : Progress). fate_amid row later q i lane.reached w) (other_progress q lane.progress row other)) lane.waiting
 
 other_ended : (q : ℕ) (was : Bool) (row : EventRow) → is_of q row ≡ false → next_ended q was row ≡ was
 other_ended q was row other = ap (λ (b : Bool). if b then ended_after row.entry.event row.entry.answer was else was) other
 
-other_loose : (q : ℕ) (was : Bool) (row : EventRow) → is_of q row ≡ false → next_loose q was row ≡ was
-other_loose q was row other = ap (λ (b : Bool). if b then loose_after row.entry.event row.entry.answer was else was) other
-
-own_interval : (p was : ℕ) (row : EventRow) → is_of p row ≡ true → next_interval p was row ≡ interval_after row.entry.event row.entry.answer was
-own_interval p was row own = ap (λ (b : Bool). if b then interval_after row.entry.event row.entry.answer was else was) own
+own_progress : (p : ℕ) (was : Progress) (row : EventRow) → is_of p row ≡ true
+    → next_progress p was row ≡ progress_after row.entry.event row.entry.answer was
+own_progress p was row own = ap (λ (b : Bool). if b then progress_after row.entry.event row.entry.answer was else was) own
 
 own_ended : (p : ℕ) (was : Bool) (row : EventRow) → is_of p row ≡ true → next_ended p was row ≡ ended_after row.entry.event row.entry.answer was
 own_ended p was row own = ap (λ (b : Bool). if b then ended_after row.entry.event row.entry.answer was else was) own
 
-own_loose : (p : ℕ) (was : Bool) (row : EventRow) → is_of p row ≡ true → next_loose p was row ≡ loose_after row.entry.event row.entry.answer was
-own_loose p was row own = ap (λ (b : Bool). if b then loose_after row.entry.event row.entry.answer was else was) own
-
 -- ---- the lane of its process
-stored_marks : (b : Bool) (row : EventRow) (later : List EventRow) (p : ℕ) (lane : LaneState) (stored : ℕ) → stores p row ≡ b
-    → stored ≡ (if b then length lane.waiting else lane.stored)
-    → waiting_marks (λ i s. fate_amid row later p i s lane.reached) stored lane.waiting ≡ lane_marks (row ∷ later) p lane
-stored_marks true row later p lane stored is now =
-    ap (λ (n : ℕ). waiting_marks (λ i s. fate_amid row later p i s lane.reached) n lane.waiting) now
-    ∙ sym (waiting_all (λ i s. fate_amid row later p i s lane.reached) lane.stored lane.waiting)
-    ∙ sym (waiting_alike (λ i s. fate_behind p i s lane.reached (row ∷ later)) (λ i s. fate_amid row later p i (s || true) lane.reached)
-    (λ (i : ℕ) (s : Bool). first_fate row later p i lane.reached s
-    ∙ ap (λ (b : Bool). fate_amid row later p i (s || b) lane.reached) is) lane.stored lane.waiting)
-stored_marks false row later p lane stored is now =
-    ap (λ (n : ℕ). waiting_marks (λ i s. fate_amid row later p i s lane.reached) n lane.waiting) now
-    ∙ sym (waiting_alike (λ i s. fate_behind p i s lane.reached (row ∷ later)) (λ i s. fate_amid row later p i s lane.reached)
-    (λ (i : ℕ) (s : Bool). first_fate row later p i lane.reached s
-    ∙ ap (λ (b : Bool). fate_amid row later p i (s || b) lane.reached) is
-    ∙ ap (λ (b : Bool). fate_amid row later p i b lane.reached) (or-false s)) lane.stored lane.waiting)
-
-own_marks : (on : Bool) (s : Shown) (row : EventRow) (later : List EventRow) (p : ℕ) (a b : LaneState) → stores p row ≡ is_stored_by s
-    → LaneShows on s row.fresh row.entry a b
+own_marks : (on : Bool) (s : Shown) (row : EventRow) (later : List EventRow) (p : ℕ) (a b : LaneState)
+    → b.progress ≡ next_progress p a.progress row → LaneShows on s row.fresh row.entry a b
     → amid_marks row later p b
     ≡ lane_marks (row ∷ later) p a
-    ++ (if on then fated_marks s row.fresh (fate_amid row later p b.interval false a.reached) row.entry else [])
+    ++ (if on then fated_marks s row.fresh (fate_amid row later p b.progress.interval a.reached b.progress) row.entry else [])
 own_marks on s row later p a b is lane =
-    ap (λ (n : ℕ). waiting_marks (λ i st. fate_amid row later p i st n) b.stored b.waiting) lane.reached
-    ∙ lane.waits (λ i st. fate_amid row later p i st a.reached)
-    ∙ ap (λ (l : List EventMark). l
-    ++ (if on then fated_marks s row.fresh (fate_amid row later p b.interval false a.reached) row.entry else []))
-    (stored_marks (is_stored_by s) row later p a b.stored is lane.stored)
-
--- the fate of its own mark
-own_fate : (s : Shown) (row : EventRow) (later : List EventRow) (p i was : ℕ) → stores p row ≡ is_stored_by s
-    → fated_marks s row.fresh (fate_amid row later p i false was) row.entry
-    ≡ fated_marks s row.fresh (fate_behind p i false was (row ∷ later)) row.entry
-own_fate s row later p i was is =
-    fated_same s row.fresh (fate_amid row later p i false was) (fate_behind p i false was (row ∷ later)) row.entry
-    (λ (none : is_stored_by s ≡ false).
-    sym (first_fate row later p i was false ∙ ap (λ (b : Bool). fate_amid row later p i (false || b) was) (is ∙ none)))
+    ap (λ (n : ℕ). waiting_marks (λ i. fate_amid row later p i n b.progress) b.waiting) lane.reached
+    ∙ lane.waits (λ i. fate_amid row later p i a.reached b.progress)
+    ∙ ap (λ (w : Progress). waiting_marks (λ i. fate_amid row later p i a.reached w) a.waiting
+    ++ (if on then fated_marks s row.fresh (fate_amid row later p b.progress.interval a.reached b.progress) row.entry else [])) is
 
 -- ---- an event is drawn
 if_both : (count : EventMark → ℕ) (on : Bool) (x y : List EventMark)
@@ -131,12 +102,10 @@ amid_none n before row s count lanes others none = record {
   on = refl;
   edge = refl;
   count = count;
-  interval = λ (p : ℕ) (below : p < n).
-      (lanes p below).interval ∙ sym (interval_more p 0 before row ∙ other_interval p (interval_behind p before) row (others p below));
+  progress = λ (p : ℕ) (below : p < n).
+      (lanes p below).progress ∙ sym (progress_more p start before row ∙ other_progress p (progress_behind p before) row (others p below));
   ended = λ (p : ℕ) (below : p < n).
       (lanes p below).ended ∙ sym (ended_more p false before row ∙ other_ended p (has_ended p before) row (others p below));
-  loose = λ (p : ℕ) (below : p < n).
-      (lanes p below).loose ∙ sym (loose_more p false before row ∙ other_loose p (is_loose p before) row (others p below));
   held = λ (p : ℕ) (below : p < n).
       (lanes p below).held ∙ sym (append-nil (held_behind p before))
       ∙ ap (λ (l : List Held). held_behind p before ++ l) (sym (left_none p before row (others p below)));
@@ -163,12 +132,6 @@ event_here n p before row later is within =
     ap (λ (o : Option ℕ). marks_on n o before row later) is
     ∙ ap (λ (b : Bool). if b then event_marks p before row later else []) (lt-ltb p n within)
 
-stored_own : (p : ℕ) (ended : Bool) (row : EventRow) → process_of row.entry.event ≡ Some p
-    → stores p row ≡ is_stored_by (shown ended row.entry.event row.entry.answer)
-stored_own p ended row is =
-    ap (λ (b : Bool). b && is_store row.entry.event row.entry.answer) (of_own p row is)
-    ∙ sym (store_shown ended row.entry.event row.entry.answer)
-
 held_alike : (s : Shown) (fresh x i j : ℕ) (a b : List Held) → a ≡ b → i ≡ j
     → a ++ (if may_wait s then record { interval = i; fresh = fresh; x = x } ∷ [] else [])
     ≡ b ++ (if may_wait s then record { interval = j; fresh = fresh; x = x } ∷ [] else [])
@@ -185,20 +148,18 @@ amid_shown n p before row a b count is within lanes s =
     let e : Bool = (lane_of a p).ended in
     let sh : Shown = shown e event answer in
     let own = of_own p row is in
-    let st = stored_own p e row is in
     let mine = lanes p within in
-    let interval_here : (lane_of b p).interval ≡ interval_behind p (before ++ row ∷ []) =
-    s.lane.interval ∙ interval_told e event answer (lane_of a p).interval
-    ∙ sym (own_interval p (lane_of a p).interval row own)
-    ∙ ap (λ (i : ℕ). next_interval p i row) mine.interval ∙ sym (interval_more p 0 before row) in
+    let now_is : (lane_of b p).progress ≡ next_progress p (lane_of a p).progress row =
+    s.lane.progress ∙ progress_told e event answer (lane_of a p).progress ∙ sym (own_progress p (lane_of a p).progress row own) in
+    let progress_here : (lane_of b p).progress ≡ progress_behind p (before ++ row ∷ []) =
+    now_is ∙ ap (λ (w : Progress). next_progress p w row) mine.progress ∙ sym (progress_more p start before row) in
+    let interval_here : (lane_of b p).progress.interval ≡ interval_behind p (before ++ row ∷ []) =
+    ap (λ (w : Progress). w.interval) progress_here in
     let ended_here : (lane_of b p).ended ≡ has_ended p (before ++ row ∷ []) =
     s.lane.ended ∙ ended_told e event answer ∙ sym (own_ended p e row own)
     ∙ ap (λ (x : Bool). next_ended p x row) mine.ended ∙ sym (ended_more p false before row) in
-    let loose_here : (lane_of b p).loose ≡ is_loose p (before ++ row ∷ []) =
-    s.lane.loose ∙ loose_told e event answer (lane_of a p).loose ∙ sym (own_loose p (lane_of a p).loose row own)
-    ∙ ap (λ (x : Bool). next_loose p x row) mine.loose ∙ sym (loose_more p false before row) in
     let held_here : held_in (lane_of b p) ≡ held_behind p before ++ left_by p before row =
-    s.lane.held ∙ held_alike sh row.fresh row.entry.at.x (lane_of b p).interval (interval_behind p (before ++ row ∷ []))
+    s.lane.held ∙ held_alike sh row.fresh row.entry.at.x (lane_of b p).progress.interval (interval_behind p (before ++ row ∷ []))
     (held_in (lane_of a p)) (held_behind p before) mine.held interval_here
     ∙ ap (λ (x : Bool). held_behind p before ++ (if may_wait (shown x event answer)
     then record { interval = interval_behind p (before ++ row ∷ []); fresh = row.fresh; x = row.entry.at.x } ∷ [] else [])) mine.ended
@@ -210,24 +171,18 @@ amid_shown n p before row a b count is within lanes s =
       on = s.on;
       edge = s.edge;
       count = ap (λ (ls : List LaneState). length ls) s.lanes ∙ length-set a.lanes p (lane_of b p) ∙ count;
-      interval = λ (q : ℕ) (below : q < n). elim (eqb_tells q p) [
+      progress = λ (q : ℕ) (below : q < n). elim (eqb_tells q p) [
         | inl here ↦
-            subst (λ (k : ℕ). (lane_of b k).interval ≡ interval_behind k (before ++ row ∷ [])) (sym here.1) interval_here
+            subst (λ (k : ℕ). (lane_of b k).progress ≡ progress_behind k (before ++ row ∷ [])) (sym here.1) progress_here
         | inr off ↦
-            ap (λ (l : LaneState). l.interval) (away q off.1) ∙ (lanes q below).interval
-            ∙ sym (interval_more q 0 before row ∙ other_interval q (interval_behind q before) row (of_other p q row is off.1))
+            ap (λ (l : LaneState). l.progress) (away q off.1) ∙ (lanes q below).progress
+            ∙ sym (progress_more q start before row ∙ other_progress q (progress_behind q before) row (of_other p q row is off.1))
       ];
       ended = λ (q : ℕ) (below : q < n). elim (eqb_tells q p) [
         | inl here ↦ subst (λ (k : ℕ). (lane_of b k).ended ≡ has_ended k (before ++ row ∷ [])) (sym here.1) ended_here
         | inr off ↦
             ap (λ (l : LaneState). l.ended) (away q off.1) ∙ (lanes q below).ended
             ∙ sym (ended_more q false before row ∙ other_ended q (has_ended q before) row (of_other p q row is off.1))
-      ];
-      loose = λ (q : ℕ) (below : q < n). elim (eqb_tells q p) [
-        | inl here ↦ subst (λ (k : ℕ). (lane_of b k).loose ≡ is_loose k (before ++ row ∷ [])) (sym here.1) loose_here
-        | inr off ↦
-            ap (λ (l : LaneState). l.loose) (away q off.1) ∙ (lanes q below).loose
-            ∙ sym (loose_more q false before row ∙ other_loose q (is_loose q before) row (of_other p q row is off.1))
       ];
       held = λ (q : ℕ) (below : q < n). elim (eqb_tells q p) [
         | inl here ↦
@@ -242,21 +197,25 @@ amid_shown n p before row a b count is within lanes s =
         | inr off ↦ ap (λ (l : LaneState). l.reached) (away q off.1) ∙ (lanes q below).reached
       ];
       marks = λ (later : List EventRow) (c : EventMark → ℕ).
-          let sure : List EventMark = sure_marks (lane_of a p).loose sh row.entry in
+          let sure : List EventMark = sure_marks (has_loose (lane_of a p).progress) sh row.entry in
           let fate : Fate = fate_of p (interval_behind p (before ++ row ∷ [])) before (row ∷ later) in
           let fated : List EventMark = fated_marks sh row.fresh fate row.entry in
-          let amid : List EventMark = fated_marks sh row.fresh (fate_amid row later p (lane_of b p).interval false (lane_of a p).reached)
+          let i_here : ℕ = (lane_of b p).progress.interval in
+          let i_behind : ℕ = interval_behind p (before ++ row ∷ []) in
+          let amid : List EventMark = fated_marks sh row.fresh (fate_amid row later p i_here (lane_of a p).reached (lane_of b p).progress)
           row.entry in
           let fates : amid ≡ fated =
-          own_fate sh row later p (lane_of b p).interval (lane_of a p).reached st
-          ∙ ap (λ (i : ℕ). fated_marks sh row.fresh (fate_behind p i false (lane_of a p).reached (row ∷ later)) row.entry) interval_here
-          ∙ ap (λ (r : ℕ). fated_marks sh row.fresh
-          (fate_behind p (interval_behind p (before ++ row ∷ [])) false r (row ∷ later)) row.entry) mine.reached in
+          ap (λ (w : Progress). fated_marks sh row.fresh (fate_amid row later p i_here (lane_of a p).reached w) row.entry) now_is
+          ∙ ap (λ (i : ℕ). fated_marks sh row.fresh (fate_behind p i (lane_of a p).reached (lane_of a p).progress (row ∷ later)) row.entry)
+          interval_here
+          ∙ ap (λ (r : ℕ). fated_marks sh row.fresh (fate_behind p i_behind r (lane_of a p).progress (row ∷ later)) row.entry) mine.reached
+          ∙ ap (λ (w : Progress). fated_marks sh row.fresh (fate_behind p i_behind (highest p 0 before) w (row ∷ later)) row.entry)
+          mine.progress in
           let events : marks_on n (process_of event) before row later ≡ sure ++ fated =
           event_here n p before row later is within
-          ∙ ap (λ (x : Bool). sure_marks (is_loose p before) (shown x event answer) row.entry
+          ∙ ap (λ (x : Bool). sure_marks (has_loose (progress_behind p before)) (shown x event answer) row.entry
           ++ fated_marks (shown x event answer) row.fresh fate row.entry) (sym mine.ended)
-          ∙ ap (λ (x : Bool). sure_marks x sh row.entry ++ fated) (sym mine.loose) in
+          ∙ ap (λ (w : Progress). sure_marks (has_loose w) sh row.entry ++ fated) (sym mine.progress) in
           let new = all_counted c (amid_marks row later) b in
           let old = all_counted c (lane_marks (row ∷ later)) a in
           let drawn : sum_by c b.drawn ≡ sum_by c a.drawn + sum_by c (if a.on then sure else []) =
@@ -268,7 +227,7 @@ amid_shown n p before row a b count is within lanes s =
           (λ (q : ℕ) (off : q ≢ p) (l : LaneState). other_marks row later q l (of_other p q row is off)) in
           let here : sum_by c (amid_marks row later p (lane_of b p))
           ≡ sum_by c (lane_marks (row ∷ later) p (lane_of a p)) + sum_by c (if a.on then amid else []) =
-          ap (λ (l : List EventMark). sum_by c l) (own_marks a.on sh row later p (lane_of a p) (lane_of b p) st s.lane)
+          ap (λ (l : List EventMark). sum_by c l) (own_marks a.on sh row later p (lane_of a p) (lane_of b p) now_is s.lane)
           ∙ sum_by-append c (lane_marks (row ∷ later) p (lane_of a p)) (if a.on then amid else []) in
           let same : sum_by c (if a.on then amid else []) ≡ sum_by c (if a.on then fated else []) =
           ap (λ (l : List EventMark). sum_by c (if a.on then l else [])) fates in
@@ -310,8 +269,8 @@ told_again : (p : ℕ) (row : EventRow) (b c : LaneState) → c.reached ≡ max 
     → next_place p c.reached row ≡ c.reached
 told_again p row b c is = ap (λ (n : ℕ). next_place p n row) is ∙ place_again p b.reached row ∙ sym is
 
-no_waiting : (f : ℕ → Bool → Fate) (stored : ℕ) (marks : List Mark) → marks ≡ [] → waiting_marks f stored marks ≡ []
-no_waiting f stored marks none = ap (λ (l : List Mark). waiting_marks f stored l) none
+no_waiting : (f : ℕ → Fate) (marks : List Mark) → marks ≡ [] → waiting_marks f marks ≡ []
+no_waiting f marks none = ap (λ (l : List Mark). waiting_marks f l) none
 
 round_told : (finished : Bool) (row : EventRow) (later : List EventRow) (c d : Sketch) → is_finished row.entry.answer ≡ finished
     → ((q : ℕ) → q < length c.lanes → next_place q (lane_of c q).reached row ≡ (lane_of c q).reached) → SettlesIf finished c d
@@ -321,25 +280,25 @@ round_told false row later c d is again same =
     ap (λ (s : Sketch). sum_by x (all_marks (lane_marks later) s)) same
     ∙ sym (ap (λ (l : List EventMark). sum_by x l) (alike (amid_marks row later) (lane_marks later) c
     (λ (q : ℕ) (below : q < length c.lanes).
-    waiting_alike (λ i st. fate_amid row later q i st (lane_of c q).reached) (λ i st. fate_behind q i st (lane_of c q).reached later)
-    (λ (i : ℕ) (st : Bool). open_fate row later q i (lane_of c q).reached st is (again q below))
-    (lane_of c q).stored (lane_of c q).waiting)))
+    waiting_alike (λ i. fate_amid row later q i (lane_of c q).reached (lane_of c q).progress)
+    (λ i. fate_behind q i (lane_of c q).reached (lane_of c q).progress later)
+    (λ (i : ℕ). open_fate row later q i (lane_of c q).reached (lane_of c q).progress is (again q below)) (lane_of c q).waiting)))
 round_told true row later c d is again settled =
     λ (x : EventMark → ℕ).
     ap (λ (l : List EventMark). sum_by x l) (alike (lane_marks later) (now_marks true) d
     (λ (q : ℕ) (below : q < length d.lanes).
     let long = settled.keeps.count in
     let within : q < length c.lanes = omega arith in
-    no_waiting (λ i st. fate_behind q i st (lane_of d q).reached later) (lane_of d q).stored (lane_of d q).waiting
+    no_waiting (λ i. fate_behind q i (lane_of d q).reached (lane_of d q).progress later) (lane_of d q).waiting
     (settled.empty q within)
-    ∙ sym (no_waiting (λ i st. fate_now true (nat_le i (lane_of d q).reached) st) (lane_of d q).stored (lane_of d q).waiting
+    ∙ sym (no_waiting (λ i. fate_now true (nat_le i (lane_of d q).reached) (nat_le i (lane_of d q).progress.safe)) (lane_of d q).waiting
     (settled.empty q within))))
     ∙ settled.keeps.marks x
     ∙ sym (ap (λ (l : List EventMark). sum_by x l) (alike (amid_marks row later) (now_marks true) c
     (λ (q : ℕ) (below : q < length c.lanes).
-    waiting_alike (λ i st. fate_amid row later q i st (lane_of c q).reached) (λ i st. fate_now true (nat_le i (lane_of c q).reached) st)
-    (λ (i : ℕ) (st : Bool). round_fate row later q i (lane_of c q).reached st is (again q below))
-    (lane_of c q).stored (lane_of c q).waiting)))
+    waiting_alike (λ i. fate_amid row later q i (lane_of c q).reached (lane_of c q).progress)
+    (λ i. fate_now true (nat_le i (lane_of c q).reached) (nat_le i (lane_of c q).progress.safe))
+    (λ (i : ℕ). round_fate row later q i (lane_of c q).reached (lane_of c q).progress is (again q below)) (lane_of c q).waiting)))
 
 settled_facts : (finished : Bool) (c d : Sketch) → SettlesIf finished c d
     → (d.on ≡ c.on) × (d.edge ≡ c.edge) × (length d.lanes ≡ length c.lanes) × ((q : ℕ) → Stays (lane_of c q) (lane_of d q))
@@ -348,7 +307,7 @@ settled_facts false c d same = (
   ap (λ (s : Sketch). s.edge) same,
   ap (λ (s : Sketch). length s.lanes) same,
   λ (q : ℕ). subst (λ (s : Sketch). Stays (lane_of c q) (lane_of s q)) (sym same)
-      (record { interval = refl; ended = refl; loose = refl; reached = refl }),
+      (record { progress = refl; ended = refl; reached = refl }),
 )
 settled_facts true c d settled = (settled.keeps.on, settled.keeps.edge, settled.keeps.count, settled.lanes)
 
@@ -535,9 +494,8 @@ sketch_more a b m c d e row reached placed shows learns settles n first rows bef
       lanes = λ (p : ℕ) (below : p < n).
           let l = learned p below in
           record {
-            interval = (facts.3 p).interval ∙ l.told.interval ∙ amid.interval p below;
+            progress = (facts.3 p).progress ∙ l.told.progress ∙ amid.progress p below;
             ended = (facts.3 p).ended ∙ l.told.ended ∙ amid.ended p below;
-            loose = (facts.3 p).loose ∙ l.told.loose ∙ amid.loose p below;
             held =
                 let within : p < length d.lanes = omega arith in
                 settled_held (is_finished row.entry.answer) d e settles p within
@@ -616,13 +574,14 @@ whole_drawn a b drawn settled is n first rows before =
     ap (λ (l : List EventMark). sum_by x l) (is ∙ sym (no_lanes (now_marks false) b (λ (q : ℕ) (below : q < length b.lanes).
     let long = settled.keeps.count in
     let within : q < length a.lanes = omega arith in
-    no_waiting (λ i st. fate_now false (nat_le i (lane_of b q).reached) st) (lane_of b q).stored (lane_of b q).waiting
+    no_waiting (λ i. fate_now false (nat_le i (lane_of b q).reached) (nat_le i (lane_of b q).progress.safe)) (lane_of b q).waiting
     (settled.empty q within))))
     ∙ settled.keeps.marks x
     ∙ sym (ap (λ (l : List EventMark). sum_by x l) (alike (lane_marks []) (now_marks false) a
     (λ (q : ℕ) (below : q < length a.lanes).
-    waiting_alike (λ i st. fate_behind q i st (lane_of a q).reached []) (λ i st. fate_now false (nat_le i (lane_of a q).reached) st)
-    (λ (i : ℕ) (st : Bool). end_fate q i (lane_of a q).reached st) (lane_of a q).stored (lane_of a q).waiting)))
+    waiting_alike (λ i. fate_behind q i (lane_of a q).reached (lane_of a q).progress [])
+    (λ i. fate_now false (nat_le i (lane_of a q).reached) (nat_le i (lane_of a q).progress.safe))
+    (λ (i : ℕ). end_fate q i (lane_of a q).reached (lane_of a q).progress) (lane_of a q).waiting)))
     ∙ before.marks [] x
 
 -- ---- the start
@@ -650,7 +609,7 @@ new_sketch n first shapes hs edge none count new few is inside most =
       inside = inside;
       room = omega arith;
       lanes = λ (p : ℕ) (below : p < n). subst (λ (l : LaneState). IsLaneOf p [] l) (sym (new_at hs p new))
-          (record { interval = refl; ended = refl; loose = refl; held = refl; reached = refl });
+          (record { progress = refl; ended = refl; held = refl; reached = refl });
       marks = λ (later : List EventRow) (x : EventMark → ℕ).
           ap (λ (l : List EventMark). sum_by x l) (no_lanes (lane_marks later) s (λ (q : ℕ) (below : q < length s.lanes).
           ap (λ (l : LaneState). lane_marks later q l) (new_at hs q new))

@@ -11,7 +11,7 @@ use Rattle.std.proofs.lemmas.List.{append-nil, drop-append-le, drop_all, drop_mo
 use Rattle.std.proofs.lemmas.List.Sums.{sum_by-append}
 use Rattle.std.proofs.lemmas.Result.{on_ok_weaker}
 use Rattle.om_picture.specs.Drawing.{Edge, LaneState, Sketch, all_marks, held_in, held_of, lane_in, lane_of, lanes_marks, late_marks, mark_marks, new_lane, waiting_marks}
-use Rattle.om_picture.specs.Fates.{EventAt, EventRow, Fate}
+use Rattle.om_picture.specs.Fates.{EventAt, EventRow, Fate, Progress}
 use Rattle.om_picture.specs.Held.{Held, covered_by, is_any_elsewhere, is_elsewhere, left_behind}
 use Rattle.om_picture.specs.Marks.{EventMark, Kind, Made, Stands, kind_drawn, mark_of, output_marks, released_at, shape_marks, title_entry}
 use Rattle.om_sheet.specs.Shows.{shown}
@@ -164,20 +164,19 @@ taken_keeps v Turn a b c p more t s was = record {
 }
 
 -- what waits on a lane comes to its first mark and the rest
-takes_marks : (f : ℕ → ℕ → Bool → Fate) (mark : Mark) (a b : LaneState) → Takes mark a b
-    → waiting_marks (f a.reached) a.stored a.waiting
-    ≡ mark_marks mark (f a.reached mark.interval (nat_lt 0 a.stored)) ++ waiting_marks (f b.reached) b.stored b.waiting
+takes_marks : (f : ℕ → Progress → ℕ → Fate) (mark : Mark) (a b : LaneState) → Takes mark a b
+    → waiting_marks (f a.reached a.progress) a.waiting
+    ≡ mark_marks mark (f a.reached a.progress mark.interval) ++ waiting_marks (f b.reached b.progress) b.waiting
 takes_marks f mark a b t =
-    let head : List EventMark = mark_marks mark (f a.reached mark.interval (nat_lt 0 a.stored)) in
-    ap (λ (l : List Mark). waiting_marks (f a.reached) a.stored l) t.was
-    ∙ ap (λ (n : ℕ). head ++ waiting_marks (f a.reached) n b.waiting) (sym (ap (λ (l : LaneState). l.stored) t.lane))
-    ∙ ap (λ (n : ℕ). head ++ waiting_marks (f n) b.stored b.waiting) (sym (ap (λ (l : LaneState). l.reached) t.lane))
+    let head : List EventMark = mark_marks mark (f a.reached a.progress mark.interval) in
+    ap (λ (l : List Mark). waiting_marks (f a.reached a.progress) l) t.was
+    ∙ ap (λ (w : Progress). head ++ waiting_marks (f a.reached w) b.waiting) (sym (ap (λ (l : LaneState). l.progress) t.lane))
+    ∙ ap (λ (n : ℕ). head ++ waiting_marks (f n b.progress) b.waiting) (sym (ap (λ (l : LaneState). l.reached) t.lane))
 
 takes_stays : (mark : Mark) (a b : LaneState) → Takes mark a b → Stays a b
 takes_stays mark a b t = record {
-  interval = ap (λ (l : LaneState). l.interval) t.lane;
+  progress = ap (λ (l : LaneState). l.progress) t.lane;
   ended = ap (λ (l : LaneState). l.ended) t.lane;
-  loose = ap (λ (l : LaneState). l.loose) t.lane;
   reached = ap (λ (l : LaneState). l.reached) t.lane;
 }
 
@@ -186,10 +185,10 @@ raised_marks : (row : EventRow) (later : List EventRow) (p place : ℕ) (a b : L
     → amid_marks row later p b ≡ amid_marks row later p a
 raised_marks row later p place a b is raised =
     ap (λ (l : LaneState). amid_marks row later p l) raised
-    ∙ waiting_alike (λ i stored. fate_amid row later p i stored (max a.reached place))
-    (λ i stored. fate_amid row later p i stored a.reached)
-    (λ (i : ℕ) (stored : Bool).
-    ap (λ (n : ℕ). fate_amid row later p i stored (max a.reached n)) is ∙ amid_again row later p i a.reached stored) a.stored a.waiting
+    ∙ waiting_alike (λ i. fate_amid row later p i (max a.reached place) a.progress)
+    (λ i. fate_amid row later p i a.reached a.progress)
+    (λ (i : ℕ).
+    ap (λ (n : ℕ). fate_amid row later p i (max a.reached n) a.progress) is ∙ amid_again row later p i a.reached a.progress) a.waiting
 
 pub learn_first : (row : EventRow) (a b : Sketch) (p place : ℕ) → place ≡ slice_index row.recovery p → Turns (Raises place) a b p
     → Learning row false a b p
@@ -199,9 +198,8 @@ learn_first row a b p place is t =
       keeps = λ (later : List EventRow). turn_keeps (amid_marks row later) (Raises place) a b p t
           (raised_marks row later p place (lane_of a p) (lane_of b p) is t.turn);
       here = record {
-        interval = ap (λ (l : LaneState). l.interval) t.turn;
+        progress = ap (λ (l : LaneState). l.progress) t.turn;
         ended = ap (λ (l : LaneState). l.ended) t.turn;
-        loose = ap (λ (l : LaneState). l.loose) t.turn;
         reached = ap (λ (l : LaneState). l.reached) t.turn ∙ ap (λ (n : ℕ). max (lane_of a p).reached n) is;
       };
       left = ap (λ (l : List Held). left_behind (lane_of b p).reached l) (sym same);
@@ -213,15 +211,14 @@ learn_first row a b p place is t =
 covered_marks : (row : EventRow) (later : List EventRow) (p : ℕ) (mark : Mark) (a b : LaneState) → TakesCovered mark a b
     → amid_marks row later p a ≡ mark_marks mark kept ++ amid_marks row later p b
 covered_marks row later p mark a b t =
-    takes_marks (λ was i stored. fate_amid row later p i stored was) mark a b t.takes
+    takes_marks (λ was now i. fate_amid row later p i was now) mark a b t.takes
     ∙ ap (λ (f : Fate). mark_marks mark f ++ amid_marks row later p b)
-    (kept_amid row later p mark.interval a.reached (nat_lt 0 a.stored) t.covered)
+    (kept_amid row later p mark.interval a.reached a.progress t.covered)
 
 told_still : (place : ℕ) (a b c : LaneState) → Told place a b → Stays b c → Told place a c
 told_still place a b c p q = record {
-  interval = q.interval ∙ p.interval;
+  progress = q.progress ∙ p.progress;
   ended = q.ended ∙ p.ended;
-  loose = q.loose ∙ p.loose;
   reached = q.reached ∙ p.reached;
 }
 
@@ -390,20 +387,20 @@ learns_all row a b p count below = record {
 first_marks : (finished : Bool) (p : ℕ) (next : Next) (a b : LaneState) → TakesFirst next a b
     → now_marks finished p a ≡ mark_marks next.mark (fate_now finished next.covered next.stored) ++ now_marks finished p b
 first_marks finished p next a b t =
-    takes_marks (λ reached i stored. fate_now finished (nat_le i reached) stored) next.mark a b t.takes
-    ∙ ap (λ (x : Bool). mark_marks next.mark (fate_now finished x (nat_lt 0 a.stored)) ++ now_marks finished p b) (sym t.covered)
+    takes_marks (λ reached now i. fate_now finished (nat_le i reached) (nat_le i now.safe)) next.mark a b t.takes
+    ∙ ap (λ (x : Bool). mark_marks next.mark (fate_now finished x (nat_le next.mark.interval a.progress.safe)) ++ now_marks finished p b)
+    (sym t.covered)
     ∙ ap (λ (x : Bool). mark_marks next.mark (fate_now finished next.covered x) ++ now_marks finished p b) (sym t.stored)
 
 stays_then : (a b c : LaneState) → Stays a b → Stays b c → Stays a c
 stays_then a b c p q = record {
-  interval = q.interval ∙ p.interval;
+  progress = q.progress ∙ p.progress;
   ended = q.ended ∙ p.ended;
-  loose = q.loose ∙ p.loose;
   reached = q.reached ∙ p.reached;
 }
 
 stays : (a : LaneState) → Stays a a
-stays a = record { interval = refl; ended = refl; loose = refl; reached = refl }
+stays a = record { progress = refl; ended = refl; reached = refl }
 
 pub settles_start : (finished : Bool) (a : Sketch) (p : ℕ) → SettlesSome finished a a p
 settles_start finished a p = record { keeps = keeps_none (now_marks finished) a; here = stays (lane_of a p); others = λ q away. refl }
@@ -549,32 +546,26 @@ past_covered hs p past =
     ap (λ (ms : List Mark). covered_by (get_or (map lane_in hs) p new_lane).reached (map held_of ms)) (past_lane hs p past)
 
 -- what a history adds and takes
-pub lane_more : (r : Result (Unit {0}) AllocError) (interval : ℕ) (ended loose : Bool) (reached : ℕ) (items more one : List Mark)
-    (stored settled : ℕ) (mark : Mark) → settled ≤ length items → stored ≤ length items → one ≡ mark ∷ []
+pub lane_more : (r : Result (Unit {0}) AllocError) (progress : Progress) (ended : Bool) (reached : ℕ) (items more one : List Mark)
+    (settled : ℕ) (mark : Mark) → settled ≤ length items → one ≡ mark ∷ []
     → more ≡ (if is_ok r then items ++ one else items)
     → OnOk r (IsMore mark
-    (record { interval = interval; ended = ended; loose = loose; reached = reached; stored = stored - settled; waiting = drop settled items })
-    (record { interval = interval; ended = ended; loose = loose; reached = reached; stored = stored - settled; waiting = drop settled more }))
-lane_more (Ok x) interval ended loose reached items more one stored settled mark there few is added =
-    let long = length-drop settled items in
-    record {
-      few = omega arith;
-      lane = ap (λ (l : List Mark). let lane : LaneState =
-          record { interval = interval; ended = ended; loose = loose; reached = reached; stored = stored - settled; waiting = l } in lane)
-          (ap (drop settled) (added ∙ ap (λ (l : List Mark). items ++ l) is) ∙ drop-append-le settled items (mark ∷ []) there);
-    }
-lane_more (Err e) interval ended loose reached items more one stored settled mark there few is added = tt
+    (record { progress = progress; ended = ended; reached = reached; waiting = drop settled items })
+    (record { progress = progress; ended = ended; reached = reached; waiting = drop settled more }))
+lane_more (Ok x) progress ended reached items more one settled mark there is added =
+    ap (λ (l : List Mark). let lane : LaneState =
+    record { progress = progress; ended = ended; reached = reached; waiting = l } in lane)
+    (ap (drop settled) (added ∙ ap (λ (l : List Mark). items ++ l) is) ∙ drop-append-le settled items (mark ∷ []) there)
+lane_more (Err e) progress ended reached items more one settled mark there is added = tt
 
-pub lane_takes : (interval : ℕ) (ended loose : Bool) (reached : ℕ) (items : List Mark) (stored settled : ℕ) (mark : Mark)
+pub lane_takes : (progress : Progress) (ended : Bool) (reached : ℕ) (items : List Mark) (settled : ℕ) (mark : Mark)
     → settled < length items → mark ≡ get_or items settled mark
     → Takes mark
-    (record { interval = interval; ended = ended; loose = loose; reached = reached; stored = stored - settled; waiting = drop settled items })
-    (record { interval = interval; ended = ended; loose = loose; reached = reached; stored = stored - (settled + 1); waiting = drop (settled + 1) items })
-lane_takes interval ended loose reached items stored settled mark there is = record {
+    (record { progress = progress; ended = ended; reached = reached; waiting = drop settled items })
+    (record { progress = progress; ended = ended; reached = reached; waiting = drop (settled + 1) items })
+lane_takes progress ended reached items settled mark there is = record {
   was = drop_more items settled mark there ∙ ap (λ (m : Mark). m ∷ drop (settled + 1) items) (sym is);
-  lane = ap (λ (n : ℕ). let lane : LaneState =
-      record { interval = interval; ended = ended; loose = loose; reached = reached; stored = n; waiting = drop (settled + 1) items } in lane)
-      (let less : stored - (settled + 1) ≡ (stored - settled) - 1 = omega arith in less);
+  lane = refl;
 }
 
 pub first_beyond : (reached : ℕ) (items : List Mark) (settled : ℕ) (mark : Mark) → settled < length items → mark ≡ get_or items settled mark
@@ -635,6 +626,7 @@ late_both (shows.Resend sent) fresh fate entry = refl
 late_both (shows.Receipt frame interval) fresh fate entry = refl
 late_both (shows.Refused frame) fresh fate entry = refl
 late_both shows.Flush fresh fate entry = refl
+late_both (shows.FlushFirst count) fresh fate entry = refl
 late_both shows.Checkpoint fresh fate entry = refl
 late_both (shows.Failure declared) fresh fate entry = refl
 late_both shows.Join fresh fate entry = refl

@@ -1,20 +1,20 @@
 -- What an event shows on the lane of its process.
-use Rattle.std.proofs.Common.{◌≡◌, ◌∙◌, ◌<◌, ◌≤◌, ◌==◌, ◌||◌, ℕ, Bool, true, false, not, if◌then◌else◌, is_some, List, [], ◌∷◌, ◌++◌, Option, Some, Result, OnOk, length, map, set, refl, ap, sym, subst, arith}
+use Rattle.std.proofs.Common.{◌≡◌, ◌∙◌, ◌<◌, ◌≤◌, ◌==◌, ◌||◌, ℕ, Bool, true, false, not, if◌then◌else◌, is_some, List, [], ◌∷◌, ◌++◌, Option, Some, None, Result, OnOk, length, map, set, refl, ap, sym, subst, arith}
 use Rattle.std.specs.declared.alloc.AllocError.{AllocError}
 use Rattle.std.proofs.lemmas.List.{append-nil, map-append, set-get_or, set-set}
 use Rattle.std.proofs.lemmas.Result.{on_ok_weaker}
 use Rattle.om_process.specs.declared.status.Status.{Status}
 use Rattle.om_picture.specs.Drawing.{LaneState, Sketch, held_in, held_of, lane_of, late_marks, mark_marks, new_lane, waiting_marks}
-use Rattle.om_picture.specs.Fates.{EventAt, Fate, step_entry}
+use Rattle.om_picture.specs.Fates.{EventAt, Fate, Progress, has_loose, saved, step_entry}
 use Rattle.om_picture.specs.Held.{Held, may_wait}
-use Rattle.om_picture.specs.Marks.{CameBack, EventMark, Failed, Joined, Logged, Released, fated_marks, log_marks, mark_of, released_at, sure_marks, title_entry}
+use Rattle.om_picture.specs.Marks.{CameBack, EventMark, Joined, Logged, Released, fated_marks, log_marks, mark_of, released_at, sure_marks, title_entry}
 use Rattle.om_picture.specs.declared.history.Mark.{Mark}
 use Rattle.om_sheet.specs.declared.sheet.Spot.{Spot}
 use Rattle.om_sheet.specs.declared.sheet.Title.{Title}
 use Rattle.om_sheet.specs.declared.shown.Shown.{Shown}
 use Rattle.om_sheet.specs.declared.shown.Shown.TheVariants as shows
 use Rattle.om_sheet.specs.declared.step.Step.{Step}
-use Rattle.om_picture.specs.steps.Adding.{Ends, GoesBack, IsMore, LaneShows, Logs, Loses, Receives, Settles, Shows, Stores, Turns, Waits, ended_shown, interval_shown, is_stored_by, loose_shown}
+use Rattle.om_picture.specs.steps.Adding.{Ends, GoesBack, IsMore, LaneShows, Logs, Receives, Settles, Shows, Stores, Turns, Waits, ended_shown, progress_shown}
 use Rattle.om_picture.proofs.FateLemmas.{waiting_more}
 use Rattle.om_picture.proofs.LaneLemmas.{settled_lane, settles_none, settles_then}
 
@@ -33,81 +33,75 @@ none_more on l = sym (append-nil l) ∙ ap (λ (m : List EventMark). l ++ m) (no
 -- a mark that waits
 late_waits : (on : Bool) (x : ℕ) (s : Shown) (fresh : ℕ) (entry : EventAt) (a b : LaneState) → (x == 0) ≡ not on
     → ((fate : Fate) → late_marks s fresh fate entry ≡ fated_marks s fresh fate entry) → Waits x s fresh entry a b
-    → (fate : ℕ → Bool → Fate) → waiting_marks fate b.stored b.waiting
-    ≡ waiting_marks fate b.stored a.waiting ++ (if on then fated_marks s fresh (fate b.interval false) entry else [])
+    → (fate : ℕ → Fate) → waiting_marks fate b.waiting
+    ≡ waiting_marks fate a.waiting ++ (if on then fated_marks s fresh (fate b.progress.interval) entry else [])
 late_waits on x s fresh entry a b there late waits fate =
     let mark : Mark = waits.0 in
     let more : IsMore mark a b = waits.1 in
-    let same : b.stored ≡ a.stored = ap (λ (l : LaneState). l.stored) more.lane in
-    let few : b.stored ≤ length a.waiting = (let h = more.few in omega arith) in
-    let interval : mark.interval ≡ b.interval = waits.3 ∙ sym (ap (λ (l : LaneState). l.interval) more.lane) in
-    let one : mark_marks mark (fate mark.interval false) ≡ (if on then fated_marks s fresh (fate b.interval false) entry else []) =
-    ap (λ (n : ℕ). if n == 0 then [] else late_marks mark.shown mark.fresh (fate mark.interval false) (title_entry mark.title mark.at)) waits.2
-    ∙ ap (λ (n : ℕ). if x == 0 then [] else late_marks mark.shown mark.fresh (fate n false) (title_entry mark.title mark.at)) interval
-    ∙ ap (λ (t : Shown). if x == 0 then [] else late_marks t mark.fresh (fate b.interval false) (title_entry mark.title mark.at)) waits.4
-    ∙ ap (λ (n : ℕ). if x == 0 then [] else late_marks s n (fate b.interval false) (title_entry mark.title mark.at)) waits.5
-    ∙ ap (λ (e : EventAt). if x == 0 then [] else late_marks s fresh (fate b.interval false) e) waits.6
-    ∙ ap (λ (l : List EventMark). if x == 0 then [] else l) (late (fate b.interval false))
-    ∙ placed on x (fated_marks s fresh (fate b.interval false) entry) there in
-    ap (λ (l : List Mark). waiting_marks fate b.stored l) (ap (λ (l : LaneState). l.waiting) more.lane)
-    ∙ waiting_more fate b.stored a.waiting mark few
-    ∙ ap (λ (l : List EventMark). waiting_marks fate b.stored a.waiting ++ l) one
+    let its : Fate = fate b.progress.interval in
+    let interval : mark.interval ≡ b.progress.interval = waits.3 ∙ sym (ap (λ (l : LaneState). l.progress.interval) more) in
+    let one : mark_marks mark (fate mark.interval) ≡ (if on then fated_marks s fresh its entry else []) =
+    ap (λ (n : ℕ). if n == 0 then [] else late_marks mark.shown mark.fresh (fate mark.interval) (title_entry mark.title mark.at)) waits.2
+    ∙ ap (λ (n : ℕ). if x == 0 then [] else late_marks mark.shown mark.fresh (fate n) (title_entry mark.title mark.at)) interval
+    ∙ ap (λ (t : Shown). if x == 0 then [] else late_marks t mark.fresh its (title_entry mark.title mark.at)) waits.4
+    ∙ ap (λ (n : ℕ). if x == 0 then [] else late_marks s n its (title_entry mark.title mark.at)) waits.5
+    ∙ ap (λ (e : EventAt). if x == 0 then [] else late_marks s fresh its e) waits.6
+    ∙ ap (λ (l : List EventMark). if x == 0 then [] else l) (late its)
+    ∙ placed on x (fated_marks s fresh its entry) there in
+    ap (λ (l : List Mark). waiting_marks fate l) (ap (λ (l : LaneState). l.waiting) more)
+    ∙ waiting_more fate a.waiting mark
+    ∙ ap (λ (l : List EventMark). waiting_marks fate a.waiting ++ l) one
 
 late_held : (x : ℕ) (s : Shown) (fresh : ℕ) (entry : EventAt) (a b c : LaneState) → may_wait s ≡ true → b.waiting ≡ a.waiting
     → Waits x s fresh entry b c
-    → held_in c ≡ held_in a ++ (if may_wait s then record { interval = c.interval; fresh = fresh; x = entry.at.x } ∷ [] else [])
+    → held_in c ≡ held_in a ++ (if may_wait s then record { interval = c.progress.interval; fresh = fresh; x = entry.at.x } ∷ [] else [])
 late_held x s fresh entry a b c some waiting waits =
     let mark : Mark = waits.0 in
     let more : IsMore mark b c = waits.1 in
-    let one : List Held = record { interval = c.interval; fresh = fresh; x = entry.at.x } ∷ [] in
-    let interval : mark.interval ≡ c.interval = waits.3 ∙ sym (ap (λ (l : LaneState). l.interval) more.lane) in
+    let one : List Held = record { interval = c.progress.interval; fresh = fresh; x = entry.at.x } ∷ [] in
+    let interval : mark.interval ≡ c.progress.interval = waits.3 ∙ sym (ap (λ (l : LaneState). l.progress.interval) more) in
     let x_is : mark.at.x ≡ entry.at.x = ap (λ (e : EventAt). e.at.x) waits.6 in
     let added : held_of mark ∷ [] ≡ one =
     ap (λ (n : ℕ). let h : List Held = record { interval = n; fresh = mark.fresh; x = mark.at.x } ∷ [] in h) interval
-    ∙ ap (λ (n : ℕ). let h : List Held = record { interval = c.interval; fresh = n; x = mark.at.x } ∷ [] in h) waits.5
-    ∙ ap (λ (n : ℕ). let h : List Held = record { interval = c.interval; fresh = fresh; x = n } ∷ [] in h) x_is in
-    ap (λ (l : LaneState). held_in l) more.lane ∙ map-append held_of b.waiting (mark ∷ [])
+    ∙ ap (λ (n : ℕ). let h : List Held = record { interval = c.progress.interval; fresh = n; x = mark.at.x } ∷ [] in h) waits.5
+    ∙ ap (λ (n : ℕ). let h : List Held = record { interval = c.progress.interval; fresh = fresh; x = n } ∷ [] in h) x_is in
+    ap (λ (l : LaneState). held_in l) more ∙ map-append held_of b.waiting (mark ∷ [])
     ∙ ap (λ (l : List Mark). map held_of l ++ held_of mark ∷ []) waiting
     ∙ ap (λ (l : List Held). held_in a ++ l) added
     ∙ ap (λ (w : Bool). held_in a ++ (if w then one else [])) (sym some)
 
 late_lane : (on : Bool) (x : ℕ) (s : Shown) (fresh : ℕ) (entry : EventAt) (a b c : LaneState) → (x == 0) ≡ not on
-    → ((fate : Fate) → late_marks s fresh fate entry ≡ fated_marks s fresh fate entry) → is_stored_by s ≡ false → may_wait s ≡ true
-    → b.interval ≡ interval_shown a.interval s → b.ended ≡ ended_shown a.ended s → b.loose ≡ loose_shown a.loose s
-    → b.reached ≡ a.reached → b.stored ≡ a.stored → b.waiting ≡ a.waiting → Waits x s fresh entry b c → LaneShows on s fresh entry a c
-late_lane on x s fresh entry a b c there late not_stored some interval ended loose reached stored waiting waits = record {
-  interval = ap (λ (l : LaneState). l.interval) waits.1.lane ∙ interval;
-  ended = ap (λ (l : LaneState). l.ended) waits.1.lane ∙ ended;
-  loose = ap (λ (l : LaneState). l.loose) waits.1.lane ∙ loose;
-  reached = ap (λ (l : LaneState). l.reached) waits.1.lane ∙ reached;
-  stored = ap (λ (l : LaneState). l.stored) waits.1.lane ∙ stored
-      ∙ sym (ap (λ (b : Bool). if b then length a.waiting else a.stored) not_stored);
+    → ((fate : Fate) → late_marks s fresh fate entry ≡ fated_marks s fresh fate entry) → may_wait s ≡ true
+    → b.progress ≡ progress_shown a.progress s → b.ended ≡ ended_shown a.ended s
+    → b.reached ≡ a.reached → b.waiting ≡ a.waiting → Waits x s fresh entry b c → LaneShows on s fresh entry a c
+late_lane on x s fresh entry a b c there late some progress ended reached waiting waits = record {
+  progress = ap (λ (l : LaneState). l.progress) waits.1 ∙ progress;
+  ended = ap (λ (l : LaneState). l.ended) waits.1 ∙ ended;
+  reached = ap (λ (l : LaneState). l.reached) waits.1 ∙ reached;
   held = late_held x s fresh entry a b c some waiting waits;
-  waits = λ (fate : ℕ → Bool → Fate).
+  waits = λ (fate : ℕ → Fate).
       late_waits on x s fresh entry b c there late waits fate
-      ∙ ap (λ (l : List Mark). waiting_marks fate c.stored l ++ (if on then fated_marks s fresh (fate c.interval false) entry else []))
+      ∙ ap (λ (l : List Mark). waiting_marks fate l ++ (if on then fated_marks s fresh (fate c.progress.interval) entry else []))
       waiting;
 }
 
 -- none that waits
 still_lane : (on : Bool) (s : Shown) (fresh : ℕ) (entry : EventAt) (a b : LaneState)
     → ((fate : Fate) → [] ≡ fated_marks s fresh fate entry) → may_wait s ≡ false
-    → b.interval ≡ interval_shown a.interval s → b.ended ≡ ended_shown a.ended s → b.loose ≡ loose_shown a.loose s
-    → b.reached ≡ a.reached → b.stored ≡ (if is_stored_by s then length a.waiting else a.stored) → b.waiting ≡ a.waiting → LaneShows on s fresh entry a b
-still_lane on s fresh entry a b none not_held interval ended loose reached stored waiting = record {
-  interval = interval;
+    → b.progress ≡ progress_shown a.progress s → b.ended ≡ ended_shown a.ended s → b.reached ≡ a.reached → b.waiting ≡ a.waiting
+    → LaneShows on s fresh entry a b
+still_lane on s fresh entry a b none not_held progress ended reached waiting = record {
+  progress = progress;
   ended = ended;
-  loose = loose;
   reached = reached;
-  stored = stored;
   held =
       ap (λ (l : List Mark). map held_of l) waiting ∙ sym (append-nil (held_in a))
       ∙ ap (λ (w : Bool). held_in a
-      ++ (if w then record { interval = b.interval; fresh = fresh; x = entry.at.x } ∷ [] else [])) (sym not_held);
-  waits = λ (fate : ℕ → Bool → Fate).
-      ap (λ (l : List Mark). waiting_marks fate b.stored l) waiting
-      ∙ none_more on (waiting_marks fate b.stored a.waiting)
-      ∙ ap (λ (l : List EventMark). waiting_marks fate b.stored a.waiting ++ (if on then l else [])) (none (fate b.interval false));
+      ++ (if w then record { interval = b.progress.interval; fresh = fresh; x = entry.at.x } ∷ [] else [])) (sym not_held);
+  waits = λ (fate : ℕ → Fate).
+      ap (λ (l : List Mark). waiting_marks fate l) waiting
+      ∙ none_more on (waiting_marks fate a.waiting)
+      ∙ ap (λ (l : List EventMark). waiting_marks fate a.waiting ++ (if on then l else [])) (none (fate b.progress.interval));
 }
 
 -- ---- pictures
@@ -122,7 +116,7 @@ turn_none s p within = record {
 }
 
 shows_of : (s : Shown) (fresh : ℕ) (entry : EventAt) (Turn : LaneState → LaneState → Type 0) (a b c : Sketch) (p : ℕ) (more : List EventMark)
-    → Turns Turn a b p → Settles b c more → more ≡ (if a.on then sure_marks (lane_of a p).loose s entry else [])
+    → Turns Turn a b p → Settles b c more → more ≡ (if a.on then sure_marks (has_loose (lane_of a p).progress) s entry else [])
     → LaneShows a.on s fresh entry (lane_of a p) (lane_of b p) → Shows a c p s fresh entry
 shows_of s fresh entry Turn a b c p more t settled is lane =
     let same : lane_of c p ≡ lane_of b p = settled_lane b c more settled p in
@@ -137,7 +131,7 @@ shows_of s fresh entry Turn a b c p more t settled is lane =
 
 -- an event whose mark waits
 late_shows : (s : Shown) (fresh : ℕ) (entry : EventAt) (Turn : LaneState → LaneState → Type 0) (a b c : Sketch) (p x : ℕ) → Turns Turn a b p
-    → Turns (Waits x s fresh entry) b c p → [] ≡ sure_marks (lane_of a p).loose s entry
+    → Turns (Waits x s fresh entry) b c p → [] ≡ sure_marks (has_loose (lane_of a p).progress) s entry
     → LaneShows a.on s fresh entry (lane_of a p) (lane_of c p) → Shows a c p s fresh entry
 late_shows s fresh entry Turn a b c p x t w none lane =
     record {
@@ -153,7 +147,7 @@ late_shows s fresh entry Turn a b c p x t w none lane =
 pub nothing_shown : (s : Sketch) (p fresh : ℕ) (entry : EventAt) → p < length s.lanes → Shows s s p shows.Nothing fresh entry
 nothing_shown s p fresh entry within =
     shows_of shows.Nothing fresh entry (λ a b. b ≡ a) s s s p [] (turn_none s p within) (settles_none s) (none_if s.on)
-    (still_lane s.on shows.Nothing fresh entry (lane_of s p) (lane_of s p) (λ fate. refl) refl refl refl refl refl refl refl)
+    (still_lane s.on shows.Nothing fresh entry (lane_of s p) (lane_of s p) (λ fate. refl) refl refl refl refl refl)
 
 pub run_shown : (r : Result (Unit {0}) AllocError) (a b c : Sketch) (p x sent made fresh : ℕ) (ends : Option Status) (ended : Bool)
     (entry : EventAt)
@@ -163,11 +157,10 @@ pub run_shown : (r : Result (Unit {0}) AllocError) (a b c : Sketch) (p x sent ma
 run_shown r a b c p x sent made fresh ends ended entry is there t waits =
     let s : Shown = shows.Run sent made ends in
     on_ok_weaker r (λ (w : Turns (Waits x s fresh entry) b c p). late_shows s fresh entry (Ends ended) a b c p x t w refl
-    (late_lane a.on x s fresh entry (lane_of a p) (lane_of b p) (lane_of c p) there (λ fate. refl) refl refl
-    (ap (λ (l : LaneState). l.interval) t.turn)
+    (late_lane a.on x s fresh entry (lane_of a p) (lane_of b p) (lane_of c p) there (λ fate. refl) refl
+    (ap (λ (l : LaneState). l.progress) t.turn)
     (ap (λ (l : LaneState). l.ended) t.turn ∙ ap (λ (e : Bool). (lane_of a p).ended || e) is)
-    (ap (λ (l : LaneState). l.loose) t.turn)
-    (ap (λ (l : LaneState). l.reached) t.turn) (ap (λ (l : LaneState). l.stored) t.turn) (ap (λ (l : LaneState). l.waiting) t.turn) w.turn)) waits
+    (ap (λ (l : LaneState). l.reached) t.turn) (ap (λ (l : LaneState). l.waiting) t.turn) w.turn)) waits
 
 pub resend_shown : (r : Result (Unit {0}) AllocError) (a c : Sketch) (p x sent fresh : ℕ) (entry : EventAt) → p < length a.lanes
     → (x == 0) ≡ not a.on → OnOk r (Turns (Waits x (shows.Resend sent) fresh entry) a c p)
@@ -176,7 +169,7 @@ resend_shown r a c p x sent fresh entry within there waits =
     let s : Shown = shows.Resend sent in
     on_ok_weaker r (λ (w : Turns (Waits x s fresh entry) a c p). late_shows s fresh entry (λ x y. y ≡ x) a a c p x (turn_none a p within) w
     refl
-    (late_lane a.on x s fresh entry (lane_of a p) (lane_of a p) (lane_of c p) there (λ fate. refl) refl refl refl refl refl refl refl refl w.turn))
+    (late_lane a.on x s fresh entry (lane_of a p) (lane_of a p) (lane_of c p) there (λ fate. refl) refl refl refl refl refl w.turn))
     waits
 
 pub checkpoint_shown : (r : Result (Unit {0}) AllocError) (a c : Sketch) (p x fresh : ℕ) (entry : EventAt) → p < length a.lanes
@@ -186,7 +179,7 @@ checkpoint_shown r a c p x fresh entry within there waits =
     let s : Shown = shows.Checkpoint in
     on_ok_weaker r (λ (w : Turns (Waits x s fresh entry) a c p). late_shows s fresh entry (λ x y. y ≡ x) a a c p x (turn_none a p within) w
     refl
-    (late_lane a.on x s fresh entry (lane_of a p) (lane_of a p) (lane_of c p) there (λ fate. refl) refl refl refl refl refl refl refl refl w.turn))
+    (late_lane a.on x s fresh entry (lane_of a p) (lane_of a p) (lane_of c p) there (λ fate. refl) refl refl refl refl refl w.turn))
     waits
 
 pub receipt_shown : (r : Result (Unit {0}) AllocError) (a b c : Sketch) (p x frame interval fresh : ℕ) (entry : EventAt)
@@ -196,30 +189,29 @@ pub receipt_shown : (r : Result (Unit {0}) AllocError) (a b c : Sketch) (p x fra
 receipt_shown r a b c p x frame interval fresh entry there t waits =
     let s : Shown = shows.Receipt frame interval in
     on_ok_weaker r (λ (w : Turns (Waits x s fresh entry) b c p). late_shows s fresh entry (Receives interval) a b c p x t w refl
-    (late_lane a.on x s fresh entry (lane_of a p) (lane_of b p) (lane_of c p) there (λ fate. refl) refl refl
-    (ap (λ (l : LaneState). l.interval) t.turn) (ap (λ (l : LaneState). l.ended) t.turn) (ap (λ (l : LaneState). l.loose) t.turn)
-    (ap (λ (l : LaneState). l.reached) t.turn) (ap (λ (l : LaneState). l.stored) t.turn) (ap (λ (l : LaneState). l.waiting) t.turn) w.turn)) waits
+    (late_lane a.on x s fresh entry (lane_of a p) (lane_of b p) (lane_of c p) there (λ fate. refl) refl
+    (ap (λ (l : LaneState). l.progress) t.turn) (ap (λ (l : LaneState). l.ended) t.turn)
+    (ap (λ (l : LaneState). l.reached) t.turn) (ap (λ (l : LaneState). l.waiting) t.turn) w.turn)) waits
 
 -- an event whose mark is drawn at once
 pub sure_shown : (r : Result (Unit {0}) AllocError) (s : Shown) (fresh : ℕ) (entry : EventAt) (more : List EventMark) (a c : Sketch) (p : ℕ)
     → p < length a.lanes → ((loose : Bool) → more ≡ sure_marks loose s entry) → ((fate : Fate) → [] ≡ fated_marks s fresh fate entry)
-    → ((was : ℕ) → was ≡ interval_shown was s) → ((was : Bool) → was ≡ ended_shown was s)
-    → ((was : Bool) → was ≡ loose_shown was s) → is_stored_by s ≡ false → may_wait s ≡ false
+    → ((was : Progress) → was ≡ progress_shown was s) → ((was : Bool) → was ≡ ended_shown was s) → may_wait s ≡ false
     → OnOk r (Settles a c (if a.on then more else [])) → OnOk r (Shows a c p s fresh entry)
-sure_shown r s fresh entry more a c p within is none interval ended loose not_stored not_held settles =
+sure_shown r s fresh entry more a c p within is none progress ended not_held settles =
     on_ok_weaker r (λ (m : Settles a c (if a.on then more else [])).
     shows_of s fresh entry (λ x y. y ≡ x) a a c p (if a.on then more else []) (turn_none a p within) m
-    (ap (λ (l : List EventMark). if a.on then l else []) (is (lane_of a p).loose))
-    (still_lane a.on s fresh entry (lane_of a p) (lane_of a p) none not_held (interval (lane_of a p).interval) (ended (lane_of a p).ended)
-    (loose (lane_of a p).loose) refl
-    (sym (ap (λ (b : Bool). if b then length (lane_of a p).waiting else (lane_of a p).stored) not_stored)) refl)) settles
+    (ap (λ (l : List EventMark). if a.on then l else []) (is (has_loose (lane_of a p).progress)))
+    (still_lane a.on s fresh entry (lane_of a p) (lane_of a p) none not_held (progress (lane_of a p).progress) (ended (lane_of a p).ended)
+    refl refl)) settles
 
 -- receipts that are stored
-pub logged_some : (r : Result (Unit {0}) AllocError) (a b c : Sketch) (p : ℕ) (entry : EventAt) → Turns Stores a b p
-    → true ≡ (lane_of a p).loose → OnOk r (Settles b c (if b.on then mark_of (Some Logged) false entry else []))
-    → OnOk r (Logs entry a c p)
-logged_some r a b c p entry t some settles =
-    let same : (if b.on then mark_of (Some Logged) false entry else []) ≡ (if a.on then log_marks (lane_of a p).loose entry else []) =
+pub logged_some : (r : Result (Unit {0}) AllocError) (many : Option ℕ) (a b c : Sketch) (p : ℕ) (entry : EventAt) → Turns (Stores many) a b p
+    → true ≡ has_loose (lane_of a p).progress → OnOk r (Settles b c (if b.on then mark_of (Some Logged) false entry else []))
+    → OnOk r (Logs many entry a c p)
+logged_some r many a b c p entry t some settles =
+    let same : (if b.on then mark_of (Some Logged) false entry else [])
+    ≡ (if a.on then log_marks (has_loose (lane_of a p).progress) entry else []) =
     ap (λ (on : Bool). if on then mark_of (Some Logged) false entry else []) t.on
     ∙ ap (λ (loose : Bool). if a.on then log_marks loose entry else []) some in
     on_ok_weaker r (λ (s : Settles b c (if b.on then mark_of (Some Logged) false entry else [])). record {
@@ -228,62 +220,61 @@ logged_some r a b c p entry t some settles =
       settles = subst (λ (l : List EventMark). Settles b c l) same s;
     }) settles
 
-pub logged_none : (a b : Sketch) (p : ℕ) (entry : EventAt) → Turns Stores a b p → false ≡ (lane_of a p).loose → Logs entry a b p
-logged_none a b p entry t none =
-    let same : [] ≡ (if a.on then log_marks (lane_of a p).loose entry else []) =
+pub logged_none : (many : Option ℕ) (a b : Sketch) (p : ℕ) (entry : EventAt) → Turns (Stores many) a b p
+    → false ≡ has_loose (lane_of a p).progress → Logs many entry a b p
+logged_none many a b p entry t none =
+    let same : [] ≡ (if a.on then log_marks (has_loose (lane_of a p).progress) entry else []) =
     none_if a.on ∙ ap (λ (loose : Bool). if a.on then log_marks loose entry else []) none in
     record { stored = b; turns = t; settles = subst (λ (l : List EventMark). Settles b b l) same (settles_none b) }
 
-log_lane : (s : Shown) (fresh : ℕ) (entry : EventAt) (a b : Sketch) (p : ℕ) → Turns Stores a b p
-    → ((fate : Fate) → [] ≡ fated_marks s fresh fate entry) → ((was : ℕ) → was ≡ interval_shown was s)
-    → ((was : Bool) → was ≡ ended_shown was s) → ((was : Bool) → false ≡ loose_shown was s) → is_stored_by s ≡ true
-    → may_wait s ≡ false
+log_lane : (s : Shown) (many : Option ℕ) (fresh : ℕ) (entry : EventAt) (a b : Sketch) (p : ℕ) → Turns (Stores many) a b p
+    → ((fate : Fate) → [] ≡ fated_marks s fresh fate entry) → ((was : Progress) → saved many was ≡ progress_shown was s)
+    → ((was : Bool) → was ≡ ended_shown was s) → may_wait s ≡ false
     → LaneShows a.on s fresh entry (lane_of a p) (lane_of b p)
-log_lane s fresh entry a b p t none interval ended loose stored not_held =
+log_lane s many fresh entry a b p t none progress ended not_held =
     still_lane a.on s fresh entry (lane_of a p) (lane_of b p) none not_held
-    (ap (λ (l : LaneState). l.interval) t.turn ∙ interval (lane_of a p).interval)
+    (ap (λ (l : LaneState). l.progress) t.turn ∙ progress (lane_of a p).progress)
     (ap (λ (l : LaneState). l.ended) t.turn ∙ ended (lane_of a p).ended)
-    (ap (λ (l : LaneState). l.loose) t.turn ∙ loose (lane_of a p).loose) (ap (λ (l : LaneState). l.reached) t.turn)
-    (ap (λ (l : LaneState). l.stored) t.turn
-    ∙ sym (ap (λ (x : Bool). if x then length (lane_of a p).waiting else (lane_of a p).stored) stored))
+    (ap (λ (l : LaneState). l.reached) t.turn)
     (ap (λ (l : LaneState). l.waiting) t.turn)
 
-pub flush_shown : (r : Result (Unit {0}) AllocError) (a c : Sketch) (p fresh : ℕ) (entry : EventAt) → OnOk r (Logs entry a c p)
+-- an event that stores some, or all
+log_shown : (r : Result (Unit {0}) AllocError) (s : Shown) (many : Option ℕ) (a c : Sketch) (p fresh : ℕ) (entry : EventAt)
+    → ((loose : Bool) → log_marks loose entry ≡ sure_marks loose s entry) → ((fate : Fate) → [] ≡ fated_marks s fresh fate entry)
+    → ((was : Progress) → saved many was ≡ progress_shown was s) → ((was : Bool) → was ≡ ended_shown was s) → may_wait s ≡ false
+    → OnOk r (Logs many entry a c p) → OnOk r (Shows a c p s fresh entry)
+log_shown r s many a c p fresh entry sure none progress ended not_held logs =
+    let loose : Bool = has_loose (lane_of a p).progress in
+    on_ok_weaker r (λ (g : Logs many entry a c p).
+    shows_of s fresh entry (Stores many) a g.stored c p (if a.on then log_marks loose entry else []) g.turns g.settles
+    (ap (λ (l : List EventMark). if a.on then l else []) (sure loose))
+    (log_lane s many fresh entry a g.stored p g.turns none progress ended not_held)) logs
+
+pub flush_shown : (r : Result (Unit {0}) AllocError) (a c : Sketch) (p fresh : ℕ) (entry : EventAt) → OnOk r (Logs None entry a c p)
     → OnOk r (Shows a c p shows.Flush fresh entry)
 flush_shown r a c p fresh entry logs =
-    on_ok_weaker r (λ (g : Logs entry a c p).
-    shows_of shows.Flush fresh entry Stores a g.stored c p (if a.on then log_marks (lane_of a p).loose entry else []) g.turns g.settles refl
-    (log_lane shows.Flush fresh entry a g.stored p g.turns (λ fate. refl) (λ was. refl) (λ was. refl) (λ was. refl) refl refl)) logs
+    log_shown r shows.Flush None a c p fresh entry (λ loose. refl) (λ fate. refl) (λ was. refl) (λ was. refl) refl logs
+
+pub flush_first_shown : (r : Result (Unit {0}) AllocError) (count : ℕ) (a c : Sketch) (p fresh : ℕ) (entry : EventAt)
+    → OnOk r (Logs (Some count) entry a c p) → OnOk r (Shows a c p (shows.FlushFirst count) fresh entry)
+flush_first_shown r count a c p fresh entry logs =
+    log_shown r (shows.FlushFirst count) (Some count) a c p fresh entry (λ loose. refl) (λ fate. refl) (λ was. refl) (λ was. refl) refl logs
 
 both_if : (on : Bool) (x y : List EventMark) → (if on then x else []) ++ (if on then y else []) ≡ (if on then x ++ y else [])
 both_if true x y = refl
 both_if false x y = refl
 
-pub join_shown : (r : Result (Unit {0}) AllocError) (a b c : Sketch) (p fresh : ℕ) (entry : EventAt) → Logs entry a b p
+pub join_shown : (r : Result (Unit {0}) AllocError) (a b c : Sketch) (p fresh : ℕ) (entry : EventAt) → Logs None entry a b p
     → OnOk r (Settles b c (if b.on then mark_of (Some Joined) false entry else [])) → OnOk r (Shows a c p shows.Join fresh entry)
 join_shown r a b c p fresh entry g settles =
-    let logs : List EventMark = log_marks (lane_of a p).loose entry in
+    let logs : List EventMark = log_marks (has_loose (lane_of a p).progress) entry in
     let joins : List EventMark = mark_of (Some Joined) false entry in
     let on : b.on ≡ a.on = g.settles.on ∙ g.turns.on in
     on_ok_weaker r (λ (m : Settles b c (if b.on then joins else [])).
-    shows_of shows.Join fresh entry Stores a g.stored c p ((if a.on then logs else []) ++ (if b.on then joins else [])) g.turns
+    shows_of shows.Join fresh entry (Stores None) a g.stored c p ((if a.on then logs else []) ++ (if b.on then joins else [])) g.turns
     (settles_then g.stored b c (if a.on then logs else []) (if b.on then joins else []) g.settles m)
     (ap (λ (x : Bool). (if a.on then logs else []) ++ (if x then joins else [])) on ∙ both_if a.on logs joins)
-    (log_lane shows.Join fresh entry a g.stored p g.turns (λ fate. refl) (λ was. refl) (λ was. refl) (λ was. refl) refl refl)) settles
-
--- a failure, with which what is in memory only is lost
-pub failure_shown : (r : Result (Unit {0}) AllocError) (a b c : Sketch) (p fresh : ℕ) (declared : Bool) (entry : EventAt) → Turns Loses a b p
-    → OnOk r (Settles b c (if b.on then mark_of (Some Failed) false entry else []))
-    → OnOk r (Shows a c p (shows.Failure declared) fresh entry)
-failure_shown r a b c p fresh declared entry t settles =
-    let s : Shown = shows.Failure declared in
-    let fails : List EventMark = mark_of (Some Failed) false entry in
-    on_ok_weaker r (λ (m : Settles b c (if b.on then fails else [])).
-    shows_of s fresh entry Loses a b c p (if b.on then fails else []) t m (ap (λ (on : Bool). if on then fails else []) t.on)
-    (still_lane a.on s fresh entry (lane_of a p) (lane_of b p) (λ fate. refl) refl
-    (ap (λ (l : LaneState). l.interval) t.turn) (ap (λ (l : LaneState). l.ended) t.turn) (ap (λ (l : LaneState). l.loose) t.turn)
-    (ap (λ (l : LaneState). l.reached) t.turn)
-    (ap (λ (l : LaneState). l.stored) t.turn) (ap (λ (l : LaneState). l.waiting) t.turn))) settles
+    (log_lane shows.Join None fresh entry a g.stored p g.turns (λ fate. refl) (λ was. refl) (λ was. refl) refl)) settles
 
 pub back_shown : (r : Result (Unit {0}) AllocError) (a b c : Sketch) (p interval inc fresh : ℕ) (entry : EventAt)
     → Turns (GoesBack interval) a b p → OnOk r (Settles b c (if b.on then mark_of (Some CameBack) false entry else []))
@@ -294,9 +285,8 @@ back_shown r a b c p interval inc fresh entry t settles =
     shows_of s fresh entry (GoesBack interval) a b c p (if b.on then mark_of (Some CameBack) false entry else []) t m
     (ap (λ (on : Bool). if on then mark_of (Some CameBack) false entry else []) t.on)
     (still_lane a.on s fresh entry (lane_of a p) (lane_of b p) (λ fate. refl) refl
-    (ap (λ (l : LaneState). l.interval) t.turn) (ap (λ (l : LaneState). l.ended) t.turn) (ap (λ (l : LaneState). l.loose) t.turn)
-    (ap (λ (l : LaneState). l.reached) t.turn)
-    (ap (λ (l : LaneState). l.stored) t.turn) (ap (λ (l : LaneState). l.waiting) t.turn))) settles
+    (ap (λ (l : LaneState). l.progress) t.turn) (ap (λ (l : LaneState). l.ended) t.turn)
+    (ap (λ (l : LaneState). l.reached) t.turn) (ap (λ (l : LaneState). l.waiting) t.turn))) settles
 
 -- ---- a mark of its own
 pub off_mark : (s : Sketch) (more : List EventMark) → s.on ≡ false → Settles s s (if s.on then more else [])

@@ -1,7 +1,7 @@
 -- A picture that is being drawn: which marks it has, drawn or waiting.
 use Rattle.std.specs.Prelude.{◌≡◌, ℕ, suc, ◌+◌, ◌*◌, ◌<◌, ◌≤◌, ◌-◌, ◌==◌, Bool, false, if◌then◌else◌, is_some, nat_lt, List, [], ◌∷◌, ◌++◌, Some, drop, length, map, slice_index_or}
 use Rattle.std.specs.List.{flat_map}
-use Rattle.om_picture.specs.Fates.{EventAt, EventRow, Fate, fate_behind, has_ended, highest, interval_behind, is_loose}
+use Rattle.om_picture.specs.Fates.{EventAt, EventRow, Fate, Progress, fate_behind, has_ended, highest, progress_behind}
 use Rattle.om_picture.specs.Held.{Held, held_behind}
 use Rattle.om_picture.specs.Marks.{AreTheSame, EventMark, Saved, Taken, Worked, is_reached, mark_of, marks_among, output_marks, shape_marks, title_entry}
 use Rattle.om_interval.specs.declared.pid.TheConstants.{MAX_PROCESSES}
@@ -24,32 +24,27 @@ late_marks _ fresh fate entry = mark_of (Some Worked) fate.cut entry
 abbrev pub mark_marks : Mark → Fate → List EventMark
 mark_marks mark fate = if mark.at.x == 0 then [] else late_marks mark.shown mark.fresh fate (title_entry mark.title mark.at)
 
--- marks that wait, of which the first ones, so many, are stored, each with the fate of its interval
-abbrev pub waiting_marks : (ℕ → Bool → Fate) → ℕ → List Mark → List EventMark
-waiting_marks fate stored [] = []
-waiting_marks fate stored (mark ∷ marks) =
-    mark_marks mark (fate mark.interval (nat_lt 0 stored)) ++ waiting_marks fate (stored - 1) marks
+-- marks that wait, each with the fate of its interval
+abbrev pub waiting_marks : (ℕ → Fate) → List Mark → List EventMark
+waiting_marks fate [] = []
+waiting_marks fate (mark ∷ marks) = mark_marks mark (fate mark.interval) ++ waiting_marks fate marks
 
--- what is known of a process: its interval, whether its program ended, whether it has received something that is in memory only, the
--- highest place that it had in a recovery state, and the marks that wait, of which the first ones, so many, are stored
+-- what is known of a process: how far it is, whether its program ended, the highest place that it had in a recovery state, and the marks
+-- that wait
 pub record LaneState : Type 0 where
-  pub interval : ℕ
+  pub progress : Progress
   pub ended : Bool
-  pub loose : Bool
   pub reached : ℕ
-  pub stored : ℕ
   pub waiting : List Mark
 
 abbrev pub new_lane : LaneState
-new_lane = record { interval = 0; ended = false; loose = false; reached = 0; stored = 0; waiting = [] }
+new_lane = record { progress = record { interval = 0; safe = 0 }; ended = false; reached = 0; waiting = [] }
 
 abbrev pub lane_in : History → LaneState
 lane_in history = record {
-  interval = history.interval;
+  progress = record { interval = history.interval; safe = history.safe };
   ended = history.ended;
-  loose = is_some history.loose;
   reached = history.reached;
-  stored = history.stored - history.settled;
   waiting = drop history.settled history.marks.items;
 }
 
@@ -92,16 +87,15 @@ all_marks marks sketch = sketch.drawn ++ lanes_marks marks 0 sketch.lanes
 
 -- what the marks that wait on a lane come to with these events
 abbrev pub lane_marks : List EventRow → ℕ → LaneState → List EventMark
-lane_marks later p lane = waiting_marks (λ interval stored. fate_behind p interval stored lane.reached later) lane.stored lane.waiting
+lane_marks later p lane = waiting_marks (λ interval. fate_behind p interval lane.reached lane.progress later) lane.waiting
 
 abbrev pub lane_of : Sketch → ℕ → LaneState
 lane_of sketch p = slice_index_or sketch.lanes p new_lane
 
 -- what is known of a process behind these events
 pub record IsLaneOf (p : ℕ) (rows : List EventRow) (lane : LaneState) : Type 0 where
-  pub interval : lane.interval ≡ interval_behind p rows
+  pub progress : lane.progress ≡ progress_behind p rows
   pub ended : lane.ended ≡ has_ended p rows
-  pub loose : lane.loose ≡ is_loose p rows
   pub held : held_in lane ≡ held_behind p rows
   pub reached : lane.reached ≡ highest p 0 rows
 

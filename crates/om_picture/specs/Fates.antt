@@ -1,5 +1,5 @@
 -- Events of a script, and what becomes of what they did: what a round cuts, what is stored, what is released.
-use Rattle.std.specs.Prelude.{◌≡◌, ℕ, ◌<◌, ◌==◌, Bool, true, false, not, ◌&&◌, ◌||◌, if◌then◌else◌, is_some, max, nat_le, List, [], ◌∷◌, ◌++◌, Option, None, Some, slice_index}
+use Rattle.std.specs.Prelude.{◌≡◌, ◌⊎◌, ℕ, ◌+◌, ◌<◌, ◌≤◌, ◌==◌, Bool, true, false, not, ◌&&◌, ◌||◌, if◌then◌else◌, is_some, max, min, nat_le, nat_lt, List, [], ◌∷◌, ◌++◌, Option, None, Some, slice_index}
 use Rattle.std.specs.List.{fold}
 use Rattle.om_process.specs.declared.accept.Accept.TheVariants as accepts
 use Rattle.om_world.specs.declared.event.Answer.{Answer}
@@ -38,18 +38,39 @@ abbrev pub is_of : ℕ → EventRow → Bool
 is_of p row = is_process p (process_of row.entry.event)
 
 -- ---- a process
--- the interval in which an event leaves its process
-abbrev pub interval_after : Event → Answer → ℕ → ℕ
-interval_after (events.Give process frame) (answers.Given (accepts.Taken interval)) was = interval
-interval_after (events.Resume process) (answers.Back interval inc) was = interval
-interval_after _ _ was = was
+-- how far a process is: its interval, and the last one up to which all that it received is in its store
+pub record Progress : Type 0 where
+  pub interval : ℕ
+  pub safe : ℕ
 
-abbrev pub next_interval : ℕ → ℕ → EventRow → ℕ
-next_interval p was row = if is_of p row then interval_after row.entry.event row.entry.answer was else was
+-- a process stores what it has in memory only: all of it, or so many receipts from its front
+abbrev pub saved : Option ℕ → Progress → Progress
+saved None was = record was { safe = was.interval }
+saved (Some count) was = record was { safe = min was.interval (was.safe + count) }
 
--- the interval of a process behind these events
+-- how far an event leaves its process; one that is back has what it was replayed from in its store
+abbrev pub progress_after : Event → Answer → Progress → Progress
+progress_after (events.Give process frame) (answers.Given (accepts.Taken interval)) was = record was { interval = interval }
+progress_after (events.Flush process) (answers.Noted count) was = if count == 0 then was else saved None was
+progress_after (events.FlushFirst process many) (answers.Noted count) was =
+    if (count == 0) || (many == 0) then was else saved (Some many) was
+progress_after (events.Join process) (answers.Gathered gathered) was = saved None was
+progress_after (events.Resume process) (answers.Back interval inc) was = record { interval = interval; safe = interval }
+progress_after _ _ was = was
+
+abbrev pub next_progress : ℕ → Progress → EventRow → Progress
+next_progress p was row = if is_of p row then progress_after row.entry.event row.entry.answer was else was
+
+-- how far a process is behind these events
+abbrev pub progress_behind : ℕ → List EventRow → Progress
+progress_behind p rows = fold (next_progress p) (record { interval = 0; safe = 0 }) rows
+
 abbrev pub interval_behind : ℕ → List EventRow → ℕ
-interval_behind p rows = fold (next_interval p) 0 rows
+interval_behind p rows = (progress_behind p rows).interval
+
+-- it has received something that is in memory only
+abbrev pub has_loose : Progress → Bool
+has_loose progress = nat_lt progress.safe progress.interval
 
 -- whether it is known behind an event that the program of its process came to its end
 abbrev pub ended_after : Event → Answer → Bool → Bool
@@ -63,22 +84,6 @@ next_ended p was row = if is_of p row then ended_after row.entry.event row.entry
 -- the program of a process came to its end in these events, and the process did not go back since
 abbrev pub has_ended : ℕ → List EventRow → Bool
 has_ended p rows = fold (next_ended p) false rows
-
--- whether a process has received something behind an event that it has in memory only
-abbrev pub loose_after : Event → Answer → Bool → Bool
-loose_after (events.Give process frame) (answers.Given (accepts.Taken interval)) was = true
-loose_after (events.Flush process) (answers.Noted count) was = if count == 0 then was else false
-loose_after (events.Join process) (answers.Gathered gathered) was = false
-loose_after (events.Fail process) (answers.Gathered gathered) was = false
-loose_after (events.Fail process) answers.Down was = false
-loose_after _ _ was = was
-
-abbrev pub next_loose : ℕ → Bool → EventRow → Bool
-next_loose p was row = if is_of p row then loose_after row.entry.event row.entry.answer was else was
-
--- a process received something in these events, and since then it did not store what it received, nor fail
-abbrev pub is_loose : ℕ → List EventRow → Bool
-is_loose p rows = fold (next_loose p) false rows
 
 -- ---- what becomes of an interval
 -- the place of a process in the recovery state behind an event, or a higher one that was there before
@@ -100,20 +105,12 @@ is_cut p interval was [] = false
 is_cut p interval was (row ∷ rows) =
     cuts interval (next_place p was row) row || is_cut p interval (next_place p was row) rows
 
--- with this answer, the process has stored all that it received
-abbrev pub is_store : Event → Answer → Bool
-is_store (events.Flush process) (answers.Noted count) = not (count == 0)
-is_store (events.Join process) (answers.Gathered gathered) = true
-is_store _ _ = false
-
-abbrev pub stores : ℕ → EventRow → Bool
-stores p row = is_of p row && is_store row.entry.event row.entry.answer
-
--- one of these events stores what a process received, and no round cut that before
-abbrev pub is_stored : ℕ → ℕ → ℕ → List EventRow → Bool
-is_stored p interval was [] = false
-is_stored p interval was (row ∷ rows) =
-    stores p row || (not (cuts interval (next_place p was row) row) && is_stored p interval (next_place p was row) rows)
+-- the process had stored all that it received up to an interval, as a round cut that, or in the end
+abbrev pub is_saved : ℕ → ℕ → ℕ → Progress → List EventRow → Bool
+is_saved p interval place was [] = nat_le interval was.safe
+is_saved p interval place was (row ∷ rows) =
+    if cuts interval (next_place p place row) row then nat_le interval (next_progress p was row).safe
+    else is_saved p interval (next_place p place row) (next_progress p was row) rows
 
 -- what became of an interval of a process
 pub record Fate : Type 0 where
@@ -124,16 +121,16 @@ pub record Fate : Type 0 where
   -- that is so, or its process had stored it
   pub stored : Bool
 
--- of what is stored or not before these events, where no place was higher than one
-abbrev pub fate_behind : ℕ → ℕ → Bool → ℕ → List EventRow → Fate
-fate_behind p interval stored was rows =
-    let cut = is_cut p interval was rows in
-    let covered = not cut && nat_le interval (highest p was rows) in
-    record { cut = cut; covered = covered; stored = covered || (stored || is_stored p interval was rows) }
+-- behind others, where no place was higher than one, and the process was so far
+abbrev pub fate_behind : ℕ → ℕ → ℕ → Progress → List EventRow → Fate
+fate_behind p interval place was rows =
+    let cut = is_cut p interval place rows in
+    let covered = not cut && nat_le interval (highest p place rows) in
+    record { cut = cut; covered = covered; stored = covered || is_saved p interval place was rows }
 
 -- what these events make of an interval that began or went on with the first of them, behind others
 abbrev pub fate_of : ℕ → ℕ → List EventRow → List EventRow → Fate
-fate_of p interval before rows = fate_behind p interval false (highest p 0 before) rows
+fate_of p interval before rows = fate_behind p interval (highest p 0 before) (progress_behind p before) rows
 
 -- ---- the same, told by the event that did it
 -- a round is finished with one of these events, and no recovery state up to it had the process as high
@@ -145,11 +142,19 @@ pub record IsCutBy (p interval was : ℕ) (rows : List EventRow) : Type 0 where
   pub finished : is_finished row.entry.answer ≡ true
   pub beyond : highest p was (before ++ row ∷ []) < interval
 
--- with one of these events the process stores what it received, and no round before it cuts the interval
-pub record IsStoredBy (p interval was : ℕ) (rows : List EventRow) : Type 0 where
+-- a round cuts the interval with the last of these events, and none before
+pub record IsCutWith (p interval place : ℕ) (rows : List EventRow) : Type 0 where
   pub before : List EventRow
   pub row : EventRow
+  pub split : rows ≡ before ++ row ∷ []
+  pub not_cut : is_cut p interval place before ≡ false
+  pub cut : is_cut p interval place rows ≡ true
+
+-- the first of these events are all of them, and no round cuts the interval, or a round cuts it with the last of the first; behind these
+-- the process has stored all that it received up to the interval
+pub record IsSavedBy (p interval place : ℕ) (was : Progress) (rows : List EventRow) : Type 0 where
+  pub first : List EventRow
   pub after : List EventRow
-  pub split : rows ≡ before ++ row ∷ after
-  pub stores_it : stores p row ≡ true
-  pub not_cut : is_cut p interval was before ≡ false
+  pub split : rows ≡ first ++ after
+  pub ends : ((after ≡ []) × (is_cut p interval place first ≡ false)) ⊎ IsCutWith p interval place first
+  pub safe : interval ≤ (fold (next_progress p) was first).safe

@@ -1,7 +1,7 @@
 -- Which marks stand for which events.
 use Rattle.std.specs.Prelude.{◌≡◌, ℕ, zero, suc, ◌==◌, Bool, false, ◌||◌, if◌then◌else◌, nat_le, nat_lt, List, [], ◌∷◌, ◌++◌, Option, None, Some}
 use Rattle.std.specs.List.{flat_map, sum_by}
-use Rattle.om_picture.specs.Fates.{EventAt, EventRow, Fate, fate_of, has_ended, interval_behind, is_loose}
+use Rattle.om_picture.specs.Fates.{EventAt, EventRow, Fate, fate_of, has_ended, has_loose, interval_behind, progress_behind}
 use Rattle.om_picture.specs.Held.{releases}
 use Rattle.om_sheet.specs.Shows.{process_of, shown}
 use Rattle.om_sheet.specs.declared.sheet.Drawn.{Drawn}
@@ -21,7 +21,7 @@ pub data Kind : Type 0 where
   -- a receipt: filled, if it is stored
   Taken : Bool → Kind
   NotTaken : Kind
-  -- the receipts since the process last stored some are stored
+  -- receipts that were in memory only are stored: the first ones, or all
   Logged : Kind
   Saved : Kind
   -- outputs that were made: filled, if they are released
@@ -75,6 +75,7 @@ log_marks loose entry = if loose then mark_of (Some Logged) false entry else []
 abbrev pub sure_marks : Bool → Shown → EventAt → List EventMark
 sure_marks loose (shows.Refused frame) entry = mark_of (Some NotTaken) false entry
 sure_marks loose shows.Flush entry = log_marks loose entry
+sure_marks loose (shows.FlushFirst count) entry = log_marks loose entry
 sure_marks loose (shows.Failure declared) entry = mark_of (Some Failed) false entry
 sure_marks loose shows.Join entry = log_marks loose entry ++ mark_of (Some Joined) false entry
 sure_marks loose (shows.Back interval inc) entry = mark_of (Some CameBack) false entry
@@ -100,7 +101,7 @@ fated_marks _ fresh fate entry = []
 abbrev pub event_marks : ℕ → List EventRow → EventRow → List EventRow → List EventMark
 event_marks p before row later =
     let shows = shown (has_ended p before) row.entry.event row.entry.answer in
-    sure_marks (is_loose p before) shows row.entry
+    sure_marks (has_loose (progress_behind p before)) shows row.entry
     ++ fated_marks shows row.fresh (fate_of p (interval_behind p (before ++ row ∷ [])) before (row ∷ later)) row.entry
 
 -- if its process is one of so many

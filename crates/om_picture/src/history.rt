@@ -36,23 +36,23 @@ pub struct History {
     pub interval: u32,
     /// Whether its program came to its end.
     pub ended: bool,
-    /// The place of the first receipt that is in memory only.
-    pub loose: Option<u32>,
+    /// The last interval up to which all that it received is in its store.
+    pub safe: u32,
     /// The highest place of the process in the recovery states so far.
     pub reached: u32,
     pub marks: Vec<Mark>,
-    /// How many marks are stored: the first ones.
-    pub stored: usize,
+    /// So many marks, the first ones, are of no receipt that is in memory only.
+    pub firm: usize,
     /// How many marks are known to be kept or cut: the first ones.
     pub settled: usize,
     ghost in_range: { settled ≤ length marks.items },
-    ghost known: { stored ≤ length marks.items },
 }
 
 impl History {
     ghost use Rattle.om_picture.specs.Drawing.{held_in, lane_in, new_lane};
     ghost use Rattle.om_picture.specs.Held.{covered_by};
-    ghost use Rattle.om_picture.specs.steps.Adding.{Ends, GoesBack, IsMore, Loses, Raises, Receives, Stores, TakesCovered, TakesFirst};
+    ghost use Rattle.om_picture.specs.steps.Adding.{Ends, GoesBack, IsMore, Raises, Receives, Stores, TakesCovered, TakesFirst};
+    ghost use Rattle.om_picture.specs.Fates.{has_loose, saved};
 
     pub(crate) fn new(alloc: Global) -> History
         ensures { lane_in result ≡ new_lane }
@@ -60,10 +60,10 @@ impl History {
         History {
             interval: 0,
             ended: false,
-            loose: None,
+            safe: 0,
             reached: 0,
             marks: Vec::new(alloc),
-            stored: 0,
+            firm: 0,
             settled: 0,
         }
     }
@@ -84,7 +84,7 @@ impl History {
             return None;
         }
         let mark = self.marks[self.settled];
-        let stored = self.settled < self.stored;
+        let stored = mark.interval <= self.safe;
         self.settled += 1;
         let covered = mark.interval <= self.reached;
         Some(Next {
@@ -118,30 +118,51 @@ impl History {
         self.ended |= ended;
     }
 
-    /// An interval began, with a receipt at this place.
-    pub(crate) fn receive(&mut self, interval: u32, x: u32)
+    /// An interval began, with a receipt.
+    pub(crate) fn receive(&mut self, interval: u32)
         ensures { Receives interval (lane_in self.old) (lane_in self.new) }
     {
         self.interval = interval;
-        self.loose = Some(self.loose.unwrap_or(x));
     }
 
-    /// All receipts are stored: the place of the first that was in memory only.
-    pub(crate) fn store(&mut self) -> Option<u32>
-        ensures stores { Stores (lane_in self.old) (lane_in self.new) }
-        ensures loose { is_some result ≡ (lane_in self.old).loose }
+    // The place of the first receipt that is in memory only; marks are not looked at again once they are firm.
+    fn first_loose(&mut self) -> Option<u32>
+        ensures { lane_in self.new ≡ lane_in self.old }
     {
-        let loose = self.loose;
-        self.stored = self.marks.len();
-        self.loose = None;
-        loose
+        let firm = self.firm.min(self.marks.len());
+        for k in firm..self.marks.len() {
+            self.firm = k;
+            if self.marks[k].interval > self.safe {
+                return Some(self.marks[k].at.x);
+            }
+        }
+        None
     }
 
-    /// What is in memory only is lost.
-    pub(crate) fn lose(&mut self)
-        ensures { Loses (lane_in self.old) (lane_in self.new) }
+    // Up to which interval all is stored, once so many receipts more are, or all.
+    fn saved(&self, many: Option<usize>) -> u32
+        ensures { result ≡ (saved many (lane_in self.now).progress).safe }
     {
-        self.loose = None;
+        let Some(count) = many else {
+            return self.interval;
+        };
+        let upto = (self.safe as usize).saturating_add(count);
+        if upto < self.interval as usize {
+            upto as u32
+        } else {
+            self.interval
+        }
+    }
+
+    /// So many receipts that were in memory only are stored, the first ones, or all: the place of the first of them.
+    pub(crate) fn store(&mut self, many: Option<usize>) -> Option<u32>
+        ensures stores { Stores many (lane_in self.old) (lane_in self.new) }
+        ensures loose { is_some result ≡ has_loose (lane_in self.old).progress }
+    {
+        let is_loose = self.safe < self.interval;
+        let first = self.first_loose().unwrap_or(0);
+        self.safe = self.saved(many);
+        if is_loose { Some(first) } else { None }
     }
 
     /// The process is back in an interval.
@@ -150,6 +171,8 @@ impl History {
     {
         self.ended = false;
         self.interval = interval;
+        self.safe = interval;
+        self.firm = self.marks.len();
     }
 
     /// The process has this place in a recovery state.

@@ -1,7 +1,7 @@
 //! What holds of a picture: each function stands for a theorem over the definitions alone.
 
 ghost use Rattle.std.specs.Prelude.{◌≡◌, ◌<◌, ◌↔◌, [], ◌∷◌, ◌++◌, ℕ, List, length, true};
-ghost use Rattle.om_picture.specs.Fates.{EventRow, IsCutBy, IsStoredBy, highest, is_cut, is_stored};
+ghost use Rattle.om_picture.specs.Fates.{EventRow, IsCutBy, IsSavedBy, Progress, highest, is_cut, is_saved};
 ghost use Rattle.om_picture.specs.Held.{WereHeld, releases};
 ghost use Rattle.om_picture.specs.Places.{ArePlaced, has_column};
 ghost use Rattle.om_picture.specs.declared.column.TheConstants.{MOST_COLUMNS};
@@ -11,9 +11,10 @@ pub fn cut_by_a_round()
     ensures { (p interval was : ℕ) (rows : List EventRow) → is_cut p interval was rows ≡ true ↔ IsCutBy p interval was rows }
 {}
 
-/// It is stored exactly where its process stores what it received, and no round before that cut it.
+/// It is stored exactly where its process had stored what it received up to it as a round cut it, or in the end.
 pub fn stored_by_its_process()
-    ensures { (p interval was : ℕ) (rows : List EventRow) → is_stored p interval was rows ≡ true ↔ IsStoredBy p interval was rows }
+    ensures { (p interval place : ℕ) (was : Progress) (rows : List EventRow)
+        → is_saved p interval place was rows ≡ true ↔ IsSavedBy p interval place was rows }
 {}
 
 /// Of two events the later one, if it has a column and there is room, stands right of the other.

@@ -149,7 +149,7 @@ impl Picture {
     {
         let _ = self.page.give(frame);
         self.page.count_receipt(self.on);
-        self.receive(p, interval, at.x);
+        self.receive(p, interval);
         let shown = Shown::Receipt { frame, interval };
         self.wait(p, step, at, shown, More::Nothing)
     }
@@ -169,12 +169,18 @@ impl Picture {
         self.shape(Form::Refused, step, at)
     }
 
-    // All receipts of a process are stored; that is drawn, if some were in memory only.
-    fn log(&mut self, p: usize, step: &Step, at: Spot) -> Result<(), AllocError>
+    // So many receipts of a process are stored, or all; that is drawn, if some were in memory only.
+    fn log(
+        &mut self,
+        p: usize,
+        step: &Step,
+        at: Spot,
+        many: Option<usize>,
+    ) -> Result<(), AllocError>
         requires { p < length self.old.histories.items }
-        ensures { OnOk result (Logs (step_entry step.now at) (sketch_of self.old) (sketch_of self.new) p) }
+        ensures { OnOk result (Logs many (step_entry step.now at) (sketch_of self.old) (sketch_of self.new) p) }
     {
-        match self.store(p) {
+        match self.store(p, many) {
             Some(from) => {
                 let from = or_left(from, self.page.left);
                 self.shape(Form::Flush { from }, step, at)
@@ -187,7 +193,21 @@ impl Picture {
         requires { p < length self.old.histories.items }
         ensures { OnOk result (Shows (sketch_of self.old) (sketch_of self.new) p shows.Flush step.now.fresh (step_entry step.now at)) }
     {
-        self.log(p, step, at)
+        self.log(p, step, at, None)
+    }
+
+    pub(crate) fn draw_flush_first(
+        &mut self,
+        p: usize,
+        step: &Step,
+        at: Spot,
+        count: usize,
+    ) -> Result<(), AllocError>
+        requires { p < length self.old.histories.items }
+        ensures { OnOk result (Shows (sketch_of self.old) (sketch_of self.new) p (shows.FlushFirst count)
+            step.now.fresh (step_entry step.now at)) }
+    {
+        self.log(p, step, at, Some(count))
     }
 
     pub(crate) fn draw_checkpoint(
@@ -217,7 +237,6 @@ impl Picture {
     {
         self.page.open(declared, at.x);
         self.page.leave(p, at.x, Stand::Down)?;
-        self.lose(p);
         self.page.count_failure(self.on);
         self.shape(Form::Failure, step, at)
     }
@@ -226,7 +245,7 @@ impl Picture {
         requires { p < length self.old.histories.items }
         ensures { OnOk result (Shows (sketch_of self.old) (sketch_of self.new) p shows.Join step.now.fresh (step_entry step.now at)) }
     {
-        self.log(p, step, at)?;
+        self.log(p, step, at, None)?;
         self.page.leave(p, at.x, Stand::In)?;
         self.shape(Form::Join, step, at)
     }

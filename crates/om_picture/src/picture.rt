@@ -2,12 +2,12 @@
 
 ghost use Rattle.std.specs.Prelude.{◌≡◌, ◌==◌, ◌<◌, ◌≤◌, not, false, [], ◌∷◌, ◌++◌, ℕ, List, Some, if◌then◌else◌, is_some, length, OnOk, IfOk, MatchOption};
 ghost use Rattle.om_picture.specs.Drawing.{IsSketchOf, held_in, lane_of, sketch_of};
-ghost use Rattle.om_picture.specs.Fates.{EventRow, step_entry, step_row};
+ghost use Rattle.om_picture.specs.Fates.{EventRow, has_loose, step_entry, step_row};
 ghost use Rattle.om_picture.specs.Held.{covered_by};
 ghost use Rattle.om_picture.specs.Marks.{kind_drawn, mark_of, shape_marks, title_entry};
 ghost use Rattle.om_sheet.specs.Shows.{is_finished};
 ghost use Rattle.om_sheet.specs.declared.sheet.Spot.{Spot};
-ghost use Rattle.om_picture.specs.steps.Adding.{AreNew, Ends, GoesBack, Loses, Raises, Reaches, Receives, Settles, SettlesIf, Shows, ShowsEvent, ShowsOn, Stores, TakesCovered, TakesFirst, Turns, Waits};
+ghost use Rattle.om_picture.specs.steps.Adding.{AreNew, Ends, GoesBack, Raises, Reaches, Receives, Settles, SettlesIf, Shows, ShowsEvent, ShowsOn, Stores, TakesCovered, TakesFirst, Turns, Waits};
 
 use crate::column::{Columns, MOST_LEFT};
 use crate::history::{History, Mark, Next};
@@ -167,6 +167,7 @@ impl Picture {
             Shown::Receipt { frame, interval } => self.draw_receipt(p, step, at, frame, interval),
             Shown::Refused { frame } => self.draw_refused(p, step, at, frame),
             Shown::Flush => self.draw_flush(p, step, at),
+            Shown::FlushFirst { count } => self.draw_flush_first(p, step, at, count),
             Shown::Checkpoint => self.draw_checkpoint(p, step, at),
             Shown::Failure { declared } => self.draw_failure(p, step, at, declared),
             Shown::Join => self.draw_join(p, step, at),
@@ -291,33 +292,24 @@ impl Picture {
         history.end(ended);
     }
 
-    // An interval of a process began, with a receipt at this place.
-    pub(crate) fn receive(&mut self, p: usize, interval: u32, x: u32)
+    // An interval of a process began, with a receipt.
+    pub(crate) fn receive(&mut self, p: usize, interval: u32)
         requires { p < length self.old.histories.items }
         ensures turn { Turns (Receives interval) (sketch_of self.old) (sketch_of self.new) p }
         ensures lanes { length self.new.histories.items ≡ length self.old.histories.items }
     {
         let history = &mut self.histories[p];
-        history.receive(interval, x);
+        history.receive(interval);
     }
 
-    // All receipts of a process are stored: the place of the first that was in memory only.
-    pub(crate) fn store(&mut self, p: usize) -> Option<u32>
+    // So many receipts of a process are stored, or all: the place of the first that was in memory only.
+    pub(crate) fn store(&mut self, p: usize, many: Option<usize>) -> Option<u32>
         requires { p < length self.old.histories.items }
-        ensures turn { Turns Stores (sketch_of self.old) (sketch_of self.new) p }
-        ensures loose { is_some result ≡ (lane_of (sketch_of self.old) p).loose }
+        ensures turn { Turns (Stores many) (sketch_of self.old) (sketch_of self.new) p }
+        ensures loose { is_some result ≡ has_loose (lane_of (sketch_of self.old) p).progress }
     {
         let history = &mut self.histories[p];
-        history.store()
-    }
-
-    // What a process has in memory only is lost.
-    pub(crate) fn lose(&mut self, p: usize)
-        requires { p < length self.old.histories.items }
-        ensures { Turns Loses (sketch_of self.old) (sketch_of self.new) p }
-    {
-        let history = &mut self.histories[p];
-        history.lose();
+        history.store(many)
     }
 
     // A process is back in an interval.

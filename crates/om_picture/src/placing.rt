@@ -27,7 +27,7 @@ fn half_of(shown: Shown) -> u32
     ensures narrow { result ≤ MOST_HALF }
 {
     match shown {
-        Shown::Nothing | Shown::Flush | Shown::Join | Shown::GoesOn => 7,
+        Shown::Nothing | Shown::Flush | Shown::FlushFirst { .. } | Shown::Join | Shown::GoesOn => 7,
         Shown::Run { .. } => 10,
         Shown::Resend { .. } | Shown::Checkpoint => 9,
         Shown::Receipt { .. } => 12,

@@ -10,6 +10,7 @@ pub mod QueueLemmas
 pub mod CoreLemmas
 pub mod Accepting
 pub mod Logging
+pub mod Flying
 pub mod Fitting
 pub mod RowLemmas
 pub mod StoredLemmas

@@ -12,6 +12,7 @@ pub mod Accepts
 pub mod Frames
 pub mod Starting
 pub mod Stores
+pub mod Flights
 pub mod Stored
 pub mod Resumes
 pub mod steps

@@ -1,5 +1,5 @@
 -- What a process stores.
-use Rattle.std.specs.Prelude.{◌≡◌, ℕ, ◌+◌, ◌-◌, List, [], ◌∷◌, ◌++◌, length, map, true, false}
+use Rattle.std.specs.Prelude.{◌≡◌, ℕ, ◌+◌, ◌-◌, List, [], ◌∷◌, ◌++◌, length, map, take, drop, true, false}
 use Rattle.std.specs.List.{AllZip}
 use Rattle.om_format.specs.Receipts.{SpellsReceipt}
 use Rattle.om_format.specs.Checkpoints.{CheckpointRecord, SpellsCheckpoint}
@@ -19,6 +19,12 @@ abbrev pub HasGainedLog : CoreState → Content → Content → Type 0
 HasGainedLog c old new =
     (bytes : List (List ℕ)) × AllZip (λ l b. SpellsReceipt l.receipt b) c.log bytes × (new ≡ with_receipts old (first_logged c) bytes)
 
+-- the store has gained the spelling of each of the first k receipts of the log, and nothing else; of a shorter log, of all
+abbrev pub HasGainedFirst : ℕ → CoreState → Content → Content → Type 0
+HasGainedFirst k c old new =
+    (bytes : List (List ℕ)) × AllZip (λ l b. SpellsReceipt l.receipt b) (take k c.log) bytes
+    × (new ≡ with_receipts old (first_logged c) bytes)
+
 -- the row of a receipt of the log
 abbrev pub log_row : LoggedRecord → PendingRow
 log_row l = record { ckpt = false; x = l.receipt.interval; vec = l.vec; got = l.got }
@@ -26,6 +32,10 @@ log_row l = record { ckpt = false; x = l.receipt.interval; vec = l.vec; got = l.
 -- the core once its log is stored: the log is empty, and its rows are pending
 abbrev pub flushed : CoreState → CoreState
 flushed c = record c { log = []; pending = c.pending ++ map log_row c.log }
+
+-- the core once the first k receipts of its log are stored: they are pending rows, and the log is those behind them
+abbrev pub flushed_first : ℕ → CoreState → CoreState
+flushed_first k c = record c { log = drop k c.log; pending = c.pending ++ map log_row (take k c.log) }
 
 -- the record is a checkpoint of this process
 pub record IsOf (own : ℕ) (p : Process) (r : CheckpointRecord) : Type 0 where

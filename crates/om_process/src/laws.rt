@@ -1,14 +1,22 @@
 //! What holds of every process, as theorems over the definitions alone: each function stands for one.
 
 ghost use Rattle.om_process.specs.declared.limits.TheConstants.{LAST_INTERVAL, LAST_NUMBER, LAST_OUTPUT, REFUSED};
-ghost use Rattle.std.specs.Prelude.{◌≡◌, ◌↔◌, ◌++◌, ◌+◌, ◌<◌, ◌≤◌, ◌∷◌, [], List, ℕ, Some, length, map, slice_index, take};
+ghost use Rattle.std.specs.Prelude.{◌≡◌, ◌↔◌, ◌++◌, ◌+◌, ◌<◌, ◌≤◌, ◌∷◌, [], Bool, List, ℕ, Some, length, map, slice_index, take};
 ghost use Rattle.om_format.specs.declared.queue.QueueEntry.{QueueEntry};
 ghost use Rattle.om_format.specs.Receipts.{ReceiptRecord};
+ghost use Rattle.om_format.specs.declared.message.Message.{Message};
+ghost use Rattle.om_stable.specs.Content.{Content, bytes_of, with_receipts};
+ghost use Rattle.om_process.specs.Accepts.{taken};
 ghost use Rattle.om_process.specs.Claims.{AtInterval, CheckpointOf, HasEntry, Makes, RecordsAlong, RowOf};
+ghost use Rattle.om_process.specs.Core.{CoreState, with_now, with_pending};
+ghost use Rattle.om_process.specs.Flights.{Carries, StillFirst};
 ghost use Rattle.om_process.specs.Parts.{Grow, Keeps};
 ghost use Rattle.om_process.specs.Process.{Process, Program, Received, delivered, started};
 ghost use Rattle.om_process.specs.Replays.{FitsReceipt, Replayed, received_of};
+ghost use Rattle.om_process.specs.Stores.{HasGainedFirst, HasGainedLog, flushed, flushed_first};
 ghost use Rattle.om_process.specs.Trims.{trimmed};
+ghost use Rattle.om_process.specs.declared.flight.Flight.{Flight};
+ghost use Rattle.om_process.specs.declared.row.PendingRow.{PendingRow};
 ghost use Rattle.om_process.specs.Turns.{Along, IsWaiting, Leads, Reaches, Turns, next_turn};
 
 /// One turn: at a wait there is none; it counts one; it leaves interval, vector and counts, and what it makes is of its
@@ -136,6 +144,22 @@ pub fn fits_at_its_count()
     ensures { (own n k : ℕ) (s w : Process) (r : ReceiptRecord)
         → r.to ≡ own → r.from < n → r.ssn ≡ slice_index s.got r.from → r.interval ≡ s.interval + 1
         → Turns own n k s w → IsWaiting own n w → w.machine.count ≡ r.count → FitsReceipt own n w r }
+{}
+
+/// What a process hands over stands first in its log while it goes on, whatever it does but give its log away; and what a
+/// store has gained of the earlier log it has gained of the later one.
+pub fn flights()
+    ensures takes { (k : ℕ) (c : CoreState) (m : Message) → k ≤ length c.log → StillFirst k c (taken c m) }
+    ensures goes_on { (k : ℕ) (c : CoreState) (p : Process) → p.interval ≡ c.now.interval → StillFirst k c (with_now c p) }
+    ensures notes { (k : ℕ) (c : CoreState) (rows : List PendingRow) → StillFirst k c (with_pending c rows) }
+    ensures along { (k : ℕ) (c d e : CoreState) → StillFirst k c d → StillFirst k d e → StillFirst k c e }
+    ensures carried { (k : ℕ) (due : Bool) (c : CoreState) (f : Flight) → Carries k due c f
+        → take (length f.receipts.items) c.log ≡ take k c.log }
+    ensures gained { (k : ℕ) (due : Bool) (c d : CoreState) (f : Flight) (held : Content) → Carries k due c f
+        → StillFirst (length f.receipts.items) c d
+        → HasGainedFirst (length f.receipts.items) d held (with_receipts held f.first (bytes_of f.receipts.items)) }
+    ensures whole { (c : CoreState) (old new : Content) → HasGainedFirst (length c.log) c old new ↔ HasGainedLog c old new }
+    ensures whole_core { (c : CoreState) → flushed_first (length c.log) c ≡ flushed c }
 {}
 
 /// The word of a refusal, and the last numbers of messages, intervals and outputs, are these.

@@ -8,15 +8,16 @@
 //! - a process: `proc_core` (its parts, and the reads), `image`, `status`, `row`, `limits`, `laws` (theorems over the definitions)
 //! - what it does: `start`, `plan` (at an event of the machine) and `turns`, `accept` (a message), `delivering` (for the first time, or
 //!   once more), `fifo`, `queues` and `outbox` (what it made), `trim`
-//! - what it stores: `log` (receipts that are not stored yet), `storing`
+//! - what it stores: `log` (receipts that are not stored yet), `storing`, `flight` (what is stored while it goes on)
 //! - how it comes back: `replay`, `restoring` (from a checkpoint), `repeating` (one receipt after another), `down` (after a round)
 //!
 //! The methods of `ProcCore` stand in the files of what they do: `start`, `turns`, `accept`, `delivering`, `outbox`, `trim`, `storing`,
-//! `replay`, `restoring`, `repeating` and `down`.
+//! `flight`, `replay`, `restoring`, `repeating` and `down`.
 #![tactic(auto)]
 
 pub use accept::Accept;
 pub use down::Down;
+pub use flight::{Flight, Spelled};
 pub use image::Image;
 pub use limits::{LAST_INTERVAL, LAST_NUMBER, LAST_OUTPUT, REFUSED};
 pub use proc_core::ProcCore;
@@ -32,6 +33,7 @@ mod accept;
 mod delivering;
 mod down;
 mod fifo;
+mod flight;
 mod image;
 pub mod laws;
 mod limits;

@@ -1,6 +1,6 @@
 //! What a process puts into its store.
 
-ghost use Rattle.std.specs.Prelude.{◌≡◌, ◌+◌, ◌≤◌, ◌++◌, ℕ, IfOk, IsErrOf, IsSome, None, OnErr, OnOk, Some, length, map, slice_get, vec_capacity, vec_len};
+ghost use Rattle.std.specs.Prelude.{◌≡◌, ◌+◌, ◌≤◌, ◌++◌, ℕ, IfOk, IsErrOf, IsSome, None, OnErr, OnOk, Some, drop, length, map, slice_get, take, vec_capacity, vec_len};
 ghost use Rattle.std.specs.FinMap.{get};
 ghost use Rattle.om_format.specs.CheckpointViews.{checkpoint_record};
 ghost use Rattle.om_format.specs.Queues.{queue_record};
@@ -8,10 +8,12 @@ ghost use Rattle.om_stable.specs.Calls.{IsCleanCall, UsesStore};
 ghost use Rattle.om_stable.specs.Content.{IsFree, IsTaken, bytes_of};
 ghost use Rattle.om_process.specs.Core.{LoggedRecord};
 ghost use Rattle.om_process.specs.Stored.{IsReceiptAt};
-ghost use Rattle.om_process.specs.Stores.{HasGainedCheckpoint, HasGainedLog, IsOf, checkpointed, first_logged, flushed, log_row};
+ghost use Rattle.om_process.specs.Stores.{HasGainedCheckpoint, HasGainedFirst, HasGainedLog, IsOf, checkpoint_row, checkpointed, first_logged, flushed, flushed_first, log_row};
+ghost use Rattle.om_process.specs.Flights.{IsCheckpointOf};
 ghost use Rattle.om_process.specs.steps.Pieces.{SpellLog};
 ghost use Rattle.om_process.specs.steps.Views.{logged_record};
 
+use crate::flight::Spelled;
 use crate::log::Logged;
 use crate::proc_core::ProcCore;
 use crate::queues::Messages;
@@ -40,15 +42,45 @@ impl ProcCore {
             → OnErr result (S.content store.new ≡ S.content store.old) }
         ensures used { UsesStore S.failed S.is_clean S.IsSound store.old (IsErrOf result StoreError.Fault) store.new }
     {
-        let Some(oldest) = self.log.first() else {
+        let count = self.log.len();
+        self.flush_first(alloc, store, count)
+    }
+
+    /// Stores the first `k` receipts of the volatile log, all where it is shorter, or nothing of it. Stored, they are pending rows,
+    /// and the log is what comes behind them.
+    ///
+    /// Refused with what the store answers, or with `Memory`. A refusal leaves the process, and the store's content.
+    pub fn flush_first<S: Stable>(
+        &mut self,
+        alloc: Global,
+        store: &mut S,
+        k: usize,
+    ) -> Result<(), StoreError>
+        ensures core { OnOk result (self.new ≡ flushed_first k self.old) }
+        ensures same { OnErr result (self.new ≡ self.old) }
+        ensures stored { IsCleanCall S.is_clean S.IsSound store.old store.new
+            → OnOk result (HasGainedFirst k self.old (S.content store.old) (S.content store.new)) }
+        ensures each { IsCleanCall S.is_clean S.IsSound store.old store.new
+            → OnOk result ((i : ℕ) (l : LoggedRecord) → slice_get (take k self.old.log) i ≡ Some l
+            → IsReceiptAt (S.content store.new).receipts l.receipt.interval l.receipt) }
+        ensures free { IsCleanCall S.is_clean S.IsSound store.old store.new
+            → OnOk result (IsFree (S.content store.old).receipts (first_logged self.old) (length (take k self.old.log))) }
+        ensures present { IsCleanCall S.is_clean S.IsSound store.old store.new → IsErrOf result StoreError.Present
+            → IsTaken (S.content store.old).receipts (first_logged self.old) (length (take k self.old.log)) }
+        ensures refused { IsCleanCall S.is_clean S.IsSound store.old store.new
+            → OnErr result (S.content store.new ≡ S.content store.old) }
+        ensures used { UsesStore S.failed S.is_clean S.IsSound store.old (IsErrOf result StoreError.Fault) store.new }
+    {
+        let due = first_of(&self.log, k);
+        let Some(oldest) = due.first() else {
             return Ok(());
         };
         let first = oldest.receipt.interval;
-        let bytes = spelled(alloc, &self.log)?;
-        self.pending.try_reserve(self.log.len())?;
+        let count = due.len();
+        let bytes = spelled(alloc, due)?;
+        self.pending.try_reserve(count)?;
         store.put_receipts(alloc, first, &bytes)?;
-        add_rows(&mut self.pending, &self.log);
-        self.log.clear();
+        move_rows(&mut self.pending, &mut self.log, count);
         Ok(())
     }
 
@@ -70,12 +102,8 @@ impl ProcCore {
     {
         self.pending.try_reserve(1)?;
         self.store_checkpoint(alloc, store)?;
-        self.pending.push_reserved(PendingRow {
-            ckpt: true,
-            x: self.interval,
-            vec: self.vec,
-            got: self.got,
-        });
+        let row = self.row();
+        self.pending.push_reserved(row);
         Ok(())
     }
 
@@ -97,6 +125,29 @@ impl ProcCore {
     {
         let bytes = encode_checkpoint(alloc, &self.picture(alloc)?)?;
         store.put_checkpoint(alloc, self.interval, &bytes)
+    }
+
+    // A checkpoint of now, with its row.
+    pub(crate) fn spelled_now(&self, alloc: Global) -> Result<Spelled, AllocError>
+        ensures { IfOk result (λ s. IsCheckpointOf self.now s) }
+    {
+        let bytes = encode_checkpoint(alloc, &self.picture(alloc)?)?;
+        Ok(Spelled {
+            row: self.row(),
+            bytes,
+        })
+    }
+
+    // The row of a checkpoint of now.
+    fn row(&self) -> PendingRow
+        ensures { result ≡ checkpoint_row self.now }
+    {
+        PendingRow {
+            ckpt: true,
+            x: self.interval,
+            vec: self.vec,
+            got: self.got,
+        }
     }
 
     // The process as a checkpoint.
@@ -127,9 +178,19 @@ impl ProcCore {
     }
 }
 
+// The first k receipts of a log, or all where it is shorter.
+pub(crate) fn first_of(log: &[Logged], k: usize) -> &[Logged]
+    ensures { result.now ≡ take k log.now }
+{
+    match log.get(..k) {
+        Some(first) => first,
+        None => log,
+    }
+}
+
 // The bytes of each receipt of the log.
-fn spelled(alloc: Global, log: &Vec<Logged>) -> Result<Vec<Vec<u8>>, AllocError>
-    ensures { IfOk result (λ recs. SpellLog (map logged_record log.now.items) (bytes_of recs.items)) }
+pub(crate) fn spelled(alloc: Global, log: &[Logged]) -> Result<Vec<Vec<u8>>, AllocError>
+    ensures { IfOk result (λ recs. SpellLog (map logged_record log.now) (bytes_of recs.items)) }
 {
     let mut recs = Vec::with_capacity(alloc, log.len())?;
     for logged in log {
@@ -138,10 +199,22 @@ fn spelled(alloc: Global, log: &Vec<Logged>) -> Result<Vec<Vec<u8>>, AllocError>
     Ok(recs)
 }
 
-// Adds the rows of the log, for which there is room.
-fn add_rows(rows: &mut Vec<PendingRow>, log: &Vec<Logged>)
-    requires { vec_len rows.old + vec_len log.now ≤ vec_capacity rows.old }
-    ensures { rows.new.items ≡ rows.old.items ++ map log_row (map logged_record log.now.items) }
+// Makes the first k receipts of the log, all where it is shorter, rows, for which there is room.
+pub(crate) fn move_rows(rows: &mut Vec<PendingRow>, log: &mut Vec<Logged>, k: usize)
+    requires { vec_len rows.old + k ≤ vec_capacity rows.old }
+    ensures rows { rows.new.items ≡ rows.old.items ++ map log_row (take k (map logged_record log.old.items)) }
+    ensures log { map logged_record log.new.items ≡ drop k (map logged_record log.old.items) }
+{
+    let stored = first_of(log, k);
+    add_rows(rows, stored);
+    let count = stored.len();
+    log.drain(..count);
+}
+
+// Adds the rows of a log, for which there is room.
+fn add_rows(rows: &mut Vec<PendingRow>, log: &[Logged])
+    requires { vec_len rows.old + length log.now ≤ vec_capacity rows.old }
+    ensures { rows.new.items ≡ rows.old.items ++ map log_row (map logged_record log.now) }
 {
     for logged in log {
         rows.push_reserved(PendingRow {

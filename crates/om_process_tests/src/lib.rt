@@ -4,6 +4,8 @@
 #[cfg(test)]
 mod calls;
 #[cfg(test)]
+mod flights;
+#[cfg(test)]
 mod parts;
 #[cfg(test)]
 mod replaying;

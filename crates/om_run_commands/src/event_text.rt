@@ -16,6 +16,7 @@ fn push_words(text: &mut String, event: Event) -> Result<(), AllocError>
         Event::Run { process, fuel } => write!(text, "run {process} {fuel}"),
         Event::Give { process, frame } => write!(text, "give {process} {frame}"),
         Event::Flush { process } => write!(text, "flush {process}"),
+        Event::FlushFirst { process, count } => write!(text, "flush {process} {count}"),
         Event::Checkpoint { process } => write!(text, "checkpoint {process}"),
         Event::Resend { process } => write!(text, "resend {process}"),
         Event::Trim { process } => write!(text, "trim {process}"),

@@ -1,5 +1,5 @@
 -- What an event shows, by its answer.
-use Rattle.std.specs.Prelude.{ℕ, ◌==◌, Bool, true, false, ◌&&◌, if◌then◌else◌, is_none, Option, None, Some}
+use Rattle.std.specs.Prelude.{ℕ, ◌==◌, Bool, true, false, ◌&&◌, ◌||◌, if◌then◌else◌, is_none, Option, None, Some}
 use Rattle.om_manager.specs.declared.answers.Gathered.TheVariants.{Finished}
 use Rattle.om_process.specs.declared.accept.Accept.TheVariants as accepts
 use Rattle.om_process.specs.declared.status.Status.{Status}
@@ -48,6 +48,11 @@ abbrev pub flush_shown : Answer → Shown
 flush_shown (answers.Noted count) = if count == 0 then shows.Nothing else shows.Flush
 flush_shown _ = shows.Nothing
 
+-- of a flush of so many receipts
+abbrev pub first_shown : ℕ → Answer → Shown
+first_shown many (answers.Noted count) = if (count == 0) || (many == 0) then shows.Nothing else shows.FlushFirst many
+first_shown many _ = shows.Nothing
+
 abbrev pub checkpoint_shown : Answer → Shown
 checkpoint_shown (answers.Noted count) = shows.Checkpoint
 checkpoint_shown _ = shows.Nothing
@@ -75,6 +80,7 @@ abbrev pub shown : Bool → Event → Answer → Shown
 shown ended (events.Run process fuel) answer = run_shown ended answer
 shown ended (events.Give process frame) answer = give_shown frame answer
 shown ended (events.Flush process) answer = flush_shown answer
+shown ended (events.FlushFirst process many) answer = first_shown many answer
 shown ended (events.Checkpoint process) answer = checkpoint_shown answer
 shown ended (events.Resend process) answer = resend_shown answer
 shown ended (events.Trim process) answer = shows.Nothing

@@ -1,7 +1,7 @@
 //! What an event shows, by its answer.
 
 ghost use Rattle.std.specs.Prelude.{◌≡◌};
-ghost use Rattle.om_sheet.specs.Shows.{checkpoint_shown, end_of, failure_shown, flush_shown, give_shown, is_finished, join_shown, refusal_shown, resend_shown, resume_shown, run_shown, shown};
+ghost use Rattle.om_sheet.specs.Shows.{checkpoint_shown, end_of, failure_shown, first_shown, flush_shown, give_shown, is_finished, join_shown, refusal_shown, resend_shown, resume_shown, run_shown, shown};
 
 use crate::step::Step;
 use om_manager::Gathered;
@@ -31,8 +31,12 @@ pub enum Shown {
     Refused {
         frame: usize,
     },
-    /// What was received is stored.
+    /// All that was received is stored.
     Flush,
+    /// So many receipts are stored, the first ones that were in memory only.
+    FlushFirst {
+        count: usize,
+    },
     Checkpoint,
     /// The process failed; declared, a gathering is open.
     Failure {
@@ -55,6 +59,7 @@ pub fn shown_of(step: &Step, ended: bool) -> Shown
         Event::Run { .. } => run_shown(step.answer, ended),
         Event::Give { frame, .. } => give_shown(step.answer, frame),
         Event::Flush { .. } => flush_shown(step.answer),
+        Event::FlushFirst { count, .. } => first_shown(step.answer, count),
         Event::Checkpoint { .. } => checkpoint_shown(step.answer),
         Event::Resend { .. } => resend_shown(step.answer),
         Event::Fail { .. } => failure_shown(step.answer),
@@ -117,6 +122,21 @@ fn flush_shown(answer: Answer) -> Shown
 {
     match answer {
         Answer::Noted(count) if count > 0 => Shown::Flush,
+        _ => Shown::Nothing,
+    }
+}
+
+// Of a flush of so many receipts.
+fn first_shown(answer: Answer, many: usize) -> Shown
+    ensures { result ≡ first_shown many answer }
+{
+    match answer {
+        Answer::Noted(count) => {
+            if count == 0 || many == 0 {
+                return Shown::Nothing;
+            }
+            Shown::FlushFirst { count: many }
+        }
         _ => Shown::Nothing,
     }
 }

@@ -54,6 +54,7 @@ pub fn process_of(event: Event) -> Option<usize>
         Event::Run { process, .. }
         | Event::Give { process, .. }
         | Event::Flush { process }
+        | Event::FlushFirst { process, .. }
         | Event::Checkpoint { process }
         | Event::Resend { process }
         | Event::Trim { process }

@@ -125,6 +125,7 @@ pub plain-event : (event : Event) → is_plain_text (event_text event) ≡ true
 plain-event (events.Run process fuel) = plain-pair process fuel
 plain-event (events.Give process frame) = plain-pair process frame
 plain-event (events.Flush process) = plain-decimal process
+plain-event (events.FlushFirst process count) = plain-pair process count
 plain-event (events.Checkpoint process) = plain-decimal process
 plain-event (events.Resend process) = plain-decimal process
 plain-event (events.Trim process) = plain-decimal process

@@ -19,6 +19,7 @@ pub fn push_event(text: &mut String, event: Event) -> Result<(), AllocError>
         Event::Run { process, fuel } => write!(text, "run {process} {fuel}"),
         Event::Give { process, frame } => write!(text, "give {process} {frame}"),
         Event::Flush { process } => write!(text, "flush {process}"),
+        Event::FlushFirst { process, count } => write!(text, "flush {process} {count}"),
         Event::Checkpoint { process } => write!(text, "checkpoint {process}"),
         Event::Resend { process } => write!(text, "resend {process}"),
         Event::Trim { process } => write!(text, "trim {process}"),

@@ -11,7 +11,7 @@ use Rattle.om_process.specs.Process.{Program}
 use Rattle.om_process.specs.declared.accept.Accept.{Accept}
 use Rattle.om_process.specs.declared.turns.Ran.{Ran}
 use Rattle.om_recover.specs.Cutting.{IsEffective}
-use Rattle.om_recover.specs.declared.row.RowKind.{RowKind}
+use Rattle.om_member.specs.declared.batch.Batch.{Batch}
 use Rattle.om_manager.specs.Bounds.{AreGotFrom}
 use Rattle.om_manager.specs.State.{ManagerState, held_by, released_by}
 use Rattle.om_manager.specs.declared.answers.OutputError.{OutputError}
@@ -42,7 +42,7 @@ use Rattle.om_world.proofs.Trimming.{IsTrimmedIn, after_trim}
 
 module _ {S : Type 0} (content : S → Content) (is_clean : S → Bool) (failed : S → ℕ) (IsSound : S → Type 0) (P : List Program) (L : List Entry) (F : List Message) (ms : List (Member S)) (M : ManagerState) (O : List Content) (p : ℕ) (m : Member S) (at : slice_get ms p ≡ Some m) (n : Member S) (v : WorldState) (i : IsWorld (sound_in IsSound) ms (seen content (health_of is_clean failed) P L F ms M O)) (e : seen content (health_of is_clean failed) P L F ms M O ≡ v) where
   -- ---- it stored
-  module _ (kind : RowKind) (r : Result (Result (Unit {0}) StoreError) NotUp) (up : IsUp v p) (did : IfOk r (λ a. HasStored content failed is_clean IsSound kind m a n)) (not : OnErr r (IsNotUp m.standing)) where
+  module _ (kind : Batch) (r : Result (Result (Unit {0}) StoreError) NotUp) (up : IsUp v p) (did : IfOk r (λ a. HasStored content failed is_clean IsSound kind m a n)) (not : OnErr r (IsNotUp m.standing)) where
     stored : (a : Result (Unit {0}) StoreError) × (r ≡ Ok a) × HasStored content failed is_clean IsSound kind m a n
     stored = was_up r (λ a. HasStored content failed is_clean IsSound kind m a n) m.standing (is_up content (health_of is_clean failed) IsSound P L F ms M O p m at v e up) did not
 

@@ -10,7 +10,7 @@ use Rattle.om_process.specs.Stores.{flushed}
 use Rattle.om_recover.specs.declared.note.Note.{Note}
 use Rattle.om_recover.specs.declared.note.Note.TheVariants.{Noted, Known}
 use Rattle.om_recover.specs.declared.note.NoteError.TheVariants as notes
-use Rattle.om_recover.specs.declared.row.RowKind.TheVariants.{Log}
+use Rattle.om_member.specs.declared.batch.Batch.TheVariants.{Log}
 use Rattle.om_recover.specs.Rows.{Rows}
 use Rattle.om_manager.specs.Notes.{after_note}
 use Rattle.om_manager.specs.Rounds.{Gathers}
@@ -118,7 +118,7 @@ pub join_not_stored : (w v : WorldState) (p : ℕ) (fault : StoreError) (told : 
 join_not_stored w v p fault told up opened h is known = subst (λ r. Happened w (Event.Join p) (answered r) v) (sym is) (by fault h)
   where
     by : (fault : StoreError) → HasCalled Log w p (Err fault) v → Happened w (Event.Join p) (answers.Refused (refusal_of_store fault)) v
-    by store_errors.Present h = absurd (h.free known refl refl)
+    by store_errors.Present h = absurd (h.free known tt refl)
     by store_errors.Fault h = (up, opened, h.counted refl, (store_refused Log w v p store_errors.Fault up h known).2)
     by store_errors.Memory h = (up, opened, inl (store_refused Log w v p store_errors.Memory up h known).1)
 

@@ -1,8 +1,8 @@
 -- What a store gains, and what stays true.
-use Rattle.std.proofs.Common.{◌≡◌, ◌≢◌, ◌⊎◌, inl, inr, ℕ, zero, suc, ◌+◌, ◌-◌, ◌≤◌, ◌<◌, List, [], ◌∷◌, ◌++◌, length, take, map, set, Some, true, false, refl, sym, ap, ◌∙◌, subst, arith, length-append}
+use Rattle.std.proofs.Common.{◌≡◌, ◌≢◌, ◌⊎◌, inl, inr, ℕ, zero, suc, ◌+◌, ◌-◌, ◌≤◌, ◌<◌, List, [], ◌∷◌, ◌++◌, length, take, drop, map, set, Some, true, false, refl, sym, ap, ◌∙◌, subst, arith, append_assoc, length-append}
 use Rattle.std.specs.Prelude.{slice_get, slice_index}
 use Rattle.std.specs.FinMap.{get, insert}
-use Rattle.std.proofs.lemmas.List.{take_all}
+use Rattle.std.proofs.lemmas.List.{take_all, take-append-drop}
 use Rattle.om_interval.specs.Starts.{is_named, newest_of}
 use Rattle.om_format.specs.Checkpoints.{CheckpointRecord, IsSpelled}
 use Rattle.om_format.specs.Receipts.{SpellsReceipt}
@@ -13,10 +13,14 @@ use Rattle.om_process.specs.declared.row.PendingRow.{PendingRow}
 use Rattle.om_process.specs.Process.{Process, Program, Received}
 use Rattle.om_process.specs.Replays.{received_of, process_of}
 use Rattle.om_process.specs.Core.{CoreState, LoggedRecord}
-use Rattle.om_process.specs.Stores.{log_row, flushed, checkpointed, checkpoint_row, first_logged, HasGainedLog, HasGainedCheckpoint}
+use Rattle.om_process.specs.Stores.{log_row, flushed_first, checkpointed, checkpoint_row, first_logged, HasGainedFirst, HasGainedCheckpoint}
 use Rattle.om_process.specs.steps.Pieces.{SpellLog}
 use Rattle.om_process.specs.Claims.{AtInterval, RowOf, CheckpointOf, RecordOf}
+use Rattle.om_process.proofs.Flying.{whole_first}
+use Rattle.om_process.proofs.Logging.{among_first, whole_flushed}
 use Rattle.om_process.proofs.Making.{interval_along}
+use Rattle.om_member.specs.declared.batch.Batch.{Batch}
+use Rattle.om_member.specs.declared.batch.Batch.TheVariants as batches
 use Rattle.om_recover.specs.declared.row.RowKind.{RowKind}
 use Rattle.om_recover.specs.declared.row.RowKind.TheVariants.{Checkpoint, Log}
 use Rattle.om_world.specs.declared.place.Place.{Place}
@@ -118,23 +122,25 @@ logged_at v p held c r i l e =
     place : (n x : ℕ) → x ≡ n + 1 → n + i + 1 ≡ x + i
     place n x f = omega arith
 
-gained_record : (kind : RowKind) (c : CoreState) (a b : Content) (of : RowKind) (x : ℕ) → HasGained kind c a b → HasBytes a of x → HasBytes b of x
-gained_record Log c a b Checkpoint x g h = (h.0, ap (λ (d : Content). get d.checkpoints x) g.2 ∙ h.1)
-gained_record Log c a b Log x g h = let r = with_all_keeps a.receipts (first_logged c) g.0 x h in (r.0, ap (λ (d : Content). get d.receipts x) g.2 ∙ r.1)
-gained_record Checkpoint c a b Log x g h = (h.0, ap (λ (d : Content). get d.receipts x) g.1.4 ∙ h.1)
-gained_record Checkpoint c a b Checkpoint x g h = elim (either x c.now.interval) [
+gained_record : (kind : Batch) (c : CoreState) (a b : Content) (of : RowKind) (x : ℕ) → HasGained kind c a b → HasBytes a of x → HasBytes b of x
+gained_record batches.Log c a b Checkpoint x g h = (h.0, ap (λ (d : Content). get d.checkpoints x) g.2 ∙ h.1)
+gained_record batches.Log c a b Log x g h = let r = with_all_keeps a.receipts (first_logged c) g.0 x h in (r.0, ap (λ (d : Content). get d.receipts x) g.2 ∙ r.1)
+gained_record (batches.First k) c a b Checkpoint x g h = (h.0, ap (λ (d : Content). get d.checkpoints x) g.2 ∙ h.1)
+gained_record (batches.First k) c a b Log x g h = let r = with_all_keeps a.receipts (first_logged c) g.0 x h in (r.0, ap (λ (d : Content). get d.receipts x) g.2 ∙ r.1)
+gained_record batches.Checkpoint c a b Log x g h = (h.0, ap (λ (d : Content). get d.receipts x) g.1.4 ∙ h.1)
+gained_record batches.Checkpoint c a b Checkpoint x g h = elim (either x c.now.interval) [
   | inl same ↦ (g.1.2, ap (λ (d : Content). get d.checkpoints x) g.1.4 ∙ ap (get (insert a.checkpoints c.now.interval g.1.2)) same ∙ get-insert_here a.checkpoints c.now.interval g.1.2)
   | inr other ↦ (h.0, ap (λ (d : Content). get d.checkpoints x) g.1.4 ∙ get-insert_apart a.checkpoints c.now.interval g.1.2 x other ∙ h.1)
 ]
 
-gained_stored : (v : Past) (p : ℕ) (a b : Content) (c : CoreState) → HasGainedLog c a b → IsRunning v p a c → IsStored v p a → IsStored v p b
-gained_stored v p a b c g r s = record {
+first_stored : (k : ℕ) (v : Past) (p : ℕ) (a b : Content) (c : CoreState) → HasGainedFirst k c a b → IsRunning v p a c → IsStored v p a → IsStored v p b
+first_stored k v p a b c g r s = record {
   checkpoints = λ x bytes le at. s.checkpoints x bytes le (sym (ap (λ (d : Content). get d.checkpoints x) g.2) ∙ at);
   receipts = λ x bytes some le at. elim (with_all_from a.receipts (first_logged c) g.0 x bytes (sym (ap (λ (d : Content). get d.receipts x) g.2) ∙ at)) [
     | inl old ↦ s.receipts x bytes some le old
     | inr new ↦
-        let l = spell_at c.log g.0 new.0 bytes g.1 new.2 in
-        let is = logged_at v p a c r new.0 l.0 l.1 in
+        let l = spell_at (take k c.log) g.0 new.0 bytes g.1 new.2 in
+        let is = logged_at v p a c r new.0 l.0 (among_first k c.log new.0 l.0 l.1) in
         (l.0.receipt, l.2, (le, subst (λ y. RecordOf (program_at v.programs p) p (length v.programs) l.0.receipt (take y (history v p))) (sym new.1) is.2))
   ];
 }
@@ -154,16 +160,31 @@ nothing_more : (h : List Received) → h ≡ h ++ []
 nothing_more [] = refl
 nothing_more (r ∷ h) = ap (λ g. r ∷ g) (nothing_more h)
 
-gained_running : (v : Past) (p : ℕ) (a b : Content) (c : CoreState) → HasGainedLog c a b → IsRunning v p a c → IsRunning v p b (flushed c)
-gained_running v p a b c g r = record {
+-- the log behind some of its receipts comes after those
+receipts_parted : (k : ℕ) (ls : List LoggedRecord) → receipts_in ls ≡ receipts_in (take k ls) ++ receipts_in (drop k ls)
+receipts_parted zero ls = refl
+receipts_parted (suc k) [] = refl
+receipts_parted (suc k) (l ∷ ls) = ap (λ rs. received_of l.receipt ∷ rs) (receipts_parted k ls)
+
+along_behind : (program : Program) (own n k : ℕ) (h : List Received) (ls : List LoggedRecord) → LogAlong program own n h ls → LogAlong program own n (h ++ receipts_in (take k ls)) (drop k ls)
+along_behind program own n zero h ls a = subst (λ g. LogAlong program own n g ls) (nothing_more h) a
+along_behind program own n (suc k) h [] a = tt
+along_behind program own n (suc k) h (l ∷ ls) a = subst (λ g. LogAlong program own n g (drop k ls)) (append_assoc h (received_of l.receipt ∷ []) (receipts_in (take k ls))) (along_behind program own n k (h ++ received_of l.receipt ∷ []) ls a.2)
+
+first_running : (k : ℕ) (v : Past) (p : ℕ) (a b : Content) (c : CoreState) → HasGainedFirst k c a b → IsRunning v p a c → IsRunning v p b (flushed_first k c)
+first_running k v p a b c g r = record {
   state = r.state;
   kept = r.kept;
-  log = (history v p, nothing_more (history v p), tt);
-  pending = λ i row e. elim (row_at c.pending c.log i row e) [
-    | inl old ↦ let k = r.pending i row old in record { row_of = k.row_of; begun = k.begun; backed = elim k.backed [ inl has ↦ inl (gained_record Log c a b (kind_of row) row.x g has) | inr is ↦ inr is ] }
+  log = (
+    r.log.0 ++ receipts_in (take k c.log),
+    r.log.1 ∙ ap (λ rs. r.log.0 ++ rs) (receipts_parted k c.log) ∙ sym (append_assoc r.log.0 (receipts_in (take k c.log)) (receipts_in (drop k c.log))),
+    along_behind (program_at v.programs p) p (length v.programs) k r.log.0 c.log r.log.2,
+  );
+  pending = λ i row e. elim (row_at c.pending (take k c.log) i row e) [
+    | inl old ↦ let was = r.pending i row old in record { row_of = was.row_of; begun = was.begun; backed = elim was.backed [ inl has ↦ inl (gained_record (batches.First k) c a b (kind_of row) row.x g has) | inr is ↦ inr is ] }
     | inr new ↦
-        let is = logged_at v p a c r new.0 new.1 new.2 in
-        let bytes = spelled c.log g.0 new.0 new.1 g.1 new.2 in
+        let is = logged_at v p a c r new.0 new.1 (among_first k c.log new.0 new.1 new.2) in
+        let bytes = spelled (take k c.log) g.0 new.0 new.1 g.1 new.2 in
         let here : get b.receipts (first_logged c + new.0) ≡ Some bytes.0 = ap (λ (d : Content). get d.receipts (first_logged c + new.0)) g.2 ∙ get-with_all_at a.receipts (first_logged c) g.0 new.0 bytes.0 bytes.1 in
         let f = first_is v p a c r in let at = is.1 in
         subst (λ (x : PendingRow). IsPending v p b x) (sym new.3) (record {
@@ -178,16 +199,20 @@ gained_running v p a b c g r = record {
   };
 }
   where
-    past : (y : ℕ) → c.now.interval + 1 - 0 ≤ y → first_logged c + length g.0 ≤ y
+    parted : (j : ℕ) (ls : List LoggedRecord) → length ls ≡ length (take j ls) + length (drop j ls)
+    parted j ls = ap length (sym (take-append-drop j ls)) ∙ length-append (take j ls) (drop j ls)
+
+    past : (y : ℕ) → c.now.interval + 1 - length (drop k c.log) ≤ y → first_logged c + length g.0 ≤ y
     past y le =
         let f = first_is v p a c r in
         let now = interval_is v p a c r in
         let all : length (history v p) ≡ length r.log.0 + length (receipts_in c.log) = ap length r.log.1 ∙ length-append r.log.0 (receipts_in c.log) in
-        let many = receipts_long c.log in let same = as_many c.log g.0 g.1 in
+        let many = receipts_long c.log in let same = as_many (take k c.log) g.0 g.1 in
+        let parts = parted k c.log in
         omega arith
 
-    low : (y : ℕ) → c.now.interval + 1 - 0 ≤ y → first_logged c ≤ y
-    low y le = omega arith
+    low : (y : ℕ) → c.now.interval + 1 - length (drop k c.log) ≤ y → first_logged c ≤ y
+    low y le = let parts = parted k c.log in omega arith
 
 -- what holds along all receipts holds at their number
 at_all : (h : List Received) (x : ℕ) (P : List Received → Type 0) → x ≡ length h → P h → AtInterval h x P
@@ -224,13 +249,13 @@ row_last [] new row (suc i) e = absurd (none i e)
 row_last (x ∷ rows) new row zero e = inl e
 row_last (x ∷ rows) new row (suc i) e = row_last rows new row i e
 
-pub checkpoint_running : (v : Past) (p : ℕ) (a b : Content) (c : CoreState) → HasGained Checkpoint c a b → IsRunning v p a c → IsRunning v p b (checkpointed c)
+pub checkpoint_running : (v : Past) (p : ℕ) (a b : Content) (c : CoreState) → HasGained batches.Checkpoint c a b → IsRunning v p a c → IsRunning v p b (checkpointed c)
 checkpoint_running v p a b c g r = record {
   state = r.state;
   kept = r.kept;
   log = r.log;
   pending = λ i row e. elim (row_last c.pending (checkpoint_row c) row i e) [
-    | inl old ↦ let k = r.pending i row old in record { row_of = k.row_of; begun = k.begun; backed = elim k.backed [ inl has ↦ inl (gained_record Checkpoint c a b (kind_of row) row.x g has) | inr is ↦ inr is ] }
+    | inl old ↦ let k = r.pending i row old in record { row_of = k.row_of; begun = k.begun; backed = elim k.backed [ inl has ↦ inl (gained_record batches.Checkpoint c a b (kind_of row) row.x g has) | inr is ↦ inr is ] }
     | inr new ↦ subst (λ (x : PendingRow). IsPending v p b x) (sym new) (record {
       row_of = at_all (history v p) c.now.interval (RowOf p (length v.programs) c.now.vec c.now.got) (interval_is v p a c r) (row_of (program_at v.programs p) p (length v.programs) c.now (history v p) r.state);
       begun = λ e. absurd (apart_bools e);
@@ -247,27 +272,32 @@ checkpoint_running v p a b c g r = record {
     apart y lt = let i = interval_is v p a c r in omega arith
 
 -- ---- either of them
-store_stored : (kind : RowKind) (v : Past) (p : ℕ) (a b : Content) (c : CoreState) → IsCoreOf (length v.programs) p c → HasGained kind c a b → IsRunning v p a c → IsStored v p a → IsStored v p b
-store_stored Log v p a b c own g r s = gained_stored v p a b c g r s
-store_stored Checkpoint v p a b c own g r s = checkpoint_stored v p a b c own g.1 r s
+store_stored : (kind : Batch) (v : Past) (p : ℕ) (a b : Content) (c : CoreState) → IsCoreOf (length v.programs) p c → HasGained kind c a b → IsRunning v p a c → IsStored v p a → IsStored v p b
+store_stored batches.Log v p a b c own g r s = first_stored (length c.log) v p a b c (whole_first c a b g) r s
+store_stored (batches.First k) v p a b c own g r s = first_stored k v p a b c g r s
+store_stored batches.Checkpoint v p a b c own g r s = checkpoint_stored v p a b c own g.1 r s
 
-store_running : (kind : RowKind) (v : Past) (p : ℕ) (a b : Content) (c : CoreState) → HasGained kind c a b → IsRunning v p a c → IsRunning v p b (stored kind c)
-store_running Log v p a b c g r = gained_running v p a b c g r
-store_running Checkpoint v p a b c g r = checkpoint_running v p a b c g r
+store_running : (kind : Batch) (v : Past) (p : ℕ) (a b : Content) (c : CoreState) → HasGained kind c a b → IsRunning v p a c → IsRunning v p b (stored kind c)
+store_running batches.Log v p a b c g r = subst (λ (d : CoreState). IsRunning v p b d) (whole_flushed c) (first_running (length c.log) v p a b c (whole_first c a b g) r)
+store_running (batches.First k) v p a b c g r = first_running k v p a b c g r
+store_running batches.Checkpoint v p a b c g r = checkpoint_running v p a b c g r
 
-store_up : (kind : RowKind) (w : WorldState) (p : ℕ) (c : CoreState) → IsUpIn w.manager p c → IsUpIn w.manager p (stored kind c)
-store_up Log w p c u = record { round = u.round; starts = u.starts; inc = u.inc; away = u.away }
-store_up Checkpoint w p c u = record { round = u.round; starts = u.starts; inc = u.inc; away = u.away }
+store_up : (kind : Batch) (w : WorldState) (p : ℕ) (c : CoreState) → IsUpIn w.manager p c → IsUpIn w.manager p (stored kind c)
+store_up batches.Log w p c u = record { round = u.round; starts = u.starts; inc = u.inc; away = u.away }
+store_up (batches.First k) w p c u = record { round = u.round; starts = u.starts; inc = u.inc; away = u.away }
+store_up batches.Checkpoint w p c u = record { round = u.round; starts = u.starts; inc = u.inc; away = u.away }
 
-store_inc : (kind : RowKind) (c : CoreState) → (stored kind c).inc ≡ c.inc
-store_inc Log c = refl
-store_inc Checkpoint c = refl
+store_inc : (kind : Batch) (c : CoreState) → (stored kind c).inc ≡ c.inc
+store_inc batches.Log c = refl
+store_inc (batches.First k) c = refl
+store_inc batches.Checkpoint c = refl
 
-store_interval : (kind : RowKind) (c : CoreState) → (stored kind c).now.interval ≡ c.now.interval
-store_interval Log c = refl
-store_interval Checkpoint c = refl
+store_interval : (kind : Batch) (c : CoreState) → (stored kind c).now.interval ≡ c.now.interval
+store_interval batches.Log c = refl
+store_interval (batches.First k) c = refl
+store_interval batches.Checkpoint c = refl
 
-pub sound_store : (kind : RowKind) (w : WorldState) (p : ℕ) (a b : Content) (c : CoreState) (health : List Health) → HasShape w → Sound w → slice_get w.cores p ≡ Some (Some c) → slice_get w.contents p ≡ Some a → Runs w p → HasGained kind c a b
+pub sound_store : (kind : Batch) (w : WorldState) (p : ℕ) (a b : Content) (c : CoreState) (health : List Health) → HasShape w → Sound w → slice_get w.cores p ≡ Some (Some c) → slice_get w.contents p ≡ Some a → Runs w p → HasGained kind c a b
     → Sound (remade w w.live w.frames (set w.cores p (Some (stored kind c))) w.manager (set w.contents p b) health)
 sound_store kind w p a b c health h s at holds runs g =
     let v = past_of w in

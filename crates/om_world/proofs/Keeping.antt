@@ -2,7 +2,7 @@
 use Rattle.std.proofs.Common.{◌≡◌, ℕ, List, [], ◌∷◌, Result, sym, ap, ◌∙◌, subst, arith}
 use Rattle.om_stable.specs.declared.error.StoreError.{StoreError}
 use Rattle.om_process.specs.declared.row.PendingRow.{PendingRow}
-use Rattle.om_recover.specs.declared.row.RowKind.{RowKind}
+use Rattle.om_member.specs.declared.batch.Batch.{Batch}
 use Rattle.om_manager.specs.Sound.{KeepsReleased}
 use Rattle.om_manager.specs.State.{ManagerState, process_count, released_by}
 use Rattle.om_manager.specs.declared.answers.RecordError.{RecordError}
@@ -36,7 +36,7 @@ keeps_by old new manager health origins = record {
   origins = origins;
 }
 
-pub keeps_called : (kind : RowKind) (w v : WorldState) (p : ℕ) (a : Result (Unit {0}) StoreError) → HasCalled kind w p a v → Keeps w v
+pub keeps_called : (kind : Batch) (w v : WorldState) (p : ℕ) (a : Result (Unit {0}) StoreError) → HasCalled kind w p a v → Keeps w v
 keeps_called kind w v p a h = record {
   size = ap (λ (x : WorldState). process_count x.manager) h.others;
   released = subst (λ m. KeepsReleased w.manager m) (sym (ap (λ (x : WorldState). x.manager) h.others)) (keeps_same w.manager);
@@ -46,7 +46,7 @@ keeps_called kind w v p a h = record {
 }
 
 -- a process stored, and its rows were told
-pub keeps_recorded : (kind : RowKind) (w mid v : WorldState) (p count : ℕ) (a : Result (Unit {0}) StoreError) (end : Result (Unit {0}) RecordError) → HasCalled kind w p a mid → HasTold mid p count end v → Keeps w v
+pub keeps_recorded : (kind : Batch) (w mid v : WorldState) (p count : ℕ) (a : Result (Unit {0}) StoreError) (end : Result (Unit {0}) RecordError) → HasCalled kind w p a mid → HasTold mid p count end v → Keeps w v
 keeps_recorded kind w mid v p count a end h t = record {
   size = told_size mid.manager v.manager t.core.round p _ t.told.told ∙ ap (λ (x : WorldState). process_count x.manager) h.others;
   released = subst (λ m. KeepsReleased m v.manager) (ap (λ (x : WorldState). x.manager) h.others) (told_keeps mid.manager v.manager t.core.round p _ t.told.told);

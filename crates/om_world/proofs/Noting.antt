@@ -12,7 +12,8 @@ use Rattle.om_process.specs.Stores.{first_logged}
 use Rattle.om_recover.specs.declared.note.Note.{Note}
 use Rattle.om_recover.specs.declared.note.NoteError.TheVariants.{Memory}
 use Rattle.om_recover.specs.declared.row.Row.{Row}
-use Rattle.om_recover.specs.declared.row.RowKind.{RowKind}
+use Rattle.om_member.specs.declared.batch.Batch.{Batch}
+use Rattle.om_member.specs.declared.batch.Batch.TheVariants as batches
 use Rattle.om_recover.specs.declared.row.RowKind.TheVariants.{Checkpoint, Log}
 use Rattle.om_manager.specs.State.{ManagerState}
 use Rattle.om_manager.specs.declared.answers.RecordError.{RecordError}
@@ -20,7 +21,7 @@ use Rattle.om_manager.specs.declared.answers.RecordError.TheVariants.{Refused}
 use Rattle.om_world.specs.Changes.{IsUp, row_for, stored}
 use Rattle.om_world.specs.World.{Health, WorldState, IsKnown, all_clean}
 use Rattle.om_world.specs.steps.Past.{Past, past_of, history}
-use Rattle.om_world.specs.steps.Moves.{AreTold, Gained, IsCalled, IsTold, IsToldUpTo, HasCalled, HasTold, after_store}
+use Rattle.om_world.specs.steps.Moves.{AreTold, Gained, IsCalled, IsTold, IsToldUpTo, HasCalled, HasTold, IsOfLog, after_store}
 use Rattle.om_world.specs.steps.Sound.{HasBytes, HasShape, IsOld, IsPending, IsWorld, Sound, kind_of}
 use Rattle.om_world.proofs.FailureCounts.{called_counts, counted}
 use Rattle.om_world.proofs.Gaining.{sound_store, sound_clean}
@@ -171,17 +172,18 @@ has_told IsSound xs w p count end m cs i up n = record {
 }
 
 -- ---- a store that was called
-abbrev pub IsCalledIn : {S : Type 0} → (S → Content) → (S → Health) → (S → Type 0) → RowKind → List (Option CoreState) → ℕ → Result (Unit {0}) StoreError → List S → List S → List (Option CoreState) → Type 0
+abbrev pub IsCalledIn : {S : Type 0} → (S → Content) → (S → Health) → (S → Type 0) → Batch → List (Option CoreState) → ℕ → Result (Unit {0}) StoreError → List S → List S → List (Option CoreState) → Type 0
 IsCalledIn content health IsSound kind cores p answer xs ys cs = (c : CoreState) × (slice_get cores p ≡ Some (Some c)) × (cs ≡ set cores p (Some (after_store kind c answer))) × IsCalled content health IsSound (answer ≡ Err Fault) xs ys p (Gained kind c answer)
 
 abbrev pub over : {S : Type 0} → (S → Content) → (S → Health) → WorldState → List S → List (Option CoreState) → WorldState
 over content health w xs cs = remade w w.live w.frames cs w.manager (map content xs) (map health xs)
 
-same_stored : (kind : RowKind) (c : CoreState) → ((stored kind c).own ≡ c.own) × ((stored kind c).now ≡ c.now)
-same_stored Log c = (refl, refl)
-same_stored Checkpoint c = (refl, refl)
+same_stored : (kind : Batch) (c : CoreState) → ((stored kind c).own ≡ c.own) × ((stored kind c).now ≡ c.now)
+same_stored batches.Log c = (refl, refl)
+same_stored (batches.First k) c = (refl, refl)
+same_stored batches.Checkpoint c = (refl, refl)
 
-pub after_called : {S : Type 0} (content : S → Content) (health : S → Health) (IsSound : S → Type 0) (kind : RowKind) (w : WorldState) (p : ℕ) (answer : Result (Unit {0}) StoreError) (xs ys : List S) (cs : List (Option CoreState))
+pub after_called : {S : Type 0} (content : S → Content) (health : S → Health) (IsSound : S → Type 0) (kind : Batch) (w : WorldState) (p : ℕ) (answer : Result (Unit {0}) StoreError) (xs ys : List S) (cs : List (Option CoreState))
     → IsWorld IsSound xs (over content health w xs w.cores) → IsUp w p → IsCalledIn content health IsSound kind w.cores p answer xs ys cs → IsWorld IsSound ys (over content health w ys cs)
 after_called content health IsSound kind w p (Ok done) xs ys cs i up n =
     let c = n.0 in let at = n.1 in let k = n.3 in
@@ -214,12 +216,13 @@ after_called content health IsSound kind w p (Err why) xs ys cs i up n =
           );
     }))
   where
-    same_content : (kind : RowKind) (c : CoreState) (why : StoreError) (a b : Content) → Gained kind c (Err why) a b → b ≡ a
-    same_content Log c why a b g = g.0
-    same_content Checkpoint c why a b g = g.0
+    same_content : (kind : Batch) (c : CoreState) (why : StoreError) (a b : Content) → Gained kind c (Err why) a b → b ≡ a
+    same_content batches.Log c why a b g = g.0
+    same_content (batches.First k) c why a b g = g.0
+    same_content batches.Checkpoint c why a b g = g.0
 
 -- what the call did, as the world is told it
-pub has_called : {S : Type 0} (content : S → Content) (health : S → Health) (IsSound : S → Type 0) (kind : RowKind) (w : WorldState) (p : ℕ) (answer : Result (Unit {0}) StoreError) (xs ys : List S) (cs : List (Option CoreState))
+pub has_called : {S : Type 0} (content : S → Content) (health : S → Health) (IsSound : S → Type 0) (kind : Batch) (w : WorldState) (p : ℕ) (answer : Result (Unit {0}) StoreError) (xs ys : List S) (cs : List (Option CoreState))
     → IsWorld IsSound xs (over content health w xs w.cores) → IsUp w p → IsCalledIn content health IsSound kind w.cores p answer xs ys cs → HasCalled kind (over content health w xs w.cores) p answer (over content health w ys cs)
 has_called content health IsSound kind w p answer xs ys cs i up n = record {
   core = n.0;
@@ -229,7 +232,7 @@ has_called content health IsSound kind w p answer xs ys cs i up n = record {
   was_clean = λ all. let k = n.3 in (clean_before health xs p k.before k.after k.there k.clean (subst (λ zs. all_clean (map health zs) ≡ true) k.stores all)).0;
   counted = counted content health IsSound p xs ys (Gained kind n.0 answer) n.3;
   counts = called_counts content health IsSound p xs ys (Gained kind n.0 answer) n.3;
-  free = λ all log present. let d = done all in taken (d.2) log present (d.3 (length n.0.log));
+  free = λ all log present. let d = done all in taken kind d.2 log present d.3;
 }
   where
     done : IsKnown (over content health w ys cs) → (slice_get (map content xs) p ≡ Some (content n.3.before)) × (map content ys ≡ set (map content xs) p (content n.3.after)) × Gained kind n.0 answer (content n.3.before) (content n.3.after)
@@ -249,5 +252,7 @@ has_called content health IsSound kind w p answer xs ys cs i up n = record {
         some_none : (o : Option (List ℕ)) → o ≡ None → IsSome o → ⊥
         some_none o e f = cc
 
-    taken : Gained kind n.0 answer (content n.3.before) (content n.3.after) → kind ≡ Log → answer ≡ Err Present → (IsTaken (content n.3.before).receipts (first_logged n.0) (length n.0.log) → ⊥) → ⊥
-    taken g log present none = none ((subst (λ a. Gained Log n.0 a (content n.3.before) (content n.3.after)) present (subst (λ k. Gained k n.0 answer (content n.3.before) (content n.3.after)) log g)).1 refl)
+    taken : (of : Batch) → Gained of n.0 answer (content n.3.before) (content n.3.after) → IsOfLog of → answer ≡ Err Present → ((k : ℕ) → IsTaken (content n.3.before).receipts (first_logged n.0) k → ⊥) → ⊥
+    taken batches.Log g log present none = none (length n.0.log) ((subst (λ a. Gained batches.Log n.0 a (content n.3.before) (content n.3.after)) present g).1 refl)
+    taken (batches.First k) g log present none = none (length (take k n.0.log)) ((subst (λ a. Gained (batches.First k) n.0 a (content n.3.before) (content n.3.after)) present g).1 refl)
+    taken batches.Checkpoint g log present none = absurd log

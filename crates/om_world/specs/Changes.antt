@@ -8,7 +8,7 @@ pub use Rattle.om_process.specs.Frames.{message_of}
 use Rattle.om_process.specs.Core.{CoreState, cluster_size, with_pending}
 use Rattle.om_process.specs.Frames.{messages_to, outputs_of}
 use Rattle.om_process.specs.Kept.{numbered}
-use Rattle.om_recover.specs.declared.row.RowKind.{RowKind}
+use Rattle.om_member.specs.declared.batch.Batch.{Batch}
 use Rattle.om_member.specs.Told.{AreTold}
 use Rattle.om_manager.specs.Outputs.{HeldOutput}
 use Rattle.om_manager.specs.State.{ManagerState, held_by}
@@ -71,7 +71,7 @@ HoldsMore old p new = (more : List HeldOutput) × (new ≡ record old { outputs 
 
 -- ---- records that are stored and noted
 -- the store of process p gained it
-abbrev pub HasStored : RowKind → WorldState → ℕ → CoreState → WorldState → Type 0
+abbrev pub HasStored : Batch → WorldState → ℕ → CoreState → WorldState → Type 0
 HasStored kind old p c new =
     (before : Content) × (after : Content) × (slice_get old.contents p ≡ Some before) × HasGained kind c before after
     × (new.contents ≡ slice_set old.contents p after)
@@ -84,6 +84,6 @@ pub record HasNoted (old : WorldState) (p : ℕ) (c d : CoreState) (count : ℕ)
   pub frames : new.frames ≡ old.frames
 
 -- memory was refused: nothing is stored, or all of it, and some of the pending rows are noted
-abbrev pub StoreStopped : RowKind → WorldState → ℕ → WorldState → Type 0
+abbrev pub StoreStopped : Batch → WorldState → ℕ → WorldState → Type 0
 StoreStopped kind old p new = IsSame old new ⊎ ((c : CoreState) × (count : ℕ)
     × HasStored kind old p c new × HasNoted old p c (stored kind c) count new × (count < length (stored kind c).pending))

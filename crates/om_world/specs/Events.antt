@@ -8,6 +8,7 @@ abbrev pub process_of : Event → Option ℕ
 process_of (events.Run process fuel) = Some process
 process_of (events.Give process frame) = Some process
 process_of (events.Flush process) = Some process
+process_of (events.FlushFirst process count) = Some process
 process_of (events.Checkpoint process) = Some process
 process_of (events.Resend process) = Some process
 process_of (events.Trim process) = Some process

@@ -6,7 +6,6 @@ use Rattle.om_process.specs.Core.{CoreState, with_pending}
 use Rattle.om_process.specs.Resumes.{resumed}
 use Rattle.om_process.specs.Stored.{IsReplay}
 use Rattle.om_process.specs.Stores.{flushed}
-use Rattle.om_recover.specs.declared.row.RowKind.TheVariants.{Log}
 use Rattle.om_manager.specs.Rounds.{Gathers, with_presence}
 use Rattle.om_manager.specs.State.{ManagerState, held_by}
 use Rattle.om_manager.specs.declared.answers.Gathered.{Gathered}
@@ -14,6 +13,7 @@ use Rattle.om_manager.specs.declared.presence.Presence.TheVariants as presences
 use Rattle.om_manager.specs.declared.answers.Gathered.TheVariants.{Waiting, Finished}
 use Rattle.om_world.specs.declared.entry.Entry.{Entry}
 use Rattle.om_world.specs.declared.place.Place.{Place}
+use Rattle.om_member.specs.declared.batch.Batch.TheVariants.{Log}
 use Rattle.om_member.specs.Told.{AreTold}
 use Rattle.om_world.specs.Changes.{Changes, HasStored, HoldsMore, IsSame, IsUp, made_by}
 use Rattle.om_world.specs.Live.{cut_list}

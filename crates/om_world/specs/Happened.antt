@@ -9,13 +9,13 @@ use Rattle.om_process.specs.declared.status.Status.{Status}
 use Rattle.om_process.specs.Core.{CoreState, CoreTurns, with_now, RunsTo}
 use Rattle.om_process.specs.Accepts.{Answers, taken}
 use Rattle.om_recover.specs.Cutting.{IsEffective, IsPruned}
-use Rattle.om_recover.specs.declared.row.RowKind.{RowKind}
-use Rattle.om_recover.specs.declared.row.RowKind.TheVariants.{Checkpoint, Log}
 use Rattle.om_manager.specs.Bounds.{AreGotFrom}
 use Rattle.om_manager.specs.Gatherings.{AreAllIn}
 use Rattle.om_manager.specs.Rounds.{Gathers, IsSpent, with_presence}
 use Rattle.om_manager.specs.State.{held_by, process_count, released_by}
 use Rattle.om_manager.specs.declared.presence.Presence.TheVariants as presences
+use Rattle.om_member.specs.declared.batch.Batch.{Batch}
+use Rattle.om_member.specs.declared.batch.Batch.TheVariants.{Checkpoint, First, Log}
 use Rattle.om_member.specs.Members.{trimmed_core}
 use Rattle.om_world.specs.declared.event.Event.{Event}
 use Rattle.om_world.specs.declared.event.Answer.{Answer}
@@ -68,7 +68,7 @@ GiveHappened old p f accepts.Memory new = ⊥
 GiveHappened old p f answer new = (m : Message) × (c : CoreState) × IsOffer old p f m c × Answers c m answer × (new ≡ old)
 
 -- ---- records that are stored and noted
-abbrev pub StoreHappened : RowKind → WorldState → ℕ → ℕ → WorldState → Type 0
+abbrev pub StoreHappened : Batch → WorldState → ℕ → ℕ → WorldState → Type 0
 StoreHappened kind old p count new =
     (c : CoreState) × HasStored kind old p c new × HasNoted old p c (stored kind c) count new × (count ≡ length (stored kind c).pending)
 
@@ -124,6 +124,8 @@ Refused old (Event.Give p f) refusals.NoFrame new = IsUp old p × (length old.fr
 Refused old (Event.Give p f) refusals.Memory new = (m : Message) × (c : CoreState) × IsOffer old p f m c × (new ≡ old)
 Refused old (Event.Flush p) refusals.Memory new = IsUp old p × StoreStopped Log old p new
 Refused old (Event.Flush p) refusals.Fault new = IsUp old p × HasFailed old p new × IsSame old new
+Refused old (Event.FlushFirst p k) refusals.Memory new = IsUp old p × StoreStopped (First k) old p new
+Refused old (Event.FlushFirst p k) refusals.Fault new = IsUp old p × HasFailed old p new × IsSame old new
 Refused old (Event.Checkpoint p) refusals.Memory new = IsUp old p × StoreStopped Checkpoint old p new
 Refused old (Event.Checkpoint p) refusals.Fault new = IsUp old p × HasFailed old p new × IsSame old new
 Refused old (Event.Checkpoint p) refusals.Present new = IsUp old p × HasCheckpoint old p × IsSame old new
@@ -146,6 +148,7 @@ Happened old event (answers.Refused why) new = Refused old event why new
 Happened old (Event.Run p fuel) (answers.Ran steps status sent made) new = RunHappened old p fuel steps status sent made new
 Happened old (Event.Give p f) (answers.Given answer) new = GiveHappened old p f answer new
 Happened old (Event.Flush p) (answers.Noted count) new = StoreHappened Log old p count new
+Happened old (Event.FlushFirst p k) (answers.Noted count) new = StoreHappened (First k) old p count new
 Happened old (Event.Checkpoint p) (answers.Noted count) new = StoreHappened Checkpoint old p count new
 Happened old (Event.Resend p) (answers.Resent count) new = ResendHappened old p count new
 Happened old (Event.Trim p) answers.Trimmed new = TrimHappened old p new

@@ -16,6 +16,8 @@ pub enum Event {
     Give { process: usize, frame: usize },
     /// The process stores its volatile log, and its pending rows are noted.
     Flush { process: usize },
+    /// The process stores the first `count` receipts of its volatile log, or all where it is shorter, and its pending rows are noted.
+    FlushFirst { process: usize, count: usize },
     /// The process stores a checkpoint, and its pending rows are noted.
     Checkpoint { process: usize },
     /// Each message that the process keeps becomes a new frame.

@@ -17,8 +17,7 @@ use crate::failing::cut_where_finished;
 use crate::world::World;
 use om_interval::Pid;
 use om_manager::{Gathered, JoinError};
-use om_member::NotUp;
-use om_recover::RowKind;
+use om_member::{Batch, NotUp};
 use om_stable::Stable;
 use std::alloc::Global;
 
@@ -66,7 +65,7 @@ impl<S: Stable> World<S> {
     {
         self.is_up(p)?;
         self.is_gathering()?;
-        self.store(alloc, p, RowKind::Log)?;
+        self.store(alloc, p, Batch::Log)?;
         self.note(alloc, p)?;
         self.hand_in(alloc, p)?;
         let told = self.enter(alloc, p)?;

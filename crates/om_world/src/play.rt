@@ -12,7 +12,7 @@ ghost use Rattle.om_world.specs.steps.Moves.{Keeps, answered};
 
 use crate::event::{Answer, Event, Refusal};
 use crate::world::World;
-use om_recover::RowKind;
+use om_member::Batch;
 use om_stable::Stable;
 use std::alloc::{AllocError, Global};
 
@@ -37,8 +37,13 @@ impl<S: Stable> World<S> {
         match event {
             Event::Run { process, fuel } => self.run(alloc, process, fuel),
             Event::Give { process, frame } => self.give(alloc, process, frame),
-            Event::Flush { process } => self.record(alloc, process, RowKind::Log),
-            Event::Checkpoint { process } => self.record(alloc, process, RowKind::Checkpoint),
+            Event::Flush { process } => self.record(alloc, process, Batch::Log),
+            Event::FlushFirst { process, count } => self.record(
+                alloc,
+                process,
+                Batch::First(count),
+            ),
+            Event::Checkpoint { process } => self.record(alloc, process, Batch::Checkpoint),
             Event::Resend { process } => self.resend(alloc, process),
             Event::Trim { process } => self.trim(process),
             Event::Fail { process } => self.fail(alloc, process),

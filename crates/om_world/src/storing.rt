@@ -14,8 +14,7 @@ use crate::event::{Answer, Refusal};
 use crate::world::World;
 use om_interval::Pid;
 use om_manager::RecordError;
-use om_member::NotUp;
-use om_recover::RowKind;
+use om_member::{Batch, NotUp};
 use om_stable::{Stable, StoreError};
 use std::alloc::Global;
 
@@ -38,8 +37,8 @@ fn told_noted(answer: Result<(usize, Result<(), RecordError>), NotUp>) -> Result
 }
 
 impl<S: Stable> World<S> {
-    // Stores what a process that is up keeps of a kind.
-    pub(crate) fn store(&mut self, alloc: Global, p: usize, kind: RowKind) -> Result<(), Refusal>
+    // Stores a batch of what a process that is up keeps.
+    pub(crate) fn store(&mut self, alloc: Global, p: usize, kind: Batch) -> Result<(), Refusal>
         requires { IsUp self.old p }
         ensures called { (answer : Result (Unit {0}) StoreError) × HasCalled kind self.old p answer self.new
             × (result ≡ told_of refusal_of_store (Ok answer)) }
@@ -61,13 +60,8 @@ impl<S: Stable> World<S> {
 }
 
 impl<S: Stable> World<S> {
-    // Stores what a process keeps of a kind, and notes its pending rows.
-    pub(crate) fn record(
-        &mut self,
-        alloc: Global,
-        p: usize,
-        kind: RowKind,
-    ) -> Result<Answer, Refusal>
+    // Stores a batch of what a process keeps, and notes its pending rows.
+    pub(crate) fn record(&mut self, alloc: Global, p: usize, kind: Batch) -> Result<Answer, Refusal>
         ensures happened { IsKnown self.new → Happened self.old (event_of kind p) (answered result) self.new }
         ensures keeps { Keeps self.old self.new }
         ensures counted { IsCounted self.old self.new (answered result) }

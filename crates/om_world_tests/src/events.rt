@@ -478,3 +478,141 @@ fn laws_are_called(_rt: HostRuntime) {
     laws::released_first();
     laws::frames_cut();
 }
+
+// Receives twice.
+static TAKES_TWO: [u32; 8] = [
+    0x0020_0893,
+    0x0400_0513,
+    0x0040_0593,
+    0x0000_0073,
+    0x0020_0893,
+    0x0400_0513,
+    0x0040_0593,
+    0x0000_0073,
+];
+
+// Sends its first 4 bytes to process 1, twice.
+static SENDS_TWO: [u32; 8] = [
+    0x0010_0893,
+    0x0010_0513,
+    0x0040_0613,
+    0x0000_0073,
+    0x0010_0893,
+    0x0010_0513,
+    0x0040_0613,
+    0x0000_0073,
+];
+
+fn two_stores(alloc: Global) -> Result<Vec<MemStable>, AllocError>
+    ensures { IfOk result (λ stores. length stores.items ≡ 2) }
+{
+    let mut stores = Vec::with_capacity(alloc, 2)?;
+    stores.push_reserved(MemStable::new(alloc));
+    stores.push_reserved(MemStable::new(alloc));
+    Ok(stores)
+}
+
+fn two_images(alloc: Global) -> Result<Vec<Image>, AllocError>
+    ensures { IfOk result (λ images. length images.items ≡ 2) }
+{
+    let mut images = Vec::with_capacity(alloc, 2)?;
+    images.push_reserved(image(alloc, &SENDS_TWO, 64)?);
+    images.push_reserved(image(alloc, &TAKES_TWO, 128)?);
+    Ok(images)
+}
+
+// Two processes: the first sends two messages to the second.
+fn pair(alloc: Global) -> Result<World<MemStable>, StartFault> {
+    let images = two_images(alloc)?;
+    let stores = two_stores(alloc)?;
+    World::start(alloc, &images, stores)
+}
+
+// Process 1 takes both messages, and stores one receipt, none, what is left, and nothing more.
+static STORED_IN_PARTS: [Event; 12] = [
+    Event::Run {
+        process: 0,
+        fuel: 100,
+    },
+    Event::Run {
+        process: 1,
+        fuel: 100,
+    },
+    Event::Give {
+        process: 1,
+        frame: 0,
+    },
+    Event::Run {
+        process: 1,
+        fuel: 100,
+    },
+    Event::Give {
+        process: 1,
+        frame: 1,
+    },
+    Event::FlushFirst {
+        process: 1,
+        count: 1,
+    },
+    Event::FlushFirst {
+        process: 1,
+        count: 0,
+    },
+    Event::FlushFirst {
+        process: 1,
+        count: 2,
+    },
+    Event::Flush { process: 1 },
+    Event::FlushFirst {
+        process: 2,
+        count: 1,
+    },
+    Event::Fail { process: 1 },
+    Event::FlushFirst {
+        process: 1,
+        count: 1,
+    },
+];
+
+static STORED_IN_PARTS_ANSWERS: [Answer; 7] = [
+    Answer::Noted(1),
+    Answer::Noted(0),
+    Answer::Noted(1),
+    Answer::Noted(0),
+    Answer::Refused(Refusal::NoProcess),
+    Answer::Gathered(Gathered::Waiting),
+    Answer::Refused(Refusal::NotUp),
+];
+
+// The place of process 1 in the recovery state after so many of these events.
+fn recovered(rt: &impl Abort, alloc: Global, events: &[Event]) -> u32 {
+    let mut world = pair(alloc).expect(rt, "a world");
+    let answers = world.play(alloc, events).expect(rt, "memory");
+    drop(answers);
+    let recovery = world.manager().recovery();
+    assert!(rt; recovery.n() == 2);
+    let place = recovery.get(Pid::at(1));
+    drop(world);
+    place
+}
+
+#[test]
+fn a_log_is_stored_in_parts(rt: HostRuntime) {
+    let mut world = pair(rt.alloc()).expect(&rt, "a world");
+    let answers = world
+        .play(rt.alloc(), &STORED_IN_PARTS)
+        .expect(&rt, "memory");
+    let told = answers.as_slice().get(5..).unwrap_or(&[]);
+    assert_eq!(&rt; told, STORED_IN_PARTS_ANSWERS.as_slice());
+    drop(answers);
+    drop(world);
+}
+
+// What is stored is recovered, and no more.
+#[test]
+fn a_part_that_is_stored_is_recovered(rt: HostRuntime) {
+    for (count, place) in [(5, 0), (6, 1), (7, 1), (8, 2)] {
+        let events = STORED_IN_PARTS.as_slice().get(..count).unwrap_or(&[]);
+        assert!(rt; recovered(&rt, rt.alloc(), events) == place, "{count}");
+    }
+}

@@ -5,13 +5,13 @@ use Rattle.om_text.specs.Reading.{◌>>=◌}
 use Rattle.om_text.specs.declared.error.LineError.{LineError}
 use Rattle.om_text.specs.declared.error.LineError.TheVariants.{UnknownLine}
 use Rattle.om_world.specs.declared.event.Event.{Event}
-use Rattle.om_world.specs.declared.event.Event.TheVariants.{Flush, Checkpoint, Fail, Join, Resume, Resend, Trim}
-use Rattle.om_commands.specs.Events.{process_in}
+use Rattle.om_world.specs.declared.event.Event.TheVariants.{Checkpoint, Fail, Join, Resume, Resend, Trim}
+use Rattle.om_commands.specs.Events.{flush_line, process_in}
 
 -- the event of a line that names a process alone
 abbrev pub event_at : List ℕ → List (List ℕ) → Result Event LineError
 event_at first words =
-    if bytes_eq first (codes "flush") then (process_in words >>= λ p. Ok (Flush p))
+    if bytes_eq first (codes "flush") then flush_line words
     else (if bytes_eq first (codes "checkpoint") then (process_in words >>= λ p. Ok (Checkpoint p))
     else (if bytes_eq first (codes "fail") then (process_in words >>= λ p. Ok (Fail p))
     else (if bytes_eq first (codes "join") then (process_in words >>= λ p. Ok (Join p))

@@ -1,7 +1,7 @@
 -- Marks that are added to a picture, one step of its drawing at a time.
 use Rattle.std.specs.Prelude.{◌≡◌, ◌≢◌, ℕ, zero, suc, ◌+◌, ◌^◌, ◌<◌, ◌≤◌, ◌-◌, ◌==◌, Bool, true, false, not, ◌&&◌, ◌||◌, if◌then◌else◌, is_some, max, nat_le, nat_lt, List, [], ◌∷◌, ◌++◌, Option, None, Some, length, slice_index, slice_set}
 use Rattle.om_picture.specs.Drawing.{Edge, LaneState, Sketch, all_marks, held_in, lane_in, lane_marks, lane_of, new_lane, waiting_marks}
-use Rattle.om_picture.specs.Fates.{EventAt, EventRow, Fate, cuts, has_ended, highest, interval_behind, is_cut, is_loose, is_stored, next_place}
+use Rattle.om_picture.specs.Fates.{EventAt, EventRow, Fate, Progress, cuts, has_ended, has_loose, highest, is_cut, is_saved, next_place, progress_behind, saved}
 use Rattle.om_picture.specs.Marks.{AreTheSame, EventMark, Kind, Saved, Taken, Worked, fated_marks, log_marks, marks_on, released_at, sure_marks, title_entry}
 use Rattle.om_picture.specs.Held.{covered_by, held_behind, is_any_elsewhere, left_by, left_behind, may_wait}
 use Rattle.om_picture.specs.Places.{is_shown}
@@ -16,19 +16,18 @@ use Rattle.om_sheet.specs.declared.shown.Shown.TheVariants as shows
 
 -- ---- a lane
 -- one mark more waits
-pub record IsMore (mark : Mark) (old new : LaneState) : Type 0 where
-  pub few : old.stored ≤ length old.waiting
-  pub lane : new ≡ record old { waiting = old.waiting ++ mark ∷ [] }
+abbrev pub IsMore : Mark → LaneState → LaneState → Type 0
+IsMore mark old new = new ≡ record old { waiting = old.waiting ++ mark ∷ [] }
 
 -- the first mark waits no more
 pub record Takes (mark : Mark) (old new : LaneState) : Type 0 where
   pub was : old.waiting ≡ mark ∷ new.waiting
-  pub lane : new ≡ record old { stored = old.stored - 1; waiting = new.waiting }
+  pub lane : new ≡ record old { waiting = new.waiting }
 
 pub record TakesFirst (next : Next) (old new : LaneState) : Type 0 where
   pub takes : Takes next.mark old new
   pub covered : next.covered ≡ nat_le next.mark.interval old.reached
-  pub stored : next.stored ≡ nat_lt 0 old.stored
+  pub stored : next.stored ≡ nat_le next.mark.interval old.progress.safe
 
 pub record TakesCovered (mark : Mark) (old new : LaneState) : Type 0 where
   pub takes : Takes mark old new
@@ -38,16 +37,13 @@ abbrev pub Ends : Bool → LaneState → LaneState → Type 0
 Ends ended old new = new ≡ record old { ended = old.ended || ended }
 
 abbrev pub Receives : ℕ → LaneState → LaneState → Type 0
-Receives interval old new = new ≡ record old { interval = interval; loose = true }
+Receives interval old new = new ≡ record old { progress = record old.progress { interval = interval } }
 
-abbrev pub Stores : LaneState → LaneState → Type 0
-Stores old new = new ≡ record old { stored = length old.waiting; loose = false }
-
-abbrev pub Loses : LaneState → LaneState → Type 0
-Loses old new = new ≡ record old { loose = false }
+abbrev pub Stores : Option ℕ → LaneState → LaneState → Type 0
+Stores many old new = new ≡ record old { progress = saved many old.progress }
 
 abbrev pub GoesBack : ℕ → LaneState → LaneState → Type 0
-GoesBack interval old new = new ≡ record old { interval = interval; ended = false }
+GoesBack interval old new = new ≡ record old { progress = record { interval = interval; safe = interval }; ended = false }
 
 abbrev pub Raises : ℕ → LaneState → LaneState → Type 0
 Raises place old new = new ≡ record old { reached = max old.reached place }
@@ -55,7 +51,7 @@ Raises place old new = new ≡ record old { reached = max old.reached place }
 -- a mark waits of an event that shows this, at a place
 abbrev pub Waits : ℕ → Shown → ℕ → EventAt → LaneState → LaneState → Type 0
 Waits x shown fresh entry old new =
-    (mark : Mark) × IsMore mark old new × (mark.at.x ≡ x) × (mark.interval ≡ old.interval) × (mark.shown ≡ shown) × (mark.fresh ≡ fresh)
+    (mark : Mark) × IsMore mark old new × (mark.at.x ≡ x) × (mark.interval ≡ old.progress.interval) × (mark.shown ≡ shown) × (mark.fresh ≡ fresh)
     × (title_entry mark.title mark.at ≡ entry)
 
 -- ---- a picture
@@ -75,11 +71,11 @@ pub record Turns (Turn : LaneState → LaneState → Type 0) (old new : Sketch) 
   pub lanes : new.lanes ≡ slice_set old.lanes p (lane_of new p)
   pub turn : Turn (lane_of old p) (lane_of new p)
 
--- the receipts of a process are stored, and the event that does so is drawn, if there are some in memory only
-pub record Logs (entry : EventAt) (old new : Sketch) (p : ℕ) : Type 0 where
+-- receipts of a process are stored, and the event that does so is drawn, if there are some in memory only
+pub record Logs (many : Option ℕ) (entry : EventAt) (old new : Sketch) (p : ℕ) : Type 0 where
   pub stored : Sketch
-  pub turns : Turns Stores old stored p
-  pub settles : Settles stored new (if old.on then log_marks (lane_of old p).loose entry else [])
+  pub turns : Turns (Stores many) old stored p
+  pub settles : Settles stored new (if old.on then log_marks (has_loose (lane_of old p).progress) entry else [])
 
 -- the window is reached, if this is a line of it
 pub record Reaches (old new : Sketch) (line : ℕ) : Type 0 where
@@ -132,45 +128,34 @@ pub record PlacesEvent (old new : Sketch) (row : EventRow) : Type 0 where
   pub lane : (p : ℕ) → process_of row.entry.event ≡ Some p → row.entry.at.lane ≡ lane_number p
 
 -- ---- what an event shows
-abbrev pub interval_shown : ℕ → Shown → ℕ
-interval_shown was (shows.Receipt frame interval) = interval
-interval_shown was (shows.Back interval inc) = interval
-interval_shown was _ = was
+abbrev pub progress_shown : Progress → Shown → Progress
+progress_shown was (shows.Receipt frame interval) = record was { interval = interval }
+progress_shown was shows.Flush = saved None was
+progress_shown was (shows.FlushFirst count) = saved (Some count) was
+progress_shown was shows.Join = saved None was
+progress_shown was (shows.Back interval inc) = record { interval = interval; safe = interval }
+progress_shown was _ = was
 
 abbrev pub ended_shown : Bool → Shown → Bool
 ended_shown was (shows.Run sent made ends) = was || is_some ends
 ended_shown was (shows.Back interval inc) = false
 ended_shown was _ = was
 
-abbrev pub loose_shown : Bool → Shown → Bool
-loose_shown was (shows.Receipt frame interval) = true
-loose_shown was shows.Flush = false
-loose_shown was shows.Join = false
-loose_shown was (shows.Failure declared) = false
-loose_shown was _ = was
-
-abbrev pub is_stored_by : Shown → Bool
-is_stored_by shows.Flush = true
-is_stored_by shows.Join = true
-is_stored_by _ = false
-
 -- what the lane of its process is behind it, and what its marks come to: the new one among them
 pub record LaneShows (on : Bool) (shown : Shown) (fresh : ℕ) (entry : EventAt) (old new : LaneState) : Type 0 where
-  pub interval : new.interval ≡ interval_shown old.interval shown
+  pub progress : new.progress ≡ progress_shown old.progress shown
   pub ended : new.ended ≡ ended_shown old.ended shown
-  pub loose : new.loose ≡ loose_shown old.loose shown
   pub reached : new.reached ≡ old.reached
-  pub stored : new.stored ≡ (if is_stored_by shown then length old.waiting else old.stored)
   pub held : held_in new
-      ≡ held_in old ++ (if may_wait shown then record { interval = new.interval; fresh = fresh; x = entry.at.x } ∷ [] else [])
-  pub waits : (fate : ℕ → Bool → Fate) → waiting_marks fate new.stored new.waiting
-      ≡ waiting_marks fate new.stored old.waiting ++ (if on then fated_marks shown fresh (fate new.interval false) entry else [])
+      ≡ held_in old ++ (if may_wait shown then record { interval = new.progress.interval; fresh = fresh; x = entry.at.x } ∷ [] else [])
+  pub waits : (fate : ℕ → Fate) → waiting_marks fate new.waiting
+      ≡ waiting_marks fate old.waiting ++ (if on then fated_marks shown fresh (fate new.progress.interval) entry else [])
 
 -- an event of a process shows this
 pub record Shows (old new : Sketch) (p : ℕ) (shown : Shown) (fresh : ℕ) (entry : EventAt) : Type 0 where
   pub on : new.on ≡ old.on
   pub edge : new.edge ≡ old.edge
-  pub drawn : new.drawn ≡ old.drawn ++ (if old.on then sure_marks (lane_of old p).loose shown entry else [])
+  pub drawn : new.drawn ≡ old.drawn ++ (if old.on then sure_marks (has_loose (lane_of old p).progress) shown entry else [])
   pub within : p < length old.lanes
   pub lanes : new.lanes ≡ slice_set old.lanes p (lane_of new p)
   pub lane : LaneShows old.on shown fresh entry (lane_of old p) (lane_of new p)
@@ -189,20 +174,19 @@ ShowsEvent old new row = ShowsOn (process_of row.entry.event) old new row
 
 -- ---- what waits
 -- the fate of an interval, where only the recovery state and the round of this event are still to come, and all behind it
-abbrev pub fate_amid : EventRow → List EventRow → ℕ → ℕ → Bool → ℕ → Fate
-fate_amid row later p interval stored was =
-    let now = cuts interval (next_place p was row) row in
-    let cut = now || is_cut p interval (next_place p was row) later in
-    let covered = not cut && nat_le interval (highest p (next_place p was row) later) in
+abbrev pub fate_amid : EventRow → List EventRow → ℕ → ℕ → ℕ → Progress → Fate
+fate_amid row later p interval place now =
+    let cut_now = cuts interval (next_place p place row) row in
+    let cut = cut_now || is_cut p interval (next_place p place row) later in
+    let covered = not cut && nat_le interval (highest p (next_place p place row) later) in
     record {
       cut = cut;
       covered = covered;
-      stored = covered || (stored || (not now && is_stored p interval (next_place p was row) later));
+      stored = covered || (if cut_now then nat_le interval now.safe else is_saved p interval (next_place p place row) now later);
     }
 
 abbrev pub amid_marks : EventRow → List EventRow → ℕ → LaneState → List EventMark
-amid_marks row later p lane =
-    waiting_marks (λ interval stored. fate_amid row later p interval stored lane.reached) lane.stored lane.waiting
+amid_marks row later p lane = waiting_marks (λ interval. fate_amid row later p interval lane.reached lane.progress) lane.waiting
 
 -- the fate of what is settled now: covered; or else cut, where a round is finished
 abbrev pub fate_now : Bool → Bool → Bool → Fate
@@ -210,7 +194,7 @@ fate_now finished covered stored = record { cut = finished && not covered; cover
 
 abbrev pub now_marks : Bool → ℕ → LaneState → List EventMark
 now_marks finished p lane =
-    waiting_marks (λ interval stored. fate_now finished (nat_le interval lane.reached) stored) lane.stored lane.waiting
+    waiting_marks (λ interval. fate_now finished (nat_le interval lane.reached) (nat_le interval lane.progress.safe)) lane.waiting
 
 -- a recovery state covers it
 abbrev pub kept : Fate
@@ -231,16 +215,14 @@ made_by _ = 0
 
 -- what is known of a process stays
 pub record Stays (old new : LaneState) : Type 0 where
-  pub interval : new.interval ≡ old.interval
+  pub progress : new.progress ≡ old.progress
   pub ended : new.ended ≡ old.ended
-  pub loose : new.loose ≡ old.loose
   pub reached : new.reached ≡ old.reached
 
 -- the same, where its place in a recovery state is told
 pub record Told (place : ℕ) (old new : LaneState) : Type 0 where
-  pub interval : new.interval ≡ old.interval
+  pub progress : new.progress ≡ old.progress
   pub ended : new.ended ≡ old.ended
-  pub loose : new.loose ≡ old.loose
   pub reached : new.reached ≡ max old.reached place
 
 -- and what that covers waits no more
@@ -331,9 +313,8 @@ pub record IsAmid (n : ℕ) (before : List EventRow) (row : EventRow) (old new :
   pub on : new.on ≡ old.on
   pub edge : new.edge ≡ old.edge
   pub count : length new.lanes ≡ n
-  pub interval : (p : ℕ) → p < n → (lane_of new p).interval ≡ interval_behind p (before ++ row ∷ [])
+  pub progress : (p : ℕ) → p < n → (lane_of new p).progress ≡ progress_behind p (before ++ row ∷ [])
   pub ended : (p : ℕ) → p < n → (lane_of new p).ended ≡ has_ended p (before ++ row ∷ [])
-  pub loose : (p : ℕ) → p < n → (lane_of new p).loose ≡ is_loose p (before ++ row ∷ [])
   pub held : (p : ℕ) → p < n → held_in (lane_of new p) ≡ held_behind p before ++ left_by p before row
   pub reached : (p : ℕ) → p < n → (lane_of new p).reached ≡ highest p 0 before
   pub marks : (later : List EventRow) → AreTheSame (all_marks (amid_marks row later) new)

@@ -5,8 +5,6 @@ use Rattle.om_stable.specs.Count.{Rose}
 use Rattle.om_stable.specs.declared.error.StoreError.{StoreError}
 use Rattle.om_stable.specs.declared.error.StoreError.TheVariants.{Present}
 use Rattle.om_stable.specs.declared.error.StoreError.TheVariants as store_errors
-use Rattle.om_recover.specs.declared.row.RowKind.{RowKind}
-use Rattle.om_recover.specs.declared.row.RowKind.TheVariants.{Checkpoint, Log}
 use Rattle.om_manager.specs.Sound.{KeepsReleased}
 use Rattle.om_manager.specs.State.{process_count}
 use Rattle.om_recover.specs.declared.note.NoteError.TheVariants as refusals
@@ -31,6 +29,8 @@ use Rattle.om_world.specs.declared.event.Refusal.{Refusal}
 use Rattle.om_world.specs.declared.event.Refusal.TheVariants as why
 use Rattle.om_process.specs.Core.{CoreState, CoreTurns, with_now, with_pending, RunsTo}
 use Rattle.om_world.specs.Changes.{HasFailed, NoneFell}
+use Rattle.om_member.specs.declared.batch.Batch.{Batch}
+use Rattle.om_member.specs.declared.batch.Batch.TheVariants.{Checkpoint, First, Log}
 use Rattle.om_member.specs.declared.member.NotUp.{NotUp}
 pub use Rattle.om_member.specs.Members.{Gained, after_store, trimmed_core}
 pub use Rattle.om_member.specs.Told.{AreTold, IsTold, IsToldUpTo}
@@ -98,8 +98,13 @@ pub record IsCalled {S : Type 0} (content : S → Content) (health : S → Healt
   pub did : IsTrue (health after).clean → IsSound before → Did (content before) (content after)
 
 -- ---- the manager
--- a process stored what it keeps of a kind, or its store refused; a log's receipts are never there already
-pub record HasCalled (kind : RowKind) (old : WorldState) (p : ℕ) (answer : Result (Unit {0}) StoreError) (new : WorldState) : Type 0 where
+-- receipts of the log
+abbrev pub IsOfLog : Batch → Type 0
+IsOfLog Checkpoint = ⊥
+IsOfLog batch = Unit {0}
+
+-- a process stored a batch of what it keeps, or its store refused; a log's receipts are never there already
+pub record HasCalled (kind : Batch) (old : WorldState) (p : ℕ) (answer : Result (Unit {0}) StoreError) (new : WorldState) : Type 0 where
   pub core : CoreState
   pub there : slice_get old.cores p ≡ Some (Some core)
   pub others : new ≡ record old {
@@ -112,7 +117,7 @@ pub record HasCalled (kind : RowKind) (old : WorldState) (p : ℕ) (answer : Res
   pub was_clean : all_clean new.health ≡ true → all_clean old.health ≡ true
   pub counted : answer ≡ Err store_errors.Fault → HasFailed old p new
   pub counts : NoneFell old.health new.health
-  pub free : IsKnown new → kind ≡ Log → answer ≡ Err Present → ⊥
+  pub free : IsKnown new → IsOfLog kind → answer ≡ Err Present → ⊥
 
 -- the pending rows of a process were offered up to the first that was refused, which was for want of memory
 pub record HasTold (old : WorldState) (p count : ℕ) (end : Result (Unit {0}) RecordError) (new : WorldState) : Type 0 where
@@ -125,9 +130,10 @@ pub record HasTold (old : WorldState) (p count : ℕ) (end : Result (Unit {0}) R
   }
   pub memory : IsKnown old → IfErr end (λ fault. fault ≡ Refused refusals.Memory)
 
--- the event that stores what is kept of a kind
-abbrev pub event_of : RowKind → ℕ → Event
+-- the event that stores a batch
+abbrev pub event_of : Batch → ℕ → Event
 event_of Log p = Event.Flush p
+event_of (First k) p = Event.FlushFirst p k
 event_of Checkpoint p = Event.Checkpoint p
 
 -- what each event leaves: what was released still is; where what the stores hold is known, it was; and counts do not fall

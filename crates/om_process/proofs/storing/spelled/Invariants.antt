@@ -5,4 +5,4 @@ use Rattle.om_process.specs.steps.Views.{logged_record}
 use Rattle.om_process.proofs.storing.spelled.Given as goal
 
 abbrev pub invariant-loop-logged : goal.invariant-loop-logged
-invariant-loop-logged l = SpellLog (map logged_record (take l.logged-index l.log.items)) (bytes_of l.recs.items)
+invariant-loop-logged l = SpellLog (map logged_record (take l.logged-index l.log)) (bytes_of l.recs.items)

@@ -11,4 +11,4 @@ returns c =
     sure_shown c.shape.result (shows.Refused c.args.frame) _ (step_entry c.args.step.now c.args.at) _
     (sketch_of c.args.self.now) (sketch_of c.shape.new.self) c.args.p
     (lane_there c.args.self.now.histories.items c.args.p c.requires) (λ loose. refl) (λ fate. refl)
-    (λ was. refl) (λ was. refl) (λ was. refl) refl refl c.shape.ensures
+    (λ was. refl) (λ was. refl) refl c.shape.ensures

@@ -1,5 +1,5 @@
 use Rattle.std.proofs.Common.{◌≡◌, ◌∙◌, Err, rules, ap, subst, sym, refl}
-use Rattle.om_recover.specs.declared.row.RowKind.TheVariants.{Log}
+use Rattle.om_member.specs.declared.batch.Batch.TheVariants.{Log}
 use Rattle.om_world.specs.Played.{IsCounted}
 use Rattle.om_world.specs.steps.Gathering.{HasEntered}
 use Rattle.om_world.specs.steps.Moves.{HasCalled, HasTold, answered, refusal_of_join, refusal_of_store}
