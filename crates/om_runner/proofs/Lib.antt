@@ -7,4 +7,5 @@ mod WireLemmas
 mod SettleLemmas
 mod ActLemmas
 mod FaultLemmas
+mod FlightLemmas
 mod FollowLemmas

@@ -13,7 +13,8 @@ use Rattle.om_format.specs.Queues.{QueueRecord, queue_end}
 use Rattle.om_format.specs.declared.version.Version.TheVariants.{V2}
 use Rattle.om_format.proofs.Checkpoints.{one_checkpoint}
 use Rattle.om_stable.specs.Calls.{IsCleanCall}
-use Rattle.om_stable.specs.Content.{Content, with_checkpoint, kept_by_cut, kept_by_prune}
+use Rattle.om_stable.specs.Batches.{pruned_to}
+use Rattle.om_stable.specs.Content.{Content, bytes_of, with_checkpoint, with_receipts, kept_by_cut, kept_by_prune}
 use Rattle.om_stable.proofs.RecordLemmas.{get-insert_here, get-insert_apart, get-retained}
 use Rattle.om_member.specs.Handed.{held_as}
 use Rattle.om_board.specs.Made.{IsOutputOf}
@@ -34,7 +35,11 @@ use Rattle.om_process.specs.Process.{Process, Received, delivered, empty_queue, 
 use Rattle.om_process.specs.Replays.{process_of}
 use Rattle.om_process.specs.Starting.{started_core}
 use Rattle.om_process.specs.Stored.{StandsAfter, Anyone, IsReplay}
-use Rattle.om_process.specs.Stores.{HasGainedLog, HasGainedCheckpoint, checkpointed, flushed}
+use Rattle.om_process.specs.Flights.{Carries, CarriesCheckpoint}
+use Rattle.om_process.specs.declared.flight.Flight.{Flight}
+use Rattle.om_process.specs.declared.flight.Spelled.{Spelled}
+use Rattle.om_process.specs.declared.row.PendingRow.{PendingRow}
+use Rattle.om_process.specs.Stores.{HasGainedLog, HasGainedCheckpoint, flushed}
 use Rattle.om_process.specs.Trims.{trimmed}
 use Rattle.om_process.specs.Turns.{Turns, IsWaiting, Along, next_move}
 use Rattle.om_process.proofs.Parts.{keeps_turns, keeps_waits, keeps_delivered, made_same, same_move}
@@ -42,6 +47,7 @@ use Rattle.om_process.proofs.Replays.{keeps_trim, replayed_along}
 use Rattle.om_process.proofs.Runs.{turns_then, leads_more}
 use Rattle.om_runner.specs.Reports.{IsWholeRun, nothing, outputs_made}
 use Rattle.om_runner.specs.steps.Nodes.{Member, IsOnWay, AreOnWay, IsKept, IsNode}
+use Rattle.om_runner.specs.steps.Storing.{with_flight, with_spelled}
 
 keep_themselves : (qs : List QueueRecord) → KeepQueues qs qs
 keep_themselves [] = tt
@@ -118,6 +124,27 @@ stored_cut m r held stored x bytes at c spelled =
 pub stored_pruned : (m : Member) (to : ℕ) (held : Content) → AreOnWay m held → AreOnWay m (kept_by_prune held to)
 stored_pruned m to held stored x bytes at c spelled =
     stored x bytes (kept_there _ _ bytes (sym (get-retained held.checkpoints _ x) ∙ at)) c spelled
+
+-- what a flight brings stands on the way
+pub stored_flight : (m : Member) (c : CoreState) (due : Bool) (f : Flight) (prune : Option ℕ) (held : Content)
+    → AreOnWay m held → IsOnWay m c.now → CarriesCheckpoint due c f.checkpoint → AreOnWay m (with_flight held f prune)
+stored_flight m c due f prune held stored on carries = stored_prune prune (with_spelled (with_receipts held f.first (bytes_of f.receipts.items)) f.checkpoint) (stored_spelled due f.checkpoint carries)
+  where
+    put : Content
+    put = with_receipts held f.first (bytes_of f.receipts.items)
+
+    stored_prune : (to : Option ℕ) (all : Content) → AreOnWay m all → AreOnWay m (pruned_to all to)
+    stored_prune None all are = are
+    stored_prune (Some to) all are = stored_pruned m to all are
+
+    stored_spelled : (b : Bool) (o : Option Spelled) → CarriesCheckpoint b c o → AreOnWay m (with_spelled put o)
+    stored_spelled true (Some s) is =
+        let at : s.row.x ≡ c.now.interval = ap (λ (r : PendingRow). r.x) is.row in
+        stored_checkpoint m c put (with_checkpoint put s.row.x s.bytes.items) stored on
+        (is.record_of, is.process, s.bytes.items, is.spelled, ap (λ x. with_checkpoint put x s.bytes.items) at)
+    stored_spelled false None is = stored
+    stored_spelled true None is = absurd is
+    stored_spelled false (Some s) is = absurd is
 
 -- ---- both
 -- after a call of the store, whatever became of the process
@@ -209,15 +236,17 @@ node_flushed content is_clean IsSound m core next old new is went clean sound ga
     subst (λ d. IsNode content is_clean IsSound (record { member = m; core = d }) new) (sym went)
     (node_called content is_clean IsSound m core (flushed core) old new is clean sound refl refl (λ on. on) (λ known on stored. stored_log m core (content old) (content new) stored (gained known)))
 
--- it has stored a checkpoint
-pub node_checkpointed : {S : Type 0} (content : S → Content) (is_clean : S → Bool) (IsSound : S → Type 0) (m : Member) (core next : CoreState) (old new : S)
-    → IsNode content is_clean IsSound (record { member = m; core = core }) old
-    → next ≡ checkpointed core → (IsTrue (is_clean new) → IsTrue (is_clean old)) → (IsTrue (is_clean new) → IsSound old → IsSound new)
-    → (IsCleanCall is_clean IsSound old new → HasGainedCheckpoint core (content old) (content new))
+-- it has stored what it handed over, and its store has dropped what stood before a checkpoint
+pub node_stored : {S : Type 0} (content : S → Content) (is_clean : S → Bool) (IsSound : S → Type 0) (m : Member) (core next : CoreState) (old new : S)
+    (k : ℕ) (due : Bool) (f : Flight) (prune : Option ℕ)
+    → IsNode content is_clean IsSound (record { member = m; core = core }) old → Carries k due core f
+    → next.own ≡ core.own → next.now ≡ core.now
+    → (IsTrue (is_clean new) → IsTrue (is_clean old)) → (IsTrue (is_clean new) → IsSound old → IsSound new)
+    → (IsCleanCall is_clean IsSound old new → content new ≡ with_flight (content old) f prune)
     → IsNode content is_clean IsSound (record { member = m; core = next }) new
-node_checkpointed content is_clean IsSound m core next old new is went clean sound gained =
-    subst (λ d. IsNode content is_clean IsSound (record { member = m; core = d }) new) (sym went)
-    (node_called content is_clean IsSound m core (checkpointed core) old new is clean sound refl refl (λ on. on) (λ known on stored. stored_checkpoint m core (content old) (content new) stored on (gained known)))
+node_stored content is_clean IsSound m core next old new k due f prune is carries own now clean sound gained =
+    node_called content is_clean IsSound m core next old new is clean sound own (ap cluster_size now) (λ on. subst (IsOnWay m) (sym now) on)
+    (λ known on stored. subst (AreOnWay m) (sym (gained known)) (stored_flight m core due f prune (content old) stored on carries.checkpoint))
 
 -- its store refused
 pub node_refused : {S : Type 0} (content : S → Content) (is_clean : S → Bool) (IsSound : S → Type 0) (m : Member) (core next : CoreState) (old new : S)
@@ -228,15 +257,6 @@ pub node_refused : {S : Type 0} (content : S → Content) (is_clean : S → Bool
 node_refused content is_clean IsSound m core next old new is went clean sound same =
     subst (λ d. IsNode content is_clean IsSound (record { member = m; core = d }) new) (sym went)
     (node_called content is_clean IsSound m core core old new is clean sound refl refl (λ on. on) (λ known on stored. subst (AreOnWay m) (sym (same known)) stored))
-
--- its store was pruned
-pub node_pruned : {S : Type 0} (content : S → Content) (is_clean : S → Bool) (IsSound : S → Type 0) (m : Member) (core : CoreState) (old new : S) (to : ℕ)
-    → IsNode content is_clean IsSound (record { member = m; core = core }) old
-    → (IsTrue (is_clean new) → IsTrue (is_clean old)) → (IsTrue (is_clean new) → IsSound old → IsSound new)
-    → (IsCleanCall is_clean IsSound old new → content new ≡ kept_by_prune (content old) to)
-    → IsNode content is_clean IsSound (record { member = m; core = core }) new
-node_pruned content is_clean IsSound m core old new to is clean sound pruned =
-    node_called content is_clean IsSound m core core old new is clean sound refl refl (λ on. on) (λ known on stored. subst (AreOnWay m) (sym (pruned known)) (stored_pruned m to (content old) stored))
 
 -- it keeps fewer entries
 pub node_trimmed : {S : Type 0} (content : S → Content) (is_clean : S → Bool) (IsSound : S → Type 0) (m : Member) (core next : CoreState) (store : S) (bounds : List ℕ)

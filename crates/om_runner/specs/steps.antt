@@ -6,6 +6,7 @@ pub mod Network
 pub mod Wiring
 pub mod Ends
 pub mod Settling
+pub mod Storing
 pub mod Acts
 pub mod Turning
 pub mod Refusals

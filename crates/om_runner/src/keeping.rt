@@ -97,6 +97,15 @@ impl Deposit {
     }
 }
 
+// What is due to be done in a store, with whatever is stored next.
+#[derive(Drop)]
+pub(crate) struct Due {
+    // The checkpoint before which nothing is kept any longer.
+    pub(crate) checkpoint: u32,
+    // What is put there before.
+    pub(crate) deposit: Deposit,
+}
+
 // How much of what a process did stands in its store beside the records. What stands there is never rolled back.
 #[derive(Clone, Copy)]
 pub(crate) struct Kept {

@@ -1,6 +1,6 @@
 //! A process over its store.
 
-ghost use Rattle.std.specs.Prelude.{◌≡◌, ◌↔◌, ◌<◌, IfErr, IfOk, IfSome, IsTrue, OnOk, drop, length};
+ghost use Rattle.std.specs.Prelude.{◌≡◌, ◌↔◌, ◌<◌, ◌+◌, ◌≤◌, IfErr, IfOk, IfSome, IsErrOf, IsTrue, OnErr, OnOk, drop, length};
 ghost use Rattle.om_manager.specs.State.{held_by, process_count};
 ghost use Rattle.om_member.specs.Handed.{AreHandedUpTo, outputs_from};
 ghost use Rattle.om_member.specs.Keeps.{Keeps};
@@ -13,16 +13,18 @@ ghost use Rattle.om_process.specs.Stores.{flushed};
 ghost use Rattle.om_runner.specs.Reports.{IsWholeRun, nothing};
 ghost use Rattle.om_runner.specs.Stores.{AreNeverClean};
 ghost use Rattle.om_runner.specs.steps.Nodes.{TakesFrom};
+ghost use Rattle.om_runner.specs.steps.Storing.{HasStored, with_flight};
+ghost use Rattle.om_stable.specs.Calls.{IsCleanCall, UsesStore};
+ghost use Rattle.om_stable.specs.declared.stable.TheConstants.{INTERVALS};
 
 use crate::keeping::Deposit;
-use crate::manager_link::Limits;
 use crate::worker_fault::WorkerFault;
 use om_format::Message;
 use om_interval::{Bounds, Pid, Starts, Verdict};
 use om_manager::{OutputError, RecordError};
 use om_member::Office;
-use om_process::{Accept, Down, Image, ProcCore, Ran, StartFault, Status};
-use om_stable::{Ledger, Stable};
+use om_process::{Accept, Down, Flight, Image, ProcCore, Ran, StartFault, Status};
+use om_stable::{Ledger, NewCheckpoint, Stable, StoreError, WriteBatch};
 use std::alloc::{AllocError, Global};
 use std::marker::Model;
 
@@ -160,14 +162,6 @@ impl<'a, S: Stable> Node<'a, S> {
         Ok(self.core.flush(alloc, &mut *self.store)?)
     }
 
-    // Stores a checkpoint of now.
-    #[inline(never)]
-    pub(crate) fn checkpoint(&mut self, alloc: Global) -> Result<(), WorkerFault>
-        ensures { self.new.member ≡ self.old.member }
-    {
-        Ok(self.core.checkpoint(alloc, &mut *self.store)?)
-    }
-
     // Offers the pending rows to the manager, up to the first that is refused, and says how many were not: those are pending no
     // longer.
     pub(crate) fn note<O: Office>(
@@ -200,7 +194,7 @@ impl<'a, S: Stable> Node<'a, S> {
     }
 
     // Drops what the process need not keep.
-    fn trim(&mut self, bounds: &Bounds)
+    pub(crate) fn trim(&mut self, bounds: &Bounds)
         requires { length bounds.now.got ≡ self.old.member.n }
         ensures { self.new.member ≡ self.old.member }
     {
@@ -260,33 +254,62 @@ impl<'a, S: Stable> Node<'a, S> {
 }
 
 impl<'a, S: Ledger> Node<'a, S> {
-    // Puts into the store what it is given, and drops there what stands before a checkpoint.
-    fn prune(
+    // Stores, in one transaction, the first k receipts of the log, all where it is shorter, a checkpoint of now where one is due, and
+    // what the store is given beside; and drops there what stands before a checkpoint.
+    #[inline(never)]
+    pub(crate) fn store(
         &mut self,
         alloc: Global,
-        checkpoint: u32,
+        k: usize,
+        is_checkpoint_due: bool,
         deposit: &Deposit,
+        prune_to: Option<u32>,
     ) -> Result<(), WorkerFault>
-        ensures { self.new.member ≡ self.old.member }
+        ensures member { self.new.member ≡ self.old.member }
+        ensures stored { OnOk result (HasStored k is_checkpoint_due self.old.core self.new.core) }
+        ensures refused { OnErr result (self.new.core ≡ self.old.core) }
     {
-        let (outputs, senders) = (deposit.outputs(), deposit.senders());
-        Ok(self.store.shed(alloc, checkpoint, outputs, senders)?)
-    }
-
-    // Drops what neither the process nor its store need keep, once the store has what it is given.
-    pub(crate) fn shed(
-        &mut self,
-        alloc: Global,
-        limits: &Limits,
-        deposit: &Deposit,
-    ) -> Result<(), WorkerFault>
-        requires { length limits.now.bounds.got ≡ self.old.member.n }
-        ensures { self.new.member ≡ self.old.member }
-    {
-        self.prune(alloc, limits.checkpoint, deposit)?;
-        self.trim(&limits.bounds);
+        // The interval tells that those of the receipts are numbers of intervals.
+        let _ = self.core.interval();
+        let flight = self.core.hand_over(alloc, k, is_checkpoint_due)?;
+        write(&mut *self.store, alloc, &flight, deposit, prune_to)?;
+        self.core.land(&flight)?;
         Ok(())
     }
+}
+
+// Writes into a store, in one transaction, what a process handed over and what the store is given beside; and drops there what
+// stands before a checkpoint.
+fn write<S: Ledger>(
+    store: &mut S,
+    alloc: Global,
+    flight: &Flight,
+    deposit: &Deposit,
+    prune_to: Option<u32>,
+) -> Result<(), StoreError>
+    requires { flight.now.first + length flight.now.receipts.items ≤ INTERVALS }
+    ensures put { IsCleanCall S.is_clean S.IsSound store.old store.new
+        → OnOk result (S.content store.new ≡ with_flight (S.content store.old) flight.now prune_to) }
+    ensures refused { IsCleanCall S.is_clean S.IsSound store.old store.new
+        → OnErr result (S.content store.new ≡ S.content store.old) }
+    ensures used { UsesStore S.failed S.is_clean S.IsSound store.old (IsErrOf result StoreError.Fault) store.new }
+{
+    let checkpoint = match &flight.checkpoint {
+        Some(spelled) => Some(NewCheckpoint {
+            x: spelled.row.x,
+            bytes: &spelled.bytes,
+        }),
+        None => None,
+    };
+    let batch = WriteBatch {
+        first: flight.first,
+        receipts: &flight.receipts,
+        checkpoint,
+        outputs: deposit.outputs(),
+        senders: deposit.senders(),
+        prune_to,
+    };
+    store.put_batch(alloc, &batch)
 }
 
 impl<'a, S: Stable> DownNode<'a, S> {

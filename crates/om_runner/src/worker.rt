@@ -1,6 +1,6 @@
 //! What the thread of a process does.
 
-ghost use Rattle.std.specs.Prelude.{◌≡◌, ◌<◌, ◌+◌, ◌⊎◌, ◌↔◌, [], Contains, false, IfNone, IfOk, IfSome, IsTrue, Ok, OnOk, Some, length, slice_get, true};
+ghost use Rattle.std.specs.Prelude.{◌≡◌, ◌<◌, ◌+◌, ◌⊎◌, ◌↔◌, [], Contains, false, IfNone, IfOk, IfSome, IsSome, IsTrue, None, Ok, OnErr, OnOk, Some, length, slice_get, true};
 ghost use Rattle.om_member.specs.Handed.{outputs_from};
 ghost use Rattle.om_process.specs.Stores.{flushed};
 ghost use Rattle.om_process.specs.Core.{IsEnd};
@@ -8,6 +8,7 @@ ghost use Rattle.om_runner.specs.steps.Acts.{HasDeclared, HasJoined, HasReleased
 ghost use Rattle.om_runner.specs.steps.Nodes.{AreAlwaysClean};
 ghost use Rattle.om_runner.specs.steps.Places.{member_of};
 ghost use Rattle.om_runner.specs.steps.Sights.{doing_at, sight_at, sight_of};
+ghost use Rattle.om_runner.specs.steps.Storing.{HasStored};
 ghost use Rattle.om_runner.specs.steps.Turning.{HasNothingToSay, HasReported, HasRested, IsTurnOf, pause_turns, place_after};
 ghost use Rattle.om_runner.specs.steps.Wiring.{HasEnds};
 
@@ -15,7 +16,7 @@ use crate::barrier::Barrier;
 use crate::config::Config;
 use crate::harvest::Harvest;
 use crate::idle::{Idle, Pause};
-use crate::keeping::{Deposit, Kept};
+use crate::keeping::{Deposit, Due, Kept};
 use crate::links::Links;
 use crate::manager_link::{Limits, ManagerLink, RoundOutcome, Standing};
 use crate::network::Ends;
@@ -135,6 +136,8 @@ pub(crate) struct Worker<'a, K: Naming> {
     past: Past,
     // How much of that stands in the store, where a run may take it up.
     kept: Option<Kept>,
+    // What the store is to be given and to drop with what is stored next.
+    due: Option<Due>,
     diary: Diary<'a>,
     // Who sees what the process does.
     watch: Option<&'a Watch>,
@@ -177,31 +180,6 @@ fn pause_of<R: Wait + Clock>(
         links.sleep(rt, idle.sleep())
     };
     if is_woken { Pause::Woken } else { Pause::Slept }
-}
-
-// Drops what need not be kept any longer, once the store has what a run needs that takes it up.
-fn shed<'a, S: Ledger>(
-    node: &mut Node<'a, S>,
-    alloc: Global,
-    limits: Option<Limits>,
-    kept: &mut Option<Kept>,
-    senders: &[u8],
-) -> Result<(), WorkerFault>
-    requires { IfSome limits (λ l. length l.bounds.got ≡ node.old.member.n) }
-    ensures { node.new.member ≡ node.old.member }
-{
-    let Some(limits) = limits else {
-        return Ok(());
-    };
-    let deposit = match kept {
-        Some(kept) => kept.deposit(alloc, node.core(), &limits, senders)?,
-        None => Deposit::none(alloc),
-    };
-    node.shed(alloc, &limits, &deposit)?;
-    if let Some(kept) = kept {
-        kept.add(&deposit);
-    }
-    Ok(())
 }
 
 // The process after a finished round: as it was, or rolled back.
@@ -252,6 +230,7 @@ impl<'a, K: Naming> Worker<'a, K> {
             kills,
             past: Past::new(alloc, observers.keeps_witness),
             kept: None,
+            due: None,
             diary: Diary::new(alloc, own, observers),
             watch: observers.watch,
             idle: Idle::new(),
@@ -553,13 +532,101 @@ impl<'a, K: Naming> Worker<'a, K> {
         let (standing, limits) = self
             .manager_link
             .meet(rt, alloc, node, ended, is_patient, &mut self.diary)?;
-        shed(node, alloc, limits, &mut self.kept, self.past.senders())?;
+        self.heed(alloc, node, limits, ended)?;
         Ok(standing)
+    }
+
+    // Heeds the limits that were read, where there are some; of a process that has ended nothing stays due.
+    fn heed<S: Ledger>(
+        &mut self,
+        alloc: Global,
+        node: &mut Node<'a, S>,
+        limits: Option<Limits>,
+        ended: bool,
+    ) -> Result<(), WorkerFault>
+        requires { IfSome limits (λ l. length l.bounds.got ≡ node.old.member.n) }
+        ensures same { self.new.links ≡ self.old.links }
+        ensures member { node.new.member ≡ node.old.member }
+    {
+        if let Some(limits) = limits {
+            self.owe(alloc, node, &limits)?;
+        }
+        if ended {
+            self.settle(alloc, node)?;
+        }
+        Ok(())
+    }
+
+    // Trims the process by its limits. What its store need not keep any longer goes with what is stored next.
+    fn owe<S: Ledger>(
+        &mut self,
+        alloc: Global,
+        node: &mut Node<'a, S>,
+        limits: &Limits,
+    ) -> Result<(), WorkerFault>
+        requires { length limits.now.bounds.got ≡ node.old.member.n }
+        ensures same { self.new.links ≡ self.old.links }
+        ensures member { node.new.member ≡ node.old.member }
+        ensures due { OnOk result (IfSome self.new.due (λ due. due.checkpoint ≡ limits.now.checkpoint)) }
+        ensures owed { OnOk result (IsSome self.new.due) }
+    {
+        self.settle(alloc, node)?;
+        let deposit = match &self.kept {
+            Some(kept) => kept.deposit(alloc, node.core(), limits, self.past.senders())?,
+            None => Deposit::none(alloc),
+        };
+        node.trim(&limits.bounds);
+        self.due = Some(Due {
+            checkpoint: limits.checkpoint,
+            deposit,
+        });
+        Ok(())
+    }
+
+    // Does in the store what is due there.
+    fn settle<S: Ledger>(
+        &mut self,
+        alloc: Global,
+        node: &mut Node<'a, S>,
+    ) -> Result<(), WorkerFault>
+        ensures same { self.new.links ≡ self.old.links }
+        ensures member { node.new.member ≡ node.old.member }
+        ensures settled { OnOk result (self.new.due ≡ None) }
+    {
+        if self.due.is_some() {
+            self.store(alloc, node, 0, false)?;
+        }
+        Ok(())
+    }
+
+    // Stores the first k receipts of the log, a checkpoint where one is due, and whatever else is due, in one transaction.
+    fn store<S: Ledger>(
+        &mut self,
+        alloc: Global,
+        node: &mut Node<'a, S>,
+        k: usize,
+        is_checkpoint_due: bool,
+    ) -> Result<(), WorkerFault>
+        ensures same { self.new.links ≡ self.old.links }
+        ensures member { node.new.member ≡ node.old.member }
+        ensures stored { OnOk result (HasStored k is_checkpoint_due node.old.core node.new.core) }
+        ensures refused { OnErr result (node.new.core ≡ node.old.core) }
+        ensures settled { OnOk result (self.new.due ≡ None) }
+    {
+        let Some(due) = self.due.take() else {
+            return node.store(alloc, k, is_checkpoint_due, &Deposit::none(alloc), None);
+        };
+        let prune_to = Some(due.checkpoint);
+        node.store(alloc, k, is_checkpoint_due, &due.deposit, prune_to)?;
+        if let Some(kept) = &mut self.kept {
+            kept.add(&due.deposit);
+        }
+        Ok(())
     }
 
     // Takes a message, where the process waits for one. What comes to one that has ended is dropped: a round that rolls it back
     // has all sent once more.
-    fn receive<S: Stable, R: Wait + Clock>(
+    fn receive<S: Ledger, R: Wait + Clock>(
         &mut self,
         rt: &R,
         alloc: Global,
@@ -606,7 +673,7 @@ impl<'a, K: Naming> Worker<'a, K> {
     }
 
     // Offers a message to the process.
-    fn accept<S: Stable, R: Wait>(
+    fn accept<S: Ledger, R: Wait>(
         &mut self,
         rt: &R,
         alloc: Global,
@@ -705,7 +772,7 @@ impl<'a, K: Naming> Worker<'a, K> {
     }
 
     // What comes after the receipt that began interval x: a failure, or what is stored by its number.
-    fn after_receipt<S: Stable>(
+    fn after_receipt<S: Ledger>(
         &mut self,
         alloc: Global,
         node: &mut Node<'a, S>,
@@ -718,15 +785,13 @@ impl<'a, K: Naming> Worker<'a, K> {
         if self.is_to_fail(x) {
             return Ok(Step::Failed);
         }
-        if is_multiple(x, self.plan.flush) {
-            node.flush(alloc)?;
-        }
-        if is_multiple(x, self.plan.checkpoint) {
-            if self.kept.is_some() {
-                // The senders of the receipts before a checkpoint are read from their records.
-                node.flush(alloc)?;
-            }
-            node.checkpoint(alloc)?;
+        let is_flush_due = is_multiple(x, self.plan.flush);
+        let is_checkpoint_due = is_multiple(x, self.plan.checkpoint);
+        if is_flush_due || is_checkpoint_due {
+            // The senders of the receipts before a checkpoint are read from their records, where a run may take the store up.
+            let is_log_due = is_flush_due || self.kept.is_some();
+            let k = if is_log_due { usize::MAX } else { 0 };
+            self.store(alloc, node, k, is_checkpoint_due)?;
         }
         Ok(Step::Up)
     }

@@ -3,7 +3,7 @@ use crate::rows::is_set;
 use om_interval::Pid;
 use om_process::Status;
 use om_runner::{Config, OpenFault, Opener, Report, run_cluster};
-use om_stable::{FuseStable, Ledger, LedgerRows, LedgerTable, MemStable, Stable, Stop, StoreError};
+use om_stable::{FuseStable, Ledger, LedgerTable, MemStable, Stable, Stop, StoreError, WriteBatch};
 use std::alloc::Global;
 use std::process::Abort;
 use std::sync::Wait;
@@ -18,7 +18,7 @@ const SELF: [u32; 12] = [
     0x00400593, 0x00000073, 0x00000893, 0x00000073,
 ];
 
-// A store that puts receipts only once those of the other process are put, and else answers Fault.
+// A store that puts receipts only once those of the other process are put, and else stops that call, which answers Fault.
 #[derive(Drop)]
 pub struct Meets<'a> {
     pub inner: FuseStable<MemStable>,
@@ -112,14 +112,15 @@ impl<'a> Ledger for Meets<'a> {
         self.inner.all_in(alloc, table)
     }
 
-    fn shed(
-        &mut self,
-        alloc: Global,
-        c: u32,
-        outputs: LedgerRows<'_>,
-        senders: LedgerRows<'_>,
-    ) -> Result<(), StoreError> {
-        self.inner.shed(alloc, c, outputs, senders)
+    fn put_batch(&mut self, alloc: Global, batch: &WriteBatch<'_>) -> Result<(), StoreError> {
+        let puts_receipts = !batch.receipts.is_empty();
+        if puts_receipts {
+            self.own.store(true, SeqCst);
+        }
+        if puts_receipts && !is_set(self.other) && self.inner.stop != Stop::Past {
+            self.inner.stop = Stop::After(0);
+        }
+        self.inner.put_batch(alloc, batch)
     }
 }
 

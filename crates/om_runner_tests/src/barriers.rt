@@ -1,7 +1,7 @@
 use crate::clusters::{Always, assert_ring, ring};
 use om_interval::Pid;
 use om_runner::{Act, Config, OpenFault, Opener, Record, Recorder, Report, run_and_record};
-use om_stable::{Ledger, LedgerRows, LedgerTable, MemStable, Stable, StoreError};
+use om_stable::{Ledger, LedgerTable, MemStable, Stable, StoreError, WriteBatch};
 use std::alloc::Global;
 use std::process::Abort;
 use std::sync::Wait;
@@ -129,14 +129,14 @@ impl<'a, R: Clock> Ledger for Paced<'a, R> {
         self.inner.all_in(alloc, table)
     }
 
-    fn shed(
-        &mut self,
-        alloc: Global,
-        c: u32,
-        outputs: LedgerRows<'_>,
-        senders: LedgerRows<'_>,
-    ) -> Result<(), StoreError> {
-        self.inner.shed(alloc, c, outputs, senders)
+    fn put_batch(&mut self, alloc: Global, batch: &WriteBatch<'_>) -> Result<(), StoreError> {
+        if !batch.receipts.is_empty() && !self.seen.is_made.load(SeqCst) {
+            self.seen.is_early.store(true, SeqCst);
+        }
+        if batch.checkpoint.is_some() {
+            self.linger();
+        }
+        self.inner.put_batch(alloc, batch)
     }
 }
 

@@ -221,13 +221,17 @@ fn kept_by<R: Threads + Wait + Clock + Abort + Sync>(
     (calls, newest.map(|(x, _)| x))
 }
 
-// Process 1 of a ring of eight, by the numbers of `flush` and `checkpoint`: its store is called for checkpoint 0 and for each
-// flush, of which the last comes as the process ends where anything is left.
-static NUMBERS: [(u32, u32, u64, u32); 4] = [
+// Process 1 of a ring of eight, by the numbers of `flush` and `checkpoint`: its store is called for checkpoint 0, once for each
+// receipt at which it flushes or takes a checkpoint, and as the process ends where anything is left to store or to prune.
+static NUMBERS: [(u32, u32, u64, u32); 8] = [
     (1, 7, 7, 0),
     (2, 7, 4, 0),
     (4, 7, 3, 0),
     (7, 7, 2, 0),
+    (1, 1, 8, 6),
+    (2, 2, 5, 6),
+    (2, 3, 6, 6),
+    (3, 6, 4, 6),
 ];
 
 #[test]
@@ -292,10 +296,10 @@ fn assert_fault<R: Threads + Wait + Clock + Abort + Sync>(
     assert!(rt; told == Some(wanted), "{told:?}");
 }
 
-// The store of process 2 fails as it starts, and as it flushes first.
+// The store of process 2 fails at each of its six calls: as it starts, at receipts 2, 3, 4 and 6, and as the process ends.
 #[test]
 fn a_store_fails(rt: HostRuntime) {
-    for calls in 0..2 {
+    for calls in 0..6 {
         let pid = Pid::at(2);
         let row = (true, 50_000_000, 1);
         assert_fault(&rt, rt.alloc(), row, (pid, calls), RunFault::Fault(pid));

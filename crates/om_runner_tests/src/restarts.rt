@@ -5,7 +5,7 @@ use crate::clusters::{Always, RING, assert_ring, images, ring};
 use om_interval::Pid;
 use om_process::Witness;
 use om_runner::{Config, OpenFault, Opener, Report, RunFault, run_and_keep_witnesses};
-use om_stable::{Ledger, LedgerRows, LedgerTable, MemLedger, Stable, StoreError};
+use om_stable::{Ledger, LedgerTable, MemLedger, Stable, StoreError, WriteBatch};
 use std::alloc::Global;
 use std::process::Abort;
 use std::sync::atomic::Ordering::SeqCst;
@@ -203,17 +203,15 @@ impl<'a> Ledger for Left<'a> {
         told(&mut self.failures, answer)
     }
 
-    fn shed(
-        &mut self,
-        alloc: Global,
-        c: u32,
-        outputs: LedgerRows<'_>,
-        senders: LedgerRows<'_>,
-    ) -> Result<(), StoreError> {
+    fn put_batch(&mut self, alloc: Global, batch: &WriteBatch<'_>) -> Result<(), StoreError> {
         let answer = match self.open() {
-            Ok(mut store) => store.shed(alloc, c, outputs, senders),
+            Ok(mut store) => store.put_batch(alloc, batch),
             Err(error) => Err(error),
         };
+        if answer.is_ok() {
+            let count = batch.receipts.len() as u64;
+            self.shelf.receipts.fetch_add(count, SeqCst);
+        }
         told(&mut self.failures, answer)
     }
 }

@@ -7,7 +7,7 @@ use om_commands::{BytesForm, CommandError};
 use om_interval::Pid;
 use om_run_commands::{RunMode, run_file};
 use om_runner::{InMemory, OpenFault, Opener};
-use om_stable::{Ledger, LedgerRows, LedgerTable, MemStable, Stable, StoreError};
+use om_stable::{Ledger, LedgerTable, MemStable, Stable, StoreError, WriteBatch};
 use std::alloc::{AllocError, Global};
 use std::process::Abort;
 use std::sync::Wait;
@@ -131,14 +131,18 @@ impl Ledger for Altering {
         Ok(Vec::new(alloc))
     }
 
-    fn shed(
-        &mut self,
-        alloc: Global,
-        c: u32,
-        _outputs: LedgerRows<'_>,
-        _senders: LedgerRows<'_>,
-    ) -> Result<(), StoreError> {
-        self.inner.prune(alloc, c)
+    fn put_batch(&mut self, alloc: Global, batch: &WriteBatch<'_>) -> Result<(), StoreError> {
+        let Ok(all) = all_altered(alloc, batch.receipts) else {
+            return Err(StoreError::Memory);
+        };
+        if u64::from(batch.first) + all.len() as u64 > 4_294_967_296 {
+            return Err(StoreError::Memory);
+        }
+        let altered = WriteBatch {
+            receipts: &all,
+            ..*batch
+        };
+        self.inner.put_batch(alloc, &altered)
     }
 }
 
