@@ -1,6 +1,6 @@
 //! The subcommands: their helps, and what the words of a command line ask of them.
 
-ghost use Rattle.std.specs.Prelude.{◌≡◌, IfOk, Some};
+ghost use Rattle.std.specs.Prelude.{◌≡◌, ◌↔◌, IfOk, IsErr, Some, codes};
 ghost use Rattle.om_arguments.specs.steps.Requests.{asked_by, ext_of, form_of, subcommand_named};
 
 use crate::draw_request::{DRAW, Lines, draw_command, lines_of};
@@ -232,13 +232,13 @@ not come; what is written is the same.
 With --verbose, and where standard error is a terminal, more is said there, and
 nothing else changes: what was refused and why; which processes trapped, of what
 and at which pc; how many sends of each were refused; which kills did not come;
-where turns ran out, of each process that had not ended what it did or waited
-for, and in which interval.
+where turns ran out also which processes ended, and of each other one what it
+did or waited for, and in which interval.
 On a terminal a line each second says how far the run has come: instructions of
 all processes, messages, the round of recovery, and the recovery state.
 
 FILE of --witness and --record may not be what the run has anyway: its input, a
-store, or what lies beside one.
+store, or what lies beside one; nor any database, or the log of one.
 
 Answers:
   out NAME NUMBER HEX  an output that is released
@@ -339,8 +339,8 @@ const VERBOSE: &str = "verbose";
 
 const INPUT: &str = "INPUT";
 
-// The name that stands for standard input.
-const STANDARD_INPUT: &str = "-";
+// The name that stands for standard input. As that of a file to be written it would stand for standard output.
+const STANDARD_STREAM: &str = "-";
 
 // The version of the commands, their texts and their formats.
 const VERSION: &str = "1.0";
@@ -391,8 +391,6 @@ pub struct Running<'a> {
     pub kills: Option<Kills>,
     /// Whether a process that trapped is a failure, and a line `kill` that did not come.
     pub strict: bool,
-    /// Whether more is said on standard error.
-    pub verbose: bool,
 }
 
 /// How many kills are drawn, 64 at most, and by which seed.
@@ -424,11 +422,14 @@ pub enum Checking<'a> {
     FollowRaw(&'a str),
 }
 
-/// A request, and the file that is read in place of standard input, where one is named.
+/// A request, and what goes with each.
 #[derive(Clone, Copy, Debug, PartialEq, Eq)]
 pub struct Asked<'a> {
     pub request: Request<'a>,
+    /// The file that is read in place of standard input, where one is named.
     pub input: Option<&'a str>,
+    /// Whether more is said on standard error.
+    pub verbose: bool,
 }
 
 /// What the words of a command line ask for, of which the first is the program. Refused, the error has its text: a mistake, a
@@ -445,7 +446,8 @@ pub fn parse<'a, S: AsStr>(alloc: Global, words: &'a [S]) -> Result<Asked<'a>, E
     match request_of(subcommand, found) {
         Ok(request) => Ok(Asked {
             request,
-            input: found.get_str(INPUT).filter(|name| *name != STANDARD_INPUT),
+            input: found.get_str(INPUT).filter(|name| *name != STANDARD_STREAM),
+            verbose: found.get_flag(VERBOSE),
         }),
         Err(mistake) => Err(refusal_of(alloc, subcommand, mistake)),
     }
@@ -561,19 +563,30 @@ pub(crate) fn form_of(with_text: bool) -> OutputForm
 
 // How a run is to be checked, recorded or followed: with a file for its witness it always is checked, and the bytes of one process
 // may be followed. The command line takes no other two of them together.
-fn checking_of<'a>(found: &ArgMatches<'a>) -> Checking<'a> {
+fn checking_of<'a>(found: &ArgMatches<'a>) -> Result<Checking<'a>, Mistake<'a>> {
     if let Some(path) = found.get_str(WITNESS) {
-        return Checking::Witness(path);
+        return Ok(Checking::Witness(file_for("--witness <FILE>", path)?));
     }
     if let Some(name) = found.get_str(RAW) {
-        return raw_of(name, found.get_flag(FOLLOW));
+        return Ok(raw_of(name, found.get_flag(FOLLOW)));
     }
     match found.get_str(RECORD) {
-        Some(path) => Checking::Record(path),
-        None if found.get_flag(CHECK) => Checking::Check,
-        None if found.get_flag(FOLLOW) => Checking::Follow,
-        None => Checking::Off,
+        Some(path) => Ok(Checking::Record(file_for("--record <FILE>", path)?)),
+        None if found.get_flag(CHECK) => Ok(Checking::Check),
+        None if found.get_flag(FOLLOW) => Ok(Checking::Follow),
+        None => Ok(Checking::Off),
     }
+}
+
+// The name of a file that is to be written beside the text, which standard output cannot take too.
+fn file_for<'a>(argument: &'a str, path: &'a str) -> Result<&'a str, Mistake<'a>>
+    ensures file { IfOk result (λ file. file ≡ path.entry) }
+    ensures refused { IsErr result ↔ (path.now ≡ codes "-") }
+{
+    if path == STANDARD_STREAM {
+        return Err(Mistake::NoFile(argument));
+    }
+    Ok(path)
 }
 
 // How the bytes of a process are to be written: at the end, or as they are released.
@@ -610,11 +623,10 @@ fn run_request<'a>(found: &ArgMatches<'a>) -> Result<Request<'a>, Mistake<'a>>
         turns,
         prefix: found.get_str(STORE),
         resumes: found.get_flag(RESUME),
-        checking: checking_of(found),
+        checking: checking_of(found)?,
         form: form_of(found.get_flag(TEXT)),
         kills: kills_of(found)?,
         strict: found.get_flag(STRICT),
-        verbose: found.get_flag(VERBOSE),
     }))
 }
 
@@ -650,17 +662,18 @@ fn with_clusters<'a>(alloc: Global, command: Command<'a>) -> Result<Command<'a>,
 }
 
 fn command_of<'a>(alloc: Global, subcommand: Subcommand) -> Result<Command<'a>, AllocError> {
-    match subcommand {
-        Subcommand::Decode => decode_command(alloc)?.arg(input_file(alloc)),
-        Subcommand::Frontier => frontier_command(alloc).arg(input_file(alloc)),
-        Subcommand::Sim => sim_command(alloc)?.arg(input_file(alloc)),
-        Subcommand::Draw => draw_command(alloc)?.arg(input_file(alloc)),
-        Subcommand::Run => run_command(alloc)?.arg(input_file(alloc)),
-        Subcommand::Explore => explore_command(alloc)?.arg(input_file(alloc)),
-        Subcommand::Replay => replay_command(alloc),
-        Subcommand::Show => show_command(alloc),
-        Subcommand::Image => image_command(alloc),
-    }
+    let command = match subcommand {
+        Subcommand::Decode => decode_command(alloc)?.arg(input_file(alloc))?,
+        Subcommand::Frontier => frontier_command(alloc).arg(input_file(alloc))?,
+        Subcommand::Sim => sim_command(alloc)?.arg(input_file(alloc))?,
+        Subcommand::Draw => draw_command(alloc)?.arg(input_file(alloc))?,
+        Subcommand::Run => run_command(alloc)?.arg(input_file(alloc))?,
+        Subcommand::Explore => explore_command(alloc)?.arg(input_file(alloc))?,
+        Subcommand::Replay => replay_command(alloc)?,
+        Subcommand::Show => show_command(alloc)?,
+        Subcommand::Image => image_command(alloc)?,
+    };
+    command.arg(verbose_option(alloc))
 }
 
 fn input_file<'a>(alloc: Global) -> Arg<'a> {
@@ -745,8 +758,7 @@ fn with_checks<'a>(alloc: Global, command: Command<'a>) -> Result<Command<'a>, A
 fn with_tellings<'a>(alloc: Global, command: Command<'a>) -> Result<Command<'a>, AllocError> {
     command
         .arg(record_option(alloc)?)?
-        .arg(follow_option(alloc)?)?
-        .arg(verbose_option(alloc))
+        .arg(follow_option(alloc)?)
 }
 
 fn turns_option<'a>(alloc: Global) -> Arg<'a> {
@@ -847,6 +859,6 @@ fn strict_option<'a>(alloc: Global) -> Arg<'a> {
 fn verbose_option<'a>(alloc: Global) -> Arg<'a> {
     Arg::new(alloc, VERBOSE)
         .long(VERBOSE)
-        .help("Say more on standard error: what was refused and why, who waited")
+        .help("Say more on standard error: what was refused and why; of a run, who waited")
         .action(ArgAction::SetTrue)
 }

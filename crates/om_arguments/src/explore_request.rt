@@ -1,5 +1,6 @@
 //! The subcommand `explore`: which runs it plays, and how it is asked for.
 
+use crate::arguments::{OutputForm, form_of};
 use crate::mistake::{Mistake, long_number_for};
 use clap::{Arg, ArgAction, ArgMatches, Command};
 use std::alloc::{AllocError, Global};
@@ -15,6 +16,8 @@ const ALL: &str = "all";
 const TURNS: &str = "turns";
 
 const WITNESSES: &str = "witnesses";
+
+const TEXT: &str = "text";
 
 // How many runs are played, where nothing is said.
 const DEFAULT_RUNS: u64 = 1_000;
@@ -53,6 +56,9 @@ whether these were all.
   2 texts in all 36 runs
   2 texts in 1000000 runs, not all
 
+With --text the bytes of outputs that differ are written as text, as by run, and
+not as HEX. The digests are the same, those of what run writes without --text.
+
 With --witnesses PREFIX the first run of each text K is written to the file
 PREFIX and K, which must not be there yet: sim plays it, draw draws it.
 
@@ -80,6 +86,8 @@ pub struct Exploring<'a> {
     pub turns: u64,
     /// Of the files of the runs that each different text came of first.
     pub witnesses: Option<&'a str>,
+    /// How the bytes of outputs are written in which texts differ.
+    pub form: OutputForm,
 }
 
 // How a cluster is to be explored, where its numbers are numbers.
@@ -92,6 +100,7 @@ pub(crate) fn exploring_of<'a>(found: &ArgMatches<'a>) -> Result<Exploring<'a>, 
         all,
         turns: number_or("--turns <K>", found.get_str(TURNS), DEFAULT_TURNS)?,
         witnesses: found.get_str(WITNESSES),
+        form: form_of(found.get_flag(TEXT)),
     })
 }
 
@@ -116,7 +125,8 @@ pub(crate) fn explore_command<'a>(alloc: Global) -> Result<Command<'a>, AllocErr
         .arg(all_option(alloc))?;
     command
         .arg(witnesses_option(alloc))?
-        .arg(turns_option(alloc))
+        .arg(turns_option(alloc))?
+        .arg(text_option(alloc))
 }
 
 fn runs_option<'a>(alloc: Global) -> Arg<'a> {
@@ -145,6 +155,13 @@ fn witnesses_option<'a>(alloc: Global) -> Arg<'a> {
         .long(WITNESSES)
         .value_name("PREFIX")
         .help("Write a run of each text to a file, as a script of sim")
+}
+
+fn text_option<'a>(alloc: Global) -> Arg<'a> {
+    Arg::new(alloc, TEXT)
+        .long(TEXT)
+        .help("Write the bytes in which texts differ as text with the escapes of C")
+        .action(ArgAction::SetTrue)
 }
 
 fn turns_option<'a>(alloc: Global) -> Arg<'a> {

@@ -24,6 +24,8 @@ pub(crate) enum Mistake<'a> {
         word: &'a str,
         greatest: u32,
     },
+    // The file that an argument names is to be standard output, which has the text of the command.
+    NoFile(&'a str),
 }
 
 impl<'a> fmt::Display for Mistake<'a> {
@@ -45,6 +47,10 @@ impl<'a> fmt::Display for Mistake<'a> {
             } => write!(
                 f,
                 "invalid value '{word}' for '{argument}': it is above {greatest}"
+            ),
+            Mistake::NoFile(argument) => write!(
+                f,
+                "invalid value '-' for '{argument}': standard output has the text of the run, and a file is needed; ./- is one of this name"
             ),
         }
     }

@@ -7,7 +7,7 @@ use std::io;
 use std::process::{Abort, ExitCode};
 
 // Words that are mistaken, and all that is told of them.
-static MISTAKES: [(&[&str], &str); 16] = [
+static MISTAKES: [(&[&str], &str); 19] = [
     (
         &["omlog", "replay", "s0.db", "x"],
         "error: invalid value 'x' for '<INTERVAL>': it is no number of 32 bits\n\nUsage: omlog replay [OPTIONS] <FILE> <INTERVAL>\n\nFor more information, try '--help'.\n",
@@ -79,6 +79,18 @@ static MISTAKES: [(&[&str], &str); 16] = [
         &["omlog", "run", "--raw", "p", "--check"],
         "error: the argument '--raw <NAME>' cannot be used with '--check'\n\nUsage: omlog run --raw <NAME> [FILE]\n\nFor more information, try '--help'.\n",
     ),
+    (
+        &["omlog", "run", "--record", "-"],
+        "error: invalid value '-' for '--record <FILE>': standard output has the text of the run, and a file is needed; ./- is one of this name\n\nUsage: omlog run [OPTIONS] [FILE]\n\nFor more information, try '--help'.\n",
+    ),
+    (
+        &["omlog", "run", "--witness", "-"],
+        "error: invalid value '-' for '--witness <FILE>': standard output has the text of the run, and a file is needed; ./- is one of this name\n\nUsage: omlog run [OPTIONS] [FILE]\n\nFor more information, try '--help'.\n",
+    ),
+    (
+        &["omlog", "explore", "--text", "a", "b"],
+        "error: unexpected argument 'b' found\n\nUsage: omlog explore [OPTIONS] [FILE]\n\nFor more information, try '--help'.\n",
+    ),
 ];
 
 // How the words end, and what is printed.
@@ -128,9 +140,10 @@ Arguments:
   <FILE>  The store of the process
 
 Options:
-      --bodies  Write the bodies of messages too
-      --text    Write them as text with the escapes of C
-  -h, --help    Print help (see more with '--help')
+      --bodies   Write the bodies of messages too
+      --text     Write them as text with the escapes of C
+      --verbose  Say more on standard error: what was refused and why; of a run, who waited
+  -h, --help     Print help (see more with '--help')
 ";
 
 #[test]

@@ -1,6 +1,8 @@
 //! Command lines, and what they ask for.
 
-use om_arguments::{Asked, Checking, Kills, Lines, Look, OutputForm, Request, Running, parse};
+use om_arguments::{
+    Asked, Checking, Exploring, Kills, Lines, Look, OutputForm, Request, Running, parse,
+};
 use om_isa::Ext;
 use std::alloc::Global;
 use std::process::Abort;
@@ -209,7 +211,68 @@ const VERBOSE: Running<'static> = Running {
     form: OutputForm::Hex,
     kills: None,
     strict: false,
-    verbose: true,
+};
+
+// Each command can be asked to say more.
+static LOUD_ONES: [(&[&str], Request<'static>); 8] = [
+    (&["omlog", "decode", "--verbose"], Request::Decode(Ext::I)),
+    (&["omlog", "frontier", "--verbose"], Request::Frontier),
+    (
+        &["omlog", "sim", "--verbose"],
+        Request::Sim(OutputForm::Hex),
+    ),
+    (
+        &["omlog", "draw", "--verbose"],
+        Request::Draw(Lines {
+            from: 0,
+            to: usize::MAX,
+        }),
+    ),
+    (
+        &["omlog", "explore", "--verbose", "--text"],
+        Request::Explore(Exploring {
+            runs: 1_000,
+            seed: 0,
+            all: false,
+            turns: 1_000_000,
+            witnesses: None,
+            form: OutputForm::Text,
+        }),
+    ),
+    (
+        &["omlog", "show", "--verbose", "f"],
+        Request::Look(Look::Show {
+            file: "f",
+            bodies: None,
+        }),
+    ),
+    (
+        &["omlog", "replay", "f", "--verbose", "0"],
+        Request::Look(Look::Replay {
+            file: "f",
+            interval: 0,
+            short: false,
+        }),
+    ),
+    (
+        &["omlog", "image", "a", "64", "--verbose"],
+        Request::Image {
+            ext: Ext::I,
+            name: "a",
+            size: "64",
+        },
+    ),
+];
+
+static EXPLORED: [&str; 5] = ["omlog", "explore", "--all", "--witnesses", "w"];
+
+const IN_HEX: Exploring<'static> = Exploring {
+    runs: 1_000_000,
+    seed: 0,
+    all: true,
+    turns: 1_000_000,
+    witnesses: Some("w"),
+    form: OutputForm::Hex,
 };
 
 static AGAIN: [&str; 6] = ["omlog", "run", "--check", "--resume", "--store", "s"];
@@ -222,7 +285,6 @@ const RESUMED: Running<'static> = Running {
     form: OutputForm::Hex,
     kills: None,
     strict: false,
-    verbose: false,
 };
 
 static TOLD: [&str; 5] = ["omlog", "run", "--strict", "--follow", "--text"];
@@ -235,7 +297,6 @@ const AS_TEXT: Running<'static> = Running {
     form: OutputForm::Text,
     kills: None,
     strict: true,
-    verbose: false,
 };
 
 static KILLED: [&str; 6] = [
@@ -259,7 +320,6 @@ fn killed(count: u32, seed: u64) -> Running<'static> {
         form: OutputForm::Hex,
         kills: Some(Kills { count, seed }),
         strict: false,
-        verbose: false,
     }
 }
 
@@ -270,9 +330,46 @@ fn check(
     request: Request<'static>,
     input: Option<&'static str>,
 ) {
+    let wanted = Asked {
+        request,
+        input,
+        verbose: false,
+    };
+    check_asked(rt, alloc, words, wanted);
+}
+
+fn check_asked(
+    rt: &impl Abort,
+    alloc: Global,
+    words: &'static [&'static str],
+    wanted: Asked<'static>,
+) {
     match parse(alloc, words) {
-        Ok(asked) => assert_eq!(rt; asked, Asked { request, input }),
+        Ok(asked) => assert_eq!(rt; asked, wanted),
         Err(error) => panic!(rt; "{error}"),
+    }
+}
+
+// The same of a command that is asked to say more.
+fn check_loud(
+    rt: &impl Abort,
+    alloc: Global,
+    words: &'static [&'static str],
+    request: Request<'static>,
+) {
+    let wanted = Asked {
+        request,
+        input: None,
+        verbose: true,
+    };
+    check_asked(rt, alloc, words, wanted);
+}
+
+#[test]
+fn commands_that_are_to_say_more(rt: HostRuntime) {
+    check_loud(&rt, rt.alloc(), &LOUD, Request::Run(VERBOSE));
+    for (words, request) in &LOUD_ONES {
+        check_loud(&rt, rt.alloc(), words, *request);
     }
 }
 
@@ -284,7 +381,8 @@ fn words_and_what_they_ask_for(rt: HostRuntime) {
     for (words, look) in &LOOKS {
         check(&rt, rt.alloc(), words, Request::Look(*look), None);
     }
-    check(&rt, rt.alloc(), &LOUD, Request::Run(VERBOSE), None);
+    let explored = Request::Explore(IN_HEX);
+    check(&rt, rt.alloc(), &EXPLORED, explored, None);
     check(&rt, rt.alloc(), &AGAIN, Request::Run(RESUMED), None);
     check(&rt, rt.alloc(), &TOLD, Request::Run(AS_TEXT), None);
     let most = Request::Run(killed(64, u64::MAX));
@@ -300,7 +398,6 @@ fn words_and_what_they_ask_for(rt: HostRuntime) {
             form: OutputForm::Hex,
             kills: None,
             strict: false,
-            verbose: false,
         };
         check(&rt, rt.alloc(), words, Request::Run(running), *input);
     }

@@ -1,7 +1,12 @@
 //! What is told of each fault, for people.
 
 use om_commands::CommandError;
-use om_reasons::{advice_on, rule_of};
+use om_isa::Ext;
+use om_machine::Cause;
+use om_observers::{Doing, Sight};
+use om_process::Status;
+use om_reasons::{advice_on, ends_text, form_of, rule_of};
+use om_scripts::Programs;
 use om_text::{LineError, ScriptError};
 
 // The faults of lines, and the rules that they break.
@@ -27,7 +32,7 @@ static RULES: [(LineError, &str); 11] = [
     ),
     (
         LineError::OutOfPlace,
-        "lines of this kind stand further above",
+        "programs and processes stand above all other lines, and procs, once, above all notes",
     ),
     (
         LineError::TooMany,
@@ -107,7 +112,12 @@ static ADVICE: [(CommandError, Option<&str>); 19] = [
         CommandError::NoSuchProcess,
         Some("the name behind --raw stands in no line proc of the input"),
     ),
-    (CommandError::StoreFault, None),
+    (
+        CommandError::StoreFault,
+        Some(
+            "a store failed as it was used (is its disk full?), or no process could be replayed from it: omlog show FILE says what of it is damaged",
+        ),
+    ),
     (CommandError::StoreInUse(1), None),
     (CommandError::AnotherCluster(1), None),
     (CommandError::StoreMissing(1), None),
@@ -125,4 +135,82 @@ fn advice_on_faults(rt: HostRuntime) {
     for (error, advice) in &ADVICE {
         assert_eq!(&rt; advice_on(*error), *advice, "{error}");
     }
+}
+
+// The first words of lines, and how such lines are written: all that a script, a cluster file or a record script may have.
+static FORMS: [(&str, Option<&str>); 21] = [
+    (
+        "program",
+        Some("program NAME SIZE WORD .., each WORD of eight hexadecimal digits"),
+    ),
+    (
+        "program-m",
+        Some("program-m NAME SIZE WORD .., each WORD of eight hexadecimal digits"),
+    ),
+    ("proc", Some("proc NAME PROGRAM")),
+    ("kill", Some("kill NAME INTERVAL, for run")),
+    (
+        "flush",
+        Some("flush K, of 1 or more, for run; flush P for sim"),
+    ),
+    (
+        "checkpoint",
+        Some("checkpoint K, of 1 or more, for run; checkpoint P for sim"),
+    ),
+    ("fuel", Some("fuel K, of 1 or more, for run")),
+    ("run", Some("run P K, for sim")),
+    ("give", Some("give P F, for sim")),
+    ("fail", Some("fail P, for sim")),
+    ("join", Some("join P, for sim")),
+    ("resume", Some("resume P, for sim")),
+    ("resend", Some("resend P, for sim")),
+    ("trim", Some("trim P, for sim")),
+    ("prune", Some("prune, for sim")),
+    ("procs", Some("procs N, of 1 to 16, for frontier")),
+    (
+        "log",
+        Some("log P X V0 .., as many V as there are processes, for frontier"),
+    ),
+    (
+        "ckpt",
+        Some("ckpt P X V0 .., as many V as there are processes, for frontier"),
+    ),
+    ("kills", None),
+    ("Kill", None),
+    ("", None),
+];
+
+#[test]
+fn forms_of_lines(rt: HostRuntime) {
+    for (word, form) in &FORMS {
+        assert_eq!(&rt; form_of(word), *form, "{word}");
+    }
+}
+
+fn sight(doing: Doing) -> Sight {
+    let mut sight = Sight::new();
+    sight.doing = doing;
+    sight
+}
+
+// A line for each process that has ended, also where more are seen than there are, and none for the others.
+#[test]
+fn those_that_have_ended_are_named(rt: HostRuntime) {
+    let mut programs = Programs::new(rt.alloc());
+    let words = [b"w".as_slice(), b"16"];
+    let added = programs.add_program(rt.alloc(), Ext::I, &words);
+    assert_eq!(&rt; added, Ok(()));
+    for name in [b"a".as_slice(), b"b", b"c", b"d"] {
+        let added = programs.add_process(rt.alloc(), &[name, b"w"]);
+        assert_eq!(&rt; added, Ok(()));
+    }
+    let sights = [
+        sight(Doing::Up(Status::Ended(4_294_967_295))),
+        sight(Doing::Up(Status::Trapped(Cause::Break))),
+        sight(Doing::Up(Status::Waiting)),
+        sight(Doing::Up(Status::Ended(0))),
+        sight(Doing::Begins),
+    ];
+    let text = ends_text(rt.alloc(), &programs, &sights).expect(&rt, "memory");
+    assert_eq!(&rt; text.as_str(), "a: ended 4294967295\nd: ended 0\n");
 }

@@ -15,7 +15,27 @@ proc c pc
 ";
 
 // Events over them, the answers, and how the world stands in the end.
-static EVENTS: [Row; 7] = [
+static EVENTS: [Row; 8] = [
+    (
+        "run 0 100\nrun 1 100\nrun 2 100\ngive 1 0\nrun 1 100\ngive 0 1\nflush 0 0\nflush 0 1\nflush 0 2\nflush 3 1\n",
+        Writes,
+        "\
+ran 3 waiting sent 0 made 0
+ran 3 waiting sent 0 made 0
+ran 5 ended 0 sent 1 made 0
+taken 1
+ran 6 ended 0 sent 1 made 0
+taken 1
+noted 0
+noted 1
+noted 0
+no-process
+recovery 0 0 0
+proc a inc 0 interval 1 ready
+proc b inc 0 interval 1 ended 0
+proc c inc 0 interval 0 ended 0
+",
+    ),
     (
         "run 0 100\nrun 1 100\nrun 2 100\ngive 1 0\nrun 1 100\ngive 0 1\nrun 0 100\nflush 0\n",
         Writes,
@@ -216,7 +236,7 @@ const SEVENTEEN: &str = "program a 4
 proc p0 a\nproc p1 a\nproc p2 a\nproc p3 a\nproc p4 a\nproc p5 a\nproc p6 a\nproc p7 a\nproc p8 a
 proc p9 a\nproc p10 a\nproc p11 a\nproc p12 a\nproc p13 a\nproc p14 a\nproc p15 a\nproc p16 a\n";
 
-static FAULTY: [Row; 25] = [
+static FAULTY: [Row; 29] = [
     ("", Refused, "empty script"),
     ("program a 4\n", Refused, "empty script"),
     ("run 0 1\n", Refused, "empty script"),
@@ -248,6 +268,10 @@ static FAULTY: [Row; 25] = [
     ("run 0\n", Refused, "line 1: wrong count of words"),
     ("prune 0\n", Refused, "line 1: wrong count of words"),
     ("flush\n", Refused, "line 1: wrong count of words"),
+    ("flush 0 1 1\n", Refused, "line 1: wrong count of words"),
+    ("flush 0 x\n", Refused, "line 1: bad number"),
+    ("flush 0 4294967296\n", Refused, "line 1: bad number"),
+    ("flush 0 4294967295\n", Refused, "empty script"),
     ("give 0 4294967296\n", Refused, "line 1: bad number"),
     ("give 0 4294967295\n", Refused, "empty script"),
     ("run 4294967296 1\n", Refused, "line 1: bad number"),

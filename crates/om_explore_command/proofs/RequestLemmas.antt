@@ -8,6 +8,7 @@ use Rattle.om_manager.specs.Outputs.{held_of}
 use Rattle.om_manager.specs.declared.output_log.Output.{Output}
 use Rattle.om_scripts.specs.Programs.{Cluster, program_at}
 use Rattle.om_commands.specs.Command.{IsScript}
+use Rattle.om_commands.specs.declared.bytes_text.BytesForm.{BytesForm}
 use Rattle.om_commands.specs.declared.error.CommandError.{CommandError}
 use Rattle.om_commands.specs.declared.error.CommandError.TheVariants.{CannotWrite, NoMemory, OutOfTurns}
 use Rattle.om_run_commands.specs.ClusterScript.{ClusterFile, cluster_file_line, no_settings}
@@ -23,25 +24,25 @@ use Rattle.om_explore_command.specs.declared.tally.Found.{Found}
 use Rattle.om_explore_command.specs.steps.{OfCluster}
 
 -- ---- answers
-pub explore_answer : (is_asked : Bool) (script : ClusterFile) (one two : Cluster) (exploration : Exploration) (text : List ℕ) → one ≡ script.cluster
-    → two ≡ script.cluster → IsExploration one exploration → IsExplorationText two is_asked exploration text → IsExploreAnswer is_asked script text
-explore_answer is_asked script one two exploration text same_one same_two is written = (
+pub explore_answer : (form : BytesForm) (is_asked : Bool) (script : ClusterFile) (one two : Cluster) (exploration : Exploration) (text : List ℕ) → one ≡ script.cluster
+    → two ≡ script.cluster → IsExploration one exploration → IsExplorationText form two is_asked exploration text → IsExploreAnswer form is_asked script text
+explore_answer form is_asked script one two exploration text same_one same_two is written = (
   exploration,
   subst (λ cluster. IsExploration cluster exploration) same_one is,
-  subst (λ cluster. IsExplorationText cluster is_asked exploration text) same_two written,
+  subst (λ cluster. IsExplorationText form cluster is_asked exploration text) same_two written,
 )
 
-pub text_of_answer : {A : Type 0} (is_asked : Bool) (remaining : Option (List ℕ)) (start script : ClusterFile) (r : Result A CommandError)
+pub text_of_answer : {A : Type 0} (form : BytesForm) (is_asked : Bool) (remaining : Option (List ℕ)) (start script : ClusterFile) (r : Result A CommandError)
     (a b : Option (List ℕ)) → start ≡ no_settings → IfSome remaining (λ bytes. IsScript cluster_file_line start bytes script)
-    → OnOk r ((text : List ℕ) × IsExploreAnswer is_asked script text × Appends a b text)
-    → IfSome remaining (λ bytes. OnOk r ((text : List ℕ) × IsExploredFile is_asked bytes text × Appends a b text))
-text_of_answer is_asked None start script r a b is read answer = tt
-text_of_answer is_asked (Some bytes) start script (Ok x) a b is read answer = (
+    → OnOk r ((text : List ℕ) × IsExploreAnswer form is_asked script text × Appends a b text)
+    → IfSome remaining (λ bytes. OnOk r ((text : List ℕ) × IsExploredFile form is_asked bytes text × Appends a b text))
+text_of_answer form is_asked None start script r a b is read answer = tt
+text_of_answer form is_asked (Some bytes) start script (Ok x) a b is read answer = (
   answer.0,
   record { script = script; is_script = subst (λ s. IsScript cluster_file_line s bytes script) is read; answer = answer.1 },
   answer.2,
 )
-text_of_answer is_asked (Some bytes) start script (Err e) a b is read answer = tt
+text_of_answer form is_asked (Some bytes) start script (Err e) a b is read answer = tt
 
 -- ---- errors
 pub error_of_answer : {A : Type 0} (remaining : Option (List ℕ)) (start script : ClusterFile) (r : Result A CommandError) → start ≡ no_settings

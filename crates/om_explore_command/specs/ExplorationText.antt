@@ -3,14 +3,15 @@ use Rattle.std.specs.Prelude.{◌≡◌, ℕ, ◌+◌, Bool, true, false, List, 
 use Rattle.std.specs.List.{flat_map, list_any, range_with_len}
 use Rattle.hex.specs.Hex.{encode_lower}
 use Rattle.sha2.specs.Sha256.{sha256}
-use Rattle.om_look.specs.Trace.{body_text}
 use Rattle.om_manager.specs.Outputs.{HeldOutput}
 use Rattle.om_process.specs.declared.status.Status.{Status}
 use Rattle.om_process.specs.declared.status.Status.TheVariants.{Ready, Waiting}
 use Rattle.om_runner.specs.declared.report.Report.{Report}
 use Rattle.om_scripts.specs.Programs.{Cluster}
 use Rattle.om_world.specs.Texts.{status_text}
+use Rattle.om_commands.specs.Quoted.{bytes_text}
 use Rattle.om_commands.specs.SimText.{name_at}
+use Rattle.om_commands.specs.declared.bytes_text.BytesForm.{BytesForm}
 use Rattle.om_run_commands.specs.Run.{outputs_of}
 use Rattle.om_explore_command.specs.Differences.{DifferFirst}
 use Rattle.om_explore_command.specs.Tallies.{text_of}
@@ -45,26 +46,26 @@ abbrev pub found_text : Cluster → ℕ → Option Found → List ℕ
 found_text cluster number (Some found) = found_line cluster number found
 found_text cluster number None = []
 
--- an output, and where it was made, if there is one
-abbrev pub output_text : Option HeldOutput → List ℕ
-output_text (Some output) = body_text output.bytes ++ codes " in interval " ++ decimal output.interval
-output_text None = codes "none"
+-- an output, its bytes in a form, and where it was made, if there is one
+abbrev pub output_text : BytesForm → Option HeldOutput → List ℕ
+output_text form (Some output) = bytes_text form output.bytes ++ codes " in interval " ++ decimal output.interval
+output_text form None = codes "none"
 
 -- what stands at a place in two runs
-abbrev pub place_text : Cluster → Report → Report → Place → List ℕ
-place_text cluster one other (Output process number) =
+abbrev pub place_text : BytesForm → Cluster → Report → Report → Place → List ℕ
+place_text form cluster one other (Output process number) =
     codes "output " ++ decimal number ++ codes " of " ++ name_at cluster process ++ codes ": "
-    ++ output_text (slice_get (slice_index_or (outputs_of one) process []) number) ++ codes ", "
-    ++ output_text (slice_get (slice_index_or (outputs_of other) process []) number)
-place_text cluster one other (End process) =
+    ++ output_text form (slice_get (slice_index_or (outputs_of one) process []) number) ++ codes ", "
+    ++ output_text form (slice_get (slice_index_or (outputs_of other) process []) number)
+place_text form cluster one other (End process) =
     codes "the end of " ++ name_at cluster process ++ codes ": " ++ status_text (slice_index_or one.statuses.items process Ready) ++ codes ", "
     ++ status_text (slice_index_or other.statuses.items process Ready)
 
 -- the line of where the first text and that of a number differ first
-abbrev pub difference_text : Cluster → ℕ → Option Found → Option Found → Option (Option Place) → List ℕ
-difference_text cluster number (Some one) (Some other) (Some (Some place)) =
-    codes "texts 1 and " ++ decimal number ++ codes " differ at " ++ place_text cluster one.outcome.report other.outcome.report place ++ 10 ∷ []
-difference_text cluster number _ _ _ = []
+abbrev pub difference_text : BytesForm → Cluster → ℕ → Option Found → Option Found → Option (Option Place) → List ℕ
+difference_text form cluster number (Some one) (Some other) (Some (Some place)) =
+    codes "texts 1 and " ++ decimal number ++ codes " differ at " ++ place_text form cluster one.outcome.report other.outcome.report place ++ 10 ∷ []
+difference_text form cluster number _ _ _ = []
 
 -- how many texts there are
 abbrev pub texts_text : ℕ → List ℕ
@@ -77,10 +78,10 @@ runs_text true false runs = decimal runs ++ codes " runs, not all"
 runs_text false false runs = decimal runs ++ codes " runs"
 
 -- a line for each text; one for each that differs from the first; and how many there are
-abbrev pub exploration_text : Cluster → Bool → Exploration → List (Option Place) → List ℕ
-exploration_text cluster is_asked exploration places =
+abbrev pub exploration_text : BytesForm → Cluster → Bool → Exploration → List (Option Place) → List ℕ
+exploration_text form cluster is_asked exploration places =
     flat_map (λ k. found_text cluster (k + 1) (slice_get exploration.found.items k)) (range_with_len 0 (length exploration.found.items))
-    ++ flat_map (λ k. difference_text cluster (k + 1) (slice_get exploration.found.items 0) (slice_get exploration.found.items k) (slice_get places k))
+    ++ flat_map (λ k. difference_text form cluster (k + 1) (slice_get exploration.found.items 0) (slice_get exploration.found.items k) (slice_get places k))
     (range_with_len 0 (length exploration.found.items))
     ++ texts_text (length exploration.found.items) ++ codes " in " ++ runs_text is_asked exploration.is_all exploration.runs ++ 10 ∷ []
 
@@ -94,8 +95,8 @@ pub record ArePlaces (n : ℕ) (found : List Found) (places : List (Option Place
   pub number : length places ≡ length found
   pub each : DifferAt n found places
 
--- the text of an exploration, of which it is said whether all runs were asked for
-pub record IsExplorationText (cluster : Cluster) (is_asked : Bool) (exploration : Exploration) (text : List ℕ) : Type 0 where
+-- the text of an exploration, of which it is said whether all runs were asked for, with the bytes of outputs in a form
+pub record IsExplorationText (form : BytesForm) (cluster : Cluster) (is_asked : Bool) (exploration : Exploration) (text : List ℕ) : Type 0 where
   pub places : List (Option Place)
   pub are_places : ArePlaces (length cluster.processes) exploration.found.items places
-  pub written : text ≡ exploration_text cluster is_asked exploration places
+  pub written : text ≡ exploration_text form cluster is_asked exploration places

@@ -10,6 +10,9 @@ pub trait ExploreContext {
     /// Learns how far the exploration has come: how many runs were played, and to how many texts they came.
     fn tell(&self, runs: u64, texts: usize);
 
+    /// Learns the name of the process that came to its limit, where one did; then the exploration is refused.
+    fn tell_spent(&self, process: &str);
+
     /// Whether a script of each text is wanted.
     fn wants_witnesses(&self) -> bool;
 

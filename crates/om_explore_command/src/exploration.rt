@@ -17,7 +17,7 @@ use crate::random::Draws;
 use crate::tally::{Found, Tally};
 use om_check::{PlayFault, Visitor, explore, explore_all};
 use om_commands::CommandError;
-use om_interval::MAX_PROCESSES;
+use om_interval::{MAX_PROCESSES, Pid};
 use om_process::Image;
 use om_scripts::Programs;
 use std::alloc::Global;
@@ -34,16 +34,26 @@ pub struct Exploration {
     pub is_all: bool,
 }
 
-// Why a run was not played.
-fn error_of(fault: PlayFault) -> CommandError
+// Tells that a process came to its limit.
+fn tell_spent<C: ExploreContext>(context: &C, programs: &Programs, pid: Pid) {
+    if let Some(process) = programs.name(pid.index()) {
+        context.tell_spent(process);
+    }
+}
+
+// Why a run was not played; the context learns of a process that came to its limit.
+fn refusal_of<C: ExploreContext>(context: &C, programs: &Programs, fault: PlayFault) -> CommandError
     ensures { result ≡ error_of fault }
 {
     match fault {
         PlayFault::Memory => CommandError::NoMemory,
-        PlayFault::Spent(_)
-        | PlayFault::NotSent(_)
-        | PlayFault::NotWaiting(_)
-        | PlayFault::NotEnded(_) => CommandError::OutOfTurns,
+        PlayFault::Spent(pid) => {
+            tell_spent(context, programs, pid);
+            CommandError::OutOfTurns
+        }
+        PlayFault::NotSent(_) | PlayFault::NotWaiting(_) | PlayFault::NotEnded(_) => {
+            CommandError::OutOfTurns
+        }
     }
 }
 
@@ -125,14 +135,14 @@ fn explored_of<'a, J: Subject, C: ExploreContext>(
             runs,
             is_all,
         }),
-        Err(fault) => Err(error_of(fault)),
+        Err(fault) => Err(refusal_of(context, programs, fault)),
     }
 }
 
 /// Plays runs without failures of these programs in different orders of receipts, and counts the texts that they come to. Each
 /// process finishes at most `limit` instructions in a run.
 ///
-/// Refused with `OutOfTurns` where one comes to its limit, and with `NoMemory`.
+/// Refused with `OutOfTurns` where one comes to its limit, of which the context learns, and with `NoMemory`.
 pub fn explored<C: ExploreContext>(
     alloc: Global,
     programs: &Programs,

@@ -1,6 +1,8 @@
 //! What is asked of an exploration.
 
-/// How far an exploration is to go.
+use om_commands::BytesForm;
+
+/// How far an exploration is to go, and how it is told.
 #[derive(Clone, Copy, Debug, PartialEq, Eq)]
 pub struct Options {
     /// How many runs are played; of an exploration of all runs, how many walks are made at most.
@@ -11,4 +13,6 @@ pub struct Options {
     pub is_all: bool,
     /// How many turns, each of as many instructions as the cluster file says, a process takes at most.
     pub turns: u64,
+    /// How the bytes of outputs are written in which texts differ.
+    pub form: BytesForm,
 }

@@ -68,14 +68,14 @@ fn explored_text<C: ExploreContext>(
     context: &mut C,
 ) -> Result<String, CommandError>
     requires { 1 ≤ length script.now.cluster.processes }
-    ensures text { IfOk result (λ text. IsExploreAnswer options.now.is_all script.now (string_bytes text)) }
+    ensures text { IfOk result (λ text. IsExploreAnswer options.now.form options.now.is_all script.now (string_bytes text)) }
     ensures error { IfErr result (IsErrorOfScript script.now) }
 {
     let programs = script.programs();
     let limit = options.turns.saturating_mul(script.fuel());
     let exploration = explored(alloc, programs, options, limit, context)?;
     write_wanted(alloc, script, &exploration, context)?;
-    Ok(exploration_text(alloc, programs, &exploration, options.is_all)?)
+    Ok(exploration_text(alloc, options.form, programs, &exploration, options.is_all)?)
 }
 
 // The text that answers a script.
@@ -85,7 +85,7 @@ fn answer<C: ExploreContext>(
     options: &Options,
     context: &mut C,
 ) -> Result<String, CommandError>
-    ensures text { IfOk result (λ text. IsExploreAnswer options.now.is_all script.now (string_bytes text)) }
+    ensures text { IfOk result (λ text. IsExploreAnswer options.now.form options.now.is_all script.now (string_bytes text)) }
     ensures error { IfErr result (IsErrorOfScript script.now) }
 {
     if script.programs().n() == 0 {
@@ -102,7 +102,7 @@ fn write_explored<C: ExploreContext, W: Write>(
     context: &mut C,
     writer: &mut W,
 ) -> Result<(), CommandError>
-    ensures text { OnOk result ((text : List ℕ) × IsExploreAnswer options.now.is_all script.now text
+    ensures text { OnOk result ((text : List ℕ) × IsExploreAnswer options.now.form options.now.is_all script.now text
         × Appends (W.contents writer.old) (W.contents writer.new) text) }
     ensures error { IfErr result (IsErrorOfScript script.now) }
     ensures silent { IfErr result (λ error. IsSilent error (Keeps (W.contents writer.old) (W.contents writer.new))) }
@@ -125,7 +125,7 @@ pub fn explore_file<C: ExploreContext, I: Read, W: Write>(
     reader: &mut I,
     writer: &mut W,
 ) -> Result<(), CommandError>
-    ensures text { IfSome (I.remaining reader.old) (λ bytes. OnOk result ((text : List ℕ) × IsExploredFile options.now.is_all bytes text
+    ensures text { IfSome (I.remaining reader.old) (λ bytes. OnOk result ((text : List ℕ) × IsExploredFile options.now.form options.now.is_all bytes text
         × Appends (W.contents writer.old) (W.contents writer.new) text)) }
     ensures error { IfSome (I.remaining reader.old) (λ bytes. IfErr result (IsErrorOfRun bytes)) }
     ensures silent { IfErr result (λ error. IsSilent error (Keeps (W.contents writer.old) (W.contents writer.new))) }

@@ -13,7 +13,7 @@ ghost use Rattle.om_explore_command.specs.steps.{AreOf, OfCluster};
 use crate::difference::{Place, first_difference};
 use crate::exploration::Exploration;
 use crate::tally::Found;
-use om_commands::{push_bytes, push_status};
+use om_commands::{BytesForm, push_bytes_in, push_status};
 use om_manager::Output;
 use om_process::Status;
 use om_runner::Report;
@@ -140,12 +140,17 @@ fn output_at(report: &Report, process: usize, number: usize) -> Option<&Output>
     }
 }
 
-// Writes an output and where it was made.
-fn push_made(alloc: Global, text: &mut String, output: &Output) -> Result<(), AllocError>
-    ensures { OnOk result (string_bytes text.new ≡ string_bytes text.old ++ output_text (Some (held_of output.now))) }
+// Writes an output, its bytes in a form, and where it was made.
+fn push_made(
+    alloc: Global,
+    text: &mut String,
+    form: BytesForm,
+    output: &Output,
+) -> Result<(), AllocError>
+    ensures { OnOk result (string_bytes text.new ≡ string_bytes text.old ++ output_text form (Some (held_of output.now))) }
 {
     let interval = output.interval;
-    push_bytes(alloc, text, output.bytes.as_slice())?;
+    push_bytes_in(alloc, text, form, output.bytes.as_slice())?;
     write!(text, " in interval {interval}")
 }
 
@@ -153,15 +158,16 @@ fn push_made(alloc: Global, text: &mut String, output: &Output) -> Result<(), Al
 fn push_output(
     alloc: Global,
     text: &mut String,
+    form: BytesForm,
     report: &Report,
     process: usize,
     number: usize,
 ) -> Result<(), AllocError>
     ensures { OnOk result (string_bytes text.new ≡ string_bytes text.old
-        ++ output_text (slice_get (slice_index_or (outputs_of report.now) process []) number)) }
+        ++ output_text form (slice_get (slice_index_or (outputs_of report.now) process []) number)) }
 {
     match output_at(report, process, number) {
-        Some(output) => push_made(alloc, text, output),
+        Some(output) => push_made(alloc, text, form, output),
         None => text.push_str("none"),
     }
 }
@@ -180,19 +186,20 @@ fn status_at(report: &Report, process: usize) -> Status
 fn push_outputs(
     alloc: Global,
     text: &mut String,
+    form: BytesForm,
     programs: &Programs,
     process: usize,
     number: usize,
     one: &Report,
     other: &Report,
 ) -> Result<(), AllocError>
-    ensures { OnOk result (string_bytes text.new ≡ string_bytes text.old ++ place_text programs.now one.now other.now (Place.Output process number)) }
+    ensures { OnOk result (string_bytes text.new ≡ string_bytes text.old ++ place_text form programs.now one.now other.now (Place.Output process number)) }
 {
     let name = name_of(programs, process);
     write!(text, "output {number} of {name}: ")?;
-    push_output(alloc, text, one, process, number)?;
+    push_output(alloc, text, form, one, process, number)?;
     text.push_str(", ")?;
-    push_output(alloc, text, other, process, number)
+    push_output(alloc, text, form, other, process, number)
 }
 
 // Writes how a process ended in two runs.
@@ -203,7 +210,7 @@ fn push_ends(
     one: &Report,
     other: &Report,
 ) -> Result<(), AllocError>
-    ensures { OnOk result (string_bytes text.new ≡ string_bytes text.old ++ place_text programs.now one.now other.now (Place.End process)) }
+    ensures { OnOk result (string_bytes text.new ≡ string_bytes text.old ++ place_text BytesForm.Hex programs.now one.now other.now (Place.End process)) }
 {
     let name = name_of(programs, process);
     write!(text, "the end of {name}: ")?;
@@ -216,16 +223,17 @@ fn push_ends(
 fn push_place(
     alloc: Global,
     text: &mut String,
+    form: BytesForm,
     programs: &Programs,
     place: Place,
     one: &Report,
     other: &Report,
 ) -> Result<(), AllocError>
-    ensures { OnOk result (string_bytes text.new ≡ string_bytes text.old ++ place_text programs.now one.now other.now place) }
+    ensures { OnOk result (string_bytes text.new ≡ string_bytes text.old ++ place_text form programs.now one.now other.now place) }
 {
     match place {
         Place::Output { process, number } => {
-            push_outputs(alloc, text, programs, process, number, one, other)
+            push_outputs(alloc, text, form, programs, process, number, one, other)
         }
         Place::End { process } => push_ends(text, programs, process, one, other),
     }
@@ -235,6 +243,7 @@ fn push_place(
 fn push_difference(
     alloc: Global,
     text: &mut String,
+    form: BytesForm,
     programs: &Programs,
     number: usize,
     one: &Found,
@@ -242,12 +251,13 @@ fn push_difference(
     place: Place,
 ) -> Result<(), AllocError>
     ensures { OnOk result (string_bytes text.new ≡ string_bytes text.old
-        ++ difference_text programs.now number (Some one.now) (Some other.now) (Some (Some place))) }
+        ++ difference_text form programs.now number (Some one.now) (Some other.now) (Some (Some place))) }
 {
     write!(text, "texts 1 and {number} differ at ")?;
     push_place(
         alloc,
         text,
+        form,
         programs,
         place,
         &one.outcome.report,
@@ -260,6 +270,7 @@ fn push_difference(
 fn push_first(
     alloc: Global,
     text: &mut String,
+    form: BytesForm,
     programs: &Programs,
     number: usize,
     one: &Found,
@@ -267,10 +278,10 @@ fn push_first(
     place: Option<Place>,
 ) -> Result<(), AllocError>
     ensures { OnOk result (string_bytes text.new ≡ string_bytes text.old
-        ++ difference_text programs.now number (Some one.now) (Some other.now) (Some place)) }
+        ++ difference_text form programs.now number (Some one.now) (Some other.now) (Some place)) }
 {
     match place {
-        Some(place) => push_difference(alloc, text, programs, number, one, other, place),
+        Some(place) => push_difference(alloc, text, form, programs, number, one, other, place),
         None => Ok(()),
     }
 }
@@ -279,19 +290,21 @@ fn push_first(
 fn push_differences(
     alloc: Global,
     text: &mut String,
+    form: BytesForm,
     programs: &Programs,
     found: &[Found],
     places: &[Option<Place>],
 ) -> Result<(), AllocError>
     requires { length places.now ≡ length found.now }
     ensures { OnOk result (string_bytes text.new ≡ string_bytes text.old
-        ++ flat_map (λ k. difference_text programs.now (k + 1) (slice_get found.now 0) (slice_get found.now k) (slice_get places.now k))
+        ++ flat_map (λ k. difference_text form programs.now (k + 1) (slice_get found.now 0) (slice_get found.now k) (slice_get places.now k))
         (range_with_len 0 (length found.now))) }
 {
     for k in 0..found.len() {
         push_first(
             alloc,
             text,
+            form,
             programs,
             k + 1,
             &found[0],
@@ -336,20 +349,28 @@ fn places_of(alloc: Global, found: &[Found], n: usize) -> Result<Vec<Option<Plac
 }
 
 // The text of an exploration of these programs, of which it is said whether all runs were asked for: a line for each text that runs
-// came to; one for each that differs from the first, where that is first; and how many there are.
+// came to; one for each that differs from the first, where that is first, with bytes in a form; and how many there are.
 pub(crate) fn exploration_text(
     alloc: Global,
+    form: BytesForm,
     programs: &Programs,
     exploration: &Exploration,
     is_asked: bool,
 ) -> Result<String, AllocError>
     requires { All (OfCluster (length programs.now.processes)) exploration.now.found.items }
-    ensures { IfOk result (λ text. IsExplorationText programs.now is_asked exploration.now (string_bytes text)) }
+    ensures { IfOk result (λ text. IsExplorationText form programs.now is_asked exploration.now (string_bytes text)) }
 {
     let places = places_of(alloc, &exploration.found, programs.n())?;
     let mut text = String::new(alloc);
     push_all(alloc, &mut text, programs, &exploration.found)?;
-    push_differences(alloc, &mut text, programs, &exploration.found, &places)?;
+    push_differences(
+        alloc,
+        &mut text,
+        form,
+        programs,
+        &exploration.found,
+        &places,
+    )?;
     push_texts(&mut text, exploration.found.len())?;
     text.push_str(" in ")?;
     push_runs(&mut text, is_asked, exploration.is_all, exploration.runs)?;

@@ -6,18 +6,37 @@ use om_commands::sim::sim;
 use om_commands::{BytesForm, CommandError};
 use om_explore_command::{ExploreContext, Options, explore_file};
 use std::alloc::Global;
+use std::cell::RefCell;
 use std::process::Abort;
 
-// Keeps the scripts that it is given.
+// Keeps the scripts that it is given, and the names of processes that came to their limits.
 #[derive(Drop)]
 pub(crate) struct Beside {
     alloc: Global,
     wants: bool,
     pub(crate) witnesses: Vec<Vec<u8>>,
+    spent: RefCell<String>,
+}
+
+impl Beside {
+    // Exactly these processes came to their limits, each name behind a space.
+    pub(crate) fn check_spent(&self, rt: &impl Abort, names: &str) {
+        match self.spent.try_borrow_mut() {
+            Ok(spent) => assert_eq!(rt; spent.as_str(), names),
+            Err(_) => panic!(rt; "in use"),
+        }
+    }
 }
 
 impl ExploreContext for Beside {
     fn tell(&self, _runs: u64, _texts: usize) {}
+
+    fn tell_spent(&self, process: &str) {
+        if let Ok(mut spent) = self.spent.try_borrow_mut() {
+            let _ = spent.push(' ');
+            let _ = spent.push_str(process);
+        }
+    }
 
     fn wants_witnesses(&self) -> bool {
         self.wants
@@ -42,6 +61,7 @@ pub(crate) fn make_beside(alloc: Global, wants: bool) -> Beside {
         alloc,
         wants,
         witnesses: Vec::new(alloc),
+        spent: RefCell::new(String::new(alloc)),
     }
 }
 
@@ -54,6 +74,7 @@ pub(crate) fn options(is_all: bool, runs: u64) -> Options {
         seed: 1,
         is_all,
         turns: TURNS,
+        form: BytesForm::Hex,
     }
 }
 

@@ -31,6 +31,13 @@ text 2 runs 1 sha256 68293bd02aa7037b52b8a520a78e03d1ac845b0b85e9be5ee268c6b67e9
 texts 1 and 2 differ at output 0 of a: 01 in interval 1, 02 in interval 1\n\
 2 texts in all 2 runs\n";
 
+// The same with the bytes of outputs as text: 01 and 02 are no printable characters.
+pub const TWO_AS_TEXT: &str =
+    "text 1 runs 1 sha256 08a5c19b0ac00e4fd90d4e2bf2237958c518185b93c892c86f6b3caedea0af3a\n\
+text 2 runs 1 sha256 68293bd02aa7037b52b8a520a78e03d1ac845b0b85e9be5ee268c6b67e9f2951\n\
+texts 1 and 2 differ at output 0 of a: \"\\001\" in interval 1, \"\\002\" in interval 1\n\
+2 texts in all 2 runs\n";
+
 pub const SIX: &str =
     "text 1 runs 1 sha256 ee496bb7ab4085016bbb842bd8279bdd1471b4a6e486223ffc24d2921a17f212\n\
 text 2 runs 1 sha256 91271fb2bc4ce90eef9b71513c9a6b777dcc5955cf56e3418a461e8c73366e66\n\

@@ -3,7 +3,8 @@
 ghost use Rattle.std.specs.Prelude.{◌≡◌};
 
 use crate::asking::{make_beside, options, played, told, written};
-use crate::clusters::{COUNTS, GATHERS, LOCK, RING, SIX, TWO};
+use crate::clusters::{COUNTS, GATHERS, LOCK, RING, SIX, TWO, TWO_AS_TEXT};
+use om_commands::BytesForm;
 use std::alloc::Global;
 use std::process::Abort;
 
@@ -71,9 +72,22 @@ fn the_most_turns(rt: HostRuntime) {
         let text = written(&rt, alloc, &options, &race);
         assert!(&rt; text.contains("2 texts in "));
         options.turns = 2;
-        let text = written(&rt, alloc, &options, &race);
+        let mut context = make_beside(alloc, false);
+        let text = told(&rt, alloc, &options, &race, &mut context);
         assert_eq!(&rt; text.as_str(), "out of turns");
+        context.check_spent(&rt, " a");
     }
+}
+
+// With the bytes as text only the lines of where texts differ are others, and digests stay.
+#[test]
+fn bytes_as_text(rt: HostRuntime) {
+    let alloc = rt.alloc();
+    let race = file(&rt, alloc, GATHERS, &["a", "b", "c"]);
+    let mut options = options(true, ALL);
+    options.form = BytesForm::Text;
+    let text = written(&rt, alloc, &options, &race);
+    assert_eq!(&rt; text.as_str(), TWO_AS_TEXT);
 }
 
 // Inputs that are refused, and with what.
@@ -101,6 +115,7 @@ fn witnesses(rt: HostRuntime) {
     let mut context = make_beside(alloc, true);
     let text = told(&rt, alloc, &options(true, ALL), &race, &mut context);
     assert_eq!(&rt; text.as_str(), TWO);
+    context.check_spent(&rt, "");
     assert_eq!(&rt; context.witnesses.len(), 2);
     for k in 0..2 {
         let world = played(&rt, alloc, &context.witnesses[k]);

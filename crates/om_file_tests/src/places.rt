@@ -1,6 +1,10 @@
 //! Files of the system: those that a run makes and removes, those that it is not to overwrite, and those that are no stores.
 
-use om_files::{Clash, PlaceError, Places, clash_with_streams, clashes_with_stores, fault_of};
+use om_files::{fault_of, first_unusable};
+use om_store_files::{
+    Clash, PlaceError, Places, Standing, clash_with_databases, clash_with_streams,
+    clashes_with_stores,
+};
 use sqlite::Connection;
 use std::hash::{BuildHasher, RandomState};
 use std::os::unix::fs::symlink;
@@ -251,7 +255,7 @@ fn files_that_are_no_stores(rt: HostRuntime) {
         &rt,
         &rt,
         &path_in(&rt, &rt, &folder, "missing"),
-        "entity not found",
+        "No such file",
     );
     let more = format!(in rt.alloc(); "{TABLES} CREATE TABLE notes (text TEXT);").expect(
         &rt, "memory",
@@ -261,6 +265,18 @@ fn files_that_are_no_stores(rt: HostRuntime) {
         &rt,
         &make_database(&rt, &rt, &folder, "more", &more),
         "has an index",
+    );
+    check_fault(
+        &rt,
+        &rt,
+        &make_database(
+            &rt,
+            &rt,
+            &folder,
+            "none",
+            "CREATE TABLE notes (text TEXT); DROP TABLE notes;",
+        ),
+        "is half a store",
     );
     let one = "CREATE TABLE notes (text TEXT);";
     check_fault(
@@ -275,5 +291,126 @@ fn files_that_are_no_stores(rt: HostRuntime) {
         &make_database(&rt, &rt, &folder, "store", TABLES),
         "is a store",
     );
+    fs::remove_dir_all(&rt, folder.as_str()).expect(&rt, "an end");
+}
+
+const MORE_TABLES: &str = "CREATE TABLE outputs (x INTEGER PRIMARY KEY, body BLOB NOT NULL);
+CREATE TABLE senders (x INTEGER PRIMARY KEY, body BLOB NOT NULL);
+CREATE TABLE about (x INTEGER PRIMARY KEY, body BLOB NOT NULL);";
+
+// Which file of so many processes is told to be of no use, in words that begin so; none where there are no words.
+fn check_blamed(rt: &HostRuntime, stop: &impl Abort, prefix: &str, n: usize, words: Option<&str>) {
+    let blamed = first_unusable(rt, prefix, n).expect(stop, "memory");
+    match (blamed, words) {
+        (None, None) => {}
+        (Some(blame), Some(words)) => {
+            let told = blame.to_string(rt.alloc()).expect(stop, "memory");
+            assert!(stop; told.ends_with(words), "{prefix}: {told}");
+        }
+        (blamed, words) => panic!(stop; "{prefix}: {blamed:?}, {words:?}"),
+    }
+}
+
+// A run that resumes takes up stores of five tables, and makes what is not there or half made.
+#[test]
+fn stores_that_are_not_taken_up(rt: HostRuntime) {
+    let folder = new_folder(&rt, &rt);
+    let five = format!(in rt.alloc(); "{TABLES} {MORE_TABLES}").expect(&rt, "memory");
+    make_database(&rt, &rt, &folder, "s0.db", &five);
+    write(&rt, &rt, &folder, "s1.db", "");
+    make_database(&rt, &rt, &folder, "s3.db", TABLES);
+    let prefix = path_in(&rt, &rt, &folder, "s");
+    check_blamed(&rt, &rt, &prefix, 3, None);
+    let closed =
+        "s3.db: is a store of a run without --resume, which no run takes up: another --store, or move it";
+    check_blamed(&rt, &rt, &prefix, 4, Some(closed));
+    write(&rt, &rt, &folder, "s2.db", "text");
+    let text = "s2.db: is no database of SQLite";
+    check_blamed(&rt, &rt, &prefix, 4, Some(text));
+    fs::remove_dir_all(&rt, folder.as_str()).expect(&rt, "an end");
+}
+
+// Of what a refused start made nothing is left that holds nothing; what stood there before stays, and what has a page in its log.
+#[test]
+fn what_a_refused_start_leaves(rt: HostRuntime) {
+    let folder = new_folder(&rt, &rt);
+    let prefix = path_in(&rt, &rt, &folder, "s");
+    make_database(&rt, &rt, &folder, "s0.db", TABLES);
+    // A connection that is closed leaves its log.
+    let log = path_in(&rt, &rt, &folder, "s0.db-wal");
+    fs::remove_file(&rt, log.as_str()).expect(&rt, "a log");
+    write(&rt, &rt, &folder, "s1.db", "");
+    write(&rt, &rt, &folder, "s2.db-wal", "");
+    let standing = Standing::of(&rt, &prefix, 6).expect(&rt, "memory");
+    write(&rt, &rt, &folder, "s0.db-wal", "a head");
+    write(&rt, &rt, &folder, "s1.db-wal", "");
+    write(&rt, &rt, &folder, "s2.db", "");
+    write(&rt, &rt, &folder, "s3.db", "");
+    write(&rt, &rt, &folder, "s3.db-wal", "");
+    write(&rt, &rt, &folder, "s4.db", "");
+    let page = "a page of a log"
+        .repeat(rt.alloc(), 40)
+        .expect(&rt, "memory");
+    write(&rt, &rt, &folder, "s4.db-wal", &page);
+    write(&rt, &rt, &folder, "s5.db", "x");
+    standing.tidy(&rt, &prefix);
+    check_there(
+        &rt,
+        &rt,
+        &folder,
+        &[
+            ("s0.db", true),
+            ("s0.db-wal", false),
+            ("s1.db", true),
+            ("s1.db-wal", false),
+            ("s2.db", true),
+            ("s2.db-wal", true),
+        ],
+    );
+    check_there(
+        &rt,
+        &rt,
+        &folder,
+        &[
+            ("s3.db", false),
+            ("s3.db-wal", false),
+            ("s4.db", true),
+            ("s4.db-wal", true),
+            ("s5.db", true),
+            ("s5.db-wal", false),
+        ],
+    );
+    fs::remove_dir_all(&rt, folder.as_str()).expect(&rt, "an end");
+}
+
+// Starts of files, and whether they are those of a database or of a log of one: by SQLite's description of its files.
+static STARTS: [(&[u8], bool); 8] = [
+    (b"SQLite format 3\0 and more", true),
+    (b"SQLite format 3", true),
+    (b"SQLite format 4\0", false),
+    (b"SQLite format", false),
+    (b"\x37\x7f\x06\x82\0\x2d\xe2\x18", true),
+    (b"\x37\x7f\x06\x83", true),
+    (b"\x37\x7f\x06\x84", false),
+    (b"", false),
+];
+
+#[test]
+fn databases_that_are_not_overwritten(rt: HostRuntime) {
+    let folder = new_folder(&rt, &rt);
+    let file = path_in(&rt, &rt, &folder, "file");
+    for (start, clashes) in &STARTS {
+        fs::write(&rt, file.as_str(), *start).expect(&rt, "a file");
+        let found = clash_with_databases(&rt, &file);
+        let wanted = if *clashes {
+            Some(Clash::Database)
+        } else {
+            None
+        };
+        assert_eq!(&rt; found, wanted, "{start:?}");
+    }
+    assert_eq!(&rt; clash_with_databases(&rt, &folder), None);
+    let missing = path_in(&rt, &rt, &folder, "missing");
+    assert_eq!(&rt; clash_with_databases(&rt, &missing), None);
     fs::remove_dir_all(&rt, folder.as_str()).expect(&rt, "an end");
 }

@@ -3,8 +3,8 @@
 ghost use Rattle.std.specs.Prelude.{◌≡◌, false};
 
 use crate::copying::copy_of;
-use crate::files::file_of;
 use om_commands::CommandError;
+use om_store_files::store_of;
 use om_tables::{SqlLedger, SqlStable};
 use sqlite::{Connection, FileStore};
 use sqlite_disk::Memory;
@@ -20,7 +20,7 @@ pub enum FileFault {
     Unreadable(io::Error),
     /// It is no regular file.
     NoFile,
-    /// It has nothing in it, or begins with a zero: a run was killed as it made it.
+    /// It has nothing in it, begins with a zero, or is a database with nothing in it: a run was killed as it made it.
     HalfMade,
     /// It does not begin as a database of SQLite does.
     NoDatabase,
@@ -30,6 +30,8 @@ pub enum FileFault {
     NoTables,
     /// There is an index, a view or a table beside the tables of a store.
     MoreThanTables,
+    /// It is a store of a run that does not take up stores, and one that does is to take it.
+    Closed,
     /// It is a store; what was refused may have been so for another cause.
     Store,
 }
@@ -37,7 +39,7 @@ pub enum FileFault {
 impl fmt::Display for FileFault {
     fn fmt<W: fmt::Write>(&self, f: &mut fmt::Formatter<W>) -> fmt::Result {
         let what = match self {
-            FileFault::Unreadable(error) => return write!(f, "{}", error.kind()),
+            FileFault::Unreadable(error) => return write!(f, "{error}"),
             FileFault::NoFile => "is no file",
             FileFault::HalfMade => "is half a store, of a run that was killed as it made it",
             FileFault::NoDatabase => "is no database of SQLite",
@@ -46,6 +48,8 @@ impl fmt::Display for FileFault {
                 "is a database without the tables of a store, receipts and checkpoints, made in this order",
             FileFault::MoreThanTables =>
                 "has an index, a view or a table beside those of a store: remove it from a copy",
+            FileFault::Closed =>
+                "is a store of a run without --resume, which no run takes up: another --store, or move it",
             FileFault::Store => "is a store; it failed as it was used",
         };
         f.write_str(what)
@@ -65,20 +69,40 @@ impl fmt::Display for Blame {
     }
 }
 
-/// The first file of so many processes that is no store. The files are only read.
+/// The first file of so many processes that has something in it and is no store that a run can take up. The files are only read.
 pub fn first_unusable(
     rt: &HostRuntime,
     prefix: &str,
     n: usize,
 ) -> Result<Option<Blame>, AllocError> {
     for process in 0..n {
-        let file = file_of(rt.alloc(), prefix, process)?;
-        match fault_of(rt, file.as_str()) {
+        let file = store_of(rt.alloc(), prefix, process)?;
+        match fault_to_resume(rt, file.as_str()) {
             FileFault::Store => {}
             fault => return Ok(Some(Blame { file, fault })),
         }
     }
     Ok(None)
+}
+
+// Why no run can take up a file. One that is not there, or is half made, is made by a run that resumes.
+fn fault_to_resume(rt: &HostRuntime, file: &str) -> FileFault {
+    if fs::symlink_metadata(rt, file).is_err() {
+        return FileFault::Store;
+    }
+    match fault_of(rt, file) {
+        FileFault::HalfMade => FileFault::Store,
+        FileFault::Store if !is_open_store(rt, file) => FileFault::Closed,
+        fault => fault,
+    }
+}
+
+// Whether a file is a store of the kind that a run can take up.
+fn is_open_store(rt: &HostRuntime, file: &str) -> bool {
+    match copy_of(rt, file) {
+        Ok(conn) => SqlLedger::adopt(conn).is_ok(),
+        Err(_) => false,
+    }
 }
 
 /// Why a file cannot be used as a store. It is only read.
@@ -131,7 +155,13 @@ fn fault_of_tables(rt: &HostRuntime, conn: Connection<FileStore<Memory>>) -> Fil
 }
 
 fn fault_of_schema(schema: &Schema) -> FileFault {
-    if schema.tables.len() > 2 || !schema.indexes.is_empty() || !schema.views.is_empty() {
+    if !schema.indexes.is_empty() || !schema.views.is_empty() {
+        return FileFault::MoreThanTables;
+    }
+    if schema.tables.is_empty() {
+        return FileFault::HalfMade;
+    }
+    if schema.tables.len() > 2 {
         FileFault::MoreThanTables
     } else {
         FileFault::NoTables

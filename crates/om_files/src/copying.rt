@@ -5,9 +5,9 @@ ghost use Rattle.om_commands.specs.Replay.{IsNoMatterOfContent};
 ghost use Rattle.om_files.specs.steps.Quiet.{IsQuiet};
 
 use crate::connecting::refusal_of_opening;
-use crate::files::log_of;
 use om_commands::CommandError;
 use om_runner::OpenFault;
+use om_store_files::{is_written, log_of};
 use sqlite::{Connection, FileStore, Files, Options};
 use sqlite_disk::{Disk, Memory};
 use std::alloc::Global;
@@ -86,9 +86,4 @@ fn refusal_of_reading(error: io::Error) -> CommandError
         io::ErrorKind::OutOfMemory => CommandError::NoMemory,
         _ => CommandError::StoreFault,
     }
-}
-
-// Whether it is a file that has something in it.
-pub(crate) fn is_written(rt: &HostRuntime, path: &str) -> bool {
-    fs::metadata(rt, path).is_ok_and(|metadata| metadata.is_file() && metadata.len() > 0)
 }

@@ -1,29 +1,19 @@
 //! The files of a cluster.
 
 use crate::connecting::{Connects, refusal_of_opening};
-use crate::noting::{Note, Noted, Notes};
 use om_interval::Pid;
 use om_runner::OpenFault;
+use om_store_files::{Note, Noted, Notes, store_of};
 use sqlite::{Connection, FileStore, Options};
 use sqlite_disk::Files as DiskFiles;
 use sqlite_std_file::{File, OpenError, Unknown, open};
-use std::alloc::{AllocError, Global};
+use std::alloc::Global;
 use std::hash::{BuildHasher, RandomState};
 use std::io::ErrorKind;
 
 // How many pages that were read each connection keeps in memory. They are cleared as it is opened, and a store that is pruned has
 // fewer.
 const CACHE_PAGES: usize = 256;
-
-// The name of the file of a process's store.
-pub(crate) fn file_of(alloc: Global, prefix: &str, process: usize) -> Result<String, AllocError> {
-    format!(in alloc; "{prefix}{process}.db")
-}
-
-// The name of the log that SQLite keeps beside a file.
-pub(crate) fn log_of(alloc: Global, file: &str) -> Result<String, AllocError> {
-    format!(in alloc; "{file}-wal")
-}
 
 /// The files that are named by a prefix, the number of the process and `.db`.
 #[derive(Drop)]
@@ -43,7 +33,7 @@ impl<'a> Connects for Files<'a> {
         pid: Pid,
     ) -> Result<Connection<FileStore<Noted<'a, File>>>, OpenFault> {
         let note = self.notes.of(pid);
-        let Ok(path) = file_of(alloc, self.prefix, pid.index()) else {
+        let Ok(path) = store_of(alloc, self.prefix, pid.index()) else {
             return Err(OpenFault::Memory);
         };
         let options = options(self.rt)?;

@@ -5,10 +5,7 @@
 //!
 //! - `connecting`: who opens the databases of a cluster, and the stores that are made in their tables; `resuming`: stores that an
 //!   earlier run may have left
-//! - `files`: the files that are named by a prefix; `noting`: what the system answered where one of them failed
-//! - `places`: the files that a run makes for its stores, and what of them is removed where it is refused; `clashing`: whether a
-//!   file that it is to write beside them is one that it has; `identity`: which file one is, whatever its names
-//! - `settling`: each store in its one file, behind a run; `blaming`: which file a refused run could not use
+//! - `files`: the files that are named by a prefix; `blaming`: which file a refused run could not use
 //! - `copying`: the database of a file that is only read
 //! - `replaying`, `looking`: the commands `replay` and `show` over a connection, and over a file; `showing`: `show` of a store that
 //!   a run can take up; `bodies`: `show` with the bodies of messages
@@ -16,29 +13,19 @@
 
 mod blaming;
 mod bodies;
-mod clashing;
 mod connecting;
 mod copying;
 mod files;
-mod identity;
 mod looking;
-mod noting;
-mod places;
 mod replaying;
 mod resuming;
-mod settling;
 mod showing;
 
 pub use blaming::{Blame, FileFault, fault_of, first_unusable};
 pub use bodies::{show_all_bodies, show_bodies, show_bodies_file};
-pub use clashing::{Clash, clash_with_streams, clashes_with_stores};
 pub use connecting::{Connects, InTables};
 pub use files::Files;
-pub use identity::Identity;
 pub use looking::{show_file, show_over, steps_file, steps_over};
-pub use noting::{Note, Noted, Notes};
-pub use places::{PlaceError, Places};
 pub use replaying::{replay_file, replay_over};
 pub use resuming::TakenUp;
-pub use settling::settle;
 pub use showing::show_all;

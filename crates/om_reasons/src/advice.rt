@@ -6,7 +6,7 @@ ghost use Rattle.om_reasons.specs.Sentences.{advice_text};
 
 use om_commands::CommandError;
 
-/// Returns what may be done about a fault. There is nothing to say of those of which a line of an input or a store is told.
+/// Returns what may be done about a fault. There is nothing to say of those of which a line of an input, or a store, is told anyway.
 pub fn advice_on(error: CommandError) -> Option<&'static str>
     ensures { option_map (λ advice. advice.now) result ≡ advice_text error }
 {
@@ -36,8 +36,10 @@ pub fn advice_on(error: CommandError) -> Option<&'static str>
         CommandError::NoSuchProcess => Some(
             "the name behind --raw stands in no line proc of the input",
         ),
-        CommandError::StoreFault
-        | CommandError::StoreInUse(_)
+        CommandError::StoreFault => Some(
+            "a store failed as it was used (is its disk full?), or no process could be replayed from it: omlog show FILE says what of it is damaged",
+        ),
+        CommandError::StoreInUse(_)
         | CommandError::AnotherCluster(_)
         | CommandError::StoreMissing(_)
         | CommandError::Script(_)

@@ -23,8 +23,10 @@ use om_draw_command::draw::{Window, draw};
 use om_files::{fault_of, replay_file, show_bodies_file, show_file, steps_file};
 use om_folding::fold_zero_rows;
 use om_image::{ImageError, image};
+use om_interval::MAX_PROCESSES;
 use om_reasons::{advice_on, rule_of};
 use om_runner::InMemory;
+use om_store_files::Notes;
 use om_text::{LineError, read_text};
 use std::alloc::Global;
 use std::io::{Read, Write};
@@ -52,7 +54,7 @@ pub(crate) fn run<R: Threads + Wait + Clock + Eprint + Sync>(
     };
     match parse(rt.alloc(), &words) {
         Ok(asked) => {
-            let mut reasons = Reasons::new(rt, is_verbose(asked.request));
+            let mut reasons = Reasons::new(rt, asked.verbose);
             let status = ended(rt, threads, asked, &mut reasons);
             reasons.say(rt);
             status
@@ -78,7 +80,13 @@ fn ended<R: Threads + Wait + Clock + Eprint + Sync>(
                 reasons,
             )
         }
-        _ => end_carried(rt, carry_out(rt, threads, asked, reasons)),
+        _ => {
+            let outcome = carry_out(rt, threads, asked, reasons);
+            if let Err(Failure::Strict) = outcome {
+                reasons.advise("--strict: a process trapped, or a line kill did not come");
+            }
+            end_carried(rt, outcome)
+        }
     }
 }
 
@@ -109,14 +117,6 @@ fn words<R: Runtime + AllocGlobal>(rt: &R) -> io::Result<Vec<String>> {
     Ok(env::args(rt)?.collect(rt.alloc())?)
 }
 
-// Only a run is asked to say more.
-fn is_verbose(request: Request<'_>) -> bool {
-    match request {
-        Request::Run(running) => running.verbose,
-        _ => false,
-    }
-}
-
 // Where reasons are heard the whole text of an input is read first, so that its faulty line can be shown.
 fn carry_out<R: Threads + Wait + Clock + Eprint + Sync>(
     rt: &HostRuntime,
@@ -131,15 +131,21 @@ fn carry_out<R: Threads + Wait + Clock + Eprint + Sync>(
         answer(rt, threads, asked, reader, reasons)
     };
     if let Err(Failure::Refused(error)) = outcome {
+        if let Some(refusal) = reader.refusal() {
+            reasons.add(asked.input.unwrap_or("standard input"), refusal);
+        }
         advise(reasons, error);
     }
     outcome
 }
 
-// What may be done about a fault. Where a file could not be read or written, that is told already.
+// What may be done about a fault. Of a stream, a file or a store that is named already nothing else is said.
 fn advise(reasons: &mut Reasons, error: CommandError) {
-    let is_stream = matches!(error, CommandError::CannotRead | CommandError::CannotWrite);
-    if is_stream && !reasons.is_empty() {
+    let is_named = matches!(
+        error,
+        CommandError::CannotRead | CommandError::CannotWrite | CommandError::StoreFault
+    );
+    if is_named && !reasons.is_empty() {
         return;
     }
     if let Some(advice) = advice_on(error) {
@@ -183,8 +189,12 @@ fn answer<R: Threads + Wait + Clock + Eprint + Sync, I: Read>(
     reasons: &mut Reasons,
 ) -> Result<(), Failure> {
     if let Request::Run(running) = asked.request {
-        let input = asked.input;
-        return run_over(rt, threads, Job { running, input }, reader, reasons);
+        let job = Job {
+            running,
+            input: asked.input,
+            notes: None,
+        };
+        return run_over(rt, threads, job, reader, reasons);
     }
     let mut writer = Output::new(rt);
     let outcome = match asked.request {
@@ -193,6 +203,7 @@ fn answer<R: Threads + Wait + Clock + Eprint + Sync, I: Read>(
         }
         request => answer_at_once(rt, request, reader, &mut writer, reasons),
     };
+    writer.tell_refusal(reasons);
     writer.ended(outcome)
 }
 
@@ -328,6 +339,15 @@ fn run_in_files<R: Threads + Wait + Clock + Eprint + Sync, I: Read>(
     reader: &mut I,
     reasons: &mut Reasons,
 ) -> Result<(), Failure> {
-    let files = ClusterFiles { rt, prefix };
+    let notes = Notes::new(rt.alloc(), MAX_PROCESSES)?;
+    let job = Job {
+        notes: Some(&notes),
+        ..job
+    };
+    let files = ClusterFiles {
+        rt,
+        prefix,
+        notes: &notes,
+    };
     run_over_tables(rt, threads, job, files, reader, reasons)
 }

@@ -3,6 +3,7 @@
 use om_files::Connects;
 use om_interval::Pid;
 use om_runner::OpenFault;
+use om_store_files::{Note, Notes, store_of};
 use sqlite::{Connection, Error, ErrorCode, File, FileStore, Options};
 use sqlite_std_file::{OpenError, Unknown, open};
 use std::alloc::Global;
@@ -18,20 +19,21 @@ const CACHE_PAGES: usize = 256;
 pub(crate) struct ClusterFiles<'a> {
     pub(crate) rt: &'a HostRuntime,
     pub(crate) prefix: &'a str,
+    // What the system answers where one of them is not opened.
+    pub(crate) notes: &'a Notes,
 }
 
 impl<'a> Connects for ClusterFiles<'a> {
     type Disk = FileStore<File>;
 
     fn connect(&self, alloc: Global, pid: Pid) -> Result<Connection<FileStore<File>>, OpenFault> {
-        let (prefix, process) = (self.prefix, pid.index());
-        let Ok(path) = format!(in alloc; "{prefix}{process}.db") else {
+        let Ok(path) = store_of(alloc, self.prefix, pid.index()) else {
             return Err(OpenFault::Memory);
         };
         let options = options(self.rt)?;
         let files = match open(self.rt, path.as_str(), Unknown) {
             Ok(files) => files,
-            Err(error) => return Err(refused(&error)),
+            Err(error) => return Err(refused(&error, self.notes.of(pid))),
         };
         match Connection::open_files(alloc, files, options) {
             Ok(conn) => Ok(conn),
@@ -52,12 +54,18 @@ fn options(rt: &HostRuntime) -> Result<Options, OpenFault> {
     }
 }
 
-// Why the files of a process are not opened.
-fn refused(error: &OpenError) -> OpenFault {
+// Why the files of a process are not opened; what the system answered is noted.
+fn refused(error: &OpenError, note: Option<&Note>) -> OpenFault {
     match error {
         OpenError::OutOfMemory => OpenFault::Memory,
         OpenError::Io(error) if error.kind() == ErrorKind::OutOfMemory => OpenFault::Memory,
+        OpenError::Io(error) => {
+            if let Some(note) = note {
+                note.take(error);
+            }
+            OpenFault::Refused
+        }
         OpenError::Busy => OpenFault::InUse,
-        OpenError::Io(_) | OpenError::HotJournal => OpenFault::Refused,
+        OpenError::HotJournal => OpenFault::Refused,
     }
 }

@@ -1,7 +1,9 @@
 //! Runs that are explored: what an exploration has beside its input and its text.
 
 ghost use Rattle.std.specs.Prelude.{◌≡◌, IfErr};
+ghost use Rattle.omlog.specs.Modes.{form_of};
 
+use crate::carrying::form_of;
 use crate::reasons::Reasons;
 use om_arguments::Exploring;
 use om_commands::CommandError;
@@ -26,6 +28,8 @@ struct Beside<'a, 'r, R> {
     is_told: bool,
     // When the next line of progress comes, by the clock.
     next: Cell<Duration>,
+    // What is told of a process that came to its limit.
+    spent: Cell<Option<String>>,
 }
 
 impl<'a, 'r, R: Clock> ExploreContext for Beside<'a, 'r, R> {
@@ -46,6 +50,15 @@ impl<'a, 'r, R: Clock> ExploreContext for Beside<'a, 'r, R> {
         }
     }
 
+    fn tell_spent(&self, process: &str) {
+        let line = format!(in self.rt.alloc();
+            "{process}: did not come to rest within its turns: it computes for ever, or needs more --turns"
+        );
+        if let Ok(line) = line {
+            let _ = self.spent.replace(Some(line));
+        }
+    }
+
     fn wants_witnesses(&self) -> bool {
         self.prefix.is_some()
     }
@@ -61,6 +74,15 @@ impl<'a, 'r, R: Clock> ExploreContext for Beside<'a, 'r, R> {
                 self.reasons.add(path.as_str(), error);
                 Err(CommandError::CannotWrite)
             }
+        }
+    }
+}
+
+impl<'a, 'r, R> Beside<'a, 'r, R> {
+    // Tells of the process that came to its limit, where one did.
+    fn say_spent(&mut self) {
+        if let Some(line) = self.spent.replace(None) {
+            self.reasons.advise(line);
         }
     }
 }
@@ -106,9 +128,12 @@ pub(crate) fn explore_over<R: Clock, I: Read, W: Write>(
         reasons,
         is_told: rt.stderr().is_terminal(),
         next: Cell::new(Duration::ZERO),
+        spent: Cell::new(None),
     };
     let options = options_of(exploring);
-    explore_file(rt.alloc(), &options, &mut beside, reader, writer)
+    let outcome = explore_file(rt.alloc(), &options, &mut beside, reader, writer);
+    beside.say_spent();
+    outcome
 }
 
 // How far an exploration is to go that is asked for so.
@@ -117,11 +142,13 @@ fn options_of(exploring: Exploring<'_>) -> Options
     ensures seed { result.seed ≡ exploring.entry.seed }
     ensures all { result.is_all ≡ exploring.entry.all }
     ensures turns { result.turns ≡ exploring.entry.turns }
+    ensures form { result.form ≡ form_of exploring.entry.form }
 {
     Options {
         runs: exploring.runs,
         seed: exploring.seed,
         is_all: exploring.all,
         turns: exploring.turns,
+        form: form_of(exploring.form),
     }
 }

@@ -1,6 +1,6 @@
 //! Why a command was refused, in more words than the line that tells it.
 
-use om_reasons::rule_of;
+use om_reasons::{form_of, rule_of};
 use om_text::ScriptError;
 use std::alloc::Global;
 use std::fmt::{Display, Write};
@@ -61,7 +61,7 @@ impl Reasons {
         self.add_lines(others.text.as_str());
     }
 
-    // The line of an input that was refused, and the rule that it breaks.
+    // The line of an input that was refused, the rule that it breaks, and how such a line is written.
     pub(crate) fn add_line(&mut self, file: &str, bytes: &[u8], refused: ScriptError) {
         if !self.are_heard {
             return;
@@ -69,9 +69,13 @@ impl Reasons {
         let rule = rule_of(refused.error);
         let number = refused.line;
         let line = line_of(bytes, number);
-        if let Ok(shown) = shown(*self.text.allocator(), line) {
-            let _ = writeln!(self.text, "omlog: {file}:{number}: {shown}: {rule}");
-        }
+        let Ok(shown) = shown(*self.text.allocator(), line) else {
+            return;
+        };
+        let _ = match form_of(first_word(line)) {
+            Some(form) => writeln!(self.text, "omlog: {file}:{number}: {shown}: {rule}: {form}"),
+            None => writeln!(self.text, "omlog: {file}:{number}: {shown}: {rule}"),
+        };
     }
 
     pub(crate) fn say<R: Eprint>(&self, rt: &R) {
@@ -85,6 +89,13 @@ impl Reasons {
 fn line_of(bytes: &[u8], number: usize) -> &[u8] {
     let mut lines = bytes.split(|byte| *byte == b'\n');
     lines.nth(number.saturating_sub(1)).unwrap_or(b"")
+}
+
+// The first word of a line, where it is text.
+fn first_word(line: &[u8]) -> &str {
+    let mut words = line.split(|byte| matches!(*byte, b' ' | b'\t' | b'\r'));
+    let word = words.find(|word| !word.is_empty());
+    str::from_utf8(word.unwrap_or(b"")).unwrap_or("")
 }
 
 // The start of a line, as far as it can be shown: other bytes are question marks.

@@ -7,15 +7,18 @@ use crate::reasons::Reasons;
 use crate::watching::Stage;
 use om_arguments::{Checking, Kills, Running};
 use om_commands::CommandError;
-use om_files::{
-    Clash, PlaceError, Places, clash_with_streams, clashes_with_stores, first_unusable, settle,
-};
+use om_files::first_unusable;
 use om_process::Status;
+use om_reasons::ends_text;
 use om_run_commands::{
     ClusterScript, RandomKills, RunContext, has_kills_left, kills_left_text, refused_sends_text,
     trapped_text, waiting_text,
 };
 use om_runner::Watch;
+use om_store_files::{
+    Clash, Notes, PlaceError, Places, Standing, clash_with_databases, clash_with_streams,
+    clashes_with_stores, settle, store_of,
+};
 use std::alloc::AllocError;
 use std::fmt::Display;
 use std::fs::File;
@@ -23,11 +26,14 @@ use std::io::Write;
 use std::sync::Wait;
 use std::{fs, io};
 
-// A run that is asked for, and the file that it reads, where one is named.
+// A run that is asked for.
 #[derive(Clone, Copy)]
 pub(crate) struct Job<'a> {
     pub(crate) running: Running<'a>,
+    // The file that it reads, where one is named.
     pub(crate) input: Option<&'a str>,
+    // What the system answers where files of its stores fail, where they are files.
+    pub(crate) notes: Option<&'a Notes>,
 }
 
 // What a run has beside its input and its text.
@@ -42,8 +48,10 @@ pub(crate) struct Surroundings<'a, 'w, R> {
     pub(crate) reasons: Reasons,
     // Whether a kill of the input did not come, or it cannot be told.
     pub(crate) lacks_kill: bool,
-    // The files of the stores.
+    // The files of the stores, where the run makes them.
     places: Option<Places>,
+    // What stood at the names of the stores, where the run takes them up.
+    standing: Option<Standing>,
     // The file of a witness or a record.
     file: Option<File>,
 }
@@ -71,7 +79,14 @@ impl<'a, 'w, R: Wait> RunContext for Surroundings<'a, 'w, R> {
         let Some(file) = &mut self.file else {
             return Err(CommandError::CannotWrite);
         };
-        file.write_all(text).map_err(|_| CommandError::CannotWrite)
+        match file.write_all(text) {
+            Ok(()) => Ok(()),
+            Err(error) => {
+                let path = file_made_by(self.job.running.checking).unwrap_or("");
+                self.reasons.add(path, error);
+                Err(CommandError::CannotWrite)
+            }
+        }
     }
 
     // Once the run ended well, each store is in its one file; where it was refused, the files that nobody wrote to are removed.
@@ -109,6 +124,7 @@ impl<'a, 'w, R: Wait> Surroundings<'a, 'w, R> {
             reasons: Reasons::empty(rt.alloc(), are_heard),
             lacks_kill: false,
             places: None,
+            standing: None,
             file: None,
         }
     }
@@ -139,7 +155,7 @@ impl<'a, 'w, R: Wait> Surroundings<'a, 'w, R> {
             return Ok(());
         };
         if self.job.running.resumes {
-            return Ok(());
+            return self.look(prefix, n);
         }
         match Places::make(self.rt, prefix, n) {
             Ok(places) => {
@@ -150,6 +166,19 @@ impl<'a, 'w, R: Wait> Surroundings<'a, 'w, R> {
                 self.reasons.advise(&error);
                 Err(refusal_of(error))
             }
+        }
+    }
+
+    // Sees what stands at the names of the stores that are taken up.
+    fn look(&mut self, prefix: &str, n: usize) -> Result<(), CommandError>
+        ensures { IfErr result IsErrorOfContext }
+    {
+        match Standing::of(self.rt, prefix, n) {
+            Ok(standing) => {
+                self.standing = Some(standing);
+                Ok(())
+            }
+            Err(_) => Err(CommandError::NoMemory),
         }
     }
 
@@ -172,10 +201,16 @@ impl<'a, 'w, R: Wait> Surroundings<'a, 'w, R> {
         }
     }
 
-    // Removes the files of the stores that nobody wrote to.
+    // Removes the files of the stores that the run made and nobody wrote to.
     fn remove_empty(&self) {
-        if let (Some(prefix), Some(places)) = (self.job.running.prefix, &self.places) {
+        let Some(prefix) = self.job.running.prefix else {
+            return;
+        };
+        if let Some(places) = &self.places {
             places.remove_empty(self.rt, prefix);
+        }
+        if let Some(standing) = &self.standing {
+            standing.tidy(self.rt, prefix);
         }
     }
 
@@ -191,6 +226,8 @@ impl<'a, 'w, R: Wait> Surroundings<'a, 'w, R> {
         match error {
             CommandError::StoreFault => self.add_fault(script),
             CommandError::OutOfTurns => {
+                self.add_ended(script);
+                self.add_trapped(script);
                 self.add_waiting(script);
                 self.add_kills_left(script);
             }
@@ -199,9 +236,10 @@ impl<'a, 'w, R: Wait> Surroundings<'a, 'w, R> {
                 process,
                 "is of another process, program or number of processes",
             ),
-            CommandError::StoreMissing(process) => {
-                self.add_store(process, "holds nothing, and others more than a start")
-            }
+            CommandError::StoreMissing(process) => self.add_store(
+                process,
+                "holds nothing, and others more than a start: put it back, or remove all of them to begin anew",
+            ),
             _ => {}
         }
     }
@@ -209,22 +247,42 @@ impl<'a, 'w, R: Wait> Surroundings<'a, 'w, R> {
     // What is the matter with the store of a process.
     fn add_store<D: Display + Drop>(&mut self, process: usize, what: D) {
         let prefix = self.job.running.prefix.unwrap_or("");
-        if let Ok(file) = format!(in self.rt.alloc(); "{prefix}{process}.db") {
+        if let Ok(file) = store_of(self.rt.alloc(), prefix, process) {
             self.reasons.add(file.as_str(), what);
         }
     }
 
-    // Which file could not be used.
+    // Which file could not be used: by what the system answered as it was opened; or, of those that the run found, by what stands in it.
     fn add_fault(&mut self, script: &ClusterScript) {
         let Some(prefix) = self.job.running.prefix else {
             return;
         };
+        if let Some((process, error)) = first_answer(self.job.notes) {
+            self.add_store(process, error);
+            return;
+        }
+        if !self.job.running.resumes {
+            return;
+        }
         if let Ok(Some(blamed)) = first_unusable(self.rt, prefix, script.programs().n()) {
             self.reasons.advise(blamed);
         }
     }
 
-    // Which processes trapped, and of what.
+    // Which processes ended, and with which code.
+    fn add_ended(&mut self, script: &ClusterScript) {
+        let Some(watch) = self.watch else {
+            return;
+        };
+        let Ok(sights) = watch.sights(self.threads, self.rt.alloc()) else {
+            return;
+        };
+        if let Ok(text) = ends_text(self.rt.alloc(), script.programs(), &sights) {
+            self.reasons.add_lines(text.as_str());
+        }
+    }
+
+    // Which processes trapped, and of what, and of which sends were refused.
     fn add_trapped(&mut self, script: &ClusterScript) {
         let Some(watch) = self.watch else {
             return;
@@ -293,7 +351,16 @@ fn clash_of(
             return Ok(Some(Clash::Store));
         }
     }
-    Ok(clash_with_streams(rt, path, job.input))
+    let streams = clash_with_streams(rt, path, job.input);
+    if streams.is_some() {
+        return Ok(streams);
+    }
+    Ok(clash_with_databases(rt, path))
+}
+
+// The first process whose files failed, and what the system answered.
+fn first_answer(notes: Option<&Notes>) -> Option<(usize, io::Error)> {
+    notes?.first()
 }
 
 // Why no stores are made where their files are not.

@@ -109,6 +109,7 @@ fn run_as<'a, 'w, R: Threads + Wait + Clock + Sync, O: Opener<R> + Sync, I: Read
         reader,
         Output::new(rt),
     );
+    output.tell_refusal(&mut surroundings.reasons);
     let statuses = output.ended(outcome)?;
     if running.strict && (has_trapped(&statuses) || surroundings.lacks_kill) {
         return Err(Failure::Strict);

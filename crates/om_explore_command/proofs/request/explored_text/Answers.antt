@@ -11,6 +11,6 @@ exploration_text-requires g c =
 pub returns-clause-text : goal.returns-clause-text
 returns-clause-text g c =
     let programs = c.programs-programs.result.now in
-    explore_answer c.args.options.now.is_all c.args.script.now programs programs c.in_ok-exploration.exploration
+    explore_answer c.args.options.now.form c.args.options.now.is_all c.args.script.now programs programs c.in_ok-exploration.exploration
     (string_bytes c.in_ok-exploration_text.field-0) c.programs-programs.ensures c.programs-programs.ensures c.in_ok-exploration.ensures.found
     c.in_ok-exploration_text.ensures

@@ -9,6 +9,6 @@ unfolding lib.Utf8.encode
 returns c =
     grows_by_three c.push.result (string_bytes c.args.text.now) (string_bytes c.write.new.self) (string_bytes c.push_place.new.text)
     (string_bytes c.push.new.self) (codes "texts 1 and " ++ decimal c.args.number ++ codes " differ at ")
-    (place_text c.args.programs.now c.args.one.now.outcome.report c.args.other.now.outcome.report c.args.place) (10 ∷ [])
+    (place_text c.args.form c.args.programs.now c.args.one.now.outcome.report c.args.other.now.outcome.report c.args.place) (10 ∷ [])
     c.in_ok-write.ensures.bytes c.in_ok-push_place.ensures
     (pushed c.push.result (string_bytes c.push_place.new.text) (string_bytes c.push.new.self) (10 ∷ []) c.push.ensures.bytes)

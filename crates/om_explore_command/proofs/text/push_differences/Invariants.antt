@@ -9,4 +9,4 @@ abbrev pub invariant-loop-k : goal.invariant-loop-k
 invariant-loop-k l =
     string_bytes l.text
     ≡ string_bytes l.initial.text
-    ++ flat_map (λ k. difference_text l.programs (k + 1) (slice_get l.found 0) (slice_get l.found k) (slice_get l.places k)) (range_with_len 0 l.k)
+    ++ flat_map (λ k. difference_text l.form l.programs (k + 1) (slice_get l.found 0) (slice_get l.found k) (slice_get l.places k)) (range_with_len 0 l.k)

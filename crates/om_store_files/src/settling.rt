@@ -1,7 +1,6 @@
 //! The files of a cluster behind its run.
 
-use crate::copying::is_written;
-use crate::files::{file_of, log_of};
+use crate::names::{is_written, log_of, store_of};
 use sqlite::Connection;
 use std::alloc::AllocError;
 use std::fs;
@@ -16,8 +15,12 @@ pub fn settle(rt: &HostRuntime, prefix: &str, n: usize) {
 
 // The log is removed where it was copied to its end.
 fn settle_one(rt: &HostRuntime, prefix: &str, process: usize) -> Result<(), AllocError> {
-    let file = file_of(rt.alloc(), prefix, process)?;
-    let log = log_of(rt.alloc(), &file)?;
+    let file = store_of(rt.alloc(), prefix, process)?;
+    // The log lies beside the file itself, whatever links lead to it.
+    let Ok(place) = fs::canonicalize(rt, file.as_str()) else {
+        return Ok(());
+    };
+    let log = log_of(rt.alloc(), place.as_str())?;
     if !is_written(rt, &log) {
         return Ok(());
     }

@@ -20,7 +20,8 @@ pub struct Note {
 }
 
 impl Note {
-    pub(crate) fn take(&self, error: &io::Error) {
+    /// Keeps what the system answered, where it is the first such answer.
+    pub fn take(&self, error: &io::Error) {
         if let Some(code) = error.raw_os_error() {
             if self.code.load(SeqCst) == NONE {
                 self.code.store(code, SeqCst);
@@ -67,7 +68,8 @@ impl Notes {
         Ok(Notes { notes })
     }
 
-    pub(crate) fn of(&self, pid: Pid) -> Option<&Note>
+    /// Returns the note of a process, where there is one.
+    pub fn of(&self, pid: Pid) -> Option<&Note>
         ensures there { IsSome result ↔ (pid < self.now) }
     {
         self.notes.get(pid.index())
@@ -89,8 +91,8 @@ impl Notes {
 /// A disk whose first error of the system is noted.
 #[derive(Drop)]
 pub struct Noted<'a, D: Disk> {
-    pub(crate) inner: D,
-    pub(crate) note: Option<&'a Note>,
+    pub inner: D,
+    pub note: Option<&'a Note>,
 }
 
 // Notes an answer that is an error.

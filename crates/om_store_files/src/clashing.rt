@@ -1,10 +1,11 @@
 //! Whether a file that is to be written is one that the run has anyway, which it would overwrite.
 
-use crate::files::file_of;
 use crate::identity::Identity;
+use crate::names::store_of;
 use std::alloc::AllocError;
+use std::io::Read;
 use std::path::{Path, PathBuf};
-use std::{fmt, fs};
+use std::{fmt, fs, io};
 
 /// What a file is for a run, besides the one that is to be written.
 #[derive(Clone, Copy, Debug, PartialEq, Eq)]
@@ -15,6 +16,8 @@ pub enum Clash {
     Output,
     /// The file of a store, or one that SQLite keeps beside it.
     Store,
+    /// A database, or the log of one, of whatever run or program.
+    Database,
 }
 
 impl fmt::Display for Clash {
@@ -23,9 +26,17 @@ impl fmt::Display for Clash {
             Clash::Input => "is the input of the run",
             Clash::Output => "is what standard output goes to",
             Clash::Store => "is a store of the run, or belongs to one",
+            Clash::Database =>
+                "is a database, perhaps a store of another run: another name, or remove it",
         })
     }
 }
+
+// How a database of SQLite begins, and its log, in either order of bytes.
+const STARTS: [&[u8]; 3] = [b"SQLite format 3", b"\x37\x7f\x06\x82", b"\x37\x7f\x06\x83"];
+
+// The longest of these.
+const LONGEST_START: usize = 15;
 
 // As many links are followed, one behind the other.
 const MAX_LINKS: usize = 40;
@@ -46,6 +57,24 @@ pub fn clash_with_streams(rt: &HostRuntime, path: &str, input: Option<&str>) -> 
     None
 }
 
+/// Says whether a path names a file that begins as a database of SQLite does, or as the log of one. One that cannot be read does not.
+pub fn clash_with_databases(rt: &HostRuntime, path: &str) -> Option<Clash> {
+    file_at(rt, path)?;
+    match start_of(rt, path) {
+        Ok(start) if STARTS.iter().any(|known| start.starts_with(*known)) => Some(Clash::Database),
+        _ => None,
+    }
+}
+
+// The first bytes of a file.
+fn start_of(rt: &HostRuntime, path: &str) -> io::Result<Vec<u8>> {
+    let mut start = Vec::new(rt.alloc());
+    fs::open(rt, path)?
+        .take(LONGEST_START as u64)
+        .read_to_end(&mut start)?;
+    Ok(start)
+}
+
 /// Whether what is written to a path would lie at the name of a store of so many processes, or of what SQLite keeps beside one. None
 /// of them need be there.
 pub fn clashes_with_stores(
@@ -62,7 +91,7 @@ pub fn clashes_with_stores(
         return Ok(false);
     };
     for process in 0..n {
-        let file = file_of(rt.alloc(), prefix, process)?;
+        let file = store_of(rt.alloc(), prefix, process)?;
         let store = Path::new(file.as_str());
         if is_beside(name, store.file_name()) && folder_of(rt, store) == Some(folder) {
             return Ok(true);

@@ -1,9 +1,9 @@
-use Rattle.om_files.proofs.noting.NotedDisk.write_at.Goals as goal
+use Rattle.om_store_files.proofs.noting.NotedDisk.set_len.Goals as goal
 
 -- what the inner disk keeps while it is frozen is all that this one keeps
 pub returns-clause-frozen : goal.returns-clause-frozen
 returns-clause-frozen g c = λ frozen.
-    let kept = c.write_at-answer.ensures.frozen frozen in (
+    let kept = c.set_len-answer.ensures.frozen frozen in (
       kept.0,
       record {
         frozen = kept.1.frozen;

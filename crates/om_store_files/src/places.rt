@@ -2,10 +2,10 @@
 
 ghost use Rattle.std.specs.Prelude.{◌≡◌, ◌↔◌, IfOk, length};
 ghost use Rattle.om_commands.specs.declared.error.CommandError.TheVariants as commands;
-ghost use Rattle.om_files.specs.steps.Quiet.{error_of_place};
+ghost use Rattle.om_store_files.specs.steps.Places.{error_of_place};
 
-use crate::files::{file_of, log_of};
 use crate::identity::Identity;
+use crate::names::{log_of, store_of};
 use om_commands::CommandError;
 use std::alloc::AllocError;
 use std::fs::OpenOptions;
@@ -95,7 +95,7 @@ impl Places {
 // Looks at the names of so many processes, and makes none.
 fn look(rt: &HostRuntime, prefix: &str, n: usize) -> Result<(), PlaceError> {
     for process in 0..n {
-        let file = file_of(rt.alloc(), prefix, process)?;
+        let file = store_of(rt.alloc(), prefix, process)?;
         let log = log_of(rt.alloc(), &file)?;
         look_at(rt, file)?;
         look_at(rt, log)?;
@@ -114,7 +114,7 @@ fn look_at(rt: &HostRuntime, name: String) -> Result<(), PlaceError> {
 
 // Makes the file of a process, which is refused where another run has made one of its name by now.
 fn make_one(rt: &HostRuntime, prefix: &str, process: usize) -> Result<Identity, PlaceError> {
-    let file = file_of(rt.alloc(), prefix, process)?;
+    let file = store_of(rt.alloc(), prefix, process)?;
     match new_file(rt, &file) {
         Ok(identity) => Ok(identity),
         Err(error) if error.kind() == io::ErrorKind::AlreadyExists => Err(PlaceError::Taken(file)),
@@ -141,7 +141,7 @@ fn remove_made(
     process: usize,
     made: Identity,
 ) -> Result<(), AllocError> {
-    let file = file_of(rt.alloc(), prefix, process)?;
+    let file = store_of(rt.alloc(), prefix, process)?;
     let log = log_of(rt.alloc(), &file)?;
     if is_empty(rt, &file, Some(made)) && (!is_there(rt, &log) || is_empty(rt, &log, None)) {
         // The log first: once the file is gone its name is another run's, and so is the log's.

@@ -1,0 +1,22 @@
+use Rattle.std.proofs.Common.{◌++◌, ◌∙◌, ap, string_bytes}
+use Rattle.std.specs.Prelude.{slice_index_or}
+use Rattle.std.proofs.lemmas.List.{get_or_default}
+use Rattle.om_observers.specs.declared.sight.Sight.{Sight}
+use Rattle.om_commands.specs.SimText.{name_at}
+use Rattle.om_commands.proofs.TextLemmas.{text_grows}
+use Rattle.om_reasons.specs.Ends.{doing_line, unseen}
+use Rattle.om_reasons.proofs.ends.push_ends.Goals as goal
+
+pub loop-p-preserved : goal.loop-p-preserved
+loop-p-preserved c =
+    let cluster = c.args.programs.now in
+    let sights = c.args.sights.now in
+    let p = c.loop-p.p in
+    let before = string_bytes c.loop-p.text in
+    let name = c.name_in.result.now in
+    let seen = slice_index_or sights p unseen in
+    text_grows (λ k. doing_line (name_at cluster k) (slice_index_or sights k unseen).doing) p
+    (string_bytes c.args.text.now) before (string_bytes c.push_end.new.text) c.loop-p.invariant
+    (c.in_ok-push_end.ensures
+    ∙ ap {A = Sight} (λ s. before ++ doing_line name s.doing) (get_or_default sights p c.index-sights-p.result unseen c.loop-p-test.true)
+    ∙ ap (λ n. before ++ doing_line n seen.doing) c.name_in.ensures)
