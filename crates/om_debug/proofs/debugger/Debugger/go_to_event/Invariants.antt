@@ -1,0 +1,9 @@
+use Rattle.std.proofs.Common.{◌≡◌}
+use Rattle.om_debug.specs.Stops.{IsMoved, with_timeline}
+use Rattle.om_debug.proofs.debugger.Debugger.go_to_event.Given as goal
+
+abbrev pub invariant-pieces : goal.invariant-pieces
+invariant-pieces l = record {
+  moved : IsMoved l.fn.self.timeline l.self.timeline;
+  same : l.self ≡ with_timeline l.fn.self l.self.timeline;
+}

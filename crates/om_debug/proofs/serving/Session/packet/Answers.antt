@@ -1,0 +1,27 @@
+use Rattle.std.proofs.Common.{◌++◌, ◌&&◌, not, codes, List, ℕ, bytes_eq, Result, refl, ap, subst, ◌∙◌}
+use Rattle.std.proofs.KnownBytes.{Appends-trans}
+use Rattle.om_packets.specs.Packets.{packet_text}
+use Rattle.om_timeline.specs.declared.fault.PlayFault.{PlayFault}
+use Rattle.om_debug.specs.declared.debugger.Told.{Told}
+use Rattle.om_debug.specs.Serving.{IsOutcome, if_acked, outcome_text}
+use Rattle.om_debug.proofs.serving.Session.packet.Goals as goal
+
+pub returns : goal.returns
+returns g c =
+    let old = c.args.self.now in
+    let outcome : Result Told PlayFault = c.answer-outcome.result in
+    let plus : List ℕ = if_acked old.acks (codes "+") in
+    let text : List ℕ = packet_text (outcome_text outcome) in
+    let given : IsOutcome c.body.result.now old.debugger outcome c.answer-outcome.new.self =
+    record { answered = c.answer-outcome.ensures.answered; moved = c.answer-outcome.ensures.moved; refused = c.answer-outcome.ensures.refused } in (
+      plus ++ text,
+      record {
+        outcome = outcome;
+        is_outcome = subst (λ packet. IsOutcome packet old.debugger outcome c.answer-outcome.new.self) c.body.ensures given;
+        text = refl;
+        last = c.is_over-over.ensures;
+        decoding = refl;
+        acks = c.acks_after-self.ensures ∙ ap (λ packet. old.acks && not (bytes_eq packet (codes "QStartNoAckMode"))) c.body-2.ensures;
+      },
+      Appends-trans _ _ _ plus text c.in_ok-acknowledge.ensures c.in_ok-send.ensures,
+    )

@@ -1,0 +1,116 @@
+-- What packets that only ask are told.
+use Rattle.std.specs.Prelude.{◌≡◌, ℕ, Bool, true, false, not, ◌&&◌, ◌==◌, List, [], ◌∷◌, ◌++◌, filter, if◌then◌else◌, codes}
+use Rattle.std.specs.List.{list_any}
+use Rattle.om_requests.specs.Answers.{error_text, memory_text, piece_text, registers_text, target_text}
+use Rattle.om_requests.specs.declared.request.Request.{Request}
+use Rattle.om_requests.specs.declared.request.Request.TheVariants as requests
+use Rattle.om_requests.specs.declared.request.Thread.{Thread}
+use Rattle.om_requests.specs.declared.request.Thread.TheVariants.{Any, Numbered}
+use Rattle.om_requests.specs.declared.request.Watch.{Watch}
+use Rattle.om_requests.specs.declared.request.Watched.{Watched}
+use Rattle.om_requests.specs.declared.request.Watched.TheVariants.{Writes, Reads, Both}
+use Rattle.om_timeline.specs.Timeline.{machine_here}
+use Rattle.om_debug.specs.declared.debugger.Told.{Told}
+use Rattle.om_debug.specs.declared.debugger.Told.TheVariants.{Text, Last}
+use Rattle.om_debug.specs.declared.stop.Stop.{Stop}
+use Rattle.om_debug.specs.declared.stop.Stop.TheVariants.{Here}
+use Rattle.om_debug.specs.Stops.{DebugState, IsPassed, StandsFor, stop_text, with_timeline}
+
+-- thread 1 is there, and no other
+abbrev pub is_there : Thread → Bool
+is_there Any = true
+is_there (Numbered n) = n == 1
+
+abbrev pub ok_if : Bool → List ℕ
+ok_if holds = if holds then codes "OK" else error_text
+
+-- what a packet that only asks is told; all others nothing
+abbrev pub asked : DebugState → Request → List ℕ
+asked d requests.Supported = codes "PacketSize=4000;QStartNoAckMode+;qXfer:features:read+;qXfer:threads:read+;ReverseStep+;ReverseContinue+;vContSupported+;swbreak+;hwbreak+"
+asked d requests.StartNoAckMode = codes "OK"
+asked d requests.Why = stop_text Here
+asked d requests.Registers = registers_text (machine_here d.timeline)
+asked d (requests.Memory address length) = memory_text (machine_here d.timeline) address length
+asked d (requests.Select thread) = ok_if (is_there thread)
+asked d (requests.SelectGoing thread) = ok_if (is_there thread)
+asked d (requests.IsAlive thread) = ok_if (is_there thread)
+asked d (requests.Target offset length) = piece_text target_text offset length
+asked d (requests.Threads offset length) = piece_text d.threads offset length
+asked d requests.Attached = codes "1"
+asked d requests.Actions = codes "vCont;c;C;s;S;r"
+asked d requests.Write = error_text
+asked d requests.Malformed = error_text
+asked d _ = []
+
+abbrev pub text_of : Told → List ℕ
+text_of (Text bytes) = bytes.items
+text_of (Last bytes) = bytes.items
+
+-- it is over behind the answer
+abbrev pub is_last : Told → Bool
+is_last (Text bytes) = false
+is_last (Last bytes) = true
+
+-- a packet leaves the process, or ends it
+abbrev pub is_leaving : Request → Bool
+is_leaving requests.Detach = true
+is_leaving requests.Kill = true
+is_leaving _ = false
+
+-- ---- what is set, and taken away
+abbrev pub with_breaks : DebugState → List ℕ → DebugState
+with_breaks d breaks = record d { breaks = breaks }
+
+abbrev pub with_watches : DebugState → List Watch → DebugState
+with_watches d watches = record d { watches = watches }
+
+abbrev pub set_break : ℕ → List ℕ → List ℕ
+set_break address breaks = if list_any (λ other. other == address) breaks then breaks else breaks ++ address ∷ []
+
+abbrev pub clear_break : ℕ → List ℕ → List ℕ
+clear_break address breaks = filter (λ other. not (other == address)) breaks
+
+-- the same watchpoint
+abbrev pub is_watched : Watched → Watched → Bool
+is_watched Writes Writes = true
+is_watched Reads Reads = true
+is_watched Both Both = true
+is_watched kind other = false
+
+abbrev pub is_watch : Watch → Watch → Bool
+is_watch watch other = is_watched watch.kind other.kind && ((watch.address == other.address) && (watch.length == other.length))
+
+abbrev pub set_watch : Watch → List Watch → List Watch
+set_watch watch watches = if list_any (λ other. is_watch other watch) watches then watches else watches ++ watch ∷ []
+
+abbrev pub clear_watch : Watch → List Watch → List Watch
+clear_watch watch watches = filter (λ other. not (is_watch other watch)) watches
+
+-- ---- answers
+-- the process has gone on: nothing stops it at any position that it passed, and it stands where it does for this, which is told
+pub record IsResumed (old : DebugState) (told : Told) (new : DebugState) : Type 0 where
+  pub stop : Stop
+  pub text : text_of told ≡ stop_text stop
+  pub same : new ≡ with_timeline old new.timeline
+  pub passed : IsPassed old new
+  pub stands : StandsFor new stop
+
+-- the process has gone back, and a stop is told
+pub record IsGoneBack (old : DebugState) (told : Told) (new : DebugState) : Type 0 where
+  pub stop : Stop
+  pub text : text_of told ≡ stop_text stop
+  pub same : new ≡ with_timeline old new.timeline
+
+-- what a packet is told, and what it leaves
+abbrev pub IsAnswered : Request → DebugState → Told → DebugState → Type 0
+IsAnswered (requests.Resume how) old told new = IsResumed old told new
+IsAnswered requests.BackStep old told new = IsGoneBack old told new
+IsAnswered requests.BackContinue old told new = IsGoneBack old told new
+IsAnswered (requests.SetBreak address) old told new = (text_of told ≡ codes "OK") × (new ≡ with_breaks old (set_break address old.breaks))
+IsAnswered (requests.ClearBreak address) old told new = (text_of told ≡ codes "OK") × (new ≡ with_breaks old (clear_break address old.breaks))
+IsAnswered (requests.SetWatch watch) old told new = (text_of told ≡ codes "OK") × (new ≡ with_watches old (set_watch watch old.watches))
+IsAnswered (requests.ClearWatch watch) old told new = (text_of told ≡ codes "OK") × (new ≡ with_watches old (clear_watch watch old.watches))
+IsAnswered (requests.Monitor command) old told new = new ≡ with_timeline old new.timeline
+IsAnswered requests.Detach old told new = (text_of told ≡ codes "OK") × (new ≡ old)
+IsAnswered requests.Kill old told new = (text_of told ≡ codes "OK") × (new ≡ old)
+IsAnswered request old told new = (text_of told ≡ asked old request) × (new ≡ old)

@@ -1,0 +1,394 @@
+//! Forward to a stop, and back to one.
+#![tactic(auto, using(crate::proofs::Moved::moved_then, crate::proofs::Moved::same_then, crate::proofs::Moved::moved_at, crate::proofs::Moved::moved_to, crate::proofs::Moved::moved_with, crate::proofs::Moved::moved_same, crate::proofs::Moved::moved_not))]
+
+ghost use Rattle.std.specs.Prelude.{◌≡◌, ◌↔◌, ◌-◌, ◌≤◌, IfOk, IfSome, None, OnOk, false, length, true};
+ghost use Rattle.om_debug.specs.Moments.{next_at};
+ghost use Rattle.om_timeline.specs.Deeds.{turns_at};
+ghost use Rattle.om_debug.specs.Stops.{IsBefore, IsMoved, IsPassed, IsQuietRest, IsWithin, StandsFor, breaks_here, stop_here, watch_here, with_timeline};
+
+use crate::debugger::Debugger;
+use crate::moment::{Next, is_at_instruction, is_down, next_at};
+use crate::stop::Stop;
+use crate::watching::watch_met;
+use om_process::Status;
+use om_requests::{Resume, Watch};
+use om_timeline::{Deed, PlayFault, Position};
+
+// How many pieces of a way are gone at most without a stop.
+const MOST_PIECES: u64 = u64::MAX;
+
+// Whether pc has come out of what is to be stepped over.
+fn is_done(how: Resume, pc: u32) -> bool {
+    match how {
+        Resume::Step => true,
+        Resume::Range(from, to) => pc < from || to <= pc,
+        Resume::Continue => false,
+    }
+}
+
+// Whether the one position is before the other.
+fn is_before(one: Position, other: Position) -> bool
+    ensures { (result ≡ true) ↔ IsBefore one.event one.turns other.event other.turns }
+{
+    one.event < other.event || one.event == other.event && one.turns < other.turns
+}
+
+// How many turns are left of the event at a position.
+#[tactic(auto, using(crate::proofs::Quiet::turns_read, crate::proofs::Quiet::turns_past))]
+fn turns_left(deeds: &[Deed], at: Position) -> u64
+    ensures { result ≡ turns_at deeds.now at.event - at.turns }
+{
+    if at.event >= deeds.len() {
+        return 0;
+    }
+    match &deeds[at.event] {
+        Deed::Nothing => 0,
+        Deed::Ran(turns) => turns.saturating_sub(at.turns),
+        Deed::Took(..) => 0,
+        Deed::Fell => 0,
+        Deed::Back(_) => 0,
+    }
+}
+
+impl Debugger {
+    // Goes on to the first stop at or behind the position.
+    #[tactic(auto, using(crate::proofs::Moved::moved_then, crate::proofs::Moved::same_then, crate::proofs::Moved::moved_not, crate::proofs::Quiet::passed_not, crate::proofs::Quiet::passed_then))]
+    pub(crate) fn forward(&mut self, how: Resume) -> Result<Stop, PlayFault>
+        ensures moved { IsMoved self.old.timeline self.new.timeline }
+        ensures same { self.new ≡ with_timeline self.old self.new.timeline }
+        ensures passed { OnOk result (IsPassed self.old self.new) }
+        ensures stands { IfOk result (λ stop. StandsFor self.new stop) }
+    {
+        'pieces: for _ in 0..MOST_PIECES {
+            if let Some(stop) = self.advance(how)? {
+                return Ok(stop);
+            }
+        }
+        Ok(Stop::Paused)
+    }
+
+    // A piece of the way, and what stops it.
+    #[tactic(auto, using(crate::proofs::Moved::moved_then, crate::proofs::Moved::same_then, crate::proofs::Quiet::passed_then, crate::proofs::Quiet::within_of))]
+    fn advance(&mut self, how: Resume) -> Result<Option<Stop>, PlayFault>
+        ensures within { IsWithin self.old.timeline }
+        ensures moved { IsMoved self.old.timeline self.new.timeline }
+        ensures same { self.new ≡ with_timeline self.old self.new.timeline }
+        ensures passed { OnOk result (IsPassed self.old self.new) }
+        ensures stands { IfOk result (λ stop. IfSome stop (λ stop. StandsFor self.new stop)) }
+    {
+        let _ = self.timeline.position();
+        if !self.look()? {
+            return Ok(Some(Stop::End));
+        }
+        let stop = self.go_on(how)?;
+        Ok(stop)
+    }
+
+    // The same, where the next event was played.
+    #[tactic(auto, using(crate::proofs::Moved::moved_not, crate::proofs::Quiet::passed_not))]
+    fn go_on(&mut self, how: Resume) -> Result<Option<Stop>, PlayFault>
+        ensures moved { IsMoved self.old.timeline self.new.timeline }
+        ensures same { self.new ≡ with_timeline self.old self.new.timeline }
+        ensures passed { OnOk result (IsPassed self.old self.new) }
+        ensures stands { IfOk result (λ stop. IfSome stop (λ stop. StandsFor self.new stop)) }
+    {
+        if let Some(stop) = self.stop_here() {
+            return Ok(Some(stop));
+        }
+        let next = self.next();
+        self.make(how)?;
+        Ok(self.stop_behind(next, how))
+    }
+
+    // Plays up to the next event and over it, and tells whether there is one. The process stays.
+    #[tactic(auto, using(crate::proofs::Moved::moved_with, crate::proofs::Moved::moved_same, crate::proofs::Moved::moved_not, crate::proofs::Quiet::passed_look, crate::proofs::Quiet::end_look, crate::proofs::Quiet::within_of))]
+    fn look(&mut self) -> Result<bool, PlayFault>
+        ensures moved { IsMoved self.old.timeline self.new.timeline }
+        ensures same { self.new ≡ with_timeline self.old self.new.timeline }
+        ensures passed { OnOk result (IsPassed self.old self.new) }
+        ensures within { OnOk result (IsWithin self.new.timeline) }
+        ensures end { IfOk result (λ more. more ≡ false → length self.new.timeline.events ≤ self.new.timeline.event) }
+    {
+        let more = self.timeline.look(self.alloc)?;
+        let _ = self.timeline.position();
+        Ok(more)
+    }
+
+    // What comes next.
+    fn next(&self) -> Next
+        ensures { result ≡ next_at self.now.timeline.deeds self.now.timeline.event self.now.timeline.turns }
+    {
+        next_at(self.timeline.deeds(), self.timeline.position())
+    }
+
+    // How many instructions are left of the event.
+    fn turns_left(&self) -> u64
+        ensures { result ≡ turns_at self.now.timeline.deeds self.now.timeline.event - self.now.timeline.turns }
+    {
+        turns_left(self.timeline.deeds(), self.timeline.position())
+    }
+
+    // What stops the process right before what comes next.
+    fn stop_here(&self) -> Option<Stop>
+        ensures is { result ≡ stop_here self.now }
+        ensures stands { IfSome result (λ stop. StandsFor self.now stop) }
+    {
+        if self.breaks_here() {
+            return Some(Stop::Break);
+        }
+        match self.watch_here() {
+            Some(watch) => Some(Stop::Watched(watch)),
+            None => None,
+        }
+    }
+
+    // Whether the next instruction has a breakpoint.
+    fn breaks_here(&self) -> bool
+        ensures { result ≡ breaks_here self.now }
+    {
+        is_at_instruction(self.next()) && self.breaks.contains(&self.timeline.machine().pc())
+    }
+
+    // The watchpoint that what comes next meets.
+    fn watch_here(&self) -> Option<Watch>
+        ensures { result ≡ watch_here self.now }
+    {
+        watch_met(
+            &self.watches,
+            self.timeline.machine(),
+            self.timeline.deeds(),
+            self.timeline.position(),
+        )
+    }
+
+    // What stops the process right behind what came to it.
+    fn stop_behind(&self, next: Next, how: Resume) -> Option<Stop>
+        ensures { IfSome result (λ stop. StandsFor self.now stop) }
+    {
+        match next {
+            Next::Still => return None,
+            Next::Failure => return Some(Stop::Failed),
+            _ => {}
+        }
+        if let Status::Trapped(cause) = self.timeline.status() {
+            return Some(Stop::Trapped(cause));
+        }
+        if is_done(how, self.timeline.machine().pc()) {
+            Some(Stop::Stepped)
+        } else {
+            None
+        }
+    }
+
+    // Makes what comes next: of instructions one, or all where nothing can stop between them.
+    #[tactic(auto, using(crate::proofs::Quiet::rest_last))]
+    fn make(&mut self, how: Resume) -> Result<(), PlayFault>
+        requires quiet { stop_here self.old ≡ None }
+        ensures moved { IsMoved self.old.timeline self.new.timeline }
+        ensures same { self.new ≡ with_timeline self.old self.new.timeline }
+        ensures passed { OnOk result (IsPassed self.old self.new) }
+    {
+        if self.is_free(how) {
+            return self.pass();
+        }
+        if self.turns_left() > 1 {
+            self.step();
+            return Ok(());
+        }
+        self.pass()
+    }
+
+    // Whether the process is to go on, and nothing can stop it in the rest of the event.
+    #[tactic(auto, using(crate::proofs::Quiet::rest_empty))]
+    fn is_free(&self, how: Resume) -> bool
+        ensures { result ≡ true → IsQuietRest self.now }
+    {
+        if self.breaks.len() > 0 || self.watches.len() > 0 {
+            return false;
+        }
+        how == Resume::Continue
+    }
+
+    // Makes one instruction.
+    #[tactic(auto, using(crate::proofs::Moved::moved_at, crate::proofs::Moved::moved_same, crate::proofs::Quiet::one_if))]
+    fn step(&mut self)
+        requires quiet { stop_here self.old ≡ None }
+        ensures moved { IsMoved self.old.timeline self.new.timeline }
+        ensures same { self.new ≡ with_timeline self.old self.new.timeline }
+        ensures passed { IsPassed self.old self.new }
+    {
+        self.timeline.step_one();
+    }
+
+    // Makes the rest of the event.
+    #[tactic(auto, using(crate::proofs::Moved::moved_at, crate::proofs::Moved::moved_same, crate::proofs::Moved::moved_not, crate::proofs::Quiet::event_if))]
+    fn pass(&mut self) -> Result<(), PlayFault>
+        requires quiet { IsQuietRest self.old }
+        ensures moved { IsMoved self.old.timeline self.new.timeline }
+        ensures same { self.new ≡ with_timeline self.old self.new.timeline }
+        ensures passed { OnOk result (IsPassed self.old self.new) }
+    {
+        self.timeline.pass(self.alloc)?;
+        Ok(())
+    }
+
+    // Goes back by what came last to the process.
+    pub(crate) fn step_back(&mut self) -> Result<Stop, PlayFault>
+        ensures moved { IsMoved self.old.timeline self.new.timeline }
+        ensures same { self.new ≡ with_timeline self.old self.new.timeline }
+    {
+        match self.last() {
+            Some(to) => {
+                self.timeline.go_to(self.alloc, to)?;
+                Ok(Stop::Stepped)
+            }
+            None => Ok(Stop::Begin),
+        }
+    }
+
+    // Goes back to the last breakpoint before the position, or to right behind the last access to what is watched.
+    pub(crate) fn run_back(&mut self) -> Result<Stop, PlayFault>
+        ensures moved { IsMoved self.old.timeline self.new.timeline }
+        ensures same { self.new ≡ with_timeline self.old self.new.timeline }
+    {
+        let top = self.timeline.position();
+        self.timeline.rewind(self.alloc)?;
+        match self.last_stop(top)? {
+            Some(found) => {
+                self.timeline.go_to(self.alloc, found.at)?;
+                Ok(found.stop)
+            }
+            None => {
+                self.timeline.rewind(self.alloc)?;
+                Ok(Stop::Begin)
+            }
+        }
+    }
+
+    // The last stop from here on and before another position.
+    fn last_stop(&mut self, top: Position) -> Result<Option<Found>, PlayFault>
+        ensures moved { IsMoved self.old.timeline self.new.timeline }
+        ensures same { self.new ≡ with_timeline self.old self.new.timeline }
+    {
+        let mut last = None;
+        if self.breaks.is_empty() && self.watches.is_empty() {
+            return Ok(None);
+        }
+        'pieces: for _ in 0..MOST_PIECES {
+            let at = self.timeline.position();
+            if !is_before(at, top) || !self.timeline.look(self.alloc)? {
+                return Ok(last);
+            }
+            if let Some(found) = self.back_over(at)? {
+                last = Some(found);
+            }
+        }
+        Ok(last)
+    }
+
+    // Makes what comes next, and tells where one who comes back over it stops.
+    fn back_over(&mut self, at: Position) -> Result<Option<Found>, PlayFault>
+        ensures moved { IsMoved self.old.timeline self.new.timeline }
+        ensures same { self.new ≡ with_timeline self.old self.new.timeline }
+    {
+        let watch = self.watch_here();
+        let breaks = self.breaks_here();
+        self.step_over()?;
+        if let Some(watch) = watch {
+            return Ok(Some(Found {
+                at: self.timeline.position(),
+                stop: Stop::Watched(watch),
+            }));
+        }
+        if breaks {
+            return Ok(Some(Found {
+                at,
+                stop: Stop::Break,
+            }));
+        }
+        Ok(None)
+    }
+
+    // Makes one instruction, or what else comes next.
+    fn step_over(&mut self) -> Result<(), PlayFault>
+        ensures moved { IsMoved self.old.timeline self.new.timeline }
+        ensures same { self.new ≡ with_timeline self.old self.new.timeline }
+    {
+        if self.turns_left() > 1 {
+            self.timeline.step_one();
+        } else {
+            self.timeline.pass(self.alloc)?;
+        }
+        Ok(())
+    }
+
+    // Goes to before an event, or to the end where the record has no such event.
+    pub(crate) fn go_to_event(&mut self, event: usize) -> Result<(), PlayFault>
+        ensures moved { IsMoved self.old.timeline self.new.timeline }
+        ensures same { self.new ≡ with_timeline self.old self.new.timeline }
+    {
+        let to = Position { event, turns: 0 };
+        'pieces: for _ in 0..MOST_PIECES {
+            if self.go_nearer(to)? {
+                return Ok(());
+            }
+        }
+        Ok(())
+    }
+
+    // Goes to a position, or plays one event more, and tells whether it stands there or at the end.
+    fn go_nearer(&mut self, to: Position) -> Result<bool, PlayFault>
+        ensures moved { IsMoved self.old.timeline self.new.timeline }
+        ensures same { self.new ≡ with_timeline self.old self.new.timeline }
+    {
+        if self.timeline.go_to(self.alloc, to)? {
+            return Ok(true);
+        }
+        // So many were played.
+        let last = Position {
+            event: self.timeline.deeds().len(),
+            turns: 0,
+        };
+        self.timeline.go_to(self.alloc, last)?;
+        Ok(!self.timeline.look(self.alloc)?)
+    }
+
+    // The position before what came last to the process.
+    fn last(&self) -> Option<Position> {
+        let at = self.timeline.position();
+        if at.turns > 0 {
+            return Some(Position {
+                event: at.event,
+                turns: at.turns - 1,
+            });
+        }
+        let deeds = self.timeline.deeds();
+        for event in (0..at.event).rev() {
+            if let Some(turns) = before_last(deeds, event) {
+                return Some(Position { event, turns });
+            }
+        }
+        None
+    }
+}
+
+// A stop on the way back.
+#[derive(Clone, Copy)]
+struct Found {
+    at: Position,
+    stop: Stop,
+}
+
+// How many instructions of an event stand before the last thing that it did to the process, if it did any.
+fn before_last(deeds: &[Deed], event: usize) -> Option<u64> {
+    if event >= deeds.len() {
+        return None;
+    }
+    match &deeds[event] {
+        Deed::Ran(turns) if *turns > 0 => Some(*turns - 1),
+        Deed::Took(..) => Some(0),
+        Deed::Back(_) => Some(0),
+        Deed::Fell if !is_down(deeds, event) => Some(0),
+        _ => None,
+    }
+}

@@ -1,0 +1,5 @@
+pub mod Alone
+pub mod Deeds
+pub mod Shown
+pub mod Timeline
+pub mod steps

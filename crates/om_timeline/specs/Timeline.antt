@@ -1,0 +1,42 @@
+-- A process of a record at a position.
+use Rattle.std.specs.Prelude.{◌≡◌, ℕ, List, [], slice_get, Some}
+use Rattle.om_machine.specs.State.{State}
+use Rattle.om_process.specs.Core.{CoreState}
+use Rattle.om_world.specs.declared.event.Event.{Event}
+use Rattle.om_world.specs.World.{WorldState}
+use Rattle.om_timeline.specs.declared.deed.Deed.{Deed}
+use Rattle.om_timeline.specs.Deeds.{at_position}
+
+pub record TimelineState : Type 0 where
+  pub process : ℕ
+  pub n : ℕ  -- how many processes there are
+  pub first : State  -- the machine at the start
+  pub begun : WorldState  -- the world at the start
+  pub events : List Event
+  pub deeds : List Deed  -- what the events that were played did to the process
+  pub event : ℕ  -- how many events have happened
+  pub turns : ℕ  -- how many instructions of the next
+
+-- the machine at the position
+abbrev pub machine_here : TimelineState → State
+machine_here t = at_position t.process t.n t.first t.deeds t.event t.turns
+
+-- at another position
+abbrev pub at : TimelineState → ℕ → ℕ → TimelineState
+at t event turns = record t { event = event; turns = turns }
+
+-- with more events played
+abbrev pub with_deeds : TimelineState → List Deed → TimelineState
+with_deeds t deeds = record t { deeds = deeds }
+
+-- before the first event of a record, with the machine that the process has there
+pub record IsBegin (t : TimelineState) (p : ℕ) (world : WorldState) (events : List Event) : Type 0 where
+  pub is_process : t.process ≡ p
+  pub is_begun : t.begun ≡ world
+  pub is_events : t.events ≡ events
+  pub none : t.deeds ≡ []
+  pub at_event : t.event ≡ 0
+  pub no_turns : t.turns ≡ 0
+  pub core : CoreState
+  pub is_core : slice_get world.cores p ≡ Some (Some core)
+  pub is_first : t.first ≡ core.now.machine

@@ -1,0 +1,4 @@
+-- What only the crate's own parts rest on: no public clause cites these.
+pub mod Filmed
+pub mod Kinds
+pub mod Placed

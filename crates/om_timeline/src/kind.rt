@@ -1,0 +1,39 @@
+//! Of which kind an event is for one process.
+
+ghost use Rattle.std.specs.Prelude.{◌≡◌};
+ghost use Rattle.om_timeline.specs.steps.Kinds.{IsKind, kind_of};
+
+use om_process::Accept;
+use om_world::{Answer, Event, Refusal};
+
+// What an event is for the machine of one process.
+#[derive(Clone, Copy, Debug, PartialEq, Eq)]
+pub(crate) enum Kind {
+    // The machine stays, or the process is down.
+    Nothing,
+    // It took so many turns.
+    Ran(u64),
+    // It received a message.
+    Took,
+    // It came back.
+    Back,
+    // Memory ran out.
+    NoMemory,
+}
+
+// Of which kind an event was for the process of a number, by its answer.
+pub(crate) fn kind_of(process: usize, answer: Answer, event: Event) -> Kind
+    ensures kind { result ≡ kind_of process answer event }
+    ensures is { IsKind process answer event result }
+{
+    match (answer, event) {
+        (Answer::Ran { steps, .. }, Event::Run { process: other, .. }) if other == process => {
+            Kind::Ran(steps)
+        }
+        (Answer::Given(Accept::Taken(_)), Event::Give { process: other, .. }) if other == process =>
+            { Kind::Took }
+        (Answer::Back { .. }, Event::Resume { process: other }) if other == process => Kind::Back,
+        (Answer::Refused(Refusal::Memory), _) => Kind::NoMemory,
+        _ => Kind::Nothing,
+    }
+}

@@ -1,0 +1,16 @@
+//! Any moment of a record, forward and back, as one of its processes sees it.
+//!
+//! In an order of reading: `deed` (what an event did to the process), `alone` (its machine, run again without the process around
+//! it), `kind` and `tape` (the record, played as far as was asked), `timeline` (a position on the tape, with the machine there).
+#![tactic(auto)]
+
+pub use deed::Deed;
+pub use fault::PlayFault;
+pub use timeline::{Position, Timeline};
+
+mod alone;
+mod deed;
+mod fault;
+mod kind;
+mod tape;
+mod timeline;

@@ -1,0 +1,305 @@
+//! A position on the tape, with the machine there.
+
+ghost use Rattle.std.specs.Prelude.{◌≡◌, ◌↔◌, ◌++◌, ◌+◌, ◌<◌, ◌≤◌, ℕ, List, IfOk, IfSome, OnErr, OnOk, false, length, true};
+ghost use Rattle.om_world.specs.Holds.{Holds};
+ghost use Rattle.om_world.specs.World.{IsKnown};
+ghost use Rattle.om_process.specs.Core.{status_of};
+ghost use Rattle.om_timeline.specs.declared.deed.Deed.{Deed};
+ghost use Rattle.om_timeline.specs.Alone.{move_alone};
+ghost use Rattle.om_timeline.specs.Deeds.{turns_at};
+ghost use Rattle.om_timeline.specs.Shown.{ShownAt};
+ghost use Rattle.om_timeline.specs.Timeline.{IsBegin, at, machine_here, with_deeds};
+ghost use Rattle.om_timeline.specs.steps.Placed.{IsLeft};
+
+use crate::alone::{Alone, copy_of};
+use crate::deed::Deed;
+use crate::fault::PlayFault;
+use crate::tape::Tape;
+use om_interval::Pid;
+use om_machine::Machine;
+use om_process::Status;
+use om_stable::MemStable;
+use om_world::{Event, World};
+use std::alloc::{AllocError, Global};
+use std::marker::Model;
+
+/// A position of a record, as one of its processes sees it: how many events have happened, and how many instructions of the next
+/// one, where that is a run of the process.
+#[derive(Clone, Copy, Debug, PartialEq, Eq, PartialOrd, Ord)]
+pub struct Position {
+    pub event: usize,
+    pub turns: u64,
+}
+
+/// A record, and a process of it at a position. The record is played only as far as was asked.
+#[derive(Drop)]
+pub struct Timeline {
+    tape: Tape,
+    here: Alone,
+    at: Position,
+}
+
+impl Model for Timeline {
+    ghost use Rattle.om_timeline.specs.Timeline.{TimelineState};
+    ghost use Rattle.om_timeline.specs.steps.Placed.{IsPlaced};
+    ghost use Rattle.om_world.specs.steps.Codes.{coded_health};
+    ghost use Rattle.om_stable.specs.steps.Codes.{content_code};
+    ghost use Rattle.om_manager.specs.steps.Codes.{coded_manager};
+    ghost use Rattle.std.specs.Coded.{codes};
+
+    ghost Value = { TimelineState };
+
+    ghost coded = { Prim.hlevel (codes, coded_health, content_code, coded_manager) };
+
+    ghost view = { λ t. record {
+      process = t.tape.own;
+      n = t.tape.n;
+      first = t.tape.first;
+      begun = t.tape.begun;
+      events = t.tape.events;
+      deeds = t.tape.deeds;
+      event = t.at.event;
+      turns = t.at.turns;
+    } };
+
+    ghost invariant = { λ t. IsPlaced t.tape t.here.machine t.here.own t.here.n t.at.event t.at.turns };
+}
+
+impl Timeline {
+    /// Begins before the first event of a record, with the world that it begins with. None, where the world has no such process,
+    /// or none that is up. Refused where memory ran out.
+    pub fn new(
+        alloc: Global,
+        world: World<MemStable>,
+        events: Vec<Event>,
+        process: Pid,
+    ) -> Result<Option<Timeline>, AllocError>
+        requires known { IsKnown world }
+        requires holds { Holds world }
+        ensures begun { IfOk result (λ made. IfSome made (λ t. IsBegin t process world events.items)) }
+    {
+        let Some(tape) = Tape::new(alloc, world, events, process)? else {
+            return Ok(None);
+        };
+        let machine = copy_of(alloc, tape.first())?;
+        let here = Alone {
+            machine,
+            own: process.index() as u32,
+            n: tape.n(),
+        };
+        Ok(Some(Timeline {
+            tape,
+            here,
+            at: Position { event: 0, turns: 0 },
+        }))
+    }
+
+    /// The position.
+    pub fn position(&self) -> Position
+        ensures event { result.event ≡ self.now.event }
+        ensures turns { result.turns ≡ self.now.turns }
+        ensures within { result.event ≤ length self.now.deeds }
+        ensures few { result.turns ≤ turns_at self.now.deeds result.event }
+    {
+        self.at
+    }
+
+    /// The machine of the process at the position: of a process that is down, the one that it had.
+    pub fn machine(&self) -> &Machine
+        ensures here { result.now ≡ machine_here self.now }
+        ensures shown { ShownAt self.now.process self.now.first self.now.begun self.now.events self.now.event self.now.turns result.now }
+    {
+        self.tape.told();
+        &self.here.machine
+    }
+
+    /// What the process is about to do at the position: where it is down, what it was about to do.
+    pub fn status(&self) -> Status
+        ensures { status_of (move_alone self.now.process self.now.n (machine_here self.now)) ≡ result }
+    {
+        self.here.status()
+    }
+
+    /// The events of the record.
+    pub fn events(&self) -> &[Event]
+        ensures { result.now ≡ self.now.events }
+    {
+        self.tape.events()
+    }
+
+    /// What the events that were played did to the process.
+    pub fn deeds(&self) -> &[Deed]
+        ensures deeds { result.now ≡ self.now.deeds }
+        ensures within { self.now.event ≤ length result.now }
+    {
+        self.tape.deeds()
+    }
+
+    /// Plays the record up to the next event and over it, where that was not played so far, and tells whether there is one. The position
+    /// stays, and so does all that was played. After a fault the same fault is answered from then on.
+    pub fn look(&mut self, alloc: Global) -> Result<bool, PlayFault>
+        ensures more { IfOk result (λ more. (deeds : List Deed) × (self.new ≡ with_deeds self.old (self.old.deeds ++ deeds))) }
+        ensures there { IfOk result (λ more. more ≡ true → self.new.event < length self.new.deeds) }
+        ensures end { IfOk result (λ more. more ≡ false → length self.old.events ≤ self.old.event) }
+        ensures refused { OnErr result (self.new ≡ self.old) }
+    {
+        if self.at.event < self.tape.deeds().len() {
+            return Ok(true);
+        }
+        self.film(alloc)
+    }
+
+    // Plays one event more.
+    fn film(&mut self, alloc: Global) -> Result<bool, PlayFault>
+        requires { length self.old.deeds ≤ self.old.event }
+        ensures more { IfOk result (λ more. (deeds : List Deed) × (self.new ≡ with_deeds self.old (self.old.deeds ++ deeds))) }
+        ensures there { IfOk result (λ more. more ≡ true → self.new.event < length self.new.deeds) }
+        ensures end { IfOk result (λ more. more ≡ false → length self.old.events ≤ self.old.event) }
+        ensures refused { OnErr result (self.new ≡ self.old) }
+    {
+        self.tape.film(alloc)
+    }
+
+    /// Goes on by one instruction of the next event, and tells whether there is one.
+    pub fn step_one(&mut self) -> bool
+        ensures went { result ≡ true → self.new ≡ at self.old self.old.event (self.old.turns + 1) }
+        ensures at_end { result ≡ false → self.new ≡ self.old }
+        ensures left { result ≡ false → turns_at self.old.deeds self.old.event ≤ self.old.turns }
+    {
+        let left = turns_at(self.tape.deeds(), self.at.event);
+        if self.at.turns >= left {
+            return false;
+        }
+        self.go(1);
+        true
+    }
+
+    // Goes on by so many instructions of the next event.
+    fn go(&mut self, turns: u64)
+        requires { self.old.turns + turns ≤ turns_at self.old.deeds self.old.event }
+        ensures { self.new ≡ at self.old self.old.event (self.old.turns + turns) }
+    {
+        // No deed has more turns than fit.
+        let _ = turns_at(self.tape.deeds(), self.at.event);
+        let all = self.at.turns + turns;
+        self.here.go(turns);
+        self.at.turns = all;
+    }
+
+    /// Goes on to behind the next event, and tells whether one was played. Refused where memory ran out, and then it stands where it stood.
+    pub fn pass(&mut self, alloc: Global) -> Result<bool, AllocError>
+        ensures passed { IfOk result (λ went. went ≡ true → self.new ≡ at self.old (self.old.event + 1) 0) }
+        ensures at_end { IfOk result (λ went. went ≡ false → self.new ≡ self.old) }
+        ensures none { IfOk result (λ went. went ≡ false → length self.old.deeds ≤ self.old.event) }
+        ensures refused { OnErr result (self.new ≡ self.old) }
+    {
+        let deeds = self.tape.deeds();
+        if self.at.event >= deeds.len() {
+            return Ok(false);
+        }
+        self.here
+            .finish(alloc, &deeds[self.at.event], self.at.turns)?;
+        self.at = Position {
+            event: self.at.event + 1,
+            turns: 0,
+        };
+        Ok(true)
+    }
+
+    /// Goes back to before the first event. Refused where memory ran out, and then it stands where it stood.
+    pub fn rewind(&mut self, alloc: Global) -> Result<(), AllocError>
+        ensures begun { OnOk result (self.new ≡ at self.old 0 0) }
+        ensures refused { OnErr result (self.new ≡ self.old) }
+    {
+        self.here.machine = copy_of(alloc, self.tape.first())?;
+        self.at = Position { event: 0, turns: 0 };
+        Ok(())
+    }
+
+    /// Goes to a position, forward or back, and tells whether it is one of those that were played: else it stays. Refused where memory
+    /// ran out, and then it stands at a position before that.
+    pub fn go_to(&mut self, alloc: Global, to: Position) -> Result<bool, AllocError>
+        ensures there { IfOk result (λ there. there ≡ true → self.new ≡ at self.old to.event to.turns) }
+        ensures not_there { IfOk result (λ there. there ≡ false → self.new ≡ self.old) }
+        ensures played { IfOk result (λ there. (there ≡ true)
+            ↔ ((to.event ≤ length self.old.deeds) × (to.turns ≤ turns_at self.old.deeds to.event))) }
+        ensures stays { (event : ℕ) × (turns : ℕ) × (self.new ≡ at self.old event turns) }
+    {
+        let deeds = self.tape.deeds();
+        if to.event > deeds.len() {
+            return Ok(false);
+        }
+        if to.turns > turns_at(deeds, to.event) {
+            return Ok(false);
+        }
+        self.jump(alloc, to)?;
+        Ok(true)
+    }
+
+    // Goes to a position that was played.
+    #[tactic(auto, using(crate::proofs::Walking::gone_there, crate::proofs::Walking::jumped, crate::proofs::Walking::stays_then, crate::proofs::Walking::few_left, crate::proofs::Walking::few_there, crate::proofs::Walking::left_turns, crate::proofs::Walking::left_event, crate::proofs::Walking::left_deeds, crate::proofs::Walking::stays_left))]
+    fn jump(&mut self, alloc: Global, to: Position) -> Result<(), AllocError>
+        requires event { to.event ≤ length self.old.deeds }
+        requires turns { to.turns ≤ turns_at self.old.deeds to.event }
+        ensures there { OnOk result (self.new ≡ at self.old to.event to.turns) }
+        ensures stays { (event : ℕ) × (turns : ℕ) × (self.new ≡ at self.old event turns) }
+    {
+        if to.event == self.at.event && to.turns >= self.at.turns {
+            self.go(to.turns - self.at.turns);
+            return Ok(());
+        }
+        self.leave(alloc, to.event)?;
+        self.walk(alloc, to.event)?;
+        self.go(to.turns);
+        Ok(())
+    }
+
+    // Goes to before an event that is not behind another one.
+    #[tactic(auto, using(crate::proofs::Walking::left_back, crate::proofs::Walking::left_on))]
+    fn leave(&mut self, alloc: Global, to: usize) -> Result<(), AllocError>
+        requires { to ≤ length self.old.deeds }
+        ensures left { OnOk result (IsLeft self.old self.new to) }
+        ensures refused { OnErr result (self.new ≡ self.old) }
+    {
+        if to <= self.at.event {
+            self.rewind(alloc)?;
+        } else {
+            self.pass(alloc)?;
+        }
+        Ok(())
+    }
+
+    // Goes on from before an event to before another that was played.
+    #[tactic(auto, using(crate::proofs::Walking::begun_at, crate::proofs::Walking::walked_on, crate::proofs::Walking::walked_to, crate::proofs::Walking::stays_at))]
+    fn walk(&mut self, alloc: Global, to: usize) -> Result<(), AllocError>
+        requires before { self.old.turns ≡ 0 }
+        requires order { self.old.event ≤ to }
+        requires played { to ≤ length self.old.deeds }
+        ensures there { OnOk result (self.new ≡ at self.old to 0) }
+        ensures stays { (event : ℕ) × (turns : ℕ) × (self.new ≡ at self.old event turns) }
+    {
+        for event in self.at.event..to {
+            // The proof counts by it.
+            let _ = event;
+            self.pass(alloc)?;
+        }
+        Ok(())
+    }
+}
+
+// How many turns the deed at a place has.
+#[tactic(auto, using(crate::proofs::Placing::turns_read, crate::proofs::Placing::none_behind))]
+fn turns_at(deeds: &[Deed], event: usize) -> u64
+    ensures { result ≡ turns_at deeds.now event }
+{
+    if event >= deeds.len() {
+        return 0;
+    }
+    match &deeds[event] {
+        Deed::Nothing => 0,
+        Deed::Ran(turns) => *turns,
+        Deed::Took(..) => 0,
+        Deed::Fell => 0,
+        Deed::Back(_) => 0,
+    }
+}

@@ -1,0 +1,5 @@
+//! Tests of any moment of a record.
+#![tactic(auto)]
+
+#[cfg(test)]
+mod moments;
