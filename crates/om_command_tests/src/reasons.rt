@@ -110,7 +110,7 @@ static ADVICE: [(CommandError, Option<&str>); 19] = [
     ),
     (
         CommandError::NoSuchProcess,
-        Some("the name behind --raw stands in no line proc of the input"),
+        Some("the name behind --raw or --process stands in no line proc of the input"),
     ),
     (
         CommandError::StoreFault,
@@ -138,7 +138,7 @@ fn advice_on_faults(rt: HostRuntime) {
 }
 
 // The first words of lines, and how such lines are written: all that a script, a cluster file or a record script may have.
-static FORMS: [(&str, Option<&str>); 21] = [
+static FORMS: [(&str, Option<&str>); 22] = [
     (
         "program",
         Some("program NAME SIZE WORD .., each WORD of eight hexadecimal digits"),
@@ -151,12 +151,13 @@ static FORMS: [(&str, Option<&str>); 21] = [
     ("kill", Some("kill NAME INTERVAL, for run")),
     (
         "flush",
-        Some("flush K, of 1 or more, for run; flush P for sim"),
+        Some("flush K, of 1 or more, for run; flush P or flush P K for sim"),
     ),
     (
         "checkpoint",
         Some("checkpoint K, of 1 or more, for run; checkpoint P for sim"),
     ),
+    ("spell", Some("spell P, for sim")),
     ("fuel", Some("fuel K, of 1 or more, for run")),
     ("run", Some("run P K, for sim")),
     ("give", Some("give P F, for sim")),

@@ -15,7 +15,7 @@ proc c pc
 ";
 
 // Events over them, the answers, and how the world stands in the end.
-static EVENTS: [Row; 8] = [
+static EVENTS: [Row; 9] = [
     (
         "run 0 100\nrun 1 100\nrun 2 100\ngive 1 0\nrun 1 100\ngive 0 1\nflush 0 0\nflush 0 1\nflush 0 2\nflush 3 1\n",
         Writes,
@@ -51,6 +51,25 @@ noted 1
 recovery 0 0 0
 proc a inc 0 interval 1 ended 0
 proc b inc 0 interval 1 ended 0
+proc c inc 0 interval 0 ended 0
+",
+    ),
+    (
+        "run 0 100\nrun 1 100\nrun 2 100\ngive 1 0\nspell 1\nspell 1\nflush 1 0\nspell 3\nflush 1\n",
+        Writes,
+        "\
+ran 3 waiting sent 0 made 0
+ran 3 waiting sent 0 made 0
+ran 5 ended 0 sent 1 made 0
+taken 1
+noted 0
+present
+noted 1
+no-process
+noted 1
+recovery 0 1 0
+proc a inc 0 interval 0 waiting
+proc b inc 0 interval 1 ready
 proc c inc 0 interval 0 ended 0
 ",
     ),
@@ -236,7 +255,7 @@ const SEVENTEEN: &str = "program a 4
 proc p0 a\nproc p1 a\nproc p2 a\nproc p3 a\nproc p4 a\nproc p5 a\nproc p6 a\nproc p7 a\nproc p8 a
 proc p9 a\nproc p10 a\nproc p11 a\nproc p12 a\nproc p13 a\nproc p14 a\nproc p15 a\nproc p16 a\n";
 
-static FAULTY: [Row; 29] = [
+static FAULTY: [Row; 31] = [
     ("", Refused, "empty script"),
     ("program a 4\n", Refused, "empty script"),
     ("run 0 1\n", Refused, "empty script"),
@@ -282,6 +301,8 @@ static FAULTY: [Row; 29] = [
     ),
     ("run 0 18446744073709551615\n", Refused, "empty script"),
     ("checkpoint x\n", Refused, "line 1: bad number"),
+    ("spell\n", Refused, "line 1: wrong count of words"),
+    ("spell 0 1\n", Refused, "line 1: wrong count of words"),
 ];
 
 // A process puts out the bytes 22 5c 0a 09 0d 20 7e 7f 00 38 ff 1f and then none, and another "hi".

@@ -6,7 +6,7 @@ use Rattle.om_text.specs.Reading.{◌>>=◌, or_error}
 use Rattle.om_text.specs.declared.error.LineError.{LineError}
 use Rattle.om_text.specs.declared.error.LineError.TheVariants.{UnknownLine, WrongCount, BadNumber}
 use Rattle.om_world.specs.declared.event.Event.{Event}
-use Rattle.om_world.specs.declared.event.Event.TheVariants.{Run, Give, Flush, FlushFirst, Checkpoint, Fail, Join, Resume, Resend, Trim, Prune}
+use Rattle.om_world.specs.declared.event.Event.TheVariants.{Run, Give, Flush, FlushFirst, Checkpoint, Spell, Fail, Join, Resume, Resend, Trim, Prune}
 
 -- the process that the one word stands for
 abbrev pub process_in : List (List ℕ) → Result ℕ LineError
@@ -39,9 +39,10 @@ event_line first words =
     else (if bytes_eq first (codes "prune") then prune_line words
     else (if bytes_eq first (codes "flush") then flush_line words
     else (if bytes_eq first (codes "checkpoint") then (process_in words >>= λ p. Ok (Checkpoint p))
+    else (if bytes_eq first (codes "spell") then (process_in words >>= λ p. Ok (Spell p))
     else (if bytes_eq first (codes "fail") then (process_in words >>= λ p. Ok (Fail p))
     else (if bytes_eq first (codes "join") then (process_in words >>= λ p. Ok (Join p))
     else (if bytes_eq first (codes "resume") then (process_in words >>= λ p. Ok (Resume p))
     else (if bytes_eq first (codes "resend") then (process_in words >>= λ p. Ok (Resend p))
     else (if bytes_eq first (codes "trim") then (process_in words >>= λ p. Ok (Trim p))
-    else Err UnknownLine)))))))))
+    else Err UnknownLine))))))))))

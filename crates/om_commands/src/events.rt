@@ -38,6 +38,10 @@ fn event_at(first: &[u8], words: &[&[u8]]) -> Result<Event, LineError>
         let process = process_in(words)?;
         return Ok(Event::Checkpoint { process });
     }
+    if first == b"spell".as_slice() {
+        let process = process_in(words)?;
+        return Ok(Event::Spell { process });
+    }
     if first == b"fail".as_slice() {
         let process = process_in(words)?;
         return Ok(Event::Fail { process });

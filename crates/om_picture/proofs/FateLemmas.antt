@@ -197,6 +197,8 @@ progress_told ended (events.FlushFirst process many) (answers.Noted count) was =
 progress_told ended (events.FlushFirst process many) answer was = refl
 progress_told ended (events.Checkpoint process) (answers.Noted count) was = refl
 progress_told ended (events.Checkpoint process) answer was = refl
+progress_told ended (events.Spell process) (answers.Noted count) was = refl
+progress_told ended (events.Spell process) answer was = refl
 progress_told ended (events.Resend process) (answers.Resent sent) was = resend_progress (sent == 0) was sent
 progress_told ended (events.Resend process) answer was = refl
 progress_told ended (events.Trim process) answer was = refl
@@ -227,6 +229,8 @@ ended_told ended (events.FlushFirst process many) (answers.Noted count) = first_
 ended_told ended (events.FlushFirst process many) answer = refl
 ended_told ended (events.Checkpoint process) (answers.Noted count) = refl
 ended_told ended (events.Checkpoint process) answer = refl
+ended_told ended (events.Spell process) (answers.Noted count) = refl
+ended_told ended (events.Spell process) answer = refl
 ended_told ended (events.Resend process) (answers.Resent sent) = resend_ended (sent == 0) ended sent
 ended_told ended (events.Resend process) answer = refl
 ended_told ended (events.Trim process) answer = refl

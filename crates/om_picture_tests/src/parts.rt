@@ -46,8 +46,8 @@ fn count(text: &[u8], word: &[u8]) -> usize {
     found
 }
 
-// How many marks are drawn as what is in memory only, and how many brackets of flushes, where this line ends the script.
-fn marks<R: Abort>(rt: &R, alloc: Global, line: &str) -> (usize, usize) {
+// The picture where this line ends the script.
+fn picture<R: Abort>(rt: &R, alloc: Global, line: &str) -> Vec<u8> {
     let script = with_line(alloc, line).expect(rt, "a script");
     let mut reader = script.as_bytes();
     let mut picture = Vec::new(alloc);
@@ -56,7 +56,13 @@ fn marks<R: Abort>(rt: &R, alloc: Global, line: &str) -> (usize, usize) {
         to: usize::MAX,
     };
     draw(alloc, &mut reader, &mut picture, window).expect(rt, "a picture");
-    let bytes = picture.as_slice();
+    picture
+}
+
+// How many marks are drawn as what is in memory only, and how many brackets of flushes, where this line ends the script.
+fn marks<R: Abort>(rt: &R, alloc: Global, line: &str) -> (usize, usize) {
+    let drawn = picture(rt, alloc, line);
+    let bytes = drawn.as_slice();
     (count(bytes, b"class=\"v\""), count(bytes, b"class=\"i\""))
 }
 
@@ -86,4 +92,22 @@ fn as_many_are_stored_as_are_told(rt: HostRuntime) {
         (loose.saturating_sub(2), brackets.saturating_add(1))
     );
     assert_eq!(rt; marks(&rt, rt.alloc(), "flush 0 0\n"), (loose, brackets));
+}
+
+// How many checkpoints are drawn, that of the legend too.
+fn checkpoints<R: Abort>(rt: &R, alloc: Global, line: &str) -> usize {
+    let drawn = picture(rt, alloc, line);
+    count(drawn.as_slice(), b"<rect class=\"l\"")
+}
+
+// A checkpoint whose row is pending is drawn as one that is noted, and what was received stays in memory only.
+#[test]
+fn a_checkpoint_is_drawn_before_it_is_noted(rt: HostRuntime) {
+    let noted = checkpoints(&rt, rt.alloc(), "checkpoint 0\n");
+    assert!(rt; checkpoints(&rt, rt.alloc(), "spell 0\n") == noted);
+    assert!(rt; noted == checkpoints(&rt, rt.alloc(), "").saturating_add(1));
+    assert_eq!(rt;
+        marks(&rt, rt.alloc(), "spell 0\n"),
+        marks(&rt, rt.alloc(), "")
+    );
 }

@@ -34,7 +34,7 @@ pub fn advice_on(error: CommandError) -> Option<&'static str>
             "the threads did not do what their programs say: a fault of the machine, or of omlog; the run can be tried again, with --record to see what they did",
         ),
         CommandError::NoSuchProcess => Some(
-            "the name behind --raw stands in no line proc of the input",
+            "the name behind --raw or --process stands in no line proc of the input",
         ),
         CommandError::StoreFault => Some(
             "a store failed as it was used (is its disk full?), or no process could be replayed from it: omlog show FILE says what of it is damaged",

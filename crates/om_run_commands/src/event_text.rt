@@ -18,6 +18,7 @@ fn push_words(text: &mut String, event: Event) -> Result<(), AllocError>
         Event::Flush { process } => write!(text, "flush {process}"),
         Event::FlushFirst { process, count } => write!(text, "flush {process} {count}"),
         Event::Checkpoint { process } => write!(text, "checkpoint {process}"),
+        Event::Spell { process } => write!(text, "spell {process}"),
         Event::Resend { process } => write!(text, "resend {process}"),
         Event::Trim { process } => write!(text, "trim {process}"),
         Event::Fail { process } => write!(text, "fail {process}"),

@@ -82,6 +82,7 @@ shown ended (events.Give process frame) answer = give_shown frame answer
 shown ended (events.Flush process) answer = flush_shown answer
 shown ended (events.FlushFirst process many) answer = first_shown many answer
 shown ended (events.Checkpoint process) answer = checkpoint_shown answer
+shown ended (events.Spell process) answer = checkpoint_shown answer
 shown ended (events.Resend process) answer = resend_shown answer
 shown ended (events.Trim process) answer = shows.Nothing
 shown ended (events.Fail process) answer = failure_shown answer

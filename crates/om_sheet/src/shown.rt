@@ -60,7 +60,7 @@ pub fn shown_of(step: &Step, ended: bool) -> Shown
         Event::Give { frame, .. } => give_shown(step.answer, frame),
         Event::Flush { .. } => flush_shown(step.answer),
         Event::FlushFirst { count, .. } => first_shown(step.answer, count),
-        Event::Checkpoint { .. } => checkpoint_shown(step.answer),
+        Event::Checkpoint { .. } | Event::Spell { .. } => checkpoint_shown(step.answer),
         Event::Resend { .. } => resend_shown(step.answer),
         Event::Fail { .. } => failure_shown(step.answer),
         Event::Join { .. } => join_shown(step.answer),

@@ -56,6 +56,7 @@ pub fn process_of(event: Event) -> Option<usize>
         | Event::Flush { process }
         | Event::FlushFirst { process, .. }
         | Event::Checkpoint { process }
+        | Event::Spell { process }
         | Event::Resend { process }
         | Event::Trim { process }
         | Event::Fail { process }

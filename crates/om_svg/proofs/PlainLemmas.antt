@@ -127,6 +127,7 @@ plain-event (events.Give process frame) = plain-pair process frame
 plain-event (events.Flush process) = plain-decimal process
 plain-event (events.FlushFirst process count) = plain-pair process count
 plain-event (events.Checkpoint process) = plain-decimal process
+plain-event (events.Spell process) = plain-decimal process
 plain-event (events.Resend process) = plain-decimal process
 plain-event (events.Trim process) = plain-decimal process
 plain-event (events.Fail process) = plain-decimal process

@@ -9,6 +9,7 @@ use Rattle.om_member.specs.declared.batch.Batch.{Batch}
 use Rattle.om_member.specs.declared.batch.Batch.TheVariants.{Checkpoint, First, Log}
 use Rattle.om_manager.specs.declared.answers.RecordError.{RecordError}
 use Rattle.om_world.specs.declared.event.Answer.TheVariants as answers
+use Rattle.om_world.specs.declared.event.Event.{Event}
 use Rattle.om_world.specs.declared.event.Refusal.TheVariants as why
 use Rattle.om_world.specs.Changes.{Changes, HasNoted, HasStored, IsSame, IsUp, StoreStopped, stored}
 use Rattle.om_world.specs.Happened.{Happened, HasCheckpoint, StoreHappened}
@@ -127,3 +128,32 @@ some_noted kind w mid v p count fault up h t all =
     by Log x = x
     by (First k) x = x
     by Checkpoint x = x
+
+-- ---- a checkpoint that is stored, and whose row stays pending
+pub spell_refused : (w v : WorldState) (p : ℕ) (fault : StoreError) → IsUp w p → HasCalled Checkpoint w p (Err fault) v → IsKnown v → Happened w (Event.Spell p) (answers.Refused (refusal_of_store fault)) v
+spell_refused w v p store_errors.Present up h all = store_refused Checkpoint w v p store_errors.Present up h all
+spell_refused w v p store_errors.Fault up h all = store_refused Checkpoint w v p store_errors.Fault up h all
+spell_refused w v p store_errors.Memory up h all = (up, is_same Checkpoint w v p store_errors.Memory h all)
+
+pub only_spelled : (w v : WorldState) (p : ℕ) → IsUp w p → HasCalled Checkpoint w p (Ok tt) v → IsKnown v → Happened w (Event.Spell p) (answers.Noted 0) v
+only_spelled w v p up h all =
+    let d = h.did all in (
+      refl,
+      record {
+        core = h.core;
+        gained = (d.0, d.1, d.2, d.4, d.3);
+        changes = record {
+          up = up;
+          before = h.there;
+          cores = ap (λ (x : WorldState). x.cores) h.others;
+          stays = all_stay w v
+              (ap (λ (x : WorldState). x.programs) h.others)
+              (ap (λ (x : WorldState). x.live) h.others)
+              (ap (λ (x : WorldState). x.places) h.others)
+              (ap (λ (x : WorldState). x.rounds) h.others)
+              (ap (λ (x : WorldState). x.origins) h.others);
+        };
+        manager = ap (λ (x : WorldState). x.manager) h.others;
+        frames = ap (λ (x : WorldState). x.frames) h.others;
+      },
+    )

@@ -10,6 +10,7 @@ process_of (events.Give process frame) = Some process
 process_of (events.Flush process) = Some process
 process_of (events.FlushFirst process count) = Some process
 process_of (events.Checkpoint process) = Some process
+process_of (events.Spell process) = Some process
 process_of (events.Resend process) = Some process
 process_of (events.Trim process) = Some process
 process_of (events.Fail process) = Some process

@@ -80,6 +80,14 @@ pub record HasCheckpoint (w : WorldState) (p : ℕ) : Type 0 where
   pub is_held : slice_get w.contents p ≡ Some held
   pub there : IsSome (get held.checkpoints core.now.interval)
 
+-- the store of process p has a checkpoint more, of what the process is now, whose row is the last that is pending; no row is noted
+pub record HasSpelled (old : WorldState) (p : ℕ) (new : WorldState) : Type 0 where
+  pub core : CoreState
+  pub gained : HasStored Checkpoint old p core new
+  pub changes : Changes old p core (stored Checkpoint core) new
+  pub manager : new.manager ≡ old.manager
+  pub frames : new.frames ≡ old.frames
+
 -- ---- what is sent again, and what is dropped
 abbrev pub ResendHappened : WorldState → ℕ → ℕ → WorldState → Type 0
 ResendHappened old p count new =
@@ -129,6 +137,9 @@ Refused old (Event.FlushFirst p k) refusals.Fault new = IsUp old p × HasFailed 
 Refused old (Event.Checkpoint p) refusals.Memory new = IsUp old p × StoreStopped Checkpoint old p new
 Refused old (Event.Checkpoint p) refusals.Fault new = IsUp old p × HasFailed old p new × IsSame old new
 Refused old (Event.Checkpoint p) refusals.Present new = IsUp old p × HasCheckpoint old p × IsSame old new
+Refused old (Event.Spell p) refusals.Memory new = IsUp old p × IsSame old new
+Refused old (Event.Spell p) refusals.Fault new = IsUp old p × HasFailed old p new × IsSame old new
+Refused old (Event.Spell p) refusals.Present new = IsUp old p × HasCheckpoint old p × IsSame old new
 Refused old (Event.Resend p) refusals.Memory new = IsUp old p × (new ≡ old)
 Refused old (Event.Fail p) refusals.Spent new = FailRefused (IsSpent old.manager) old p new
 Refused old (Event.Fail p) refusals.Memory new =
@@ -150,6 +161,7 @@ Happened old (Event.Give p f) (answers.Given answer) new = GiveHappened old p f 
 Happened old (Event.Flush p) (answers.Noted count) new = StoreHappened Log old p count new
 Happened old (Event.FlushFirst p k) (answers.Noted count) new = StoreHappened (First k) old p count new
 Happened old (Event.Checkpoint p) (answers.Noted count) new = StoreHappened Checkpoint old p count new
+Happened old (Event.Spell p) (answers.Noted count) new = (count ≡ 0) × HasSpelled old p new
 Happened old (Event.Resend p) (answers.Resent count) new = ResendHappened old p count new
 Happened old (Event.Trim p) answers.Trimmed new = TrimHappened old p new
 Happened old Event.Prune answers.Pruned new = Prunes (StorePruned new) old new

@@ -10,7 +10,7 @@ use Rattle.om_world.specs.declared.event.Answer.{Answer}
 use Rattle.om_world.specs.declared.event.Answer.TheVariants.{Ran, Given, Noted, Resent, Trimmed, Pruned, Down, Back, GoesOn, Refused}
 use Rattle.om_world.specs.declared.event.Answer.TheVariants as answers
 use Rattle.om_world.specs.declared.event.Event.{Event}
-use Rattle.om_world.specs.declared.event.Event.TheVariants.{Run, Give, Flush, FlushFirst, Checkpoint, Fail, Join, Resume, Resend, Trim, Prune}
+use Rattle.om_world.specs.declared.event.Event.TheVariants.{Run, Give, Flush, FlushFirst, Checkpoint, Spell, Fail, Join, Resume, Resend, Trim, Prune}
 use Rattle.om_world.specs.declared.event.Refusal.{Refusal}
 use Rattle.om_world.specs.declared.event.Refusal.TheVariants as refusals
 
@@ -21,6 +21,7 @@ event_text (Give process frame) = codes "give " ++ decimal process ++ 32 ∷ dec
 event_text (Flush process) = codes "flush " ++ decimal process
 event_text (FlushFirst process count) = codes "flush " ++ decimal process ++ 32 ∷ decimal count
 event_text (Checkpoint process) = codes "checkpoint " ++ decimal process
+event_text (Spell process) = codes "spell " ++ decimal process
 event_text (Resend process) = codes "resend " ++ decimal process
 event_text (Trim process) = codes "trim " ++ decimal process
 event_text (Fail process) = codes "fail " ++ decimal process

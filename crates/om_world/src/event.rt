@@ -20,6 +20,8 @@ pub enum Event {
     FlushFirst { process: usize, count: usize },
     /// The process stores a checkpoint, and its pending rows are noted.
     Checkpoint { process: usize },
+    /// The process stores a checkpoint, and no row is noted: the checkpoint's is pending with the others.
+    Spell { process: usize },
     /// Each message that the process keeps becomes a new frame.
     Resend { process: usize },
     /// The process drops what the manager says that it need not keep.
@@ -53,7 +55,7 @@ pub enum Answer {
     },
     /// The process answered to a frame, with anything but out of memory.
     Given(Accept),
-    /// Its record is stored, and so many rows were noted.
+    /// Its record is stored, and so many rows were noted: none of a process that only spells.
     Noted(usize),
     /// So many messages became frames.
     Resent(usize),

@@ -44,6 +44,7 @@ impl<S: Stable> World<S> {
                 Batch::First(count),
             ),
             Event::Checkpoint { process } => self.record(alloc, process, Batch::Checkpoint),
+            Event::Spell { process } => self.spell(alloc, process),
             Event::Resend { process } => self.resend(alloc, process),
             Event::Trim { process } => self.trim(process),
             Event::Fail { process } => self.fail(alloc, process),

@@ -7,6 +7,7 @@ ghost use Rattle.om_world.specs.Happened.{Happened};
 ghost use Rattle.om_world.specs.Played.{IsCounted, IsFaultless};
 ghost use Rattle.om_world.specs.World.{IsKnown};
 ghost use Rattle.om_manager.specs.declared.answers.RecordError.{RecordError};
+ghost use Rattle.om_world.specs.declared.event.Event.{Event};
 ghost use Rattle.om_world.specs.declared.event.Refusal.{Refusal};
 ghost use Rattle.om_world.specs.steps.Moves.{HasCalled, HasTold, Keeps, answered, count_of, event_of, refusal_of_record, refusal_of_store, told_of};
 
@@ -71,5 +72,17 @@ impl<S: Stable> World<S> {
         self.store(alloc, p, kind)?;
         let count = self.note(alloc, p)?;
         Ok(Answer::Noted(count))
+    }
+
+    // Stores a checkpoint of what a process is now, and leaves its row pending.
+    pub(crate) fn spell(&mut self, alloc: Global, p: usize) -> Result<Answer, Refusal>
+        ensures happened { IsKnown self.new → Happened self.old (Event.Spell p) (answered result) self.new }
+        ensures keeps { Keeps self.old self.new }
+        ensures counted { IsCounted self.old self.new (answered result) }
+        ensures faultless { ((store : S) → S.failed store ≡ 0) → IsFaultless (answered result) }
+    {
+        self.is_up(p)?;
+        self.store(alloc, p, Batch::Checkpoint)?;
+        Ok(Answer::Noted(0))
     }
 }

@@ -522,7 +522,7 @@ fn two_images(alloc: Global) -> Result<Vec<Image>, AllocError>
 }
 
 // Two processes: the first sends two messages to the second.
-fn pair(alloc: Global) -> Result<World<MemStable>, StartFault> {
+pub fn pair(alloc: Global) -> Result<World<MemStable>, StartFault> {
     let images = two_images(alloc)?;
     let stores = two_stores(alloc)?;
     World::start(alloc, &images, stores)
@@ -585,7 +585,7 @@ static STORED_IN_PARTS_ANSWERS: [Answer; 7] = [
 ];
 
 // The place of process 1 in the recovery state after so many of these events.
-fn recovered(rt: &impl Abort, alloc: Global, events: &[Event]) -> u32 {
+pub fn recovered(rt: &impl Abort, alloc: Global, events: &[Event]) -> u32 {
     let mut world = pair(alloc).expect(rt, "a world");
     let answers = world.play(alloc, events).expect(rt, "memory");
     drop(answers);

@@ -5,3 +5,5 @@
 mod events;
 #[cfg(test)]
 mod refused_memory;
+#[cfg(test)]
+mod spelled;
