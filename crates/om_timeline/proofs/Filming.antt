@@ -1,5 +1,5 @@
 -- What is read of a world behind an event is what the event did to the machine.
-use Rattle.std.proofs.Common.{◌≡◌, ℕ, zero, suc, ◌+◌, ◌-◌, ◌<◌, ◌≤◌, List, [], ◌∷◌, ◌++◌, length, set, take, Option, Some, None, refl, sym, ap, subst, ◌∙◌, arith, length-append}
+use Rattle.std.proofs.Common.{◌≡◌, ℕ, zero, suc, ◌+◌, ◌-◌, ◌<◌, ◌≤◌, List, [], ◌∷◌, ◌++◌, length, take, Option, Some, None, refl, sym, ap, subst, ◌∙◌, arith, length-append}
 use Rattle.std.specs.Prelude.{slice_get}
 use Rattle.om_machine.specs.State.{State}
 use Rattle.om_machine.specs.Finishing.{finished_receive}
@@ -29,8 +29,8 @@ use Rattle.om_timeline.specs.declared.kind.Kind.{Kind}
 use Rattle.om_timeline.specs.declared.kind.Kind.TheVariants as kinds
 use Rattle.om_timeline.specs.Alone.{received_alone, turns_alone}
 use Rattle.om_timeline.specs.Deeds.{after_deed, after_deeds, at_position, turns_at, turns_in}
-use Rattle.om_timeline.specs.Shown.{InRun, IsTurned, ShownAt, Shows, machine_in, machine_of, runs, still}
-use Rattle.om_timeline.specs.steps.Filmed.{Filmed, HasMachine, HasSeat, IsDeed, IsMachineAt, IsNowhere, IsReceived, IsSeat, IsTaken}
+use Rattle.om_timeline.specs.Shown.{ShownAt, Shows, machine_in, machine_of, runs, still}
+use Rattle.om_timeline.specs.steps.Filmed.{Filmed, HasMachine, HasSeat, IsDeed, IsReceived, IsSeat, IsTaken}
 use Rattle.om_timeline.specs.steps.Kinds.{IsKind, kind_of}
 use Rattle.om_timeline.proofs.Staying.{stays}
 use Rattle.om_timeline.proofs.Turning.{IsCounted, counted_part, counted_reaches, few_counted, received_of, turns_of}

@@ -1,7 +1,7 @@
 -- What the calls of a machine come to.
-use Rattle.std.proofs.Common.{◌≡◌, ℕ, ◌+◌, ◌<◌, ◌≤◌, List, [], Option, Some, None, Bool, true, false, length, refl, sym, ap, ◌∙◌, arith}
+use Rattle.std.proofs.Common.{◌≡◌, ℕ, ◌+◌, ◌<◌, ◌≤◌, List, [], Option, Some, None, Bool, true, false, length, refl, ap, ◌∙◌, arith}
 use Rattle.std.specs.Prelude.{◌||◌, if◌then◌else◌, nat_le, nat_lt, slice_index, slice_range}
-use Rattle.std.proofs.lemmas.Bool.{le-leb, leb-true, lt-leb}
+use Rattle.std.proofs.lemmas.Bool.{le-leb, lt-leb}
 use Rattle.std.proofs.lemmas.Bool.Decides.{nat_tests}
 use Rattle.om_format.specs.declared.limits.TheConstants.{MAX_BODY}
 use Rattle.om_machine.specs.State.{State}
@@ -16,7 +16,7 @@ use Rattle.om_process.specs.declared.limits.TheConstants.{LAST_NUMBER, REFUSED}
 use Rattle.om_process.specs.declared.status.Status.{Status}
 use Rattle.om_process.specs.declared.status.Status.TheVariants as statuses
 use Rattle.om_process.specs.Core.{status_of}
-use Rattle.om_process.specs.Process.{Move, Waits, Ends, Traps, Goes, Emits}
+use Rattle.om_process.specs.Process.{Move, Traps, Emits}
 use Rattle.om_process.specs.Turns.{after_event, emits, next_move, refuses}
 use Rattle.om_timeline.specs.Alone.{machine_moved, move_alone, received_alone, received_at, turn_alone}
 

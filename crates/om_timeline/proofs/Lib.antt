@@ -1,8 +1,10 @@
 pub mod Filming
 pub mod Finishing
+pub mod Keeping
 pub mod Placing
 pub mod Reading
 pub mod Staying
 pub mod Taping
+pub mod Thinning
 pub mod Turning
 pub mod Walking

@@ -1,5 +1,5 @@
 -- Positions of a tape, and the machine there.
-use Rattle.std.proofs.Common.{◌≡◌, ℕ, zero, suc, ◌+◌, ◌<◌, ◌≤◌, List, [], ◌∷◌, ◌++◌, length, take, get_or, Option, Some, None, Bool, true, false, Result, Ok, Err, IfOk, OnErr, refl, sym, ap, subst, ◌∙◌, arith, length-append}
+use Rattle.std.proofs.Common.{◌≡◌, ℕ, zero, suc, ◌+◌, ◌<◌, ◌≤◌, List, [], ◌∷◌, ◌++◌, length, take, get_or, Some, Bool, true, false, Result, Ok, Err, IfOk, OnErr, refl, sym, ap, subst, ◌∙◌, arith, length-append}
 use Rattle.std.specs.Prelude.{slice_get}
 use Rattle.std.proofs.lemmas.Option.{slice_get_read}
 use Rattle.om_machine.specs.State.{State}
@@ -8,7 +8,7 @@ use Rattle.om_world.proofs.Lists.{none_in, once}
 use Rattle.om_timeline.specs.declared.deed.Deed.{Deed}
 use Rattle.om_timeline.specs.declared.fault.PlayFault.{PlayFault}
 use Rattle.om_timeline.specs.Alone.{turns_alone}
-use Rattle.om_timeline.specs.Deeds.{after_deed, after_deeds, at_position, turns_at, turns_in}
+use Rattle.om_timeline.specs.Deeds.{after_deed, after_deeds, turns_at, turns_in}
 use Rattle.om_timeline.specs.Shown.{ShownAt}
 use Rattle.om_timeline.specs.steps.Filmed.{IsFilmed, TapeState}
 use Rattle.om_timeline.specs.steps.Placed.{IsPlaced}

@@ -1,5 +1,5 @@
 -- What an event leaves of the machine of a process.
-use Rattle.std.proofs.Common.{◌≡◌, ◌≢◌, ◌⊎◌, inl, inr, ℕ, List, set, Option, Some, None, Bool, true, false, refl, sym, ap, subst, ◌∙◌}
+use Rattle.std.proofs.Common.{◌≡◌, ◌≢◌, inl, inr, ℕ, set, Option, Some, None, Bool, true, false, refl, sym, ap, ◌∙◌}
 use Rattle.std.specs.Prelude.{if◌then◌else◌, nat_eq, slice_get}
 use Rattle.std.proofs.lemmas.Bool.Decides.{nat_tests}
 use Rattle.std.proofs.Common.{arith}
@@ -216,6 +216,31 @@ stays_checkpoint p q old new (answers.Back interval inc) h k = absurd h
 stays_checkpoint p q old new answers.GoesOn h k = absurd h
 stays_checkpoint p q old new (answers.Refused why) h k = refused_checkpoint p q old new why h k
 
+refused_spell : (p : ℕ) (q : ℕ) (old new : WorldState) (why : Refusal) → Happened old (events.Spell q) (answers.Refused why) new → kind_of p (answers.Refused why) (events.Spell q) ≡ kinds.Nothing → StaysFor p old new
+refused_spell p q old new refusals.NoProcess h k = stays_same p old new h.1
+refused_spell p q old new refusals.NotUp h k = stays_same p old new h.2
+refused_spell p q old new refusals.NoFrame h k = absurd h
+refused_spell p q old new refusals.NotIn h k = absurd h
+refused_spell p q old new refusals.NoRound h k = absurd h
+refused_spell p q old new refusals.Spent h k = absurd h
+refused_spell p q old new refusals.Present h k = stays_cores p old new (ap (λ (w : WorldState). w.cores) h.2)
+refused_spell p q old new refusals.Fault h k = stays_cores p old new (ap (λ (w : WorldState). w.cores) h.2)
+refused_spell p q old new refusals.Damaged h k = absurd h
+refused_spell p q old new refusals.Memory h k = absurd (not_memory k)
+
+stays_spell : (p : ℕ) (q : ℕ) (old new : WorldState) (a : Answer) → Happened old (events.Spell q) a new → kind_of p a (events.Spell q) ≡ kinds.Nothing → StaysFor p old new
+stays_spell p q old new (answers.Ran steps status sent made) h k = absurd h
+stays_spell p q old new (answers.Given accept) h k = absurd h
+stays_spell p q old new (answers.Noted count) h k = stays_set p q old new h.1.core _ h.1.changes.before h.1.changes.cores refl
+stays_spell p q old new (answers.Resent count) h k = absurd h
+stays_spell p q old new answers.Trimmed h k = absurd h
+stays_spell p q old new answers.Pruned h k = absurd h
+stays_spell p q old new (answers.Gathered answer) h k = absurd h
+stays_spell p q old new answers.Down h k = absurd h
+stays_spell p q old new (answers.Back interval inc) h k = absurd h
+stays_spell p q old new answers.GoesOn h k = absurd h
+stays_spell p q old new (answers.Refused why) h k = refused_spell p q old new why h k
+
 refused_resend : (p : ℕ) (q : ℕ) (old new : WorldState) (why : Refusal) → Happened old (events.Resend q) (answers.Refused why) new → kind_of p (answers.Refused why) (events.Resend q) ≡ kinds.Nothing → StaysFor p old new
 refused_resend p q old new refusals.NoProcess h k = stays_same p old new h.1
 refused_resend p q old new refusals.NotUp h k = stays_same p old new h.2
@@ -373,6 +398,7 @@ stays p old new (events.Give q f) a h k = stays_give p q f old new a h k
 stays p old new (events.Flush q) a h k = stays_flush p q old new a h k
 stays p old new (events.FlushFirst q n) a h k = stays_flush_first p q n old new a h k
 stays p old new (events.Checkpoint q) a h k = stays_checkpoint p q old new a h k
+stays p old new (events.Spell q) a h k = stays_spell p q old new a h k
 stays p old new (events.Resend q) a h k = stays_resend p q old new a h k
 stays p old new (events.Trim q) a h k = stays_trim p q old new a h k
 stays p old new (events.Fail q) a h k = stays_fail p q old new a h k

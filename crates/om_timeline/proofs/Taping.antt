@@ -1,21 +1,17 @@
 -- A tape with one deed more.
-use Rattle.std.proofs.Common.{◌≡◌, ℕ, zero, suc, ◌+◌, ◌<◌, ◌≤◌, List, [], ◌∷◌, ◌++◌, length, take, get_or, Option, Some, None, refl, sym, ap, subst, ◌∙◌, arith, length-append}
+use Rattle.std.proofs.Common.{◌≡◌, ℕ, zero, suc, ◌+◌, ◌<◌, ◌≤◌, List, [], ◌∷◌, ◌++◌, length, take, Option, Some, None, refl, sym, ap, subst, ◌∙◌, arith, length-append}
 use Rattle.std.specs.Prelude.{slice_get}
 use Rattle.om_machine.specs.State.{State}
 use Rattle.om_process.specs.Core.{CoreState}
-use Rattle.om_world.specs.declared.event.Answer.{Answer}
 use Rattle.om_world.specs.declared.event.Event.{Event}
 use Rattle.om_world.specs.Holds.{Holds}
-use Rattle.om_world.specs.Played.{Played, Step}
 use Rattle.om_world.specs.World.{IsKnown, WorldState}
 use Rattle.om_world.proofs.Lists.{inside, none_in, once}
 use Rattle.om_timeline.specs.declared.deed.Deed.{Deed}
 use Rattle.om_timeline.specs.declared.fault.PlayFault.{PlayFault}
-use Rattle.om_timeline.specs.declared.kind.Kind.{Kind}
-use Rattle.om_timeline.specs.Deeds.{after_deed, after_deeds, at_position}
-use Rattle.om_timeline.specs.Shown.{ShownAt, machine_in, machine_of}
-use Rattle.om_timeline.specs.steps.Filmed.{Filmed, GoesOn, HasMachine, HasSeat, IsDeed, IsFilmed, IsMachineAt, IsNextDeed, IsTaken, IsTape, TapeState}
-use Rattle.om_timeline.specs.steps.Kinds.{IsKind, kind_of}
+use Rattle.om_timeline.specs.Deeds.{after_deed, after_deeds}
+use Rattle.om_timeline.specs.Shown.{machine_in, machine_of}
+use Rattle.om_timeline.specs.steps.Filmed.{Filmed, GoesOn, HasMachine, HasSeat, IsFilmed, IsNextDeed, IsTaken, IsTape, TapeState}
 use Rattle.om_timeline.proofs.Filming.{filmed_more, machine_after, taken_of}
 
 pub take_more : {A : Type 0} (xs : List A) (k : ℕ) (x : A) → slice_get xs k ≡ Some x → take (k + 1) xs ≡ take k xs ++ x ∷ []

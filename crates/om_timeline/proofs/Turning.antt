@@ -1,10 +1,10 @@
 -- The turns of a process are those of its machine alone, as long as fewer messages than have numbers were sent.
-use Rattle.std.proofs.Common.{◌≡◌, ℕ, zero, suc, ◌+◌, ◌-◌, ◌<◌, ◌≤◌, List, [], ◌∷◌, ◌++◌, length, map, replicate, Option, Some, None, Bool, refl, sym, ap, subst, ◌∙◌, add-one, arith, length-append, lit<}
+use Rattle.std.proofs.Common.{◌≡◌, ℕ, zero, suc, ◌+◌, ◌-◌, ◌<◌, ◌≤◌, List, [], ◌∷◌, ◌++◌, replicate, Some, None, refl, sym, ap, subst, ◌∙◌, add-one, arith, length-append, lit<}
 use Rattle.std.specs.Prelude.{◌||◌, if◌then◌else◌, nat_le, nat_lt, slice_index}
 use Rattle.std.proofs.lemmas.Bool.{lt-leb}
 use Rattle.om_format.specs.declared.limits.TheConstants.{MAX_BODY}
 use Rattle.om_format.specs.declared.queue.QueueEntry.{QueueEntry}
-use Rattle.om_format.specs.Queues.{QueueRecord, queue_end}
+use Rattle.om_format.specs.Queues.{QueueRecord}
 use Rattle.om_machine.specs.State.{State}
 use Rattle.om_machine.specs.Step.{Steps, StepsOn}
 use Rattle.om_machine.specs.derived.NextStep.{next_of}
@@ -15,9 +15,9 @@ use Rattle.om_machine.proofs.Stepping.{steps-next}
 use Rattle.om_process.specs.declared.limits.TheConstants.{LAST_NUMBER}
 use Rattle.om_process.specs.Process.{Process, Program, Received, Move, Waits, Ends, Traps, Goes, Emits, delivered, emitted, empty_queue, made, moved, started}
 use Rattle.om_process.specs.Parts.{Keeps}
-use Rattle.om_process.specs.Turns.{Along, IsWaiting, Leads, Reaches, Turns, after_event, emits, next_move, next_turn, refuses}
+use Rattle.om_process.specs.Turns.{IsWaiting, Leads, Reaches, Turns, after_event, emits, next_move, next_turn, refuses}
 use Rattle.om_process.proofs.Basics.{some_once, some_none}
-use Rattle.om_process.proofs.Going.{counts_receive, counts_turn, counts_turns}
+use Rattle.om_process.proofs.Going.{counts_receive, counts_turn}
 use Rattle.om_process.proofs.Parts.{made_same}
 use Rattle.om_timeline.specs.Alone.{machine_moved, move_alone, or_stands, received_alone, received_at, turn_alone, turns_alone}
 

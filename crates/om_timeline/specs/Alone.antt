@@ -2,7 +2,7 @@
 use Rattle.std.specs.Prelude.{ℕ, zero, suc, [], Option, Some, None, List}
 use Rattle.om_machine.specs.State.{State}
 use Rattle.om_machine.specs.Finishing.{finished_receive}
-use Rattle.om_process.specs.Process.{Move, Waits, Ends, Traps, Goes, Emits}
+use Rattle.om_process.specs.Process.{Move, Waits, Goes, Emits}
 use Rattle.om_process.specs.Turns.{next_move}
 
 -- the machine after a move, where there is one

@@ -1,5 +1,5 @@
 -- What is shown of a process of a record at a position.
-use Rattle.std.specs.Prelude.{◌≡◌, ℕ, ◌≤◌, List, [], ◌∷◌, take, slice_get, Option, Some, None}
+use Rattle.std.specs.Prelude.{◌≡◌, ℕ, ◌≤◌, List, [], ◌∷◌, take, slice_get, Option, Some}
 use Rattle.om_machine.specs.State.{State}
 use Rattle.om_process.specs.Core.{CoreState, CoreTurns}
 use Rattle.om_world.specs.declared.event.Answer.{Answer}

@@ -1,5 +1,5 @@
 -- A process of a record at a position.
-use Rattle.std.specs.Prelude.{◌≡◌, ℕ, List, [], slice_get, Some}
+use Rattle.std.specs.Prelude.{◌≡◌, ◌⊎◌, ℕ, ◌<◌, ◌≤◌, List, [], slice_get, Some}
 use Rattle.om_machine.specs.State.{State}
 use Rattle.om_process.specs.Core.{CoreState}
 use Rattle.om_world.specs.declared.event.Event.{Event}
@@ -24,6 +24,10 @@ machine_here t = at_position t.process t.n t.first t.deeds t.event t.turns
 -- at another position
 abbrev pub at : TimelineState → ℕ → ℕ → TimelineState
 at t event turns = record t { event = event; turns = turns }
+
+-- the one position is the other, or before it
+abbrev pub IsUpTo : ℕ → ℕ → ℕ → ℕ → Type 0
+IsUpTo event turns other done = (event < other) ⊎ ((event ≡ other) × (turns ≤ done))
 
 -- with more events played
 abbrev pub with_deeds : TimelineState → List Deed → TimelineState

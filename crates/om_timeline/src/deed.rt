@@ -1,3 +1,8 @@
+//! What an event did.
+
+ghost use Rattle.std.specs.Prelude.{◌≡◌};
+ghost use Rattle.om_timeline.specs.Deeds.{turns_at};
+
 use om_format::Body;
 use om_machine::Machine;
 
@@ -14,4 +19,21 @@ pub enum Deed {
     Fell,
     /// The process came back with this machine.
     Back(Machine),
+}
+
+// How many turns the deed at a place has.
+#[tactic(auto, using(crate::proofs::Placing::turns_read, crate::proofs::Placing::none_behind))]
+pub(crate) fn turns_at(deeds: &[Deed], event: usize) -> u64
+    ensures { result ≡ turns_at deeds.now event }
+{
+    if event >= deeds.len() {
+        return 0;
+    }
+    match &deeds[event] {
+        Deed::Nothing => 0,
+        Deed::Ran(turns) => *turns,
+        Deed::Took(..) => 0,
+        Deed::Fell => 0,
+        Deed::Back(_) => 0,
+    }
 }

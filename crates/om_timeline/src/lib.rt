@@ -1,7 +1,7 @@
 //! Any moment of a record, forward and back, as one of its processes sees it.
 //!
 //! In an order of reading: `deed` (what an event did to the process), `alone` (its machine, run again without the process around
-//! it), `kind` and `tape` (the record, played as far as was asked), `timeline` (a position on the tape, with the machine there).
+//! it), `kind` and `tape` (the record, played as far as was asked), `stage` (machines that are kept), `timeline` (a position on the tape, with the machine there).
 #![tactic(auto)]
 
 pub use deed::Deed;
@@ -12,5 +12,6 @@ mod alone;
 mod deed;
 mod fault;
 mod kind;
+mod stage;
 mod tape;
 mod timeline;

@@ -8,12 +8,14 @@ ghost use Rattle.om_timeline.specs.declared.deed.Deed.{Deed};
 ghost use Rattle.om_timeline.specs.Alone.{move_alone};
 ghost use Rattle.om_timeline.specs.Deeds.{turns_at};
 ghost use Rattle.om_timeline.specs.Shown.{ShownAt};
-ghost use Rattle.om_timeline.specs.Timeline.{IsBegin, at, machine_here, with_deeds};
+ghost use Rattle.om_timeline.specs.Timeline.{IsBegin, IsUpTo, at, machine_here, with_deeds};
+ghost use Rattle.om_timeline.specs.steps.Kept.{IsComing};
 ghost use Rattle.om_timeline.specs.steps.Placed.{IsLeft};
 
 use crate::alone::{Alone, copy_of};
-use crate::deed::Deed;
+use crate::deed::{Deed, turns_at};
 use crate::fault::PlayFault;
+use crate::stage::{Stage, are_up_to, before, is_full, is_up_to, nearest, thin};
 use crate::tape::Tape;
 use om_interval::Pid;
 use om_machine::Machine;
@@ -31,17 +33,29 @@ pub struct Position {
     pub turns: u64,
 }
 
+// How many instructions and events lie at first between two positions that are kept on the way forward.
+const SPACING: u64 = 100_000;
+
+// How many lie at most before a position that was gone back to, from one that is kept.
+const NEAR: u64 = 4_000;
+
 /// A record, and a process of it at a position. The record is played only as far as was asked.
 #[derive(Drop)]
 pub struct Timeline {
     tape: Tape,
     here: Alone,
     at: Position,
+    // Where ways may begin, beside before the first event.
+    stages: Vec<Stage>,
+    // How many instructions and events lie between two of them.
+    spacing: u64,
+    // How many instructions and events were passed since one of them was left.
+    passed: u64,
 }
 
 impl Model for Timeline {
     ghost use Rattle.om_timeline.specs.Timeline.{TimelineState};
-    ghost use Rattle.om_timeline.specs.steps.Placed.{IsPlaced};
+    ghost use Rattle.om_timeline.specs.steps.Kept.{IsKept};
     ghost use Rattle.om_world.specs.steps.Codes.{coded_health};
     ghost use Rattle.om_stable.specs.steps.Codes.{content_code};
     ghost use Rattle.om_manager.specs.steps.Codes.{coded_manager};
@@ -62,7 +76,7 @@ impl Model for Timeline {
       turns = t.at.turns;
     } };
 
-    ghost invariant = { λ t. IsPlaced t.tape t.here.machine t.here.own t.here.n t.at.event t.at.turns };
+    ghost invariant = { λ t. IsKept t.tape t.here.machine t.here.own t.here.n t.at.event t.at.turns t.stages.items };
 }
 
 impl Timeline {
@@ -91,6 +105,9 @@ impl Timeline {
             tape,
             here,
             at: Position { event: 0, turns: 0 },
+            stages: Vec::new(alloc),
+            spacing: SPACING,
+            passed: 0,
         }))
     }
 
@@ -143,10 +160,46 @@ impl Timeline {
         ensures end { IfOk result (λ more. more ≡ false → length self.old.events ≤ self.old.event) }
         ensures refused { OnErr result (self.new ≡ self.old) }
     {
+        if self.passed >= self.spacing {
+            self.keep_on(alloc);
+        }
         if self.at.event < self.tape.deeds().len() {
             return Ok(true);
         }
         self.film(alloc)
+    }
+
+    // Keeps the position, where none behind it is kept.
+    fn keep_on(&mut self, alloc: Global)
+        ensures { self.new ≡ self.old }
+    {
+        self.passed = 0;
+        if are_up_to(&self.stages, self.at) {
+            self.keep(alloc);
+        }
+    }
+
+    // Keeps the position. Where memory runs out it is not kept, and nothing is lost but time.
+    fn keep(&mut self, alloc: Global)
+        ensures { self.new ≡ self.old }
+    {
+        self.make_room();
+        if let Ok(machine) = copy_of(alloc, &self.here.machine) {
+            let _ = self.stages.push(Stage {
+                machine,
+                at: self.at,
+            });
+        }
+    }
+
+    // Lets some of those go that are kept, where there are very many.
+    fn make_room(&mut self)
+        ensures { self.new ≡ self.old }
+    {
+        if is_full(&self.stages, &self.here.machine) {
+            thin(&mut self.stages);
+            self.spacing = self.spacing.saturating_mul(2);
+        }
     }
 
     // Plays one event more.
@@ -170,12 +223,12 @@ impl Timeline {
         if self.at.turns >= left {
             return false;
         }
-        self.go(1);
+        self.step_many(1);
         true
     }
 
-    // Goes on by so many instructions of the next event.
-    fn go(&mut self, turns: u64)
+    /// Goes on by so many instructions of the next event, which are left of it.
+    pub fn step_many(&mut self, turns: u64)
         requires { self.old.turns + turns ≤ turns_at self.old.deeds self.old.event }
         ensures { self.new ≡ at self.old self.old.event (self.old.turns + turns) }
     {
@@ -184,6 +237,7 @@ impl Timeline {
         let all = self.at.turns + turns;
         self.here.go(turns);
         self.at.turns = all;
+        self.passed = self.passed.saturating_add(turns);
     }
 
     /// Goes on to behind the next event, and tells whether one was played. Refused where memory ran out, and then it stands where it stood.
@@ -199,6 +253,8 @@ impl Timeline {
         }
         self.here
             .finish(alloc, &deeds[self.at.event], self.at.turns)?;
+        let left = turns_at(deeds, self.at.event).saturating_sub(self.at.turns);
+        self.passed = self.passed.saturating_add(left).saturating_add(1);
         self.at = Position {
             event: self.at.event + 1,
             turns: 0,
@@ -213,6 +269,7 @@ impl Timeline {
     {
         self.here.machine = copy_of(alloc, self.tape.first())?;
         self.at = Position { event: 0, turns: 0 };
+        self.passed = 0;
         Ok(())
     }
 
@@ -237,35 +294,85 @@ impl Timeline {
     }
 
     // Goes to a position that was played.
-    #[tactic(auto, using(crate::proofs::Walking::gone_there, crate::proofs::Walking::jumped, crate::proofs::Walking::stays_then, crate::proofs::Walking::few_left, crate::proofs::Walking::few_there, crate::proofs::Walking::left_turns, crate::proofs::Walking::left_event, crate::proofs::Walking::left_deeds, crate::proofs::Walking::stays_left))]
+    #[tactic(auto, using(crate::proofs::Walking::came, crate::proofs::Walking::coming_to, crate::proofs::Walking::coming_then, crate::proofs::Walking::coming_order, crate::proofs::Walking::coming_event, crate::proofs::Walking::coming_turns, crate::proofs::Walking::stays_come, crate::proofs::Walking::stays_coming))]
     fn jump(&mut self, alloc: Global, to: Position) -> Result<(), AllocError>
         requires event { to.event ≤ length self.old.deeds }
         requires turns { to.turns ≤ turns_at self.old.deeds to.event }
         ensures there { OnOk result (self.new ≡ at self.old to.event to.turns) }
         ensures stays { (event : ℕ) × (turns : ℕ) × (self.new ≡ at self.old event turns) }
     {
-        if to.event == self.at.event && to.turns >= self.at.turns {
-            self.go(to.turns - self.at.turns);
+        if !is_up_to(self.at, to) {
+            self.go_to_kept(alloc, to)?;
+            self.approach(alloc, to)?;
+        }
+        self.advance(alloc, to)
+    }
+
+    /// Goes back to the last position that is kept and not behind another one, or to before the first event. Refused where memory ran
+    /// out, and then it stands where it stood.
+    #[tactic(auto, using(crate::proofs::Walking::begun_gone, crate::proofs::Walking::begun_order))]
+    pub fn go_to_kept(&mut self, alloc: Global, to: Position) -> Result<(), AllocError>
+        ensures gone { OnOk result ((event : ℕ) × (turns : ℕ) × (self.new ≡ at self.old event turns)) }
+        ensures order { OnOk result (IsUpTo self.new.event self.new.turns to.event to.turns) }
+        ensures refused { OnErr result (self.new ≡ self.old) }
+    {
+        let Some(place) = nearest(&self.stages, to) else {
+            self.rewind(alloc)?;
+            return Ok(());
+        };
+        let stage = &self.stages[place];
+        self.here.machine = copy_of(alloc, &stage.machine)?;
+        self.at = stage.at;
+        self.passed = 0;
+        Ok(())
+    }
+
+    // Goes on to near a position where that is far, and keeps where it stands then.
+    #[tactic(auto, using(crate::proofs::Walking::coming_here, crate::proofs::Walking::coming_at, crate::proofs::Walking::up_event))]
+    fn approach(&mut self, alloc: Global, to: Position) -> Result<(), AllocError>
+        requires order { IsUpTo self.old.event self.old.turns to.event to.turns }
+        requires event { to.event ≤ length self.old.deeds }
+        requires turns { to.turns ≤ turns_at self.old.deeds to.event }
+        ensures coming { OnOk result (IsComing self.old self.new to.event to.turns) }
+        ensures stays { (event : ℕ) × (turns : ℕ) × (self.new ≡ at self.old event turns) }
+    {
+        let near = before(self.tape.deeds(), to, NEAR);
+        if is_up_to(near, self.at) {
+            return Ok(());
+        }
+        self.advance(alloc, near)?;
+        self.keep(alloc);
+        Ok(())
+    }
+
+    // Goes on to a position that is not before this one.
+    #[tactic(auto, using(crate::proofs::Walking::gone_there, crate::proofs::Walking::jumped, crate::proofs::Walking::stays_then, crate::proofs::Walking::few_left, crate::proofs::Walking::few_there, crate::proofs::Walking::left_turns, crate::proofs::Walking::left_event, crate::proofs::Walking::left_deeds, crate::proofs::Walking::stays_left, crate::proofs::Walking::same_order, crate::proofs::Walking::less_event))]
+    fn advance(&mut self, alloc: Global, to: Position) -> Result<(), AllocError>
+        requires order { IsUpTo self.old.event self.old.turns to.event to.turns }
+        requires event { to.event ≤ length self.old.deeds }
+        requires turns { to.turns ≤ turns_at self.old.deeds to.event }
+        ensures there { OnOk result (self.new ≡ at self.old to.event to.turns) }
+        ensures stays { (event : ℕ) × (turns : ℕ) × (self.new ≡ at self.old event turns) }
+    {
+        if to.event == self.at.event {
+            self.step_many(to.turns - self.at.turns);
             return Ok(());
         }
         self.leave(alloc, to.event)?;
         self.walk(alloc, to.event)?;
-        self.go(to.turns);
+        self.step_many(to.turns);
         Ok(())
     }
 
-    // Goes to before an event that is not behind another one.
-    #[tactic(auto, using(crate::proofs::Walking::left_back, crate::proofs::Walking::left_on))]
+    // Goes to behind the next event, where a position behind it was played.
+    #[tactic(auto, using(crate::proofs::Walking::left_on))]
     fn leave(&mut self, alloc: Global, to: usize) -> Result<(), AllocError>
-        requires { to ≤ length self.old.deeds }
+        requires order { self.old.event < to }
+        requires played { to ≤ length self.old.deeds }
         ensures left { OnOk result (IsLeft self.old self.new to) }
         ensures refused { OnErr result (self.new ≡ self.old) }
     {
-        if to <= self.at.event {
-            self.rewind(alloc)?;
-        } else {
-            self.pass(alloc)?;
-        }
+        self.pass(alloc)?;
         Ok(())
     }
 
@@ -284,22 +391,5 @@ impl Timeline {
             self.pass(alloc)?;
         }
         Ok(())
-    }
-}
-
-// How many turns the deed at a place has.
-#[tactic(auto, using(crate::proofs::Placing::turns_read, crate::proofs::Placing::none_behind))]
-fn turns_at(deeds: &[Deed], event: usize) -> u64
-    ensures { result ≡ turns_at deeds.now event }
-{
-    if event >= deeds.len() {
-        return 0;
-    }
-    match &deeds[event] {
-        Deed::Nothing => 0,
-        Deed::Ran(turns) => *turns,
-        Deed::Took(..) => 0,
-        Deed::Fell => 0,
-        Deed::Back(_) => 0,
     }
 }

@@ -1,7 +1,6 @@
-use Rattle.std.proofs.Common.{rules, ℕ, ◌≡◌, ◌≤◌, ◌-◌, sym, ap, ◌∙◌, subst}
+use Rattle.std.proofs.Common.{rules, ℕ, ◌≡◌, ◌≤◌, sym, ap, ◌∙◌, subst}
 use Rattle.om_timeline.specs.declared.deed.Deed.{Deed}
 use Rattle.om_timeline.specs.declared.deed.Deed.TheVariants.{Ran}
-use Rattle.om_timeline.specs.Alone.{turns_alone}
 use Rattle.om_timeline.specs.Deeds.{after_deed, turns_in}
 use Rattle.om_timeline.proofs.Turning.{rest_of}
 use Rattle.om_timeline.proofs.alone.Alone.finish.Goals as goal

@@ -1,4 +1,4 @@
-use Rattle.std.proofs.Common.{rules, ℕ, ◌≡◌, ◌≤◌, ◌+◌, Option, Some, None, sym, ap, ◌∙◌, arith}
+use Rattle.std.proofs.Common.{rules, ℕ, ◌≡◌, ◌≤◌, ◌+◌, None, ◌∙◌}
 use Rattle.om_machine.specs.State.{State}
 use Rattle.om_timeline.specs.Alone.{turn_alone, turns_alone}
 use Rattle.om_timeline.proofs.Turning.{gone_on, stood_still}

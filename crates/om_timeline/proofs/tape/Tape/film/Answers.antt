@@ -1,7 +1,6 @@
 use Rattle.std.proofs.Common.{rules, ◌≡◌, ◌++◌, ◌∷◌, [], length, None, Some}
 use Rattle.std.specs.Prelude.{slice_get}
 use Rattle.std.proofs.lemmas.Option.{slice_get_read}
-use Rattle.om_world.specs.World.{WorldState}
 use Rattle.om_timeline.specs.steps.Filmed.{IsNextDeed, IsTape, TapeState}
 use Rattle.om_timeline.proofs.Taping.{film_longer, film_lost}
 use Rattle.om_timeline.proofs.tape.Tape.film.Goals as goal

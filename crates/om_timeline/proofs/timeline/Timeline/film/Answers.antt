@@ -1,7 +1,7 @@
-use Rattle.om_timeline.proofs.Placing.{placed_filmed}
+use Rattle.om_timeline.proofs.Keeping.{kept_filmed}
 use Rattle.om_timeline.proofs.timeline.Timeline.film.Goals as goal
 
 pub invariant_of-self : goal.invariant_of-self
 invariant_of-self c =
-    placed_filmed c.film.result c.self.inside.tape c.film.new.self c.self.inside.here.machine c.self.inside.here.own c.self.inside.here.n c.self.inside.at.event c.self.inside.at.turns
+    kept_filmed c.film.result c.self.inside.tape c.film.new.self c.self.inside.here.machine c.self.inside.here.own c.self.inside.here.n c.self.inside.at.event c.self.inside.at.turns c.self.inside.stages.items
     c.film.ensures.more c.film.ensures.end c.film.ensures.refused c.self.invariant

@@ -8,4 +8,4 @@ pub returns-clause-shown : goal.returns-clause-shown
 returns-clause-shown c =
     let film = c.told.ensures.filmed in
     subst (λ (t : TimelineState). ShownAt t.process t.first t.begun t.events t.event t.turns c.self.inside.here.machine) c.self.view_is
-    (placed_shown c.self.inside.tape film.0 c.self.inside.here.machine c.self.inside.here.own c.self.inside.here.n c.self.inside.at.event c.self.inside.at.turns film.1 c.self.invariant)
+    (placed_shown c.self.inside.tape film.0 c.self.inside.here.machine c.self.inside.here.own c.self.inside.here.n c.self.inside.at.event c.self.inside.at.turns film.1 c.self.invariant.placed)

@@ -1,0 +1,52 @@
+-- Machines that are kept, as the process moves and the tape grows.
+use Rattle.std.proofs.Common.{◌≡◌, ℕ, ◌<◌, ◌++◌, ◌∷◌, [], List, length, get_or, Bool, true, false, Result, Ok, Err, IfOk, OnErr, refl, sym, subst}
+use Rattle.std.specs.Prelude.{All, Contains}
+use Rattle.std.proofs.lemmas.List.Elements.{All-contains, All-get_or, All-weaker}
+use Rattle.om_machine.specs.State.{State}
+use Rattle.om_timeline.specs.declared.deed.Deed.{Deed}
+use Rattle.om_timeline.specs.declared.fault.PlayFault.{PlayFault}
+use Rattle.om_timeline.specs.declared.stage.Stage.{Stage}
+use Rattle.om_timeline.specs.steps.Filmed.{TapeState}
+use Rattle.om_timeline.specs.steps.Kept.{IsKept, IsStage}
+use Rattle.om_timeline.specs.steps.Placed.{IsPlaced}
+use Rattle.om_timeline.proofs.Placing.{placed_longer}
+
+-- at another position
+pub kept_at : (t : TapeState) (m next : State) (own n event turns own2 n2 event2 turns2 : ℕ) (stages : List Stage) → IsKept t m own n event turns stages → IsPlaced t next own2 n2 event2 turns2
+    → IsKept t next own2 n2 event2 turns2 stages
+kept_at t m next own n event turns own2 n2 event2 turns2 stages kept placed = record { placed = placed; stages = kept.stages }
+
+kept_longer : (t : TapeState) (more : List Deed) (m : State) (own n event turns : ℕ) (stages : List Stage) → IsKept t m own n event turns stages
+    → IsKept (record t { deeds = t.deeds ++ more }) m own n event turns stages
+kept_longer t more m own n event turns stages kept = record {
+  placed = placed_longer t more m own n event turns kept.placed;
+  stages = All-weaker (IsStage t) (IsStage (record t { deeds = t.deeds ++ more })) (λ s p. placed_longer t more s.machine t.own t.n s.at.event s.at.turns p) stages kept.stages;
+}
+
+-- with what came of one event more
+pub kept_filmed : (result : Result Bool PlayFault) (old new : TapeState) (m : State) (own n event turns : ℕ) (stages : List Stage)
+    → IfOk result (λ more. more ≡ true → (deed : Deed) × (new ≡ record old { deeds = old.deeds ++ deed ∷ [] }))
+    → IfOk result (λ more. more ≡ false → new ≡ old) → OnErr result (new ≡ old) → IsKept old m own n event turns stages → IsKept new m own n event turns stages
+kept_filmed (Ok true) old new m own n event turns stages more end refused kept =
+    let longer = more refl in
+    subst (λ t. IsKept t m own n event turns stages) (sym longer.1) (kept_longer old (longer.0 ∷ []) m own n event turns stages kept)
+kept_filmed (Ok false) old new m own n event turns stages more end refused kept = subst (λ t. IsKept t m own n event turns stages) (sym (end refl)) kept
+kept_filmed (Err fault) old new m own n event turns stages more end refused kept = subst (λ t. IsKept t m own n event turns stages) (sym refused) kept
+
+-- fewer
+pub kept_fewer : (t : TapeState) (m : State) (own n event turns : ℕ) (stages less : List Stage) → IsKept t m own n event turns stages → All (Contains stages) less → IsKept t m own n event turns less
+kept_fewer t m own n event turns stages less kept fewer = record {
+  placed = kept.placed;
+  stages = All-weaker (Contains stages) (IsStage t) (λ s there. All-contains (IsStage t) stages s kept.stages there) less fewer;
+}
+
+-- the process goes to a position that is kept
+pub kept_there : (t : TapeState) (m next : State) (own n event turns place : ℕ) (stages : List Stage) (stage : Stage) → IsKept t m own n event turns stages → place < length stages → stage ≡ get_or stages place stage
+    → next ≡ stage.machine → IsKept t next own n stage.at.event stage.at.turns stages
+kept_there t m next own n event turns place stages stage kept within read same =
+    let there : IsStage t stage = subst (IsStage t) (sym read) (All-get_or (IsStage t) stages place stage within kept.stages) in
+    record {
+      placed = subst (λ x. IsPlaced t x own n stage.at.event stage.at.turns) (sym same)
+          (record { is_own = kept.placed.is_own; is_n = kept.placed.is_n; within = there.within; few = there.few; here = there.here });
+      stages = kept.stages;
+    }

@@ -1,0 +1,96 @@
+//! Machines of a process that are kept, so that ways back are short.
+
+ghost use Rattle.std.specs.Prelude.{◌≡◌, ◌↔◌, ◌≤◌, All, Contains, IfSome, Some, slice_get, true};
+ghost use Rattle.om_timeline.specs.Deeds.{turns_at};
+ghost use Rattle.om_timeline.specs.declared.stage.Stage.{Stage};
+ghost use Rattle.om_timeline.specs.Timeline.{IsUpTo};
+
+use crate::deed::{Deed, turns_at};
+use crate::timeline::Position;
+use om_machine::Machine;
+
+// How many bytes the machines that are kept have at most.
+const MOST_BYTES: usize = 512 << 20;
+
+// How many bytes a machine is taken to have beside its memory.
+const BESIDE_MEMORY: usize = 1024;
+
+// The machine of the process at a position.
+#[derive(Debug, Drop)]
+pub(crate) struct Stage {
+    pub(crate) machine: Machine,
+    pub(crate) at: Position,
+}
+
+// Whether the one position is the other, or before it.
+pub(crate) fn is_up_to(one: Position, other: Position) -> bool
+    ensures { (result ≡ true) ↔ IsUpTo one.event one.turns other.event other.turns }
+{
+    one.event < other.event || one.event == other.event && one.turns <= other.turns
+}
+
+// The place of the last stage that is not behind a position.
+pub(crate) fn nearest(stages: &[Stage], to: Position) -> Option<usize>
+    ensures { IfSome result (λ place. (stage : Stage) × (slice_get stages.now place ≡ Some stage)
+        × IsUpTo stage.at.event stage.at.turns to.event to.turns) }
+{
+    let mut best = Position { event: 0, turns: 0 };
+    let mut found = None;
+    for (place, stage) in stages.iter().enumerate() {
+        if is_up_to(best, stage.at) && is_up_to(stage.at, to) {
+            best = stage.at;
+            found = Some(place);
+        }
+    }
+    found
+}
+
+// Whether all of them are before a position.
+pub(crate) fn are_up_to(stages: &[Stage], to: Position) -> bool {
+    stages.iter().all(|stage| is_up_to(stage.at, to))
+}
+
+// Whether no more are to be kept of machines like this one.
+pub(crate) fn is_full(stages: &[Stage], machine: &Machine) -> bool {
+    let bytes = machine.memory().len().saturating_add(BESIDE_MEMORY);
+    stages.len().saturating_mul(bytes) >= MOST_BYTES
+}
+
+// Lets every second one go.
+pub(crate) fn thin(stages: &mut Vec<Stage>)
+    ensures { All (Contains stages.old.items) stages.new.items }
+{
+    let mut place = 1;
+    'thinned: while place < stages.len() {
+        stages.remove(place);
+        place += 1;
+    }
+}
+
+// A position so many instructions and events before another, or the first.
+pub(crate) fn before(deeds: &[Deed], to: Position, ticks: u64) -> Position
+    requires { to.turns ≤ turns_at deeds.now to.event }
+    ensures order { IsUpTo result.event result.turns to.event to.turns }
+    ensures few { result.turns ≤ turns_at deeds.now result.event }
+{
+    if ticks <= to.turns {
+        return Position {
+            event: to.event,
+            turns: to.turns - ticks,
+        };
+    }
+    let mut left = ticks - to.turns;
+    for passed in 0..to.event {
+        let event = to.event - 1 - passed;
+        let turns = turns_at(deeds, event);
+        if left <= turns {
+            return Position {
+                event,
+                turns: turns - left,
+            };
+        }
+        // The event itself is one, too.
+        left = (left - turns).saturating_sub(1);
+    }
+    Position { event: 0, turns: 0 }
+}
