@@ -335,3 +335,19 @@ passed_look a t more = passed_none a (with_timeline a t) (ap (λ (x : TimelineSt
 
 pub end_look : (a : DebugState) (t : TimelineState) → ((deeds : List Deed) × (t ≡ with_deeds a.timeline (a.timeline.deeds ++ deeds))) → length a.timeline.events ≤ a.timeline.event → length t.events ≤ t.event
 end_look a t more past = subst (λ (x : TimelineState). length x.events ≤ x.event) (sym more.1) past
+
+some_event : (event turns end e k : ℕ) → IsFrom event turns e k → IsBefore e k event end → e ≡ event
+some_event event turns end e k (inl a) (inl b) = absurd (omega (arith, a, b))
+some_event event turns end e k (inl a) (inr b) = b.0
+some_event event turns end e k (inr a) b = sym a.0
+
+-- some instructions of an event in whose rest nothing stops the process
+pub passed_some : (a b : DebugState) (end : ℕ) → b ≡ with_timeline a b.timeline → b.timeline ≡ at a.timeline a.timeline.event end → IsQuietRest a → IsPassed a b
+passed_some a b end same is rest = record {
+  quiet = λ e k from before few.
+      let t : TimelineState = a.timeline in
+      let less : IsBefore e k t.event end = subst (λ (u : TimelineState). IsBefore e k u.event u.turns) is before in
+      let event : e ≡ t.event = some_event t.event t.turns end e k from less in
+      with_same a b e k None same
+      (passed_rest a b.timeline t.event end is (λ x y f g. some_event t.event t.turns end x y f g) rest e k from less (least_of t.event t.turns e k event from) few);
+}

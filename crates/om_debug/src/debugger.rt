@@ -7,6 +7,7 @@ ghost use Rattle.om_debug.specs.Stops.{IsMoved, stop_text, with_timeline};
 ghost use Rattle.om_debug.specs.Told.{IsAnswered, asked, clear_break, clear_watch, is_last, is_leaving, is_there, is_watch, is_watched, ok_if, set_break, set_watch, text_of, with_breaks, with_watches};
 
 use crate::stop::{Stop, stop_text};
+use crate::wish::Wish;
 use om_requests::{
     Command, ERROR, Request, Thread, Watch, Watched, memory_text, piece_text, registers_text,
     request_of, target_text,
@@ -88,27 +89,30 @@ impl Debugger {
         })
     }
 
-    /// Answers a packet of these bytes: what is asked, or where the process stands after it moved. Refused where memory ran out, or the
-    /// record is not played on: then the process may have moved, and nothing else has changed.
-    pub fn answer(&mut self, packet: &[u8]) -> Result<Told, PlayFault>
+    /// Answers a packet of these bytes: what is asked, or where the process stands after it moved. While it goes on the reader is asked
+    /// whether a stop is wished. Refused where memory ran out, or the record is not played on: then the process may have moved, and
+    /// nothing else has changed.
+    pub fn answer<R: Wish>(&mut self, packet: &[u8], reader: &mut R) -> Result<Told, PlayFault>
         ensures answered { IfOk result (λ told. IsAnswered (request_of packet.now) self.old told self.new) }
         ensures last { IfOk result (λ told. is_last told ≡ is_leaving (request_of packet.now)) }
         ensures moved { IsMoved self.old.timeline self.new.timeline }
         ensures refused { OnErr result (self.new ≡ with_timeline self.old self.new.timeline) }
+        ensures unread { R.remaining reader.new ≡ R.remaining reader.old }
     {
         let request = request_of(self.alloc, packet)?;
-        self.answer_to(request)
+        self.answer_to(request, reader)
     }
 
-    fn answer_to(&mut self, request: Request) -> Result<Told, PlayFault>
+    fn answer_to<R: Wish>(&mut self, request: Request, reader: &mut R) -> Result<Told, PlayFault>
         ensures answered { IfOk result (λ told. IsAnswered request self.old told self.new) }
         ensures last { IfOk result (λ told. is_last told ≡ is_leaving request) }
         ensures moved { IsMoved self.old.timeline self.new.timeline }
         ensures refused { OnErr result (self.new ≡ with_timeline self.old self.new.timeline) }
+        ensures unread { R.remaining reader.new ≡ R.remaining reader.old }
     {
         match request {
             Request::Resume(how) => {
-                let stop = self.forward(how)?;
+                let stop = self.forward(how, reader)?;
                 Ok(self.stopped(stop)?)
             }
             Request::BackStep => {
@@ -116,7 +120,7 @@ impl Debugger {
                 Ok(self.stopped(stop)?)
             }
             Request::BackContinue => {
-                let stop = self.run_back()?;
+                let stop = self.run_back(reader)?;
                 Ok(self.stopped(stop)?)
             }
             Request::SetBreak(address) => {

@@ -1,13 +1,14 @@
 //! A process of a record under gdb, forward and back: gdb's remote protocol over a timeline.
 //!
 //! In an order of reading: `moment` (what comes next to the process), `watching` (which watchpoint that meets), `stop` (why the
-//! process stands, as it is told), `debugger` (a process, where it is to stop, and what packets ask of it), `moving` (forward to a
-//! stop, and back to one), `monitor` (commands of the user), `serving` (packets in, packets out).
+//! process stands, as it is told), `wish` (who may wish a stop), `debugger` (a process, where it is to stop, and what packets ask of
+//! it), `moving` (forward to a stop, and back to one), `monitor` (commands of the user), `serving` (packets in, packets out).
 #![tactic(auto)]
 
 pub use debugger::{Debugger, Told};
 pub use serving::{ServeError, serve};
 pub use stop::Stop;
+pub use wish::Wish;
 
 mod debugger;
 mod moment;
@@ -16,3 +17,4 @@ mod moving;
 mod serving;
 mod stop;
 mod watching;
+mod wish;

@@ -26,6 +26,7 @@ fn push_event(out: &mut String, event: Event) -> Result<(), AllocError> {
         Event::Flush { process } => write!(out, "flush {process}"),
         Event::FlushFirst { process, count } => write!(out, "flush {process} {count}"),
         Event::Checkpoint { process } => write!(out, "checkpoint {process}"),
+        Event::Spell { process } => write!(out, "spell {process}"),
         Event::Resend { process } => write!(out, "resend {process}"),
         Event::Trim { process } => write!(out, "trim {process}"),
         Event::Fail { process } => write!(out, "fail {process}"),

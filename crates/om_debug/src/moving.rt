@@ -1,7 +1,7 @@
 //! Forward to a stop, and back to one.
 #![tactic(auto, using(crate::proofs::Moved::moved_then, crate::proofs::Moved::same_then, crate::proofs::Moved::moved_at, crate::proofs::Moved::moved_to, crate::proofs::Moved::moved_with, crate::proofs::Moved::moved_same, crate::proofs::Moved::moved_not))]
 
-ghost use Rattle.std.specs.Prelude.{◌≡◌, ◌↔◌, ◌-◌, ◌≤◌, IfOk, IfSome, None, OnOk, false, length, true};
+ghost use Rattle.std.specs.Prelude.{◌≡◌, ◌↔◌, ◌+◌, ◌-◌, ◌≤◌, IfOk, IfSome, None, OnOk, false, length, true};
 ghost use Rattle.om_debug.specs.Moments.{next_at};
 ghost use Rattle.om_timeline.specs.Deeds.{turns_at};
 ghost use Rattle.om_debug.specs.Stops.{IsBefore, IsMoved, IsPassed, IsQuietRest, IsWithin, StandsFor, breaks_here, stop_here, watch_here, with_timeline};
@@ -10,12 +10,26 @@ use crate::debugger::Debugger;
 use crate::moment::{Next, is_at_instruction, is_down, next_at};
 use crate::stop::Stop;
 use crate::watching::watch_met;
+use crate::wish::Wish;
 use om_process::Status;
 use om_requests::{Resume, Watch};
 use om_timeline::{Deed, PlayFault, Position};
 
 // How many pieces of a way are gone at most without a stop.
 const MOST_PIECES: u64 = u64::MAX;
+
+// How many instructions are made at most in one piece.
+const MOST_AT_ONCE: u64 = 100_000;
+
+// How many pieces are gone until one who may wish a stop is asked again.
+const PIECES_UNASKED: u64 = 64;
+
+// Asks, before each so many pieces, whether a stop is wished.
+fn is_paused<R: Wish>(pieces: u64, reader: &mut R) -> bool
+    ensures { R.remaining reader.new ≡ R.remaining reader.old }
+{
+    pieces.is_multiple_of(PIECES_UNASKED) && reader.is_there()
+}
 
 // Whether pc has come out of what is to be stepped over.
 fn is_done(how: Resume, pc: u32) -> bool {
@@ -51,17 +65,25 @@ fn turns_left(deeds: &[Deed], at: Position) -> u64
 }
 
 impl Debugger {
-    // Goes on to the first stop at or behind the position.
+    // Goes on to the first stop at or behind the position, or to where a stop is wished.
     #[tactic(auto, using(crate::proofs::Moved::moved_then, crate::proofs::Moved::same_then, crate::proofs::Moved::moved_not, crate::proofs::Quiet::passed_not, crate::proofs::Quiet::passed_then))]
-    pub(crate) fn forward(&mut self, how: Resume) -> Result<Stop, PlayFault>
+    pub(crate) fn forward<R: Wish>(
+        &mut self,
+        how: Resume,
+        reader: &mut R,
+    ) -> Result<Stop, PlayFault>
         ensures moved { IsMoved self.old.timeline self.new.timeline }
         ensures same { self.new ≡ with_timeline self.old self.new.timeline }
         ensures passed { OnOk result (IsPassed self.old self.new) }
         ensures stands { IfOk result (λ stop. StandsFor self.new stop) }
+        ensures unread { R.remaining reader.new ≡ R.remaining reader.old }
     {
-        'pieces: for _ in 0..MOST_PIECES {
+        'pieces: for pieces in 0..MOST_PIECES {
             if let Some(stop) = self.advance(how)? {
                 return Ok(stop);
+            }
+            if is_paused(pieces, reader) {
+                return Ok(Stop::Paused);
             }
         }
         Ok(Stop::Paused)
@@ -180,7 +202,7 @@ impl Debugger {
         }
     }
 
-    // Makes what comes next: of instructions one, or all where nothing can stop between them.
+    // Makes what comes next: of instructions one, or many where nothing can stop between them.
     #[tactic(auto, using(crate::proofs::Quiet::rest_last))]
     fn make(&mut self, how: Resume) -> Result<(), PlayFault>
         requires quiet { stop_here self.old ≡ None }
@@ -189,10 +211,24 @@ impl Debugger {
         ensures passed { OnOk result (IsPassed self.old self.new) }
     {
         if self.is_free(how) {
-            return self.pass();
+            return self.make_freely();
         }
         if self.turns_left() > 1 {
             self.step();
+            return Ok(());
+        }
+        self.pass()
+    }
+
+    // Makes the rest of the event, or as much of it as is made at once.
+    fn make_freely(&mut self) -> Result<(), PlayFault>
+        requires quiet { IsQuietRest self.old }
+        ensures moved { IsMoved self.old.timeline self.new.timeline }
+        ensures same { self.new ≡ with_timeline self.old self.new.timeline }
+        ensures passed { OnOk result (IsPassed self.old self.new) }
+    {
+        if self.turns_left() > MOST_AT_ONCE {
+            self.step_many(MOST_AT_ONCE);
             return Ok(());
         }
         self.pass()
@@ -220,6 +256,18 @@ impl Debugger {
         self.timeline.step_one();
     }
 
+    // Makes so many instructions of the event.
+    #[tactic(auto, using(crate::proofs::Moved::moved_at))]
+    fn step_many(&mut self, turns: u64)
+        requires quiet { IsQuietRest self.old }
+        requires left { self.old.timeline.turns + turns ≤ turns_at self.old.timeline.deeds self.old.timeline.event }
+        ensures moved { IsMoved self.old.timeline self.new.timeline }
+        ensures same { self.new ≡ with_timeline self.old self.new.timeline }
+        ensures passed { IsPassed self.old self.new }
+    {
+        self.timeline.step_many(turns);
+    }
+
     // Makes the rest of the event.
     #[tactic(auto, using(crate::proofs::Moved::moved_at, crate::proofs::Moved::moved_same, crate::proofs::Moved::moved_not, crate::proofs::Quiet::event_if))]
     fn pass(&mut self) -> Result<(), PlayFault>
@@ -232,58 +280,91 @@ impl Debugger {
         Ok(())
     }
 
-    // Goes back by what came last to the process.
+    // Goes back by what came last to the process, and tells a breakpoint where it then stands. Where that accesses what is watched, it
+    // stays right behind it.
     pub(crate) fn step_back(&mut self) -> Result<Stop, PlayFault>
         ensures moved { IsMoved self.old.timeline self.new.timeline }
         ensures same { self.new ≡ with_timeline self.old self.new.timeline }
     {
-        match self.last() {
-            Some(to) => {
-                self.timeline.go_to(self.alloc, to)?;
-                Ok(Stop::Stepped)
-            }
-            None => Ok(Stop::Begin),
+        let behind = self.timeline.position();
+        let Some(before) = self.last() else {
+            return Ok(Stop::Begin);
+        };
+        self.timeline.go_to(self.alloc, before)?;
+        if let Some(watch) = self.watch_here() {
+            self.timeline.go_to(self.alloc, behind)?;
+            return Ok(Stop::Watched(watch));
         }
+        if self.breaks_here() {
+            return Ok(Stop::Break);
+        }
+        Ok(Stop::Stepped)
     }
 
     // Goes back to the last breakpoint before the position, or to right behind the last access to what is watched.
-    pub(crate) fn run_back(&mut self) -> Result<Stop, PlayFault>
+    pub(crate) fn run_back<R: Wish>(&mut self, reader: &mut R) -> Result<Stop, PlayFault>
         ensures moved { IsMoved self.old.timeline self.new.timeline }
         ensures same { self.new ≡ with_timeline self.old self.new.timeline }
+        ensures unread { R.remaining reader.new ≡ R.remaining reader.old }
     {
-        let top = self.timeline.position();
-        self.timeline.rewind(self.alloc)?;
-        match self.last_stop(top)? {
-            Some(found) => {
-                self.timeline.go_to(self.alloc, found.at)?;
-                Ok(found.stop)
-            }
-            None => {
-                self.timeline.rewind(self.alloc)?;
-                Ok(Stop::Begin)
+        'parts: for _ in 0..MOST_PIECES {
+            if let Some(stop) = self.part_back(reader)? {
+                return Ok(stop);
             }
         }
+        Ok(Stop::Paused)
+    }
+
+    // Goes back to a position that is kept, or to the last stop behind that, if there is one.
+    fn part_back<R: Wish>(&mut self, reader: &mut R) -> Result<Option<Stop>, PlayFault>
+        ensures moved { IsMoved self.old.timeline self.new.timeline }
+        ensures same { self.new ≡ with_timeline self.old self.new.timeline }
+        ensures unread { R.remaining reader.new ≡ R.remaining reader.old }
+    {
+        let end = self.timeline.position();
+        let Some(before) = self.last_watched() else {
+            self.timeline.rewind(self.alloc)?;
+            return Ok(Some(Stop::Begin));
+        };
+        self.timeline.go_to_kept(self.alloc, before)?;
+        let begin = self.timeline.position();
+        let (to, stop) = match self.last_stop(end, reader)? {
+            Part::Quiet => (begin, None),
+            Part::Stopped(found) => (found.at, Some(found.stop)),
+            Part::Paused => (end, Some(Stop::Paused)),
+        };
+        self.timeline.go_to(self.alloc, to)?;
+        Ok(stop)
+    }
+
+    // The position before what came last to the process, where anything may stop it.
+    fn last_watched(&self) -> Option<Position> {
+        if self.breaks.is_empty() && self.watches.is_empty() {
+            return None;
+        }
+        self.last()
     }
 
     // The last stop from here on and before another position.
-    fn last_stop(&mut self, top: Position) -> Result<Option<Found>, PlayFault>
+    fn last_stop<R: Wish>(&mut self, end: Position, reader: &mut R) -> Result<Part, PlayFault>
         ensures moved { IsMoved self.old.timeline self.new.timeline }
         ensures same { self.new ≡ with_timeline self.old self.new.timeline }
+        ensures unread { R.remaining reader.new ≡ R.remaining reader.old }
     {
-        let mut last = None;
-        if self.breaks.is_empty() && self.watches.is_empty() {
-            return Ok(None);
-        }
-        'pieces: for _ in 0..MOST_PIECES {
+        let mut last = Part::Quiet;
+        'pieces: for pieces in 0..MOST_PIECES {
             let at = self.timeline.position();
-            if !is_before(at, top) || !self.timeline.look(self.alloc)? {
+            if !is_before(at, end) || !self.timeline.look(self.alloc)? {
                 return Ok(last);
             }
+            if is_paused(pieces, reader) {
+                return Ok(Part::Paused);
+            }
             if let Some(found) = self.back_over(at)? {
-                last = Some(found);
+                last = Part::Stopped(found);
             }
         }
-        Ok(last)
+        Ok(Part::Paused)
     }
 
     // Makes what comes next, and tells where one who comes back over it stops.
@@ -377,6 +458,17 @@ impl Debugger {
 struct Found {
     at: Position,
     stop: Stop,
+}
+
+// What stops one who comes back over a part of a record.
+#[derive(Clone, Copy)]
+enum Part {
+    // Nothing does.
+    Quiet,
+    // The last of what does.
+    Stopped(Found),
+    // It is not known, since a stop was wished.
+    Paused,
 }
 
 // How many instructions of an event stand before the last thing that it did to the process, if it did any.

@@ -10,10 +10,11 @@ ghost use Rattle.om_debug.specs.Stops.{stop_text};
 ghost use Rattle.om_debug.specs.steps.Serving.{AreRead, AreTaken, session_of};
 
 use crate::debugger::{Debugger, Told};
+use crate::wish::Wish;
 use om_packets::{Decoder, Event, encode};
 use om_timeline::PlayFault;
 use std::alloc::{AllocError, Global};
-use std::io::{ErrorKind, Read, Write};
+use std::io::{ErrorKind, Write};
 use thiserror::Error;
 
 // How many bytes are read at once.
@@ -59,9 +60,10 @@ struct Session {
 
 /// Answers the packets that a reader gives, one after another, until it has no more or the last packet was answered. What stands
 /// between packets is passed over, but for a wish to stop, which is told where the process stands. A packet whose sum is wrong is
-/// asked for again, as long as packets are acknowledged. Each answer is flushed before more is read. Refused where the reader or the
-/// writer fails or memory ran out: then some of the packets are answered.
-pub fn serve<R: Read, W: Write>(
+/// asked for again, as long as packets are acknowledged. Each answer is flushed before more is read. The reader is also asked, while the
+/// process goes on, whether a stop is wished. Refused where the reader or the writer fails or memory ran out: then some of the packets
+/// are answered.
+pub fn serve<R: Wish, W: Write>(
     alloc: Global,
     debugger: Debugger,
     reader: &mut R,
@@ -148,7 +150,7 @@ fn acks_after(acks: bool, packet: &[u8]) -> bool
 
 impl Session {
     // Reads once, and takes what came.
-    fn turn<R: Read, W: Write>(
+    fn turn<R: Wish, W: Write>(
         &mut self,
         chunk: &mut [u8],
         reader: &mut R,
@@ -170,7 +172,7 @@ impl Session {
         if count == 0 {
             return Ok(Turn::End);
         }
-        if self.take_all(&chunk[..count], writer)? {
+        if self.take_all(&chunk[..count], reader, writer)? {
             Ok(Turn::Last)
         } else {
             Ok(Turn::More)
@@ -178,24 +180,36 @@ impl Session {
     }
 
     // Takes bytes, and tells whether it is over with them.
-    fn take_all<W: Write>(&mut self, bytes: &[u8], writer: &mut W) -> Result<bool, ServeError>
-        ensures { IfOk result (λ over. AreTaken (session_of self.old) bytes.now (W.contents writer.old) (W.contents writer.new) over (session_of self.new)) }
+    fn take_all<R: Wish, W: Write>(
+        &mut self,
+        bytes: &[u8],
+        reader: &mut R,
+        writer: &mut W,
+    ) -> Result<bool, ServeError>
+        ensures unread { R.remaining reader.new ≡ R.remaining reader.old }
+        ensures taken { IfOk result (λ over. AreTaken (session_of self.old) bytes.now (W.contents writer.old) (W.contents writer.new) over (session_of self.new)) }
     {
         for byte in bytes {
-            if self.take(*byte, writer)? {
+            if self.take(*byte, reader, writer)? {
                 return Ok(true);
             }
         }
         Ok(false)
     }
 
-    fn take<W: Write>(&mut self, byte: u8, writer: &mut W) -> Result<bool, ServeError>
-        ensures { IfOk result (λ over. (written : List ℕ) × TakesByte (session_of self.old) byte written over (session_of self.new)
+    fn take<R: Wish, W: Write>(
+        &mut self,
+        byte: u8,
+        reader: &mut R,
+        writer: &mut W,
+    ) -> Result<bool, ServeError>
+        ensures unread { R.remaining reader.new ≡ R.remaining reader.old }
+        ensures taken { IfOk result (λ over. (written : List ℕ) × TakesByte (session_of self.old) byte written over (session_of self.new)
             × Appends (W.contents writer.old) (W.contents writer.new) written) }
     {
         match self.decoder.take(byte)? {
             None => Ok(false),
-            Some(Event::Packet) => self.packet(writer),
+            Some(Event::Packet) => self.packet(reader, writer),
             Some(Event::Garbled) => {
                 self.acknowledge(b"-", writer)?;
                 Ok(false)
@@ -227,12 +241,17 @@ impl Session {
     }
 
     // Answers the packet that was completed last.
-    fn packet<W: Write>(&mut self, writer: &mut W) -> Result<bool, ServeError>
-        ensures { IfOk result (λ over. (written : List ℕ) × IsPacketTaken (session_of self.old) self.old.decoder written over (session_of self.new)
+    fn packet<R: Wish, W: Write>(
+        &mut self,
+        reader: &mut R,
+        writer: &mut W,
+    ) -> Result<bool, ServeError>
+        ensures unread { R.remaining reader.new ≡ R.remaining reader.old }
+        ensures taken { IfOk result (λ over. (written : List ℕ) × IsPacketTaken (session_of self.old) self.old.decoder written over (session_of self.new)
             × Appends (W.contents writer.old) (W.contents writer.new) written) }
     {
         self.acknowledge(b"+", writer)?;
-        let outcome = self.debugger.answer(self.decoder.body());
+        let outcome = self.debugger.answer(self.decoder.body(), reader);
         self.acks = acks_after(self.acks, self.decoder.body());
         let over = is_over(&outcome);
         self.send(outcome, writer)?;

@@ -3,7 +3,8 @@ use Rattle.om_debug.specs.Stops.{IsMoved, with_timeline}
 use Rattle.om_debug.proofs.debugger.Debugger.last_stop.Given as goal
 
 abbrev pub invariant-pieces : goal.invariant-pieces
-invariant-pieces l = record {
+invariant-pieces g l = record {
   moved : IsMoved l.fn.self.timeline l.self.timeline;
   same : l.self ≡ with_timeline l.fn.self l.self.timeline;
+  unread : g.R.Read.remaining l.reader ≡ g.R.Read.remaining l.fn.reader;
 }

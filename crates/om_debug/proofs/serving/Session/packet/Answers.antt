@@ -6,8 +6,8 @@ use Rattle.om_debug.specs.declared.debugger.Told.{Told}
 use Rattle.om_debug.specs.Serving.{IsOutcome, if_acked, outcome_text}
 use Rattle.om_debug.proofs.serving.Session.packet.Goals as goal
 
-pub returns : goal.returns
-returns g c =
+pub returns-clause-taken : goal.returns-clause-taken
+returns-clause-taken g c =
     let old = c.args.self.now in
     let outcome : Result Told PlayFault = c.answer-outcome.result in
     let plus : List ℕ = if_acked old.acks (codes "+") in
