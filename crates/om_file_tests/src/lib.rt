@@ -4,8 +4,12 @@
 #[cfg(test)]
 mod bodies;
 #[cfg(test)]
+mod files;
+#[cfg(test)]
 mod places;
 #[cfg(test)]
 mod replay;
 #[cfg(test)]
 mod show;
+#[cfg(test)]
+mod tables;

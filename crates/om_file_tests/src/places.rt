@@ -11,8 +11,8 @@ use std::os::unix::fs::symlink;
 use std::process::Abort;
 use std::{env, fs};
 
-// A folder of its own for a test, with nothing in it.
-fn new_folder(rt: &HostRuntime, stop: &impl Abort) -> String {
+/// A folder of its own for a test, with nothing in it.
+pub fn new_folder(rt: &HostRuntime, stop: &impl Abort) -> String {
     let key = RandomState::new(rt).expect(stop, "a key").hash_one(&0u8);
     let parent = env::temp_dir(rt).expect(stop, "a place for folders");
     let folder = format!(in rt.alloc(); "{}/omlog{key}", parent.as_str()).expect(stop, "memory");
@@ -20,7 +20,8 @@ fn new_folder(rt: &HostRuntime, stop: &impl Abort) -> String {
     folder
 }
 
-fn path_in(rt: &HostRuntime, stop: &impl Abort, folder: &str, name: &str) -> String {
+/// The path of a name in a folder.
+pub fn path_in(rt: &HostRuntime, stop: &impl Abort, folder: &str, name: &str) -> String {
     format!(in rt.alloc(); "{folder}/{name}").expect(stop, "memory")
 }
 

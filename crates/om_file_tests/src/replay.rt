@@ -162,7 +162,8 @@ fn check<S: Stable>(
     );
 }
 
-static ROWS: [(u32, &str, Result<(), CommandError>); 4] = [
+/// By interval: what is written, and the answer.
+pub static ROWS: [(u32, &str, Result<(), CommandError>); 4] = [
     (0, AT_START, Ok(())),
     (1, AFTER_RECEIPT, Ok(())),
     (2, "", Err(CommandError::MissingReceipt(2))),

@@ -3,10 +3,10 @@
 use crate::connecting::{Connects, refusal_of_opening};
 use om_interval::Pid;
 use om_runner::OpenFault;
-use om_store_files::{Note, Noted, Notes, store_of};
+use om_store_files::{Note, NotedFile, Notes, store_of};
 use sqlite::{Connection, FileStore, Options};
 use sqlite_disk::Files as DiskFiles;
-use sqlite_std_file::{File, OpenError, Unknown, open};
+use sqlite_std_file::{OpenError, Unknown, open};
 use std::alloc::Global;
 use std::hash::{BuildHasher, RandomState};
 use std::io::ErrorKind;
@@ -25,13 +25,13 @@ pub struct Files<'a> {
 }
 
 impl<'a> Connects for Files<'a> {
-    type Disk = FileStore<Noted<'a, File>>;
+    type Disk = FileStore<NotedFile<'a>>;
 
     fn connect(
         &self,
         alloc: Global,
         pid: Pid,
-    ) -> Result<Connection<FileStore<Noted<'a, File>>>, OpenFault> {
+    ) -> Result<Connection<FileStore<NotedFile<'a>>>, OpenFault> {
         let note = self.notes.of(pid);
         let Ok(path) = store_of(alloc, self.prefix, pid.index()) else {
             return Err(OpenFault::Memory);
@@ -42,8 +42,8 @@ impl<'a> Connects for Files<'a> {
             Err(error) => return Err(refused(&error, note)),
         };
         let pair = DiskFiles {
-            log: Noted { inner: log, note },
-            db: Noted { inner: db, note },
+            log: NotedFile { inner: log, note },
+            db: NotedFile { inner: db, note },
         };
         match Connection::open_files(alloc, pair, options) {
             Ok(conn) => Ok(conn),

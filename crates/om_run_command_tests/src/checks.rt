@@ -2,6 +2,7 @@
 
 mod follows;
 mod modes;
+mod once;
 mod plays;
 mod random_kills;
 mod records;

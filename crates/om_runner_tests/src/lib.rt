@@ -14,6 +14,8 @@ mod clusters;
 #[cfg(test)]
 mod inboxes;
 #[cfg(test)]
+mod reports;
+#[cfg(test)]
 mod resends;
 #[cfg(test)]
 mod restarts;

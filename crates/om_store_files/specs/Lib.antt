@@ -1,1 +1,2 @@
+pub mod FileDisk
 pub mod steps

@@ -19,7 +19,7 @@ mod standing;
 pub use clashing::{Clash, clash_with_databases, clash_with_streams, clashes_with_stores};
 pub use identity::Identity;
 pub use names::{is_written, log_of, store_of};
-pub use noting::{Note, Noted, Notes};
+pub use noting::{Note, NotedFile, Notes};
 pub use places::{PlaceError, Places};
 pub use settling::settle;
 pub use standing::Standing;

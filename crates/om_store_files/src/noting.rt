@@ -4,6 +4,7 @@ ghost use Rattle.std.specs.Prelude.{◌≡◌, ◌↔◌, ◌<◌, IfOk, IfSome,
 
 use om_interval::Pid;
 use sqlite_disk::{Disk, Tally};
+use sqlite_std_file::File;
 use std::alloc::{AllocError, Global};
 use std::io;
 use std::marker::Model;
@@ -88,10 +89,10 @@ impl Notes {
     }
 }
 
-/// A disk whose first error of the system is noted.
+/// A file of the system whose first error is noted.
 #[derive(Drop)]
-pub struct Noted<'a, D: Disk> {
-    pub inner: D,
+pub struct NotedFile<'a> {
+    pub inner: File,
     pub note: Option<&'a Note>,
 }
 
@@ -102,32 +103,36 @@ fn see<T>(note: Option<&Note>, answer: &io::Result<T>) {
     }
 }
 
-impl<'a, D: Disk> Disk for Noted<'a, D> {
-    ghost seen = { λ d. D.Disk.seen d.inner };
+impl<'a> Disk for NotedFile<'a> {
+    ghost use Rattle.std.specs.Prelude.{refl};
+    ghost use Rattle.std.proofs.Common.{inl};
+    ghost use Rattle.om_store_files.specs.FileDisk.{fair_if_clean, of_file};
 
-    ghost may_leave = { λ d. D.Disk.may_leave d.inner };
+    ghost seen = { λ d. of_file.seen d.inner };
 
-    ghost is_usable = { λ d. D.Disk.is_usable d.inner };
+    ghost may_leave = { λ d. of_file.may_leave d.inner };
 
-    ghost faults = { λ d. D.Disk.faults d.inner };
+    ghost is_usable = { λ d. of_file.is_usable d.inner };
 
-    ghost tally_of = { λ d. D.Disk.tally_of d.inner };
+    ghost faults = { λ d. of_file.faults d.inner };
 
-    ghost is_rotten = { λ d. D.Disk.is_rotten d.inner };
+    ghost tally_of = { λ d. of_file.tally_of d.inner };
 
-    ghost key_of = { λ d. D.Disk.key_of d.inner };
+    ghost is_rotten = { λ d. of_file.is_rotten d.inner };
 
-    ghost is_frozen = { λ d. D.Disk.is_frozen d.inner };
+    ghost key_of = { λ d. of_file.key_of d.inner };
 
-    ghost is_clean = { λ d. D.Disk.is_clean d.inner };
+    ghost is_frozen = { λ d. of_file.is_frozen d.inner };
 
-    ghost is_fair = { λ d. D.Disk.is_fair d.inner };
+    ghost is_clean = { λ d. of_file.is_clean d.inner };
 
-    ghost fair_if_clean = { λ d. D.Disk.fair_if_clean d.inner };
+    ghost is_fair = { λ d. of_file.is_fair d.inner };
 
-    ghost seen_may_stay = { λ d. D.Disk.seen_may_stay d.inner };
+    ghost fair_if_clean = { λ d. fair_if_clean d.inner };
 
-    ghost is_mixing = { λ d. D.Disk.is_mixing d.inner };
+    ghost seen_may_stay = { λ _. inl refl };
+
+    ghost is_mixing = { λ d. of_file.is_mixing d.inner };
 
     fn mixes(&self) -> bool {
         self.inner.mixes()

@@ -22,7 +22,7 @@ const HEAD: usize = 26;
 
 // A store in memory that puts other receipts than it is given: the last byte of each body is another.
 #[derive(Drop)]
-struct Altering {
+pub(super) struct Altering {
     inner: MemStable,
 }
 
@@ -148,7 +148,7 @@ impl Ledger for Altering {
 
 // Makes such stores.
 #[derive(Drop)]
-struct AllAltering;
+pub(super) struct AllAltering;
 
 impl<R> Opener<R> for AllAltering {
     type Store = Altering;
@@ -162,7 +162,7 @@ impl<R> Opener<R> for AllAltering {
 
 // s sends its first word to r twice. r puts out both together; before that it fails as the second comes, and so takes the first from
 // its store.
-const TWICE: &str = "\
+pub(super) const TWICE: &str = "\
 program snd 64 00100893 00100513 00000593 00400613 00000073 00100893 00100513 00000593 00400613 00000073 00000893 00000513 00000073
 program rcv 256 00200893 08000513 00400593 00000073 00200893 08400513 00400593 00000073 00300893 08000513 00800593 00000073 \
 00000893 00000513 00000073
@@ -177,7 +177,7 @@ const TWICE_ENDS: &str = "out r 0 9308100093081000\nend s ended 0\nend r ended 0
 const ALTERED_ENDS: &str = "out r 0 930810ff93081000\nend s ended 0\nend r ended 0\n";
 
 // What a run in a mode answers and writes, over stores that are made so.
-fn carry_out<R: Threads + Wait + Clock + Sync, O: Opener<R> + Sync>(
+pub(super) fn carry_out<R: Threads + Wait + Clock + Sync, O: Opener<R> + Sync>(
     rt: &R,
     alloc: Global,
     mode: RunMode<'static>,
