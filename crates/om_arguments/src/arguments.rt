@@ -3,6 +3,7 @@
 ghost use Rattle.std.specs.Prelude.{◌≡◌, ◌↔◌, IfOk, IsErr, Some, codes};
 ghost use Rattle.om_arguments.specs.steps.Requests.{asked_by, ext_of, form_of, subcommand_named};
 
+use crate::debug_request::{DEBUG, debug_command, debug_request};
 use crate::draw_request::{DRAW, Lines, draw_command, lines_of};
 use crate::explore_request::{EXPLORE, Exploring, explore_command, exploring_of};
 use crate::look_requests::{
@@ -25,10 +26,11 @@ failure: none of them depends on an interval of another that is lost.
 
 Begin with run: it takes a cluster file, and processes that fail come back by
 themselves; explore tells whether what it writes depends on the order of
-messages. With sim the same is played by hand, event by event. frontier
-computes recovery states from records alone, show and replay look into the store
-of a process, and decode tells what words of programs mean. Each says with
---help what it reads and writes, and has an example; -h lists its options alone.
+messages. With sim the same is played by hand, event by event, and debug shows
+it to gdb, forward and back. frontier computes recovery states from records
+alone, show and replay look into the store of a process, and decode tells what
+words of programs mean. Each says with --help what it reads and writes, and has
+an example; -h lists its options alone.
 
 run, explore, sim, draw, frontier and decode read FILE, where one is named, and
 standard input else, also for -.
@@ -120,7 +122,9 @@ stands in the end.
   give P F         frame F is offered to P; messages become frames as they are
                    sent, numbered from 0, and a frame may be given many times
   flush P          P stores what it received, and notes it to the manager
+  flush P K        the same for the first K that it received and has not stored
   checkpoint P     P stores its state, and notes it
+  spell P          P stores its state, and notes nothing yet
   fail P           P is down, and what it had not stored is lost
   join P           P, which is up, flushes, and joins the round of recovery that
                    a failure opened; the round is finished when all are in
@@ -337,10 +341,10 @@ const MAX_KILLS: u32 = 64;
 
 const VERBOSE: &str = "verbose";
 
-const INPUT: &str = "INPUT";
+pub(crate) const INPUT: &str = "INPUT";
 
 // The name that stands for standard input. As that of a file to be written it would stand for standard output.
-const STANDARD_STREAM: &str = "-";
+pub(crate) const STANDARD_STREAM: &str = "-";
 
 // The version of the commands, their texts and their formats.
 const VERSION: &str = "1.0";
@@ -354,6 +358,7 @@ pub(crate) enum Subcommand {
     Draw,
     Run,
     Explore,
+    Debug,
     Replay,
     Show,
     Image,
@@ -368,6 +373,10 @@ pub enum Request<'a> {
     Draw(Lines),
     Run(Running<'a>),
     Explore(Exploring<'a>),
+    /// Of the record that is the input.
+    Debug {
+        process: &'a str,
+    },
     Look(Look<'a>),
     Image {
         ext: Ext,
@@ -491,6 +500,7 @@ fn request_of<'a>(
         Subcommand::Draw => Ok(Request::Draw(lines_of(found)?)),
         Subcommand::Run => run_request(found),
         Subcommand::Explore => Ok(Request::Explore(exploring_of(found)?)),
+        Subcommand::Debug => debug_request(found),
         Subcommand::Replay => Ok(Request::Look(replay_request(found)?)),
         Subcommand::Show => Ok(Request::Look(show_request(found)?)),
         Subcommand::Image => image_request(found),
@@ -508,6 +518,7 @@ fn subcommand_of(name: &str) -> Option<Subcommand>
         DRAW => Some(Subcommand::Draw),
         RUN => Some(Subcommand::Run),
         EXPLORE => Some(Subcommand::Explore),
+        DEBUG => Some(Subcommand::Debug),
         REPLAY => Some(Subcommand::Replay),
         SHOW => Some(Subcommand::Show),
         IMAGE => Some(Subcommand::Image),
@@ -526,6 +537,7 @@ fn name_of(subcommand: Subcommand) -> &'static str
         Subcommand::Draw => DRAW,
         Subcommand::Run => RUN,
         Subcommand::Explore => EXPLORE,
+        Subcommand::Debug => DEBUG,
         Subcommand::Replay => REPLAY,
         Subcommand::Show => SHOW,
         Subcommand::Image => IMAGE,
@@ -657,6 +669,7 @@ fn with_clusters<'a>(alloc: Global, command: Command<'a>) -> Result<Command<'a>,
     command
         .subcommand(command_of(alloc, Subcommand::Run)?)?
         .subcommand(command_of(alloc, Subcommand::Explore)?)?
+        .subcommand(command_of(alloc, Subcommand::Debug)?)?
         .subcommand(command_of(alloc, Subcommand::Replay)?)?
         .subcommand(command_of(alloc, Subcommand::Show)?)
 }
@@ -669,6 +682,7 @@ fn command_of<'a>(alloc: Global, subcommand: Subcommand) -> Result<Command<'a>, 
         Subcommand::Draw => draw_command(alloc)?.arg(input_file(alloc))?,
         Subcommand::Run => run_command(alloc)?.arg(input_file(alloc))?,
         Subcommand::Explore => explore_command(alloc)?.arg(input_file(alloc))?,
+        Subcommand::Debug => debug_command(alloc)?,
         Subcommand::Replay => replay_command(alloc)?,
         Subcommand::Show => show_command(alloc)?,
         Subcommand::Image => image_command(alloc)?,

@@ -1,11 +1,12 @@
 //! The command line: what its words ask for, and how a command ends.
 //!
-//! - `arguments`: the subcommands, their helps and their requests, with `draw_request`, `explore_request` and `look_requests`;
-//!   `mistake` (what is wrong with a value)
+//! - `arguments`: the subcommands, their helps and their requests, with `debug_request`, `draw_request`, `explore_request` and
+//!   `look_requests`; `mistake` (what is wrong with a value)
 //! - `ending`: the status, and the line on standard error
 #![tactic(auto)]
 
 mod arguments;
+mod debug_request;
 mod draw_request;
 mod ending;
 mod explore_request;
@@ -16,6 +17,7 @@ pub use arguments::{
     Asked, Checking, FRONTIER_HELP, HELP, IMAGE_HELP, Kills, OutputForm, RUN_HELP, Request,
     Running, SIM_HELP, parse,
 };
+pub use debug_request::DEBUG_HELP;
 pub use draw_request::Lines;
 pub use ending::{end, end_unasked, end_unread};
 pub use explore_request::{EXPLORE_HELP, Exploring};

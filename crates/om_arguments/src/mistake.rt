@@ -26,6 +26,8 @@ pub(crate) enum Mistake<'a> {
     },
     // The file that an argument names is to be standard output, which has the text of the command.
     NoFile(&'a str),
+    // The record that an argument names is to be standard input, over which packets come.
+    NoRecord(&'a str),
 }
 
 impl<'a> fmt::Display for Mistake<'a> {
@@ -51,6 +53,10 @@ impl<'a> fmt::Display for Mistake<'a> {
             Mistake::NoFile(argument) => write!(
                 f,
                 "invalid value '-' for '{argument}': standard output has the text of the run, and a file is needed; ./- is one of this name"
+            ),
+            Mistake::NoRecord(argument) => write!(
+                f,
+                "invalid value '-' for '{argument}': packets come over standard input, and a file is needed; ./- is one of this name"
             ),
         }
     }

@@ -7,7 +7,7 @@ use std::io;
 use std::process::{Abort, ExitCode};
 
 // Words that are mistaken, and all that is told of them.
-static MISTAKES: [(&[&str], &str); 19] = [
+static MISTAKES: [(&[&str], &str); 22] = [
     (
         &["omlog", "replay", "s0.db", "x"],
         "error: invalid value 'x' for '<INTERVAL>': it is no number of 32 bits\n\nUsage: omlog replay [OPTIONS] <FILE> <INTERVAL>\n\nFor more information, try '--help'.\n",
@@ -42,6 +42,18 @@ static MISTAKES: [(&[&str], &str); 19] = [
     (
         &["omlog", "sim", "a", "b"],
         "error: unexpected argument 'b' found\n\nUsage: omlog sim [OPTIONS] [FILE]\n\nFor more information, try '--help'.\n",
+    ),
+    (
+        &["omlog", "debug", "record"],
+        "error: the following required arguments were not provided:\n  --process <NAME>\n\nUsage: omlog debug --process <NAME> <RECORD>\n\nFor more information, try '--help'.\n",
+    ),
+    (
+        &["omlog", "debug", "--process", "p"],
+        "error: the following required arguments were not provided:\n  <RECORD>\n\nUsage: omlog debug --process <NAME> <RECORD>\n\nFor more information, try '--help'.\n",
+    ),
+    (
+        &["omlog", "debug", "--process", "p", "-"],
+        "error: invalid value '-' for '<RECORD>': packets come over standard input, and a file is needed; ./- is one of this name\n\nUsage: omlog debug [OPTIONS] --process <NAME> <RECORD>\n\nFor more information, try '--help'.\n",
     ),
     (
         &["omlog", "show"],

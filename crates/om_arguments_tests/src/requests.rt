@@ -7,7 +7,7 @@ use om_isa::Ext;
 use std::alloc::Global;
 use std::process::Abort;
 
-static PLAIN: [(&[&str], Request<'static>, Option<&str>); 13] = [
+static PLAIN: [(&[&str], Request<'static>, Option<&str>); 15] = [
     (&["omlog", "decode"], Request::Decode(Ext::I), None),
     (
         &["omlog", "decode", "--m", "words"],
@@ -32,6 +32,16 @@ static PLAIN: [(&[&str], Request<'static>, Option<&str>); 13] = [
         &["omlog", "sim", "--text", "s"],
         Request::Sim(OutputForm::Text),
         Some("s"),
+    ),
+    (
+        &["omlog", "debug", "--process", "w1", "record"],
+        Request::Debug { process: "w1" },
+        Some("record"),
+    ),
+    (
+        &["omlog", "debug", "--process=p", "--", "-r"],
+        Request::Debug { process: "p" },
+        Some("-r"),
     ),
     (
         &["omlog", "draw"],

@@ -12,8 +12,8 @@ mod words;
 
 use crate::forms::{is_of, section};
 use crate::words::{
-    Group, Word, answers, faults, image_faults, line_faults, printed, replay_faults, run_faults,
-    statuses,
+    Group, Word, answers, debug_faults, faults, image_faults, line_faults, printed, replay_faults,
+    run_faults, statuses,
 };
 use std::process::ExitCode;
 use std::{fs, io};
@@ -43,8 +43,9 @@ fn compare_faults(rt: &HostRuntime, formats: &str) -> io::Result<bool> {
     let all = compare(rt, formats, &faults())?;
     let image = compare(rt, formats, &image_faults())?;
     let run = compare(rt, formats, &run_faults())?;
+    let debug = compare(rt, formats, &debug_faults())?;
     let replay = compare(rt, formats, &replay_faults())?;
-    Ok(lines && all && image && run && replay)
+    Ok(lines && all && image && run && debug && replay)
 }
 
 // Compares a group with its sections. Answers whether each word is told.

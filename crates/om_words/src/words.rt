@@ -1,6 +1,6 @@
 //! What is printed, the form of each, and where it is told.
 
-use om_arguments::{HELP, IMAGE_HELP, REPLAY_HELP, RUN_HELP, SIM_HELP};
+use om_arguments::{DEBUG_HELP, HELP, IMAGE_HELP, REPLAY_HELP, RUN_HELP, SIM_HELP};
 use om_commands::{CommandError, push_status};
 use om_machine::Cause;
 use om_manager::Gathered;
@@ -80,6 +80,11 @@ static RUN_FAULTS: [Row; 10] = [
     (Word::Fault(CommandError::Unlike), "unlike its check"),
     (Word::Fault(CommandError::NoSuchProcess), "no such process"),
     (Word::Fault(CommandError::CannotWrite), "cannot write"),
+];
+
+static DEBUG_FAULTS: [Row; 2] = [
+    (Word::Fault(CommandError::NoSuchProcess), "no such process"),
+    (Word::Fault(CommandError::EmptyScript), "empty script"),
 ];
 
 static REPLAY_FAULTS: [Row; 5] = [
@@ -195,6 +200,17 @@ pub fn run_faults() -> Group {
         first: "Answers:",
         next: "A faulty file",
         rows: &RUN_FAULTS,
+    }
+}
+
+pub fn debug_faults() -> Group {
+    Group {
+        name: "faults of debug",
+        heading: "## `omlog debug`",
+        help: DEBUG_HELP,
+        first: "Refused",
+        next: "A faulty record",
+        rows: &DEBUG_FAULTS,
     }
 }
 

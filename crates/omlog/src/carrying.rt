@@ -5,7 +5,7 @@ ghost use Rattle.std.specs.Io.KnownBytes.{Appends};
 ghost use Rattle.om_folding.specs.Folding.{folded};
 ghost use Rattle.omlog.specs.Modes.{form_of};
 
-use crate::cluster_files::ClusterFiles;
+use crate::debugging::debug_over;
 use crate::exploring::explore_over;
 use crate::failure::Failure;
 use crate::output::Output;
@@ -20,7 +20,7 @@ use om_commands::frontier::frontier;
 use om_commands::sim::sim;
 use om_commands::{BytesForm, CommandError, write_answer};
 use om_draw_command::draw::{Window, draw};
-use om_files::{fault_of, replay_file, show_bodies_file, show_file, steps_file};
+use om_files::{Files, fault_of, replay_file, show_bodies_file, show_file, steps_file};
 use om_folding::fold_zero_rows;
 use om_image::{ImageError, image};
 use om_interval::MAX_PROCESSES;
@@ -44,7 +44,7 @@ const CLOSED_PIPE: u8 = 128 + 13;
 // refused, and 2 where the arguments were.
 //
 // `threads` is the same runtime, which only `main` may have start threads and wait.
-pub(crate) fn run<R: Threads + Wait + Clock + Eprint + Sync>(
+pub(crate) fn run<R: Threads + Wait + Clock + Eprint + Copy + Send + Sync + 'static>(
     rt: &HostRuntime,
     threads: &R,
 ) -> ExitCode {
@@ -64,7 +64,7 @@ pub(crate) fn run<R: Threads + Wait + Clock + Eprint + Sync>(
 }
 
 // Carries out what is asked, and ends it.
-fn ended<R: Threads + Wait + Clock + Eprint + Sync>(
+fn ended<R: Threads + Wait + Clock + Eprint + Copy + Send + Sync + 'static>(
     rt: &HostRuntime,
     threads: &R,
     asked: Asked<'_>,
@@ -118,7 +118,7 @@ fn words<R: Runtime + AllocGlobal>(rt: &R) -> io::Result<Vec<String>> {
 }
 
 // Where reasons are heard the whole text of an input is read first, so that its faulty line can be shown.
-fn carry_out<R: Threads + Wait + Clock + Eprint + Sync>(
+fn carry_out<R: Threads + Wait + Clock + Eprint + Copy + Send + Sync + 'static>(
     rt: &HostRuntime,
     threads: &R,
     asked: Asked<'_>,
@@ -160,13 +160,14 @@ fn reads_text(request: Request<'_>) -> bool {
         | Request::Sim(_)
         | Request::Draw(_)
         | Request::Run(_)
-        | Request::Explore(_) => true,
+        | Request::Explore(_)
+        | Request::Debug { .. } => true,
         Request::Look(_) | Request::Image { .. } => false,
     }
 }
 
 // Carries out what is asked over the whole text of an input.
-fn carry_out_over<R: Threads + Wait + Clock + Eprint + Sync, I: Read>(
+fn carry_out_over<R: Threads + Wait + Clock + Eprint + Copy + Send + Sync + 'static, I: Read>(
     rt: &HostRuntime,
     threads: &R,
     asked: Asked<'_>,
@@ -181,7 +182,7 @@ fn carry_out_over<R: Threads + Wait + Clock + Eprint + Sync, I: Read>(
     outcome
 }
 
-fn answer<R: Threads + Wait + Clock + Eprint + Sync, I: Read>(
+fn answer<R: Threads + Wait + Clock + Eprint + Copy + Send + Sync + 'static, I: Read>(
     rt: &HostRuntime,
     threads: &R,
     asked: Asked<'_>,
@@ -200,6 +201,9 @@ fn answer<R: Threads + Wait + Clock + Eprint + Sync, I: Read>(
     let outcome = match asked.request {
         Request::Explore(exploring) => {
             explore_over(rt, threads, exploring, reader, &mut writer, reasons)
+        }
+        Request::Debug { process } => {
+            debug_over(rt, threads, process, reader, &mut writer, reasons)
         }
         request => answer_at_once(rt, request, reader, &mut writer, reasons),
     };
@@ -222,7 +226,9 @@ fn answer_at_once<I: Read, W: Write>(
         Request::Draw(lines) => draw(rt.alloc(), reader, writer, window_of(lines)),
         Request::Look(look) => look_into(rt, look, writer, reasons),
         // These have ends of their own.
-        Request::Run(_) | Request::Explore(_) | Request::Image { .. } => Ok(()),
+        Request::Run(_) | Request::Explore(_) | Request::Debug { .. } | Request::Image { .. } => {
+            Ok(())
+        }
     }
 }
 
@@ -344,7 +350,7 @@ fn run_in_files<R: Threads + Wait + Clock + Eprint + Sync, I: Read>(
         notes: Some(&notes),
         ..job
     };
-    let files = ClusterFiles {
+    let files = Files {
         rt,
         prefix,
         notes: &notes,

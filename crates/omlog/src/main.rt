@@ -2,7 +2,7 @@
 #![tactic(auto)]
 
 mod carrying;
-mod cluster_files;
+mod debugging;
 mod exploring;
 mod failure;
 mod output;

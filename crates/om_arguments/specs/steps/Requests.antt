@@ -10,7 +10,7 @@ use Rattle.om_arguments.specs.declared.arguments.Request.TheVariants as requests
 use Rattle.om_arguments.specs.declared.arguments.Subcommand.{Subcommand}
 use Rattle.om_arguments.specs.declared.look_requests.Look.{Look}
 use Rattle.om_arguments.specs.declared.look_requests.Look.TheVariants as looks
-use Rattle.om_arguments.specs.declared.arguments.Subcommand.TheVariants.{Decode, Frontier, Sim, Draw, Run, Explore, Replay, Show, Image}
+use Rattle.om_arguments.specs.declared.arguments.Subcommand.TheVariants.{Decode, Frontier, Sim, Draw, Run, Explore, Debug, Replay, Show, Image}
 
 -- the instructions that a program may use, by whether the flag `--m` was given
 abbrev pub ext_of : Bool → Ext
@@ -29,10 +29,11 @@ subcommand_named name =
     else (if bytes_eq name (codes "draw") then Some Draw
     else (if bytes_eq name (codes "run") then Some Run
     else (if bytes_eq name (codes "explore") then Some Explore
+    else (if bytes_eq name (codes "debug") then Some Debug
     else (if bytes_eq name (codes "replay") then Some Replay
     else (if bytes_eq name (codes "show") then Some Show
     else (if bytes_eq name (codes "image") then Some Image
-    else None))))))))
+    else None)))))))))
 
 -- the subcommand that looks into a store so
 abbrev pub looked_by : Look → Subcommand
@@ -48,5 +49,6 @@ asked_by (requests.Sim form) = Sim
 asked_by (requests.Draw lines) = Draw
 asked_by (requests.Run running) = Run
 asked_by (requests.Explore exploring) = Explore
+asked_by (requests.Debug process) = Debug
 asked_by (requests.Look look) = looked_by look
 asked_by (requests.Image ext name size) = Image

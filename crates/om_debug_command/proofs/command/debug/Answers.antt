@@ -1,0 +1,8 @@
+use Rattle.om_debug_command.proofs.Opening.{served_of}
+use Rattle.om_debug_command.proofs.command.debug.Goals as goal
+
+pub returns-in-Ok-clause-served : goal.returns-in-Ok-clause-served
+returns-in-Ok-clause-served g c =
+    served_of (g.R.Read.remaining c.args.input.now) (g.P.Read.remaining c.args.packets.now) (g.P.Read.remaining c.serve.new.reader)
+    (g.W.Write.contents c.args.writer.now) (g.W.Write.contents c.serve.new.writer) c.args.process.now c.in_ok-debugger.debugger
+    c.in_ok-debugger.ensures.opened c.in-Ok.ensures.served

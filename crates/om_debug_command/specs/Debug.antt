@@ -1,0 +1,58 @@
+-- What the command debug opens.
+use Rattle.std.specs.Prelude.{◌≡◌, ℕ, ◌≤◌, Bool, false, List, length, Option, Some}
+use Rattle.std.specs.Io.KnownBytes.{Appends, Consumes, IsAtEnd}
+use Rattle.om_scripts.specs.Programs.{programs_of}
+use Rattle.om_scripts.specs.Named.{place_of}
+use Rattle.om_world.specs.World.{WorldState}
+use Rattle.om_commands.specs.Command.{IsScript}
+use Rattle.om_commands.specs.declared.error.CommandError.{CommandError}
+use Rattle.om_commands.specs.declared.error.CommandError.TheVariants as errors
+use Rattle.om_commands.specs.Sim.{IsBegun, IsErrorOfSim}
+use Rattle.om_commands.specs.SimScript.{EventScript, event_script_line, no_events}
+use Rattle.om_timeline.specs.Timeline.{IsBegin}
+use Rattle.om_debug.specs.Serving.{SessionState, Takes, session}
+use Rattle.om_debug.specs.Stops.{DebugState}
+
+-- the process of this name, before the first event of a script, in the world that the script begins with
+pub record IsBegunAt (script : EventScript) (name : List ℕ) (d : DebugState) : Type 0 where
+  pub place : ℕ
+  pub named : place_of name script.cluster.processes ≡ Some place
+  pub begun : WorldState
+  pub is_begun : IsBegun (programs_of script.cluster) begun
+  pub begins : IsBegin d.timeline place begun script.events
+
+-- the same, of the script that these bytes are
+pub record IsOpened (bytes name : List ℕ) (d : DebugState) : Type 0 where
+  pub script : EventScript
+  pub is_script : IsScript event_script_line no_events bytes script
+  pub begins : IsBegunAt script name d
+
+-- packets are answered from the first on: these bytes are read, and what they are answered is written; it ends with the last
+-- answer, or where there are no more bytes
+pub record IsServed (d : DebugState) (had left before after : Option (List ℕ)) : Type 0 where
+  pub bytes : List ℕ
+  pub written : List ℕ
+  pub over : Bool
+  pub last : SessionState
+  pub takes : Takes (session d) bytes written over last
+  pub consumes : Consumes had left bytes
+  pub appends : Appends before after written
+  pub ended : over ≡ false → IsAtEnd left
+
+-- the bytes are a script that has processes
+pub record HasProcess (bytes : List ℕ) : Type 0 where
+  pub script : EventScript
+  pub is_script : IsScript event_script_line no_events bytes script
+  pub some : 1 ≤ length script.cluster.processes
+
+-- the errors of sim; or that of the processes none has the name
+abbrev pub IsErrorOfDebug : List ℕ → CommandError → Type 0
+IsErrorOfDebug bytes errors.NoSuchProcess = HasProcess bytes
+IsErrorOfDebug bytes error = IsErrorOfSim bytes error
+
+-- only these errors may come when packets were answered
+abbrev pub IsBefore : CommandError → Type 0 → Type 0
+IsBefore errors.CannotRead kept = Unit {0}
+IsBefore errors.CannotWrite kept = Unit {0}
+IsBefore errors.NoMemory kept = Unit {0}
+IsBefore error kept = kept

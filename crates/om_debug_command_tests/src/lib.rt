@@ -1,0 +1,13 @@
+//! Tests of the command `debug`.
+#![tactic(auto)]
+
+#[cfg(test)]
+mod bank_session;
+#[cfg(test)]
+mod records;
+#[cfg(test)]
+mod sessions;
+#[cfg(test)]
+mod told;
+#[cfg(test)]
+mod trap_session;

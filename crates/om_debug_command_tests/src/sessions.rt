@@ -1,0 +1,16 @@
+//! What gdb sent in whole sessions, and what it is answered.
+
+use crate::told::told;
+use crate::{bank_session as bank, trap_session as trap};
+
+#[test]
+fn to_a_trap_and_back(rt: HostRuntime) {
+    let written = told(&rt, rt.alloc(), trap::RECORD, trap::PROCESS, trap::SENT);
+    assert!(&rt; written.as_slice() == trap::TOLD.as_bytes());
+}
+
+#[test]
+fn over_failures_to_the_end_and_back(rt: HostRuntime) {
+    let written = told(&rt, rt.alloc(), bank::RECORD, bank::PROCESS, bank::SENT);
+    assert!(&rt; written.as_slice() == bank::TOLD.as_bytes());
+}

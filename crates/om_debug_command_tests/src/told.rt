@@ -1,0 +1,25 @@
+//! A process of a record, and what is asked about it.
+
+use om_debug_command::debug;
+use std::alloc::Global;
+use std::process::Abort;
+
+// What is written to one who asks these packets about a process of a record.
+pub(crate) fn told(
+    rt: &impl Abort,
+    alloc: Global,
+    record: &str,
+    process: &str,
+    asked: &str,
+) -> Vec<u8> {
+    let mut written = Vec::new(alloc);
+    let done = debug(
+        alloc,
+        process,
+        &mut record.as_bytes(),
+        &mut asked.as_bytes(),
+        &mut written,
+    );
+    assert!(rt; done.is_ok());
+    written
+}
