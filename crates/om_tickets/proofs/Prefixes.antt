@@ -1,0 +1,20 @@
+-- Beginnings of one list.
+use Rattle.std.proofs.Common.{◌≡◌, List, [], ◌∷◌, length, ◌≤◌, refl, arith}
+use mathlib.Core.List.{IsPrefix}
+
+-- of two beginnings of one list that are as long as each other, each is the other
+pub prefix_same : {A : Type 0} (xs ys zs : List A) → IsPrefix xs zs → IsPrefix ys zs → length xs ≡ length ys → xs ≡ ys
+prefix_same [] [] zs p q e = refl
+prefix_same [] (y ∷ ys) zs p q e = absurd (omega arith)
+prefix_same (x ∷ xs) [] zs p q e = absurd (omega arith)
+prefix_same (x ∷ xs) (y ∷ ys) [] p q e = absurd (cc (p.1))
+prefix_same (x ∷ xs) (y ∷ ys) (z ∷ zs) p q e =
+    let rest = prefix_same xs ys zs (p.0, cc (p.1)) (q.0, cc (q.1)) (omega arith) in cc (p.1, q.1, rest)
+
+-- a beginning as long as the whole is the whole
+pub prefix_whole : {A : Type 0} (xs ys : List A) → IsPrefix xs ys → length ys ≤ length xs → xs ≡ ys
+prefix_whole [] [] p le = refl
+prefix_whole [] (y ∷ ys) p le = absurd (omega arith)
+prefix_whole (x ∷ xs) [] p le = absurd (cc (p.1))
+prefix_whole (x ∷ xs) (y ∷ ys) p le =
+    let rest = prefix_whole xs ys (p.0, cc (p.1)) (omega arith) in cc (p.1, rest)
