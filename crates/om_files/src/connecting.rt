@@ -37,6 +37,10 @@ impl<R, C: Connects> Opener<R> for InTables<C> {
             Err((error, _conn)) => Err(refusal_of(error)),
         }
     }
+
+    fn is_slow(&self) -> bool {
+        true
+    }
 }
 
 // Why no store is made anew where its database is not opened: whoever else has it came between.

@@ -30,6 +30,10 @@ impl<R, C: Connects> Opener<R> for TakenUp<C> {
         }
     }
 
+    fn is_slow(&self) -> bool {
+        true
+    }
+
     fn resumes(&self) -> bool {
         true
     }

@@ -31,6 +31,10 @@ pub struct Diary<'a> {
     interval: u32,
     // How many of its sends were refused.
     refused: u64,
+    // Whether a checkpoint is told that is not noted.
+    is_spelled: bool,
+    // How many receipts a flight carried that has landed and is not noted.
+    landed: Option<usize>,
 }
 
 // Whether the process keeps a message that is not told yet.
@@ -107,6 +111,8 @@ impl<'a> Diary<'a> {
             next: [0; MAX_PROCESSES],
             interval: 0,
             refused: 0,
+            is_spelled: false,
+            landed: None,
         }
     }
 
@@ -200,6 +206,35 @@ impl<'a> Diary<'a> {
         }
     }
 
+    /// Tells that the process handed over a checkpoint of now to be stored. Its row is noted later.
+    pub fn spelled<R: Wait>(&mut self, rt: &R) -> Result<(), AllocError> {
+        self.is_spelled = true;
+        self.tell(rt, &[Act::Spell { process: self.own }])
+    }
+
+    /// Takes in that so many receipts that the process handed over are stored. Their rows are noted next.
+    pub fn landed(&mut self, count: usize) {
+        self.landed = Some(count);
+    }
+
+    /// Takes in that the process stored all of its volatile log. The rows are noted next.
+    pub fn stored_all(&mut self) {
+        self.landed = None;
+    }
+
+    // What the process stored whose rows are noted, but for a checkpoint that is told by itself. One that is spelled is noted with the
+    // receipts, once it has landed.
+    fn flush_of(&mut self, has_receipt: bool, has_checkpoint: bool) -> Option<Act> {
+        let process = self.own;
+        match self.landed.take() {
+            Some(count) => Some(Act::FlushFirst { process, count }),
+            None if has_receipt || has_checkpoint && self.is_spelled => {
+                Some(Act::Flush { process })
+            }
+            None => None,
+        }
+    }
+
     /// Tells that pending rows are noted, under the board's lock: of receipts, and then of a checkpoint.
     // After a checkpoint the manager is pruned, and the process drops what it need not keep.
     pub fn noted<R: Wait>(
@@ -209,18 +244,15 @@ impl<'a> Diary<'a> {
         has_checkpoint: bool,
     ) -> Result<(), AllocError> {
         let process = self.own;
-        if has_receipt {
-            self.tell(rt, &[Act::Flush { process }])?;
+        if let Some(flush) = self.flush_of(has_receipt, has_checkpoint) {
+            self.tell(rt, &[flush])?;
         }
         if has_checkpoint {
-            self.tell(
-                rt,
-                &[
-                    Act::Checkpoint { process },
-                    Act::Prune,
-                    Act::Trim { process },
-                ],
-            )?;
+            if !self.is_spelled {
+                self.tell(rt, &[Act::Checkpoint { process }])?;
+            }
+            self.is_spelled = false;
+            self.tell(rt, &[Act::Prune, Act::Trim { process }])?;
         }
         Ok(())
     }
@@ -233,9 +265,16 @@ impl<'a> Diary<'a> {
         is_finished: bool,
     ) -> Result<(), AllocError> {
         let (process, interval) = (self.own, self.interval);
+        self.forget();
         self.tell(rt, &[Act::Fail { process, interval }])?;
         self.show_failure(rt)?;
         self.finished(rt, front, is_finished)
+    }
+
+    // What the process stored is noted or lost.
+    fn forget(&mut self) {
+        self.is_spelled = false;
+        self.landed = None;
     }
 
     // Shows whoever watches that the process failed after a receipt. One that is taken up failed before it received.
@@ -254,6 +293,7 @@ impl<'a> Diary<'a> {
         is_finished: bool,
     ) -> Result<(), AllocError> {
         let process = self.own;
+        self.forget();
         self.tell(rt, &[Act::Join { process }])?;
         self.finished(rt, front, is_finished)
     }

@@ -40,6 +40,15 @@ pub enum Act {
     Flush {
         process: Pid,
     },
+    /// The process stored so many receipts of its volatile log, and its pending rows are noted.
+    FlushFirst {
+        process: Pid,
+        count: usize,
+    },
+    /// The process spelled a checkpoint, whose row is pending.
+    Spell {
+        process: Pid,
+    },
     /// The process stored a checkpoint, and its pending rows are noted.
     Checkpoint {
         process: Pid,

@@ -65,6 +65,13 @@ fn event_at(act: Act) -> Option<Event> {
         Act::Flush { process } => Some(Event::Flush {
             process: process.index(),
         }),
+        Act::FlushFirst { process, count } => Some(Event::FlushFirst {
+            process: process.index(),
+            count,
+        }),
+        Act::Spell { process } => Some(Event::Spell {
+            process: process.index(),
+        }),
         Act::Checkpoint { process } => Some(Event::Checkpoint {
             process: process.index(),
         }),

@@ -9,3 +9,4 @@ mod ActLemmas
 mod FaultLemmas
 mod FlightLemmas
 mod FollowLemmas
+mod HoldLemmas

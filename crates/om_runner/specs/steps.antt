@@ -13,3 +13,5 @@ pub mod Refusals
 pub mod Sights
 pub mod Following
 pub mod Keeping
+pub mod Flying
+pub mod Holding

@@ -19,8 +19,10 @@ ghost use Rattle.om_runner.specs.steps.Settling.{ArePasses, AreSettled};
 ghost use Rattle.om_runner.specs.steps.Wiring.{IsWired};
 
 use crate::barrier::Barrier;
+use crate::cargo::Went;
 use crate::config::Config;
 use crate::fault::RunFault;
+use crate::flying::{Line, line_of, write_all};
 use crate::ground::{Alone, Beside, Cluster, ground_of, stop_all};
 use crate::harvest::{Harvest, gathered_in};
 use crate::links::Links;
@@ -38,6 +40,7 @@ use om_interval::{MAX_PROCESSES, Pid};
 use om_observers::{Observers, Recorder};
 use om_process::{Image, Status, Witness};
 use om_stable::{Ledger, Stable};
+use om_tickets::{Opened, Series};
 use std::alloc::{AllocError, Global};
 use std::marker::{Brand, PhantomData};
 use std::sync::Wait;
@@ -49,9 +52,11 @@ use std::time::Clock;
 
 // What a worker begins with.
 #[derive(Drop)]
-struct Job<'a, K: Naming> {
+struct Job<'a, K: Naming, J: Series, S: Stable> {
     links: Links<'a>,
     pass: Pass<K>,
+    // Where stores are slow, the way to the thread that writes that of the process.
+    line: Option<Line<J, S>>,
     ghost sized: { links.n ≡ K.cell.n },
 }
 
@@ -70,14 +75,15 @@ fn pass_gate<G: Gate>(gate: &G, gate_turns: u64, pid: Pid) -> Result<(), RunFaul
 }
 
 // Makes a process, over a store of its own.
-fn begin<'a, R, O: Opener<R>>(
+fn begin<'a, J: Series, R, O: Opener<R>>(
     rt: &R,
     alloc: Global,
     opener: &O,
     image: &'a Image,
     pid: Pid,
     n: usize,
-) -> Result<Node<'a, O::Store>, RunFault>
+    line: Option<Line<J, O::Store>>,
+) -> Result<Node<'a, J, O::Store>, RunFault>
     ensures member { IfOk result (λ node. node.member ≡ record { program = program_of image.entry.now; own = pid; n = n }) }
     ensures fault { IfErr result (IsFaultBy pid) }
 {
@@ -85,7 +91,7 @@ fn begin<'a, R, O: Opener<R>>(
         Ok(store) => store,
         Err(fault) => return Err(open_fault(fault, pid)),
     };
-    match Node::start(alloc, image, pid, n, store) {
+    match Node::start(alloc, image, pid, n, store, line) {
         Ok(node) => Ok(node),
         Err(fault) => Err(load_fault(fault, pid)),
     }
@@ -104,22 +110,22 @@ fn kills_of(alloc: Global, kills: &[(Pid, u32)], pid: Pid) -> Result<Vec<u32>, A
 
 // What a turn of a worker leads to.
 #[derive(Drop)]
-enum Turned<'a, K: Naming, S: Stable> {
+enum Turned<'a, K: Naming, J: Series, S: Stable> {
     // There are more.
-    On(Place<'a, S>, Pass<K>),
+    On(Place<'a, J, S>, Pass<K>),
     // All processes are quiet: how this one ended, its outputs, and its store.
     Over(Status, Harvest<K>, S),
 }
 
 // The end of a process of which as many outputs are released as it made. Until they are it goes on.
 #[inline(never)]
-fn leave<'a, K: Naming, S: Stable, R: Wait>(
+fn leave<'a, K: Naming, J: Series, S: Stable, R: Wait>(
     rt: &R,
     alloc: Global,
     worker: &mut Worker<'a, K>,
-    node: Node<'a, S>,
+    node: Node<'a, J, S>,
     pass: Pass<K>,
-) -> Result<Turned<'a, K, S>, RunFault>
+) -> Result<Turned<'a, K, J, S>, RunFault>
     requires { node.member.own ≡ worker.old.links.own }
     ensures same { worker.new.links ≡ worker.old.links }
     ensures turned { IfOk result (λ t. IsTurned S.is_clean node.entry.member t) }
@@ -142,13 +148,13 @@ fn leave<'a, K: Naming, S: Stable, R: Wait>(
 
 // One turn of a worker.
 #[inline(never)]
-fn take_turn<'a, K: Naming, S: Ledger, R: Wait + Clock>(
+fn take_turn<'a, K: Naming, J: Series, S: Ledger, R: Wait + Clock>(
     rt: &R,
     alloc: Global,
     worker: &mut Worker<'a, K>,
-    place: Place<'a, S>,
+    place: Place<'a, J, S>,
     pass: Pass<K>,
-) -> Result<Turned<'a, K, S>, RunFault>
+) -> Result<Turned<'a, K, J, S>, RunFault>
     requires own { (member_of place).own ≡ worker.old.links.own }
     requires program { slice_get K.programs (member_of place).own ≡ Some (member_of place).program }
     requires size { (member_of place).n ≡ K.cell.n }
@@ -168,13 +174,13 @@ fn take_turn<'a, K: Naming, S: Ledger, R: Wait + Clock>(
 }
 
 // The turns of a worker until all are quiet: how its process ended, its outputs, and its store.
-fn turns_until_over<'a, K: Naming, S: Ledger, R: Wait + Clock>(
+fn turns_until_over<'a, K: Naming, J: Series, S: Ledger, R: Wait + Clock>(
     rt: &R,
     alloc: Global,
     turns: u64,
     stop: &AtomicBool,
     worker: &mut Worker<'a, K>,
-    place: Place<'a, S>,
+    place: Place<'a, J, S>,
     pass: Pass<K>,
 ) -> Result<(Status, Harvest<K>, S), RunFault>
     requires own { (member_of place).own ≡ worker.old.links.own }
@@ -212,13 +218,13 @@ fn turns_until_over<'a, K: Naming, S: Ledger, R: Wait + Clock>(
 }
 
 // The same, with the ends that the worker gives up then.
-fn take_turns<'a, K: Naming, S: Ledger, R: Wait + Clock>(
+fn take_turns<'a, K: Naming, J: Series, S: Ledger, R: Wait + Clock>(
     rt: &R,
     alloc: Global,
     turns: u64,
     stop: &AtomicBool,
     worker: Worker<'a, K>,
-    place: Place<'a, S>,
+    place: Place<'a, J, S>,
     pass: Pass<K>,
 ) -> Result<Finished<K, S>, RunFault>
     requires own { (member_of place).own ≡ worker.links.own }
@@ -251,12 +257,13 @@ fn take_turns<'a, K: Naming, S: Ledger, R: Wait + Clock>(
 }
 
 // A process that the gate let start, and the intervals at which it is to fail.
-fn admit<'a, K: Naming, R: Wait, G: Gate, O: Opener<R>>(
+fn admit<'a, K: Naming, J: Series, R: Wait, G: Gate, O: Opener<R>>(
     cluster: &Cluster<'a, K, R, G, O>,
     image: &'a Image,
     pid: Pid,
     n: usize,
-) -> Result<(Node<'a, O::Store>, Vec<u32>), RunFault>
+    line: Option<Line<J, O::Store>>,
+) -> Result<(Node<'a, J, O::Store>, Vec<u32>), RunFault>
     ensures member { IfOk result (λ made. made.0.member ≡ record { program = program_of image.entry.now; own = pid; n = n }) }
     ensures asked { OnOk result (1 ≤ cluster.now.plan.now.gate_turns) }
     ensures fault { IfErr result (IsFaultBy pid) }
@@ -271,15 +278,15 @@ fn admit<'a, K: Naming, R: Wait, G: Gate, O: Opener<R>>(
     let Ok(kills) = kills_of(alloc, &plan.kills, pid) else {
         return Err(RunFault::Memory);
     };
-    let node = begin(rt, alloc, cluster.opener, image, pid, n)?;
+    let node = begin(rt, alloc, cluster.opener, image, pid, n, line)?;
     Ok((node, kills))
 }
 
 // What the thread of a process does that starts over a store that holds nothing.
-fn work_anew<'a, K: Naming, R: Wait + Clock, G: Gate, O: Opener<R>>(
+fn work_anew<'a, K: Naming, J: Series, R: Wait + Clock, G: Gate, O: Opener<R>>(
     cluster: &Cluster<'a, K, R, G, O>,
     image: &'a Image,
-    job: Job<'a, K>,
+    job: Job<'a, K, J, O::Store>,
 ) -> Result<Finished<K, O::Store>, RunFault>
     requires program { slice_get K.programs job.links.own ≡ Some (program_of image.now) }
     requires clean { K.OverClean → AreAlwaysClean O.Store.is_clean }
@@ -287,8 +294,13 @@ fn work_anew<'a, K: Naming, R: Wait + Clock, G: Gate, O: Opener<R>>(
         IfOk result (λ f. IsEndOf O.Store.is_clean (program_of image.entry.now) l.lines l.own l.n f) }
     ensures own { IsOwnEnd cluster.now.plan.now job.entry.links.own result }
 {
-    let Job { links, pass, .. } = job;
-    let (node, kills) = admit(cluster, image, links.own(), links.n())?;
+    let Job {
+        links,
+        pass,
+        line,
+        ..
+    } = job;
+    let (node, kills) = admit(cluster, image, links.own(), links.n(), line)?;
     let Cluster {
         rt,
         alloc,
@@ -306,10 +318,10 @@ fn work_anew<'a, K: Naming, R: Wait + Clock, G: Gate, O: Opener<R>>(
 }
 
 // What the thread of a process does that is taken up from what an earlier run left of it.
-fn work_on<'a, K: Naming, R: Wait + Clock, G: Gate, O: Opener<R>>(
+fn work_on<'a, K: Naming, J: Series, R: Wait + Clock, G: Gate, O: Opener<R>>(
     cluster: &Cluster<'a, K, R, G, O>,
     image: &'a Image,
-    job: Job<'a, K>,
+    job: Job<'a, K, J, O::Store>,
 ) -> Result<Finished<K, O::Store>, RunFault>
     requires unsure { AreNeverClean O.Store.is_clean }
     requires program { slice_get K.programs job.links.own ≡ Some (program_of image.now) }
@@ -318,7 +330,12 @@ fn work_on<'a, K: Naming, R: Wait + Clock, G: Gate, O: Opener<R>>(
         IfOk result (λ f. IsEndOf O.Store.is_clean (program_of image.entry.now) l.lines l.own l.n f) }
     ensures own { IsOwnEnd cluster.now.plan.now job.entry.links.own result }
 {
-    let Job { links, pass, .. } = job;
+    let Job {
+        links,
+        pass,
+        line,
+        ..
+    } = job;
     let (pid, n) = (links.own(), links.n());
     let Cluster {
         rt,
@@ -341,7 +358,7 @@ fn work_on<'a, K: Naming, R: Wait + Clock, G: Gate, O: Opener<R>>(
         alloc,
         cluster.observers,
     );
-    let (down_node, left) = take_up(cluster, &mut worker, image)?;
+    let (down_node, left) = take_up(cluster, &mut worker, image, line)?;
     take_turns(
         rt,
         alloc,
@@ -354,10 +371,10 @@ fn work_on<'a, K: Naming, R: Wait + Clock, G: Gate, O: Opener<R>>(
 }
 
 // What the thread of a process does.
-fn work<'a, K: Naming, R: Wait + Clock, G: Gate, O: Opener<R>>(
+fn work<'a, K: Naming, J: Series, R: Wait + Clock, G: Gate, O: Opener<R>>(
     cluster: &Cluster<'a, K, R, G, O>,
     image: &'a Image,
-    job: Job<'a, K>,
+    job: Job<'a, K, J, O::Store>,
 ) -> Result<Finished<K, O::Store>, RunFault>
     requires program { slice_get K.programs job.links.own ≡ Some (program_of image.now) }
     requires clean { K.OverClean → AreAlwaysClean O.Store.is_clean }
@@ -373,10 +390,10 @@ fn work<'a, K: Naming, R: Wait + Clock, G: Gate, O: Opener<R>>(
 }
 
 // The same, and where it ends with a fault, the others are stopped. Whoever follows is told of its end.
-fn work_or_stop<'a, K: Naming, R: Wait + Clock, G: Gate, O: Opener<R>>(
+fn work_or_stop<'a, K: Naming, J: Series, R: Wait + Clock, G: Gate, O: Opener<R>>(
     cluster: &Cluster<'a, K, R, G, O>,
     image: &'a Image,
-    job: Job<'a, K>,
+    job: Job<'a, K, J, O::Store>,
 ) -> Result<Finished<K, O::Store>, RunFault>
     requires program { slice_get K.programs job.links.own ≡ Some (program_of image.now) }
     requires clean { K.OverClean → AreAlwaysClean O.Store.is_clean }
@@ -415,6 +432,7 @@ fn start<
     's,
     E,
     K: Naming + Send + Sync,
+    J: Series + Send + Sync + 's,
     R: Threads + Wait + Clock + Sync,
     G: Gate + Sync,
     O: Opener<R> + Sync,
@@ -422,7 +440,7 @@ fn start<
     scope: &Scope<'s, E>,
     cluster: &'s Cluster<'s, K, R, G, O>,
     image: &'s Image,
-    job: Job<'s, K>,
+    job: Job<'s, K, J, O::Store>,
 ) -> Option<Handle<'s, K, O::Store>>
     requires program { slice_get K.programs job.links.own ≡ Some (program_of image.now) }
     requires clean { K.OverClean → AreAlwaysClean O.Store.is_clean }
@@ -449,6 +467,69 @@ fn start<
             { work_or_stop(cluster, image, job) },
         )
         .ok()
+}
+
+// Where stores are slow, a thread of the scope that writes the store of a process, and the way to it; None where it could not be made.
+fn started_line<
+    's,
+    E,
+    K: Naming + Send + Sync,
+    J: Series + Send + Sync + 's,
+    R: Threads + Wait + Clock + Sync,
+    G: Gate + Sync,
+    O: Opener<R> + Sync,
+>(
+    scope: &Scope<'s, E>,
+    cluster: &'s Cluster<'s, K, R, G, O>,
+    own: Pid,
+    opened: Opened<Went<O::Store>>,
+) -> Option<Option<Line<J, O::Store>>>
+    requires { opened.seen.book ≡ J.book }
+{
+    if !cluster.opener.is_slow() {
+        return Some(None);
+    }
+    let (rt, alloc) = (cluster.rt, cluster.alloc);
+    let bell = cluster.bells.get(own.index())?;
+    let Ok((line, far)) = line_of::<J, O::Store>(alloc, opened) else {
+        return None;
+    };
+    let writer = scope.spawn(move || write_all(rt, alloc, far, bell));
+    match writer {
+        Ok(_) => Some(Some(line)),
+        Err(_) => None,
+    }
+}
+
+// One process, and the thread that writes its store where that is slow. The book of its flights has a name of its own.
+fn start_apart<
+    's,
+    E,
+    K: Naming + Send + Sync,
+    J: Series + Send + Sync + 's,
+    R: Threads + Wait + Clock + Sync,
+    G: Gate + Sync,
+    O: Opener<R> + Sync,
+>(
+    scope: &Scope<'s, E>,
+    cluster: &'s Cluster<'s, K, R, G, O>,
+    image: &'s Image,
+    links: Links<'s>,
+    pass: Pass<K>,
+    opened: Opened<Went<O::Store>>,
+) -> Option<Handle<'s, K, O::Store>>
+    requires sized { links.n ≡ K.cell.n }
+    requires program { slice_get K.programs links.own ≡ Some (program_of image.now) }
+    requires clean { K.OverClean → AreAlwaysClean O.Store.is_clean }
+    requires book { opened.seen.book ≡ J.book }
+    ensures plan { IfSome result (λ h. h.promise.plan.now ≡ cluster.entry.now.plan.now) }
+    ensures image { IfSome result (λ h. h.promise.image.now ≡ image.entry.now) }
+    ensures inboxes { IfSome result (λ h. h.promise.inboxes.now ≡ links.entry.lines) }
+    ensures own { IfSome result (λ h. h.promise.own ≡ links.entry.own) }
+    ensures n { IfSome result (λ h. h.promise.n ≡ K.cell.n) }
+{
+    let line = started_line::<E, K, J, R, G, O>(scope, cluster, links.own(), opened)?;
+    start(scope, cluster, image, Job { links, pass, line })
 }
 
 // All processes, each on a thread of its own; None where a thread could not be made, and then all are stopped.
@@ -494,9 +575,11 @@ fn start_all<
             cluster.bells,
             cluster.received,
         );
-        let job = Job { links, pass };
         let image = &cluster.plan.images[own];
-        let Some(handle) = start(scope, cluster, image, job) else {
+        let opened = Opened::new();
+        let Some(handle) = start_apart::<E, K, Brand, R, G, O>(
+            scope, cluster, image, links, pass, opened,
+        ) else {
             stop_all(cluster);
             return None;
         };

@@ -13,17 +13,19 @@
 //! - `taking_up`: how a process is taken up from what an earlier run left
 //! - `worker`: what a thread does, turn by turn; `barrier` (where it waits until all are up), `idle` and `patience` (how it yields
 //!   and sleeps), `worker_fault` (why it stops)
-//! - what a worker has: `node` (a process over its store), `links` (its ends of inboxes), `received` (what a resend may leave
+//! - what a worker has: `node` (a process over its store), `cargo` and `flying` (how what it stores gets there while it goes on), `links` (its ends of inboxes), `received` (what a resend may leave
 //!   out), `manager_link` and `desk` (the manager), `keeping` (what its store is given for a run that takes it up)
 //! - `ground`: what all threads have in common
 //! - `followed`, with `follower`, `following` and `lane`: outputs that are told as they are released
 #![tactic(auto)]
 
 mod barrier;
+mod cargo;
 mod cluster;
 mod config;
 mod desk;
 mod fault;
+mod flying;
 mod followed;
 mod follower;
 mod following;

@@ -16,6 +16,7 @@ use om_member::{Office, hand_all, tell_all};
 use om_observers::Diary;
 use om_process::{Made, PendingRow, ProcCore};
 use om_stable::Stable;
+use om_tickets::Series;
 use std::alloc::Global;
 use std::sync::atomic::Ordering::SeqCst;
 use std::sync::{MutexGuard, Wait};
@@ -133,11 +134,11 @@ impl<'a, K: Naming> ManagerLink<'a, K> {
     }
 
     // Hands over all that the process has: its pending rows, and the outputs that the manager has not.
-    fn hand_over<S: Stable, R: Wait>(
+    fn hand_over<J: Series, S: Stable, R: Wait>(
         &mut self,
         alloc: Global,
         desk: &mut Desk<'_, K, R>,
-        node: &mut Node<'_, S>,
+        node: &mut Node<'_, J, S>,
     ) -> Result<(), WorkerFault>
         requires own { node.old.member.own ≡ self.old.pid }
         requires program { slice_get K.programs node.old.member.own ≡ Some node.old.member.program }
@@ -193,11 +194,11 @@ impl<'a, K: Naming> ManagerLink<'a, K> {
 
     // Hands over all that the process has, and says how the manager stands. One that has ended reports itself quiet. Where a
     // checkpoint was among the rows, the manager is pruned, and says what need not be kept any longer.
-    pub(crate) fn meet<S: Stable, R: Wait>(
+    pub(crate) fn meet<J: Series, S: Stable, R: Wait>(
         &mut self,
         rt: &R,
         alloc: Global,
-        node: &mut Node<'_, S>,
+        node: &mut Node<'_, J, S>,
         ended: bool,
         is_patient: bool,
         diary: &mut Diary<'_>,
@@ -231,11 +232,11 @@ impl<'a, K: Naming> ManagerLink<'a, K> {
     }
 
     // Hands over all that the process has, and joins the open gathering. Says whether that finished the round.
-    pub(crate) fn join<S: Stable, R: Wait>(
+    pub(crate) fn join<J: Series, S: Stable, R: Wait>(
         &mut self,
         rt: &R,
         alloc: Global,
-        node: &mut Node<'_, S>,
+        node: &mut Node<'_, J, S>,
         diary: &mut Diary<'_>,
         pass: Pass<K>,
     ) -> Result<(bool, Pass<K>), WorkerFault>

@@ -1,12 +1,13 @@
 //! A process over its store.
 
-ghost use Rattle.std.specs.Prelude.{◌≡◌, ◌↔◌, ◌<◌, ◌+◌, ◌≤◌, IfErr, IfOk, IfSome, IsErrOf, IsTrue, OnErr, OnOk, drop, length};
+ghost use Rattle.std.specs.Prelude.{◌≡◌, ◌↔◌, ◌<◌, ◌+◌, ◌≤◌, IfErr, IfOk, IfSome, IsErrOf, IsOk, IsTrue, OnErr, OnOk, drop, length};
 ghost use Rattle.om_manager.specs.State.{held_by, process_count};
 ghost use Rattle.om_member.specs.Handed.{AreHandedUpTo, outputs_from};
 ghost use Rattle.om_member.specs.Keeps.{Keeps};
 ghost use Rattle.om_member.specs.Told.{IsToldUpTo};
 ghost use Rattle.om_format.specs.Queues.{queue_end};
 ghost use Rattle.om_process.specs.Core.{IsEnd, cluster_size, move_of, status_of, with_pending};
+ghost use Rattle.om_process.specs.Flights.{Carries, landed};
 ghost use Rattle.om_process.specs.Frames.{outputs_of};
 ghost use Rattle.om_process.specs.Images.{program_of};
 ghost use Rattle.om_process.specs.Stores.{flushed};
@@ -17,7 +18,9 @@ ghost use Rattle.om_runner.specs.steps.Storing.{HasStored, with_flight};
 ghost use Rattle.om_stable.specs.Calls.{IsCleanCall, UsesStore};
 ghost use Rattle.om_stable.specs.declared.stable.TheConstants.{INTERVALS};
 
-use crate::keeping::Deposit;
+use crate::cargo::{Cargo, Went};
+use crate::flying::{Errand, Landing, Line};
+use crate::keeping::{Deposit, Due};
 use crate::worker_fault::WorkerFault;
 use om_format::Message;
 use om_interval::{Bounds, Pid, Starts, Verdict};
@@ -25,25 +28,39 @@ use om_manager::{OutputError, RecordError};
 use om_member::Office;
 use om_process::{Accept, Down, Flight, Image, ProcCore, Ran, StartFault, Status};
 use om_stable::{Ledger, NewCheckpoint, Stable, StoreError, WriteBatch};
+use om_tickets::{Series, Ticket};
 use std::alloc::{AllocError, Global};
 use std::marker::Model;
+use std::mem::replace;
+use std::sync::Wait;
 
 // A process that is up, and its store. Where the store is clean, the process stands along its image, and so does each
 // checkpoint that the store holds.
 #[derive(Drop)]
-pub(crate) struct Node<'a, S: Stable> {
+pub(crate) struct Node<'a, J: Series, S: Stable> {
     image: &'a Image,
     pid: Pid,
     // The number of processes.
     n: usize,
     // In boxes, which a worker moves from call to call.
     core: Box<ProcCore>,
-    store: Box<S>,
+    hold: Hold<J, S>,
+    // Where the store is slow, the way to the thread that writes it.
+    line: Option<Line<J, S>>,
 }
 
-impl<'a, S: Stable> Model for Node<'a, S> {
+// Where the store of a process is.
+#[derive(Drop)]
+pub(crate) enum Hold<J: Series, S: Stable> {
+    Here(Box<S>),
+    // With the flight that is under way, and has a ticket like this.
+    Away(Ticket<J, Went<S>>),
+}
+
+impl<'a, J: Series, S: Stable> Model for Node<'a, J, S> {
     ghost use Rattle.om_process.specs.Images.{program_of};
-    ghost use Rattle.om_runner.specs.steps.Nodes.{IsNode, NodeState};
+    ghost use Rattle.om_runner.specs.steps.Nodes.{NodeState};
+    ghost use Rattle.om_runner.specs.steps.Holding.{IsHeld};
 
     ghost Value = { NodeState };
 
@@ -52,20 +69,21 @@ impl<'a, S: Stable> Model for Node<'a, S> {
       core = d.core.value;
     } };
 
-    ghost invariant = { λ d. IsNode S.content S.is_clean S.IsSound
-        (record { member = record { program = program_of d.image.now; own = d.pid; n = d.n }; core = d.core.value }) d.store.value };
+    ghost invariant = { λ d. IsHeld S.content S.is_clean S.IsSound
+        (record { member = record { program = program_of d.image.now; own = d.pid; n = d.n }; core = d.core.value }) d.hold };
 }
 
 // A process that is down, and its store.
 #[derive(Drop)]
-pub(crate) struct DownNode<'a, S: Stable> {
+pub(crate) struct DownNode<'a, J: Series, S: Stable> {
     image: &'a Image,
     pid: Pid,
     n: usize,
     store: Box<S>,
+    line: Option<Line<J, S>>,
 }
 
-impl<'a, S: Stable> Model for DownNode<'a, S> {
+impl<'a, J: Series, S: Stable> Model for DownNode<'a, J, S> {
     ghost use Rattle.om_process.specs.Images.{program_of};
     ghost use Rattle.om_runner.specs.steps.Nodes.{IsKept, Member};
 
@@ -97,7 +115,7 @@ pub(crate) fn has_ended(status: Status) -> bool
     }
 }
 
-impl<'a, S: Stable> Node<'a, S> {
+impl<'a, J: Series, S: Stable> Node<'a, J, S> {
     // Starts the process over a store that holds nothing.
     pub(crate) fn start(
         alloc: Global,
@@ -105,7 +123,8 @@ impl<'a, S: Stable> Node<'a, S> {
         pid: Pid,
         n: usize,
         store: S,
-    ) -> Result<Node<'a, S>, StartFault>
+        line: Option<Line<J, S>>,
+    ) -> Result<Node<'a, J, S>, StartFault>
         requires sound { IsTrue (S.is_clean store) → S.IsSound store }
         requires empty { IsTrue (S.is_clean store) → S.content store ≡ nothing }
         ensures { IfOk result (λ node. node.member ≡ record { program = program_of image.entry.now; own = pid; n = n }) }
@@ -126,7 +145,8 @@ impl<'a, S: Stable> Node<'a, S> {
             pid,
             n,
             core,
-            store,
+            hold: Hold::Here(store),
+            line,
         })
     }
 
@@ -153,13 +173,16 @@ impl<'a, S: Stable> Node<'a, S> {
         self.core.accept(alloc, message)
     }
 
-    // Stores the volatile log.
+    // Stores the volatile log. Refused while a flight is under way.
     #[inline(never)]
     pub(crate) fn flush(&mut self, alloc: Global) -> Result<(), WorkerFault>
         ensures member { self.new.member ≡ self.old.member }
         ensures stored { OnOk result (self.new.core ≡ flushed self.old.core) }
     {
-        Ok(self.core.flush(alloc, &mut *self.store)?)
+        let Hold::Here(store) = &mut self.hold else {
+            return Err(WorkerFault::Refused);
+        };
+        Ok(self.core.flush(alloc, &mut **store)?)
     }
 
     // Offers the pending rows to the manager, up to the first that is refused, and says how many were not: those are pending no
@@ -215,30 +238,35 @@ impl<'a, S: Stable> Node<'a, S> {
         Ok(self.core.resume(alloc, starts, verdict)?)
     }
 
-    // The process fails.
+    // The process fails. Refused while a flight is under way.
     #[inline(never)]
-    pub(crate) fn fail(self) -> DownNode<'a, S>
-        ensures { result ≡ self.entry.member }
+    pub(crate) fn fail(self) -> Result<DownNode<'a, J, S>, WorkerFault>
+        ensures { IfOk result (λ down. down ≡ self.entry.member) }
     {
         let Node {
             image,
             pid,
             n,
             core,
-            store,
+            hold,
+            line,
         } = self;
         Box::into_inner(core).fail();
-        DownNode {
+        let Hold::Here(store) = hold else {
+            return Err(WorkerFault::Refused);
+        };
+        Ok(DownNode {
             image,
             pid,
             n,
             store,
-        }
+            line,
+        })
     }
 
-    // How the process ended, and its store; or itself, where it has not ended.
+    // How the process ended, and its store; or itself, where it has not ended, or a flight is under way.
     #[inline(never)]
-    pub(crate) fn end(self) -> Result<(Status, S), Node<'a, S>>
+    pub(crate) fn end(self) -> Result<(Status, S), Node<'a, J, S>>
         ensures end { IfOk result (λ e. IsEnd e.0) }
         ensures whole { let m = self.entry.member in IfOk result (λ e. IsTrue (S.is_clean e.1)
             → IsWholeRun m.program m.own m.n e.0 (queue_end (outputs_of self.entry.core))) }
@@ -248,12 +276,29 @@ impl<'a, S: Stable> Node<'a, S> {
         if !has_ended(status) {
             return Err(self);
         }
-        let Node { store, .. } = self;
-        Ok((status, Box::into_inner(store)))
+        let Node {
+            image,
+            pid,
+            n,
+            core,
+            hold,
+            line,
+        } = self;
+        match hold {
+            Hold::Here(store) => Ok((status, Box::into_inner(store))),
+            Hold::Away(stub) => Err(Node {
+                image,
+                pid,
+                n,
+                core,
+                hold: Hold::Away(stub),
+                line,
+            }),
+        }
     }
 }
 
-impl<'a, S: Ledger> Node<'a, S> {
+impl<'a, J: Series, S: Ledger> Node<'a, J, S> {
     // Stores, in one transaction, the first k receipts of the log, all where it is shorter, a checkpoint of now where one is due, and
     // what the store is given beside; and drops there what stands before a checkpoint.
     #[inline(never)]
@@ -272,15 +317,127 @@ impl<'a, S: Ledger> Node<'a, S> {
         // The interval tells that those of the receipts are numbers of intervals.
         let _ = self.core.interval();
         let flight = self.core.hand_over(alloc, k, is_checkpoint_due)?;
-        write(&mut *self.store, alloc, &flight, deposit, prune_to)?;
+        let Hold::Here(store) = &mut self.hold else {
+            return Err(WorkerFault::Refused);
+        };
+        write(&mut **store, alloc, &flight, deposit, prune_to)?;
         self.core.land(&flight)?;
         Ok(())
+    }
+
+    // What goes with a flight: the first k receipts of the log, all where it is shorter, a checkpoint of now where one is due, and what
+    // is due in the store beside.
+    fn pack(
+        &mut self,
+        alloc: Global,
+        k: usize,
+        is_checkpoint_due: bool,
+        due: Option<Due>,
+    ) -> Result<Cargo, WorkerFault>
+        ensures member { self.new.member ≡ self.old.member }
+        ensures core { self.new.core ≡ self.old.core }
+        ensures carries { IfOk result (λ cargo. Carries k is_checkpoint_due self.old.core cargo.flight) }
+        ensures due { IfOk result (λ cargo. cargo.due ≡ due) }
+    {
+        // The interval tells that those of the receipts are numbers of intervals.
+        let _ = self.core.interval();
+        let flight = self.core.hand_over(alloc, k, is_checkpoint_due)?;
+        let cargo = Cargo { flight, due };
+        Ok(cargo)
+    }
+
+    // Begins a flight: has the first k receipts of the log, all where it is shorter, a checkpoint of now where one is due, and what is
+    // due in the store beside stored in one transaction, while the process goes on. Says what came back at once.
+    #[inline(never)]
+    pub(crate) fn launch<R: Wait>(
+        &mut self,
+        rt: &R,
+        alloc: Global,
+        k: usize,
+        is_checkpoint_due: bool,
+        due: Option<Due>,
+    ) -> Result<Option<Landing<J, S>>, WorkerFault>
+        ensures member { self.new.member ≡ self.old.member }
+        ensures core { self.new.core ≡ self.old.core }
+    {
+        let cargo = self.pack(alloc, k, is_checkpoint_due, due)?;
+        let Some(line) = &mut self.line else {
+            return Err(WorkerFault::Refused);
+        };
+        let Hold::Here(store) = &self.hold else {
+            return Err(WorkerFault::Refused);
+        };
+        let Some((ticket, stub)) = line.issue(store, &cargo) else {
+            return Err(WorkerFault::Refused);
+        };
+        let Hold::Here(store) = replace(&mut self.hold, Hold::Away(stub)) else {
+            return Err(WorkerFault::Refused);
+        };
+        let errand = Errand {
+            store,
+            cargo,
+            ticket,
+        };
+        Ok(line.send(rt, alloc, errand))
+    }
+}
+
+impl<'a, J: Series, S: Stable> Node<'a, J, S> {
+    // Whether its store is slow, so that a flight takes to it what is to be stored.
+    pub(crate) fn is_slow(&self) -> bool {
+        self.line.is_some()
+    }
+
+    // Whether a flight is under way.
+    pub(crate) fn is_away(&self) -> bool {
+        match self.hold {
+            Hold::Here(_) => false,
+            Hold::Away(_) => true,
+        }
+    }
+
+    // What came back of the flight that is under way, if it has landed.
+    pub(crate) fn look<R: Wait>(&self, rt: &R) -> Option<Landing<J, S>> {
+        self.line.as_ref()?.look(rt)
+    }
+
+    // The same, once it has landed.
+    pub(crate) fn wait<R: Wait>(&self, rt: &R) -> Option<Landing<J, S>> {
+        self.line.as_ref()?.wait(rt)
+    }
+
+    // Takes the store back, and where it took what it was given, the process notes that it is stored. Where it refused, all that is
+    // still in the log.
+    #[inline(never)]
+    pub(crate) fn land(&mut self, landing: Landing<J, S>) -> Result<Cargo, WorkerFault>
+        ensures member { self.new.member ≡ self.old.member }
+        ensures took { OnOk result (IsOk landing.told) }
+        ensures cargo { IfOk result (λ cargo. cargo ≡ landing.cargo) }
+        ensures landed { IfOk result (λ cargo. self.new.core ≡ landed cargo.flight self.old.core) }
+        ensures refused { OnErr result (self.new.core ≡ self.old.core) }
+    {
+        let Landing {
+            store,
+            cargo,
+            told,
+            ticket,
+        } = landing;
+        let Hold::Away(stub) = &self.hold else {
+            return Err(WorkerFault::Refused);
+        };
+        if !ticket.is_of(stub) {
+            return Err(WorkerFault::Refused);
+        }
+        self.hold = Hold::Here(store);
+        told?;
+        self.core.land(&cargo.flight)?;
+        Ok(cargo)
     }
 }
 
 // Writes into a store, in one transaction, what a process handed over and what the store is given beside; and drops there what
 // stands before a checkpoint.
-fn write<S: Ledger>(
+pub(crate) fn write<S: Ledger>(
     store: &mut S,
     alloc: Global,
     flight: &Flight,
@@ -312,7 +469,7 @@ fn write<S: Ledger>(
     store.put_batch(alloc, &batch)
 }
 
-impl<'a, S: Stable> DownNode<'a, S> {
+impl<'a, J: Series, S: Stable> DownNode<'a, J, S> {
     // A process that is down over a store of which nothing is known.
     pub(crate) fn over(
         alloc: Global,
@@ -320,7 +477,8 @@ impl<'a, S: Stable> DownNode<'a, S> {
         pid: Pid,
         n: usize,
         store: S,
-    ) -> Result<DownNode<'a, S>, AllocError>
+        line: Option<Line<J, S>>,
+    ) -> Result<DownNode<'a, J, S>, AllocError>
         requires { AreNeverClean S.is_clean }
         ensures { IfOk result (λ node. node ≡ record { program = program_of image.entry.now; own = pid; n = n }) }
     {
@@ -330,6 +488,7 @@ impl<'a, S: Stable> DownNode<'a, S> {
             pid,
             n,
             store,
+            line,
         })
     }
 
@@ -340,7 +499,7 @@ impl<'a, S: Stable> DownNode<'a, S> {
         alloc: Global,
         starts: &Starts,
         verdict: &Verdict,
-    ) -> Result<Node<'a, S>, WorkerFault>
+    ) -> Result<Node<'a, J, S>, WorkerFault>
         requires { length starts.now ≡ self.n }
         ensures member { IfOk result (λ node. node.member ≡ self.entry) }
         ensures round { IfOk result (λ node. node.core.round ≡ verdict.now.round) }
@@ -350,6 +509,7 @@ impl<'a, S: Stable> DownNode<'a, S> {
             pid,
             n,
             mut store,
+            line,
         } = self;
         match (Down { pid, n }).roll_back(alloc, &mut *store, starts, verdict) {
             Ok(core) => {
@@ -359,7 +519,8 @@ impl<'a, S: Stable> DownNode<'a, S> {
                     pid,
                     n,
                     core,
-                    store,
+                    hold: Hold::Here(store),
+                    line,
                 })
             }
             Err((_, fault)) => Err(WorkerFault::from(fault)),

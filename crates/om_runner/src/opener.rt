@@ -44,6 +44,12 @@ pub trait Opener<R> {
         false
     }
 
+    /// Whether its stores take long to store something, as on a disk. Then each process has a thread beside its own that writes its
+    /// store, and goes on meanwhile.
+    fn is_slow(&self) -> bool {
+        false
+    }
+
     /// Who sees what the processes do while they run, if anybody does.
     fn watch(&self) -> Option<&Watch> {
         None

@@ -12,6 +12,7 @@ ghost use Rattle.om_runner.specs.steps.Nodes.{AreAlwaysClean};
 ghost use Rattle.om_runner.specs.steps.Refusals.{refusal_of_found, refusal_of_opening};
 
 use crate::fault::RunFault;
+use crate::flying::Line;
 use crate::ground::Cluster;
 use crate::node::DownNode;
 use crate::opener::{OpenFault, Opener};
@@ -23,6 +24,7 @@ use om_look::about_of;
 use om_process::{Image, ProcCore};
 use om_restart::{FindFault, Found, find};
 use om_stable::{Ledger, LedgerTable, StoreError};
+use om_tickets::Series;
 use std::alloc::{AllocError, Global};
 use std::sync::Wait;
 use std::sync::atomic::AtomicU64;
@@ -235,11 +237,12 @@ fn make_missing<S: Ledger>(
 
 // A process that is down over what an earlier run left of it, or over a start, and how many turns are left. The manager was told
 // of what its store holds; that it failed is still to be told.
-pub(crate) fn take_up<'a, K: Naming, R: Wait + Clock, G, O: Opener<R>>(
+pub(crate) fn take_up<'a, K: Naming, J: Series, R: Wait + Clock, G, O: Opener<R>>(
     cluster: &Cluster<'a, K, R, G, O>,
     worker: &mut Worker<'a, K>,
     image: &'a Image,
-) -> Result<(DownNode<'a, O::Store>, u64), RunFault>
+    line: Option<Line<J, O::Store>>,
+) -> Result<(DownNode<'a, J, O::Store>, u64), RunFault>
     requires few { K.cell.n ≤ MAX_PROCESSES }
     requires unsure { AreNeverClean O.Store.is_clean }
     requires clean { K.OverClean → AreAlwaysClean O.Store.is_clean }
@@ -263,7 +266,7 @@ pub(crate) fn take_up<'a, K: Naming, R: Wait + Clock, G, O: Opener<R>>(
     if let Err(fault) = worker.take_up(cluster.rt, alloc, found) {
         return Err(fault.of(pid));
     }
-    match DownNode::over(alloc, image, pid, n, store) {
+    match DownNode::over(alloc, image, pid, n, store, line) {
         Ok(down_node) => Ok((down_node, left)),
         Err(_) => Err(RunFault::Memory),
     }

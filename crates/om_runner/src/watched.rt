@@ -23,6 +23,10 @@ impl<'a, R, O: Opener<R>> Opener<R> for Watched<'a, O> {
         self.opener.resumes()
     }
 
+    fn is_slow(&self) -> bool {
+        self.opener.is_slow()
+    }
+
     fn watch(&self) -> Option<&Watch> {
         self.watch
     }

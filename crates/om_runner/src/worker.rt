@@ -12,6 +12,8 @@ ghost use Rattle.om_runner.specs.steps.Storing.{HasStored};
 ghost use Rattle.om_runner.specs.steps.Turning.{HasNothingToSay, HasReported, HasRested, IsTurnOf, pause_turns, place_after};
 ghost use Rattle.om_runner.specs.steps.Wiring.{HasEnds};
 
+mod storing;
+
 use crate::barrier::Barrier;
 use crate::config::Config;
 use crate::harvest::Harvest;
@@ -27,9 +29,10 @@ use om_board::{Front, Look, Naming, Pass, Shared};
 use om_format::Message;
 use om_interval::{Pid, Verdict};
 use om_observers::{Diary, Doing, Observers, Past, Sight, Watch};
-use om_process::{Accept, ProcCore, Status, Witness};
+use om_process::{Accept, PendingRow, ProcCore, Status, Witness};
 use om_restart::Found;
 use om_stable::{Ledger, Stable};
+use om_tickets::Series;
 use std::alloc::Global;
 use std::sync::Wait;
 use std::time::Clock;
@@ -39,22 +42,22 @@ const ALL_TURNS: u64 = u64::MAX;
 
 // Where the process of a worker stands.
 #[derive(Drop)]
-pub(crate) enum Place<'a, S: Stable> {
+pub(crate) enum Place<'a, J: Series, S: Stable> {
     // It runs.
-    Up(Node<'a, S>),
+    Up(Node<'a, J, S>),
     // A gathering is open, which it is to join.
-    Called(Node<'a, S>),
+    Called(Node<'a, J, S>),
     // It joined, and waits for the round to be finished.
-    In(Node<'a, S>),
+    In(Node<'a, J, S>),
     // It failed, which the manager is still to be told.
-    Failed(DownNode<'a, S>),
+    Failed(DownNode<'a, J, S>),
     // It failed, and waits for the round to be finished.
-    Down(DownNode<'a, S>),
+    Down(DownNode<'a, J, S>),
     // All processes are quiet.
-    Over(Node<'a, S>),
+    Over(Node<'a, J, S>),
 }
 
-impl<'a, S: Stable> Place<'a, S> {
+impl<'a, J: Series, S: Stable> Place<'a, J, S> {
     // What the process does there.
     fn doing(&self) -> Doing
         ensures { result ≡ doing_at self.now }
@@ -111,14 +114,17 @@ enum Step {
 impl Step {
     // Where the process stands then.
     #[inline(never)]
-    fn place_of<'a, S: Stable>(self, node: Node<'a, S>) -> Place<'a, S>
-        ensures { result ≡ place_after self node.entry }
+    fn place_of<'a, J: Series, S: Stable>(
+        self,
+        node: Node<'a, J, S>,
+    ) -> Result<Place<'a, J, S>, WorkerFault>
+        ensures { IfOk result (λ place. place ≡ place_after self node.entry) }
     {
         match self {
-            Step::Up => Place::Up(node),
-            Step::Called => Place::Called(node),
-            Step::Failed => Place::Failed(node.fail()),
-            Step::Over => Place::Over(node),
+            Step::Up => Ok(Place::Up(node)),
+            Step::Called => Ok(Place::Called(node)),
+            Step::Failed => Ok(Place::Failed(node.fail()?)),
+            Step::Over => Ok(Place::Over(node)),
         }
     }
 }
@@ -138,6 +144,10 @@ pub(crate) struct Worker<'a, K: Naming> {
     kept: Option<Kept>,
     // What the store is to be given and to drop with what is stored next.
     due: Option<Due>,
+    // How far the process has handed over what it received.
+    handed: Handed,
+    // Whether a flight is under way.
+    is_away: bool,
     diary: Diary<'a>,
     // Who sees what the process does.
     watch: Option<&'a Watch>,
@@ -149,6 +159,47 @@ pub(crate) struct Worker<'a, K: Naming> {
     extra: u64,
     ghost linked: { links.own ≡ manager_link.pid },
     ghost many: { links.n ≡ K.cell.n },
+}
+
+// How far a process whose store is slow has handed over what it received, and its checkpoints.
+#[derive(Clone, Copy, Drop)]
+struct Handed {
+    // The last interval whose receipt was handed over, or stored otherwise.
+    receipts: u32,
+    // The interval of the last checkpoint.
+    checkpoint: u32,
+}
+
+impl Handed {
+    // Of a process at its start, whose checkpoint is stored.
+    fn new() -> Handed {
+        Handed {
+            receipts: 0,
+            checkpoint: 0,
+        }
+    }
+
+    // The process was rolled back to interval r.
+    fn cut(&mut self, r: u32) {
+        self.receipts = r;
+        self.checkpoint = self.checkpoint.min(r);
+    }
+}
+
+// The interval of the last checkpoint among these rows, 0 where there is none.
+fn last_checkpoint(rows: &[PendingRow]) -> u32 {
+    let mut last = 0;
+    for row in rows {
+        if row.ckpt {
+            last = last.max(row.x);
+        }
+    }
+    last
+}
+
+// Whether k receipts or more came after interval `last` up to x; never of 0.
+fn is_reached(x: u32, last: u32, k: u32) -> bool {
+    k != 0 && x.saturating_sub(last) >= k
 }
 
 // Whether x receipts are a multiple of k; none are of 0.
@@ -184,18 +235,18 @@ fn pause_of<R: Wait + Clock>(
 
 // The process after a finished round: as it was, or rolled back.
 #[inline(never)]
-fn after_round<'a, S: Stable>(
+fn after_round<'a, J: Series, S: Stable>(
     alloc: Global,
-    node: Node<'a, S>,
+    node: Node<'a, J, S>,
     round_outcome: &RoundOutcome,
-) -> Result<Node<'a, S>, WorkerFault>
+) -> Result<Node<'a, J, S>, WorkerFault>
     requires { length round_outcome.now.starts ≡ node.member.n }
     ensures member { IfOk result (λ next. next.member ≡ node.entry.member) }
     ensures round { IfOk result (λ next. next.core.round ≡ round_outcome.now.verdict.round) }
 {
     if round_outcome.verdict.back {
         return node
-            .fail()
+            .fail()?
             .come_back(alloc, &round_outcome.starts, &round_outcome.verdict);
     }
     let mut node = node;
@@ -231,6 +282,8 @@ impl<'a, K: Naming> Worker<'a, K> {
             past: Past::new(alloc, observers.keeps_witness),
             kept: None,
             due: None,
+            handed: Handed::new(),
+            is_away: false,
             diary: Diary::new(alloc, own, observers),
             watch: observers.watch,
             idle: Idle::new(),
@@ -277,6 +330,7 @@ impl<'a, K: Naming> Worker<'a, K> {
             outputs: found.outputs.len() as u64,
             senders: found.kept,
         });
+        self.handed.checkpoint = last_checkpoint(&found.rows);
         self.past = Past::taken_up(found.senders);
         Ok(())
     }
@@ -345,13 +399,13 @@ impl<'a, K: Naming> Worker<'a, K> {
     // One turn. Nothing that moves the process is inlined, here and below: a process over a large store is moved a field at a
     // time where several moves stand in one function, which then takes the compiler minutes.
     #[inline(never)]
-    fn turn<S: Ledger, R: Wait + Clock>(
+    fn turn<J: Series, S: Ledger, R: Wait + Clock>(
         &mut self,
         rt: &R,
         alloc: Global,
-        place: Place<'a, S>,
+        place: Place<'a, J, S>,
         pass: Pass<K>,
-    ) -> Result<(Place<'a, S>, Pass<K>), WorkerFault>
+    ) -> Result<(Place<'a, J, S>, Pass<K>), WorkerFault>
         requires own { (member_of place).own ≡ self.old.links.own }
         requires program { slice_get K.programs (member_of place).own ≡ Some (member_of place).program }
         requires size { (member_of place).n ≡ K.cell.n }
@@ -373,13 +427,13 @@ impl<'a, K: Naming> Worker<'a, K> {
 
     // One turn, at whose end whoever watches sees what the process does.
     #[inline(never)]
-    pub(crate) fn shown_turn<S: Ledger, R: Wait + Clock>(
+    pub(crate) fn shown_turn<J: Series, S: Ledger, R: Wait + Clock>(
         &mut self,
         rt: &R,
         alloc: Global,
-        place: Place<'a, S>,
+        place: Place<'a, J, S>,
         pass: Pass<K>,
-    ) -> Result<(Place<'a, S>, Pass<K>), WorkerFault>
+    ) -> Result<(Place<'a, J, S>, Pass<K>), WorkerFault>
         requires own { (member_of place).own ≡ self.old.links.own }
         requires program { slice_get K.programs (member_of place).own ≡ Some (member_of place).program }
         requires size { (member_of place).n ≡ K.cell.n }
@@ -397,7 +451,7 @@ impl<'a, K: Naming> Worker<'a, K> {
 
     // Shows whoever watches what the process does where it stands.
     #[inline(never)]
-    fn show<S: Stable, R: Wait>(&self, rt: &R, turned: &mut (Place<'a, S>, Pass<K>))
+    fn show<J: Series, S: Stable, R: Wait>(&self, rt: &R, turned: &mut (Place<'a, J, S>, Pass<K>))
         ensures { turned.new.0 ≡ turned.old.0 }
     {
         let Some(watch) = self.watch else {
@@ -418,13 +472,13 @@ impl<'a, K: Naming> Worker<'a, K> {
 
     // A turn of a process that is up: it runs, where all are.
     #[inline(never)]
-    fn go_on<S: Ledger, R: Wait + Clock>(
+    fn go_on<J: Series, S: Ledger, R: Wait + Clock>(
         &mut self,
         rt: &R,
         alloc: Global,
-        node: Node<'a, S>,
+        node: Node<'a, J, S>,
         pass: Pass<K>,
-    ) -> Result<(Place<'a, S>, Pass<K>), WorkerFault>
+    ) -> Result<(Place<'a, J, S>, Pass<K>), WorkerFault>
         requires own { node.member.own ≡ self.old.links.own }
         requires program { slice_get K.programs node.member.own ≡ Some node.member.program }
         requires size { node.member.n ≡ K.cell.n }
@@ -436,8 +490,8 @@ impl<'a, K: Naming> Worker<'a, K> {
             return Ok((Place::Up(node), pass));
         }
         let mut node = node;
-        match self.advance(rt, alloc, &mut node) {
-            Ok(step) => Ok((step.place_of(node), pass)),
+        match self.step(rt, alloc, &mut node) {
+            Ok(step) => Ok((step.place_of(node)?, pass)),
             Err(worker_fault) => {
                 drop(node);
                 Err(worker_fault)
@@ -445,13 +499,39 @@ impl<'a, K: Naming> Worker<'a, K> {
         }
     }
 
-    // Runs the process, hands in what it has, and takes a message where it waits for one.
+    // A turn of a process that is up and goes on, or leaves: then its store is here.
     #[inline(never)]
-    fn advance<S: Ledger, R: Wait + Clock>(
+    fn step<J: Series, S: Ledger, R: Wait + Clock>(
         &mut self,
         rt: &R,
         alloc: Global,
-        node: &mut Node<'a, S>,
+        node: &mut Node<'a, J, S>,
+    ) -> Result<Step, WorkerFault>
+        requires own { node.old.member.own ≡ self.old.links.own }
+        requires program { slice_get K.programs node.old.member.own ≡ Some node.old.member.program }
+        requires size { node.old.member.n ≡ K.cell.n }
+        requires clean { K.OverClean → AreAlwaysClean S.is_clean }
+        ensures same { self.new.links ≡ self.old.links }
+        ensures member { node.new.member ≡ node.old.member }
+    {
+        self.look(rt, node)?;
+        let step = self.advance(rt, alloc, node)?;
+        match step {
+            Step::Up => Ok(step),
+            Step::Called | Step::Failed | Step::Over => {
+                self.recall(rt, node)?;
+                Ok(step)
+            }
+        }
+    }
+
+    // Runs the process, hands in what it has, and takes a message where it waits for one.
+    #[inline(never)]
+    fn advance<J: Series, S: Ledger, R: Wait + Clock>(
+        &mut self,
+        rt: &R,
+        alloc: Global,
+        node: &mut Node<'a, J, S>,
     ) -> Result<Step, WorkerFault>
         requires own { node.old.member.own ≡ self.old.links.own }
         requires program { slice_get K.programs node.old.member.own ≡ Some node.old.member.program }
@@ -464,7 +544,12 @@ impl<'a, K: Naming> Worker<'a, K> {
         let called = self.manager_link.is_called();
         let standing = self.report(rt, alloc, node, status, called)?;
         match standing {
-            Standing::Closed => self.receive(rt, alloc, node, status),
+            Standing::Closed => {
+                if !has_ended(status) {
+                    self.launch(rt, alloc, node)?;
+                }
+                self.receive(rt, alloc, node, status)
+            }
             Standing::Gathers => Ok(Step::Called),
             Standing::Quiet => {
                 self.links.wake_all();
@@ -474,11 +559,11 @@ impl<'a, K: Naming> Worker<'a, K> {
     }
 
     // Runs the process, and puts what it sends. One that has ended stores all that it received.
-    fn run<S: Stable, R: Wait>(
+    fn run<J: Series, S: Stable, R: Wait>(
         &mut self,
         rt: &R,
         alloc: Global,
-        node: &mut Node<'a, S>,
+        node: &mut Node<'a, J, S>,
     ) -> Result<Status, WorkerFault>
         requires own { node.old.member.own ≡ self.old.links.own }
         requires size { node.old.member.n ≡ K.cell.n }
@@ -498,17 +583,20 @@ impl<'a, K: Naming> Worker<'a, K> {
             self.links.put_all(rt, alloc, node.core())?;
         }
         if has_ended(ran.status) {
+            self.recall(rt, node)?;
             node.flush(alloc)?;
+            self.diary.stored_all();
+            self.handed.receipts = node.core().interval();
         }
         Ok(ran.status)
     }
 
     // Hands in what the process has, where there is something to hand in or to learn, and says how the manager stands.
-    fn report<S: Ledger, R: Wait>(
+    fn report<J: Series, S: Ledger, R: Wait>(
         &mut self,
         rt: &R,
         alloc: Global,
-        node: &mut Node<'a, S>,
+        node: &mut Node<'a, J, S>,
         status: Status,
         called: bool,
     ) -> Result<Standing, WorkerFault>
@@ -536,101 +624,13 @@ impl<'a, K: Naming> Worker<'a, K> {
         Ok(standing)
     }
 
-    // Heeds the limits that were read, where there are some; of a process that has ended nothing stays due.
-    fn heed<S: Ledger>(
-        &mut self,
-        alloc: Global,
-        node: &mut Node<'a, S>,
-        limits: Option<Limits>,
-        ended: bool,
-    ) -> Result<(), WorkerFault>
-        requires { IfSome limits (λ l. length l.bounds.got ≡ node.old.member.n) }
-        ensures same { self.new.links ≡ self.old.links }
-        ensures member { node.new.member ≡ node.old.member }
-    {
-        if let Some(limits) = limits {
-            self.owe(alloc, node, &limits)?;
-        }
-        if ended {
-            self.settle(alloc, node)?;
-        }
-        Ok(())
-    }
-
-    // Trims the process by its limits. What its store need not keep any longer goes with what is stored next.
-    fn owe<S: Ledger>(
-        &mut self,
-        alloc: Global,
-        node: &mut Node<'a, S>,
-        limits: &Limits,
-    ) -> Result<(), WorkerFault>
-        requires { length limits.now.bounds.got ≡ node.old.member.n }
-        ensures same { self.new.links ≡ self.old.links }
-        ensures member { node.new.member ≡ node.old.member }
-        ensures due { OnOk result (IfSome self.new.due (λ due. due.checkpoint ≡ limits.now.checkpoint)) }
-        ensures owed { OnOk result (IsSome self.new.due) }
-    {
-        self.settle(alloc, node)?;
-        let deposit = match &self.kept {
-            Some(kept) => kept.deposit(alloc, node.core(), limits, self.past.senders())?,
-            None => Deposit::none(alloc),
-        };
-        node.trim(&limits.bounds);
-        self.due = Some(Due {
-            checkpoint: limits.checkpoint,
-            deposit,
-        });
-        Ok(())
-    }
-
-    // Does in the store what is due there.
-    fn settle<S: Ledger>(
-        &mut self,
-        alloc: Global,
-        node: &mut Node<'a, S>,
-    ) -> Result<(), WorkerFault>
-        ensures same { self.new.links ≡ self.old.links }
-        ensures member { node.new.member ≡ node.old.member }
-        ensures settled { OnOk result (self.new.due ≡ None) }
-    {
-        if self.due.is_some() {
-            self.store(alloc, node, 0, false)?;
-        }
-        Ok(())
-    }
-
-    // Stores the first k receipts of the log, a checkpoint where one is due, and whatever else is due, in one transaction.
-    fn store<S: Ledger>(
-        &mut self,
-        alloc: Global,
-        node: &mut Node<'a, S>,
-        k: usize,
-        is_checkpoint_due: bool,
-    ) -> Result<(), WorkerFault>
-        ensures same { self.new.links ≡ self.old.links }
-        ensures member { node.new.member ≡ node.old.member }
-        ensures stored { OnOk result (HasStored k is_checkpoint_due node.old.core node.new.core) }
-        ensures refused { OnErr result (node.new.core ≡ node.old.core) }
-        ensures settled { OnOk result (self.new.due ≡ None) }
-    {
-        let Some(due) = self.due.take() else {
-            return node.store(alloc, k, is_checkpoint_due, &Deposit::none(alloc), None);
-        };
-        let prune_to = Some(due.checkpoint);
-        node.store(alloc, k, is_checkpoint_due, &due.deposit, prune_to)?;
-        if let Some(kept) = &mut self.kept {
-            kept.add(&due.deposit);
-        }
-        Ok(())
-    }
-
     // Takes a message, where the process waits for one. What comes to one that has ended is dropped: a round that rolls it back
     // has all sent once more.
-    fn receive<S: Ledger, R: Wait + Clock>(
+    fn receive<J: Series, S: Ledger, R: Wait + Clock>(
         &mut self,
         rt: &R,
         alloc: Global,
-        node: &mut Node<'a, S>,
+        node: &mut Node<'a, J, S>,
         status: Status,
     ) -> Result<Step, WorkerFault>
         ensures same { self.new.links ≡ self.old.links }
@@ -673,11 +673,11 @@ impl<'a, K: Naming> Worker<'a, K> {
     }
 
     // Offers a message to the process.
-    fn accept<S: Ledger, R: Wait>(
+    fn accept<J: Series, S: Ledger, R: Wait>(
         &mut self,
         rt: &R,
         alloc: Global,
-        node: &mut Node<'a, S>,
+        node: &mut Node<'a, J, S>,
         message: &Message,
     ) -> Result<Step, WorkerFault>
         ensures same { self.new.links ≡ self.old.links }
@@ -690,7 +690,7 @@ impl<'a, K: Naming> Worker<'a, K> {
                 self.past.receive(message.from)?;
                 self.links.tell_received(message);
                 self.change();
-                self.after_receipt(alloc, node, x)
+                self.after_receipt(rt, alloc, node, x)
             }
             Accept::Memory => Err(WorkerFault::Memory),
             Accept::Repeat => {
@@ -710,7 +710,7 @@ impl<'a, K: Naming> Worker<'a, K> {
     fn rest<R: Wait + Clock>(&mut self, rt: &R) -> Pause
         ensures same { self.new.links ≡ self.old.links }
     {
-        if self.resent && self.links.has_put_all() {
+        if self.resent && !self.is_away && self.links.has_put_all() {
             self.wait(rt)
         } else {
             let pause = pause_of(rt, &self.links, &self.idle, &mut self.patience);
@@ -772,10 +772,11 @@ impl<'a, K: Naming> Worker<'a, K> {
     }
 
     // What comes after the receipt that began interval x: a failure, or what is stored by its number.
-    fn after_receipt<S: Ledger>(
+    fn after_receipt<J: Series, S: Ledger, R: Wait>(
         &mut self,
+        rt: &R,
         alloc: Global,
-        node: &mut Node<'a, S>,
+        node: &mut Node<'a, J, S>,
         x: u32,
     ) -> Result<Step, WorkerFault>
         ensures same { self.new.links ≡ self.old.links }
@@ -784,6 +785,10 @@ impl<'a, K: Naming> Worker<'a, K> {
     {
         if self.is_to_fail(x) {
             return Ok(Step::Failed);
+        }
+        if node.is_slow() {
+            self.launch(rt, alloc, node)?;
+            return Ok(Step::Up);
         }
         let is_flush_due = is_multiple(x, self.plan.flush);
         let is_checkpoint_due = is_multiple(x, self.plan.checkpoint);
@@ -812,13 +817,13 @@ impl<'a, K: Naming> Worker<'a, K> {
 
     // Joins the open gathering, with all that the process has stored and handed in.
     #[inline(never)]
-    fn join<S: Stable, R: Wait>(
+    fn join<J: Series, S: Stable, R: Wait>(
         &mut self,
         rt: &R,
         alloc: Global,
-        node: Node<'a, S>,
+        node: Node<'a, J, S>,
         pass: Pass<K>,
-    ) -> Result<(Place<'a, S>, Pass<K>), WorkerFault>
+    ) -> Result<(Place<'a, J, S>, Pass<K>), WorkerFault>
         requires own { node.member.own ≡ self.old.links.own }
         requires program { slice_get K.programs node.member.own ≡ Some node.member.program }
         requires size { node.member.n ≡ K.cell.n }
@@ -838,11 +843,11 @@ impl<'a, K: Naming> Worker<'a, K> {
     }
 
     #[inline(never)]
-    fn enter<S: Stable, R: Wait>(
+    fn enter<J: Series, S: Stable, R: Wait>(
         &mut self,
         rt: &R,
         alloc: Global,
-        node: &mut Node<'a, S>,
+        node: &mut Node<'a, J, S>,
         pass: Pass<K>,
     ) -> Result<Pass<K>, WorkerFault>
         requires own { node.old.member.own ≡ self.old.links.own }
@@ -855,6 +860,7 @@ impl<'a, K: Naming> Worker<'a, K> {
             HasJoined before.manager node.old.member.own (flushed node.old.core) after.manager node.new.core)) }
     {
         node.flush(alloc)?;
+        self.handed.receipts = node.core().interval();
         let (is_finished, pass) = self
             .manager_link
             .join(rt, alloc, node, &mut self.diary, pass)?;
@@ -867,13 +873,13 @@ impl<'a, K: Naming> Worker<'a, K> {
 
     // Tells the manager that the process failed.
     #[inline(never)]
-    fn declare<S: Stable, R: Wait>(
+    fn declare<J: Series, S: Stable, R: Wait>(
         &mut self,
         rt: &R,
         alloc: Global,
-        down_node: DownNode<'a, S>,
+        down_node: DownNode<'a, J, S>,
         pass: Pass<K>,
-    ) -> Result<(Place<'a, S>, Pass<K>), WorkerFault>
+    ) -> Result<(Place<'a, J, S>, Pass<K>), WorkerFault>
         requires { down_node.own ≡ self.old.links.own }
         ensures same { self.new.links ≡ self.old.links }
         ensures place { IfOk result (λ r. member_of r.0 ≡ down_node.entry) }
@@ -887,13 +893,13 @@ impl<'a, K: Naming> Worker<'a, K> {
 
     // Waits for the round to be finished, and then goes on as its verdict says.
     #[inline(never)]
-    fn wait_in<S: Stable, R: Wait + Clock>(
+    fn wait_in<J: Series, S: Stable, R: Wait + Clock>(
         &mut self,
         rt: &R,
         alloc: Global,
-        node: Node<'a, S>,
+        node: Node<'a, J, S>,
         pass: Pass<K>,
-    ) -> Result<(Place<'a, S>, Pass<K>), WorkerFault>
+    ) -> Result<(Place<'a, J, S>, Pass<K>), WorkerFault>
         requires size { node.member.n ≡ K.cell.n }
         ensures same { self.new.links ≡ self.old.links }
         ensures place { IfOk result (λ r. member_of r.0 ≡ node.entry.member) }
@@ -921,18 +927,21 @@ impl<'a, K: Naming> Worker<'a, K> {
 
     // Tells that the process is up again. It stands as the round left it, and so does its store.
     #[inline(never)]
-    fn up_again<S: Stable, R: Wait>(
+    fn up_again<J: Series, S: Stable, R: Wait>(
         &mut self,
         rt: &R,
-        node: Node<'a, S>,
+        node: Node<'a, J, S>,
         verdict: &Verdict,
         is_back: bool,
-    ) -> Result<Place<'a, S>, WorkerFault>
+    ) -> Result<Place<'a, J, S>, WorkerFault>
         requires { node.core.round ≡ verdict.now.round }
         ensures same { self.new.links ≡ self.old.links }
         ensures place { IfOk result (λ place. member_of place ≡ node.entry.member) }
     {
         self.links.tell_all_received(node.core());
+        if is_back {
+            self.handed.cut(verdict.r);
+        }
         match self.diary.returned(rt, node.core(), verdict, is_back) {
             Ok(()) => {
                 self.arrive(verdict.round);
@@ -947,13 +956,13 @@ impl<'a, K: Naming> Worker<'a, K> {
 
     // Waits for the round to be finished, and then comes back.
     #[inline(never)]
-    fn wait_down<S: Stable, R: Wait + Clock>(
+    fn wait_down<J: Series, S: Stable, R: Wait + Clock>(
         &mut self,
         rt: &R,
         alloc: Global,
-        down_node: DownNode<'a, S>,
+        down_node: DownNode<'a, J, S>,
         pass: Pass<K>,
-    ) -> Result<(Place<'a, S>, Pass<K>), WorkerFault>
+    ) -> Result<(Place<'a, J, S>, Pass<K>), WorkerFault>
         requires size { down_node.n ≡ K.cell.n }
         ensures same { self.new.links ≡ self.old.links }
         ensures place { IfOk result (λ r. member_of r.0 ≡ down_node.entry) }

@@ -1,13 +1,16 @@
 //! Records of runs, played event by event.
 
+use super::modes::carry_out;
 use super::rings::{ring, ring_ends};
 use crate::beside::Beside;
 use crate::rows::How::Writes;
 use crate::rows::{check_answer, outcome_of};
 use om_commands::BytesForm;
 use om_commands::sim::sim;
+use om_interval::Pid;
 use om_run_commands::{RunMode, run_file};
-use om_runner::InMemory;
+use om_runner::{InMemory, OpenFault, Opener};
+use om_stable::MemStable;
 use std::alloc::Global;
 use std::process::Abort;
 use std::sync::Wait;
@@ -39,23 +42,72 @@ static RINGS: [(u32, &str, &[&str]); 2] = [
     ),
 ];
 
+// Makes stores in memory, each of which a thread of its own writes, as it does slow ones.
+#[derive(Drop)]
+struct Apart;
+
+impl<R> Opener<R> for Apart {
+    type Store = MemStable;
+
+    fn make(&self, _rt: &R, alloc: Global, _pid: Pid) -> Result<MemStable, OpenFault> {
+        Ok(MemStable::new(alloc))
+    }
+
+    fn is_slow(&self) -> bool {
+        true
+    }
+}
+
 #[test]
 fn records_are_played(rt: HostRuntime) {
     for (n, more, comments) in &RINGS {
         let input = ring(&rt, rt.alloc(), *n, more);
-        let script = recorded(&rt, rt.alloc(), &input, *n);
+        let script = recorded(&rt, rt.alloc(), &InMemory, &input, *n);
         for comment in *comments {
             assert!(rt; script.contains(comment), "{comment}");
         }
+        assert!(rt; !script.contains("\nspell "), "{script}");
         let told = played(&rt, rt.alloc(), &script);
         check_end(&rt, rt.alloc(), &told, *n);
     }
 }
 
+// Where threads of their own write the stores, a checkpoint is spelled as it is handed over, and so many receipts are flushed as
+// went along.
+#[test]
+fn records_of_flights_are_played(rt: HostRuntime) {
+    for (n, more, _) in &RINGS {
+        let input = ring(&rt, rt.alloc(), *n, more);
+        let script = recorded(&rt, rt.alloc(), &Apart, &input, *n);
+        assert!(rt; script.contains("\nspell "), "{script}");
+        assert!(rt; !script.contains("\ncheckpoint "), "{script}");
+        let is_first = |line: &str| line.starts_with("flush ") && line.split(' ').count() == 3;
+        assert!(rt; script.lines().any(is_first), "{script}");
+        let told = played(&rt, rt.alloc(), &script);
+        check_end(&rt, rt.alloc(), &told, *n);
+    }
+}
+
+// What is checked of a run, and the text of a run that is checked, is that of any run there too.
+#[test]
+fn flights_are_checked(rt: HostRuntime) {
+    for mode in [RunMode::Plain, RunMode::Check, RunMode::Witness] {
+        for (n, more, _) in &RINGS {
+            let input = ring(&rt, rt.alloc(), *n, more);
+            let mut beside = Beside::new(rt.alloc());
+            let told = carry_out(&rt, rt.alloc(), mode, &Apart, &mut beside, input.as_bytes());
+            let ends = ring_ends(&rt, rt.alloc(), *n);
+            assert!(&rt; told.0 == Ok(()), "{mode:?}");
+            assert!(&rt; told.1.as_slice() == ends.as_bytes(), "{mode:?}");
+        }
+    }
+}
+
 // The record of a ring of n processes that is run with this cluster file, whose text is that of any run.
-fn recorded<R: Threads + Wait + Clock + Abort + Sync>(
+fn recorded<R: Threads + Wait + Clock + Abort + Sync, O: Opener<R> + Sync>(
     rt: &R,
     alloc: Global,
+    opener: &O,
     input: &str,
     n: u32,
 ) -> String {
@@ -66,7 +118,7 @@ fn recorded<R: Threads + Wait + Clock + Abort + Sync>(
         RunMode::Record,
         BytesForm::Hex,
         TURNS,
-        &InMemory,
+        opener,
         &mut beside,
         &mut input.as_bytes(),
         Vec::new(alloc),

@@ -28,7 +28,7 @@ pub record IsEndOf {K S : Type 0} (is_clean : S → Bool) (program : Program) (l
   pub ends : HasEnds n lines own f.ends
 
 -- a turn leaves the process the member that it is, or it has ended so
-abbrev pub IsTurned : {K S : Type 0} → (S → Bool) → Member → Turned K S → Type 0
+abbrev pub IsTurned : {K J S : Type 0} → (S → Bool) → Member → Turned K J S → Type 0
 IsTurned is_clean m (On place pass) = member_of place ≡ m
 IsTurned is_clean m (Over status harvest store) =
     IsEnd status × (harvest.own ≡ m.own)

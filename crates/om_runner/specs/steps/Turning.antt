@@ -33,7 +33,7 @@ HasReported n p round status old standing =
     × UnderLock n (λ before after. HasMet before p round ended old standing limits after core)
 
 -- where a process stands after a step
-abbrev pub place_after : {S : Type 0} → Step → NodeState → Place S
+abbrev pub place_after : {J S : Type 0} → Step → NodeState → Place J S
 place_after steps.Up node = Up node
 place_after steps.Called node = Called node
 place_after steps.Failed node = Failed node.member
@@ -41,7 +41,7 @@ place_after steps.Over node = Over node
 
 -- a process that was called is in, once it stored its log and handed over all; the failure of one that failed in this round
 -- is declared
-abbrev pub IsTurnOf : {S : Type 0} → ℕ → ℕ → Place S → Place S → Type 0
+abbrev pub IsTurnOf : {J S : Type 0} → ℕ → ℕ → Place J S → Place J S → Type 0
 IsTurnOf n round (Called old) next =
     (new : NodeState) × (next ≡ In new)
     × UnderLock n (λ before after. HasJoined before.manager old.member.own (flushed old.core) after.manager new.core)

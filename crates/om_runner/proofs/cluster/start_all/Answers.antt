@@ -53,8 +53,8 @@ new-links-requires-clause-taking g c =
     let have = subst (HasEnds g.K.Naming.cell.n c.args.cluster.now.inboxes.now (vec_len c.loop-one.handles + 0)) first (c.loop-one.invariant.3 0 c.in-Some.one lt) in
     subst (λ k. AreTakes c.args.cluster.now.inboxes.now k c.in-Some.one.takes.items) (search rules) have.taking
 
-pub start-requires-clause-program : goal.start-requires-clause-program
-start-requires-clause-program g c = λ lifetimes outlive.
+pub start_apart-requires-clause-program : goal.start_apart-requires-clause-program
+start_apart-requires-clause-program g c = λ lifetimes outlive.
     let images = c.args.cluster.now.plan.now.images.items in
     let own = c.len-own.result in
     let image = c.index-image.result.now in
@@ -71,8 +71,8 @@ loop-one-preserved g c =
     let n = g.K.Naming.cell.n in
     let images = c.args.cluster.now.plan.now.images.items in
     let lines = c.args.cluster.now.inboxes.now in
-    let handle = c.in-Some-start.handle in
-    let started = c.in-Some-start.ensures in
+    let handle = c.in-Some-start_apart.handle in
+    let started = c.in-Some-start_apart.ensures in
     let rest = into_iter_items c.next.new.self in
     let grown : vec_len c.push_reserved.new.self ≡ done + 1 = search rules in
     let own : c.len-own.result ≡ length c.loop-one.handles.items = search rules in

@@ -17,3 +17,7 @@ invariant-loop-one g l =
     × ((k : ℕ) (e : _) → k < into_iter_len l.one-iterator → HasEnds n l.cluster.inboxes.now (done + k) (get_or rest k e))
     × ((k : ℕ) (a : Image) (h : _) → k < done
     → IsPromised l.cluster.plan.now (get_or images k a) l.cluster.inboxes.now k n (get_or (vec_items l.handles) k h).promise)
+
+-- the book that was just opened
+abbrev pub ghosts-start_apart : goal.ghosts-start_apart
+ghosts-start_apart g a = record { book = a.opened.seen.book }

@@ -1,5 +1,6 @@
 use Rattle.std.proofs.Common.{refl, subst, sym}
 use Rattle.om_runner.specs.steps.Nodes.{IsKept}
+use Rattle.om_runner.proofs.HoldLemmas.{held_here}
 use Rattle.om_runner.proofs.OnWay.{node_back, node_through}
 use Rattle.om_runner.proofs.node.DownNode.come_back.Goals as goal
 
@@ -7,5 +8,6 @@ pub invariant_of-result : goal.invariant_of-result
 invariant_of-result g c =
     let e = c.in-Ok.ensures in
     let kept = subst (IsKept _ _ _ _) (sym c.deref_mut.ensures.value) c.self.invariant in
-    node_through _ _ _ _ _ _ _ _ c.in_ok-core-in-Ok.ensures refl
-    (node_back _ _ _ _ _ _ _ c.args.verdict.now.r kept e.own e.size e.used.clean e.used.sound e.back e.cut)
+    held_here _ _ _ _ _
+    (node_through _ _ _ _ _ _ _ _ c.in_ok-core-in-Ok.ensures refl
+    (node_back _ _ _ _ _ _ _ c.args.verdict.now.r kept e.own e.size e.used.clean e.used.sound e.back e.cut))

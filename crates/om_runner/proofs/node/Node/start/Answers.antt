@@ -3,6 +3,7 @@ use Rattle.std.specs.Prelude.{IsTrue}
 use Rattle.om_process.specs.Starting.{started_core}
 use Rattle.om_process.specs.Turns.{Along}
 use Rattle.om_runner.specs.Reports.{nothing}
+use Rattle.om_runner.proofs.HoldLemmas.{held_here}
 use Rattle.om_runner.proofs.OnWay.{node_started, node_through}
 use Rattle.om_runner.proofs.node.Node.start.Goals as goal
 
@@ -15,5 +16,6 @@ invariant_of-result g c =
     let empty = subst (λ s. IsTrue (g.S.Stable.is_clean s) → g.S.Stable.content s ≡ nothing) (sym same) c.requires.empty in
     let started = subst (λ x. c.in_ok-core.core ≡ started_core (record { image = x; size = i.size; ext = i.ext }) c.args.pid c.args.n) c.deref.ensures.value e.started in
     let along = subst (λ x. Along (record { image = x; size = i.size; ext = i.ext }) c.args.pid c.args.n [] 0 c.in_ok-core.core.now) c.deref.ensures.value e.along in
-    node_through _ _ _ _ _ _ _ _ c.in_ok-core-2.ensures refl
-    (node_started _ _ _ _ _ c.deref_mut.result.now _ started along sound empty e.used.clean e.used.sound e.stored)
+    let node = node_through _ _ _ _ _ _ _ _ c.in_ok-core-2.ensures refl
+    (node_started _ _ _ _ _ c.deref_mut.result.now _ started along sound empty e.used.clean e.used.sound e.stored) in
+    held_here _ _ _ _ _ node

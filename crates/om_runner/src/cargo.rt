@@ -1,0 +1,36 @@
+//! What is stored in one transaction.
+
+ghost use Rattle.std.specs.Prelude.{◌≡◌, ◌+◌, ◌≤◌, length};
+ghost use Rattle.om_stable.specs.declared.stable.TheConstants.{INTERVALS};
+
+use crate::keeping::Due;
+use om_process::Flight;
+use om_stable::Stable;
+use std::snapshot::Snapshot;
+
+// What is stored in one transaction: what a process handed over, and what is due in its store beside.
+#[derive(Drop)]
+pub(crate) struct Cargo {
+    pub(crate) flight: Flight,
+    pub(crate) due: Option<Due>,
+    ghost fits: { flight.first + length flight.receipts.items ≤ INTERVALS },
+}
+
+// What a ticket is for: a store as it went, and what went with it.
+#[derive(Drop)]
+pub(crate) struct Went<S: Stable> {
+    store: Snapshot<Box<S>>,
+    cargo: Snapshot<Cargo>,
+}
+
+impl<S: Stable> Went<S> {
+    pub(crate) fn of(store: &Box<S>, cargo: &Cargo) -> Went<S>
+        ensures store { result.store.value ≡ store.now }
+        ensures cargo { result.cargo.value ≡ cargo.now }
+    {
+        Went {
+            store: Snapshot::of(store),
+            cargo: Snapshot::of(cargo),
+        }
+    }
+}

@@ -1,0 +1,197 @@
+//! Flights: what a process hands to the thread that writes its store, and what comes back from there.
+
+ghost use Rattle.std.specs.Prelude.{◌≡◌, ◌+◌, ◌≤◌, IfSome, IsErrOf, OnErr, OnOk, length};
+ghost use Rattle.om_runner.specs.steps.Flying.{IsErrand, prune_of};
+ghost use Rattle.om_runner.specs.steps.Storing.{with_flight};
+ghost use Rattle.om_stable.specs.Calls.{IsCleanCall, UsesStore};
+ghost use Rattle.om_stable.specs.declared.stable.TheConstants.{INTERVALS};
+
+use crate::cargo::{Cargo, Went};
+use crate::keeping::Deposit;
+use crate::node::write;
+use crossbeam_channel::{Receiver, Sender, bounded};
+use om_board::Bell;
+use om_stable::{Ledger, Stable, StoreError};
+use om_tickets::{Book, Opened, Series, Ticket};
+use std::alloc::{AllocError, Global};
+use std::marker::Model;
+use std::sync::Wait;
+
+// A store, and what is to be stored there.
+#[derive(Drop)]
+pub(crate) struct Errand<J: Series, S: Stable> {
+    pub(crate) store: Box<S>,
+    pub(crate) cargo: Cargo,
+    // Of this store and this cargo.
+    pub(crate) ticket: Ticket<J, Went<S>>,
+}
+
+impl<J: Series, S: Stable> Model for Errand<J, S> {
+    ghost use Rattle.om_runner.specs.steps.Flying.{ErrandState, IsErrand};
+
+    ghost Value = { ErrandState S };
+
+    ghost view = { λ e. record { store = e.store.value; cargo = e.cargo; ticket = e.ticket } };
+
+    ghost invariant = { λ e. IsErrand (record { store = e.store.value; cargo = e.cargo; ticket = e.ticket }) };
+}
+
+// A store that comes back, and whether it took what it was given.
+#[derive(Drop)]
+pub(crate) struct Landing<J: Series, S: Stable> {
+    pub(crate) store: Box<S>,
+    pub(crate) cargo: Cargo,
+    pub(crate) told: Result<(), StoreError>,
+    // Of the store as it went.
+    pub(crate) ticket: Ticket<J, Went<S>>,
+}
+
+impl<J: Series, S: Stable> Model for Landing<J, S> {
+    ghost use Rattle.om_runner.specs.steps.Flying.{IsLanding, LandingState};
+
+    ghost Value = { LandingState S };
+
+    ghost view = { λ l. record { store = l.store.value; cargo = l.cargo; told = l.told; ticket = l.ticket } };
+
+    ghost invariant = { λ l. IsLanding S.content S.failed S.is_clean S.IsSound
+        (record { store = l.store.value; cargo = l.cargo; told = l.told; ticket = l.ticket }) };
+}
+
+impl<J: Series, S: Ledger> Errand<J, S> {
+    // Stores it.
+    pub(crate) fn fly(self, alloc: Global) -> Landing<J, S>
+        ensures { result.ticket ≡ self.ticket }
+    {
+        let Errand {
+            mut store,
+            cargo,
+            ticket,
+        } = self;
+        let told = store_cargo(&mut *store, alloc, &cargo);
+        Landing {
+            store,
+            cargo,
+            told,
+            ticket,
+        }
+    }
+}
+
+fn store_cargo<S: Ledger>(store: &mut S, alloc: Global, cargo: &Cargo) -> Result<(), StoreError>
+    requires { cargo.now.flight.first + length cargo.now.flight.receipts.items ≤ INTERVALS }
+    ensures put { IsCleanCall S.is_clean S.IsSound store.old store.new
+        → OnOk result (S.content store.new ≡ with_flight (S.content store.old) cargo.now.flight (prune_of cargo.now)) }
+    ensures refused { IsCleanCall S.is_clean S.IsSound store.old store.new
+        → OnErr result (S.content store.new ≡ S.content store.old) }
+    ensures used { UsesStore S.failed S.is_clean S.IsSound store.old (IsErrOf result StoreError.Fault) store.new }
+{
+    match &cargo.due {
+        Some(due) => {
+            let prune_to = Some(due.checkpoint);
+            write(store, alloc, &cargo.flight, &due.deposit, prune_to)
+        }
+        None => write(store, alloc, &cargo.flight, &Deposit::none(alloc), None),
+    }
+}
+
+// The way from a process to the thread that writes its store, and back. One flight is under way at a time, so each holds one.
+#[derive(Drop)]
+pub(crate) struct Line<J: Series, S: Stable> {
+    errands: Sender<Errand<J, S>, Global>,
+    landings: Receiver<Landing<J, S>, Global>,
+    book: Book<J, Went<S>>,
+}
+
+// The other ends, which that thread has.
+#[derive(Drop)]
+pub(crate) struct FarEnds<J: Series, S: Stable> {
+    errands: Receiver<Errand<J, S>, Global>,
+    landings: Sender<Landing<J, S>, Global>,
+}
+
+// A line and its far ends.
+pub(crate) fn line_of<J: Series, S: Stable>(
+    alloc: Global,
+    opened: Opened<Went<S>>,
+) -> Result<(Line<J, S>, FarEnds<J, S>), AllocError>
+    requires { opened.seen.book ≡ J.book }
+{
+    let (to, errands) = bounded(alloc, 1)?;
+    let (landings, from) = bounded(alloc, 1)?;
+    Ok((
+        Line {
+            errands: to,
+            landings: from,
+            book: opened.named::<J>(),
+        },
+        FarEnds { errands, landings },
+    ))
+}
+
+impl<J: Series, S: Stable> Line<J, S> {
+    // A ticket for a store and what goes with it, and its stub.
+    pub(crate) fn issue(
+        &mut self,
+        store: &Box<S>,
+        cargo: &Cargo,
+    ) -> Option<(Ticket<J, Went<S>>, Ticket<J, Went<S>>)>
+        ensures ticket { IfSome result (λ r. IsErrand (record { store = store.now.value; cargo = cargo.now; ticket = r.0 })) }
+        ensures stub { IfSome result (λ r. r.1 ≡ r.0) }
+    {
+        let went = Went::of(store, cargo);
+        self.book.issue(&went)
+    }
+}
+
+impl<J: Series, S: Ledger> Line<J, S> {
+    // Has it stored, in the other thread. Where that is gone, it is stored at once, and comes back.
+    pub(crate) fn send<R: Wait>(
+        &self,
+        rt: &R,
+        alloc: Global,
+        errand: Errand<J, S>,
+    ) -> Option<Landing<J, S>> {
+        match self.errands.send(rt, errand) {
+            Ok(()) => None,
+            Err(error) => Some(error.into_inner().fly(alloc)),
+        }
+    }
+}
+
+impl<J: Series, S: Stable> Line<J, S> {
+    // What has come back, if it has.
+    pub(crate) fn look<R: Wait>(&self, rt: &R) -> Option<Landing<J, S>> {
+        match self.landings.try_recv(rt) {
+            Ok(landing) => Some(landing),
+            Err(_) => None,
+        }
+    }
+
+    // Waits for what comes back.
+    pub(crate) fn wait<R: Wait>(&self, rt: &R) -> Option<Landing<J, S>> {
+        match self.landings.recv(rt) {
+            Ok(landing) => Some(landing),
+            Err(_) => None,
+        }
+    }
+}
+
+// What the thread does that writes the store of a process: flight by flight, until nobody sends one. Its worker is woken by each
+// that has landed.
+pub(crate) fn write_all<J: Series, S: Ledger, R: Wait>(
+    rt: &R,
+    alloc: Global,
+    far: FarEnds<J, S>,
+    bell: &Bell,
+) {
+    for _ in rt.forever() {
+        let Ok(errand) = far.errands.recv(rt) else {
+            return;
+        };
+        let landing = errand.fly(alloc);
+        if far.landings.send(rt, landing).is_err() {
+            return;
+        }
+        bell.ring();
+    }
+}
