@@ -1,3 +1,5 @@
+pub mod Backwards
 pub mod Moved
 pub mod Quiet
+pub mod Stepping
 pub mod Taking

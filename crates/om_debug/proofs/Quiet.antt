@@ -24,7 +24,7 @@ use Rattle.om_debug.specs.Stops.{DebugState, IsBefore, IsFrom, IsMoved, IsPassed
 use Rattle.om_debug.specs.Watching.{first_met, inst_access, ran_met, receipt_access, watch_met}
 
 -- ---- positions
-split : (a b : ℕ) → (a < b) ⊎ (b ≤ a)
+pub split : (a b : ℕ) → (a < b) ⊎ (b ≤ a)
 split zero zero = inr (omega arith)
 split zero (suc b) = inl (omega arith)
 split (suc a) zero = inr (omega arith)
@@ -36,10 +36,10 @@ order_at e k f j same = elim (split k j) [ inl l ↦ inl (inr (same, l)) | inr l
 order_from : (e k f j : ℕ) → f ≤ e → IsBefore e k f j ⊎ IsFrom f j e k
 order_from e k f j h = elim (split f e) [ inl g ↦ inr (inl g) | inr g ↦ order_at e k f j (omega (arith, h, g)) ]
 
-order : (e k f j : ℕ) → IsBefore e k f j ⊎ IsFrom f j e k
+pub order : (e k f j : ℕ) → IsBefore e k f j ⊎ IsFrom f j e k
 order e k f j = elim (split e f) [ inl h ↦ inl (inl h) | inr h ↦ order_from e k f j h ]
 
-never : (e k f j : ℕ) → IsFrom f j e k → IsBefore e k f j → ⊥
+pub never : (e k f j : ℕ) → IsFrom f j e k → IsBefore e k f j → ⊥
 never e k f j (inl a) (inl b) = omega (arith, a, b)
 never e k f j (inl a) (inr b) = let same = b.0 in omega (arith, a, same)
 never e k f j (inr a) (inl b) = let same = a.0 in omega (arith, b, same)
@@ -152,7 +152,7 @@ quiet_moved breaks watches b c e0 k0 moved within quiet = λ e k from before few
     let turns : turns_at c.deeds e ≡ turns_at b.deeds e = ap (λ (t : TimelineState). turns_at t.deeds e) moved.is ∙ turns_longer b.deeds moved.more e h in
     stop_moved breaks watches b c e k moved h ∙ quiet e k from before (subst (λ x. k ≤ x) turns few)
 
-quiet_join : (breaks : List ℕ) (watches : List Watch) (t : TimelineState) (e0 k0 e1 k1 e2 k2 : ℕ) → IsQuiet breaks watches t e0 k0 e1 k1 → IsQuiet breaks watches t e1 k1 e2 k2 → IsQuiet breaks watches t e0 k0 e2 k2
+pub quiet_join : (breaks : List ℕ) (watches : List Watch) (t : TimelineState) (e0 k0 e1 k1 e2 k2 : ℕ) → IsQuiet breaks watches t e0 k0 e1 k1 → IsQuiet breaks watches t e1 k1 e2 k2 → IsQuiet breaks watches t e0 k0 e2 k2
 quiet_join breaks watches t e0 k0 e1 k1 e2 k2 first second = λ e k from before few.
     elim (order e k e1 k1) [ inl h ↦ first e k from h few | inr h ↦ second e k h before few ]
 
@@ -196,12 +196,12 @@ passed_rest a u event turns is only rest e k from before least few =
     ∙ ap (λ x. stop_at a.breaks a.watches t x k) same
     ∙ rest.quiet k least (subst (λ x. k ≤ x) turned few)
 
-only_event : (event turns e k : ℕ) → IsFrom event turns e k → IsBefore e k (event + 1) 0 → e ≡ event
+pub only_event : (event turns e k : ℕ) → IsFrom event turns e k → IsBefore e k (event + 1) 0 → e ≡ event
 only_event event turns e k (inl a) (inl b) = omega (arith, a, b)
 only_event event turns e k (inl a) (inr b) = let none = b.1 in absurd (omega (arith, none))
 only_event event turns e k (inr a) b = sym a.0
 
-least_of : (event turns e k : ℕ) → e ≡ event → IsFrom event turns e k → turns ≤ k
+pub least_of : (event turns e k : ℕ) → e ≡ event → IsFrom event turns e k → turns ≤ k
 least_of event turns e k same (inl a) = absurd (omega (arith, a, same))
 least_of event turns e k same (inr a) = a.1
 
@@ -220,7 +220,7 @@ passed_event a b same is rest = record {
       (passed_rest a b.timeline (t.event + 1) 0 is (λ x y f g. only_event t.event t.turns x y f g) rest e k from end (least_of t.event t.turns e k event from) few);
 }
 
-one_turn : (event turns e k : ℕ) → IsFrom event turns e k → IsBefore e k event (turns + 1) → (e ≡ event) × (k ≡ turns)
+pub one_turn : (event turns e k : ℕ) → IsFrom event turns e k → IsBefore e k event (turns + 1) → (e ≡ event) × (k ≡ turns)
 one_turn event turns e k (inl a) (inl b) = absurd (omega (arith, a, b))
 one_turn event turns e k (inl a) (inr b) = let same = b.0 in absurd (omega (arith, a, same))
 one_turn event turns e k (inr a) (inl b) = let same = a.0 in absurd (omega (arith, b, same))
@@ -286,7 +286,7 @@ end_stop : (breaks : List ℕ) (watches : List Watch) (m : State) (down : Bool) 
 unfolding stop_of
 end_stop breaks watches m down k = rw (not_below k) refl
 
-end_quiet : (breaks : List ℕ) (watches : List Watch) (t : TimelineState) (e k : ℕ) → turns_at t.deeds e ≡ k → 0 < k → stop_at breaks watches t e k ≡ None
+pub end_quiet : (breaks : List ℕ) (watches : List Watch) (t : TimelineState) (e k : ℕ) → turns_at t.deeds e ≡ k → 0 < k → stop_at breaks watches t e k ≡ None
 unfolding stop_of
 end_quiet breaks watches t e k is some =
     let ran : slice_get t.deeds e ≡ Some (Ran k) = turns_ran t.deeds e (subst (λ x. 0 < x) (sym is) some) ∙ ap (λ x. Some (Ran x)) is in

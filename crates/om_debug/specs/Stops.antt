@@ -1,5 +1,5 @@
 -- What stops a process, and what stops are told as.
-use Rattle.std.specs.Prelude.{◌≡◌, ℕ, ◌<◌, ◌≤◌, ◌⊎◌, Bool, false, ◌&&◌, List, length, ◌++◌, ◌==◌, Option, Some, None, codes, if◌then◌else◌, slice_get}
+use Rattle.std.specs.Prelude.{◌≡◌, ◌≢◌, ℕ, ◌+◌, ◌<◌, ◌≤◌, ◌⊎◌, Bool, false, ◌&&◌, List, length, ◌++◌, ◌==◌, Option, Some, None, codes, if◌then◌else◌, slice_get}
 use Rattle.std.specs.Fmt.{digits}
 use Rattle.std.specs.List.{list_any}
 use Rattle.om_machine.specs.State.{State}
@@ -14,7 +14,8 @@ use Rattle.om_requests.specs.declared.request.Watched.TheVariants.{Writes, Reads
 use Rattle.om_timeline.specs.declared.deed.Deed.{Deed}
 use Rattle.om_timeline.specs.Alone.{move_alone}
 use Rattle.om_timeline.specs.Deeds.{at_position, turns_at}
-use Rattle.om_timeline.specs.Timeline.{TimelineState, machine_here}
+use Rattle.om_timeline.specs.Timeline.{TimelineState, at, machine_here}
+use Rattle.om_debug.specs.declared.moment.Next.TheVariants.{Still}
 use Rattle.om_debug.specs.declared.stop.Stop.{Stop}
 use Rattle.om_debug.specs.declared.stop.Stop.TheVariants as stops
 use Rattle.om_debug.specs.Moments.{is_at_instruction, next_at}
@@ -114,6 +115,55 @@ StandsFor d (stops.Trapped cause) = status_here d.timeline ≡ statuses.Trapped 
 StandsFor d stops.Begin = (d.timeline.event ≡ 0) × (d.timeline.turns ≡ 0)
 StandsFor d stops.End = length d.timeline.events ≤ d.timeline.event
 StandsFor d other = Unit {0}
+
+-- ---- the way back
+-- nothing comes to the process before a position
+abbrev pub IsStillBefore : List Deed → ℕ → ℕ → Type 0
+IsStillBefore deeds end done = (e k : ℕ) → IsBefore e k end done → k ≤ turns_at deeds e → next_at deeds e k ≡ Still
+
+-- what came last to the process before the second position came at the first one
+pub record IsLast (deeds : List Deed) (event turns end done : ℕ) : Type 0 where
+  pub before : IsBefore event turns end done
+  pub few : turns ≤ turns_at deeds event
+  pub comes : next_at deeds event turns ≢ Still
+  pub still : (e k : ℕ) → IsBefore event turns e k → IsBefore e k end done → k ≤ turns_at deeds e → next_at deeds e k ≡ Still
+
+-- at another position
+abbrev pub standing : DebugState → ℕ → ℕ → DebugState
+standing d event turns = with_timeline d (at d.timeline event turns)
+
+-- a step back leads here, for this: right before what came last to the process, where a breakpoint may stand; or it stays, where that
+-- accesses what is watched, or where nothing came before
+abbrev pub IsStepBack : DebugState → DebugState → Stop → Type 0
+IsStepBack old new stops.Stepped = IsLast new.timeline.deeds new.timeline.event new.timeline.turns old.timeline.event old.timeline.turns × (stop_here new ≡ None)
+IsStepBack old new stops.Break = IsLast new.timeline.deeds new.timeline.event new.timeline.turns old.timeline.event old.timeline.turns × (watch_here new ≡ None) × (stop_here new ≡ Some stops.Break)
+IsStepBack old new (stops.Watched watch) = (new ≡ old) × ((event : ℕ) × (turns : ℕ) × IsLast old.timeline.deeds event turns old.timeline.event old.timeline.turns
+    × (watch_at old.watches old.timeline event turns ≡ Some watch))
+IsStepBack old new stops.Begin = (new ≡ old) × IsStillBefore old.timeline.deeds old.timeline.event old.timeline.turns
+IsStepBack old new other = ⊥
+
+-- right behind what comes next at a position: an instruction of which more follow in the event, or all that is left of the event
+abbrev pub IsBehind : List Deed → ℕ → ℕ → ℕ → ℕ → Type 0
+IsBehind deeds event turns next done =
+    ((next ≡ event) × (done ≡ turns + 1)) ⊎ ((next ≡ event + 1) × (done ≡ 0) × (turns_at deeds event ≤ turns + 1))
+
+-- one who goes back stops here, for this: at the last breakpoint before the old position, or right behind the last access to what is
+-- watched, whichever is later; at the begin, where there is neither; or anywhere behind both, where a stop was wished
+abbrev pub IsRunBack : DebugState → DebugState → Stop → Type 0
+IsRunBack old new stops.Break = IsBefore new.timeline.event new.timeline.turns old.timeline.event old.timeline.turns × (stop_here new ≡ Some stops.Break) × (watch_here new ≡ None)
+    × IsQuietBehind new.breaks new.watches new.timeline new.timeline.event new.timeline.turns old.timeline.event old.timeline.turns
+IsRunBack old new (stops.Watched watch) = ((event : ℕ) × (turns : ℕ) × IsBefore event turns old.timeline.event old.timeline.turns
+    × IsBehind new.timeline.deeds event turns new.timeline.event new.timeline.turns × (watch_at new.watches new.timeline event turns ≡ Some watch))
+    × IsQuiet new.breaks new.watches new.timeline new.timeline.event new.timeline.turns old.timeline.event old.timeline.turns
+IsRunBack old new stops.Begin = (new.timeline.event ≡ 0) × (new.timeline.turns ≡ 0) × IsQuiet new.breaks new.watches new.timeline 0 0 old.timeline.event old.timeline.turns
+IsRunBack old new stops.Paused = IsFrom new.timeline.event new.timeline.turns old.timeline.event old.timeline.turns
+    × IsQuiet new.breaks new.watches new.timeline new.timeline.event new.timeline.turns old.timeline.event old.timeline.turns
+IsRunBack old new other = ⊥
+
+-- a part of the way back was gone and nothing stopped, or one stops here
+abbrev pub IsPartBack : DebugState → DebugState → Option Stop → Type 0
+IsPartBack old new None = IsFrom new.timeline.event new.timeline.turns old.timeline.event old.timeline.turns × IsQuiet new.breaks new.watches new.timeline new.timeline.event new.timeline.turns old.timeline.event old.timeline.turns
+IsPartBack old new (Some stop) = IsRunBack old new stop
 
 -- ---- texts
 -- SIGSEGV (11) for an address outside memory, SIGBUS (10) for one that is not aligned, SIGTRAP (5) for EBREAK, SIGILL (4) for the rest

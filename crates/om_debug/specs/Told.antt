@@ -14,7 +14,7 @@ use Rattle.om_debug.specs.declared.debugger.Told.{Told}
 use Rattle.om_debug.specs.declared.debugger.Told.TheVariants.{Text, Last}
 use Rattle.om_debug.specs.declared.stop.Stop.{Stop}
 use Rattle.om_debug.specs.declared.stop.Stop.TheVariants.{Here}
-use Rattle.om_debug.specs.Stops.{DebugState, IsPassed, StandsFor, stop_text, with_timeline}
+use Rattle.om_debug.specs.Stops.{DebugState, IsPassed, IsRunBack, IsStepBack, StandsFor, stop_text, with_timeline}
 
 -- thread 1 is there, and no other
 abbrev pub is_there : Thread → Bool
@@ -95,16 +95,24 @@ pub record IsResumed (old : DebugState) (told : Told) (new : DebugState) : Type 
   pub passed : IsPassed old new
   pub stands : StandsFor new stop
 
--- the process has gone back, and a stop is told
+-- the process has gone back by a step, and why it stands there is told
+pub record IsSteppedBack (old : DebugState) (told : Told) (new : DebugState) : Type 0 where
+  pub stop : Stop
+  pub text : text_of told ≡ stop_text stop
+  pub same : new ≡ with_timeline old new.timeline
+  pub back : IsStepBack old new stop
+
+-- the process has gone back to a stop, which is told
 pub record IsGoneBack (old : DebugState) (told : Told) (new : DebugState) : Type 0 where
   pub stop : Stop
   pub text : text_of told ≡ stop_text stop
   pub same : new ≡ with_timeline old new.timeline
+  pub back : IsRunBack old new stop
 
 -- what a packet is told, and what it leaves
 abbrev pub IsAnswered : Request → DebugState → Told → DebugState → Type 0
 IsAnswered (requests.Resume how) old told new = IsResumed old told new
-IsAnswered requests.BackStep old told new = IsGoneBack old told new
+IsAnswered requests.BackStep old told new = IsSteppedBack old told new
 IsAnswered requests.BackContinue old told new = IsGoneBack old told new
 IsAnswered (requests.SetBreak address) old told new = (text_of told ≡ codes "OK") × (new ≡ with_breaks old (set_break address old.breaks))
 IsAnswered (requests.ClearBreak address) old told new = (text_of told ≡ codes "OK") × (new ≡ with_breaks old (clear_break address old.breaks))

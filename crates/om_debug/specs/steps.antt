@@ -1,2 +1,4 @@
 -- What only the crate's own parts rest on: no public clause cites these.
+pub mod Scanning
 pub mod Serving
+pub mod Stepping

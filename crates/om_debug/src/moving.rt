@@ -1,10 +1,13 @@
 //! Forward to a stop, and back to one.
 #![tactic(auto, using(crate::proofs::Moved::moved_then, crate::proofs::Moved::same_then, crate::proofs::Moved::moved_at, crate::proofs::Moved::moved_to, crate::proofs::Moved::moved_with, crate::proofs::Moved::moved_same, crate::proofs::Moved::moved_not))]
 
-ghost use Rattle.std.specs.Prelude.{◌≡◌, ◌↔◌, ◌+◌, ◌-◌, ◌≤◌, IfOk, IfSome, None, OnOk, false, length, true};
+ghost use Rattle.std.specs.Prelude.{◌≡◌, ◌↔◌, ◌+◌, ◌-◌, ◌<◌, ◌≤◌, IfOk, IfSome, MatchOption, None, OnOk, false, length, true};
 ghost use Rattle.om_debug.specs.Moments.{next_at};
+ghost use Rattle.om_timeline.specs.declared.tape.Look.{Look};
 ghost use Rattle.om_timeline.specs.Deeds.{turns_at};
-ghost use Rattle.om_debug.specs.Stops.{IsBefore, IsMoved, IsPassed, IsQuietRest, IsWithin, StandsFor, breaks_here, stop_here, watch_here, with_timeline};
+ghost use Rattle.om_debug.specs.Stops.{IsBefore, IsBehind, IsFrom, IsLast, IsMoved, IsPartBack, IsPassed, IsQuiet, IsQuietRest, IsRunBack, IsStepBack, IsStillBefore, IsWithin, StandsFor, breaks_here, standing, stop_here, watch_here, with_timeline};
+ghost use Rattle.om_debug.specs.steps.Scanning.{IsOver, IsPart};
+ghost use Rattle.om_debug.specs.steps.Stepping.{before_last};
 
 use crate::debugger::Debugger;
 use crate::moment::{Next, is_at_instruction, is_down, next_at};
@@ -13,7 +16,7 @@ use crate::watching::watch_met;
 use crate::wish::Wish;
 use om_process::Status;
 use om_requests::{Resume, Watch};
-use om_timeline::{Deed, PlayFault, Position};
+use om_timeline::{Deed, Look, PlayFault, Position};
 
 // How many pieces of a way are gone at most without a stop.
 const MOST_PIECES: u64 = u64::MAX;
@@ -99,11 +102,14 @@ impl Debugger {
         ensures stands { IfOk result (λ stop. IfSome stop (λ stop. StandsFor self.new stop)) }
     {
         let _ = self.timeline.position();
-        if !self.look()? {
-            return Ok(Some(Stop::End));
+        match self.look()? {
+            Look::Next => {
+                let stop = self.go_on(how)?;
+                Ok(stop)
+            }
+            Look::NotYet => Ok(None),
+            Look::End => Ok(Some(Stop::End)),
         }
-        let stop = self.go_on(how)?;
-        Ok(stop)
     }
 
     // The same, where the next event was played.
@@ -122,18 +128,18 @@ impl Debugger {
         Ok(self.stop_behind(next, how))
     }
 
-    // Plays up to the next event and over it, and tells whether there is one. The process stays.
+    // Plays up to the next event and over it, or a part of it, and tells which. The process stays.
     #[tactic(auto, using(crate::proofs::Moved::moved_with, crate::proofs::Moved::moved_same, crate::proofs::Moved::moved_not, crate::proofs::Quiet::passed_look, crate::proofs::Quiet::end_look, crate::proofs::Quiet::within_of))]
-    fn look(&mut self) -> Result<bool, PlayFault>
+    fn look(&mut self) -> Result<Look, PlayFault>
         ensures moved { IsMoved self.old.timeline self.new.timeline }
         ensures same { self.new ≡ with_timeline self.old self.new.timeline }
         ensures passed { OnOk result (IsPassed self.old self.new) }
         ensures within { OnOk result (IsWithin self.new.timeline) }
-        ensures end { IfOk result (λ more. more ≡ false → length self.new.timeline.events ≤ self.new.timeline.event) }
+        ensures end { IfOk result (λ look. look ≡ Look.End → length self.new.timeline.events ≤ self.new.timeline.event) }
     {
-        let more = self.timeline.look(self.alloc)?;
+        let look = self.timeline.look(self.alloc)?;
         let _ = self.timeline.position();
-        Ok(more)
+        Ok(look)
     }
 
     // What comes next.
@@ -282,17 +288,47 @@ impl Debugger {
 
     // Goes back by what came last to the process, and tells a breakpoint where it then stands. Where that accesses what is watched, it
     // stays right behind it.
+    #[tactic(auto, using(crate::proofs::Moved::moved_then, crate::proofs::Moved::same_then, crate::proofs::Moved::moved_not, crate::proofs::Stepping::stepped_as, crate::proofs::Stepping::last_stands, crate::proofs::Stepping::within_stands, crate::proofs::Stepping::few_stands, crate::proofs::Stepping::last_within))]
     pub(crate) fn step_back(&mut self) -> Result<Stop, PlayFault>
         ensures moved { IsMoved self.old.timeline self.new.timeline }
         ensures same { self.new ≡ with_timeline self.old self.new.timeline }
+        ensures back { IfOk result (λ stop. IsStepBack self.old self.new stop) }
     {
         let behind = self.timeline.position();
         let Some(before) = self.last() else {
             return Ok(Stop::Begin);
         };
-        self.timeline.go_to(self.alloc, before)?;
+        self.stand_at(before)?;
+        let stop = self.stepped_back(behind)?;
+        Ok(stop)
+    }
+
+    // Goes to a position that was played.
+    #[tactic(auto, using(crate::proofs::Moved::moved_to, crate::proofs::Moved::moved_at))]
+    fn stand_at(&mut self, to: Position) -> Result<(), PlayFault>
+        requires event { to.event ≤ length self.old.timeline.deeds }
+        requires turns { to.turns ≤ turns_at self.old.timeline.deeds to.event }
+        ensures moved { IsMoved self.old.timeline self.new.timeline }
+        ensures same { self.new ≡ with_timeline self.old self.new.timeline }
+        ensures stands { self.new ≡ standing self.old self.new.timeline.event self.new.timeline.turns }
+        ensures there { OnOk result (self.new ≡ standing self.old to.event to.turns) }
+    {
+        self.timeline.go_to(self.alloc, to)?;
+        Ok(())
+    }
+
+    // Why a step back from right behind what comes next stops, and where it does.
+    #[tactic(auto, using(crate::proofs::Moved::moved_not))]
+    fn stepped_back(&mut self, behind: Position) -> Result<Stop, PlayFault>
+        requires event { behind.event ≤ length self.old.timeline.deeds }
+        requires turns { behind.turns ≤ turns_at self.old.timeline.deeds behind.event }
+        requires last { IsLast self.old.timeline.deeds self.old.timeline.event self.old.timeline.turns behind.event behind.turns }
+        ensures moved { IsMoved self.old.timeline self.new.timeline }
+        ensures same { self.new ≡ with_timeline self.old self.new.timeline }
+        ensures back { IfOk result (λ stop. IsStepBack (standing self.old behind.event behind.turns) self.new stop) }
+    {
         if let Some(watch) = self.watch_here() {
-            self.timeline.go_to(self.alloc, behind)?;
+            self.stand_at(behind)?;
             return Ok(Stop::Watched(watch));
         }
         if self.breaks_here() {
@@ -302,98 +338,154 @@ impl Debugger {
     }
 
     // Goes back to the last breakpoint before the position, or to right behind the last access to what is watched.
+    #[tactic(auto, using(crate::proofs::Backwards::stands_not, crate::proofs::Backwards::stands_then, crate::proofs::Backwards::stands_moved, crate::proofs::Backwards::stands_same, crate::proofs::Backwards::run_start, crate::proofs::Backwards::run_more, crate::proofs::Backwards::run_stop))]
     pub(crate) fn run_back<R: Wish>(&mut self, reader: &mut R) -> Result<Stop, PlayFault>
         ensures moved { IsMoved self.old.timeline self.new.timeline }
         ensures same { self.new ≡ with_timeline self.old self.new.timeline }
+        ensures back { IfOk result (λ stop. IsRunBack self.old self.new stop) }
         ensures unread { R.remaining reader.new ≡ R.remaining reader.old }
     {
         'parts: for _ in 0..MOST_PIECES {
-            if let Some(stop) = self.part_back(reader)? {
-                return Ok(stop);
+            match self.part_back(reader)? {
+                Some(stop) => return Ok(stop),
+                None => {}
             }
         }
         Ok(Stop::Paused)
     }
 
     // Goes back to a position that is kept, or to the last stop behind that, if there is one.
+    #[tactic(auto, using(crate::proofs::Backwards::stands_then, crate::proofs::Backwards::back_begin))]
     fn part_back<R: Wish>(&mut self, reader: &mut R) -> Result<Option<Stop>, PlayFault>
-        ensures moved { IsMoved self.old.timeline self.new.timeline }
-        ensures same { self.new ≡ with_timeline self.old self.new.timeline }
+        ensures stands { self.new ≡ standing self.old self.new.timeline.event self.new.timeline.turns }
+        ensures back { IfOk result (λ stop. IsPartBack self.old self.new stop) }
+        ensures unread { R.remaining reader.new ≡ R.remaining reader.old }
+    {
+        match self.last_watched() {
+            Some(before) => self.part_behind(before, reader),
+            None => {
+                self.stand_first()?;
+                Ok(Some(Stop::Begin))
+            }
+        }
+    }
+
+    // The same, where this position lies before.
+    #[tactic(auto, using(crate::proofs::Backwards::stands_then, crate::proofs::Backwards::back_quiet, crate::proofs::Backwards::back_breaks, crate::proofs::Backwards::back_meets, crate::proofs::Backwards::back_paused, crate::proofs::Backwards::again_at))]
+    fn part_behind<R: Wish>(
+        &mut self,
+        before: Position,
+        reader: &mut R,
+    ) -> Result<Option<Stop>, PlayFault>
+        requires { IsBefore before.event before.turns self.old.timeline.event self.old.timeline.turns }
+        ensures stands { self.new ≡ standing self.old self.new.timeline.event self.new.timeline.turns }
+        ensures back { IfOk result (λ stop. IsPartBack self.old self.new stop) }
         ensures unread { R.remaining reader.new ≡ R.remaining reader.old }
     {
         let end = self.timeline.position();
-        let Some(before) = self.last_watched() else {
-            self.timeline.rewind(self.alloc)?;
-            return Ok(Some(Stop::Begin));
-        };
-        self.timeline.go_to_kept(self.alloc, before)?;
+        self.stand_kept(before)?;
         let begin = self.timeline.position();
-        let (to, stop) = match self.last_stop(end, reader)? {
-            Part::Quiet => (begin, None),
-            Part::Stopped(found) => (found.at, Some(found.stop)),
-            Part::Paused => (end, Some(Stop::Paused)),
-        };
-        self.timeline.go_to(self.alloc, to)?;
-        Ok(stop)
+        match self.last_stop(end, reader)? {
+            Part::Quiet => {
+                self.stand_at(begin)?;
+                Ok(None)
+            }
+            Part::Breaks(at) => {
+                self.stand_at(at)?;
+                Ok(Some(Stop::Break))
+            }
+            Part::Meets(at, watch) => {
+                self.stand_at(at)?;
+                Ok(Some(Stop::Watched(watch)))
+            }
+            Part::Paused => {
+                self.stand_at(end)?;
+                Ok(Some(Stop::Paused))
+            }
+        }
     }
 
-    // The position before what came last to the process, where anything may stop it.
-    fn last_watched(&self) -> Option<Position> {
-        if self.breaks.is_empty() && self.watches.is_empty() {
+    // Goes back to before the first event.
+    fn stand_first(&mut self) -> Result<(), PlayFault>
+        ensures stands { self.new ≡ standing self.old self.new.timeline.event self.new.timeline.turns }
+        ensures there { OnOk result (self.new ≡ standing self.old 0 0) }
+    {
+        self.timeline.rewind(self.alloc)?;
+        Ok(())
+    }
+
+    // Goes back to the last position that is kept and not behind another one.
+    fn stand_kept(&mut self, to: Position) -> Result<(), PlayFault>
+        ensures stands { self.new ≡ standing self.old self.new.timeline.event self.new.timeline.turns }
+        ensures order { OnOk result (IsFrom self.new.timeline.event self.new.timeline.turns to.event to.turns) }
+    {
+        self.timeline.go_to_kept(self.alloc, to)?;
+        Ok(())
+    }
+
+    // The position before what came last to the process, where anything may have stopped it before here.
+    #[tactic(auto, using(crate::proofs::Backwards::still_quiet, crate::proofs::Backwards::free_quiet))]
+    fn last_watched(&self) -> Option<Position>
+        ensures { MatchOption result (IsQuiet self.now.breaks self.now.watches self.now.timeline 0 0 self.now.timeline.event self.now.timeline.turns)
+            (λ at. IsBefore at.event at.turns self.now.timeline.event self.now.timeline.turns) }
+    {
+        if self.breaks.len() == 0 && self.watches.len() == 0 {
             return None;
         }
         self.last()
     }
 
-    // The last stop from here on and before another position.
+    // What stops between here and another position, which was played.
+    #[tactic(auto, using(crate::proofs::Backwards::stands_not, crate::proofs::Backwards::stands_then, crate::proofs::Backwards::part_start, crate::proofs::Backwards::part_end, crate::proofs::Backwards::inside_standing))]
     fn last_stop<R: Wish>(&mut self, end: Position, reader: &mut R) -> Result<Part, PlayFault>
-        ensures moved { IsMoved self.old.timeline self.new.timeline }
-        ensures same { self.new ≡ with_timeline self.old self.new.timeline }
+        requires event { end.event ≤ length self.old.timeline.deeds }
+        requires turns { end.turns ≤ turns_at self.old.timeline.deeds end.event }
+        ensures stands { self.new ≡ standing self.old self.new.timeline.event self.new.timeline.turns }
+        ensures part { IfOk result (λ part. IsPart self.old end.event end.turns end.event end.turns part) }
         ensures unread { R.remaining reader.new ≡ R.remaining reader.old }
     {
         let mut last = Part::Quiet;
         'pieces: for pieces in 0..MOST_PIECES {
-            let at = self.timeline.position();
-            if !is_before(at, end) || !self.timeline.look(self.alloc)? {
+            if !is_before(self.timeline.position(), end) {
                 return Ok(last);
             }
             if is_paused(pieces, reader) {
                 return Ok(Part::Paused);
             }
-            if let Some(found) = self.back_over(at)? {
-                last = Part::Stopped(found);
-            }
+            last = self.back_over(last)?;
         }
         Ok(Part::Paused)
     }
 
-    // Makes what comes next, and tells where one who comes back over it stops.
-    fn back_over(&mut self, at: Position) -> Result<Option<Found>, PlayFault>
-        ensures moved { IsMoved self.old.timeline self.new.timeline }
-        ensures same { self.new ≡ with_timeline self.old self.new.timeline }
+    // Makes what comes next, and tells where one stops who comes back over it, or else what was known before.
+    #[tactic(auto, using(crate::proofs::Backwards::over_on, crate::proofs::Backwards::over_breaks, crate::proofs::Backwards::over_meets, crate::proofs::Backwards::breaks_stop, crate::proofs::Backwards::none_stop))]
+    fn back_over(&mut self, last: Part) -> Result<Part, PlayFault>
+        requires played { self.old.timeline.event < length self.old.timeline.deeds }
+        ensures stands { self.new ≡ standing self.old self.new.timeline.event self.new.timeline.turns }
+        ensures over { IfOk result (λ part. IsOver self.old self.new last part) }
     {
+        let at = self.timeline.position();
         let watch = self.watch_here();
         let breaks = self.breaks_here();
         self.step_over()?;
-        if let Some(watch) = watch {
-            return Ok(Some(Found {
-                at: self.timeline.position(),
-                stop: Stop::Watched(watch),
-            }));
+        match watch {
+            Some(watch) => {
+                let behind = self.timeline.position();
+                return Ok(Part::Meets(behind, watch));
+            }
+            None => {}
         }
         if breaks {
-            return Ok(Some(Found {
-                at,
-                stop: Stop::Break,
-            }));
+            return Ok(Part::Breaks(at));
         }
-        Ok(None)
+        Ok(last)
     }
 
     // Makes one instruction, or what else comes next.
     fn step_over(&mut self) -> Result<(), PlayFault>
-        ensures moved { IsMoved self.old.timeline self.new.timeline }
-        ensures same { self.new ≡ with_timeline self.old self.new.timeline }
+        requires played { self.old.timeline.event < length self.old.timeline.deeds }
+        ensures stands { self.new ≡ standing self.old self.new.timeline.event self.new.timeline.turns }
+        ensures behind { OnOk result (IsBehind self.old.timeline.deeds self.old.timeline.event self.old.timeline.turns self.new.timeline.event self.new.timeline.turns) }
     {
         if self.turns_left() > 1 {
             self.timeline.step_one();
@@ -431,56 +523,67 @@ impl Debugger {
             turns: 0,
         };
         self.timeline.go_to(self.alloc, last)?;
-        Ok(!self.timeline.look(self.alloc)?)
+        Ok(self.timeline.look(self.alloc)? == Look::End)
     }
 
     // The position before what came last to the process.
-    fn last(&self) -> Option<Position> {
-        let at = self.timeline.position();
-        if at.turns > 0 {
-            return Some(Position {
-                event: at.event,
-                turns: at.turns - 1,
-            });
-        }
-        let deeds = self.timeline.deeds();
-        for event in (0..at.event).rev() {
-            if let Some(turns) = before_last(deeds, event) {
-                return Some(Position { event, turns });
-            }
-        }
-        None
+    fn last(&self) -> Option<Position>
+        ensures { MatchOption result (IsStillBefore self.now.timeline.deeds self.now.timeline.event self.now.timeline.turns)
+            (λ at. IsLast self.now.timeline.deeds at.event at.turns self.now.timeline.event self.now.timeline.turns) }
+    {
+        last_before(self.timeline.deeds(), self.timeline.position())
     }
 }
 
-// A stop on the way back.
-#[derive(Clone, Copy)]
-struct Found {
-    at: Position,
-    stop: Stop,
-}
-
-// What stops one who comes back over a part of a record.
+// What stops one who comes back over a part of a record: the last that does.
 #[derive(Clone, Copy)]
 enum Part {
     // Nothing does.
     Quiet,
-    // The last of what does.
-    Stopped(Found),
+    // At this position a breakpoint.
+    Breaks(Position),
+    // Right before this position an access to what is watched.
+    Meets(Position, Watch),
     // It is not known, since a stop was wished.
     Paused,
 }
 
+// The position before what came last to the process before another position.
+#[tactic(auto, using(crate::proofs::Stepping::last_turn, crate::proofs::Stepping::last_back, crate::proofs::Stepping::still_none, crate::proofs::Stepping::still_back, crate::proofs::Stepping::still_all))]
+fn last_before(deeds: &[Deed], at: Position) -> Option<Position>
+    requires { at.turns ≤ turns_at deeds.now at.event }
+    ensures { MatchOption result (IsStillBefore deeds.now at.event at.turns) (λ last. IsLast deeds.now last.event last.turns at.event at.turns) }
+{
+    if at.turns > 0 {
+        return Some(Position {
+            event: at.event,
+            turns: at.turns - 1,
+        });
+    }
+    let mut event = at.event;
+    'events: while event > 0 {
+        event -= 1;
+        match before_last(deeds, event) {
+            Some(turns) => return Some(Position { event, turns }),
+            None => {}
+        }
+    }
+    None
+}
+
 // How many instructions of an event stand before the last thing that it did to the process, if it did any.
-fn before_last(deeds: &[Deed], event: usize) -> Option<u64> {
+#[tactic(auto, using(crate::proofs::Stepping::last_read, crate::proofs::Stepping::last_past))]
+fn before_last(deeds: &[Deed], event: usize) -> Option<u64>
+    ensures { result ≡ before_last deeds.now event }
+{
     if event >= deeds.len() {
         return None;
     }
     match &deeds[event] {
-        Deed::Ran(turns) if *turns > 0 => Some(*turns - 1),
+        Deed::Nothing => None,
+        Deed::Ran(turns) => { if *turns > 0 { Some(*turns - 1) } else { None } }
         Deed::Took(..) => Some(0),
+        Deed::Fell => { if is_down(deeds, event) { None } else { Some(0) } }
         Deed::Back(_) => Some(0),
-        Deed::Fell if !is_down(deeds, event) => Some(0),
-        _ => None,
     }
 }

@@ -1,5 +1,5 @@
 -- What the command debug opens.
-use Rattle.std.specs.Prelude.{◌≡◌, ℕ, ◌≤◌, Bool, false, List, length, Option, Some}
+use Rattle.std.specs.Prelude.{◌≡◌, ℕ, ◌≤◌, Bool, false, List, length, Option, None, Some}
 use Rattle.std.specs.Io.KnownBytes.{Appends, Consumes, IsAtEnd}
 use Rattle.om_scripts.specs.Programs.{programs_of}
 use Rattle.om_scripts.specs.Named.{place_of}
@@ -39,16 +39,17 @@ pub record IsServed (d : DebugState) (had left before after : Option (List ℕ))
   pub appends : Appends before after written
   pub ended : over ≡ false → IsAtEnd left
 
--- the bytes are a script that has processes
-pub record HasProcess (bytes : List ℕ) : Type 0 where
+-- the bytes are a script that has processes, and none of them has the name
+pub record LacksProcess (bytes name : List ℕ) : Type 0 where
   pub script : EventScript
   pub is_script : IsScript event_script_line no_events bytes script
   pub some : 1 ≤ length script.cluster.processes
+  pub none : place_of name script.cluster.processes ≡ None
 
 -- the errors of sim; or that of the processes none has the name
-abbrev pub IsErrorOfDebug : List ℕ → CommandError → Type 0
-IsErrorOfDebug bytes errors.NoSuchProcess = HasProcess bytes
-IsErrorOfDebug bytes error = IsErrorOfSim bytes error
+abbrev pub IsErrorOfDebug : List ℕ → List ℕ → CommandError → Type 0
+IsErrorOfDebug bytes name errors.NoSuchProcess = LacksProcess bytes name
+IsErrorOfDebug bytes name error = IsErrorOfSim bytes error
 
 -- only these errors may come when packets were answered
 abbrev pub IsBefore : CommandError → Type 0 → Type 0

@@ -1,8 +1,9 @@
 //! The command `debug`: a process of a record under gdb.
 
-ghost use Rattle.std.specs.Prelude.{◌≡◌, ◌⊎◌, ◌≤◌, IfSome, IfOk, IfErr, OnOk, length};
+ghost use Rattle.std.specs.Prelude.{◌≡◌, ◌⊎◌, ◌≤◌, IfSome, IfOk, IfErr, None, OnOk, length};
 ghost use Rattle.std.specs.Io.KnownBytes.{Keeps};
 ghost use Rattle.om_interval.specs.declared.pid.TheConstants.{MAX_PROCESSES};
+ghost use Rattle.om_scripts.specs.Named.{place_of};
 ghost use Rattle.om_debug.specs.Stops.{DebugState};
 ghost use Rattle.om_debug_command.specs.Debug.{IsBefore, IsBegunAt, IsErrorOfDebug, IsOpened, IsServed};
 
@@ -26,7 +27,7 @@ pub fn debug<R: Read, P: Wish, W: Write>(
 ) -> Result<(), CommandError>
     ensures served { IfSome (R.remaining input.old) (λ bytes. OnOk result ((d : DebugState) × IsOpened bytes process.now d
         × IsServed d (P.remaining packets.old) (P.remaining packets.new) (W.contents writer.old) (W.contents writer.new))) }
-    ensures error { IfSome (R.remaining input.old) (λ bytes. IfErr result (IsErrorOfDebug bytes)) }
+    ensures error { IfSome (R.remaining input.old) (λ bytes. IfErr result (IsErrorOfDebug bytes process.now)) }
     ensures silent { IfErr result (λ error. IsBefore error (Keeps (W.contents writer.old) (W.contents writer.new))) }
     ensures unread { IfErr result (λ error. IsBefore error (Keeps (P.remaining packets.old) (P.remaining packets.new))) }
 {
@@ -43,7 +44,7 @@ pub fn debug<R: Read, P: Wish, W: Write>(
 /// with `NoSuchProcess` where no process has the name.
 pub fn open<R: Read>(alloc: Global, process: &str, input: &mut R) -> Result<Debugger, CommandError>
     ensures opened { IfSome (R.remaining input.old) (λ bytes. IfOk result (IsOpened bytes process.now)) }
-    ensures error { IfSome (R.remaining input.old) (λ bytes. IfErr result (IsErrorOfDebug bytes)) }
+    ensures error { IfSome (R.remaining input.old) (λ bytes. IfErr result (IsErrorOfDebug bytes process.now)) }
 {
     let script = read_input(alloc, input, SimScript::new(alloc))?;
     begin(alloc, process, &script)
@@ -53,7 +54,8 @@ pub fn open<R: Read>(alloc: Global, process: &str, input: &mut R) -> Result<Debu
 fn begin(alloc: Global, process: &str, script: &SimScript) -> Result<Debugger, CommandError>
     ensures opened { IfOk result (IsBegunAt script.now process.now) }
     ensures error { IfErr result (λ error. (error ≡ CommandError.NoMemory)
-        ⊎ ((error ≡ CommandError.NoSuchProcess) × (1 ≤ length script.now.cluster.processes))
+        ⊎ ((error ≡ CommandError.NoSuchProcess) × (1 ≤ length script.now.cluster.processes)
+        × (place_of process.now script.now.cluster.processes ≡ None))
         ⊎ ((error ≡ CommandError.EmptyScript) × (length script.now.cluster.processes ≡ 0))) }
 {
     let programs = script.programs();
@@ -67,6 +69,7 @@ fn begin(alloc: Global, process: &str, script: &SimScript) -> Result<Debugger, C
     let events = Vec::from_slice(alloc, script.events())?;
     match Timeline::new(alloc, world, events, Pid::at(place))? {
         Some(timeline) => Ok(Debugger::new(alloc, timeline, process)?),
-        None => Err(CommandError::NoSuchProcess),
+        // At the start each process is up.
+        None => unreachable!(),
     }
 }

@@ -1,11 +1,13 @@
 -- Machines that are kept, as the process moves and the tape grows.
-use Rattle.std.proofs.Common.{◌≡◌, ℕ, ◌<◌, ◌++◌, ◌∷◌, [], List, length, get_or, Bool, true, false, Result, Ok, Err, IfOk, OnErr, refl, sym, subst}
+use Rattle.std.proofs.Common.{◌≡◌, ℕ, ◌<◌, ◌++◌, ◌∷◌, [], List, length, get_or, Result, Ok, Err, IfOk, OnErr, refl, sym, subst}
 use Rattle.std.specs.Prelude.{All, Contains}
 use Rattle.std.proofs.lemmas.List.Elements.{All-contains, All-get_or, All-weaker}
 use Rattle.om_machine.specs.State.{State}
 use Rattle.om_timeline.specs.declared.deed.Deed.{Deed}
 use Rattle.om_timeline.specs.declared.fault.PlayFault.{PlayFault}
 use Rattle.om_timeline.specs.declared.stage.Stage.{Stage}
+use Rattle.om_timeline.specs.declared.tape.Look.{Look}
+use Rattle.om_timeline.specs.declared.tape.Look.TheVariants as looks
 use Rattle.om_timeline.specs.steps.Filmed.{TapeState}
 use Rattle.om_timeline.specs.steps.Kept.{IsKept, IsStage}
 use Rattle.om_timeline.specs.steps.Placed.{IsPlaced}
@@ -24,14 +26,16 @@ kept_longer t more m own n event turns stages kept = record {
 }
 
 -- with what came of one event more
-pub kept_filmed : (result : Result Bool PlayFault) (old new : TapeState) (m : State) (own n event turns : ℕ) (stages : List Stage)
-    → IfOk result (λ more. more ≡ true → (deed : Deed) × (new ≡ record old { deeds = old.deeds ++ deed ∷ [] }))
-    → IfOk result (λ more. more ≡ false → new ≡ old) → OnErr result (new ≡ old) → IsKept old m own n event turns stages → IsKept new m own n event turns stages
-kept_filmed (Ok true) old new m own n event turns stages more end refused kept =
+pub kept_filmed : (result : Result Look PlayFault) (old new : TapeState) (m : State) (own n event turns : ℕ) (stages : List Stage)
+    → IfOk result (λ look. look ≡ looks.Next → (deed : Deed) × (new ≡ record old { deeds = old.deeds ++ deed ∷ [] }))
+    → IfOk result (λ look. look ≡ looks.NotYet → new ≡ old) → IfOk result (λ look. look ≡ looks.End → new ≡ old) → OnErr result (new ≡ old)
+    → IsKept old m own n event turns stages → IsKept new m own n event turns stages
+kept_filmed (Ok looks.Next) old new m own n event turns stages more not_yet end refused kept =
     let longer = more refl in
     subst (λ t. IsKept t m own n event turns stages) (sym longer.1) (kept_longer old (longer.0 ∷ []) m own n event turns stages kept)
-kept_filmed (Ok false) old new m own n event turns stages more end refused kept = subst (λ t. IsKept t m own n event turns stages) (sym (end refl)) kept
-kept_filmed (Err fault) old new m own n event turns stages more end refused kept = subst (λ t. IsKept t m own n event turns stages) (sym refused) kept
+kept_filmed (Ok looks.NotYet) old new m own n event turns stages more not_yet end refused kept = subst (λ t. IsKept t m own n event turns stages) (sym (not_yet refl)) kept
+kept_filmed (Ok looks.End) old new m own n event turns stages more not_yet end refused kept = subst (λ t. IsKept t m own n event turns stages) (sym (end refl)) kept
+kept_filmed (Err fault) old new m own n event turns stages more not_yet end refused kept = subst (λ t. IsKept t m own n event turns stages) (sym refused) kept
 
 -- fewer
 pub kept_fewer : (t : TapeState) (m : State) (own n event turns : ℕ) (stages less : List Stage) → IsKept t m own n event turns stages → All (Contains stages) less → IsKept t m own n event turns less

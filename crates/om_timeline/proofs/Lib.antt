@@ -1,6 +1,7 @@
 pub mod Filming
 pub mod Finishing
 pub mod Keeping
+pub mod Parting
 pub mod Placing
 pub mod Reading
 pub mod Staying

@@ -1,8 +1,9 @@
 -- A tape with one deed more.
 use Rattle.std.proofs.Common.{◌≡◌, ℕ, zero, suc, ◌+◌, ◌<◌, ◌≤◌, List, [], ◌∷◌, ◌++◌, length, take, Option, Some, None, refl, sym, ap, subst, ◌∙◌, arith, length-append}
-use Rattle.std.specs.Prelude.{slice_get}
+use Rattle.std.specs.Prelude.{IfSome, slice_get}
 use Rattle.om_machine.specs.State.{State}
-use Rattle.om_process.specs.Core.{CoreState}
+use Rattle.om_process.specs.declared.limits.TheConstants.{LAST_NUMBER}
+use Rattle.om_process.specs.Core.{CoreState, cluster_size}
 use Rattle.om_world.specs.declared.event.Event.{Event}
 use Rattle.om_world.specs.Holds.{Holds}
 use Rattle.om_world.specs.World.{IsKnown, WorldState}
@@ -11,7 +12,9 @@ use Rattle.om_timeline.specs.declared.deed.Deed.{Deed}
 use Rattle.om_timeline.specs.declared.fault.PlayFault.{PlayFault}
 use Rattle.om_timeline.specs.Deeds.{after_deed, after_deeds}
 use Rattle.om_timeline.specs.Shown.{machine_in, machine_of}
-use Rattle.om_timeline.specs.steps.Filmed.{Filmed, GoesOn, HasMachine, HasSeat, IsFilmed, IsNextDeed, IsTaken, IsTape, TapeState}
+use Rattle.om_timeline.specs.Timeline.{CanBegin}
+use Rattle.om_timeline.specs.steps.Filmed.{Filmed, GoesOn, HasMachine, HasSeat, IsFilmed, IsNextDeed, IsPlayedDeed, IsSeat, IsTaken, IsTape, TapeState}
+use Rattle.om_timeline.specs.steps.Parts.{PlayerState}
 use Rattle.om_timeline.proofs.Filming.{filmed_more, machine_after, taken_of}
 
 pub take_more : {A : Type 0} (xs : List A) (k : ℕ) (x : A) → slice_get xs k ≡ Some x → take (k + 1) xs ≡ take k xs ++ x ∷ []
@@ -60,49 +63,95 @@ goes_longer t old new e deed at goes next =
     }
 
 -- a tape that goes on is one
-pub tape_goes : (t : TapeState) (w : WorldState) → length t.deeds ≤ length t.events → GoesOn t w → IsTape t None w
-tape_goes t w within goes = record { within = within; last = w; filmed = goes.filmed; goes_on = λ none. goes }
+pub tape_goes : (t : TapeState) (s : PlayerState) → length t.deeds ≤ length t.events → GoesOn t s.before → s.begun ≡ None → IsTape t None s
+tape_goes t s within goes none = record {
+  within = within;
+  last = s.before;
+  filmed = goes.filmed;
+  goes_on = λ kept. goes;
+  begun = λ kept. subst (λ b. IfSome b (λ event. slice_get t.events (length t.deeds) ≡ Some event)) (sym none) tt;
+}
 
 pub some_fault : (fault : PlayFault) → Some fault ≡ None → ⊥
 some_fault fault e = cc
 
 -- a tape is lost with a fault
-pub tape_lost : (t : TapeState) (fault : PlayFault) (before : Option PlayFault) (old new : WorldState) → IsTape t before old → IsTape t (Some fault) new
-tape_lost t fault before old new tape = record { within = tape.within; last = tape.last; filmed = tape.filmed; goes_on = λ none. absurd (some_fault fault none) }
+pub tape_lost : (t : TapeState) (fault : PlayFault) (before : Option PlayFault) (old new : PlayerState) → IsTape t before old → IsTape t (Some fault) new
+tape_lost t fault before old new tape = record {
+  within = tape.within;
+  last = tape.last;
+  filmed = tape.filmed;
+  goes_on = λ none. absurd (some_fault fault none);
+  begun = λ none. absurd (some_fault fault none);
+}
 
 -- a tape of no event yet
-pub tape_new : (own n : ℕ) (first : State) (events : List Event) (w : WorldState) (c : CoreState) → IsKnown w → Holds w → HasSeat own n w → slice_get w.cores own ≡ Some (Some c) → first ≡ c.now.machine
-    → IsTape (record { own = own; n = n; first = first; begun = w; events = events; deeds = [] }) None w
-tape_new own n first events w c known holds seat at is =
-    tape_goes (record { own = own; n = n; first = first; begun = w; events = events; deeds = [] }) w (omega arith) (record {
+pub tape_new : (own n : ℕ) (first : State) (events : List Event) (s : PlayerState) (c : CoreState) → IsKnown s.before → Holds s.before → HasSeat own n s.before → slice_get s.before.cores own ≡ Some (Some c) → first ≡ c.now.machine → s.begun ≡ None
+    → IsTape (record { own = own; n = n; first = first; begun = s.before; events = events; deeds = [] }) None s
+tape_new own n first events s c known holds seat at is none =
+    tape_goes (record { own = own; n = n; first = first; begun = s.before; events = events; deeds = [] }) s (omega arith) (record {
       filmed = record { answers = []; filmed = refl };
       known = known;
       holds = holds;
       seat = seat;
       machine = λ d there. ap (λ (x : Option (Option CoreState)). machine_in first x) (sym there ∙ at) ∙ sym is;
-    })
+    }) none
 
 -- and of one more
-pub tape_longer : (t : TapeState) (old new : WorldState) (e : Event) (deed : Deed) → slice_get t.events (length t.deeds) ≡ Some e → IsTape t None old → IsNextDeed t.own t.n old e deed new → IsTape (longer t deed) None new
-tape_longer t old new e deed at tape next =
+pub tape_longer : (t : TapeState) (old new : PlayerState) (e : Event) (deed : Deed) → slice_get t.events (length t.deeds) ≡ Some e → IsTape t None old → IsPlayedDeed t.own t.n old.before e deed new → IsTape (longer t deed) None new
+tape_longer t old new e deed at tape played =
     let there : length t.deeds < length t.events = inside t.events (length t.deeds) e at in
     let long : length (t.deeds ++ deed ∷ []) ≡ length t.deeds + 1 = length-append t.deeds (deed ∷ []) in
-    tape_goes (longer t deed) new (omega (arith, there, long)) (goes_longer t old new e deed at (tape.goes_on refl) next)
+    tape_goes (longer t deed) new (omega (arith, there, long)) (goes_longer t old.before new.before e deed at (tape.goes_on refl) played.next) played.over
 
 -- ---- as the code has them
-pub tape_begun : (own n : ℕ) (first : State) (events : List Event) (w begun : WorldState) (deeds : List Deed) (c : CoreState) → IsKnown w → Holds w → HasSeat own n w → slice_get w.cores own ≡ Some (Some c) → first ≡ c.now.machine
-    → begun ≡ w → deeds ≡ [] → IsTape (record { own = own; n = n; first = first; begun = begun; events = events; deeds = deeds }) None w
-tape_begun own n first events w begun deeds c known holds seat at is same none =
-    subst (λ b. IsTape (record { own = own; n = n; first = first; begun = b; events = events; deeds = deeds }) None w) (sym same)
-    (subst (λ ds. IsTape (record { own = own; n = n; first = first; begun = w; events = events; deeds = ds }) None w) (sym none)
-    (tape_new own n first events w c known holds seat at is))
+pub tape_begun : (own n : ℕ) (first : State) (events : List Event) (w begun : WorldState) (s : PlayerState) (deeds : List Deed) (c : CoreState) → IsKnown w → Holds w → HasSeat own n w → slice_get w.cores own ≡ Some (Some c) → first ≡ c.now.machine
+    → begun ≡ w → s.before ≡ w → s.begun ≡ None → deeds ≡ [] → IsTape (record { own = own; n = n; first = first; begun = begun; events = events; deeds = deeds }) None s
+tape_begun own n first events w begun s deeds c known holds seat at is same here over none =
+    subst (λ b. IsTape (record { own = own; n = n; first = first; begun = b; events = events; deeds = deeds }) None s) (here ∙ sym same)
+    (subst (λ ds. IsTape (record { own = own; n = n; first = first; begun = s.before; events = events; deeds = ds }) None s) (sym none)
+    (tape_new own n first events s c (subst IsKnown (sym here) known) (subst Holds (sym here) holds) (subst (HasSeat own n) (sym here) seat) (subst (λ (x : WorldState). slice_get x.cores own ≡ Some (Some c)) (sym here) at) is over))
 
-pub film_longer : (t : TapeState) (fault : Option PlayFault) (deeds : List Deed) (old new : WorldState) (e : Event) (deed : Deed) → fault ≡ None → slice_get t.events (length t.deeds) ≡ Some e
-    → IsTape t fault old → IsNextDeed t.own t.n old e deed new → deeds ≡ t.deeds ++ deed ∷ [] → IsTape (record t { deeds = deeds }) fault new
+pub film_longer : (t : TapeState) (fault : Option PlayFault) (deeds : List Deed) (old new : PlayerState) (e : Event) (deed : Deed) → fault ≡ None → slice_get t.events (length t.deeds) ≡ Some e
+    → IsTape t fault old → IsPlayedDeed t.own t.n old.before e deed new → deeds ≡ t.deeds ++ deed ∷ [] → IsTape (record t { deeds = deeds }) fault new
 film_longer t fault deeds old new e deed none at tape next is =
     subst (λ ds. IsTape (record t { deeds = ds }) fault new) (sym is)
     (subst (λ f. IsTape (longer t deed) f new) (sym none) (tape_longer t old new e deed at (subst (λ f. IsTape t f old) none tape) next))
 
-pub film_lost : (t : TapeState) (fault : PlayFault) (before : Option PlayFault) (deeds : List Deed) (old new : WorldState) → IsTape t before old → deeds ≡ t.deeds → IsTape (record t { deeds = deeds }) (Some fault) new
+pub film_lost : (t : TapeState) (fault : PlayFault) (before : Option PlayFault) (deeds : List Deed) (old new : PlayerState) → IsTape t before old → deeds ≡ t.deeds → IsTape (record t { deeds = deeds }) (Some fault) new
 film_lost t fault before deeds old new tape is =
     subst (λ ds. IsTape (record t { deeds = ds }) (Some fault) new) (sym is) (tape_lost t fault before old new tape)
+
+-- of a part of the next event nothing is on the tape
+pub film_part : (t : TapeState) (fault : Option PlayFault) (deeds : List Deed) (old new : PlayerState) (e : Event) → slice_get t.events (length t.deeds) ≡ Some e → IsTape t fault old → new ≡ record { before = old.before; begun = Some e } → deeds ≡ t.deeds
+    → IsTape (record t { deeds = deeds }) fault new
+film_part t fault deeds old new e at tape is same =
+    subst (λ ds. IsTape (record t { deeds = ds }) fault new) (sym same)
+    (subst (λ s. IsTape t fault s) (sym is)
+    (record { within = tape.within; last = tape.last; filmed = tape.filmed; goes_on = tape.goes_on; begun = λ none. at }))
+
+-- the next event is the run that has begun
+pub film_begun : (t : TapeState) (fault : Option PlayFault) (s : PlayerState) (e : Event) → fault ≡ None → slice_get t.events (length t.deeds) ≡ Some e → IsTape t fault s → IfSome s.begun (λ begun. begun ≡ e)
+film_begun t fault s e none at tape = same_event s.begun (tape.begun none)
+  where
+    same_event : (b : Option Event) → IfSome b (λ event. slice_get t.events (length t.deeds) ≡ Some event) → IfSome b (λ begun. begun ≡ e)
+    same_event None is = tt
+    same_event (Some event) is = once event e (sym is ∙ at)
+
+-- whether there is a tape
+pub none_there : (w : WorldState) (p : ℕ) → ((c : CoreState) → slice_get w.cores p ≡ Some (Some c) → ⊥) → CanBegin w p → ⊥
+none_there w p none can = none can.core can.is_core
+
+same_core : (w : WorldState) (p : ℕ) (c d : CoreState) → slice_get w.cores p ≡ Some (Some c) → slice_get w.cores p ≡ Some (Some d) → d ≡ c
+same_core w p c d at there = once d c (once (Some d) (Some c) (sym there ∙ at))
+
+seat_of : (w : WorldState) (p n : ℕ) (c : CoreState) → slice_get w.cores p ≡ Some (Some c) → c.own ≡ p → cluster_size c.now ≡ n → CanBegin w p → HasSeat p n w
+seat_of w p n c at own size can = λ d there.
+    subst (IsSeat p n) (sym (same_core w p c d at there))
+    (record { own = own; size = size; few = subst (λ (x : CoreState). x.now.machine.count ≤ LAST_NUMBER) (same_core w p c can.core at can.is_core) can.few })
+
+pub none_seated : (w : WorldState) (p n : ℕ) (c : CoreState) → slice_get w.cores p ≡ Some (Some c) → c.own ≡ p → cluster_size c.now ≡ n → (HasSeat p n w → ⊥) → CanBegin w p → ⊥
+none_seated w p n c at own size none can = none (seat_of w p n c at own size can)
+
+pub can_begin : (w : WorldState) (p n : ℕ) (c : CoreState) → slice_get w.cores p ≡ Some (Some c) → HasSeat p n w → CanBegin w p
+can_begin w p n c at seat = record { core = c; is_core = at; few = (seat c at).few }

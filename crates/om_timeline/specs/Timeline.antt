@@ -2,6 +2,7 @@
 use Rattle.std.specs.Prelude.{◌≡◌, ◌⊎◌, ℕ, ◌<◌, ◌≤◌, List, [], slice_get, Some}
 use Rattle.om_machine.specs.State.{State}
 use Rattle.om_process.specs.Core.{CoreState}
+use Rattle.om_process.specs.declared.limits.TheConstants.{LAST_NUMBER}
 use Rattle.om_world.specs.declared.event.Event.{Event}
 use Rattle.om_world.specs.World.{WorldState}
 use Rattle.om_timeline.specs.declared.deed.Deed.{Deed}
@@ -32,6 +33,12 @@ IsUpTo event turns other done = (event < other) ⊎ ((event ≡ other) × (turns
 -- with more events played
 abbrev pub with_deeds : TimelineState → List Deed → TimelineState
 with_deeds t deeds = record t { deeds = deeds }
+
+-- the process is up or in, and has finished no more instructions than are played
+pub record CanBegin (w : WorldState) (p : ℕ) : Type 0 where
+  pub core : CoreState
+  pub is_core : slice_get w.cores p ≡ Some (Some core)
+  pub few : core.now.machine.count ≤ LAST_NUMBER
 
 -- before the first event of a record, with the machine that the process has there
 pub record IsBegin (t : TimelineState) (p : ℕ) (world : WorldState) (events : List Event) : Type 0 where

@@ -2,4 +2,5 @@
 pub mod Filmed
 pub mod Kept
 pub mod Kinds
+pub mod Parts
 pub mod Placed

@@ -7,6 +7,7 @@ ghost use Rattle.om_machine.specs.derived.NextStep.{next_of};
 ghost use Rattle.om_process.specs.Core.{status_of};
 ghost use Rattle.om_process.specs.Turns.{emits};
 ghost use Rattle.om_timeline.specs.Deeds.{after_deed, turns_in};
+ghost use Rattle.om_timeline.specs.steps.Parts.{GoesAlone, IsGoing};
 ghost use Rattle.om_timeline.specs.Alone.{machine_moved, move_alone, received_alone, turn_alone, turns_alone};
 
 use crate::deed::Deed;
@@ -155,6 +156,44 @@ impl Alone {
                 done += 1;
             }
         }
+    }
+
+    // Answers an event of the machine that asks who the process is, and tells whether it does.
+    #[tactic(auto, using(crate::proofs::Parting::who_goes))]
+    fn tell(&mut self, event: Event) -> bool
+        requires { (next_of self.old.machine).0 ≡ event }
+        ensures told { result ≡ true → GoesAlone self.old.own self.old.n self.old.machine self.new.machine }
+        ensures own { self.new.own ≡ self.old.own }
+        ensures n { self.new.n ≡ self.old.n }
+    {
+        match event {
+            Event::Call(EnvCall::Who) => {
+                self.machine.finish_who(self.own, self.n);
+                true
+            }
+            _ => false,
+        }
+    }
+
+    // Takes so many turns, as far as the process makes nothing in them, and tells whether it took them all.
+    #[tactic(auto, using(crate::proofs::Parting::going_none, crate::proofs::Parting::going_on, crate::proofs::Parting::going_told))]
+    pub(crate) fn go_silently(&mut self, turns: u64) -> bool
+        ensures going { result ≡ true → IsGoing self.old.own self.old.n turns self.old.machine self.new.machine }
+        ensures own { self.new.own ≡ self.old.own }
+        ensures n { self.new.n ≡ self.old.n }
+    {
+        let mut done = 0;
+        'silent: while done < turns {
+            let ran = self.machine.run(turns - done);
+            done += ran.steps;
+            if done < turns {
+                if !self.tell(ran.event) {
+                    return false;
+                }
+                done += 1;
+            }
+        }
+        true
     }
 
     // Takes a message in, where the process waits for one.

@@ -1,17 +1,19 @@
 //! Any moment of a record, forward and back, as one of its processes sees it.
 //!
 //! In an order of reading: `deed` (what an event did to the process), `alone` (its machine, run again without the process around
-//! it), `kind` and `tape` (the record, played as far as was asked), `stage` (machines that are kept), `timeline` (a position on the tape, with the machine there).
+//! it), `player` (the world, which plays a long run in parts), `kind` and `tape` (the record, played as far as was asked), `stage` (machines that are kept), `timeline` (a position on the tape, with the machine there).
 #![tactic(auto)]
 
 pub use deed::Deed;
 pub use fault::PlayFault;
+pub use tape::Look;
 pub use timeline::{Position, Timeline};
 
 mod alone;
 mod deed;
 mod fault;
 mod kind;
+mod player;
 mod stage;
 mod tape;
 mod timeline;

@@ -1,6 +1,6 @@
 //! Machines of a process that are kept, so that ways back are short.
 
-ghost use Rattle.std.specs.Prelude.{◌≡◌, ◌↔◌, ◌≤◌, All, Contains, IfSome, Some, slice_get, true};
+ghost use Rattle.std.specs.Prelude.{◌≡◌, ◌↔◌, ◌-◌, ◌<◌, ◌≤◌, All, Contains, Some, length, slice_get, true};
 ghost use Rattle.om_timeline.specs.Deeds.{turns_at};
 ghost use Rattle.om_timeline.specs.declared.stage.Stage.{Stage};
 ghost use Rattle.om_timeline.specs.Timeline.{IsUpTo};
@@ -29,25 +29,31 @@ pub(crate) fn is_up_to(one: Position, other: Position) -> bool
     one.event < other.event || one.event == other.event && one.turns <= other.turns
 }
 
-// The place of the last stage that is not behind a position.
-pub(crate) fn nearest(stages: &[Stage], to: Position) -> Option<usize>
-    ensures { IfSome result (λ place. (stage : Stage) × (slice_get stages.now place ≡ Some stage)
-        × IsUpTo stage.at.event stage.at.turns to.event to.turns) }
+// How many of the stages, which stand in order, are not behind a position.
+pub(crate) fn up_to(stages: &[Stage], to: Position) -> usize
+    ensures within { result ≤ length stages.now }
+    ensures last { 0 < result → (stage : Stage) × (slice_get stages.now (result - 1) ≡ Some stage)
+        × IsUpTo stage.at.event stage.at.turns to.event to.turns }
 {
-    let mut best = Position { event: 0, turns: 0 };
-    let mut found = None;
-    for (place, stage) in stages.iter().enumerate() {
-        if is_up_to(best, stage.at) && is_up_to(stage.at, to) {
-            best = stage.at;
-            found = Some(place);
+    let mut low = 0;
+    let mut high = stages.len();
+    'halves: while low < high {
+        let middle = low + (high - low) / 2;
+        if is_up_to(stages[middle].at, to) {
+            low = middle + 1;
+        } else {
+            high = middle;
         }
     }
-    found
+    low
 }
 
-// Whether all of them are before a position.
+// Whether all of the stages, which stand in order, are before a position.
 pub(crate) fn are_up_to(stages: &[Stage], to: Position) -> bool {
-    stages.iter().all(|stage| is_up_to(stage.at, to))
+    match stages.last() {
+        Some(stage) => is_up_to(stage.at, to),
+        None => true,
+    }
 }
 
 // Whether no more are to be kept of machines like this one.
@@ -60,11 +66,11 @@ pub(crate) fn is_full(stages: &[Stage], machine: &Machine) -> bool {
 pub(crate) fn thin(stages: &mut Vec<Stage>)
     ensures { All (Contains stages.old.items) stages.new.items }
 {
-    let mut place = 1;
-    'thinned: while place < stages.len() {
-        stages.remove(place);
-        place += 1;
+    let left = stages.len().div_ceil(2);
+    'thinned: for place in 1..left {
+        stages.swap(place, 2 * place);
     }
+    stages.truncate(left);
 }
 
 // A position so many instructions and events before another, or the first.

@@ -1,16 +1,18 @@
 //! What each event of a record did to one process. The record is played only as far as was asked.
 
-ghost use Rattle.std.specs.Prelude.{◌≡◌, ◌∷◌, ◌++◌, ◌≤◌, ℕ, List, [], IfOk, IfSome, OnErr, false, length, true};
+ghost use Rattle.std.specs.Prelude.{◌≡◌, ◌∷◌, ◌++◌, ◌≤◌, List, [], IfOk, IfSome, MatchOption, None, OnErr, Some, false, length, true};
 ghost use Rattle.om_world.specs.Holds.{Holds};
-ghost use Rattle.om_world.specs.Played.{Played};
 ghost use Rattle.om_world.specs.World.{IsKnown, WorldState};
 ghost use Rattle.om_timeline.specs.declared.deed.Deed.{Deed};
-ghost use Rattle.om_timeline.specs.steps.Filmed.{HasSeat, IsDeed, IsFilmed, IsMachineAt, IsNextDeed};
+ghost use Rattle.om_timeline.specs.declared.tape.Look.{Look};
+ghost use Rattle.om_timeline.specs.Timeline.{CanBegin};
+ghost use Rattle.om_timeline.specs.steps.Filmed.{HasSeat, IsDeed, IsFilmed, IsMachineAt, IsPlayedDeed, IsRead};
 
 use crate::alone::copy_of;
 use crate::deed::Deed;
 use crate::fault::PlayFault;
 use crate::kind::{Kind, kind_of};
+use crate::player::Player;
 use om_interval::Pid;
 use om_machine::Machine;
 use om_process::LAST_NUMBER;
@@ -20,35 +22,10 @@ use std::alloc::{AllocError, Global};
 use std::marker::Model;
 use std::snapshot::Snapshot;
 
-// The one answer.
-fn only(answers: &[Answer]) -> Answer
-    requires { length answers.now ≡ 1 }
-    ensures { answers.now ≡ result ∷ [] }
-{
-    match answers {
-        [answer] => *answer,
-        _ => unreachable!(),
-    }
-}
-
-// Plays an event of a world whose stores are clean.
-pub(crate) fn play_one(
-    alloc: Global,
-    world: &mut World<MemStable>,
-    event: Event,
-) -> Result<Answer, AllocError>
-    requires { IsKnown world.old }
-    ensures played { IfOk result (λ answer. Played world.old (event ∷ []) (answer ∷ []) world.new) }
-    ensures known { IsKnown world.new }
-    ensures refused { OnErr result (world.new ≡ world.old) }
-{
-    let answers = world.play(alloc, &[event])?;
-    Ok(only(&answers))
-}
-
 // Whether the process is one of so many, and has finished no more instructions than are played.
 pub(crate) fn is_seated(world: &World<MemStable>, process: Pid, n: u32) -> bool
-    ensures { result ≡ true → HasSeat process n world.now }
+    ensures seated { result ≡ true → HasSeat process n world.now }
+    ensures unseated { result ≡ false → HasSeat process n world.now → ⊥ }
 {
     match world.core(process) {
         Some(core) => {
@@ -105,6 +82,17 @@ pub(crate) fn deed_of(
     }
 }
 
+/// What comes of a look at the next event.
+#[derive(Clone, Copy, Debug, PartialEq, Eq)]
+pub enum Look {
+    /// It was played.
+    Next,
+    /// A part of it was played, and it is to be looked at again.
+    NotYet,
+    /// There is none.
+    End,
+}
+
 // What the events of a record did to one process, as far as the record was played.
 #[derive(Drop)]
 pub(crate) struct Tape {
@@ -115,8 +103,8 @@ pub(crate) struct Tape {
     begun: Snapshot<World<MemStable>>,
     events: Vec<Event>,
     deeds: Vec<Deed>,
-    // Behind the events that were played.
-    world: World<MemStable>,
+    // The world behind the events that were played.
+    player: Player,
     // Why the record is not played on.
     fault: Option<PlayFault>,
 }
@@ -149,12 +137,12 @@ impl Model for Tape {
       begun = t.begun.value;
       events = t.events.items;
       deeds = t.deeds.items;
-    }) t.fault t.world };
+    }) t.fault t.player };
 }
 
 impl Tape {
     // Of no event yet. None, where the world has no such process, or it has finished too many instructions.
-    #[tactic(auto, using(crate::proofs::Taping::tape_new))]
+    #[tactic(auto, using(crate::proofs::Taping::none_there, crate::proofs::Taping::none_seated, crate::proofs::Taping::can_begin))]
     pub(crate) fn new(
         alloc: Global,
         world: World<MemStable>,
@@ -168,6 +156,7 @@ impl Tape {
         ensures events { IfOk result (λ made. IfSome made (λ tape. tape.events ≡ events.items)) }
         ensures deeds { IfOk result (λ made. IfSome made (λ tape. tape.deeds ≡ [])) }
         ensures first { IfOk result (λ made. IfSome made (λ tape. IsMachineAt process world tape.first)) }
+        ensures can { IfOk result (λ made. MatchOption made (CanBegin world process → ⊥) (λ tape. CanBegin world process)) }
     {
         let Some(core) = world.core(process) else {
             return Ok(None);
@@ -184,7 +173,7 @@ impl Tape {
             begun: Snapshot::of(&world),
             events,
             deeds: Vec::new(alloc),
-            world,
+            player: Player::new(world),
             fault: None,
         }))
     }
@@ -226,12 +215,13 @@ impl Tape {
         let _ = &self.deeds;
     }
 
-    // Plays one event more. False where there is none; after a fault the same fault is answered from then on.
-    pub(crate) fn film(&mut self, alloc: Global) -> Result<bool, PlayFault>
-        ensures more { IfOk result (λ more. more ≡ true
+    // Plays one event more, or a part of it. After a fault the same fault is answered from then on.
+    pub(crate) fn film(&mut self, alloc: Global) -> Result<Look, PlayFault>
+        ensures next { IfOk result (λ look. look ≡ Look.Next
             → (deed : Deed) × (self.new ≡ record self.old { deeds = self.old.deeds ++ deed ∷ [] })) }
-        ensures end { IfOk result (λ more. more ≡ false → self.new ≡ self.old) }
-        ensures all { IfOk result (λ more. more ≡ false → length self.old.deeds ≡ length self.old.events) }
+        ensures not_yet { IfOk result (λ look. look ≡ Look.NotYet → self.new ≡ self.old) }
+        ensures end { IfOk result (λ look. look ≡ Look.End → self.new ≡ self.old) }
+        ensures all { IfOk result (λ look. look ≡ Look.End → length self.old.deeds ≡ length self.old.events) }
         ensures refused { OnErr result (self.new ≡ self.old) }
     {
         match self.fault {
@@ -240,15 +230,16 @@ impl Tape {
         }
         let place = self.deeds.len();
         if place >= self.events.len() {
-            return Ok(false);
+            return Ok(Look::End);
         }
         self.deeds.try_reserve(1)?;
         let event = self.events[place];
-        match next_deed(alloc, &mut self.world, self.process, self.n, event) {
-            Ok(deed) => {
+        match next_deed(alloc, &mut self.player, self.process, self.n, event) {
+            Ok(Some(deed)) => {
                 self.deeds.push_reserved(deed);
-                Ok(true)
+                Ok(Look::Next)
             }
+            Ok(None) => Ok(Look::NotYet),
             Err(fault) => {
                 self.fault = Some(fault);
                 Err(fault)
@@ -257,19 +248,37 @@ impl Tape {
     }
 }
 
-// Plays an event, and reads what it did to the process.
-#[tactic(auto, using(crate::proofs::Reading::is_next))]
+// Plays an event, and reads what it did to the process: none, where a part of it was played.
+#[tactic(auto, using(crate::proofs::Reading::is_played))]
 fn next_deed(
     alloc: Global,
-    world: &mut World<MemStable>,
+    player: &mut Player,
     process: Pid,
     n: u32,
     event: Event,
-) -> Result<Deed, PlayFault>
-    requires known { IsKnown world.old }
-    ensures taken { IfOk result (λ deed. IsNextDeed process n world.old event deed world.new) }
+) -> Result<Option<Deed>, PlayFault>
+    requires { IfSome player.old.begun (λ begun. begun ≡ event) }
+    ensures taken { IfOk result (λ deed. IfSome deed (λ deed. IsPlayedDeed process n player.old.before event deed player.new)) }
+    ensures part { IfOk result (λ deed. deed ≡ None → player.new ≡ record { before = player.old.before; begun = Some event }) }
 {
-    let answer = play_one(alloc, world, event)?;
+    let Some(answer) = player.play(alloc, event)? else {
+        return Ok(None);
+    };
+    let deed = read_deed(alloc, player.world(), process, n, event, answer)?;
+    Ok(Some(deed))
+}
+
+// What an event that was answered so did to the process, which the world behind it shows.
+fn read_deed(
+    alloc: Global,
+    world: &World<MemStable>,
+    process: Pid,
+    n: u32,
+    event: Event,
+    answer: Answer,
+) -> Result<Deed, PlayFault>
+    ensures { IfOk result (λ deed. IsRead process n event answer deed world.now) }
+{
     if !is_seated(world, process, n) {
         return Err(PlayFault::TooLong);
     }

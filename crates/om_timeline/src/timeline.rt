@@ -1,22 +1,23 @@
 //! A position on the tape, with the machine there.
 
-ghost use Rattle.std.specs.Prelude.{◌≡◌, ◌↔◌, ◌++◌, ◌+◌, ◌<◌, ◌≤◌, ℕ, List, IfOk, IfSome, OnErr, OnOk, false, length, true};
+ghost use Rattle.std.specs.Prelude.{◌≡◌, ◌↔◌, ◌++◌, ◌+◌, ◌<◌, ◌≤◌, ℕ, List, IfOk, IfSome, MatchOption, OnErr, OnOk, false, length, true};
 ghost use Rattle.om_world.specs.Holds.{Holds};
 ghost use Rattle.om_world.specs.World.{IsKnown};
 ghost use Rattle.om_process.specs.Core.{status_of};
 ghost use Rattle.om_timeline.specs.declared.deed.Deed.{Deed};
+ghost use Rattle.om_timeline.specs.declared.tape.Look.{Look};
 ghost use Rattle.om_timeline.specs.Alone.{move_alone};
 ghost use Rattle.om_timeline.specs.Deeds.{turns_at};
 ghost use Rattle.om_timeline.specs.Shown.{ShownAt};
-ghost use Rattle.om_timeline.specs.Timeline.{IsBegin, IsUpTo, at, machine_here, with_deeds};
+ghost use Rattle.om_timeline.specs.Timeline.{CanBegin, IsBegin, IsUpTo, at, machine_here, with_deeds};
 ghost use Rattle.om_timeline.specs.steps.Kept.{IsComing};
 ghost use Rattle.om_timeline.specs.steps.Placed.{IsLeft};
 
 use crate::alone::{Alone, copy_of};
 use crate::deed::{Deed, turns_at};
 use crate::fault::PlayFault;
-use crate::stage::{Stage, are_up_to, before, is_full, is_up_to, nearest, thin};
-use crate::tape::Tape;
+use crate::stage::{Stage, are_up_to, before, is_full, is_up_to, thin, up_to};
+use crate::tape::{Look, Tape};
 use om_interval::Pid;
 use om_machine::Machine;
 use om_process::Status;
@@ -45,7 +46,7 @@ pub struct Timeline {
     tape: Tape,
     here: Alone,
     at: Position,
-    // Where ways may begin, beside before the first event.
+    // Where ways may begin, beside before the first event: in their order.
     stages: Vec<Stage>,
     // How many instructions and events lie between two of them.
     spacing: u64,
@@ -80,8 +81,8 @@ impl Model for Timeline {
 }
 
 impl Timeline {
-    /// Begins before the first event of a record, with the world that it begins with. None, where the world has no such process,
-    /// or none that is up. Refused where memory ran out.
+    /// Begins before the first event of a record, with the world that it begins with. None, where the world has no such process, where it
+    /// is down, and where it has finished more than 4,294,967,295 instructions. Refused where memory ran out.
     pub fn new(
         alloc: Global,
         world: World<MemStable>,
@@ -91,6 +92,7 @@ impl Timeline {
         requires known { IsKnown world }
         requires holds { Holds world }
         ensures begun { IfOk result (λ made. IfSome made (λ t. IsBegin t process world events.items)) }
+        ensures can { IfOk result (λ made. MatchOption made (CanBegin world process → ⊥) (λ t. CanBegin world process)) }
     {
         let Some(tape) = Tape::new(alloc, world, events, process)? else {
             return Ok(None);
@@ -152,19 +154,21 @@ impl Timeline {
         self.tape.deeds()
     }
 
-    /// Plays the record up to the next event and over it, where that was not played so far, and tells whether there is one. The position
-    /// stays, and so does all that was played. After a fault the same fault is answered from then on.
-    pub fn look(&mut self, alloc: Global) -> Result<bool, PlayFault>
-        ensures more { IfOk result (λ more. (deeds : List Deed) × (self.new ≡ with_deeds self.old (self.old.deeds ++ deeds))) }
-        ensures there { IfOk result (λ more. more ≡ true → self.new.event < length self.new.deeds) }
-        ensures end { IfOk result (λ more. more ≡ false → length self.old.events ≤ self.old.event) }
+    /// Plays the record up to the next event and over it, where that was not played so far, and tells whether there is one. Of a run of very
+    /// many instructions a part is played, and nothing is known of it until all are (`NotYet`). The position stays, and so does all that was
+    /// played. After a fault the same fault is answered from then on.
+    pub fn look(&mut self, alloc: Global) -> Result<Look, PlayFault>
+        ensures more { IfOk result (λ look. (deeds : List Deed) × (self.new ≡ with_deeds self.old (self.old.deeds ++ deeds))) }
+        ensures there { IfOk result (λ look. look ≡ Look.Next → self.new.event < length self.new.deeds) }
+        ensures not_yet { IfOk result (λ look. look ≡ Look.NotYet → self.new ≡ self.old) }
+        ensures end { IfOk result (λ look. look ≡ Look.End → length self.old.events ≤ self.old.event) }
         ensures refused { OnErr result (self.new ≡ self.old) }
     {
         if self.passed >= self.spacing {
             self.keep_on(alloc);
         }
         if self.at.event < self.tape.deeds().len() {
-            return Ok(true);
+            return Ok(Look::Next);
         }
         self.film(alloc)
     }
@@ -185,10 +189,9 @@ impl Timeline {
     {
         self.make_room();
         if let Ok(machine) = copy_of(alloc, &self.here.machine) {
-            let _ = self.stages.push(Stage {
-                machine,
-                at: self.at,
-            });
+            let place = up_to(&self.stages, self.at);
+            let at = self.at;
+            let _ = self.stages.insert(place, Stage { machine, at });
         }
     }
 
@@ -202,12 +205,13 @@ impl Timeline {
         }
     }
 
-    // Plays one event more.
-    fn film(&mut self, alloc: Global) -> Result<bool, PlayFault>
+    // Plays one event more, or a part of it.
+    fn film(&mut self, alloc: Global) -> Result<Look, PlayFault>
         requires { length self.old.deeds ≤ self.old.event }
-        ensures more { IfOk result (λ more. (deeds : List Deed) × (self.new ≡ with_deeds self.old (self.old.deeds ++ deeds))) }
-        ensures there { IfOk result (λ more. more ≡ true → self.new.event < length self.new.deeds) }
-        ensures end { IfOk result (λ more. more ≡ false → length self.old.events ≤ self.old.event) }
+        ensures more { IfOk result (λ look. (deeds : List Deed) × (self.new ≡ with_deeds self.old (self.old.deeds ++ deeds))) }
+        ensures there { IfOk result (λ look. look ≡ Look.Next → self.new.event < length self.new.deeds) }
+        ensures not_yet { IfOk result (λ look. look ≡ Look.NotYet → self.new ≡ self.old) }
+        ensures end { IfOk result (λ look. look ≡ Look.End → length self.old.events ≤ self.old.event) }
         ensures refused { OnErr result (self.new ≡ self.old) }
     {
         self.tape.film(alloc)
@@ -316,11 +320,12 @@ impl Timeline {
         ensures order { OnOk result (IsUpTo self.new.event self.new.turns to.event to.turns) }
         ensures refused { OnErr result (self.new ≡ self.old) }
     {
-        let Some(place) = nearest(&self.stages, to) else {
+        let place = up_to(&self.stages, to);
+        if place == 0 {
             self.rewind(alloc)?;
             return Ok(());
-        };
-        let stage = &self.stages[place];
+        }
+        let stage = &self.stages[place - 1];
         self.here.machine = copy_of(alloc, &stage.machine)?;
         self.at = stage.at;
         self.passed = 0;

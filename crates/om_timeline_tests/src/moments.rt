@@ -8,7 +8,7 @@ use om_interval::Pid;
 use om_isa::Ext;
 use om_process::{Image, StartFault, Status};
 use om_stable::MemStable;
-use om_timeline::{Deed, Position, Timeline};
+use om_timeline::{Deed, Look, Position, Timeline};
 use om_world::{Event, World};
 use std::alloc::{AllocError, Global};
 use std::process::Abort;
@@ -89,11 +89,12 @@ fn image(alloc: Global, words: &[u32]) -> Result<Image, AllocError> {
     })
 }
 
-fn images(alloc: Global) -> Result<Vec<Image>, AllocError>
+// Of a process of these words, and of one that receives.
+fn images(alloc: Global, sends: &[u32]) -> Result<Vec<Image>, AllocError>
     ensures { IfOk result (λ images. length images.items ≡ 2) }
 {
     let mut images = Vec::with_capacity(alloc, 2)?;
-    images.push_reserved(image(alloc, &SENDS)?);
+    images.push_reserved(image(alloc, sends)?);
     images.push_reserved(image(alloc, &RECEIVES)?);
     Ok(images)
 }
@@ -109,11 +110,11 @@ fn stores(alloc: Global) -> Result<Vec<MemStable>, AllocError>
 }
 
 // The world of both at its start.
-fn begin(alloc: Global) -> Result<World<MemStable>, StartFault>
+fn begin(alloc: Global, sends: &[u32]) -> Result<World<MemStable>, StartFault>
     ensures known { IfOk result (λ world. IsKnown world) }
     ensures holds { IfOk result (λ world. Holds world) }
 {
-    let images = images(alloc)?;
+    let images = images(alloc, sends)?;
     let stores = stores(alloc)?;
     match World::start(alloc, &images, stores) {
         Ok(world) => Ok(world),
@@ -121,11 +122,21 @@ fn begin(alloc: Global) -> Result<World<MemStable>, StartFault>
     }
 }
 
-// The record as a process sees it, if there is such a process.
-fn seen_by(rt: &impl Abort, alloc: Global, process: Pid) -> Option<Timeline> {
-    let world = begin(alloc).expect(rt, "a world");
-    let events = Vec::from_slice(alloc, &EVENTS).expect(rt, "memory");
+// The record of these events as a process sees it, if there is such a process.
+fn record(
+    rt: &impl Abort,
+    alloc: Global,
+    sends: &[u32],
+    events: &[Event],
+    process: Pid,
+) -> Option<Timeline> {
+    let world = begin(alloc, sends).expect(rt, "a world");
+    let events = Vec::from_slice(alloc, events).expect(rt, "memory");
     Timeline::new(alloc, world, events, process).expect(rt, "memory")
+}
+
+fn seen_by(rt: &impl Abort, alloc: Global, process: Pid) -> Option<Timeline> {
+    record(rt, alloc, &SENDS, &EVENTS, process)
 }
 
 // The record as process 1 sees it, before its first event.
@@ -137,7 +148,7 @@ fn begun(rt: &impl Abort, alloc: Global) -> Timeline {
 fn played(rt: &impl Abort, alloc: Global) -> Timeline {
     let mut timeline = begun(rt, alloc);
     for _ in 0..EVENTS.len() {
-        assert!(rt; timeline.look(alloc).expect(rt, "an event"));
+        assert_eq!(rt; timeline.look(alloc).expect(rt, "an event"), Look::Next);
         assert!(rt; timeline.pass(alloc).expect(rt, "memory"));
     }
     timeline
@@ -163,7 +174,7 @@ fn each_event_is_passed(rt: HostRuntime) {
     for (event, wanted) in BEHIND.iter().enumerate() {
         assert!(&rt; place(&timeline) == *wanted, "{event}");
         assert!(&rt; timeline.position().event == event, "{event}");
-        let more = timeline.look(alloc).expect(&rt, "an event");
+        let more = timeline.look(alloc).expect(&rt, "an event") == Look::Next;
         assert!(&rt; more == (event < 9), "{event}");
         assert!(&rt;
             timeline.pass(alloc).expect(&rt, "memory") == more,
@@ -249,4 +260,92 @@ fn instructions_are_gone_through(rt: HostRuntime) {
 fn a_process_that_is_not_there(rt: HostRuntime) {
     assert!(&rt; seen_by(&rt, rt.alloc(), Pid::at(2)).is_none());
     assert!(&rt; seen_by(&rt, rt.alloc(), Pid::at(0)).is_some());
+}
+
+// Asks who it is, counts down from 65,536, sends its first 4 bytes to process 1, counts down from 65,536 again, and ends with 0:
+// addi a7, zero, 4; ecall; lui a1, 16; addi a1, a1, -1; bne a1, zero, -4, and the send; the same count, and the end.
+static COUNTS: [u32; 14] = [
+    0x0040_0893,
+    0x0000_0073,
+    0x0001_05b7,
+    0xfff5_8593,
+    0xfe05_9ee3,
+    0x0010_0893,
+    0x0010_0513,
+    0x0040_0613,
+    0x0000_0073,
+    0x0001_05b7,
+    0xfff5_8593,
+    0xfe05_9ee3,
+    0x0000_0893,
+    0x0000_0073,
+];
+
+// The first run ends in the middle of a count; the second goes to the end.
+static LONG: [Event; 4] = [
+    Event::Run {
+        process: 0,
+        fuel: 120_000,
+    },
+    Event::Run {
+        process: 0,
+        fuel: 2_000_000,
+    },
+    Event::Run {
+        process: 1,
+        fuel: 100,
+    },
+    Event::Give {
+        process: 1,
+        frame: 0,
+    },
+];
+
+// How often the next event is looked at until it is played, and whether there is one.
+fn looks(rt: &impl Abort, alloc: Global, timeline: &mut Timeline) -> (u64, bool) {
+    for parts in 0..100 {
+        match timeline.look(alloc).expect(rt, "an event") {
+            Look::Next => return (parts, true),
+            Look::NotYet => {}
+            Look::End => return (parts, false),
+        }
+    }
+    (100, false)
+}
+
+// A run in parts is the run: its deed, the machines in it, and what it sent. Each part has at most 50,000 instructions, and the part with
+// the first message is the last one.
+#[test]
+fn a_long_run_is_played_in_parts(rt: HostRuntime) {
+    let alloc = rt.alloc();
+    let mut timeline = record(&rt, alloc, &COUNTS, &LONG, Pid::at(0)).expect(&rt, "a process");
+    assert_eq!(&rt; looks(&rt, alloc, &mut timeline), (2, true));
+    assert!(&rt; timeline.position().event == 0 && timeline.deeds().len() == 1);
+    assert!(&rt; go(&rt, alloc, &mut timeline, 0, 120_000));
+    assert!(&rt; place(&timeline) == (16, 120_000));
+    assert!(&rt; !go(&rt, alloc, &mut timeline, 0, 120_001));
+    assert!(&rt; timeline.pass(alloc).expect(&rt, "memory"));
+    assert_eq!(&rt; looks(&rt, alloc, &mut timeline), (0, true));
+    assert!(&rt; timeline.pass(alloc).expect(&rt, "memory"));
+    assert!(&rt; place(&timeline) == (52, 262_153) && timeline.status() == Status::Ended(0));
+    assert_eq!(&rt; looks(&rt, alloc, &mut timeline), (0, true));
+}
+
+// Of a run of another process nothing is seen but what it sent.
+#[test]
+fn a_long_run_of_another(rt: HostRuntime) {
+    let alloc = rt.alloc();
+    let mut timeline = record(&rt, alloc, &COUNTS, &LONG, Pid::at(1)).expect(&rt, "a process");
+    for (event, parts) in [(0, 2), (1, 0), (2, 0), (3, 0)] {
+        assert!(&rt;
+            looks(&rt, alloc, &mut timeline) == (parts, true),
+            "{event}"
+        );
+        assert!(&rt; timeline.pass(alloc).expect(&rt, "memory"), "{event}");
+    }
+    assert_eq!(&rt; looks(&rt, alloc, &mut timeline), (0, false));
+    assert!(&rt; place(&timeline) == (16, 4));
+    let memory = timeline.machine().memory();
+    assert!(&rt; memory.len() == 68);
+    assert!(&rt; &memory[64..] == [0x93, 0x08, 0x40, 0x00].as_slice());
 }

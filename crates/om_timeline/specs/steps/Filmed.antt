@@ -1,5 +1,5 @@
 -- A tape as it is taken, event by event.
-use Rattle.std.specs.Prelude.{◌≡◌, ℕ, ◌-◌, ◌<◌, ◌≤◌, List, [], ◌∷◌, length, slice_get, take, Option, None, Some}
+use Rattle.std.specs.Prelude.{◌≡◌, ℕ, ◌-◌, ◌<◌, ◌≤◌, List, [], ◌∷◌, length, slice_get, take, IfSome, Option, None, Some}
 use Rattle.om_machine.specs.State.{State}
 use Rattle.om_process.specs.Core.{CoreState, cluster_size}
 use Rattle.om_process.specs.declared.limits.TheConstants.{LAST_NUMBER}
@@ -18,6 +18,7 @@ use Rattle.om_timeline.specs.Alone.{turns_alone}
 use Rattle.om_timeline.specs.Deeds.{after_deed, after_deeds, turns_in}
 use Rattle.om_timeline.specs.Shown.{InRun, machine_of}
 use Rattle.om_timeline.specs.steps.Kinds.{IsKind}
+use Rattle.om_timeline.specs.steps.Parts.{PlayerState}
 
 -- what was received last is from this process, with these bytes
 pub record IsReceived (w : WorldState) (from : ℕ) (body : List ℕ) : Type 0 where
@@ -90,12 +91,13 @@ pub record GoesOn (t : TapeState) (w : WorldState) : Type 0 where
   pub seat : HasSeat t.own t.n w
   pub machine : HasMachine t.own w (after_deeds t.own t.n t.first t.deeds)
 
--- it is lost once a fault was met
-pub record IsTape (t : TapeState) (fault : Option PlayFault) (w : WorldState) : Type 0 where
+-- it is lost once a fault was met; a run that has begun is the next event
+pub record IsTape (t : TapeState) (fault : Option PlayFault) (s : PlayerState) : Type 0 where
   pub within : length t.deeds ≤ length t.events
   pub last : WorldState
   pub filmed : IsFilmed t last
-  pub goes_on : fault ≡ None → GoesOn t w
+  pub goes_on : fault ≡ None → GoesOn t s.before
+  pub begun : fault ≡ None → IfSome s.begun (λ event. slice_get t.events (length t.deeds) ≡ Some event)
 
 -- an event was played, and this is what it did to the process
 pub record IsNextDeed (p n : ℕ) (old : WorldState) (e : Event) (deed : Deed) (new : WorldState) : Type 0 where
@@ -106,3 +108,15 @@ pub record IsNextDeed (p n : ℕ) (old : WorldState) (e : Event) (deed : Deed) (
   pub seat : HasSeat p n new
   pub is_kind : IsKind p answer e kind
   pub is_deed : IsDeed deed p new kind
+
+-- so it is read of the world behind the event
+pub record IsRead (p n : ℕ) (e : Event) (answer : Answer) (deed : Deed) (w : WorldState) : Type 0 where
+  pub kind : Kind
+  pub seat : HasSeat p n w
+  pub is_kind : IsKind p answer e kind
+  pub is_deed : IsDeed deed p w kind
+
+-- and no run has begun behind it
+pub record IsPlayedDeed (p n : ℕ) (old : WorldState) (e : Event) (deed : Deed) (new : PlayerState) : Type 0 where
+  pub over : new.begun ≡ None
+  pub next : IsNextDeed p n old e deed new.before

@@ -8,5 +8,5 @@ returns-clause-opened g c =
 
 pub returns-clause-error : goal.returns-clause-error
 returns-clause-error g c =
-    error_of_opening (g.R.Read.remaining c.args.input.now) c.new.result c.in_ok-script.script c.begin.result c.new.ensures
+    error_of_opening (g.R.Read.remaining c.args.input.now) c.new.result c.in_ok-script.script c.args.process.now c.begin.result c.new.ensures
     c.in_ok-script.ensures.script c.begin.ensures.error

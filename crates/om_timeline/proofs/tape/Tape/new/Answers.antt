@@ -1,4 +1,4 @@
-use Rattle.std.proofs.Common.{rules, ◌≡◌, [], Some}
+use Rattle.std.proofs.Common.{rules, ◌≡◌, [], None, Some}
 use Rattle.std.specs.Prelude.{slice_get}
 use Rattle.om_process.specs.Core.{CoreState}
 use Rattle.om_world.specs.World.{WorldState}
@@ -15,4 +15,6 @@ invariant_of-result c =
     let is : c.in_ok-first.first ≡ core.now.machine = search rules in
     let begun : c.of.result.value ≡ w = search rules in
     let none : c.new.result.items ≡ [] = search rules in
-    tape_begun c.args.process c.n-n.result c.in_ok-first.first c.args.events.items w c.of.result.value c.new.result.items core c.requires.known c.requires.holds seat at is begun none
+    let before : c.new-2.result.before ≡ w = search rules in
+    let over : c.new-2.result.begun ≡ None = search rules in
+    tape_begun c.args.process c.n-n.result c.in_ok-first.first c.args.events.items w c.of.result.value c.new-2.result c.new.result.items core c.requires.known c.requires.holds seat at is begun before over none
