@@ -104,7 +104,7 @@ fn deliver_all<C: Scheduler>(
     Ok(false)
 }
 
-// What the scheduler picks.
+// Returns what the scheduler picks.
 fn picked<C: Scheduler>(scheduler: &mut C, found: &[Delivery]) -> Option<Delivery> {
     let place = scheduler.pick(found)?;
     Some(*found.get(place)?)

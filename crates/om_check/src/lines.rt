@@ -35,7 +35,7 @@ impl Lines {
         self.rows.get_mut(from)?.get_mut(to)?.frames.pop_front()
     }
 
-    // Whether a message of the one to the other was sent and not taken.
+    // Returns whether a message of the one to the other was sent and not taken.
     pub(crate) fn has(&self, from: usize, to: usize) -> bool {
         match self.rows.get(from) {
             Some(row) => match row.get(to) {

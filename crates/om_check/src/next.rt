@@ -15,7 +15,8 @@ use om_process::{ProcCore, Status};
 use om_stable::MemStable;
 use om_world::World;
 
-// Whether nothing is to be received from a process: all that it keeps for the receiver was received, or the delivery is excluded.
+// Returns whether nothing is to be received from a process: all that it keeps for the receiver was received, or the delivery is
+// excluded.
 fn is_passed(sender: &ProcCore, core: &ProcCore, walk: &Walk, from: Pid, to: Pid) -> bool
     requires sender { sender.now.own ≡ from }
     requires receiver { core.now.own ≡ to }

@@ -36,7 +36,7 @@ impl<'a> Player<'a> {
         Ok(())
     }
 
-    // How many instructions a process is still to finish.
+    // Returns how many instructions a process is still to finish.
     fn left(&self, pid: Pid) -> u64 {
         match self.witnesses.get(pid.index()) {
             Some(witness) => self.stage.left(pid, witness.count),
@@ -122,7 +122,7 @@ impl<'a> Player<'a> {
         flush(&mut self.stage.world, self.stage.alloc, pid)
     }
 
-    // How many receipts there are to be.
+    // Returns how many receipts there are to be.
     fn total(&self) -> usize {
         let mut total: usize = 0;
         for witness in self.witnesses {

@@ -44,7 +44,7 @@ pub(crate) fn begin(alloc: Global, images: &[Image]) -> Result<World<MemStable>,
     }
 }
 
-// Whether a status is that of an end.
+// Returns whether a status is that of an end.
 fn has_ended(status: Status) -> bool
     ensures { IsTrue result → IsEnd status }
 {
@@ -54,7 +54,7 @@ fn has_ended(status: Status) -> bool
     }
 }
 
-// Whether a process has ended, and all that it put out is released.
+// Returns whether a process has ended, and all that it put out is released.
 pub(crate) fn is_done(world: &World<MemStable>, pid: Pid) -> bool
     requires { pid < process_count world.now.manager }
     ensures { IsTrue result → IsDone world.now pid }

@@ -29,7 +29,7 @@ pub(crate) fn up(world: &World<MemStable>, pid: Pid) -> Result<&ProcCore, PlayFa
     }
 }
 
-// Whether all that the one process keeps for the other, of the same cluster, was received there.
+// Returns whether all that the one process keeps for the other, of the same cluster, was received there.
 pub(crate) fn keeps_received(from: &ProcCore, to: &ProcCore, q: Pid, p: Pid) -> bool
     requires sender { from.now.own ≡ q }
     requires receiver { to.now.own ≡ p }
@@ -45,7 +45,7 @@ pub(crate) fn keeps_received(from: &ProcCore, to: &ProcCore, q: Pid, p: Pid) -> 
     }
 }
 
-// How many messages a process got from another.
+// Returns how many messages a process got from another.
 fn got_from(core: &ProcCore, from: Pid) -> u32
     ensures { result ≡ slice_index core.now.now.got from }
 {
@@ -66,7 +66,7 @@ pub(crate) enum Rest {
     GoesOn,
 }
 
-// Whether a process that waits, of so many, has received all that the others keep for it.
+// Returns whether a process that waits, of so many, has received all that the others keep for it.
 fn has_all(world: &World<MemStable>, n: usize, core: &ProcCore, p: Pid) -> Result<bool, PlayFault>
     requires few { n ≤ MAX_PROCESSES }
     requires all { n ≡ length world.now.programs }
@@ -85,8 +85,8 @@ fn has_all(world: &World<MemStable>, n: usize, core: &ProcCore, p: Pid) -> Resul
     Ok(true)
 }
 
-// How a process, of so many, stands. Refused with `Spent` where it could run, and with `NotEnded` where something that it put out is
-// not released.
+// Returns how a process, of so many, stands. Refused with `Spent` where it could run, and with `NotEnded` where something that
+// it put out is not released.
 fn rest_of(world: &World<MemStable>, n: usize, pid: Pid) -> Result<Rest, PlayFault>
     requires few { n ≤ MAX_PROCESSES }
     requires all { n ≡ length world.now.programs }
@@ -111,7 +111,8 @@ fn rest_of(world: &World<MemStable>, n: usize, pid: Pid) -> Result<Rest, PlayFau
     }
 }
 
-// How a world of so many processes stands, of which all that was put out is released: none where a process can receive something.
+// Returns how a world of so many processes stands, of which all that was put out is released: none where a process can receive
+// something.
 pub(crate) fn end_of(world: &World<MemStable>, n: usize) -> Result<Option<End>, PlayFault>
     requires few { n ≤ MAX_PROCESSES }
     requires all { n ≡ length world.now.programs }

@@ -31,7 +31,7 @@ impl Stage {
         })
     }
 
-    // How many messages to another a process keeps.
+    // Returns how many messages to another a process keeps.
     fn kept(&self, pid: Pid, to: usize) -> usize {
         match self.world.core(pid) {
             Some(core) if to < core.vec().n() => core.outbox(Pid::at(to)).len(),
@@ -50,7 +50,7 @@ impl Stage {
         Ok(())
     }
 
-    // How many instructions a process may still finish of so many.
+    // Returns how many instructions a process may still finish of so many.
     pub(crate) fn left(&self, pid: Pid, limit: u64) -> u64 {
         match self.world.core(pid) {
             Some(core) => limit.saturating_sub(core.machine().count()),

@@ -22,7 +22,7 @@ pub(crate) struct Trail {
 }
 
 impl Trail {
-    // Whether a process waits for a message.
+    // Returns whether a process waits for a message.
     pub(crate) fn waits(&self, pid: Pid) -> bool {
         match self.stage.world.core(pid) {
             Some(core) => core.status() == Status::Waiting,
@@ -30,7 +30,7 @@ impl Trail {
         }
     }
 
-    // Whether a message of the one to the other was sent and not received.
+    // Returns whether a message of the one to the other was sent and not received.
     pub(crate) fn is_under_way(&self, from: Pid, to: Pid) -> bool {
         self.stage.lines.has(from.index(), to.index())
     }

@@ -48,7 +48,7 @@ impl Walk {
         }
     }
 
-    // Whether the delivery is to be passed over for now.
+    // Returns whether the delivery is to be passed over for now.
     pub(crate) fn is_excluded(&self, from: Pid, to: Pid) -> bool
         ensures { IsTrue result → IsExcluded self.now (record { from = from; to = to }) }
     {
@@ -98,7 +98,7 @@ impl Walk {
     }
 }
 
-// Whether a delivery is of these two.
+// Returns whether a delivery is of these two.
 fn is_of(delivery: &Delivery, from: Pid, to: Pid) -> bool
     ensures { IsTrue result → delivery.now ≡ record { from = from; to = to } }
 {

@@ -151,7 +151,7 @@ impl Write for Failing {
     }
 }
 
-// What each command answers to a stream that fails in its midst, and how much it wrote.
+// Returns what each command answers to a stream that fails in its midst, and how much it wrote.
 fn unread(alloc: Global) -> ([Result<(), CommandError>; 3], usize) {
     let mut written = Vec::new(alloc);
     let answers = [
@@ -167,7 +167,7 @@ fn unread(alloc: Global) -> ([Result<(), CommandError>; 3], usize) {
     (answers, written.len())
 }
 
-// What each answers where its text cannot be written to the end.
+// Returns what each answers where its text cannot be written to the end.
 fn unwritten(alloc: Global) -> [Result<(), CommandError>; 3] {
     let mut one = b"program a 16 00000893 00000073\nproc p a\n".as_slice();
     [

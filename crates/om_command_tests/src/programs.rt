@@ -26,7 +26,7 @@ fn check_lines(rt: &impl Abort, alloc: Global, programs: &mut Programs, rows: &[
     }
 }
 
-// What stands between spaces. At the begin of a text that begins with one, that is the empty word.
+// Returns what stands between spaces. At the begin of a text that begins with one, that is the empty word.
 fn split<'a>(rt: &impl Abort, alloc: Global, text: &'a str) -> Vec<&'a [u8]> {
     let mut words = Vec::new(alloc);
     for word in text.as_bytes().split(|byte| *byte == b' ') {

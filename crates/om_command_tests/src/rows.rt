@@ -87,7 +87,7 @@ fn check_answer(
     assert_eq!(rt; told, text.as_bytes(), "{input}");
 }
 
-// What is compared of what was written: so many bytes where it has to begin with them, else all.
+// Returns what is compared of what was written: so many bytes where it has to begin with them, else all.
 fn shown(written: &[u8], how: How, count: usize) -> &[u8] {
     match how {
         How::Begins if count <= written.len() => &written[..count],

@@ -103,7 +103,7 @@ fn event_lines(alloc: Global, input: &Input) -> Result<Vec<usize>, AllocError>
     Vec::from_slice(alloc, &lines[head..])
 }
 
-// How many of these lines stand at this line or before it.
+// Returns how many of these lines stand at this line or before it.
 fn count_within(lines: &[usize], last: usize) -> usize
     ensures { result ≡ count_within lines.now last }
 {
@@ -211,7 +211,7 @@ fn play_line(
     play_step(alloc, world, line, event)
 }
 
-// How many characters the names of the processes have.
+// Returns how many characters the names of the processes have.
 fn name_lengths(alloc: Global, programs: &Programs) -> Result<Vec<u32>, AllocError> {
     let mut lengths = Vec::new(alloc);
     for p in 0..programs.n() {
@@ -224,7 +224,7 @@ fn length_of(name: Option<&str>) -> u32 {
     u32::try_from(name.unwrap_or("").len()).unwrap_or(0)
 }
 
-// How many characters the longest name of a process or of its program has.
+// Returns how many characters the longest name of a process or of its program has.
 fn longest(programs: &Programs) -> u32 {
     let mut longest = 0;
     for p in 0..programs.n() {

@@ -114,7 +114,7 @@ fn makes(event: Event, answer: Answer) -> bool
     }
 }
 
-// How many outputs an event handed in, of a process that had handed in so many before it and has so many now.
+// Returns how many outputs an event handed in, of a process that had handed in so many before it and has so many now.
 fn fresh_of(event: Event, answer: Answer, before: u64, now: u64) -> u64
     ensures { result ≡ (if makes event answer then now - before else 0) }
 {
@@ -125,7 +125,7 @@ fn fresh_of(event: Event, answer: Answer, before: u64, now: u64) -> u64
     }
 }
 
-/// What an event of a line showed, by its answer: `old` is the world before it, as far as it is read.
+/// Returns what an event of a line showed, by its answer: `old` is the world before it, as far as it is read.
 fn step_of<S: Stable>(
     world: &World<S>,
     line: usize,
@@ -187,7 +187,7 @@ pub fn play_step<S: Stable>(
     Ok(step_of(world, line, event, answer, p, &old))
 }
 
-/// Where each of so many processes stands.
+/// Returns where each of so many processes stands.
 pub fn standings_of<S: Stable>(
     alloc: Global,
     world: &World<S>,

@@ -13,7 +13,7 @@ pub trait ExploreContext {
     /// Learns the name of the process that came to its limit, where one did; then the exploration is refused.
     fn tell_spent(&self, process: &str);
 
-    /// Whether a script of each text is wanted.
+    /// Returns whether a script of each text is wanted.
     fn wants_witnesses(&self) -> bool;
 
     /// Takes the script of `sim` that leads to the text of a number, counted from 1; refused with `CannotWrite`.

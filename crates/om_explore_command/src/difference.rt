@@ -18,7 +18,7 @@ pub enum Place {
     End { process: usize },
 }
 
-// Whether the outputs of a number have the same bytes, or there is neither.
+// Returns whether the outputs of a number have the same bytes, or there is neither.
 fn is_same(one: &[Output], other: &[Output], number: usize) -> bool
     ensures same { IsTrue result → bytes_in (map held_of one.now) number ≡ bytes_in (map held_of other.now) number }
     ensures other { result ≡ false → bytes_in (map held_of one.now) number ≢ bytes_in (map held_of other.now) number }

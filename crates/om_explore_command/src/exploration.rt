@@ -41,7 +41,7 @@ fn tell_spent<C: ExploreContext>(context: &C, programs: &Programs, pid: Pid) {
     }
 }
 
-// Why a run was not played; the context learns of a process that came to its limit.
+// Returns why a run was not played; the context learns of a process that came to its limit.
 fn refusal_of<C: ExploreContext>(context: &C, programs: &Programs, fault: PlayFault) -> CommandError
     ensures { result ≡ error_of fault }
 {

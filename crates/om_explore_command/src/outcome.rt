@@ -31,7 +31,7 @@ pub struct Outcome {
     pub events: Vec<Event>,
 }
 
-// How a process of a world at its end stands.
+// Returns how a process of a world at its end stands.
 fn status_of(world: &World<MemStable>, pid: Pid) -> Status
     requires { HasCore world.now pid }
     ensures { (c : CoreState) × (slice_get world.now.cores pid ≡ Some (Some c)) × (result ≡ status_of (move_of c)) }
@@ -42,7 +42,7 @@ fn status_of(world: &World<MemStable>, pid: Pid) -> Status
     }
 }
 
-// How so many processes of a world at its end stand.
+// Returns how so many processes of a world at its end stand.
 fn statuses_of(alloc: Global, world: &World<MemStable>, n: usize) -> Result<Vec<Status>, AllocError>
     requires few { n ≤ MAX_PROCESSES }
     requires cores { (p : ℕ) → p < n → HasCore world.now p }
@@ -56,7 +56,7 @@ fn statuses_of(alloc: Global, world: &World<MemStable>, n: usize) -> Result<Vec<
     Ok(statuses)
 }
 
-// What a run of these programs comes to.
+// Returns what a run of these programs comes to.
 pub(crate) fn outcome_of(
     alloc: Global,
     programs: &Programs,

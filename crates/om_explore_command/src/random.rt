@@ -38,13 +38,13 @@ impl Draws {
         }
     }
 
-    // How likely a delivery is, against the others.
+    // Returns how likely a delivery is, against the others.
     fn weight(&self, delivery: &Delivery) -> u64 {
         let place = delivery.from.index() * MAX_PROCESSES + delivery.to.index();
         self.weights.get(place).copied().unwrap_or(1)
     }
 
-    // How likely all these are together.
+    // Returns how likely all these are together.
     fn total(&self, deliveries: &[Delivery]) -> u64 {
         let mut total: u64 = 0;
         for delivery in deliveries {

@@ -32,7 +32,7 @@ fn name_of(programs: &Programs, process: usize) -> &str
     }
 }
 
-// Whether a process waits.
+// Returns whether a process waits.
 fn waits(status: Status) -> bool
     ensures { result ≡ is_waiting status }
 {
@@ -42,7 +42,7 @@ fn waits(status: Status) -> bool
     }
 }
 
-// Whether one of them waits.
+// Returns whether one of them waits.
 fn any_waits(statuses: &[Status]) -> bool
     ensures { result ≡ list_any is_waiting statuses.now }
 {
@@ -172,7 +172,7 @@ fn push_output(
     }
 }
 
-// How a process ended.
+// Returns how a process ended.
 fn status_at(report: &Report, process: usize) -> Status
     ensures { result ≡ slice_index_or report.now.statuses.items process Ready }
 {
@@ -336,7 +336,7 @@ fn push_runs(text: &mut String, is_asked: bool, is_all: bool, runs: u64) -> Resu
     }
 }
 
-// Where the first of what was found and each differ first, of so many processes.
+// Returns where the first of what was found and each differ first, of so many processes.
 fn places_of(alloc: Global, found: &[Found], n: usize) -> Result<Vec<Option<Place>>, AllocError>
     requires { All (OfCluster n) found.now }
     ensures { IfOk result (λ places. ArePlaces n found.now places.items) }

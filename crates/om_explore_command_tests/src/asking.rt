@@ -78,7 +78,7 @@ pub(crate) fn options(is_all: bool, runs: u64) -> Options {
     }
 }
 
-// What is written of an input, or the line of its error.
+// Returns what is written of an input, or the line of its error.
 pub(crate) fn written(rt: &impl Abort, alloc: Global, options: &Options, input: &str) -> String {
     let mut context = make_beside(alloc, false);
     told(rt, alloc, options, input, &mut context)
@@ -99,7 +99,7 @@ pub(crate) fn told(
     }
 }
 
-// What `sim` writes of a script.
+// Returns what `sim` writes of a script.
 pub(crate) fn played(rt: &impl Abort, alloc: Global, script: &[u8]) -> String {
     let mut reader = script;
     let mut writer = Vec::new(alloc);

@@ -8,7 +8,7 @@ use sha2::{Digest, Sha256};
 use std::alloc::Global;
 use std::process::Abort;
 
-// What is told of a text that so many runs came to.
+// Returns what is told of a text that so many runs came to.
 fn line_of(rt: &impl Abort, alloc: Global, text: &str, runs: u64) -> String {
     let digest = hex::encode(alloc, Sha256::digest(text.as_bytes())).expect(rt, "memory");
     format!(in alloc; "text 1 runs {runs} sha256 {digest}\n").expect(rt, "memory")

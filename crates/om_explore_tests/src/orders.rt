@@ -128,7 +128,7 @@ impl Scheduler for Never {
     }
 }
 
-// What the processes of a world put out, one behind the other.
+// Returns what the processes of a world put out, one behind the other.
 pub fn put_out(alloc: Global, world: &World<MemStable>) -> Result<Vec<u8>, AllocError> {
     let mut bytes = Vec::new(alloc);
     let manager = world.manager();
@@ -236,7 +236,7 @@ fn what_happened_is_told(rt: HostRuntime) {
     assert_eq!(&rt; world.live().len(), 2);
 }
 
-// What comes of a run, in a word, and of which process.
+// Returns what comes of a run, in a word, and of which process.
 fn word_of(told: Result<Option<Explored>, PlayFault>) -> (&'static str, usize) {
     match told {
         Ok(run) => (run_word(&run), 0),

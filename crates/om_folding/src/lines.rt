@@ -5,7 +5,7 @@ ghost use Rattle.std.specs.List.{slice_split};
 
 use std::alloc::{AllocError, Global};
 
-// What stands between the ends of lines. The last of these has no end.
+// Returns what stands between the ends of lines. The last of these has no end.
 pub(crate) fn parts_of(alloc: Global, text: &[u8]) -> Result<Vec<&[u8]>, AllocError>
     ensures { IfOk result (λ parts. map (λ part. part.now) parts.items ≡ slice_split (λ byte. byte == 10) text.now) }
 {

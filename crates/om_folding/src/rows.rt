@@ -13,21 +13,21 @@ fn is_address_digit(byte: u8) -> bool
     matches!(byte, b'0'..=b'9' | b'a'..=b'f')
 }
 
-// Whether these are digits of an address.
+// Returns whether these are digits of an address.
 fn are_address_digits(bytes: &[u8]) -> bool
     ensures { result ≡ list_all is_address_digit bytes.now }
 {
     bytes.iter().all(|byte| is_address_digit(*byte))
 }
 
-// Whether these are zeros.
+// Returns whether these are zeros.
 fn are_zeros(digits: &[u8]) -> bool
     ensures { result ≡ list_all (λ byte. byte == 48) digits.now }
 {
     digits.iter().all(|byte| *byte == b'0')
 }
 
-// Whether a line is an address and zeros.
+// Returns whether a line is an address and zeros.
 fn is_zero_row(line: &[u8]) -> bool
     ensures { result ≡ is_zero_row line.now }
 {
@@ -37,7 +37,7 @@ fn is_zero_row(line: &[u8]) -> bool
         && are_zeros(&line[ADDRESS_DIGITS + 1..])
 }
 
-// Whether the line of a number is one.
+// Returns whether the line of a number is one.
 fn is_zero_at(lines: &[&[u8]], k: usize) -> bool
     requires { k < length lines.now }
     ensures { result ≡ is_zero_at (map (λ line. line.now) lines.now) k }
@@ -45,7 +45,7 @@ fn is_zero_at(lines: &[&[u8]], k: usize) -> bool
     is_zero_row(lines[k])
 }
 
-// Whether a line is a row of zeros, and the one before it is another.
+// Returns whether a line is a row of zeros, and the one before it is another.
 pub(crate) fn repeats(lines: &[&[u8]], k: usize) -> bool
     requires { k < length lines.now }
     ensures { result ≡ repeats (map (λ line. line.now) lines.now) k }
@@ -53,7 +53,7 @@ pub(crate) fn repeats(lines: &[&[u8]], k: usize) -> bool
     k > 0 && is_zero_at(lines, k) && is_zero_at(lines, k - 1)
 }
 
-// Whether so is the one before it.
+// Returns whether so is the one before it.
 pub(crate) fn repeats_on(lines: &[&[u8]], k: usize) -> bool
     requires { k < length lines.now }
     ensures { result ≡ repeats_on (map (λ line. line.now) lines.now) k }

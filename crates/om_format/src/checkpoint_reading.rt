@@ -50,7 +50,7 @@ fn kind_at(bytes: &[u8]) -> Result<(Ext, Version, &[u8]), DecodeError>
     Ok((ext, version, rest))
 }
 
-// Whether a checkpoint of this version can be of n processes.
+// Returns whether a checkpoint of this version can be of n processes.
 fn is_cluster_size(version: Version, n: usize) -> bool
     ensures { result ≡ is_cluster_size version n }
 {
@@ -191,7 +191,7 @@ fn vectors_at(
     Ok((vec, got, sent, rest))
 }
 
-// How many outputs were made by that count, and the size of the memory, behind the vectors of n processes.
+// Returns how many outputs were made by that count, and the size of the memory, behind the vectors of n processes.
 #[tactic(auto, unfolding(crate::specs::steps::CheckpointReading::made_at))]
 fn made_at(n: usize, count: u64, bytes: &[u8]) -> Result<(u64, usize, &[u8]), DecodeError>
     requires { n ≤ MAX_PROCESSES }

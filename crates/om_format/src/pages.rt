@@ -6,7 +6,7 @@ ghost use Rattle.om_isa.specs.declared.memory.TheConstants.{MAX_MEMORY};
 
 use crate::limits::PAGE;
 
-// How many pages a memory of so many bytes has.
+// Returns how many pages a memory of so many bytes has.
 pub(crate) fn page_count(size: usize) -> usize
     requires { size ≤ MAX_MEMORY }
     ensures { result ≡ page_count size }
@@ -14,7 +14,7 @@ pub(crate) fn page_count(size: usize) -> usize
     (size + (PAGE - 1)) / PAGE
 }
 
-// How many bytes the page of that index has.
+// Returns how many bytes the page of that index has.
 pub(crate) fn page_size(size: usize, index: usize) -> usize
     requires most { size ≤ MAX_MEMORY }
     requires within { index < page_count size }
@@ -68,7 +68,7 @@ fn is_any_set(bytes: &[u8]) -> bool
     set
 }
 
-// How many pages of a memory are kept.
+// Returns how many pages of a memory are kept.
 pub(crate) fn count_kept(memory: &[u8]) -> usize
     requires { length memory.now ≤ MAX_MEMORY }
     ensures exact { result ≡ length (kept_pages memory.now) }

@@ -34,7 +34,7 @@ pub(crate) fn line_of(
     Ok(joined(alloc, ext, name, size, &texts)?)
 }
 
-// Whether these are the bytes of an ELF file.
+// Returns whether these are the bytes of an ELF file.
 fn is_elf(bytes: &[u8]) -> bool
     ensures { IsTrue result ↔ IsElf bytes.now }
 {

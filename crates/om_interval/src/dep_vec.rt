@@ -128,7 +128,7 @@ impl DepVec {
         self.set(pid, self.get(pid).max(interval));
     }
 
-    /// Whether each place is at most the other's. Vectors of clusters of different sizes are not comparable.
+    /// Returns whether each place is at most the other's. Vectors of clusters of different sizes are not comparable.
     pub fn leq(&self, other: &DepVec) -> bool
         ensures { IsTrue result ↔ IsBelow self.now other.now }
     {

@@ -68,7 +68,7 @@ impl Starts {
         starts.get(inc as usize)
     }
 
-    /// Whether a message with this tag is an orphan: a later incarnation of its sender began at or below the interval in
+    /// Returns whether a message with this tag is an orphan: a later incarnation of its sender began at or below the interval in
     /// which it was sent.
     pub fn is_orphan(&self, pid: Pid, tag: Tag) -> bool
         requires { pid < length self.now }

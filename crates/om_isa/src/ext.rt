@@ -11,7 +11,7 @@ pub enum Ext {
 }
 
 impl Ext {
-    // Whether a program of this extension may use the instructions of another.
+    // Returns whether a program of this extension may use the instructions of another.
     #[inline(always)]
     pub(crate) fn has(self, other: Ext) -> bool
         ensures { result ≡ has self other }

@@ -7,7 +7,7 @@ pub const MIN_MEMORY: usize = 4;
 /// The greatest number of bytes in a memory.
 pub const MAX_MEMORY: usize = 65_536;
 
-/// Whether a memory may have so many bytes: from `MIN_MEMORY` to `MAX_MEMORY`, and a multiple of `MIN_MEMORY`.
+/// Returns whether a memory may have so many bytes: from `MIN_MEMORY` to `MAX_MEMORY`, and a multiple of `MIN_MEMORY`.
 pub fn is_memory_size(bytes: usize) -> bool
     ensures test { result ≡ is_memory_size bytes }
     ensures size { (result ≡ true) ↔ IsMemorySize bytes }

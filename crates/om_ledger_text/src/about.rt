@@ -25,7 +25,7 @@ pub(crate) struct About<'a> {
     pub(crate) image: &'a [u8],
 }
 
-// What the bytes say, if they say what a store is of.
+// Returns what the bytes say, if they say what a store is of.
 pub(crate) fn about_in(bytes: &[u8]) -> Option<About<'_>>
     ensures said { IfSome result (λ a. bytes.now ≡ about a.own a.n (program_in a.ext a.size a.image.now)) }
     ensures none { IfNone result (IsAbout bytes.now → ⊥) }

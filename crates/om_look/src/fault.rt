@@ -35,7 +35,7 @@ impl<T: Drop> From<AllocFailed<T>> for LookFault {
     }
 }
 
-// Why a store that was read refused to; it never answers `Present`.
+// Returns why a store that was read refused to; it never answers `Present`.
 pub(crate) fn fault_of(error: StoreError) -> LookFault
     requires { error ≢ StoreError.Present }
     ensures { result ≡ LookFault.Fault → error ≡ StoreError.Fault }

@@ -204,14 +204,14 @@ fn base_at(alloc: Global, own: Pid, n: usize, x: u32, bytes: &[u8]) -> Result<Pe
     })
 }
 
-// Whether it is the head of process `own` of `n` in interval `x`.
+// Returns whether it is the head of process `own` of `n` in interval `x`.
 fn is_of(head: &Head, own: Pid, n: usize, x: u32) -> bool
     ensures { IsTrue result ↔ ((head.now.pid ≡ own) × (length head.now.vec ≡ n) × (head.now.interval ≡ x)) }
 {
     head.pid == own && head.vec.n() == n && head.interval == x
 }
 
-// Why bytes of interval `x` that were not decoded are refused.
+// Returns why bytes of interval `x` that were not decoded are refused.
 fn damage(x: u32, error: DecodeError) -> RowsFault
     ensures { result ≡ damage_of x error }
 {
@@ -249,7 +249,7 @@ fn push_rows(
     Ok(())
 }
 
-// Whether `y` is the interval after `x`.
+// Returns whether `y` is the interval after `x`.
 fn is_next(x: u32, y: u32) -> bool
     ensures { IsTrue result ↔ (y ≡ x + 1) }
 {

@@ -43,7 +43,7 @@ fn stop_below<S: Stable>(alloc: Global, store: &mut S, y: u32) -> Result<u64, Lo
     stop_at(fault)
 }
 
-// Where a refused replay stopped.
+// Returns where a refused replay stopped.
 fn stop_at(fault: ReplayFault) -> Result<u64, LookFault>
     ensures { result ≡ stop_told fault }
 {

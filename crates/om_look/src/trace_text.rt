@@ -147,7 +147,7 @@ fn push_first(text: &mut Vec<u8>, after: &Machine) -> Result<(), AllocError>
     push_register(text, 10, after.regs()[9])
 }
 
-// How many entries the queue has that a call may add to.
+// Returns how many entries the queue has that a call may add to.
 pub(crate) fn kept_of(core: &ProcCore, event: Event) -> usize
     ensures { result ≡ kept_in core.now.now.queues (place_of (cluster_size core.now.now) event) }
 {

@@ -62,7 +62,7 @@ macro_rules! written_rows {
     };
 }
 
-// What an instruction writes.
+// Returns what an instruction writes.
 pub(crate) fn what_it_writes(inst: &Inst) -> Written
     ensures { result ≡ writes_of inst.now }
 {

@@ -73,7 +73,7 @@ macro_rules! effect_rows {
 }
 
 impl Machine {
-    // What an instruction does now.
+    // Returns what an instruction does now.
     #[inline(always)]
     pub(crate) fn effect(&self, inst: &Inst) -> EffectNow
         ensures effect { told self.now result ≡ effect_of self.now inst.now }
@@ -126,7 +126,7 @@ impl Machine {
         }
     }
 
-    // Why so many bytes may not be accessed at an address, if there is a cause.
+    // Returns why so many bytes may not be accessed at an address, if there is a cause.
     #[tactic(auto, unfolding(crate::specs::Effects::access_fault))]
     fn access_fault(&self, width: u32, address: u32) -> Option<Cause>
         requires { 0 < width }
@@ -283,7 +283,7 @@ impl Machine {
         Event::Call(call)
     }
 
-    // What a step is that has this effect.
+    // Returns what a step is that has this effect.
     pub(crate) fn event(&self, effect: EffectNow) -> Event
         ensures { result ≡ event_of (told self.now effect) }
     {

@@ -15,12 +15,12 @@ fn vector_of(rt: &impl Abort, places: &[u32]) -> DepVec {
     DepVec::from_slice(places).expect(rt, "1 to 16 places")
 }
 
-// How many places a vector of so many zeros has, None where there is none.
+// Returns how many places a vector of so many zeros has, None where there is none.
 fn zeros(places: usize) -> Option<usize> {
     Some(DepVec::zeros(places)?.n())
 }
 
-// Whether a vector of these places has them, None where there is none.
+// Returns whether a vector of these places has them, None where there is none.
 fn keeps(places: &[u32]) -> Option<bool> {
     Some(DepVec::from_slice(places)?.as_slice() == places)
 }

@@ -71,7 +71,7 @@ enum Field {
     Fence,
 }
 
-// What a field keeps of a number: the number, or None where it does not fit. A match costs a proof less than a `?`.
+// Returns what a field keeps of a number: the number, or None where it does not fit. A match costs a proof less than a `?`.
 fn kept(field: Field, number: i32) -> Option<i32> {
     match field {
         Field::Register => match u8::try_from(number) {

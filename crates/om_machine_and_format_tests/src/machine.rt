@@ -277,7 +277,8 @@ fn assert_restored(rt: &impl Abort, machine: &Machine) {
     assert_same(rt, &(told, registers), &(wanted, (regs, Some(0), Some(1))));
 }
 
-// Whether the machine that is restored from what this one tells, with this extension, is the same, and whether it is another.
+// Returns whether the machine that is restored from what this one tells, with this extension, is the same, and whether it is
+// another.
 fn compared(rt: &impl Abort, alloc: Global, machine: &Machine, ext: Ext) -> (bool, bool) {
     let (regs, memory) = (machine.regs(), machine.memory());
     let other = Machine::restore(alloc, &regs, machine.pc(), machine.count(), memory, ext);
@@ -318,7 +319,7 @@ fn counted(rt: &impl Abort, alloc: Global, pc: u32, count: u64) -> Machine {
     Machine::restore(alloc, &regs, pc, count, &NOP, Ext::I).expect(rt, "memory")
 }
 
-// Whether a machine is the one of a full count that was made at this address.
+// Returns whether a machine is the one of a full count that was made at this address.
 fn is_full(rt: &impl Abort, alloc: Global, machine: &Machine, pc: u32) -> bool {
     *machine == counted(rt, alloc, pc, u64::MAX) && machine.memory() == NOP.as_slice()
 }

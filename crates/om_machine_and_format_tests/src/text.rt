@@ -217,7 +217,7 @@ fn inputs_are_read_whole(rt: HostRuntime) {
     assert_read(&rt, alloc, &mut drip, SCRIPT);
 }
 
-// How long the text of an input of so many zeros is.
+// Returns how long the text of an input of so many zeros is.
 fn read_len(rt: &impl Abort, alloc: Global, count: usize) -> Result<usize, ReadError> {
     let input = vec![in alloc; 0; count].expect(rt, "memory");
     match read_text(alloc, &mut input.as_slice()) {
@@ -235,7 +235,7 @@ fn inputs_have_limits(rt: HostRuntime) {
     assert_same(&rt, &(longest, longer), &wanted);
 }
 
-// Why an input was not read, None where it was.
+// Returns why an input was not read, None where it was.
 fn read_fault(alloc: Global, drip: &mut Drip) -> Option<ReadError> {
     read_text(alloc, drip).err()
 }

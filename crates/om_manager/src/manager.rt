@@ -106,14 +106,14 @@ impl Manager {
         &self.starts
     }
 
-    /// How many rounds are finished.
+    /// Returns how many rounds are finished.
     pub fn round(&self) -> u32
         ensures { result ≡ self.now.round }
     {
         self.round
     }
 
-    /// Whether a gathering is open.
+    /// Returns whether a gathering is open.
     pub fn gathering(&self) -> bool
         ensures { result ≡ is_some self.now.gathering }
     {
@@ -155,7 +155,7 @@ impl Manager {
         log.released()
     }
 
-    /// What the last finished round says to a process. Before any round, all of it is zero or false.
+    /// Returns what the last finished round says to a process. Before any round, all of it is zero or false.
     pub fn verdict(&self, pid: Pid) -> Verdict
         requires { pid < process_count self.now }
         ensures round { result.round ≡ self.now.round }
@@ -172,7 +172,7 @@ impl Manager {
         }
     }
 
-    /// What a process need not keep any longer.
+    /// Returns what a process need not keep any longer.
     pub fn bounds(&self, pid: Pid) -> Bounds
         requires { pid < process_count self.now }
         ensures got { AreGotFrom self.now.rows self.now.recovery pid result.got }

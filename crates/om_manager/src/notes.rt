@@ -91,7 +91,7 @@ impl Manager {
         Ok(note)
     }
 
-    // Whether what a process of the cluster tells comes in another round than the manager's.
+    // Returns whether what a process of the cluster tells comes in another round than the manager's.
     fn is_stale(&self, pid: Pid, round: u32) -> bool
         ensures stale { IsTrue result → (pid < process_count self.now) × (round ≢ self.now.round) }
         ensures current { result ≡ false → pid < process_count self.now → round ≡ self.now.round }

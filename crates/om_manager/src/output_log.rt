@@ -91,7 +91,7 @@ impl OutputLog {
         }
     }
 
-    // Whether the output of this number is of this interval and has these bytes.
+    // Returns whether the output of this number is of this interval and has these bytes.
     fn is_at(&self, seq: usize, interval: u32, bytes: &[u8]) -> bool
         requires { seq < length self.now.held }
         ensures { IsTrue result ↔ (slice_get self.now.held seq ≡ Some (record { interval = interval; bytes = bytes.now })) }
@@ -99,7 +99,7 @@ impl OutputLog {
         is_output(&self.items[seq], interval, bytes)
     }
 
-    // Whether no output was made after this interval.
+    // Returns whether no output was made after this interval.
     fn is_up_to(&self, interval: u32) -> bool
         ensures { IsTrue result ↔ IsUpTo self.now interval }
     {
@@ -144,7 +144,7 @@ impl OutputLog {
         self.items.truncate(self.released);
     }
 
-    /// What is released.
+    /// Returns what is released.
     pub fn released(&self) -> &[Output]
         ensures outputs { map held_of result.now ≡ within self.now.held self.now.limit }
         ensures numbered { AreNumbered result.now }

@@ -17,7 +17,7 @@ pub enum Presence {
     Joined(u32),
 }
 
-/// Whether each of the first `n` processes is in.
+/// Returns whether each of the first `n` processes is in.
 pub fn are_all_in(presences: &[Presence; MAX_PROCESSES], n: usize) -> bool
     requires { n ≤ MAX_PROCESSES }
     ensures { IsTrue result ↔ AreAllIn n presences.now }

@@ -15,7 +15,7 @@ use crate::presence::{Presence, are_all_in, who_begins};
 use om_interval::{MAX_PROCESSES, Pid};
 use std::alloc::{AllocError, Global};
 
-/// Whether no round can follow the one of this number: it is 2^32 - 1.
+/// Returns whether no round can follow the one of this number: it is 2^32 - 1.
 pub fn is_last_round(round: u32) -> bool
     ensures { IsTrue result ↔ (round ≡ 2 ^ 32 - 1) }
 {
@@ -53,7 +53,7 @@ impl Manager {
         }
     }
 
-    // Who is in the gathering that is open, or that can be opened.
+    // Returns who is in the gathering that is open, or that can be opened.
     fn opened(&self) -> Result<[Presence; MAX_PROCESSES], FailError>
         ensures presences { IfOk result (λ presences. presences ≡ presences_of self.now.gathering) }
         ensures unspent { OnOk result (IsSpent self.now → ⊥) }

@@ -51,7 +51,7 @@ pub struct Member<S: Stable> {
 }
 
 impl Standing {
-    // Who is up is in; any other stands as before.
+    // Returns how it stands once those that are up have joined; any other stands as before.
     fn joined(self) -> Standing
         ensures joined { (core : CoreState) → self ≡ stands.Up core → result ≡ stands.In core }
         ensures other { IsNotUp self → result ≡ self }
@@ -62,7 +62,7 @@ impl Standing {
         }
     }
 
-    // Who is in is up; any other stands as before.
+    // Returns how it stands once those that joined are up; any other stands as before.
     fn risen(self) -> Standing
         ensures risen { (core : CoreState) → self ≡ stands.In core → result ≡ stands.Up core }
         ensures other { IsNotIn self → result ≡ self }

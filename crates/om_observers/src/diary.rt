@@ -37,7 +37,7 @@ pub struct Diary<'a> {
     landed: Option<usize>,
 }
 
-// Whether the process keeps a message that is not told yet.
+// Returns whether the process keeps a message that is not told yet.
 fn has_sent(core: &ProcCore, next: &[u32; MAX_PROCESSES]) -> bool {
     for to in 0..core.vec().n() {
         if let Some(last) = core.outbox(Pid::at(to)).last() {
@@ -116,7 +116,7 @@ impl<'a> Diary<'a> {
         }
     }
 
-    /// How many sends of the process were refused, of all that was told here.
+    /// Returns how many sends of the process were refused, of all that was told here.
     pub fn refused(&self) -> u64 {
         self.refused
     }
@@ -222,8 +222,8 @@ impl<'a> Diary<'a> {
         self.landed = None;
     }
 
-    // What the process stored whose rows are noted, but for a checkpoint that is told by itself. One that is spelled is noted with the
-    // receipts, once it has landed.
+    // Returns what the process stored whose rows are noted, but for a checkpoint that is told by itself. One that is spelled is
+    // noted with the receipts, once it has landed.
     fn flush_of(&mut self, has_receipt: bool, has_checkpoint: bool) -> Option<Act> {
         let process = self.own;
         match self.landed.take() {
@@ -311,7 +311,7 @@ impl<'a> Diary<'a> {
         }
     }
 
-    // What the process did after a round: it went on, or was rolled back.
+    // Returns what the process did after a round: it went on, or was rolled back.
     fn return_of(&mut self, verdict: &Verdict, is_back: bool) -> Act {
         let process = self.own;
         if !is_back {

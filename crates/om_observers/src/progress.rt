@@ -20,7 +20,7 @@ pub struct Progress {
     pub front: Option<Front>,
 }
 
-// Whether one front is newer than the other. None is the oldest.
+// Returns whether one front is newer than the other. None is the oldest.
 fn is_newer(one: &Option<Front>, other: &Option<Front>) -> bool
     ensures { IsTrue result ↔ newness other.now < newness one.now }
 {

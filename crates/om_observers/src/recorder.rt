@@ -109,7 +109,7 @@ impl Recorder {
         }
     }
 
-    /// What was taken in.
+    /// Returns what was taken in.
     pub fn into_record(self) -> Record {
         let Recorder { record } = self;
         record.into_inner()

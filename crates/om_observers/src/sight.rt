@@ -75,7 +75,7 @@ impl Sight {
         }
     }
 
-    /// Whether the process has come to its end.
+    /// Returns whether the process has come to its end.
     pub fn has_ended(&self) -> bool
         ensures ended { IsTrue result ↔ HasEnded self.now.doing }
     {

@@ -44,7 +44,7 @@ impl Watch {
         })
     }
 
-    /// What was seen last of each process, by number.
+    /// Returns what was seen last of each process, by number.
     pub fn sights<R: Wait>(&self, rt: &R, alloc: Global) -> Result<Vec<Sight>, AllocError>
         ensures each { IfOk result (λ sights. length sights.items ≡ self.now) }
     {
@@ -56,7 +56,7 @@ impl Watch {
         Ok(sights)
     }
 
-    /// What was seen of a process last.
+    /// Returns what was seen of a process last.
     pub fn sight<R: Wait>(&self, rt: &R, pid: Pid) -> Option<Sight> {
         let place = self.sights.get(pid.index())?;
         let sight = *place.lock(rt);

@@ -60,7 +60,7 @@ fn fitted(x: u32, free: u32, extent: Option<Extent>) -> u32 {
     }
 }
 
-// Where the next word may begin.
+// Returns where the next word may begin.
 fn behind(x: u32, free: u32, extent: Option<Extent>) -> u32 {
     match extent {
         Some(extent) => x.saturating_add(extent.shift).saturating_add(extent.width),
@@ -103,12 +103,12 @@ impl Lane {
         x
     }
 
-    /// How its process is drawn where it is up.
+    /// Returns how its process is drawn where it is up.
     pub fn up(&self) -> Stretch {
         Stretch::Up(self.inc)
     }
 
-    /// How its process is drawn where it is not.
+    /// Returns how its process is drawn where it is not.
     pub fn away(&self) -> Stretch {
         match self.stand {
             Stand::In => Stretch::In,
@@ -116,7 +116,7 @@ impl Lane {
         }
     }
 
-    /// Where the last of its words ends.
+    /// Returns where the last of its words ends.
     pub fn end(&self) -> u32 {
         self.above.max(self.beside).max(self.below)
     }

@@ -7,7 +7,7 @@ use om_world::{Answer, Refusal};
 /// How wide a character counts.
 pub const CHARACTER: u32 = 6;
 
-/// How many decimal digits a number has.
+/// Returns how many decimal digits a number has.
 pub fn digits(number: u64) -> u32 {
     number.checked_ilog10().unwrap_or(0).saturating_add(1)
 }
@@ -45,7 +45,7 @@ pub fn standing_length(standing: Option<Standing>) -> u32 {
     }
 }
 
-/// How long the text of a recovery state is.
+/// Returns how long the text of a recovery state is.
 pub fn recovery_length(state: &[u32]) -> u32 {
     let mut length: u32 = 8;
     for place in state {

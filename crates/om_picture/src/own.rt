@@ -44,7 +44,7 @@ impl Page {
         Ok(())
     }
 
-    // What a refused message shows beside its mark, which stands there.
+    // Draws what a refused message shows beside its mark, which stands there.
     fn refuse(&mut self, on: bool, frame: usize, at: Spot) -> Result<(), AllocError> {
         let frame = self.give(frame);
         if !on {

@@ -125,7 +125,7 @@ impl Picture {
         Ok(())
     }
 
-    // What an event shows, which stands there.
+    // Draws what an event shows, which stands there.
     fn draw_event(&mut self, step: &Step, at: Spot) -> Result<(), AllocError>
         requires { (at.x == 0) ≡ not self.old.on }
         ensures { OnOk result (ShowsEvent (sketch_of self.old) (sketch_of self.new) (step_row step.now at)) }
@@ -136,7 +136,7 @@ impl Picture {
         }
     }
 
-    // What the event itself shows.
+    // Draws what the event itself shows.
     fn draw_own(&mut self, p: usize, step: &Step, at: Spot) -> Result<(), AllocError>
         requires { (at.x == 0) ≡ not self.old.on }
         ensures { OnOk result (ShowsOn (Some p) (sketch_of self.old) (sketch_of self.new) (step_row step.now at)) }

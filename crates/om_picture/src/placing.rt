@@ -116,7 +116,7 @@ impl Page {
         }
     }
 
-    // Whether the word of a refusal was just told, and reaches beyond this place.
+    // Returns whether the word of a refusal was just told, and reaches beyond this place.
     fn has_told(&self, p: usize, answer: Answer, place: u32) -> bool {
         let lane = self.lane_at(p);
         lane.why == Some(answer) && place < lane.below.saturating_add(4)
@@ -133,7 +133,7 @@ impl Page {
 }
 
 impl Picture {
-    /// Where an event stands: in the next column, if it shows something in the window, and else in the last one; 0 before
+    /// Returns where an event stands: in the next column, if it shows something in the window, and else in the last one; 0 before
     /// the window.
     pub(crate) fn place(&mut self, step: &Step) -> Result<Spot, AllocError>
         ensures { IfOk result (λ at. PlacesEvent (sketch_of self.old) (sketch_of self.new) (step_row step.now at)) }
@@ -154,7 +154,7 @@ impl Picture {
         if self.on { self.columns.x } else { 0 }
     }
 
-    // Where an event of a process stands.
+    // Returns where an event of a process stands.
     fn place_of_own(&mut self, p: usize, step: &Step) -> Result<Spot, AllocError>
         ensures x { IfOk result (λ at. Places (shows_at (Some p) (sketch_of self.old) (step_row step.now at)) at.x
             (sketch_of self.old) (sketch_of self.new)) }

@@ -17,7 +17,7 @@ use std::alloc::{AllocError, Global};
 // From a mark to the recovery line beside it.
 const GAP: u32 = 9;
 
-/// Where a recovery line passes before a mark at this place, which it does not cover.
+/// Returns where a recovery line passes before a mark at this place, which it does not cover.
 pub(crate) fn before(x: u32, left: u32) -> u32 {
     if x == 0 { left } else { x.saturating_sub(GAP) }
 }

@@ -25,7 +25,7 @@ pub(crate) struct FateNow {
     pub stored: bool,
 }
 
-/// How the next mark of a lane is settled now; as a round is finished, or in the end.
+/// Returns how the next mark of a lane is settled now; as a round is finished, or in the end.
 pub(crate) fn fate_now(next: &Next, finished: bool) -> FateNow
     ensures { fate_in result ≡ fate_now finished next.now.covered next.now.stored }
 {
@@ -70,7 +70,7 @@ fn form_of(shown: Shown, fate: FateNow) -> Form
     }
 }
 
-// Whether a mark has outputs.
+// Returns whether a mark has outputs.
 fn has_outputs(shown: Shown) -> bool
     ensures { result ≡ nat_lt 0 (made_by shown) }
 {

@@ -34,7 +34,7 @@ fn with_line(alloc: Global, line: &str) -> Result<String, AllocError> {
     Ok(script)
 }
 
-// How often a word stands in a text.
+// Returns how often a word stands in a text.
 fn count(text: &[u8], word: &[u8]) -> usize {
     let mut found: usize = 0;
     for k in 0..text.len() {
@@ -59,7 +59,7 @@ fn picture<R: Abort>(rt: &R, alloc: Global, line: &str) -> Vec<u8> {
     picture
 }
 
-// How many marks are drawn as what is in memory only, and how many brackets of flushes, where this line ends the script.
+// Returns how many marks are drawn as what is in memory only, and how many brackets of flushes, where this line ends the script.
 fn marks<R: Abort>(rt: &R, alloc: Global, line: &str) -> (usize, usize) {
     let drawn = picture(rt, alloc, line);
     let bytes = drawn.as_slice();
@@ -94,7 +94,7 @@ fn as_many_are_stored_as_are_told(rt: HostRuntime) {
     assert_eq!(rt; marks(&rt, rt.alloc(), "flush 0 0\n"), (loose, brackets));
 }
 
-// How many checkpoints are drawn, that of the legend too.
+// Returns how many checkpoints are drawn, that of the legend too.
 fn checkpoints<R: Abort>(rt: &R, alloc: Global, line: &str) -> usize {
     let drawn = picture(rt, alloc, line);
     count(drawn.as_slice(), b"<rect class=\"l\"")

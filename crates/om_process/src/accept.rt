@@ -56,7 +56,7 @@ impl ProcCore {
         }
     }
 
-    // What speaks against a message, if anything does.
+    // Returns what speaks against a message, if anything does.
     fn refusal(&self, message: &Message) -> Option<Accept>
         ensures some { IfSome result (λ answer. Answers self.now message.now answer) }
         ensures not_taken { IfSome result (λ answer. (x : ℕ) → answer ≢ Accept.Taken x) }

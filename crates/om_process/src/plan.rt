@@ -32,7 +32,7 @@ pub enum Plan {
     Stop(Status),
 }
 
-/// What a process of as many as `sent` has places does at this event.
+/// Returns what a process of as many as `sent` has places does at this event.
 pub fn plan_at(machine: &Machine, sent: &DepVec, event: Event) -> Plan
     ensures planned { (own made : ℕ) (next : State) → planned own (length sent.now) machine.now next result
         ≡ after_event own (length sent.now) machine.now (sent.now ++ made ∷ []) event next }
@@ -63,8 +63,8 @@ pub fn plan_at(machine: &Machine, sent: &DepVec, event: Event) -> Plan
     }
 }
 
-/// Whether a process, which sent so many messages, may not send so many bytes to this one: there is none, they are too many, or the
-/// numbers of its messages are used up.
+/// Returns whether a process, which sent so many messages, may not send so many bytes to this one: there is none, they are too
+/// many, or the numbers of its messages are used up.
 pub fn may_not_send(sent: &DepVec, to: u32, len: u32) -> bool
     ensures told { (made : ℕ) → result ≡ may_not_send (length sent.now) (sent.now ++ made ∷ []) to len }
     ensures there { result ≡ false → (to < length sent.now) × (to < MAX_PROCESSES) }
@@ -95,7 +95,7 @@ fn send_at(machine: &Machine, sent: &DepVec, to: u32, addr: u32, len: u32) -> Pl
 }
 
 impl Plan {
-    /// What a process with this plan is told to be.
+    /// Returns what a process with this plan is told to be.
     pub fn status(self) -> Status
         ensures { (own n : ℕ) (m next : State) → result ≡ status_of (planned own n m next self) }
     {

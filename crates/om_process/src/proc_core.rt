@@ -72,7 +72,7 @@ impl Model for ProcCore {
 }
 
 impl ProcCore {
-    /// What the process is about to do.
+    /// Returns what the process is about to do.
     pub fn status(&self) -> Status
         ensures { result ≡ status_of (move_of self.now) }
     {
@@ -96,7 +96,7 @@ impl ProcCore {
         &self.vec
     }
 
-    /// How many messages were received, by sender.
+    /// Returns how many messages were received, by sender.
     pub fn got(&self) -> &DepVec
         ensures got { result.now ≡ self.now.now.got }
         ensures received { sum result.now ≡ self.now.now.interval }
@@ -104,7 +104,7 @@ impl ProcCore {
         &self.got
     }
 
-    /// How many outputs were made.
+    /// Returns how many outputs were made.
     pub fn made(&self) -> u64
         ensures { result ≡ queue_end (outputs_of self.now) }
     {

@@ -33,7 +33,7 @@ fn receipt_at(alloc: Global, y: u32, bytes: &[u8]) -> Result<Receipt, ReplayFaul
 }
 
 impl ProcCore {
-    // Whether a receipt is this process's, of a sender that is there and the next of its sender, at a count not yet passed.
+    // Returns whether a receipt is this process's, of a sender that is there and the next of its sender, at a count not yet passed.
     fn may_take(&self, receipt: &Receipt) -> bool
         ensures yes { result ≡ true → MayTake self.now (receipt_record receipt.now) }
         ensures no { result ≡ false → DoesNotFit self.now.own (cluster_size self.now.now) self.now.now (receipt_record receipt.now) }

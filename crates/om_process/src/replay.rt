@@ -51,7 +51,7 @@ impl From<AllocError> for ReplayFault {
     }
 }
 
-// Why a store that read or cut refused to; neither answers `Present`.
+// Returns why a store that read or cut refused to; neither answers `Present`.
 pub(crate) fn fault_of(error: StoreError) -> ReplayFault
     requires { error ≢ StoreError.Present }
     ensures no_matter { IsNoMatterOfContent result }
@@ -64,7 +64,7 @@ pub(crate) fn fault_of(error: StoreError) -> ReplayFault
     }
 }
 
-// Why bytes of interval `y` that were not decoded are refused.
+// Returns why bytes of interval `y` that were not decoded are refused.
 pub(crate) fn damaged(y: u32, error: DecodeError) -> ReplayFault
     ensures { result ≡ damage y error }
 {

@@ -126,7 +126,7 @@ impl ProcCore {
         self.machine.finish_who(self.pid.index() as u32, n);
     }
 
-    // Whether the event is a send that is refused.
+    // Returns whether the event is a send that is refused.
     fn refuses(&self, event: Event) -> bool
         ensures { result ≡ is_refused_send (cluster_size self.now.now) (made self.now.now.queues) event }
     {

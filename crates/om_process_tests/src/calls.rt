@@ -67,7 +67,7 @@ fn run(rt: &impl Abort, alloc: Global, core: &mut ProcCore, fuel: u64) -> Ran {
     core.run(alloc, fuel).expect(rt, "memory")
 }
 
-// Whether there are so many outputs from a number on, of which the first has these bytes.
+// Returns whether there are so many outputs from a number on, of which the first has these bytes.
 fn has_outputs(core: &ProcCore, from: u64, count: usize, bytes: &[u8]) -> bool {
     let outputs = core.outputs_from(from);
     let is_first = match outputs.first() {
@@ -77,7 +77,7 @@ fn has_outputs(core: &ProcCore, from: u64, count: usize, bytes: &[u8]) -> bool {
     is_first && outputs.len() == count
 }
 
-// Whether a process of one stopped for this cause after so many steps, with this value in x10 and nothing sent.
+// Returns whether a process of one stopped for this cause after so many steps, with this value in x10 and nothing sent.
 fn has_stopped(
     core: &ProcCore,
     ran: Ran,
@@ -170,7 +170,7 @@ fn assert_offer(rt: &impl Abort, alloc: Global, core: &mut ProcCore, offer: Offe
     assert!(rt; told == answer, "{offered:?}");
 }
 
-// Whether the process took one message, which was sent in interval 7.
+// Returns whether the process took one message, which was sent in interval 7.
 fn has_taken(core: &ProcCore) -> bool {
     core.interval() == 1
         && core.vec().as_slice() == [1, 7].as_slice()
@@ -269,7 +269,7 @@ fn messages_are_framed_until_they_are_trimmed(rt: HostRuntime) {
     drop(core);
 }
 
-// Whether so many outputs are left of a process that put out one text of 8 bytes.
+// Returns whether so many outputs are left of a process that put out one text of 8 bytes.
 fn are_left(rt: &impl Abort, alloc: Global, released: u64, left: usize) -> bool {
     let bytes = bytes_of(rt, alloc, EIGHT);
     let mut core = started(rt, alloc, OUTPUTS_EIGHT, 16, (0, 1));
@@ -321,7 +321,7 @@ fn starts_are_refused_in_their_order(rt: HostRuntime) {
     }
 }
 
-// What is answered to a start over this store.
+// Returns what is answered to a start over this store.
 fn started_over(rt: &impl Abort, alloc: Global, store: &mut MemStable) -> Option<StartFault> {
     let image = bytes_of(rt, alloc, "73000000");
     ProcCore::start(alloc, &image, 4, Ext::I, Pid::at(0), 1, store).err()

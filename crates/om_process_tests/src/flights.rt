@@ -16,7 +16,7 @@ fn after(rt: &impl Abort, alloc: Global, store: &mut MemStable, receipts: u32) -
     core
 }
 
-// How many receipts are stored.
+// Returns how many receipts are stored.
 fn receipts(rt: &impl Abort, alloc: Global, store: &mut MemStable) -> usize {
     let found = match store.receipts(alloc, 0, 10) {
         Err(StoreError::Memory) => store.receipts(alloc, 0, 10),
@@ -86,12 +86,12 @@ fn store_all(rt: &impl Abort, alloc: Global, store: &mut MemStable, flight: &Fli
     assert!(rt; has_put && has_marked);
 }
 
-// Whether the row is of this kind and interval.
+// Returns whether the row is of this kind and interval.
 fn is_row(row: &PendingRow, ckpt: bool, x: u32) -> bool {
     row.ckpt == ckpt && row.x == x
 }
 
-// Whether a checkpoint of interval 2 and two receipts are pending.
+// Returns whether a checkpoint of interval 2 and two receipts are pending.
 fn has_landed(rows: &[PendingRow]) -> bool {
     match rows {
         [first, second, third] => {

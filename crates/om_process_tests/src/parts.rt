@@ -73,7 +73,7 @@ fn start<S: Stable>(alloc: Global, image: &[u8], store: &mut S) -> Result<ProcCo
     ProcCore::start(alloc, image, 128, Ext::I, Pid::at(1), 3, store)
 }
 
-// What a process answers to a message.
+// Returns what a process answers to a message.
 pub fn accepted(alloc: Global, core: &mut ProcCore, next: &Message) -> Accept {
     match core.accept(alloc, next) {
         Accept::Memory => core.accept(alloc, next),
@@ -173,7 +173,7 @@ pub fn x(core: &ProcCore, r: u8) -> Option<u32> {
     Some(core.machine().reg(Reg::new(r)?))
 }
 
-// Whether two processes of 2 made the same.
+// Returns whether two processes of 2 made the same.
 fn made_same(a: &ProcCore, b: &ProcCore) -> bool {
     a.vec().n() == 2
         && b.vec().n() == 2
@@ -181,7 +181,7 @@ fn made_same(a: &ProcCore, b: &ProcCore) -> bool {
         && a.outputs_from(0) == b.outputs_from(0)
 }
 
-// Whether two processes of 2 are one: in all but their incarnation, their round, the starts and what is still to be stored.
+// Returns whether two processes of 2 are one: in all but their incarnation, their round, the starts and what is still to be stored.
 pub fn are_same(a: &ProcCore, b: &ProcCore) -> bool {
     a.machine() == b.machine()
         && a.interval() == b.interval()

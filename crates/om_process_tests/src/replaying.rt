@@ -89,7 +89,7 @@ fn altered(rt: &impl Abort, alloc: Global, len: usize, place: usize, byte: u8) -
     receipt
 }
 
-// What a replay to 1 answers where receipt 1 is this.
+// Returns what a replay to 1 answers where receipt 1 is this.
 fn refused(rt: &impl Abort, alloc: Global, receipt: Vec<u8>) -> Option<ReplayFault> {
     let mut store = MemStable::new(alloc);
     drop(started(rt, alloc, &mut store));
@@ -211,7 +211,7 @@ fn the_last_interval_takes_nothing(rt: HostRuntime) {
     drop(core);
 }
 
-// Whether a replay to an interval is this process.
+// Returns whether a replay to an interval is this process.
 fn is_replayed(
     rt: &impl Abort,
     alloc: Global,

@@ -43,7 +43,7 @@ fn ten_come_back(rt: &impl Abort, alloc: Global, store: &mut MemStable) -> ProcC
     roll_back(rt, alloc, down, store, 6).expect(rt, "a process")
 }
 
-// How many receipts stand above an interval and at or below another.
+// Returns how many receipts stand above an interval and at or below another.
 fn receipts(rt: &impl Abort, alloc: Global, store: &mut MemStable, after: u32, to: u32) -> usize {
     store.receipts(alloc, after, to).expect(rt, "a store").len()
 }
@@ -70,7 +70,7 @@ fn a_process_that_comes_back_comes_to_the_same_end(rt: HostRuntime) {
     assert!(rt; are_same);
 }
 
-// Whether it goes on from its interval, which is not cut.
+// Returns whether it goes on from its interval, which is not cut.
 fn goes_on(rt: &impl Abort, alloc: Global, core: &mut ProcCore) -> bool {
     let starts = starts(rt, alloc, 2);
     let goes_on = core.vec().n() == starts.n()
@@ -90,7 +90,7 @@ fn a_process_that_is_not_rolled_back_goes_on(rt: HostRuntime) {
     assert!(rt; goes_on && told == (1, 0));
 }
 
-// Why a process does not come back to interval 2.
+// Returns why a process does not come back to interval 2.
 fn refused(
     rt: &impl Abort,
     alloc: Global,
@@ -167,7 +167,7 @@ fn six<S: Stable>(rt: &impl Abort, alloc: Global, store: &mut S) -> ProcCore {
     core
 }
 
-// How many rows the manager is still to be told of, and the interval that it comes back to.
+// Returns how many rows the manager is still to be told of, and the interval that it comes back to.
 fn done<S: Stable>(rt: &impl Abort, alloc: Global, store: &mut S) -> (usize, u32) {
     let core = six(rt, alloc, store);
     let pending = core.pending().len();
@@ -177,7 +177,7 @@ fn done<S: Stable>(rt: &impl Abort, alloc: Global, store: &mut S) -> (usize, u32
     (pending, interval)
 }
 
-// Whether all is done over a store with a fuse of so many calls.
+// Returns whether all is done over a store with a fuse of so many calls.
 fn is_done(rt: &impl Abort, alloc: Global, calls: u64) -> bool {
     let mut store = FuseStable::new(MemStable::new(alloc), calls);
     let told = done(rt, alloc, &mut store);

@@ -6,7 +6,7 @@ use om_stable::{MemStable, Stable, StoreError};
 use std::alloc::Global;
 use std::process::Abort;
 
-// Whether there is one receipt, of interval 1, and these bytes.
+// Returns whether there is one receipt, of interval 1, and these bytes.
 fn is_first_receipt(receipts: &[(u32, Vec<u8>)], wanted: &[u8]) -> bool {
     match receipts.first() {
         Some((x, bytes)) => receipts.len() == 1 && *x == 1 && bytes.as_slice() == wanted,
@@ -14,7 +14,7 @@ fn is_first_receipt(receipts: &[(u32, Vec<u8>)], wanted: &[u8]) -> bool {
     }
 }
 
-// Whether that receipt is stored, and no other.
+// Returns whether that receipt is stored, and no other.
 fn is_stored(rt: &impl Abort, alloc: Global, store: &mut MemStable, text: &str) -> bool {
     let found = store.receipts(alloc, 0, 10).expect(rt, "receipts");
     let wanted = bytes_of(rt, alloc, text);
@@ -30,7 +30,7 @@ fn a_flush_stores_the_receipt(rt: HostRuntime) {
     assert!(rt; is_stored);
 }
 
-// Whether the row is of interval 1 of process 1 of 3, after a message from process 2, and of this kind.
+// Returns whether the row is of interval 1 of process 1 of 3, after a message from process 2, and of this kind.
 fn is_row(row: Option<&PendingRow>, ckpt: bool) -> bool {
     let Some(row) = row else {
         return false;
@@ -41,7 +41,7 @@ fn is_row(row: Option<&PendingRow>, ckpt: bool) -> bool {
         && row.got.as_slice() == [0, 0, 1].as_slice()
 }
 
-// Whether so many rows are left, of which the first is of this kind.
+// Returns whether so many rows are left, of which the first is of this kind.
 fn are_left(rows: &[PendingRow], left: usize, ckpt: bool) -> bool {
     is_row(rows.first(), ckpt) && rows.len() == left
 }
@@ -87,7 +87,7 @@ fn first_checkpoint(rt: &impl Abort, alloc: Global, store: &mut MemStable) -> Ve
     stored.expect(rt, "a checkpoint").1
 }
 
-// What may be used once a process is replayed.
+// Returns what may be used once a process is replayed.
 fn restored(rt: &impl Abort, alloc: Global, store: &mut MemStable) -> Ext {
     let core = replayed(rt, alloc, store, 0);
     let ext = core.machine().ext();

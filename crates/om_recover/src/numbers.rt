@@ -13,7 +13,7 @@ pub fn number_of(numbers: &[u32], pid: Pid) -> u32
     numbers[pid.index()]
 }
 
-/// Whether each number is at most the vector's.
+/// Returns whether each number is at most the vector's.
 pub fn is_below(low: &[u32], high: &DepVec) -> bool
     ensures { IsTrue result ↔ IsBelow low.now high.now }
 {

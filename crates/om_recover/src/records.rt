@@ -167,7 +167,7 @@ impl Records {
         self.index.effective(pid, self.state.get(pid))
     }
 
-    /// How many messages the process had got in the recovery state, by sender.
+    /// Returns how many messages the process had got in the recovery state, by sender.
     pub fn got(&self, pid: Pid) -> DepVec
         requires { pid < length self.now.state }
         ensures { IsGotAt self.now.rows pid (slice_index self.now.state pid) result }
@@ -175,7 +175,7 @@ impl Records {
         self.index.got(pid, self.state.get(pid))
     }
 
-    /// How many messages from the sender the receiver had got in the recovery state.
+    /// Returns how many messages from the sender the receiver had got in the recovery state.
     pub fn got_from(&self, receiver: Pid, sender: Pid) -> u32
         requires receiver { receiver < length self.now.state }
         requires sender { sender < length self.now.state }
@@ -205,7 +205,7 @@ impl Records {
     }
 }
 
-// Whether a process stands higher in one state than in another.
+// Returns whether a process stands higher in one state than in another.
 fn is_higher(one: &DepVec, other: &DepVec, pid: Pid) -> bool
     requires one { pid < length one.now }
     requires other { pid < length other.now }

@@ -20,11 +20,11 @@ pub trait Shelf {
         ensures vec { (row : _) → HasRow (rows self.now) row → row.pid ≡ pid → row.interval ≡ x → row.vec ≡ result.now }
         ensures counted { work.new.attempts ≡ with_look work.old.attempts pid x };
 
-    /// Whether it is seen at once that no stable interval of a process is above this one.
+    /// Returns whether it is seen at once that no stable interval of a process is above this one.
     fn ends_by(&self, pid: Pid, x: u32) -> bool
         ensures { IsTrue result → EndsBy (rows self.now) pid x };
 
-    /// Whether it is seen at once that no process has a stable interval above its place of a state.
+    /// Returns whether it is seen at once that no process has a stable interval above its place of a state.
     fn all_end_by(&self, state: &DepVec) -> bool
         ensures { IsTrue result → AllEndBy (rows self.now) state.now };
 

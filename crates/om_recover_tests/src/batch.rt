@@ -251,7 +251,8 @@ fn offer(
     })
 }
 
-// Whether the records tell of a process the checkpoint that is used for its place of the state, and what it had received there.
+// Returns whether the records tell of a process the checkpoint that is used for its place of the state, and what it had
+// received there.
 fn tells_of(records: &Records, rows: &[Row], number: usize) -> Option<bool> {
     let pid = process(number)?;
     if pid.index() >= records.n() {

@@ -68,7 +68,7 @@ fn vector(numbers: &[u32]) -> Option<DepVec> {
     DepVec::from_slice(numbers)
 }
 
-// Whether the call for its kind notes a row with this answer, the second time where memory ran out at first.
+// Returns whether the call for its kind notes a row with this answer, the second time where memory ran out at first.
 fn notes(
     alloc: Global,
     manager: &mut Manager,
@@ -210,7 +210,7 @@ fn has_front(manager: &Manager, front: (u64, u32, bool), recovery: &[u32]) -> bo
         && manager.recovery().as_slice() == recovery
 }
 
-// Whether the row holds: its call is made. None where it names no process or vector.
+// Returns whether the row holds: its call is made. None where it names no process or vector.
 fn holds(alloc: Global, manager: &mut Manager, row: &Row) -> Option<bool> {
     match *row {
         Row::Note(kind, place, vec, got, answer) => {
@@ -493,7 +493,7 @@ fn interval_of(seq: u64) -> u32 {
     u32::try_from(seq / 3).unwrap_or(0).wrapping_add(1)
 }
 
-// Whether so many outputs are released, in order, with their numbers, intervals and bytes.
+// Returns whether so many outputs are released, in order, with their numbers, intervals and bytes.
 fn are_released(released: &[Output], count: u64) -> bool {
     if released.len() as u64 != count {
         return false;

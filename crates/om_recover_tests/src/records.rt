@@ -114,7 +114,7 @@ fn has_got_from_each(records: &Records, pid: Pid, got: &[u32]) -> bool {
     true
 }
 
-// Whether the step holds: its call is made. None where it names no process or vector.
+// Returns whether the step holds: its call is made. None where it names no process or vector.
 fn holds(alloc: Global, records: &mut Records, step: &Step) -> Option<bool> {
     match *step {
         Step::Note(row, (vec, got), answer, state) => {

@@ -35,7 +35,7 @@ struct Values {
     memory: Vec<u8>,
 }
 
-/// Whether a line's step leads to what the line says in a program of RV32I. A line of another form does not agree.
+/// Returns whether a line's step leads to what the line says in a program of RV32I. A line of another form does not agree.
 pub fn agrees(alloc: Global, line: &str) -> Result<bool, AllocError> {
     match machines(alloc, line, Ext::I)? {
         Some((before, after)) => Ok(goes_to(before, &after)),
@@ -43,7 +43,7 @@ pub fn agrees(alloc: Global, line: &str) -> Result<bool, AllocError> {
     }
 }
 
-/// Whether a line's step leads to what the line says in a program of RV32IM, and traps in one of RV32I, as it is no
+/// Returns whether a line's step leads to what the line says in a program of RV32IM, and traps in one of RV32I, as it is no
 /// instruction there.
 pub fn agrees_with_m_alone(alloc: Global, line: &str) -> Result<bool, AllocError> {
     let goes = match machines(alloc, line, Ext::Im)? {
@@ -81,7 +81,7 @@ fn machines(alloc: Global, line: &str, ext: Ext) -> Result<Option<(Machine, Mach
     }
 }
 
-// Whether one step leads from a machine to another, and goes.
+// Returns whether one step leads from a machine to another, and goes.
 fn goes_to(before: Machine, after: &Machine) -> bool
     ensures { (result ≡ true) ↔ (next_of before ≡ (Event.Went, after.now)) }
 {
@@ -89,7 +89,7 @@ fn goes_to(before: Machine, after: &Machine) -> bool
     machine.step() == Event::Went && machine == *after
 }
 
-// Whether a step finds no instruction, and leaves the machine as it was.
+// Returns whether a step finds no instruction, and leaves the machine as it was.
 fn is_illegal(machine: Machine, before: &Machine) -> bool
     ensures { (result ≡ true) → (next_of machine ≡ (Event.Trap Cause.Illegal, before.now)) }
 {

@@ -15,7 +15,7 @@ ghost use Rattle.om_isa.specs.declared.inst.Inst.{Inst};
 use om_isa::{Ext, decode};
 use std::alloc::{AllocError, Global};
 
-/// Whether a line's word has the line's text in a program of RV32I. A line of another form does not agree.
+/// Returns whether a line's word has the line's text in a program of RV32I. A line of another form does not agree.
 pub fn agrees(alloc: Global, line: &str) -> Result<bool, AllocError> {
     match parts(line) {
         Some((word, text)) => has_text(alloc, word, Ext::I, text.as_bytes()),
@@ -23,7 +23,7 @@ pub fn agrees(alloc: Global, line: &str) -> Result<bool, AllocError> {
     }
 }
 
-/// Whether a line's word has the line's text in a program of RV32IM, and is no instruction in one of RV32I.
+/// Returns whether a line's word has the line's text in a program of RV32IM, and is no instruction in one of RV32I.
 pub fn agrees_with_m_alone(alloc: Global, line: &str) -> Result<bool, AllocError> {
     match parts(line) {
         Some((word, text)) => {
@@ -39,7 +39,7 @@ fn parts(line: &str) -> Option<(u32, &str)> {
     Some((u32::from_str_radix(word, 16).ok()?, text))
 }
 
-// Whether this is the text of the word's instruction, or `none` where it is no instruction.
+// Returns whether this is the text of the word's instruction, or `none` where it is no instruction.
 fn has_text(alloc: Global, word: u32, ext: Ext, text: &[u8]) -> Result<bool, AllocError>
     ensures instruction { (i : Inst) → Decodes ext word i → IfOk result (λ same. (same ≡ true) ↔ (text.now ≡ text_of i)) }
     ensures none { ((i : Inst) → Decodes ext word i → ⊥) → IfOk result (λ same. (same ≡ true) ↔ (text.now ≡ codes "none")) }

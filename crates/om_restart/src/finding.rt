@@ -123,7 +123,7 @@ struct Tables {
     senders: Vec<u8>,
 }
 
-// What they hold of process `own` of `n`, of this program.
+// Returns what they hold of process `own` of `n`, of this program.
 fn tables_of<S: Ledger>(
     alloc: Global,
     store: &mut S,
@@ -166,7 +166,7 @@ fn rows_in<S: Ledger>(
     }
 }
 
-// What these rows of the three tables are, of process `own` of `n` and this program.
+// Returns what these rows of the three tables are, of process `own` of `n` and this program.
 fn tables_in(
     alloc: Global,
     own: Pid,
@@ -190,7 +190,7 @@ fn tables_in(
     })
 }
 
-// Whether the rows say that the store is of what these bytes tell.
+// Returns whether the rows say that the store is of what these bytes tell.
 fn says(rows: &[(u64, Vec<u8>)], about: &[u8]) -> Result<bool, FindFault>
     ensures said { IfOk result (λ said. IsTrue said → rows_of rows.now ≡ (0, about.now) ∷ []) }
     ensures silent { IfOk result (λ said. said ≡ false → rows_of rows.now ≡ []) }

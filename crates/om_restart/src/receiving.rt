@@ -82,8 +82,8 @@ pub(crate) fn add_following(senders: &mut Vec<u8>, received: &[(u32, u8)]) -> Re
     Ok(())
 }
 
-// Whether there are receipts behind the newest row, or any where there is none: they follow on nothing. Each is one of process
-// `own` of `n`, else it is `Damaged`.
+// Returns whether there are receipts behind the newest row, or any where there is none: they follow on nothing. Each is one of
+// process `own` of `n`, else it is `Damaged`.
 pub(crate) fn has_strays<S: Stable>(
     alloc: Global,
     store: &mut S,
@@ -127,7 +127,7 @@ fn receipts_after<S: Stable>(
     }
 }
 
-// Whether each of these is a receipt of process `own` of `n`.
+// Returns whether each of these is a receipt of process `own` of `n`.
 fn check_all(
     alloc: Global,
     own: Pid,

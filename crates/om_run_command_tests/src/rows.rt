@@ -61,7 +61,7 @@ pub fn check_input<R: Threads + Wait + Clock + Abort + Sync>(
     check_answer(rt, alloc, input, (answer, &written), (how, wanted));
 }
 
-/// What the command answers over these streams, and what it leaves of the writer.
+/// Returns what the command answers over these streams, and what it leaves of the writer.
 pub fn carry_out<R: Threads + Wait + Clock + Sync, I: Read, W: Write + Drop>(
     rt: &R,
     alloc: Global,
@@ -85,7 +85,7 @@ pub fn carry_out<R: Threads + Wait + Clock + Sync, I: Read, W: Write + Drop>(
     (outcome_of(answer), writer)
 }
 
-/// Whether a run ended well, or why it was refused.
+/// Returns whether a run ended well, or why it was refused.
 pub fn outcome_of(answer: Result<Vec<Status>, CommandError>) -> Result<(), CommandError> {
     match answer {
         Ok(_) => Ok(()),

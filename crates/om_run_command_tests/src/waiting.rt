@@ -32,7 +32,7 @@ fn script_of(rt: &impl Abort, alloc: Global, file: &str) -> ClusterScript {
     .expect(rt, "a cluster file")
 }
 
-// What is said of these sights of the processes of FILE.
+// Returns what is said of these sights of the processes of FILE.
 fn said(rt: &impl Abort, alloc: Global, sights: &[Sight]) -> String {
     let script = script_of(rt, alloc, FILE);
     waiting_text(alloc, &script, sights).expect(rt, "memory")
@@ -108,7 +108,7 @@ fn refused_sends_are_told(rt: HostRuntime) {
 // Kills of the processes of FILE, of which two are alike.
 const KILLS: &str = "kill c 3\nkill a 1\nkill c 3\nkill c 4\nkill b 0\n";
 
-// What is said of the kills where these processes failed, each in the interval.
+// Returns what is said of the kills where these processes failed, each in the interval.
 fn said_of_kills(rt: &impl Abort, alloc: Global, failures: &[(u32, u32)]) -> String {
     let file = format!(in alloc; "{FILE}{KILLS}").expect(rt, "memory");
     let script = script_of(rt, alloc, &file);

@@ -159,7 +159,7 @@ fn run<R: Threads + Wait + Clock + Abort + Sync>(rt: &R, alloc: Global, config: 
     run_cluster(rt, alloc, config, &Always(true), &stores).expect(rt, "a report")
 }
 
-// Whether both ended with 4 in interval 1, and nothing was put out.
+// Returns whether both ended with 4 in interval 1, and nothing was put out.
 fn is_right(report: &Report) -> bool {
     let ended = [Status::Ended(4), Status::Ended(4)];
     for outputs in &report.released {

@@ -168,7 +168,7 @@ fn none_seen() -> Seen {
     }
 }
 
-// What a run over stores of which one is slow reports, and what was recorded.
+// Returns what a run over stores of which one is slow reports, and what was recorded.
 fn recorded<R: Threads + Wait + Clock + Abort + Sync>(
     rt: &R,
     alloc: Global,
@@ -187,7 +187,8 @@ fn recorded<R: Threads + Wait + Clock + Abort + Sync>(
     (told.expect(rt, "a report"), recorder.into_record())
 }
 
-// Whether nothing stands between the end of a round and the last of n returns but returns, and what is sent once more with them.
+// Returns whether nothing stands between the end of a round and the last of n returns but returns, and what is sent once more
+// with them.
 fn is_barred(acts: &[Act], n: usize) -> bool {
     let mut away = 0;
     for act in acts {

@@ -126,7 +126,7 @@ fn start<R: Threads + Wait + Clock + Abort + Sync>(
     }
 }
 
-// How many failures there are before the ring was given so many receipts.
+// Returns how many failures there are before the ring was given so many receipts.
 fn failures_before(receipts: u64) -> u64
     ensures { result ≤ 2 }
 {

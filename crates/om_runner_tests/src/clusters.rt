@@ -58,7 +58,7 @@ impl<'a, R> Opener<R> for Fused<'a> {
     }
 }
 
-// How many calls a store has had that stops none.
+// Returns how many calls a store has had that stops none.
 fn calls_of(store: &Meets<'_>) -> u64 {
     match store.inner.stop {
         Stop::After(left) => u64::MAX - left,
@@ -117,7 +117,7 @@ pub fn ring(rt: &impl Abort, alloc: Global, n: usize, kills: &[(u32, u32)]) -> C
     }
 }
 
-// Whether these are the six outputs of a process of a ring of n, whose first number is `at`.
+// Returns whether these are the six outputs of a process of a ring of n, whose first number is `at`.
 fn are_of_ring(outputs: &[Output], n: u32, at: u32) -> bool {
     if outputs.len() != 6 {
         return false;
@@ -131,7 +131,7 @@ fn are_of_ring(outputs: &[Output], n: u32, at: u32) -> bool {
     true
 }
 
-// Whether process `p` of a ring of so many has its outputs and its code.
+// Returns whether process `p` of a ring of so many has its outputs and its code.
 fn is_of_ring(report: &Report, n: u32, p: u32) -> bool {
     let at = if p == 0 { n } else { p };
     let code = n.wrapping_mul(5).wrapping_add(at);
@@ -203,7 +203,7 @@ fn rings_with_kills(rt: HostRuntime) {
     assert_kills(&rt, rt.alloc(), 16, (&[(3, 3), (5, 5), (5, 5)], 3));
 }
 
-// What one process's store of a ring of eight has had to do: so many calls, and the newest checkpoint's interval.
+// Returns what one process's store of a ring of eight has had to do: so many calls, and the newest checkpoint's interval.
 fn kept_by<R: Threads + Wait + Clock + Abort + Sync>(
     rt: &R,
     alloc: Global,

@@ -194,7 +194,7 @@ fn a_flight_is_refused(rt: HostRuntime) {
     assert!(rt; faults >= 6, "{faults}");
 }
 
-// What was recorded of a run whose flights are held back.
+// Returns what was recorded of a run whose flights are held back.
 fn recorded<R: Threads + Wait + Clock + Abort + Sync>(
     rt: &R,
     alloc: Global,
@@ -212,8 +212,8 @@ fn recorded<R: Threads + Wait + Clock + Abort + Sync>(
     (told.expect(rt, "a report"), recorder.into_record())
 }
 
-// Whether checkpoints are told as they are spelled, one of process p among them, and nothing of it is told as stored that it had not
-// received.
+// Returns whether checkpoints are told as they are spelled, one of process p among them, and nothing of it is told as stored
+// that it had not received.
 fn are_flights(acts: &[Act], p: Pid) -> bool {
     let mut received: usize = 0;
     let mut stored: usize = 0;

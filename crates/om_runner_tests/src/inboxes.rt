@@ -51,7 +51,7 @@ fn put_back(rt: &impl Wait, inbox: &Inbox, pass: &mut PutPass, ssn: u32) -> Told
     }
 }
 
-// How many of the messages from number 0 on, as many as an inbox holds, are put.
+// Returns how many of the messages from number 0 on, as many as an inbox holds, are put.
 fn fill(rt: &impl Wait, inbox: &Inbox, pass: &mut PutPass) -> usize
     requires { pass.old.line ≡ inbox.now }
     ensures { pass.new.line ≡ pass.old.line }
@@ -76,7 +76,7 @@ fn taken(rt: &impl Wait, inbox: &Inbox, pass: &mut TakePass) -> Option<u32>
     }
 }
 
-// Whether the messages from number 1 to 64 are left, in this order, and no other.
+// Returns whether the messages from number 1 to 64 are left, in this order, and no other.
 fn drains(rt: &impl Wait, inbox: &Inbox, pass: &mut TakePass) -> bool
     requires { pass.old.line ≡ inbox.now }
 {

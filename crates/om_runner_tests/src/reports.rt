@@ -36,7 +36,7 @@ fn a_report_has_the_last_front(rt: HostRuntime) {
     }
 }
 
-// How many failures were declared of processes that are not started yet.
+// Returns how many failures were declared of processes that are not started yet.
 fn declared<K: Naming>(rt: &impl Abort, alloc: Global, blank: Blank) -> u64
     requires { blank ≡ K.cell }
 {

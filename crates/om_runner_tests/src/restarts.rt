@@ -280,7 +280,7 @@ fn run<R: Threads + Wait + Clock + Abort + Sync>(
     run_and_keep_witnesses(rt, alloc, config, &Always(true), &opener)
 }
 
-// Whether all six messages that a process received are from this one.
+// Returns whether all six messages that a process received are from this one.
 fn are_all_from(witness: &Witness, before: u32) -> bool {
     witness.senders.len() == 6
         && witness
@@ -359,7 +359,7 @@ fn a_first_start_is_a_run(rt: HostRuntime) {
     drop(shelf);
 }
 
-// How many records and checkpoints the stores of a shelf hold: how many receipts, and the newest checkpoint.
+// Returns how many records and checkpoints the stores of a shelf hold: how many receipts, and the newest checkpoint.
 fn held(rt: &impl Abort, alloc: Global, shelf: &Shelf) -> Vec<(usize, Option<u32>)> {
     let mut all = Vec::new(alloc);
     for store in &shelf.stores {

@@ -11,7 +11,7 @@ use std::thread;
 // How often a flag is looked at before a thread gives up.
 const LOOKS: u32 = 100_000_000;
 
-// Whether the flag is set in time.
+// Returns whether the flag is set in time.
 pub fn is_set(flag: &AtomicBool) -> bool {
     for _ in 0..LOOKS {
         if flag.load(SeqCst) {

@@ -60,7 +60,7 @@ pub fn cluster(
     }
 }
 
-// What a run ends with.
+// Returns what a run ends with.
 fn end_of<R: Threads + Wait + Clock + Abort + Sync>(
     rt: &R,
     alloc: Global,
@@ -108,7 +108,7 @@ fn all_wait_but_one_that_ended(rt: HostRuntime) {
     assert_all_wait(&rt, rt.alloc(), (16, &ENDS), &[]);
 }
 
-// Whether each of so many processes ended with a code.
+// Returns whether each of so many processes ended with a code.
 fn have_ended(report: &Report, n: usize) -> bool {
     report.statuses.len() == n
         && report

@@ -30,7 +30,7 @@ const FAULTS: [u32; 15] = [
     0x00000893, 0x00000073, 0x00200893, 0x10000513, 0x00400593, 0x00000073, 0xFFC02303,
 ];
 
-// Why the run of a cluster that is watched came to no end.
+// Returns why the run of a cluster that is watched came to no end.
 fn fault_of<'a, R: Threads + Wait + Clock + Abort + Sync>(
     rt: &R,
     alloc: Global,
@@ -44,7 +44,7 @@ fn fault_of<'a, R: Threads + Wait + Clock + Abort + Sync>(
     run_cluster(rt, alloc, config, &Always(true), &watched).err()
 }
 
-// Why the run of a cluster came to no end, and who watched it.
+// Returns why the run of a cluster came to no end, and who watched it.
 fn watched<R: Threads + Wait + Clock + Abort + Sync>(
     rt: &R,
     alloc: Global,
@@ -57,7 +57,7 @@ fn watched<R: Threads + Wait + Clock + Abort + Sync>(
     (fault, watch)
 }
 
-// What was seen of the processes of a cluster, and why its run came to no end.
+// Returns what was seen of the processes of a cluster, and why its run came to no end.
 pub fn seen<R: Threads + Wait + Clock + Abort + Sync>(
     rt: &R,
     alloc: Global,
@@ -106,8 +106,8 @@ fn one_that_runs_is_seen(rt: HostRuntime) {
     assert_seen(&rt, alloc, counts, &[(runs, 1), (WAITING, 0)]);
 }
 
-// Whether this is process `p` of a ring of eight that has ended: six receipts, and its code. What it had received before may be
-// taken anew.
+// Returns whether this is process `p` of a ring of eight that has ended: six receipts, and its code. What it had received
+// before may be taken anew.
 fn is_end_of_ring(sight: &Sight, p: u32) -> bool {
     let code = if p == 0 { 48 } else { p.wrapping_add(40) };
     sight.doing == Doing::Up(Status::Ended(code))
@@ -199,7 +199,7 @@ fn sends_that_are_refused_are_seen(rt: HostRuntime) {
     assert!(&rt; sights.first().is_some_and(|sight| sight.refused == 0));
 }
 
-// Whether this failure is one of these.
+// Returns whether this failure is one of these.
 fn has_failure(failures: &[(Pid, u32)], p: usize, interval: u32) -> bool {
     failures
         .iter()

@@ -136,7 +136,7 @@ fn put_about(rt: &impl Abort, alloc: Global, store: &Mutex<MemLedger>, about: Ve
     assert!(rt; put.is_ok());
 }
 
-// Whether an event was not refused, and a frame was taken.
+// Returns whether an event was not refused, and a frame was taken.
 fn is_done(answer: Answer) -> bool {
     match answer {
         Answer::Given(accept) => matches!(accept, Accept::Taken(_)),

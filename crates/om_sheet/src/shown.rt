@@ -51,7 +51,7 @@ pub enum Shown {
     GoesOn,
 }
 
-/// What a step shows. `ended`: it is known already that the program of its process came to its end.
+/// Returns what a step shows. `ended`: it is known already that the program of its process came to its end.
 pub fn shown_of(step: &Step, ended: bool) -> Shown
     ensures { result ≡ shown ended step.now.event step.now.answer }
 {
@@ -188,7 +188,7 @@ fn resume_shown(answer: Answer) -> Shown
     }
 }
 
-/// Whether a round is finished with this answer.
+/// Returns whether a round is finished with this answer.
 pub fn is_finished(answer: Answer) -> bool
     ensures { result ≡ is_finished answer }
 {

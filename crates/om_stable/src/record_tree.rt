@@ -51,14 +51,14 @@ impl RecordTree {
         let _ = self.tree.remove(&x);
     }
 
-    // Whether `x` has a record.
+    // Returns whether `x` has a record.
     pub(crate) fn has(&self, x: u32) -> bool
         ensures { result ≡ is_some (map.get self.now x) }
     {
         self.tree.contains_key(&x)
     }
 
-    // Whether one of the `count` intervals from `first` on has a record.
+    // Returns whether one of the `count` intervals from `first` on has a record.
     pub(crate) fn has_any(&self, first: u32, count: usize) -> bool
         requires { first + count ≤ INTERVALS }
         ensures taken { OnTrue result (IsTaken self.now first count) }

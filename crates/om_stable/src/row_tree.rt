@@ -35,7 +35,7 @@ impl RowTree {
         }
     }
 
-    // Whether one of the `count` numbers from `first` on has a record.
+    // Returns whether one of the `count` numbers from `first` on has a record.
     pub(crate) fn has_any(&self, first: u64, count: usize) -> bool
         requires { first + count ≤ LEDGER_NUMBERS }
         ensures taken { OnTrue result (IsTaken self.now first count) }

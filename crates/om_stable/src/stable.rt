@@ -119,7 +119,7 @@ pub trait Stable: Drop {
         ensures never_present { result ≢ Err StoreError.Present }
         ensures call { IsCall failed is_clean IsSound call_gives self.old (result_err result) self.new };
 
-    /// How often it has failed, up to `LAST_COUNT`.
+    /// Returns how often it has failed, up to `LAST_COUNT`.
     fn failures(&self) -> u64
         ensures { result ≡ failed self.now };
 }

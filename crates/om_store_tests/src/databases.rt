@@ -34,7 +34,7 @@ pub fn expected<S: Alter + Drop>(
     }
 }
 
-/// Why it was not made or taken, and the connection.
+/// Returns why it was not made or taken, and the connection.
 #[inline(never)]
 pub fn refused<S: Alter + Drop>(
     rt: &impl Abort,

@@ -127,7 +127,7 @@ fn records(
     Ok(recs)
 }
 
-// Whether so many records from a number on have numbers.
+// Returns whether so many records from a number on have numbers.
 fn fits(first: u64, recs: &[Vec<u8>]) -> bool
     ensures { result ≡ true → first + length recs.now ≤ LEDGER_NUMBERS }
 {
@@ -214,7 +214,7 @@ fn written<S: Ledger>(
     store.put_batch(alloc, &batch)
 }
 
-// Whether so many receipts from an interval on have intervals.
+// Returns whether so many receipts from an interval on have intervals.
 fn have_intervals(first: u32, recs: &[Vec<u8>]) -> bool
     ensures { result ≡ true → first + length recs.now ≤ INTERVALS }
 {

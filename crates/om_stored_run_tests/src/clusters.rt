@@ -144,7 +144,7 @@ fn run_ring<R: Threads + Wait + Clock + Sync, C: Connects + Sync + Drop>(
     run_over(rt, alloc, &config, &opener)
 }
 
-// Whether these are the outputs of a process of the ring, of which the last is this number.
+// Returns whether these are the outputs of a process of the ring, of which the last is this number.
 fn are_outputs(outputs: &[Output], last: u32) -> bool {
     if outputs.len() != 6 {
         return false;

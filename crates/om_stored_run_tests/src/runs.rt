@@ -47,7 +47,7 @@ impl RunContext for Nothing {
     fn end(&mut self, _script: &ClusterScript, _outcome: Result<&[Status], CommandError>) {}
 }
 
-// What a run over such stores answers and writes.
+// Returns what a run over such stores answers and writes.
 fn carry_out<R: Threads + Wait + Clock + Sync, O: Opener<R> + Sync>(
     rt: &R,
     alloc: Global,

@@ -278,7 +278,7 @@ fn push_crossed_title(text: &mut String, kind: &Crossed) -> Result<(), AllocErro
     }
 }
 
-// Where a recovery line begins.
+// Returns where a recovery line begins.
 fn start_of(places: &[Spot]) -> u32
     ensures { result ≡ start_of places.now }
 {
@@ -334,7 +334,7 @@ fn class_of(form: Form) -> &'static str
     }
 }
 
-// How far left of its place the path of a mark begins.
+// Returns how far left of its place the path of a mark begins.
 fn left_of(form: Form) -> u64
     ensures { result ≡ left_of form }
 {
@@ -345,7 +345,7 @@ fn left_of(form: Form) -> u64
     }
 }
 
-// How far above its lane.
+// Returns how far above its lane.
 fn above_of(form: Form) -> u64
     ensures { result ≡ above_of form }
 {

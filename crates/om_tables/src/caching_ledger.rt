@@ -67,7 +67,7 @@ impl Cache {
         }
     }
 
-    // Whether the receipts above `after` and at or below `to` are kept.
+    // Returns whether the receipts above `after` and at or below `to` are kept.
     fn has(&self, after: u32, to: u32) -> bool
         ensures { IsTrue result → Covers self.now after to }
     {

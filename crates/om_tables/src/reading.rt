@@ -47,7 +47,7 @@ fn any_checkpoint_rows<S: Alter>(
     )
 }
 
-// Whether one of the `count` intervals from `first` on has a receipt.
+// Returns whether one of the `count` intervals from `first` on has a receipt.
 pub(crate) fn has_any_receipt<S: Alter>(
     conn: &mut Connection<S>,
     first: u32,
@@ -70,7 +70,7 @@ pub(crate) fn has_any_receipt<S: Alter>(
     Ok(!rows.is_empty())
 }
 
-// Whether `x` has a checkpoint.
+// Returns whether `x` has a checkpoint.
 pub(crate) fn has_checkpoint<S: Alter>(conn: &mut Connection<S>, x: u32) -> Result<bool, Error>
     requires idle { (state S.Store conn.old).in_transaction ≡ false }
     ensures idle { (state S.Store conn.new).in_transaction ≡ false }

@@ -89,7 +89,7 @@ impl<S: Alter> SqlLedger<S> {
     }
 }
 
-// Whether a database has no table, index or view.
+// Returns whether a database has no table, index or view.
 fn has_nothing(schema: &Schema) -> bool
     ensures { IsTrue result ↔ (schema.now ≡ no_schema) }
 {
@@ -99,7 +99,7 @@ fn has_nothing(schema: &Schema) -> bool
     schema.views.is_empty()
 }
 
-// Whether a database has the five tables of a ledger, and nothing beside them.
+// Returns whether a database has the five tables of a ledger, and nothing beside them.
 fn has_five_tables(schema: &Schema) -> bool
     ensures { IsTrue result ↔ HasFiveTables schema.now }
 {
@@ -113,14 +113,14 @@ fn has_five_tables(schema: &Schema) -> bool
     has_further(tables)
 }
 
-// Whether the tables of records are among them.
+// Returns whether the tables of records are among them.
 fn has_records(tables: &[Table]) -> bool
     ensures { IsTrue result ↔ (HasTable tables.now (codes "receipts") × HasTable tables.now (codes "checkpoints")) }
 {
     has_table(tables, b"receipts") && has_table(tables, b"checkpoints")
 }
 
-// Whether the further tables of a ledger are among them.
+// Returns whether the further tables of a ledger are among them.
 fn has_further(tables: &[Table]) -> bool
     ensures { IsTrue result ↔ (HasTable tables.now (codes "outputs") × HasTable tables.now (codes "senders") × HasTable tables.now (codes "about")) }
 {
@@ -130,7 +130,7 @@ fn has_further(tables: &[Table]) -> bool
     has_table(tables, b"senders") && has_table(tables, b"about")
 }
 
-// Whether one of the tables has this name.
+// Returns whether one of the tables has this name.
 fn has_table(tables: &[Table], name: &[u8]) -> bool
     ensures { IsTrue result ↔ HasTable tables.now name.now }
 {

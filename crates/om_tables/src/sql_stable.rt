@@ -231,7 +231,7 @@ impl<S: Alter> SqlStable<S> {
     }
 }
 
-// Whether a database has the two tables of a store, and nothing beside them.
+// Returns whether a database has the two tables of a store, and nothing beside them.
 fn has_both_tables(schema: &Schema) -> bool
     ensures { IsTrue result ↔ HasBothTables schema.now }
 {
@@ -253,7 +253,7 @@ fn are_receipts_and_checkpoints(tables: &[Table]) -> bool
     checkpoints.name.as_slice() == b"checkpoints".as_slice()
 }
 
-// Why the tables were not made, by the error of `sqlite`.
+// Returns why the tables were not made, by the error of `sqlite`.
 pub(crate) fn refusal_of(error: Error) -> TablesError
     ensures memory { (result ≡ TablesError.Memory) ↔ (error ≡ Error.SqliteFailure ErrorCode.OutOfMemory) }
     ensures fault { result ≢ TablesError.Memory → result ≡ TablesError.Fault }

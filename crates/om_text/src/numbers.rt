@@ -41,7 +41,7 @@ fn narrow(number: u64) -> Option<u32>
     u32::try_from(number).ok()
 }
 
-// What the digits write, where they are digits and that is below 2^64.
+// Returns what the digits write, where they are digits and that is below 2^64.
 fn value_of(word: &[u8], radix: u32) -> Option<u64>
     requires least { 2 ≤ radix }
     requires most { radix ≤ 16 }
@@ -56,7 +56,7 @@ fn value_of(word: &[u8], radix: u32) -> Option<u64>
     Some(value)
 }
 
-// What the digits write with one more of them, where that is below 2^64.
+// Returns what the digits write with one more of them, where that is below 2^64.
 fn with_digit(value: u64, radix: u32, digit: u32) -> Option<u64>
     ensures { result ≡ below (2 ^ 64) (Some (value * radix + digit)) }
 {

@@ -45,7 +45,7 @@ impl<J: Series, T> Ticket<J, T> {
         self.number
     }
 
-    /// Whether two tickets have one number: then both are of the same.
+    /// Returns whether two tickets have one number: then both are of the same.
     pub fn is_of(&self, other: &Ticket<J, T>) -> bool
         ensures { IsTrue result → self.now ≡ other.now }
     {

@@ -154,7 +154,7 @@ fn played(rt: &impl Abort, alloc: Global) -> Timeline {
     timeline
 }
 
-// Where it stands: pc, and the instructions that are finished.
+// Returns where it stands: pc, and the instructions that are finished.
 fn place(timeline: &Timeline) -> (u32, u64) {
     let machine = timeline.machine();
     (machine.pc(), machine.count())
@@ -183,7 +183,7 @@ fn each_event_is_passed(rt: HostRuntime) {
     }
 }
 
-// What an event did, in a word.
+// Returns what an event did, in a word.
 fn word(deed: &Deed) -> &'static str {
     match deed {
         Deed::Nothing => "nothing",
@@ -301,7 +301,7 @@ static LONG: [Event; 4] = [
     },
 ];
 
-// How often the next event is looked at until it is played, and whether there is one.
+// Returns how often the next event is looked at until it is played, and whether there is one.
 fn looks(rt: &impl Abort, alloc: Global, timeline: &mut Timeline) -> (u64, bool) {
     for parts in 0..100 {
         match timeline.look(alloc).expect(rt, "an event") {

@@ -2,7 +2,7 @@
 
 use std::alloc::{AllocError, Global};
 
-/// Whether what is printed is of a form, in which each word in capitals stands for any word.
+/// Returns whether what is printed is of a form, in which each word in capitals stands for any word.
 pub fn is_of(printed: &str, form: &str) -> bool {
     let mut words = printed.split_whitespace();
     for wanted in form.split_whitespace() {

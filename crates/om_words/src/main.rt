@@ -79,7 +79,7 @@ fn compare_rows(
     Ok(count == all)
 }
 
-// Whether a word is printed in its form, and told in these sections; else it is printed.
+// Returns whether a word is printed in its form, and told in these sections; else it is printed.
 fn is_told(
     rt: &HostRuntime,
     word: Word,
@@ -95,7 +95,7 @@ fn is_told(
     Ok(false)
 }
 
-// Whether the help tells of a form, where there is one that is to.
+// Returns whether the help tells of a form, where there is one that is to.
 fn is_helped(rt: &HostRuntime, form: &str, help: Option<&str>) -> io::Result<bool> {
     match help {
         Some(help) => stands(rt, " ", form, help),
@@ -103,7 +103,7 @@ fn is_helped(rt: &HostRuntime, form: &str, help: Option<&str>) -> io::Result<boo
     }
 }
 
-// Whether a form stands in a text between these marks.
+// Returns whether a form stands in a text between these marks.
 fn stands(rt: &HostRuntime, mark: &str, form: &str, text: &str) -> io::Result<bool> {
     let marked = format!(in rt.alloc(); "{mark}{form}{mark}")?;
     Ok(text.contains(marked.as_str()))

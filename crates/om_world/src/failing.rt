@@ -40,7 +40,7 @@ pub(crate) fn cut_where_finished(live: &mut Live, manager: &Manager, told: Gathe
 }
 
 impl<S: Stable> World<S> {
-    // What a failure of the process comes to.
+    // Returns what a failure of the process comes to.
     fn failure(&self, p: usize) -> Failure
         requires { p < length self.now.programs }
         ensures { IsFailure self.now p result }

@@ -21,7 +21,7 @@ use om_member::{Batch, NotUp};
 use om_stable::Stable;
 use std::alloc::Global;
 
-// What is told of a process that joins.
+// Returns what is told of a process that joins.
 fn told_joined(answer: Result<Result<Gathered, JoinError>, NotUp>) -> Result<Gathered, Refusal>
     ensures { result ≡ told_of refusal_of_join answer }
 {
@@ -29,7 +29,7 @@ fn told_joined(answer: Result<Result<Gathered, JoinError>, NotUp>) -> Result<Gat
 }
 
 impl<S: Stable> World<S> {
-    // Whether a gathering is open.
+    // Returns whether a gathering is open.
     fn is_gathering(&self) -> Result<(), Refusal>
         ensures open { IfOk result (λ _. self.now.manager.gathering ≢ None) }
         ensures closed { IfErr result (λ why. (why ≡ Refusal.NoRound) × (self.now.manager.gathering ≡ None)) }

@@ -85,7 +85,7 @@ fn place_in(state: &DepVec, p: usize) -> usize
     }
 }
 
-// Whether no process has more entries than the state says.
+// Returns whether no process has more entries than the state says.
 fn are_within(counts: &[usize; MAX_PROCESSES], state: &DepVec) -> bool
     ensures { IsTrue result ↔ AreWithin counts.now state.now }
 {
@@ -97,7 +97,7 @@ fn are_within(counts: &[usize; MAX_PROCESSES], state: &DepVec) -> bool
     true
 }
 
-// How many entries stand before the first that the state cuts, or fewer; and how many of each process are among those.
+// Returns how many entries stand before the first that the state cuts, or fewer; and how many of each process are among those.
 fn first_beyond(entries: &[Entry], counts: &mut [usize; MAX_PROCESSES], state: &DepVec) -> usize
     requires counted { AreCounted entries.now counts.old }
     ensures within { result ≤ length entries.now }

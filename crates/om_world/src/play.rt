@@ -16,7 +16,7 @@ use om_member::Batch;
 use om_stable::Stable;
 use std::alloc::{AllocError, Global};
 
-// What is told of an event.
+// Returns what is told of an event.
 fn answer_of(told: Result<Answer, Refusal>) -> Answer
     ensures { result ≡ answered told }
 {
@@ -27,7 +27,7 @@ fn answer_of(told: Result<Answer, Refusal>) -> Answer
 }
 
 impl<S: Stable> World<S> {
-    // What an event comes to.
+    // Returns what an event comes to.
     fn outcome(&mut self, alloc: Global, event: Event) -> Result<Answer, Refusal>
         ensures happened { IsKnown self.new → Happened self.old event (answered result) self.new }
         ensures keeps { Keeps self.old self.new }

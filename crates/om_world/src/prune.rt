@@ -16,7 +16,7 @@ use om_stable::{Stable, StoreError};
 use std::alloc::Global;
 
 impl<S: Stable> World<S> {
-    // How many processes there are, each with its store.
+    // Returns how many processes there are, each with its store.
     fn size(&self) -> usize
         ensures programs { result ≡ length self.now.programs }
         ensures stores { result ≡ length self.now.contents }

@@ -22,7 +22,7 @@ use om_process::{Down, ReplayFault};
 use om_stable::Stable;
 use std::alloc::{AllocError, Global};
 
-// What is told of a process that goes on.
+// Returns what is told of a process that goes on.
 fn told_on(answer: Result<Result<(), AllocError>, NotIn>) -> Result<(), Refusal>
     ensures on { IfOk answer (λ answer. IfOk answer (λ done. result ≡ Ok done)) }
     ensures stopped { IfOk answer (λ answer. OnErr answer (result ≡ Err Refusal.Memory)) }
@@ -33,7 +33,7 @@ fn told_on(answer: Result<Result<(), AllocError>, NotIn>) -> Result<(), Refusal>
 }
 
 impl<S: Stable> World<S> {
-    // Whether a round is finished that is newer than those that the process knew when it was last up.
+    // Returns whether a round is finished that is newer than those that the process knew when it was last up.
     pub(crate) fn has_news(&self, p: usize) -> bool
         requires { p < length self.now.programs }
         ensures { IsTrue result ↔ HasNews self.now p }
@@ -92,7 +92,7 @@ impl<S: Stable> World<S> {
         member.come_back(alloc, down, self.manager.starts(), &verdict)
     }
 
-    // Whether a process is rolled back as it comes up again: it is down, or the last round says so.
+    // Returns whether a process is rolled back as it comes up again: it is down, or the last round says so.
     fn comes_back(&self, p: usize) -> Result<bool, Refusal>
         ensures there { OnOk result (p < length self.now.programs) }
         ensures due { IfOk result (λ back. IsDue self.now p back) }

@@ -22,14 +22,14 @@ use om_process::{ProcCore, Ran};
 use om_stable::Stable;
 use std::alloc::{AllocError, Global};
 
-// What is told of a run.
+// Returns what is told of a run.
 fn told_ran(answer: Result<Result<Ran, AllocError>, NotUp>) -> Result<Ran, Refusal>
     ensures { result ≡ told_of (λ _. Refusal.Memory) answer }
 {
     Ok(answer??)
 }
 
-// What is told of outputs that a process handed in.
+// Returns what is told of outputs that a process handed in.
 fn told_handed(answer: Result<Result<(), OutputError>, NotUp>) -> Result<(), Refusal>
     ensures { result ≡ told_of refusal_of_output answer }
 {
@@ -37,7 +37,7 @@ fn told_handed(answer: Result<Result<(), OutputError>, NotUp>) -> Result<(), Ref
     Ok(())
 }
 
-// How many messages to each process a process keeps.
+// Returns how many messages to each process a process keeps.
 pub(crate) fn messages_kept(core: &ProcCore) -> [usize; MAX_PROCESSES]
     ensures { AreKept core.now result }
 {
@@ -61,7 +61,7 @@ impl<S: Stable> World<S> {
         told_ran(member.run(alloc, fuel))
     }
 
-    // How many messages to each process a process keeps: none where it is down.
+    // Returns how many messages to each process a process keeps: none where it is down.
     fn messages(&self, p: usize) -> [usize; MAX_PROCESSES]
         requires { IsUp self.now p }
         ensures { (c : CoreState) × (slice_get self.now.cores p ≡ Some (Some c)) × AreKept c result }
@@ -73,7 +73,7 @@ impl<S: Stable> World<S> {
         }
     }
 
-    // How many outputs a process keeps: none where it is down.
+    // Returns how many outputs a process keeps: none where it is down.
     fn outputs(&self, p: usize) -> usize
         requires { IsUp self.now p }
         ensures { (c : CoreState) × (slice_get self.now.cores p ≡ Some (Some c)) × (result ≡ length (outputs_of c).entries) }

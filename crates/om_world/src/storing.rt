@@ -19,7 +19,7 @@ use om_member::{Batch, NotUp};
 use om_stable::{Stable, StoreError};
 use std::alloc::Global;
 
-// What is told of records that a process stored.
+// Returns what is told of records that a process stored.
 fn told_stored(answer: Result<Result<(), StoreError>, NotUp>) -> Result<(), Refusal>
     ensures { result ≡ told_of refusal_of_store answer }
 {
@@ -27,7 +27,7 @@ fn told_stored(answer: Result<Result<(), StoreError>, NotUp>) -> Result<(), Refu
     Ok(())
 }
 
-// What is told of rows that a process had noted.
+// Returns what is told of rows that a process had noted.
 fn told_noted(answer: Result<(usize, Result<(), RecordError>), NotUp>) -> Result<usize, Refusal>
     ensures noted { IfOk answer (λ told. result ≡ told_of refusal_of_record (Ok (count_of told.0 told.1))) }
     ensures not_up { OnErr answer (result ≡ Err Refusal.NotUp) }

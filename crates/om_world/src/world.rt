@@ -56,7 +56,7 @@ impl<S: Stable> Model for World<S> {
 }
 
 impl<S: Stable> World<S> {
-    /// What was received and not cut, in order.
+    /// Returns what was received and not cut, in order.
     pub fn live(&self) -> &[Entry]
         ensures { result.now ≡ self.now.live }
     {
@@ -94,7 +94,7 @@ impl<S: Stable> World<S> {
         let _ = &self.live;
     }
 
-    // Where a process stands.
+    // Returns where a process stands.
     pub(crate) fn place(&self, p: usize) -> Place
         requires { p < length self.now.programs }
         ensures { slice_get self.now.places p ≡ Some result }
@@ -103,7 +103,7 @@ impl<S: Stable> World<S> {
         Place::of(&member.standing)
     }
 
-    // Whether the process is there and up.
+    // Returns whether the process is there and up.
     pub(crate) fn is_up(&self, p: usize) -> Result<(), Refusal>
         ensures up { IfOk result (λ _. IsUp self.now p) }
         ensures there { IfOk result (λ _. p < length self.now.programs) }

@@ -447,7 +447,7 @@ fn stores_stop_at_any_call(rt: HostRuntime) {
     }
 }
 
-// What a start of one process with a memory of this size, over a store of its own, is refused with.
+// Returns what a start of one process with a memory of this size, over a store of its own, is refused with.
 fn refused(alloc: Global, size: u32) -> Result<(), StartFault> {
     let mut images = Vec::with_capacity(alloc, 1)?;
     images.push_reserved(image(alloc, &SENDS, size)?);

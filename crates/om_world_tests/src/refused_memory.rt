@@ -29,7 +29,7 @@ fn answer_to<S: Stable>(alloc: Global, world: &mut World<S>, event: Event) -> An
     }
 }
 
-// How many messages an event sends by its answer.
+// Returns how many messages an event sends by its answer.
 fn sent_by(answer: Answer) -> usize {
     match answer {
         Answer::Ran {

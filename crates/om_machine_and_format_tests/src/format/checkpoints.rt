@@ -220,7 +220,7 @@ fn told_queue(queue: &Queue) -> ToldQueue<'_> {
     (queue.first, queue.entries.len(), entries)
 }
 
-// Whether each byte of register i is i.
+// Returns whether each byte of register i is i.
 fn has_registers(checkpoint: &Checkpoint) -> bool {
     let mut register = 0x0101_0101;
     for value in checkpoint.head.regs {
@@ -300,7 +300,7 @@ fn checkpoints_with_entries_are_read_and_written(rt: HostRuntime) {
     assert_of_2(&rt, &checkpoint);
 }
 
-// Whether the memory of 600 bytes has its three pages.
+// Returns whether the memory of 600 bytes has its three pages.
 fn has_pages(memory: &[u8]) -> bool {
     for (place, byte) in memory.iter().enumerate() {
         let want = match place {

@@ -145,12 +145,12 @@ pub fn with_byte(rt: &impl Abort, alloc: Global, bytes: &[u8], offset: usize, by
     changed
 }
 
-// Why bytes are no receipt, None where they are one.
+// Returns why bytes are no receipt, None where they are one.
 pub fn receipt_fault(alloc: Global, bytes: &[u8]) -> Option<DecodeError> {
     decode_receipt(alloc, bytes).err()
 }
 
-// Why bytes are no checkpoint, None where they are one.
+// Returns why bytes are no checkpoint, None where they are one.
 pub fn checkpoint_fault(alloc: Global, bytes: &[u8]) -> Option<DecodeError> {
     decode_checkpoint(alloc, bytes).err()
 }
@@ -212,7 +212,7 @@ pub fn assert_whole(rt: &impl Abort, alloc: Global, bytes: &[u8]) {
     assert_same(rt, &faults, &(None, Some(DecodeError::Trailing)));
 }
 
-// What bytes of version 1 with a memory of one page say, in version 2.
+// Returns what bytes of version 1 with a memory of one page say, in version 2.
 fn in_version_2(rt: &impl Abort, alloc: Global, bytes: &[u8]) -> Vec<u8> {
     assert!(rt; bytes.len() > 3);
     let size_at = 152 + 12 * usize::from(bytes[2]);

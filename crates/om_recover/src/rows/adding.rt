@@ -68,7 +68,7 @@ fn add_log(trees: &mut Trees, row: &Row) -> Result<(), AllocError>
     Ok(())
 }
 
-// How far a new checkpoint reaches: as the one before it, where that reaches this one, else along the logs that follow.
+// Returns how far a new checkpoint reaches: as the one before it, where that reaches this one, else along the logs that follow.
 fn reach_of(trees: &Trees, row: &Row) -> u32
     requires indexed { AreIndexed trees.now }
     requires lawful { (n : ℕ) × IsLawful n (held trees.now) }

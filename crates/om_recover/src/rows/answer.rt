@@ -80,7 +80,7 @@ fn is_fair(row: &Row, n: usize) -> bool
         && (row.kind == RowKind::Checkpoint || row.interval > 0)
 }
 
-// Whether a record of the row's interval has other vectors.
+// Returns whether a record of the row's interval has other vectors.
 fn has_different(trees: &Trees, row: &Row) -> bool
     requires { AreTrees trees.now }
     ensures yes { IsTrue result → HasDifferent (held trees.now) row.now }
@@ -100,7 +100,7 @@ fn is_different(trees: &Trees, kind: RowKind, row: &Row) -> bool
     }
 }
 
-// Whether that very row is there.
+// Returns whether that very row is there.
 fn has_row(trees: &Trees, row: &Row) -> bool
     requires { AreTrees trees.now }
     ensures { IsTrue result ↔ HasRow (held trees.now) row.now }
@@ -153,7 +153,7 @@ fn fault_above(trees: &Trees, n: usize, row: &Row) -> Option<u32>
     }
 }
 
-// Whether the process is seen to have no row at the row's interval or above.
+// Returns whether the process is seen to have no row at the row's interval or above.
 fn is_beyond(trees: &Trees, row: &Row) -> bool
     requires { AreTrees trees.now }
     ensures { IsTrue result → HasNoRowFrom (held trees.now) row.now }
@@ -167,7 +167,7 @@ fn is_beyond(trees: &Trees, row: &Row) -> bool
     }
 }
 
-// Whether a log of the interval right before has at most the row's vectors, as where rows come in order.
+// Returns whether a log of the interval right before has at most the row's vectors, as where rows come in order.
 fn follows_a_log(trees: &Trees, row: &Row) -> bool
     requires { AreTrees trees.now }
     ensures { IsTrue result → FollowsRow (held trees.now) row.now }
@@ -181,7 +181,7 @@ fn follows_a_log(trees: &Trees, row: &Row) -> bool
     }
 }
 
-// Whether the process has no row above the row's interval.
+// Returns whether the process has no row above the row's interval.
 fn is_last(trees: &Trees, row: &Row) -> bool
     requires { AreTrees trees.now }
     ensures { IsTrue result → HasNoRowAbove (held trees.now) row.now }

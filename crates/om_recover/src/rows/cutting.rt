@@ -80,7 +80,7 @@ fn cut_run(run: &mut Run, to: u32)
     run.logs.truncate(kept);
 }
 
-// Whether a checkpoint is kept in a cut, which bounds how far it reaches.
+// Returns whether a checkpoint is kept in a cut, which bounds how far it reaches.
 fn cut_base(place: &(Pid, u32), base: &mut Base, state: &DepVec) -> bool
     ensures kept { result ≡ nat_le place.now.1 (slice_index state.now place.now.0) }
     ensures reaches { base.new ≡ record base.old { last = min base.old.last (slice_index state.now place.now.0) } }

@@ -91,7 +91,7 @@ impl Index {
         answer_without_change(&self.trees, n, row)
     }
 
-    /// Whether the row's interval is not stable, and will be once the row is added.
+    /// Returns whether the row's interval is not stable, and will be once the row is added.
     pub fn makes_stable(&self, row: &Row) -> bool
         ensures yes { IsTrue result → MakesStable self.now row.now }
         ensures none { result ≡ false → MakesNothingStable self.now row.now }
@@ -133,7 +133,7 @@ impl Index {
         effective_of(&self.trees, pid, x)
     }
 
-    /// What a process had got in a stable interval.
+    /// Returns what a process had got in a stable interval.
     pub fn got(&self, pid: Pid, x: u32) -> DepVec
         requires { IsStable self.now pid x }
         ensures { IsGotAt self.now pid x result }
@@ -141,7 +141,7 @@ impl Index {
         got_at(&self.trees, pid, x)
     }
 
-    /// How many messages from the sender the receiver had got in a stable interval.
+    /// Returns how many messages from the sender the receiver had got in a stable interval.
     pub fn got_from(&self, receiver: Pid, x: u32, sender: Pid) -> u32
         requires stable { IsStable self.now receiver x }
         requires lawful { (n : ℕ) × IsLawful n self.now × (sender < n) }

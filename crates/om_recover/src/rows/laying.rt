@@ -60,7 +60,7 @@ fn other_at(others: &BTreeMap<(Pid, u32), Vectors>, pid: Pid, x: u32) -> Option<
     others.get(&(pid, x)).copied()
 }
 
-// Whether the log of an interval may come next in the process's run.
+// Returns whether the log of an interval may come next in the process's run.
 fn may_follow(runs: &[Run], pid: Pid, x: u32, vectors: &Lent<'_>) -> bool
     ensures { IsTrue result → IsNextInRuns runs.now pid x vectors.now }
 {
@@ -70,7 +70,7 @@ fn may_follow(runs: &[Run], pid: Pid, x: u32, vectors: &Lent<'_>) -> bool
     }
 }
 
-// Whether an interval is the one behind a run's last, or any where it has none.
+// Returns whether an interval is the one behind a run's last, or any where it has none.
 fn is_behind(run: &Run, x: u32) -> bool
     ensures { IsTrue result → IsBehind run.now x }
 {

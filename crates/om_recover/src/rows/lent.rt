@@ -95,7 +95,7 @@ impl<'a> Lent<'a> {
         }
     }
 
-    /// How many messages were got from a process.
+    /// Returns how many messages were got from a process.
     pub fn got_from(&self, sender: Pid) -> u32
         requires { sender < length self.now.got }
         ensures { result ≡ slice_index self.now.got sender }
@@ -103,7 +103,7 @@ impl<'a> Lent<'a> {
         number_of(self.got, sender)
     }
 
-    /// Whether they are these.
+    /// Returns whether they are these.
     pub fn are(&self, vec: &DepVec, got: &DepVec) -> bool
         ensures vec { IsTrue result → self.now.vec ≡ vec.now }
         ensures got { IsTrue result → self.now.got ≡ got.now }
@@ -112,7 +112,7 @@ impl<'a> Lent<'a> {
         self.vec == vec.as_slice() && self.got == got.as_slice()
     }
 
-    /// Whether each is at most the one given.
+    /// Returns whether each is at most the one given.
     pub fn are_at_most(&self, vec: &DepVec, got: &DepVec) -> bool
         ensures vec { IsTrue result → IsBelow self.now.vec vec.now }
         ensures got { IsTrue result → IsBelow self.now.got got.now }

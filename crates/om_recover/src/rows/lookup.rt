@@ -102,7 +102,7 @@ pub fn vec_at(trees: &Trees, pid: Pid, x: u32) -> &[u32]
     vectors.into_vec()
 }
 
-/// What a process had got in a stable interval.
+/// Returns what a process had got in a stable interval.
 pub fn got_at(trees: &Trees, pid: Pid, x: u32) -> DepVec
     requires in_order { AreTrees trees.now }
     requires stable { IsStable (held trees.now) pid x }
@@ -112,7 +112,7 @@ pub fn got_at(trees: &Trees, pid: Pid, x: u32) -> DepVec
     vectors.got()
 }
 
-/// How many messages from the sender the receiver had got in a stable interval.
+/// Returns how many messages from the sender the receiver had got in a stable interval.
 pub fn got_from(trees: &Trees, receiver: Pid, x: u32, sender: Pid) -> u32
     requires in_order { AreTrees trees.now }
     requires stable { IsStable (held trees.now) receiver x }

@@ -44,14 +44,14 @@ impl RunLogs {
         }
     }
 
-    /// How many logs there are.
+    /// Returns how many logs there are.
     pub fn len(&self) -> usize
         ensures { result ≡ length self.now }
     {
         self.count
     }
 
-    /// Whether there is no log.
+    /// Returns whether there is no log.
     pub fn is_empty(&self) -> bool
         ensures { IsTrue result ↔ (length self.now ≡ 0) }
     {
@@ -78,7 +78,7 @@ impl RunLogs {
         Lent::of_halves(part(&self.numbers, from, size), self.n)
     }
 
-    /// Whether these vectors have as many places as those that lie there.
+    /// Returns whether these vectors have as many places as those that lie there.
     pub fn takes(&self, vectors: &Lent<'_>) -> bool
         ensures { IsTrue result → AreAlike self.now vectors.now }
     {

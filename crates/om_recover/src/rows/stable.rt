@@ -9,7 +9,7 @@ use crate::rows::bases::{base_from, base_to, newest_of};
 use crate::rows::trees::{Newest, Trees};
 use om_interval::{DepVec, Pid};
 
-/// Whether an interval of a process is stable: whether its nearest checkpoint reaches it.
+/// Returns whether an interval of a process is stable: whether its nearest checkpoint reaches it.
 pub fn is_stable_in(trees: &Trees, pid: Pid, x: u32) -> bool
     requires { AreIndexed trees.now }
     ensures yes { IsTrue result → IsStable (held trees.now) pid x }
@@ -21,7 +21,7 @@ pub fn is_stable_in(trees: &Trees, pid: Pid, x: u32) -> bool
     }
 }
 
-/// Whether a process's newest checkpoint tells that no stable interval is above this one.
+/// Returns whether a process's newest checkpoint tells that no stable interval is above this one.
 pub fn ends_in(trees: &Trees, pid: Pid, x: u32) -> bool
     requires { AreIndexed trees.now }
     ensures { IsTrue result → EndsBy (held trees.now) pid x }
@@ -32,7 +32,7 @@ pub fn ends_in(trees: &Trees, pid: Pid, x: u32) -> bool
     }
 }
 
-/// Whether the newest checkpoints tell that no process has a stable interval above its place of a state.
+/// Returns whether the newest checkpoints tell that no process has a stable interval above its place of a state.
 pub fn all_end_in(trees: &Trees, state: &DepVec) -> bool
     requires { AreIndexed trees.now }
     ensures { IsTrue result → AllEndBy (held trees.now) state.now }

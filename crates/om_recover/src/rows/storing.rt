@@ -25,7 +25,7 @@ pub fn store(bases: &mut Bases, pid: Pid, x: u32, base: Base) -> Result<(), Allo
     Ok(())
 }
 
-// Whether none of a process's checkpoints is at an interval or above, and there is room for a newest.
+// Returns whether none of a process's checkpoints is at an interval or above, and there is room for a newest.
 fn is_top(bases: &Bases, pid: Pid, x: u32) -> bool
     requires { AreBases bases.now }
     ensures yes { IsTrue result → IsTop bases.now pid x }

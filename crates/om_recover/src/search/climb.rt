@@ -155,7 +155,7 @@ fn climb_on<S: Shelf>(
     Some(reached)
 }
 
-// Where a climb begins that is remembered from its start or a lower one.
+// Returns where a climb begins that is remembered from its start or a lower one.
 fn begin_known<S: Shelf>(
     shelf: &S,
     state: &DepVec,

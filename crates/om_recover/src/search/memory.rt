@@ -20,7 +20,7 @@ pub struct Memory {
 }
 
 impl Memory {
-    // What is left of it where the interval that was read last is not in its way any longer: it lacks nothing.
+    // Returns what is left of it where the interval that was read last is not in its way any longer: it lacks nothing.
     fn part(&self) -> Memory
         ensures { result ≡ part_of self.now }
     {
@@ -101,7 +101,7 @@ impl Memories {
         }
     }
 
-    // Whether a climb of a process is remembered that came further, at another, than to an interval.
+    // Returns whether a climb of a process is remembered that came further, at another, than to an interval.
     fn is_beyond(&self, of: Pid, pid: Pid, x: u32) -> bool
         requires { MatchOption (slice_index_or self.now.places of None) ⊤ (HasPlace pid) }
         ensures { result ≡ false → MatchOption (slice_index_or self.now.places of None) ⊤ (IsUpTo pid x) }
@@ -112,7 +112,7 @@ impl Memories {
         }
     }
 
-    // What is left of a process's memory, unless that came further, at another, than to an interval.
+    // Returns what is left of a process's memory, unless that came further, at another, than to an interval.
     fn part_within(&self, of: Pid, pid: Pid, x: u32) -> Option<Memory>
         requires { MatchOption (slice_index_or self.now.places of None) ⊤ (HasPlace pid) }
         ensures { IsPartWithin (slice_index_or self.now.places of None) pid x result }

@@ -15,7 +15,7 @@ use std::time::Clock;
 // The turns of a worker.
 const TURNS: u64 = 50_000_000;
 
-// What a run that is followed answers and writes.
+// Returns what a run that is followed answers and writes.
 fn followed<R: Threads + Wait + Clock + Abort + Sync>(
     rt: &R,
     alloc: Global,
@@ -81,7 +81,7 @@ fn what_was_released_is_written(rt: HostRuntime) {
     );
 }
 
-// What a run that is followed writes of one process.
+// Returns what a run that is followed writes of one process.
 fn followed_raw<R: Threads + Wait + Clock + Abort + Sync>(
     rt: &R,
     alloc: Global,
@@ -151,7 +151,7 @@ impl Write for Narrow {
     }
 }
 
-// What a run that is followed answers to a writer that takes so many bytes, and what it took.
+// Returns what a run that is followed answers to a writer that takes so many bytes, and what it took.
 fn narrowed<R: Threads + Wait + Clock + Abort + Sync>(
     rt: &R,
     alloc: Global,
@@ -172,7 +172,7 @@ fn narrowed<R: Threads + Wait + Clock + Abort + Sync>(
 // How long the line of an output of a ring of 8 is.
 const LINE: usize = 18;
 
-// Whether the whole lines are by process the first of those of a ring of 8.
+// Returns whether the whole lines are by process the first of those of a ring of 8.
 fn are_first(rt: &impl Abort, alloc: Global, written: &str) -> bool {
     let whole = written
         .get(..written.len() / LINE * LINE)

@@ -176,7 +176,7 @@ const TWICE_ENDS: &str = "out r 0 9308100093081000\nend s ended 0\nend r ended 0
 
 const ALTERED_ENDS: &str = "out r 0 930810ff93081000\nend s ended 0\nend r ended 0\n";
 
-// What a run in a mode answers and writes, over stores that are made so.
+// Returns what a run in a mode answers and writes, over stores that are made so.
 pub(super) fn carry_out<R: Threads + Wait + Clock + Sync, O: Opener<R> + Sync>(
     rt: &R,
     alloc: Global,

@@ -42,7 +42,7 @@ impl<'a, R, O: Opener<R>> Opener<R> for Counted<'a, O> {
     }
 }
 
-// How many stores are made for a run of two processes of which one fails, and what is answered.
+// Returns how many stores are made for a run of two processes of which one fails, and what is answered.
 fn made<R: Threads + Wait + Clock + Sync, O: Opener<R> + Sync>(
     rt: &R,
     alloc: Global,

@@ -99,7 +99,7 @@ static PLAYS: [(&[u8], u64, (&str, usize)); 11] = [
     (&[1, 2], 13, ("spent", 0)),
 ];
 
-// Whether the outputs of process 0 are the numbers of these.
+// Returns whether the outputs of process 0 are the numbers of these.
 fn are_gathered(world: &World<MemStable>, senders: &[u8]) -> bool
     requires { 1 ≤ length world.now.manager.recovery }
 {
@@ -115,7 +115,7 @@ fn are_gathered(world: &World<MemStable>, senders: &[u8]) -> bool
     true
 }
 
-// What is told of a play; that the outputs are in another order is told too.
+// Returns what is told of a play; that the outputs are in another order is told too.
 fn told(
     alloc: Global,
     images: &[Image],

@@ -42,7 +42,7 @@ impl RunContext for Drawing {
     fn end(&mut self, _script: &ClusterScript, _outcome: Result<&[Status], CommandError>) {}
 }
 
-// What a cluster file comes to with so many kills that are drawn by a seed, its text, and the kills.
+// Returns what a cluster file comes to with so many kills that are drawn by a seed, its text, and the kills.
 fn run_with<R: Threads + Wait + Clock + Abort + Sync>(
     rt: &R,
     alloc: Global,
@@ -84,12 +84,12 @@ fn drawn<R: Threads + Wait + Clock + Abort + Sync>(
     kills
 }
 
-// How many kills are of this process.
+// Returns how many kills are of this process.
 fn count_of(kills: &[(usize, u32)], p: usize) -> usize {
     kills.iter().filter(|kill| kill.0 == p).count()
 }
 
-// How many kills lie above an interval, up to another.
+// Returns how many kills lie above an interval, up to another.
 fn count_between(kills: &[(usize, u32)], above: u32, to: u32) -> usize {
     kills
         .iter()

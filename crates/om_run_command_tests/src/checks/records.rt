@@ -128,7 +128,7 @@ fn recorded<R: Threads + Wait + Clock + Abort + Sync, O: Opener<R> + Sync>(
     text_of(rt, file)
 }
 
-// What `sim` tells of a record.
+// Returns what `sim` tells of a record.
 fn played(rt: &impl Abort, alloc: Global, script: &str) -> String {
     let mut told = Vec::new(alloc);
     let answer = sim(alloc, BytesForm::Hex, &mut script.as_bytes(), &mut told);

@@ -21,7 +21,7 @@ pub fn ring(rt: &impl Abort, alloc: Global, n: u32, more: &str) -> String {
     text
 }
 
-/// What a ring of n processes puts out, and how it ends.
+/// Returns what a ring of n processes puts out, and how it ends.
 pub fn ring_ends(rt: &impl Abort, alloc: Global, n: u32) -> String {
     let mut outs = String::new(alloc);
     let mut ends = String::new(alloc);

@@ -12,7 +12,7 @@ use std::sync::Wait;
 use std::thread::Threads;
 use std::time::Clock;
 
-// What a run over stores in memory answers and writes.
+// Returns what a run over stores in memory answers and writes.
 fn carry_out<R: Threads + Wait + Clock + Sync>(
     rt: &R,
     alloc: Global,

@@ -75,7 +75,7 @@ fn fill_all<S: Ledger>(rt: &impl Abort, alloc: Global, store: &mut S) -> Result<
     made(rt, alloc, store, Call::Put(LedgerTable::Senders, 0, 1))
 }
 
-// What the ledger in memory holds after the call, or before it.
+// Returns what the ledger in memory holds after the call, or before it.
 fn expected(rt: &impl Abort, alloc: Global, call: Option<Call>) -> Result<Held, StoreError> {
     let mut store = MemLedger::new(alloc);
     fill_all(rt, alloc, &mut store)?;
@@ -149,7 +149,7 @@ fn filled(rt: &impl Abort, alloc: Global) -> Option<Files<Fuse<Memory>>> {
     Some(files)
 }
 
-// What is taken up without a stop.
+// Returns what is taken up without a stop.
 fn found(rt: &impl Abort, alloc: Global, files: &Files<Fuse<Memory>>) -> Option<Held> {
     let (looked, _files) = done(rt, alloc, bytes_of(files), ENDLESS, Task::Look)?;
     looked?.held

@@ -39,8 +39,8 @@ struct Held {
     checkpoints: Vec<(u32, Vec<u8>)>,
 }
 
-// What a store holds now. This and what follows is not inlined: over files it would be one function, which takes the compiler a
-// minute.
+// Returns what a store holds now. This and what follows is not inlined: over files it would be one function, which takes the
+// compiler a minute.
 #[inline(never)]
 fn content_of<S: Stable>(alloc: Global, store: &mut S) -> Result<Held, StoreError> {
     let receipts = store.receipts(alloc, 0, u32::MAX)?;
@@ -88,7 +88,7 @@ fn apply<S: Stable>(alloc: Global, store: &mut S, change: Change) -> Result<(), 
     }
 }
 
-// What the store in memory holds after the change, or before it.
+// Returns what the store in memory holds after the change, or before it.
 fn expected(alloc: Global, change: Option<Change>) -> Result<Held, StoreError> {
     let mut store = MemStable::new(alloc);
     fill(alloc, &mut store)?;
@@ -184,7 +184,7 @@ fn filled(rt: &impl Abort, alloc: Global) -> Option<Files<Fuse<Memory>>> {
     Some(files)
 }
 
-// What the files hold, opened and adopted without a stop.
+// Returns what the files hold, opened and adopted without a stop.
 fn found(rt: &impl Abort, alloc: Global, files: &Files<Fuse<Memory>>) -> Option<Held> {
     let (looked, _files) = done(rt, alloc, bytes_of(files), ENDLESS, Task::Look)?;
     looked?.held
