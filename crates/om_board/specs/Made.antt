@@ -14,7 +14,7 @@ IsOutputOf program own n seq output =
 abbrev pub IsMade : List Program → ℕ → ℕ → ℕ → HeldOutput → Type 0
 IsMade programs n p seq output = (program : Program) → slice_get programs p ≡ Some program → IsOutputOf program p n seq output
 
--- so is each output that a manager holds, with its place as its number
+-- each output that a manager holds is one that its process's program makes, with its place as its number
 abbrev pub HoldsMade : List Program → ℕ → ManagerState → Type 0
 HoldsMade programs n m = (p i : ℕ) (output : HeldOutput) → slice_get (held_by m p) i ≡ Some output
     → IsMade programs n p i output

@@ -27,7 +27,7 @@ pub record RestsWith (program : Program) (own n : ℕ) (h : List Received) (outp
   pub at_rest : IsAtRest status
   pub put_out : queue_at end.queues n ≡ record { first = 0; entries = map output_entry outputs }
 
--- the same, and it comes to an end
+-- by these receipts process `own` of n comes to an end with this status, and has put out exactly this
 abbrev pub ComesTo : Program → ℕ → ℕ → List Received → List HeldOutput → Status → Type 0
 ComesTo program own n h outputs status = RestsWith program own n h outputs status × IsEnd status
 

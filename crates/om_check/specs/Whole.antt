@@ -26,7 +26,7 @@ abbrev pub IsDone : WorldState → ℕ → Type 0
 IsDone w p = (c : CoreState) × (slice_get w.cores p ≡ Some (Some c)) × (c.own ≡ p) × (cluster_size c.now ≡ length w.programs)
     × IsEnd (status_of (move_of c)) × (made_by c ≡ length (released_by w.manager p))
 
--- all have
+-- each process of the world has come to an end, and all that it put out is released
 pub record IsWhole (programs : List Program) (w : WorldState) : Type 0 where
   pub way : IsUnderWay programs w
   pub done : (p : ℕ) → p < length programs → IsDone w p
@@ -35,7 +35,7 @@ pub record IsWhole (programs : List Program) (w : WorldState) : Type 0 where
 abbrev pub KeepsReceived : CoreState → CoreState → Type 0
 KeepsReceived from to = (number : ℕ) (e : QueueEntry) → HasEntry from.now.queues to.own number e → number < slice_index to.now.got from.own
 
--- so did what each of the first n processes keeps for it
+-- what each of the first n processes keeps for this one was received there
 abbrev pub HasAllFrom : WorldState → CoreState → ℕ → Type 0
 HasAllFrom w c n = (q : ℕ) → q < n → (d : CoreState) × (slice_get w.cores q ≡ Some (Some d)) × (d.own ≡ q) × KeepsReceived d c
 
@@ -54,7 +54,7 @@ pub record IsStuck (programs : List Program) (w : WorldState) : Type 0 where
 abbrev pub AreReleasedIn : WorldState → List (List HeldOutput) → Type 0
 AreReleasedIn w outputs = (p : ℕ) (out : List HeldOutput) → slice_get outputs p ≡ Some out → out ≡ released_by w.manager p
 
--- so is that of each process
+-- the statuses are those of all processes of the world, by number
 abbrev pub AreStatusesOf : WorldState → List Status → Type 0
 AreStatusesOf w statuses = (p : ℕ) (status : Status) → slice_get statuses p ≡ Some status
     → (c : CoreState) × (slice_get w.cores p ≡ Some (Some c)) × (status ≡ status_of (move_of c))

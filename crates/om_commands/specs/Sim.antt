@@ -27,7 +27,7 @@ IsPlayed form script begun text =
     (end : WorldState) × (answers : List Answer) × Played begun script.events answers end × IsKnown end
     × All IsFaultless answers × (text ≡ answers_text answers ++ end_text form script.cluster (length script.cluster.processes) end)
 
--- the same, from the start of its world
+-- the text that `sim` writes of a script: its events are played from the start of its world
 abbrev pub IsSimAnswer : BytesForm → EventScript → List ℕ → Type 0
 IsSimAnswer form script text = (begun : WorldState) × IsBegun (programs_of script.cluster) begun × IsPlayed form script begun text
 

@@ -55,7 +55,7 @@ pub record IsPlayedPicture (script : EventScript) (lines : List ℕ) (first coun
   pub few : length rows ≤ MOST_COLUMNS
   pub written : text ≡ picture_text script.cluster drawn
 
--- the same, from the start of its world
+-- a picture of the first events of a script, so many, played from the start of its world
 abbrev pub IsPictureOf : EventScript → List ℕ → ℕ → ℕ → List ℕ → Type 0
 IsPictureOf script lines first count text =
     (begun : WorldState) × IsBegun (programs_of script.cluster) begun × IsPlayedPicture script lines first count begun text

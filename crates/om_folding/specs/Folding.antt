@@ -22,7 +22,7 @@ is_zero_at lines k = is_zero_row (slice_index_or lines k [])
 abbrev pub repeats : List (List ℕ) → ℕ → Bool
 repeats lines k = nat_lt 0 k && (is_zero_at lines k && is_zero_at lines (k - 1))
 
--- and one behind such a one
+-- a row of zeros behind two others
 abbrev pub repeats_on : List (List ℕ) → ℕ → Bool
 repeats_on lines k = repeats lines k && repeats lines (k - 1)
 

@@ -53,7 +53,7 @@ abbrev pub are_entries : ℕ → ℕ → List QueueEntry → Bool
 are_entries newest low [] = true
 are_entries newest low (e ∷ more) = is_between low newest e.interval && is_body_size (length e.body) && are_entries newest e.interval more
 
--- the same of each queue
+-- of each queue: the intervals of its entries do not fall, and pass none that is newer
 abbrev pub all_entries : ℕ → List QueueRecord → Bool
 all_entries newest [] = true
 all_entries newest (q ∷ more) = are_entries newest 0 q.entries && all_entries newest more

@@ -36,7 +36,7 @@ message_text r =
 abbrev pub checkpoint_text : ℕ × List ℕ → CheckpointRecord → List ℕ
 checkpoint_text row c = if nat_eq c.head.interval row.0 then head_text c row.1 else another_text c.head.interval
 
--- and as a receipt
+-- what the record of an interval says as a receipt
 abbrev pub receipt_text : ℕ → ReceiptRecord → List ℕ
 receipt_text x r = if nat_eq r.interval x then message_text r else another_text r.interval
 

@@ -33,7 +33,7 @@ effect_text (Store address bytes) after =
     codes "; " ++ word_text address ++ 32 ∷ encode_lower (take (length bytes) (drop address after.memory))
 effect_text _ after = []
 
--- and what the answer to an environment call wrote
+-- what the answer to an environment call wrote
 abbrev pub answer_text : Event → State → List ℕ
 answer_text (Call (Send to addr len)) after = register_text 10 after
 answer_text (Call (Output addr len)) after = register_text 10 after

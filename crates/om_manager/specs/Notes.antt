@@ -43,7 +43,7 @@ pub record IsNext (m : ManagerState) (p round seq : ℕ) (output : HeldOutput) :
   pub next : seq ≡ length (held_by m p)
   pub latest : IsLatest m p output
 
--- it is not the output of its number, or, as the next one, was made before one that is there
+-- an output is not the one of its number, or, as the next one, was made before one that is there
 pub data IsDifferent (m : ManagerState) (p seq : ℕ) (output : HeldOutput) : Type 0 where
   other : seq < length (held_by m p) → slice_get (held_by m p) seq ≢ Some output → IsDifferent m p seq output
   earlier : seq ≡ length (held_by m p) → (IsLatest m p output → ⊥) → IsDifferent m p seq output

@@ -100,7 +100,7 @@ pub record TakesTurns {S : Type 0} (old : Member S) (fuel : ℕ) (new : Member S
   pub size : cluster_size after.now ≡ cluster_size before.now
   pub others : new ≡ record old { standing = stands.Up after }
 
--- and it has run: as many turns as there are, up to the fuel
+-- a process that is up has run: as many turns as there are, up to the fuel
 pub record HasRun {S : Type 0} (old : Member S) (fuel : ℕ) (ran : Ran) (new : Member S) : Type 0 where
   pub before : CoreState
   pub after : CoreState

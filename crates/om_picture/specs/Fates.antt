@@ -17,7 +17,7 @@ pub record EventAt : Type 0 where
   pub answer : Answer
   pub at : Spot
 
--- the same, how many new outputs it handed in, and the recovery state behind it
+-- an event of a script with its place, how many new outputs it handed in, and the recovery state behind it
 pub record EventRow : Type 0 where
   pub entry : EventAt
   pub fresh : ℕ

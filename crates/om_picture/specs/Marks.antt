@@ -134,7 +134,7 @@ marks_among n first before [] later = []
 marks_among n first before (row ∷ rows) later =
     row_marks n first before row (rows ++ later) ++ marks_among n first (before ++ row ∷ []) rows later
 
--- the same marks, each as often, in some order: whatever is counted of them, both come to the same
+-- two lists have the same marks, each as often, in some order: whatever is counted of them, both come to the same
 abbrev pub AreTheSame : List EventMark → List EventMark → Type 0
 AreTheSame xs ys = (count : EventMark → ℕ) → sum_by count xs ≡ sum_by count ys
 

@@ -28,23 +28,23 @@ taken c m =
     let next = delivered c.own c.now (record { from = m.from; interval = m.tag.interval; body = m.body }) in
     record c { now = next; log = c.log ++ record { receipt = receipt_for c m; vec = next.vec; got = next.got } ∷ [] }
 
--- it is for this process, from one that it knows in that incarnation
+-- a message is for this process, from one that it knows in that incarnation
 pub record IsNoStranger (c : CoreState) (m : Message) : Type 0 where
   pub to : m.to ≡ c.own
   pub from : m.from < cluster_size c.now
   pub inc : m.tag.inc ≤ newest_of c.starts m.from
 
--- it is no stranger and no orphan
+-- a message is no stranger and no orphan
 pub record IsNoOrphan (c : CoreState) (m : Message) : Type 0 where
   pub no_stranger : IsNoStranger c m
   pub kept : IsOrphan c.starts m.from m.tag.inc m.tag.interval → ⊥
 
--- and the next one of its sender
+-- a message is no stranger and no orphan, and the next one of its sender
 pub record IsNext (c : CoreState) (m : Message) : Type 0 where
   pub no_orphan : IsNoOrphan c m
   pub number : m.ssn ≡ slice_index c.now.got m.from
 
--- and the process waits
+-- a message is the next one of its sender, and the process waits
 pub record IsDue (c : CoreState) (m : Message) : Type 0 where
   pub next : IsNext c m
   pub waits : IsWaiting c.own (cluster_size c.now) c.now

@@ -67,7 +67,7 @@ Leads own n (r ∷ rs) s t = (k : ℕ) × (w : Process) × Turns own n k s w × 
 abbrev pub Along : Program → ℕ → ℕ → List Received → ℕ → Process → Type 0
 Along program own n h k t = (a : Process) × Leads own n h (started program n) a × Turns own n k a t
 
--- the same for some number of turns
+-- the state is reached from the start of the program by these receipts, and then some number of turns
 abbrev pub Reaches : Program → ℕ → ℕ → List Received → Process → Type 0
 Reaches program own n h t = (k : ℕ) × Along program own n h k t
 
