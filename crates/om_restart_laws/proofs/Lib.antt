@@ -1,0 +1,4 @@
+pub mod Closing
+pub mod Cutting
+pub mod Rows
+pub mod Told
