@@ -24,7 +24,7 @@ of_cut held r x bytes at = go (nat_le x r) refl (sym (get-retained held (λ y. n
         none : ◌≡◌ {A = Option (List ℕ)} None (Some bytes) → ⊥
         none e = cc
 
-cut_fact : (s : ℕ → ℕ) (live : List Entry) (p x : ℕ) (P : List Received → Type 0) → x ≤ s p → AtInterval (received p live) x P → AtInterval (received p (cut_list s live)) x P
+pub cut_fact : (s : ℕ → ℕ) (live : List Entry) (p x : ℕ) (P : List Received → Type 0) → x ≤ s p → AtInterval (received p live) x P → AtInterval (received p (cut_list s live)) x P
 cut_fact s live p x P le at = subst (λ h. AtInterval h x P) (sym (cut_first s live p)) (at_cut (received p live) x (s p) P le at)
 
 pub cut_true : (programs : List Program) (live : List Entry) (held : ℕ → Content) (s : ℕ → ℕ) → AreTrue programs live held

@@ -1,4 +1,7 @@
 pub mod Closing
 pub mod Cutting
+pub mod Losing
+pub mod Replaying
 pub mod Rows
+pub mod Serving
 pub mod Told

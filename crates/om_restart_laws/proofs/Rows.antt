@@ -50,7 +50,7 @@ base_true program own n h c at =
     )
 
 -- ---- a receipt behind a true row
-front_of : (x : ℕ) (h front : List Received) (r : Received) → suc x ≤ length h → take (suc x) h ≡ front ++ r ∷ [] → front ≡ take x h
+pub front_of : (x : ℕ) (h front : List Received) (r : Received) → suc x ≤ length h → take (suc x) h ≡ front ++ r ∷ [] → front ≡ take x h
 front_of x [] front r le is = absurd (omega arith)
 front_of zero (y ∷ h) [] r le is = refl
 front_of zero (y ∷ h) (z ∷ []) r le is = cc
@@ -89,8 +89,8 @@ next_true program own n h before r old at =
       at.0,
       (
         ap (λ v. set (raised v r.from r.sender_interval) own (before.x + 1)) vec
-        ∙ ap (λ k. set (raised w.vec r.from r.sender_interval) own (k + 1)) (sym there)
-        ∙ new.0 ∙ ap (Depends n own) (sym at.1.1),
+            ∙ ap (λ k. set (raised w.vec r.from r.sender_interval) own (k + 1)) (sym there)
+            ∙ new.0 ∙ ap (Depends n own) (sym at.1.1),
         ap (λ v. set v r.from (get_or v r.from 0 + 1)) got ∙ new.1 ∙ ap (Counts n) (sym at.1.1),
       ),
     )
