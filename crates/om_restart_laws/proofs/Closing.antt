@@ -15,7 +15,8 @@ use Rattle.om_world.proofs.Finish.{closed_legal}
 use Rattle.om_world.proofs.Legal.{cut}
 use Rattle.om_world.proofs.Ordered.{depends_at, length-depends}
 use Rattle.om_world.proofs.Raising.{beyond, less}
-use Rattle.om_restart_laws.specs.Disk.{AreTrue, DependsWithin, HasRowsOf}
+use Rattle.om_world.specs.Disk.{AreTrue, DependsWithin}
+use Rattle.om_restart_laws.specs.Starting.{HasRowsOf}
 use Rattle.om_restart_laws.proofs.Told.{IsTrueOf, rows_are_true}
 
 -- ---- who sent what was received
@@ -61,10 +62,10 @@ row_at rows p x s = elim (less s.from x) [
 ]
 
 -- ---- the state does not depend on what is outside it
-pub within : (programs : List Program) (live : List Entry) (held : ℕ → Content) (rows : Rows) (state : List ℕ)
-    → Legal programs live → AreTrue programs live held → HasRowsOf (length programs) held rows → IsRecoverable (length programs) rows state
+pub within : (programs : List Program) (live : List Entry) (rows : Rows) (state : List ℕ)
+    → Legal programs live → ((row : Row) → HasRow rows row → IsTrueOf programs live row) → IsRecoverable (length programs) rows state
     → DependsWithin live (slice_index state)
-within programs live held rows state legal disk has r p q other = elim (less p n) [
+within programs live rows state legal facts r p q other = elim (less p n) [
   | inr ge ↦
       let size = r.places in
       let none : slice_index state p ≡ 0 = beyond state p (omega arith) in
@@ -75,7 +76,7 @@ within programs live held rows state legal disk has r p q other = elim (less p n
         omega arith
     | inl few ↦
         let row = row_at rows p k (r.stable p lt) in
-        let true_row = rows_are_true programs live held rows row.0 disk has row.1 in
+        let true_row = facts row.0 row.1 in
         let claim = subst (λ o. AtInterval (received o live) row.0.interval (RowOf o n row.0.vec row.0.got)) row.2 true_row in
         let vec : row.0.vec ≡ Depends n p (take k h) = claim.1.0 ∙ ap (λ x. Depends n p (take x h)) row.3 in
         let below = r.closed row.0 row.1 (row.3 ∙ ap (slice_index state) (sym row.2)) in
@@ -103,4 +104,4 @@ pub cut_legal : (programs : List Program) (live : List Entry) (held : ℕ → Co
     → Legal programs live → AreTrue programs live held → HasRowsOf (length programs) held rows → IsRecoverable (length programs) rows state
     → Legal programs (cut_list (slice_index state) live)
 cut_legal programs live held rows state legal disk has r =
-    cut programs (slice_index state) live legal (closed_legal programs (slice_index state) live legal (within programs live held rows state legal disk has r))
+    cut programs (slice_index state) live legal (closed_legal programs (slice_index state) live legal (within programs live rows state legal (λ row at. rows_are_true programs live held rows row disk has at) r))

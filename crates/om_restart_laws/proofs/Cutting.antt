@@ -11,7 +11,7 @@ use Rattle.om_stable.proofs.RecordLemmas.{get-retained}
 use Rattle.om_world.specs.Live.{cut_list, program_at, received}
 use Rattle.om_world.specs.declared.entry.Entry.{Entry}
 use Rattle.om_world.proofs.Legal.{at_cut, cut_first}
-use Rattle.om_restart_laws.specs.Disk.{AreTrue}
+use Rattle.om_world.specs.Disk.{AreTrue}
 
 -- what a cut leaves was there, at or below the interval of the cut
 pub of_cut : (held : Records) (r x : ℕ) (bytes : List ℕ) → get (retain_keys held (λ y. nat_le y r)) x ≡ Some bytes → (x ≤ r) × (get held x ≡ Some bytes)
@@ -33,7 +33,7 @@ cut_true programs live held s disk = record {
   checkpoints = λ p x c lt at.
       let was = of_cut (held p).checkpoints (s p) x at.0 at.1 in
       cut_fact s live p x (CheckpointOf (program_at programs p) p (length programs) (process_of c)) was.0 (disk.checkpoints p x c lt (at.0, was.1, at.2, at.3));
-  receipts = λ p x r lt at.
+  receipts = λ p x r lt begun at.
       let was = of_cut (held p).receipts (s p) x at.0 at.1 in
-      cut_fact s live p x (RecordOf (program_at programs p) p (length programs) r) was.0 (disk.receipts p x r lt (at.0, was.1, at.2, at.3));
+      cut_fact s live p x (RecordOf (program_at programs p) p (length programs) r) was.0 (disk.receipts p x r lt begun (at.0, was.1, at.2, at.3));
 }

@@ -5,3 +5,4 @@ pub mod Replaying
 pub mod Rows
 pub mod Serving
 pub mod Told
+pub mod Worlds

@@ -18,7 +18,8 @@ use Rattle.om_stable.specs.Content.{Content}
 use Rattle.om_world.specs.Live.{received}
 use Rattle.om_world.specs.declared.entry.Entry.{Entry}
 use Rattle.om_world.proofs.Ordered.{depends_at, length-depends}
-use Rattle.om_restart_laws.specs.Disk.{AreTrue, CanServe, DependsWithin, HasRowsOf}
+use Rattle.om_world.specs.Disk.{AreTrue, CanServe, DependsWithin}
+use Rattle.om_restart_laws.specs.Starting.{HasRowsOf}
 use Rattle.om_restart_laws.proofs.Serving.{IsAmong, rows_serve}
 use Rattle.om_restart_laws.proofs.Told.{rows_are_true}
 

@@ -14,16 +14,16 @@ use Rattle.om_stable.specs.Content.{Content, Records}
 use Rattle.om_world.specs.Live.{cut_list, program_at, received}
 use Rattle.om_world.specs.declared.entry.Entry.{Entry}
 use Rattle.om_world.proofs.Legal.{cut_first}
-use Rattle.om_restart_laws.specs.Disk.{AreTrue}
+use Rattle.om_world.specs.Disk.{AreTrue}
 use Rattle.om_restart_laws.proofs.Rows.{front_of}
 
 -- receipts that are stored one after another are those of the run behind an interval
 receipts_along : (program : Program) (own n : ℕ) (h : List Received) (held : Records) (y : ℕ) (rs : List ReceiptRecord)
-    → ((x : ℕ) (r : ReceiptRecord) → IsReceiptAt held x r → AtInterval h x (RecordOf program own n r))
+    → ((x : ℕ) (r : ReceiptRecord) → 1 ≤ x → IsReceiptAt held x r → AtInterval h x (RecordOf program own n r))
     → AreReceiptsAfter held y rs → take y h ++ receipts_of rs ≡ take (y + length rs) h
 receipts_along program own n h held y [] facts a = append-nil (take y h) ∙ ap (λ k. take k h) (omega arith)
 receipts_along program own n h held y (r ∷ rs) facts a =
-    let at = facts (y + 1) r a.0 in
+    let at = facts (y + 1) r (omega arith) a.0 in
     let one : y + 1 ≡ suc y = omega arith in
     let is : take (suc y) h ≡ at.1.0 ++ received_of r ∷ [] = ap (λ k. take k h) (sym one) ∙ at.1.1 in
     let same : at.1.0 ≡ take y h = front_of y h at.1.0 (received_of r) (omega arith) is in
@@ -45,5 +45,5 @@ replay_along programs live held s p core disk lt own size replay =
     let done : Replayed p n (process_of c) replay.receipts core.now = subst (λ m. Replayed p m (process_of c) replay.receipts core.now) size (subst (λ o. Replayed o (cluster_size core.now) (process_of c) replay.receipts core.now) own replay.replayed) in
     let ends = replayed_along program p n (process_of c) core.now (take c.head.interval h) replay.receipts begun done in
     let whole : take c.head.interval h ++ receipts_of replay.receipts ≡ take (s p) h =
-    receipts_along program p n h (held p).receipts c.head.interval replay.receipts (λ x r at. disk.receipts p x r lt at) replay.stored ∙ ap (λ k. take k h) (sym replay.last) in
+    receipts_along program p n h (held p).receipts c.head.interval replay.receipts (λ x r begun at. disk.receipts p x r lt begun at) replay.stored ∙ ap (λ k. take k h) (sym replay.last) in
     subst (CheckpointOf program p n core.now) (whole ∙ sym (cut_first s live p)) ends

@@ -101,7 +101,7 @@ abbrev pub AreHeld : Records → List (ℕ × List ℕ) → Type 0
 AreHeld held rows = (i : ℕ) (row : ℕ × List ℕ) → slice_get rows i ≡ Some row → get held row.0 ≡ Some row.1
 
 follow_true : (program : Program) (own n : ℕ) (h : List Received) (held : Records) (before : PendingRow) (records : List (ℕ × List ℕ)) (rows : List PendingRow)
-    → ((x : ℕ) (r : ReceiptRecord) → IsReceiptAt held x r → AtInterval h x (RecordOf program own n r))
+    → ((x : ℕ) (r : ReceiptRecord) → 1 ≤ x → IsReceiptAt held x r → AtInterval h x (RecordOf program own n r))
     → AreHeld held records → IsTrueRow own n h before → FollowOn own n before records rows → Each (IsTrueRow own n h) rows
 follow_true program own n h held before records [] true_of there old on = tt
 follow_true program own n h held before [] (row ∷ rows) true_of there old on = absurd on
@@ -110,14 +110,14 @@ follow_true program own n h held before (e ∷ records) (row ∷ rows) true_of t
     let at : e.0 ≡ before.x + 1 = on.3 in
     let named : r.interval ≡ before.x + 1 = on.2.interval ∙ at in
     let kept : get held (before.x + 1) ≡ Some e.1 = subst (λ x. get held x ≡ Some e.1) at (there 0 e refl) in
-    let fact = true_of (before.x + 1) r (e.1, kept, on.1, named) in
+    let fact = true_of (before.x + 1) r (omega arith) (e.1, kept, on.1, named) in
     let new : IsTrueRow own n h row = subst (IsTrueRow own n h) (sym on.5) (next_true program own n h before r old fact) in
     (new, follow_true program own n h held row records rows true_of (λ i row at. there (suc i) row at) new on.6)
 
 -- ---- segments
 segments_true : (program : Program) (own n : ℕ) (h : List Received) (held : Content) (o : Option ℕ) (segments : List (CheckpointRecord × List PendingRow))
     → ((x : ℕ) (c : CheckpointRecord) → IsCheckpointAt held.checkpoints x c → AtInterval h x (CheckpointOf program own n (process_of c)))
-    → ((x : ℕ) (r : ReceiptRecord) → IsReceiptAt held.receipts x r → AtInterval h x (RecordOf program own n r))
+    → ((x : ℕ) (r : ReceiptRecord) → 1 ≤ x → IsReceiptAt held.receipts x r → AtInterval h x (RecordOf program own n r))
     → AreSegments own n held o segments → Each (IsTrueRow own n h) (rows_of_segments segments)
 segments_true program own n h held None [] cs rs a = tt
 segments_true program own n h held None (s ∷ more) cs rs a = absurd a
@@ -133,7 +133,7 @@ segments_true program own n h held (Some to) (s ∷ more) cs rs a =
 -- the rows that true records stand for are true
 pub store_true : (program : Program) (own n : ℕ) (h : List Received) (held : Content) (rows : List PendingRow)
     → ((x : ℕ) (c : CheckpointRecord) → IsCheckpointAt held.checkpoints x c → AtInterval h x (CheckpointOf program own n (process_of c)))
-    → ((x : ℕ) (r : ReceiptRecord) → IsReceiptAt held.receipts x r → AtInterval h x (RecordOf program own n r))
+    → ((x : ℕ) (r : ReceiptRecord) → 1 ≤ x → IsReceiptAt held.receipts x r → AtInterval h x (RecordOf program own n r))
     → AreRowsOf own n held rows → (i : ℕ) (row : PendingRow) → slice_get rows i ≡ Some row → IsTrueRow own n h row
 store_true program own n h held rows cs rs a i row at =
     each_at (IsTrueRow own n h) rows i row (subst (Each (IsTrueRow own n h)) (sym a.2) (segments_true program own n h held (Some LAST_INTERVAL) a.0 cs rs a.1)) at

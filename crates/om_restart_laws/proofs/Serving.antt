@@ -11,7 +11,7 @@ use Rattle.om_stable.specs.Content.{Content, IsFree, Records}
 use Rattle.om_stable.specs.steps.Between.{AreAllBetween}
 use Rattle.om_stable.proofs.BetweenLemmas.{between-AreAllBetween}
 use Rattle.om_world.proofs.Raising.{less}
-use Rattle.om_restart_laws.specs.Disk.{CanServe}
+use Rattle.om_world.specs.Disk.{CanServe}
 
 none_some : IsSome {T = List ℕ} None → ⊥
 none_some is = cc

@@ -12,7 +12,8 @@ use Rattle.om_recover.specs.declared.row.Row.{Row}
 use Rattle.om_stable.specs.Content.{Content}
 use Rattle.om_world.specs.Live.{program_at, received}
 use Rattle.om_world.specs.declared.entry.Entry.{Entry}
-use Rattle.om_restart_laws.specs.Disk.{AreTrue, HasRowsOf, IsToldOf, first_row}
+use Rattle.om_world.specs.Disk.{AreTrue}
+use Rattle.om_restart_laws.specs.Starting.{HasRowsOf, IsToldOf, first_row}
 use Rattle.om_restart_laws.proofs.Rows.{IsTrueRow, store_true}
 
 -- what is true of a row, as a manager has it
@@ -45,6 +46,6 @@ rows_are_true programs live held rows row disk has there =
     elim told.1 [
       | inl first ↦ subst (IsTrueOf programs live) (sym first) (first_true programs live p)
       | inr one ↦ subst (IsTrueOf programs live) (sym one.3) (for_true programs live p one.1
-          (store_true (program_at programs p) p n (received p live) (held p) (has.told p) (λ x c at. disk.checkpoints p x c told.0 at) (λ x r at. disk.receipts p x r told.0 at)
+          (store_true (program_at programs p) p n (received p live) (held p) (has.told p) (λ x c at. disk.checkpoints p x c told.0 at) (λ x r begun at. disk.receipts p x r told.0 begun at)
           (has.of_store p told.0) one.0 one.1 one.2))
     ]

@@ -14,7 +14,10 @@ ghost use Rattle.om_recover.specs.declared.row.Row.{Row};
 ghost use Rattle.om_stable.specs.Content.{Content, kept_by_cut};
 ghost use Rattle.om_world.specs.Live.{Legal, cut_list, program_at, received};
 ghost use Rattle.om_world.specs.declared.entry.Entry.{Entry};
-ghost use Rattle.om_restart_laws.specs.Disk.{AreTrue, CanServe, DependsWithin, HasRowsOf};
+ghost use Rattle.om_world.specs.Disk.{AreTrue, CanServe, DependsWithin, IsOnDisk, held_in};
+ghost use Rattle.om_world.specs.World.{WorldState};
+ghost use Rattle.om_restart_laws.specs.Starting.{HasRowsOf};
+ghost use Rattle.om_restart_laws.specs.Worlds.{IsTakenUpAt};
 
 /// Where the records of the stores are true of a run, so are the rows that they stand for: each row's vectors are the dependencies
 /// and the counts of its process's first receipts.
@@ -53,4 +56,11 @@ pub fn not_lost()
         → length old ≡ length programs → ((p : ℕ) → p < length programs → slice_index old p ≤ LAST_INTERVAL)
         → ((p : ℕ) → p < length programs → CanServe (held p) (slice_index old p)) → DependsWithin live (slice_index old)
         → IsBelow old state }
+{}
+
+/// Whatever was lost, refused or failed in a world that left this on its disk: a start over its stores goes on at a point of the same
+/// run without failures, which has all that was recovered and all that was released.
+pub fn a_start_goes_on()
+    ensures { (w : WorldState) (rows : Rows) (state : List ℕ) → IsOnDisk w → HasRowsOf (length w.programs) (held_in w) rows
+        → IsGreatest (length w.programs) rows state → IsTakenUpAt w state }
 {}
