@@ -1,3 +1,4 @@
+pub mod Chains
 pub mod Closing
 pub mod Cutting
 pub mod Losing

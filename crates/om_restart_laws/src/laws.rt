@@ -1,8 +1,10 @@
 //! What a start finds, as theorems over the definitions alone: each function stands for one.
 
-ghost use Rattle.std.specs.Prelude.{◌≡◌, ℕ, ◌<◌, ◌≤◌, List, length, slice_index};
+ghost use Rattle.std.specs.Prelude.{◌≡◌, ℕ, ◌<◌, ◌≤◌, List, Some, length, slice_get, slice_index};
 ghost use Rattle.om_format.specs.declared.queue.QueueEntry.{QueueEntry};
 ghost use Rattle.om_interval.specs.Vectors.{IsBelow};
+ghost use Rattle.om_manager.specs.Outputs.{HeldOutput};
+ghost use Rattle.om_manager.specs.State.{released_by};
 ghost use Rattle.om_process.specs.Claims.{AtInterval, CheckpointOf, Makes, RowOf};
 ghost use Rattle.om_process.specs.Core.{CoreState, cluster_size};
 ghost use Rattle.om_process.specs.Process.{Program};
@@ -16,6 +18,7 @@ ghost use Rattle.om_world.specs.Live.{Legal, cut_list, program_at, received};
 ghost use Rattle.om_world.specs.declared.entry.Entry.{Entry};
 ghost use Rattle.om_world.specs.Disk.{AreTrue, CanServe, DependsWithin, IsOnDisk, held_in};
 ghost use Rattle.om_world.specs.World.{WorldState};
+ghost use Rattle.om_restart_laws.specs.Chains.{IsChain, IsSaid, Start};
 ghost use Rattle.om_restart_laws.specs.Starting.{HasRowsOf};
 ghost use Rattle.om_restart_laws.specs.Worlds.{IsTakenUpAt};
 
@@ -63,4 +66,15 @@ pub fn not_lost()
 pub fn a_start_goes_on()
     ensures { (w : WorldState) (rows : Rows) (state : List ℕ) → IsOnDisk w → HasRowsOf (length w.programs) (held_in w) rows
         → IsGreatest (length w.programs) rows state → IsTakenUpAt w state }
+{}
+
+/// However often it ends and is taken up again, all is one run: what the last world received is a run without failures, along which each
+/// output that was ever released is made under its number, within what is recovered.
+pub fn a_chain_is_one_run()
+    ensures one { (first last : WorldState) (starts : List Start) → IsChain first starts last → IsOnDisk last
+        → Legal last.programs last.live }
+    ensures said { (first last : WorldState) (starts : List Start) (p number : ℕ) (output : HeldOutput)
+        → IsChain first starts last → p < length first.programs → IsSaid first p number output → IsSaid last p number output }
+    ensures released { (w : WorldState) (p number : ℕ) (output : HeldOutput) → IsOnDisk w → p < length w.programs
+        → slice_get (released_by w.manager p) number ≡ Some output → IsSaid w p number output }
 {}
