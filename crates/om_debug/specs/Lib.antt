@@ -1,5 +1,5 @@
 pub mod Moments
-pub mod Serving
+pub mod Standing
 pub mod Stops
 pub mod Told
 pub mod Watching

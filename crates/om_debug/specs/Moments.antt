@@ -36,3 +36,11 @@ is_at_instruction (Instructions left) = true
 is_at_instruction Receipt = true
 is_at_instruction Failure = false
 is_at_instruction Return = false
+
+-- nothing comes
+abbrev pub is_still : Next → Bool
+is_still Still = true
+is_still (Instructions left) = false
+is_still Receipt = false
+is_still Failure = false
+is_still Return = false

@@ -212,7 +212,8 @@ impl Debugger {
         }
     }
 
-    fn set_break(&mut self, address: u32) -> Result<(), AllocError>
+    /// Stops the process from now on before the instruction at an address. Refused only where memory ran out.
+    pub fn set_break(&mut self, address: u32) -> Result<(), AllocError>
         ensures set { OnOk result (self.new ≡ with_breaks self.old (set_break address self.old.breaks)) }
         ensures refused { OnErr result (self.new ≡ self.old) }
     {
@@ -222,13 +223,15 @@ impl Debugger {
         Ok(())
     }
 
-    fn clear_break(&mut self, address: u32)
+    /// Stops it there no more.
+    pub fn clear_break(&mut self, address: u32)
         ensures { self.new ≡ with_breaks self.old (clear_break address self.old.breaks) }
     {
         self.breaks.retain(|other| *other != address);
     }
 
-    fn set_watch(&mut self, watch: Watch) -> Result<(), AllocError>
+    /// Stops the process from now on at an access to bytes of memory. Refused only where memory ran out.
+    pub fn set_watch(&mut self, watch: Watch) -> Result<(), AllocError>
         ensures set { OnOk result (self.new ≡ with_watches self.old (set_watch watch self.old.watches)) }
         ensures refused { OnErr result (self.new ≡ self.old) }
     {
@@ -238,7 +241,8 @@ impl Debugger {
         Ok(())
     }
 
-    fn clear_watch(&mut self, watch: Watch)
+    /// Stops it there no more.
+    pub fn clear_watch(&mut self, watch: Watch)
         ensures { self.new ≡ with_watches self.old (clear_watch watch self.old.watches) }
     {
         self.watches.retain(|other| !is_watch(*other, watch));

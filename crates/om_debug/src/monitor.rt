@@ -4,14 +4,13 @@ ghost use Rattle.std.specs.Prelude.{◌≡◌};
 ghost use Rattle.om_debug.specs.Stops.{IsMoved, with_timeline};
 
 use crate::debugger::Debugger;
-use crate::moment::is_down;
-use om_process::Status;
 use om_requests::Command;
 use om_timeline::PlayFault;
 use om_world::Event;
 use std::alloc::AllocError;
 
-const HELP: &str =
+/// What `monitor help` is told.
+pub const HELP: &str =
     "where            the event, and how the process stands\nevents           the events around here\ngoto EVENT       go to before an event; then: maintenance flush register-cache\nhelp             this\n";
 
 // How many events are told before the next one, and how many from it on.
@@ -36,18 +35,6 @@ fn push_event(out: &mut String, event: Event) -> Result<(), AllocError> {
     }
 }
 
-fn push_status(out: &mut String, status: Status) -> Result<(), AllocError> {
-    match status {
-        Status::Ready => out.push_str("ready"),
-        Status::Waiting => out.push_str("waiting"),
-        Status::Ended(code) => write!(out, "ended {code}"),
-        Status::Trapped(cause) => {
-            let number = cause.number();
-            write!(out, "trapped {number}")
-        }
-    }
-}
-
 impl Debugger {
     // What a command of the user is told.
     pub(crate) fn monitor(&mut self, command: Command) -> Result<String, PlayFault>
@@ -67,34 +54,38 @@ impl Debugger {
 
     // Where time and the process stand.
     fn told_where(&self) -> Result<String, AllocError> {
-        let at = self.timeline.position();
-        let events = self.timeline.events();
-        let (event, count) = (at.event, events.len());
-        let mut said = format!(in self.alloc; "event {event} of {count}")?;
-        if event < count {
-            said.push_str(": ")?;
-            push_event(&mut said, events[event])?;
-            let turns = at.turns;
-            write!(&mut said, ", {turns} instructions done")?;
-        }
-        said.push_str("\n")?;
-        said.push_str(&self.name)?;
-        said.push_str(": ")?;
+        let mut said = String::new(self.alloc);
+        self.push_event_here(&mut said)?;
         self.push_standing(&mut said)?;
-        let done = self.timeline.machine().count();
-        write!(&mut said, ", {done} instructions\n")?;
         Ok(said)
     }
 
-    fn push_standing(&self, said: &mut String) -> Result<(), AllocError> {
-        if is_down(self.timeline.deeds(), self.timeline.position().event) {
-            return said.push_str("down");
+    /// Writes a line of the next event, and how many of its instructions are done. Refused only where memory ran out.
+    pub fn push_event_here(&self, said: &mut String) -> Result<(), AllocError> {
+        let at = self.timeline.position();
+        let events = self.timeline.events();
+        let (event, count) = (at.event, events.len());
+        write!(said, "event {event} of {count}")?;
+        if event < count {
+            said.push_str(": ")?;
+            push_event(said, events[event])?;
+            let turns = at.turns;
+            write!(said, ", {turns} instructions done")?;
         }
-        push_status(said, self.timeline.status())
+        said.push_str("\n")
     }
 
-    // The events around here, of which the next is marked.
-    fn told_events(&self) -> Result<String, AllocError> {
+    /// Writes a line of how the process stands, and how many instructions it has finished. Refused only where memory ran out.
+    pub fn push_standing(&self, said: &mut String) -> Result<(), AllocError> {
+        said.push_str(&self.name)?;
+        said.push_str(": ")?;
+        said.push_str(&self.standing_text()?)?;
+        let done = self.timeline.machine().count();
+        write!(said, ", {done} instructions\n")
+    }
+
+    /// Tells the events around here, of which the next is marked. Refused only where memory ran out.
+    pub fn told_events(&self) -> Result<String, AllocError> {
         let events = self.timeline.events();
         let here = self.timeline.position().event;
         let end = events.len().min(here.saturating_add(EVENTS_FROM));

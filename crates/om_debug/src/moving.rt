@@ -112,14 +112,18 @@ impl Debugger {
         }
     }
 
-    // The same, where the next event was played.
-    #[tactic(auto, using(crate::proofs::Moved::moved_not, crate::proofs::Quiet::passed_not))]
-    fn go_on(&mut self, how: Resume) -> Result<Option<Stop>, PlayFault>
+    /// Goes on by a piece of the way where the next event was played, and tells what stops it: nothing of it is made where that is right
+    /// before what comes next. A piece is one instruction, or what else comes next, or many instructions where nothing can stop between
+    /// them. Refused where memory ran out, and then it stands where it stood.
+    #[tactic(auto, using(crate::proofs::Moved::moved_not, crate::proofs::Quiet::passed_not, crate::proofs::Quiet::within_of))]
+    pub fn go_on(&mut self, how: Resume) -> Result<Option<Stop>, PlayFault>
+        ensures within { IsWithin self.old.timeline }
         ensures moved { IsMoved self.old.timeline self.new.timeline }
         ensures same { self.new ≡ with_timeline self.old self.new.timeline }
         ensures passed { OnOk result (IsPassed self.old self.new) }
         ensures stands { IfOk result (λ stop. IfSome stop (λ stop. StandsFor self.new stop)) }
     {
+        let _ = self.timeline.position();
         if let Some(stop) = self.stop_here() {
             return Ok(Some(stop));
         }
@@ -128,15 +132,18 @@ impl Debugger {
         Ok(self.stop_behind(next, how))
     }
 
-    // Plays up to the next event and over it, or a part of it, and tells which. The process stays.
+    /// Plays the record up to the next event and over it, or a part of it, and tells which. The process stays. Refused where memory ran
+    /// out, or the record is not played on.
     #[tactic(auto, using(crate::proofs::Moved::moved_with, crate::proofs::Moved::moved_same, crate::proofs::Moved::moved_not, crate::proofs::Quiet::passed_look, crate::proofs::Quiet::end_look, crate::proofs::Quiet::within_of))]
-    fn look(&mut self) -> Result<Look, PlayFault>
+    pub fn look(&mut self) -> Result<Look, PlayFault>
+        ensures before { IsWithin self.old.timeline }
         ensures moved { IsMoved self.old.timeline self.new.timeline }
         ensures same { self.new ≡ with_timeline self.old self.new.timeline }
         ensures passed { OnOk result (IsPassed self.old self.new) }
         ensures within { OnOk result (IsWithin self.new.timeline) }
         ensures end { IfOk result (λ look. look ≡ Look.End → length self.new.timeline.events ≤ self.new.timeline.event) }
     {
+        let _ = self.timeline.position();
         let look = self.timeline.look(self.alloc)?;
         let _ = self.timeline.position();
         Ok(look)
@@ -286,10 +293,11 @@ impl Debugger {
         Ok(())
     }
 
-    // Goes back by what came last to the process, and tells a breakpoint where it then stands. Where that accesses what is watched, it
-    // stays right behind it.
-    #[tactic(auto, using(crate::proofs::Moved::moved_then, crate::proofs::Moved::same_then, crate::proofs::Moved::moved_not, crate::proofs::Stepping::stepped_as, crate::proofs::Stepping::last_stands, crate::proofs::Stepping::within_stands, crate::proofs::Stepping::few_stands, crate::proofs::Stepping::last_within))]
-    pub(crate) fn step_back(&mut self) -> Result<Stop, PlayFault>
+    /// Goes back by what came last to the process, and tells a breakpoint where it then stands. Where that accesses what is watched, it
+    /// stays right behind it. Refused where memory ran out, and then it stands at a position before that.
+    #[tactic(auto, using(crate::proofs::Moved::moved_then, crate::proofs::Moved::same_then, crate::proofs::Moved::moved_not, crate::proofs::Stepping::stepped_as, crate::proofs::Stepping::last_stands, crate::proofs::Stepping::within_stands, crate::proofs::Stepping::few_stands, crate::proofs::Stepping::last_within, crate::proofs::Backwards::stands_then))]
+    pub fn step_back(&mut self) -> Result<Stop, PlayFault>
+        ensures stands { self.new ≡ standing self.old self.new.timeline.event self.new.timeline.turns }
         ensures moved { IsMoved self.old.timeline self.new.timeline }
         ensures same { self.new ≡ with_timeline self.old self.new.timeline }
         ensures back { IfOk result (λ stop. IsStepBack self.old self.new stop) }
@@ -318,11 +326,12 @@ impl Debugger {
     }
 
     // Why a step back from right behind what comes next stops, and where it does.
-    #[tactic(auto, using(crate::proofs::Moved::moved_not))]
+    #[tactic(auto, using(crate::proofs::Moved::moved_not, crate::proofs::Backwards::stands_not))]
     fn stepped_back(&mut self, behind: Position) -> Result<Stop, PlayFault>
         requires event { behind.event ≤ length self.old.timeline.deeds }
         requires turns { behind.turns ≤ turns_at self.old.timeline.deeds behind.event }
         requires last { IsLast self.old.timeline.deeds self.old.timeline.event self.old.timeline.turns behind.event behind.turns }
+        ensures stands { self.new ≡ standing self.old self.new.timeline.event self.new.timeline.turns }
         ensures moved { IsMoved self.old.timeline self.new.timeline }
         ensures same { self.new ≡ with_timeline self.old self.new.timeline }
         ensures back { IfOk result (λ stop. IsStepBack (standing self.old behind.event behind.turns) self.new stop) }
@@ -337,9 +346,11 @@ impl Debugger {
         Ok(Stop::Stepped)
     }
 
-    // Goes back to the last breakpoint before the position, or to right behind the last access to what is watched.
+    /// Goes back to the last breakpoint before the position, or to right behind the last access to what is watched. Meanwhile the reader is
+    /// asked whether a stop is wished. Refused where memory ran out, and then it stands at a position before that.
     #[tactic(auto, using(crate::proofs::Backwards::stands_not, crate::proofs::Backwards::stands_then, crate::proofs::Backwards::stands_moved, crate::proofs::Backwards::stands_same, crate::proofs::Backwards::run_start, crate::proofs::Backwards::run_more, crate::proofs::Backwards::run_stop))]
-    pub(crate) fn run_back<R: Wish>(&mut self, reader: &mut R) -> Result<Stop, PlayFault>
+    pub fn run_back<R: Wish>(&mut self, reader: &mut R) -> Result<Stop, PlayFault>
+        ensures stands { self.new ≡ standing self.old self.new.timeline.event self.new.timeline.turns }
         ensures moved { IsMoved self.old.timeline self.new.timeline }
         ensures same { self.new ≡ with_timeline self.old self.new.timeline }
         ensures back { IfOk result (λ stop. IsRunBack self.old self.new stop) }
@@ -495,8 +506,9 @@ impl Debugger {
         Ok(())
     }
 
-    // Goes to before an event, or to the end where the record has no such event.
-    pub(crate) fn go_to_event(&mut self, event: usize) -> Result<(), PlayFault>
+    /// Goes to before an event, or to the end where the record has no such event. Refused where memory ran out, or the record is not
+    /// played on: then it stands at a position before that.
+    pub fn go_to_event(&mut self, event: usize) -> Result<(), PlayFault>
         ensures moved { IsMoved self.old.timeline self.new.timeline }
         ensures same { self.new ≡ with_timeline self.old self.new.timeline }
     {

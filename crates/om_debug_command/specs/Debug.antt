@@ -1,5 +1,5 @@
 -- What the command debug opens.
-use Rattle.std.specs.Prelude.{◌≡◌, ℕ, ◌≤◌, Bool, false, List, length, Option, None, Some}
+use Rattle.std.specs.Prelude.{◌≡◌, ℕ, ◌+◌, ◌≤◌, Bool, false, List, length, Option, None, Some, option_map, slice_get, string_bytes}
 use Rattle.std.specs.Io.KnownBytes.{Appends, Consumes, IsAtEnd}
 use Rattle.om_scripts.specs.Programs.{programs_of}
 use Rattle.om_scripts.specs.Named.{place_of}
@@ -10,10 +10,19 @@ use Rattle.om_commands.specs.declared.error.CommandError.TheVariants as errors
 use Rattle.om_commands.specs.Sim.{IsBegun, IsErrorOfSim}
 use Rattle.om_commands.specs.SimScript.{EventScript, event_script_line, no_events}
 use Rattle.om_timeline.specs.Timeline.{IsBegin}
-use Rattle.om_debug.specs.Serving.{SessionState, Takes, session}
 use Rattle.om_debug.specs.Stops.{DebugState}
+use Rattle.om_inferiors.specs.declared.inferior.Inferior.{Inferior}
+use Rattle.om_inferiors.specs.declared.inferiors.Inferiors.{Inferiors}
+use Rattle.om_inferiors.specs.declared.shown.Shown.{Shown}
+use Rattle.om_inferiors.specs.Serving.{SessionState, Takes, session}
 
--- the process of this name, before the first event of a script, in the world that the script begins with
+-- the process at a place, before the first event of a script, in the world that the script begins with
+pub record IsPlaced (script : EventScript) (place : ℕ) (d : DebugState) : Type 0 where
+  pub begun : WorldState
+  pub is_begun : IsBegun (programs_of script.cluster) begun
+  pub begins : IsBegin d.timeline place begun script.events
+
+-- the process of this name
 pub record IsBegunAt (script : EventScript) (name : List ℕ) (d : DebugState) : Type 0 where
   pub place : ℕ
   pub named : place_of name script.cluster.processes ≡ Some place
@@ -27,9 +36,33 @@ pub record IsOpened (bytes name : List ℕ) (d : DebugState) : Type 0 where
   pub is_script : IsScript event_script_line no_events bytes script
   pub begins : IsBegunAt script name d
 
+-- a process among all of a script, before the first event: its number is its place and 1
+pub record IsMember (script : EventScript) (place : ℕ) (i : Inferior) : Type 0 where
+  pub number : i.number ≡ place + 1
+  pub name : option_map (λ e. e.0) (slice_get script.cluster.processes place) ≡ Some (string_bytes i.name)
+  pub placed : IsPlaced script place i.debugger
+
+-- each of some is the one of its place
+abbrev pub AreBegun : EventScript → List Inferior → Type 0
+AreBegun script members = (place : ℕ) (i : Inferior) → slice_get members place ≡ Some i → IsMember script place i
+
+-- all processes of a script are, and the first is meant
+pub record IsBegunAll (script : EventScript) (d : Inferiors) : Type 0 where
+  pub count : length d.members.items ≡ length script.cluster.processes
+  pub members : AreBegun script d.members.items
+  pub selected : d.selected ≡ 1
+  pub focus : d.focus ≡ 1
+  pub going : d.going ≡ None
+
+-- the same, of the script that these bytes are
+pub record IsAllOpened (bytes : List ℕ) (d : Inferiors) : Type 0 where
+  pub script : EventScript
+  pub is_script : IsScript event_script_line no_events bytes script
+  pub begins : IsBegunAll script d
+
 -- packets are answered from the first on: these bytes are read, and what they are answered is written; it ends with the last
 -- answer, or where there are no more bytes
-pub record IsServed (d : DebugState) (had left before after : Option (List ℕ)) : Type 0 where
+pub record IsServed (d : Shown) (had left before after : Option (List ℕ)) : Type 0 where
   pub bytes : List ℕ
   pub written : List ℕ
   pub over : Bool

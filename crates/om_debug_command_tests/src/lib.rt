@@ -4,6 +4,10 @@
 #[cfg(test)]
 mod bank_session;
 #[cfg(test)]
+mod group_session;
+#[cfg(test)]
+mod groups;
+#[cfg(test)]
 mod records;
 #[cfg(test)]
 mod sessions;

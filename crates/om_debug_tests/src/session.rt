@@ -4,7 +4,8 @@ ghost use Rattle.std.specs.Prelude.{◌≡◌, All, IfOk, length};
 ghost use Rattle.om_world.specs.Holds.{Holds};
 ghost use Rattle.om_world.specs.World.{IsEmpty, IsKnown};
 
-use om_debug::{Debugger, serve};
+use om_debug::Debugger;
+use om_inferiors::{Shown, serve};
 use om_interval::Pid;
 use om_isa::Ext;
 use om_process::{Image, StartFault};
@@ -114,7 +115,12 @@ fn check(
 ) {
     let mut written = Vec::new(alloc);
     let debugger = debugger(rt, alloc, words, events);
-    let served = serve(alloc, debugger, &mut asked.as_bytes(), &mut written);
+    let served = serve(
+        alloc,
+        Shown::One(debugger),
+        &mut asked.as_bytes(),
+        &mut written,
+    );
     assert!(rt; served.is_ok());
     assert_eq!(rt; written.as_slice(), answered.as_bytes());
 }

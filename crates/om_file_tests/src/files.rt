@@ -38,7 +38,7 @@ fn rows_of_a_file_and_its_log(rt: HostRuntime) {
     make(&rt, &rt, &file);
     assert!(&rt; is_written(&rt, &log));
     check_rows(&rt, &rt, &file);
-    settle(&rt, &prefix, 1);
+    settle(&rt, &rt, &prefix, 1);
     assert!(&rt; !is_written(&rt, &log));
     check_rows(&rt, &rt, &file);
     fs::remove_dir_all(&rt, folder.as_str()).expect(&rt, "an end");

@@ -18,7 +18,7 @@ pub fn request_of(alloc: Global, packet: &[u8]) -> Result<Request, AllocError>
     request_by(alloc, &words)
 }
 
-fn request_by(alloc: Global, words: &[&[u8]]) -> Result<Request, AllocError>
+pub(crate) fn request_by(alloc: Global, words: &[&[u8]]) -> Result<Request, AllocError>
     ensures { IfOk result (λ request. request ≡ request_by (map (λ word. word.now) words.now)) }
 {
     match words {
@@ -212,7 +212,7 @@ fn selection(word: &[u8]) -> Request
     }
 }
 
-fn thread_of(word: &[u8]) -> Option<Thread>
+pub(crate) fn thread_of(word: &[u8]) -> Option<Thread>
     ensures { result ≡ thread_of word.now }
 {
     if word == b"-1".as_slice() {
@@ -297,7 +297,7 @@ fn goto_command(event: Option<u32>) -> Command
 }
 
 // How to go on, by the first action.
-fn resume_request(rest: &[&[u8]]) -> Request
+pub(crate) fn resume_request(rest: &[&[u8]]) -> Request
     ensures { result ≡ resume_request (map (λ word. word.now) rest.now) }
 {
     let [action, rest @ ..] = rest else {

@@ -1,6 +1,6 @@
 -- What a worker does with the board.
-use Rattle.std.proofs.Common.{◌≡◌, ◌↔◌, ℕ, List, Option, None, Some, Bool, IsTrue, ap, ◌∙◌, subst, sym, length, take, drop, Ok}
-use Rattle.std.specs.Prelude.{Any, IfNone, Result, slice_get}
+use Rattle.std.proofs.Common.{◌≡◌, ◌↔◌, ℕ, List, Option, None, Some, Bool, IsTrue, ap, ◌∙◌, subst, sym, length, take, drop, Ok, Err}
+use Rattle.std.specs.Prelude.{Any, IfNone, OnOk, Result, slice_get}
 use Rattle.std.proofs.lemmas.Option.{same_Some}
 use Rattle.std.proofs.Math.Seq.{drop-length, take-length}
 use Rattle.om_process.specs.Core.{CoreState, with_pending}
@@ -19,6 +19,11 @@ use Rattle.om_member.proofs.KeepLemmas.{keeps_then}
 use Rattle.om_process.specs.declared.queues.Made.{Made}
 use Rattle.om_runner.specs.steps.Acts.{HasHandedOver, HasTakenUp}
 use Rattle.om_runner.specs.steps.Nodes.{AreAlwaysClean, Member, TakesFrom}
+
+-- what holds, holds where the result is well
+pub on_any : {A E P : Type 0} (r : Result A E) → P → OnOk r P
+on_any (Ok x) p = p
+on_any (Err e) p = tt
 
 -- all that was offered was taken
 pub handed_over : (before mid after : ManagerState) (p q count : ℕ) (old new : CoreState) → q ≡ p → IsToldUpTo before old.round p old.pending count (Ok tt) mid → Keeps before mid
@@ -50,11 +55,15 @@ joined_in m after p r x g c d same in_round in_interval joins =
     subst (λ (e : CoreState). Joining m p e.round e.now.interval (Ok g) after) same
     (subst (λ (i : ℕ). Joining m p d.round i (Ok g) after) in_interval (subst (λ (k : ℕ). Joining m p k x (Ok g) after) in_round joins))
 
+-- whether a checkpoint is among the rows of a core
+pub found_where : (has : Bool) (rows : List PendingRow) (c d : CoreState) → d ≡ c → rows ≡ d.pending → (IsTrue has ↔ Any (λ row. IsTrue row.ckpt) rows) → (IsTrue has ↔ Any (λ row. IsTrue row.ckpt) c.pending)
+found_where has rows c d same are found =
+    subst (λ (e : CoreState). IsTrue has ↔ Any (λ row. IsTrue row.ckpt) e.pending) same
+    (subst (λ (l : List PendingRow). IsTrue has ↔ Any (λ row. IsTrue row.ckpt) l) are found)
+
 -- a manager is pruned where a checkpoint was among the rows, and else is the same
-pub pruned_where : (asked has : Bool) (rows : List PendingRow) (c d : CoreState) → d ≡ c → rows ≡ d.pending → asked ≡ has → (IsTrue has ↔ Any (λ row. IsTrue row.ckpt) rows) → (IsTrue asked ↔ Any (λ row. IsTrue row.ckpt) c.pending)
-pruned_where asked has rows c d same are is_asked found =
-    subst (λ (e : CoreState). IsTrue asked ↔ Any (λ row. IsTrue row.ckpt) e.pending) same
-    (subst (λ (l : List PendingRow). IsTrue asked ↔ Any (λ row. IsTrue row.ckpt) l) are (subst (λ (b : Bool). IsTrue b ↔ Any (λ row. IsTrue row.ckpt) rows) (sym is_asked) found))
+pub asked_where : (asked has : Bool) (P : Type 0) → asked ≡ has → (IsTrue has ↔ P) → (IsTrue asked ↔ P)
+asked_where asked has P is_asked found = subst (λ (b : Bool). IsTrue b ↔ P) (sym is_asked) found
 
 pub same_where_none : {A : Type 0} (asked : Option A) (a b : BoardState) → IfNone asked (a ≡ b) → IfNone asked (a.manager ≡ b.manager)
 same_where_none None a b same = ap (λ (x : BoardState). x.manager) same

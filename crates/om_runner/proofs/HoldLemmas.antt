@@ -14,7 +14,7 @@ use Rattle.om_runner.specs.declared.node.Hold.{Hold}
 use Rattle.om_runner.specs.declared.node.Hold.TheVariants.{Here, Away}
 use Rattle.om_runner.specs.steps.Flying.{IsErrand, IsLanding, IsTicketOf, LandingState, cargo_of, prune_of, store_of}
 use Rattle.om_runner.specs.steps.Holding.{FliesOnWay, IsAloft, IsHeld, IsStoreOf}
-use Rattle.om_runner.specs.steps.Nodes.{IsNode, Member, NodeState}
+use Rattle.om_runner.specs.steps.Nodes.{IsNode, Member, MemberState}
 use Rattle.om_runner.specs.steps.Storing.{with_flight}
 use Rattle.om_runner.proofs.OnWay.{node_landed, node_refused}
 
@@ -66,11 +66,11 @@ held_through content is_clean IsSound m core seen hold same h =
     subst (λ (c : CoreState). IsHeld content is_clean IsSound (record { member = m; core = c }) hold) (sym same) h
 
 -- ---- the store is here
-pub held_here : {J S : Type 0} (content : S → Content) (is_clean : S → Bool) (IsSound : S → Type 0) (d : NodeState) (store : Box S Global)
+pub held_here : {J S : Type 0} (content : S → Content) (is_clean : S → Bool) (IsSound : S → Type 0) (d : MemberState) (store : Box S Global)
     → IsNode content is_clean IsSound d store.value → IsHeld {J = J} content is_clean IsSound d (Here store)
 held_here content is_clean IsSound d store node = record { store = store.value; is = refl; node = node; aloft = tt }
 
-pub node_here : {J S : Type 0} (content : S → Content) (is_clean : S → Bool) (IsSound : S → Type 0) (d : NodeState) (hold : Hold J S) (store : Box S Global)
+pub node_here : {J S : Type 0} (content : S → Content) (is_clean : S → Bool) (IsSound : S → Type 0) (d : MemberState) (hold : Hold J S) (store : Box S Global)
     → IsHeld content is_clean IsSound d hold → hold ≡ Here store → IsNode content is_clean IsSound d store.value
 node_here content is_clean IsSound d hold store h here =
     let same : store.value ≡ h.store = subst (λ x. IsStoreOf x h.store) here h.is in

@@ -10,3 +10,4 @@ mod FaultLemmas
 mod FlightLemmas
 mod FollowLemmas
 mod HoldLemmas
+mod StoreLemmas

@@ -1,7 +1,7 @@
 -- What keeps a process and its store on their way.
-use Rattle.std.proofs.Common.{◌≡◌, ◌≢◌, inl, inr, ℕ, ◌+◌, ◌≤◌, List, [], ◌∷◌, ◌++◌, Option, Some, None, Bool, IsTrue, true, false, cond, refl, sym, ap, ◌∙◌, subst, arith, get_or, length, length-set}
+use Rattle.std.proofs.Common.{◌≡◌, ◌≢◌, inl, inr, ℕ, ◌+◌, ◌≤◌, List, [], ◌∷◌, ◌++◌, Option, Some, None, Bool, IsTrue, true, false, cond, refl, sym, ap, ◌∙◌, subst, arith, get_or, length, length-append, length-set}
 use Rattle.std.proofs.Math.ListN.{get_or-map}
-use Rattle.std.proofs.lemmas.List.{length-replicate}
+use Rattle.std.proofs.lemmas.List.{length-map, length-replicate}
 use Rattle.std.specs.FinMap.{get, get-empty}
 use Rattle.std.specs.Ordering.{nat_cmp}
 use Rattle.std.proofs.lemmas.Bool.{cases_eq}
@@ -22,17 +22,17 @@ use Rattle.om_process.specs.Accepts.{Answers, IsDue, taken}
 use Rattle.om_process.specs.steps.Pieces.{as_received, receipts_of, KeepQueues}
 use Rattle.om_process.specs.declared.accept.Accept.{Accept}
 use Rattle.om_process.specs.declared.accept.Accept.TheVariants.{Taken, Stranger, Orphan, Repeat, Ahead, NotWaiting, Full, Memory}
-use Rattle.om_process.specs.Claims.{HasEntry}
+use Rattle.om_process.specs.Claims.{CheckpointOf, HasEntry}
 use Rattle.om_process.specs.declared.queues.Made.{Made}
 use Rattle.om_process.specs.Frames.{outputs_of}
 use Rattle.om_process.specs.Kept.{queue_at}
 use Rattle.om_process.specs.steps.Numbers.{made_entry}
-use Rattle.om_process.proofs.Making.{part_has}
+use Rattle.om_process.proofs.Making.{interval_along, part_has}
 use Rattle.om_process.specs.Core.{CoreState, CoreTurns, cluster_size, move_of, status_of, with_now}
 use Rattle.om_process.specs.declared.status.Status.{Status}
 use Rattle.om_process.specs.Parts.{Keeps}
 use Rattle.om_process.specs.Process.{Process, Received, delivered, empty_queue, made, started}
-use Rattle.om_process.specs.Replays.{process_of}
+use Rattle.om_process.specs.Replays.{process_of, received_of}
 use Rattle.om_process.specs.Starting.{started_core}
 use Rattle.om_process.specs.Stored.{StandsAfter, Anyone, IsReplay}
 use Rattle.om_process.specs.Flights.{Carries, CarriesCheckpoint}
@@ -83,6 +83,25 @@ way_replayed m x held t stored stands =
     let at = stands.begins.stored in
     let from = stored stands.checkpoint.head.interval at.0 at.1 stands.checkpoint at.2 in
     (from.0 ++ receipts_of stands.receipts, replayed_along m.program m.own m.n (process_of stands.checkpoint) t from.0 stands.receipts from.1 stands.replayed)
+
+-- it is in the interval of its last receipt
+way_interval : (m : Member) (h : List Received) (s : Process) → CheckpointOf m.program m.own m.n s h → s.interval ≡ length h
+way_interval m h s on =
+    ap (λ (p : Process). p.interval) on.2.same ∙ interval_along m.program m.own m.n on.1.0 h on.0 on.1.1
+
+-- what is replayed to an interval is in it
+pub replayed_to : (m : Member) (x : ℕ) (held : Content) (t : Process) → AreOnWay m held → StandsAfter Anyone held x x m.own m.n t → t.interval ≡ x
+replayed_to m x held t stored stands =
+    let at = stands.begins.stored in
+    let from = stored stands.checkpoint.head.interval at.0 at.1 stands.checkpoint at.2 in
+    let begun : stands.checkpoint.head.interval ≡ length from.0 = way_interval m from.0 (process_of stands.checkpoint) from.1 in
+    let ended : t.interval ≡ length (from.0 ++ receipts_of stands.receipts) =
+    way_interval m (from.0 ++ receipts_of stands.receipts) t
+    (replayed_along m.program m.own m.n (process_of stands.checkpoint) t from.0 stands.receipts from.1 stands.replayed) in
+    let both = length-append from.0 (receipts_of stands.receipts) in
+    let many : length (receipts_of stands.receipts) ≡ length stands.receipts = length-map stands.receipts received_of in
+    let last = stands.last in
+    omega arith
 
 -- what keeps fewer entries has made as many
 same_count : (fs qs : List QueueRecord) (place : ℕ) → KeepQueues fs qs → queue_end (queue_at qs place) ≡ queue_end (queue_at fs place)
@@ -335,6 +354,15 @@ node_back content is_clean IsSound m core old new r kept own size clean sound re
       let at = replayed (c, kept.sound (clean c)) in
       way_replayed m r (content old) core.now (kept.stored (clean c)) (subst (λ n. StandsAfter Anyone (content old) r r m.own n core.now) size (subst (λ o. StandsAfter Anyone (content old) r r o (cluster_size core.now) core.now) own at));
 }
+
+-- and is in the interval to which it was replayed
+pub back_in : {S : Type 0} (content : S → Content) (is_clean : S → Bool) (IsSound : S → Type 0) (m : Member) (core : CoreState) (old new : S) (r : ℕ)
+    → IsKept content is_clean IsSound m old → IsTrue (is_clean old) → IsTrue (is_clean new)
+    → core.own ≡ m.own → cluster_size core.now ≡ m.n
+    → (IsCleanCall is_clean IsSound old new → IsReplay (content old) r core) → core.now.interval ≡ r
+back_in content is_clean IsSound m core old new r kept was is own size replayed =
+    let at = replayed (is, kept.sound was) in
+    replayed_to m r (content old) core.now (kept.stored was) (subst (λ n. StandsAfter Anyone (content old) r r m.own n core.now) size (subst (λ o. StandsAfter Anyone (content old) r r o (cluster_size core.now) core.now) own at))
 
 -- how it has ended, and how many outputs it has made
 pub node_whole : {S : Type 0} (content : S → Content) (is_clean : S → Bool) (IsSound : S → Type 0) (m : Member) (core : CoreState) (store : S) (status : Status)

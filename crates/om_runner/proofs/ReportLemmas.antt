@@ -12,7 +12,11 @@ use Rattle.om_manager.specs.declared.output_log.Output.{Output}
 use Rattle.om_process.specs.Process.{Program}
 use Rattle.std.proofs.lemmas.Result.{IfOk-weaker}
 use Rattle.om_runner.specs.Released.{AreAllMade}
-use Rattle.om_runner.specs.Reports.{AreAlongOf, AreAlongOver, AreOutputsOf, AreWholeOf, HaveAllOf, IsStatusAlong, IsWholeRun}
+use Rattle.om_runner.specs.Reports.{AreAlongOf, AreAlongOver, AreOutputsOf, AreWholeOf, HaveAllOf, IsLastOn, IsStatusAlong, IsWholeRun}
+use Rattle.om_board.specs.Boards.{IsBoard}
+use Rattle.om_board.specs.Fronts.{front_of}
+use Rattle.om_board.specs.declared.front.Front.{Front}
+use Rattle.om_runner.specs.steps.Acts.{UnderLock}
 use Rattle.om_process.specs.Core.{IsEnd}
 use Rattle.om_board.specs.Inboxes.{Traffic, Takings}
 use Rattle.om_runner.specs.declared.results.Finished.{Finished}
@@ -218,3 +222,9 @@ pub made_of_images : {A E : Type 0} (released : A → List (Vec Output Global)) 
     → programs ≡ map program_of images → n ≡ length images → IfOk result (λ r. AreAllMade programs n (released r)) → IfOk result (λ r. AreOutputsOf images (released r))
 made_of_images released programs n images result are many made =
     IfOk-weaker result _ _ (λ r all. subst (λ ps. AreAllMade ps (length images) (released r)) are (subst (λ k. AreAllMade programs k (released r)) many all)) made
+
+-- the front that was read under the lock of a board of so many processes
+pub last_on : {A E : Type 0} (front : A → Front) (k n : ℕ) (result : Result A E) → k ≡ n
+    → IfOk result (λ r. UnderLock k (λ before after. (front r ≡ front_of before.manager) × (after ≡ before))) → IfOk result (λ r. IsLastOn n (front r))
+last_on front k n result same last =
+    IfOk-weaker result _ _ (λ r under. (under.0, subst (λ m. IsBoard m under.0) same under.2, under.3.0)) last

@@ -3,6 +3,9 @@ use Rattle.std.specs.Prelude.{◌≡◌, ℕ, ◌<◌, ◌≤◌, List, Option, 
 use Rattle.std.specs.declared.alloc.Global.{Global}
 pub use Rattle.om_stable.specs.Content.{nothing}
 use Rattle.om_manager.specs.declared.output_log.Output.{Output}
+use Rattle.om_board.specs.Boards.{BoardState, IsBoard}
+use Rattle.om_board.specs.Fronts.{front_of}
+use Rattle.om_board.specs.declared.front.Front.{Front}
 use Rattle.om_format.specs.Queues.{queue_end}
 use Rattle.om_process.specs.Core.{status_of}
 use Rattle.om_process.specs.Images.{program_of}
@@ -59,6 +62,18 @@ abbrev pub AreWholeOf : List Image → List Status → List (Vec Output Global) 
 AreWholeOf images statuses released = (p : ℕ) (program : Program) (status : Status) (outputs : Vec Output Global)
     → slice_get (map program_of images) p ≡ Some program → slice_get statuses p ≡ Some status → slice_get released p ≡ Some outputs
     → IsWholeRun program p (length images) status (length outputs.items)
+
+-- by process: where its store is clean, it comes to its status along its image, and its outputs are as many as it has then made
+abbrev pub AreWholeOver : {S : Type 0} → (S → Bool) → List Image → List Status → List (Vec Output Global) → List S → Type 0
+AreWholeOver is_clean images statuses released stores =
+    (p : ℕ) (image : Image) (status : Status) (outputs : Vec Output Global) (store : _)
+    → slice_get images p ≡ Some image → slice_get statuses p ≡ Some status → slice_get released p ≡ Some outputs
+    → slice_get stores p ≡ Some store → IsTrue (is_clean store)
+    → IsWholeRun (program_of image) p (length images) status (length outputs.items)
+
+-- the front is the last that was posted on a board of n processes
+abbrev pub IsLastOn : ℕ → Front → Type 0
+IsLastOn n front = (board : BoardState) × IsBoard n board × (front ≡ front_of board.manager)
 
 -- the process that a fault names, if it names one
 abbrev pub process_of : RunFault → Option ℕ

@@ -1,20 +1,20 @@
 //! A cluster, a thread for each process.
 
-ghost use Rattle.std.specs.Prelude.{◌≡◌, ◌<◌, ◌≤◌, ℕ, All, IfErr, IfOk, IfSome, IsTrue, OnOk, Some, length, map, slice_get, slice_index_or, vec_capacity, vec_len};
+ghost use Rattle.std.specs.Prelude.{◌≡◌, ◌<◌, ◌≤◌, ◌==◌, ℕ, All, false, filter, IfErr, IfOk, IfSome, IsTrue, OnOk, Some, length, map, slice_get, slice_index_or, vec_capacity, vec_len};
 ghost use Rattle.om_board.specs.Fronts.{front_of};
 ghost use Rattle.om_interval.specs.declared.pid.TheConstants.{MAX_PROCESSES};
 ghost use Rattle.om_process.specs.Images.{program_of};
 ghost use Rattle.om_process.specs.declared.image.Image.{Image};
 ghost use Rattle.om_runner.specs.Released.{AreAllMade, AreAllReleased};
-ghost use Rattle.om_runner.specs.Reports.{AreAlongOf, AreAlongOver, AreOutputsOf, AreWholeOf, IsFaultOf, IsWholeRun};
+ghost use Rattle.om_runner.specs.Reports.{AreAlongOf, AreAlongOver, AreOutputsOf, AreWholeOf, AreWholeOver, IsFaultOf, IsLastOn, IsWholeRun};
 ghost use Rattle.om_process.specs.Core.{IsEnd};
 ghost use Rattle.om_runner.specs.declared.fault.RunFault.TheVariants.{Memory};
 ghost use Rattle.om_runner.specs.Stores.{AreNeverClean};
 ghost use Rattle.om_runner.specs.steps.Acts.{UnderLock};
-ghost use Rattle.om_runner.specs.steps.Ends.{AreEndsOf, AreOwnEnds, AreWholeOver, IsEndOf, IsFaultBy, IsGiven, IsOwnEnd, IsPromised, IsTurned};
+ghost use Rattle.om_runner.specs.steps.Ends.{AreEndsOf, AreOwnEnds, IsEndOf, IsFaultBy, IsGiven, IsOwnEnd, IsPromised, IsTurned};
 ghost use Rattle.om_runner.specs.steps.Harvests.{AreOwn, harvested};
 ghost use Rattle.om_runner.specs.steps.Nodes.{AreAlwaysClean};
-ghost use Rattle.om_runner.specs.steps.Places.{member_of};
+ghost use Rattle.om_runner.specs.steps.Places.{IsLanded, member_of};
 ghost use Rattle.om_runner.specs.steps.Settling.{ArePasses, AreSettled};
 ghost use Rattle.om_runner.specs.steps.Wiring.{IsWired};
 
@@ -98,14 +98,14 @@ fn begin<'a, J: Series, R, O: Opener<R>>(
 }
 
 // The intervals at which a process is to fail.
-fn kills_of(alloc: Global, kills: &[(Pid, u32)], pid: Pid) -> Result<Vec<u32>, AllocError> {
-    let mut own = Vec::new(alloc);
-    for (who, x) in kills {
-        if *who == pid {
-            own.push(*x)?;
-        }
-    }
-    Ok(own)
+fn kills_of(alloc: Global, kills: &[(Pid, u32)], pid: Pid) -> Result<Vec<u32>, AllocError>
+    ensures { IfOk result (λ own. own.items ≡ map (λ kill. kill.1) (filter (λ kill. kill.0 == pid) kills.now)) }
+{
+    kills
+        .iter()
+        .filter(|kill| kill.0 == pid)
+        .map(|kill| kill.1)
+        .collect(alloc)
 }
 
 // What a turn of a worker leads to.
@@ -126,7 +126,8 @@ fn leave<'a, K: Naming, J: Series, S: Stable, R: Wait>(
     node: Node<'a, J, S>,
     pass: Pass<K>,
 ) -> Result<Turned<'a, K, J, S>, RunFault>
-    requires { node.member.own ≡ worker.old.links.own }
+    requires own { node.member.own ≡ worker.old.links.own }
+    requires landed { node.away ≡ false }
     ensures same { worker.new.links ≡ worker.old.links }
     ensures turned { IfOk result (λ t. IsTurned S.is_clean node.entry.member t) }
     ensures fault { IfErr result (IsFaultBy worker.old.links.own) }
@@ -159,6 +160,7 @@ fn take_turn<'a, K: Naming, J: Series, S: Ledger, R: Wait + Clock>(
     requires program { slice_get K.programs (member_of place).own ≡ Some (member_of place).program }
     requires size { (member_of place).n ≡ K.cell.n }
     requires clean { K.OverClean → AreAlwaysClean S.is_clean }
+    requires landed { IsLanded place }
     ensures same { worker.new.links ≡ worker.old.links }
     ensures turned { IfOk result (λ t. IsTurned S.is_clean (member_of place.entry) t) }
     ensures fault { IfErr result (IsFaultBy worker.old.links.own) }
@@ -187,6 +189,7 @@ fn turns_until_over<'a, K: Naming, J: Series, S: Ledger, R: Wait + Clock>(
     requires program { slice_get K.programs (member_of place).own ≡ Some (member_of place).program }
     requires size { (member_of place).n ≡ K.cell.n }
     requires clean { K.OverClean → AreAlwaysClean S.is_clean }
+    requires landed { IsLanded place }
     ensures same { worker.new.links ≡ worker.old.links }
     ensures ended { IfOk result (λ end. IsEnd end.0) }
     ensures own { let m = member_of place.entry in IfOk result (λ end. end.1.own ≡ m.own) }
@@ -231,6 +234,7 @@ fn take_turns<'a, K: Naming, J: Series, S: Ledger, R: Wait + Clock>(
     requires program { slice_get K.programs (member_of place).own ≡ Some (member_of place).program }
     requires size { (member_of place).n ≡ K.cell.n }
     requires clean { K.OverClean → AreAlwaysClean S.is_clean }
+    requires landed { IsLanded place }
     ensures end { let m = member_of place.entry in
         IfOk result (λ f. IsEndOf S.is_clean m.program worker.entry.links.lines m.own m.n f) }
     ensures given { OnOk result (1 ≤ turns) }
@@ -788,6 +792,7 @@ fn run_named<
     requires clean { K.OverClean → AreAlwaysClean O.Store.is_clean }
     ensures released { IfOk result (λ r. AreAllReleased r.0.front.vec r.0.released.items) }
     ensures made { K.OverClean → IfOk result (λ r. AreOutputsOf plan.now.images.items r.0.released.items) }
+    ensures last { IfOk result (λ r. IsLastOn (length plan.now.images.items) r.0.front) }
     ensures processes { IfOk result (λ r. length r.0.released.items ≡ length plan.now.images.items) }
     ensures statuses { IfOk result (λ r. length r.0.statuses.items ≡ length plan.now.images.items) }
     ensures stores { IfOk result (λ r. length r.1.items ≡ length plan.now.images.items) }
@@ -840,6 +845,9 @@ pub fn run_and_keep_stores<R: Threads + Wait + Clock + Sync, G: Gate + Sync, O: 
     ensures along { IfOk result (λ r. AreAlongOver O.Store.is_clean config.now.images.items r.0.statuses.items r.1.items) }
     ensures whole { ((store : O.Store) → IsTrue (O.Store.is_clean store))
         → IfOk result (λ r. AreWholeOf config.now.images.items r.0.statuses.items r.0.released.items) }
+    ensures whole_over { IfOk result (λ r. AreWholeOver O.Store.is_clean config.now.images.items r.0.statuses.items
+        r.0.released.items r.1.items) }
+    ensures last { IfOk result (λ r. IsLastOn (length config.now.images.items) r.0.front) }
     ensures turns { OnOk result (1 ≤ config.now.turns) }
     ensures gate { OnOk result (1 ≤ config.now.gate_turns) }
     ensures fault { IfErr result (IsFaultOf (length config.now.images.items)) }
@@ -886,6 +894,7 @@ pub fn run_and_keep_witnesses<
         → IfOk result (λ r. AreAlongOf config.now.images.items r.0.statuses.items) }
     ensures whole { ((store : O.Store) → IsTrue (O.Store.is_clean store))
         → IfOk result (λ r. AreWholeOf config.now.images.items r.0.statuses.items r.0.released.items) }
+    ensures last { IfOk result (λ r. IsLastOn (length config.now.images.items) r.0.front) }
     ensures turns { OnOk result (1 ≤ config.now.turns) }
     ensures gate { OnOk result (1 ≤ config.now.gate_turns) }
     ensures fault { IfErr result (IsFaultOf (length config.now.images.items)) }
@@ -931,6 +940,7 @@ pub fn run_and_record<R: Threads + Wait + Clock + Sync, G: Gate + Sync, O: Opene
         → IfOk result (λ report. AreAlongOf config.now.images.items report.statuses.items) }
     ensures whole { ((store : O.Store) → IsTrue (O.Store.is_clean store))
         → IfOk result (λ report. AreWholeOf config.now.images.items report.statuses.items report.released.items) }
+    ensures last { IfOk result (λ report. IsLastOn (length config.now.images.items) report.front) }
     ensures turns { OnOk result (1 ≤ config.now.turns) }
     ensures gate { OnOk result (1 ≤ config.now.gate_turns) }
     ensures fault { IfErr result (IsFaultOf (length config.now.images.items)) }
@@ -982,6 +992,7 @@ pub fn run_cluster<R: Threads + Wait + Clock + Sync, G: Gate + Sync, O: Opener<R
         → IfOk result (λ report. AreAlongOf config.now.images.items report.statuses.items) }
     ensures whole { ((store : O.Store) → IsTrue (O.Store.is_clean store))
         → IfOk result (λ report. AreWholeOf config.now.images.items report.statuses.items report.released.items) }
+    ensures last { IfOk result (λ report. IsLastOn (length config.now.images.items) report.front) }
     ensures turns { OnOk result (1 ≤ config.now.turns) }
     ensures gate { OnOk result (1 ≤ config.now.gate_turns) }
     ensures fault { IfErr result (IsFaultOf (length config.now.images.items)) }

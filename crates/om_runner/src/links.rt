@@ -1,6 +1,8 @@
 //! The ends of inboxes that one process has.
 
-ghost use Rattle.std.specs.Prelude.{◌≡◌, ◌<◌, ◌≤◌, length};
+ghost use Rattle.std.specs.Prelude.{◌≡◌, ◌<◌, ◌≤◌, ◌+◌, ℕ, false, length, min, slice_index, slice_index_or, true};
+ghost use Rattle.std.specs.Option.{option_map};
+ghost use Rattle.om_board.specs.Inboxes.{MatchTake};
 ghost use Rattle.om_interval.specs.declared.pid.TheConstants.{MAX_PROCESSES};
 ghost use Rattle.om_process.specs.Core.{cluster_size};
 ghost use Rattle.om_runner.specs.steps.Network.{ArePuts, AreTakes, IsNetwork};
@@ -25,6 +27,39 @@ const ROOM: u32 = 32;
 const NAP: u64 = 100;
 
 const NAPS: u32 = 10;
+
+// A message as it was taken from an inbox: `taken_from` alone makes one.
+#[derive(Drop)]
+pub(crate) struct Taken {
+    message: Message,
+}
+
+impl Taken {
+    // The message.
+    pub(crate) fn message(&self) -> &Message
+        ensures { result.now ≡ self.now.message }
+    {
+        &self.message
+    }
+}
+
+// Takes the next message from an inbox, if there is one.
+fn taken_from<R: Wait>(rt: &R, inbox: &Inbox, pass: &mut TakePass) -> Option<Taken>
+    requires { pass.old.line ≡ inbox.now }
+    ensures { MatchTake (option_map (λ t. t.message) result) pass.old pass.new }
+{
+    match inbox.take(rt, pass) {
+        Some(message) => Some(Taken { message }),
+        None => None,
+    }
+}
+
+// How many messages of its sender were received with this one, as those before were.
+fn count_with(message: &Message) -> u32
+    ensures { result ≡ min (message.now.ssn + 1) u32.MAX }
+{
+    message.ssn.saturating_add(1)
+}
 
 // Where the messages of one process go, and where those to it come from.
 #[derive(Drop)]
@@ -69,16 +104,28 @@ impl<'a> Model for Links<'a> {
     ghost invariant = { λ l. AreLinks (record { own = l.own; n = l.n; lines = l.inboxes.now }) l.puts.items l.takes.items l.turn };
 }
 
-// Where nothing is left to put, all is to be put from the first on that its receiver lacks of this sender.
+// How many messages of this sender each process has received, as far as it has told.
+fn received_of(received: &[Received], from: Pid) -> [u32; MAX_PROCESSES] {
+    let mut counts = [u32::MAX; MAX_PROCESSES];
+    for (to, receiver) in received.iter().enumerate().take(MAX_PROCESSES) {
+        counts[to] = receiver.from(from);
+    }
+    counts
+}
+
+// Where nothing is left to put, all is to be put from the first on that its receiver lacks of its sender.
 fn from_the_first_lacked(
     next: &mut [u32; MAX_PROCESSES],
     left: &[bool; MAX_PROCESSES],
-    received: &[Received],
-    from: Pid,
-) {
-    for (to, receiver) in received.iter().enumerate().take(MAX_PROCESSES) {
+    received: &[u32; MAX_PROCESSES],
+)
+    ensures lowered { (to : ℕ) → to < MAX_PROCESSES → slice_index_or left.now to true ≡ false
+        → slice_index next.new to ≡ min (slice_index next.old to) (slice_index received.now to) }
+    ensures left { (to : ℕ) → slice_index_or left.now to true ≡ true → slice_index next.new to ≡ slice_index next.old to }
+{
+    for to in 0..MAX_PROCESSES {
         if !left[to] {
-            next[to] = next[to].min(receiver.from(from));
+            next[to] = next[to].min(received[to]);
         }
     }
 }
@@ -232,14 +279,15 @@ impl<'a> Links<'a> {
     pub(crate) fn resend_put(&mut self)
         ensures { self.new ≡ self.old }
     {
-        from_the_first_lacked(&mut self.next, &self.left, self.received, self.own);
+        let received = received_of(self.received, self.own);
+        from_the_first_lacked(&mut self.next, &self.left, &received);
         self.is_behind = true;
     }
 
     // Tells the sender of a message, which the process has received, that it did.
     pub(crate) fn tell_received(&self, message: &Message) {
         if let Some(received) = self.received.get(self.own.index()) {
-            received.tell(message.from, message.ssn.saturating_add(1));
+            received.tell(message.from, count_with(message));
         }
     }
 
@@ -328,7 +376,7 @@ impl<'a> Links<'a> {
     }
 
     // Takes a message from one of the senders, each in its turn, if there is one.
-    pub(crate) fn take<R: Wait>(&mut self, rt: &R) -> Option<Message>
+    pub(crate) fn take<R: Wait>(&mut self, rt: &R) -> Option<Taken>
         ensures { self.new ≡ self.old }
     {
         if let Some(bell) = self.bells.get(self.own.index()) {
@@ -348,7 +396,7 @@ impl<'a> Links<'a> {
 
     // Takes a message from the next sender that may have put one, if there is one. Of an inbox that was empty its sender tells
     // once more.
-    fn take_next<R: Wait>(&mut self, rt: &R) -> Option<Message>
+    fn take_next<R: Wait>(&mut self, rt: &R) -> Option<Taken>
         ensures { self.new ≡ self.old }
     {
         let from = self.marked.first_from(self.turn);
@@ -357,7 +405,7 @@ impl<'a> Links<'a> {
         }
         self.turn = if from + 1 < self.n { from + 1 } else { 0 };
         let inbox = &self.inboxes[from][self.own.index()];
-        let taken = inbox.take(rt, &mut self.takes[from]);
+        let taken = taken_from(rt, inbox, &mut self.takes[from]);
         if taken.is_some() {
             self.count_taken(from);
         } else {

@@ -1,10 +1,10 @@
 //! What a worker has to do with the manager.
 
-ghost use Rattle.std.specs.Prelude.{◌≡◌, ◌<◌, ◌↔◌, ◌⊎◌, [], Any, IfNone, IfOk, IfSome, IsTrue, OnOk, Some, false, is_some, length, slice_get};
+ghost use Rattle.std.specs.Prelude.{◌≡◌, ◌≢◌, ◌<◌, ◌↔◌, ◌⊎◌, [], Any, IfNone, IfOk, IfSome, IsTrue, OnOk, Some, false, is_some, length, slice_get};
 ghost use Rattle.om_board.specs.Boards.{IsBoard};
 ghost use Rattle.om_member.specs.Handed.{outputs_from};
 ghost use Rattle.om_runner.specs.steps.Nodes.{AreAlwaysClean};
-ghost use Rattle.om_runner.specs.steps.Acts.{AreAllOf, AreLimits, HasDeclared, HasHandedOver, HasJoined, HasMet, HasOffered, HasPruned, HasRefused, HasReleasedAnother, HasTakenUp, HasWaited, HasWithdrawn, IsStanding, IsVerdictOf, UnderLock};
+ghost use Rattle.om_runner.specs.steps.Acts.{AreAllOf, AreLimits, HasDeclared, HasHandedOver, HasHeard, HasJoined, HasMet, HasOffered, HasPruned, HasRefused, HasReleasedAnother, HasTakenUp, HasWaited, HasWithdrawn, IsStanding, UnderLock};
 
 use crate::desk::Desk;
 use crate::harvest::Harvest;
@@ -102,9 +102,16 @@ impl<'a, K: Naming> ManagerLink<'a, K> {
         front.round > self.round
     }
 
-    // Whether a failure was declared since it last looked for an open gathering.
-    pub(crate) fn is_called(&self) -> bool {
-        self.shared.failures.load(SeqCst) != self.failures
+    // How many failures were declared.
+    pub(crate) fn failures(&self) -> u64 {
+        self.shared.failures.load(SeqCst)
+    }
+
+    // Whether a failure was declared since it last looked for an open gathering, where so many were declared.
+    pub(crate) fn is_called(&self, failures: u64) -> bool
+        ensures { IsTrue result ↔ failures ≢ self.now.failures }
+    {
+        failures != self.failures
     }
 
     // Whether there is something to hand in or to learn. A gathering may be open where a failure was declared; a state that was
@@ -147,6 +154,7 @@ impl<'a, K: Naming> ManagerLink<'a, K> {
         ensures pid { self.new.pid ≡ self.old.pid }
         ensures round { self.new.round ≡ self.old.round }
         ensures member { node.new.member ≡ node.old.member }
+        ensures away { node.new.away ≡ node.old.away }
         ensures sound { IsBoard K.cell.n desk.old.board.now }
         ensures over { OnOk result (HasHandedOver desk.old.board.now.manager self.old.pid node.old.core
             desk.new.board.now.manager node.new.core) }
@@ -193,7 +201,40 @@ impl<'a, K: Naming> ManagerLink<'a, K> {
     }
 
     // Hands over all that the process has, and says how the manager stands. One that has ended reports itself quiet. Where a
-    // checkpoint was among the rows, the manager is pruned, and says what need not be kept any longer.
+    // checkpoint is among the rows, the manager is pruned, and says what need not be kept any longer.
+    fn meet_at<J: Series, S: Stable, R: Wait>(
+        &mut self,
+        alloc: Global,
+        desk: &mut Desk<'_, K, R>,
+        node: &mut Node<'_, J, S>,
+        ended: bool,
+        has_checkpoint: bool,
+        diary: &mut Diary<'_>,
+    ) -> Result<(Standing, Option<Limits>), WorkerFault>
+        requires own { node.old.member.own ≡ self.old.pid }
+        requires program { slice_get K.programs node.old.member.own ≡ Some node.old.member.program }
+        requires size { node.old.member.n ≡ K.cell.n }
+        requires clean { K.OverClean → AreAlwaysClean S.is_clean }
+        requires checkpoint { IsTrue has_checkpoint ↔ Any (λ row. IsTrue row.ckpt) node.old.core.pending }
+        ensures pid { self.new.pid ≡ self.old.pid }
+        ensures round { self.new.round ≡ self.old.round }
+        ensures member { node.new.member ≡ node.old.member }
+        ensures sound { IsBoard K.cell.n desk.old.board.now }
+        ensures limits { IfOk result (λ met. IfSome met.1 (λ l. length l.bounds.got ≡ K.cell.n)) }
+        ensures met { IfOk result (λ met. HasMet desk.old.board.now self.old.pid self.old.round ended node.old.core met.0 met.1
+            desk.new.board.now node.new.core) }
+    {
+        let has_receipt = have_receipt(node.core().pending());
+        self.hand_over(alloc, desk, node)?;
+        diary.noted(desk.rt, has_receipt, has_checkpoint)?;
+        diary.announce(desk.rt, desk.board.manager())?;
+        let limits = self.prune(desk, has_checkpoint);
+        let standing = self.ask(desk, ended);
+        self.failures = self.shared.failures.load(SeqCst);
+        Ok((standing, limits))
+    }
+
+    // The same under the board's lock.
     pub(crate) fn meet<J: Series, S: Stable, R: Wait>(
         &mut self,
         rt: &R,
@@ -215,23 +256,49 @@ impl<'a, K: Naming> ManagerLink<'a, K> {
             HasMet before self.old.pid self.old.round ended node.old.core met.0 met.1 after node.new.core)) }
     {
         let has_checkpoint = have_checkpoint(node.core().pending());
-        let has_receipt = have_receipt(node.core().pending());
         let mut guard = self.lock(rt, is_patient);
         let mut desk = Desk {
             rt,
             board: &mut *guard,
             frontier: &self.shared.frontier,
         };
-        self.hand_over(alloc, &mut desk, node)?;
-        diary.noted(rt, has_receipt, has_checkpoint)?;
-        diary.announce(rt, desk.board.manager())?;
-        let limits = self.prune(&mut desk, has_checkpoint);
-        let standing = self.ask(&mut desk, ended);
-        self.failures = self.shared.failures.load(SeqCst);
-        Ok((standing, limits))
+        let met = self.meet_at(alloc, &mut desk, node, ended, has_checkpoint, diary)?;
+        Ok(met)
     }
 
     // Hands over all that the process has, and joins the open gathering. Says whether that finished the round.
+    fn join_at<J: Series, S: Stable, R: Wait>(
+        &mut self,
+        alloc: Global,
+        desk: &mut Desk<'_, K, R>,
+        node: &mut Node<'_, J, S>,
+        diary: &mut Diary<'_>,
+        pass: Pass<K>,
+    ) -> Result<(bool, Pass<K>), WorkerFault>
+        requires own { node.old.member.own ≡ self.old.pid }
+        requires program { slice_get K.programs node.old.member.own ≡ Some node.old.member.program }
+        requires size { node.old.member.n ≡ K.cell.n }
+        requires clean { K.OverClean → AreAlwaysClean S.is_clean }
+        ensures pid { self.new.pid ≡ self.old.pid }
+        ensures round { self.new.round ≡ self.old.round }
+        ensures member { node.new.member ≡ node.old.member }
+        ensures away { node.new.away ≡ node.old.away }
+        ensures sound { IsBoard K.cell.n desk.old.board.now }
+        ensures joined { OnOk result
+            (HasJoined desk.old.board.now.manager self.old.pid node.old.core desk.new.board.now.manager node.new.core) }
+    {
+        self.hand_over(alloc, desk, node)?;
+        let core = node.core();
+        desk.join(alloc, self.pid, core.round(), core.interval())?;
+        let (front, pass) = desk.frontier.meet(desk.rt, desk.board, pass);
+        self.failures = self.shared.failures.load(SeqCst);
+        let is_finished = front.round > self.round;
+        diary.joined(desk.rt, &front, is_finished)?;
+        diary.announce(desk.rt, desk.board.manager())?;
+        Ok((is_finished, pass))
+    }
+
+    // The same under the board's lock.
     pub(crate) fn join<J: Series, S: Stable, R: Wait>(
         &mut self,
         rt: &R,
@@ -247,6 +314,7 @@ impl<'a, K: Naming> ManagerLink<'a, K> {
         ensures pid { self.new.pid ≡ self.old.pid }
         ensures round { self.new.round ≡ self.old.round }
         ensures member { node.new.member ≡ node.old.member }
+        ensures away { node.new.away ≡ node.old.away }
         ensures joined { OnOk result (UnderLock K.cell.n (λ before after.
             HasJoined before.manager self.old.pid node.old.core after.manager node.new.core)) }
     {
@@ -256,62 +324,104 @@ impl<'a, K: Naming> ManagerLink<'a, K> {
             board: &mut *guard,
             frontier: &self.shared.frontier,
         };
-        self.hand_over(alloc, &mut desk, node)?;
-        let core = node.core();
-        desk.join(alloc, self.pid, core.round(), core.interval())?;
-        let (front, pass) = desk.frontier.meet(rt, desk.board, pass);
-        self.failures = self.shared.failures.load(SeqCst);
-        let is_finished = front.round > self.round;
-        diary.joined(rt, &front, is_finished)?;
-        diary.announce(rt, desk.board.manager())?;
-        Ok((is_finished, pass))
+        let joined = self.join_at(alloc, &mut desk, node, diary, pass)?;
+        Ok(joined)
     }
 
     // Tells the board that the process puts all that it keeps anew from now on.
-    pub(crate) fn offer<R: Wait>(&self, rt: &R)
-        ensures { UnderLock K.cell.n (λ before after. HasOffered before self.now.pid self.now.round after) }
+    fn offer_at(&self, board: &mut Board<K>)
+        ensures sound { IsBoard K.cell.n board.old }
+        ensures offered { HasOffered board.old self.now.pid self.now.round board.new }
     {
-        let mut guard = self.shared.board.lock(rt);
-        let board = &mut *guard;
         // The look tells what holds of every board.
         let _ = board.manager();
         board.offer(self.pid, self.round);
     }
 
-    // Tells the board that the process waits, with how many messages it has put and taken, and says whether all wait.
-    pub(crate) fn wait<R: Wait>(&self, rt: &R, put: u64, taken: u64) -> bool
-        ensures { UnderLock K.cell.n (λ before after. HasWaited before self.now.pid self.now.round put taken result after) }
+    // The same under the board's lock.
+    pub(crate) fn offer<R: Wait>(&self, rt: &R)
+        ensures { UnderLock K.cell.n (λ before after. HasOffered before self.now.pid self.now.round after) }
     {
         let mut guard = self.shared.board.lock(rt);
-        let board = &mut *guard;
+        self.offer_at(&mut *guard);
+    }
+
+    // Tells the board that the process waits, with how many messages it has put and taken, and says whether all wait.
+    fn wait_at(&self, board: &mut Board<K>, put: u64, taken: u64) -> bool
+        ensures sound { IsBoard K.cell.n board.old }
+        ensures waited { HasWaited board.old self.now.pid self.now.round put taken result board.new }
+    {
         // The look tells what holds of every board.
         let _ = board.manager();
         board.wait(self.pid, self.round, put, taken)
     }
 
-    // Takes back that the process waits.
-    pub(crate) fn withdraw<R: Wait>(&self, rt: &R)
-        ensures { UnderLock K.cell.n (λ before after. HasWithdrawn before self.now.pid after) }
+    // The same under the board's lock.
+    pub(crate) fn wait<R: Wait>(&self, rt: &R, put: u64, taken: u64) -> bool
+        ensures { UnderLock K.cell.n (λ before after. HasWaited before self.now.pid self.now.round put taken result after) }
     {
         let mut guard = self.shared.board.lock(rt);
-        let board = &mut *guard;
+        self.wait_at(&mut *guard, put, taken)
+    }
+
+    // Takes back that the process waits.
+    fn withdraw_at(&self, board: &mut Board<K>)
+        ensures sound { IsBoard K.cell.n board.old }
+        ensures withdrawn { HasWithdrawn board.old self.now.pid board.new }
+    {
         // The look tells what holds of every board.
         let _ = board.manager();
         board.withdraw(self.pid);
     }
 
-    // Tells the board of a message that was refused, and that a resend may bring rightly.
-    pub(crate) fn refuse<R: Wait>(&self, rt: &R)
-        ensures { UnderLock K.cell.n (λ before after. HasRefused before after) }
+    // The same under the board's lock.
+    pub(crate) fn withdraw<R: Wait>(&self, rt: &R)
+        ensures { UnderLock K.cell.n (λ before after. HasWithdrawn before self.now.pid after) }
     {
         let mut guard = self.shared.board.lock(rt);
-        let board = &mut *guard;
+        self.withdraw_at(&mut *guard);
+    }
+
+    // Tells the board of a message that was refused, and that a resend may bring rightly.
+    fn refuse_at(board: &mut Board<K>)
+        ensures sound { IsBoard K.cell.n board.old }
+        ensures refused { HasRefused board.old board.new }
+    {
         // The look tells what holds of every board.
         let _ = board.manager();
         board.refuse();
     }
 
+    // The same under the board's lock.
+    pub(crate) fn refuse<R: Wait>(&self, rt: &R)
+        ensures { UnderLock K.cell.n (λ before after. HasRefused before after) }
+    {
+        let mut guard = self.shared.board.lock(rt);
+        Self::refuse_at(&mut *guard);
+    }
+
     // Tells the manager what the store of the process held: rows, and released outputs.
+    fn take_up_at<R: Wait>(
+        &self,
+        alloc: Global,
+        desk: &mut Desk<'_, K, R>,
+        rows: &[PendingRow],
+        outputs: &[Made],
+    ) -> Result<(), WorkerFault>
+        requires { K.OverClean → ⊥ }
+        ensures sound { IsBoard K.cell.n desk.old.board.now }
+        ensures taken_up { OnOk result
+            (HasTakenUp desk.old.board.now.manager self.now.round self.now.pid rows.now outputs.now desk.new.board.now.manager) }
+    {
+        // The look tells what holds of every board.
+        let _ = desk.board.manager();
+        let (_, end) = tell_all(desk, alloc, self.pid, self.round, rows);
+        end?;
+        hand_all(desk, alloc, self.pid, self.round, outputs)?;
+        Ok(())
+    }
+
+    // The same under the board's lock.
     pub(crate) fn take_up<R: Wait>(
         &self,
         rt: &R,
@@ -329,15 +439,36 @@ impl<'a, K: Naming> ManagerLink<'a, K> {
             board: &mut *guard,
             frontier: &self.shared.frontier,
         };
-        // The look tells what holds of every board.
-        let _ = desk.board.manager();
-        let (_, end) = tell_all(&mut desk, alloc, self.pid, self.round, rows);
-        end?;
-        hand_all(&mut desk, alloc, self.pid, self.round, outputs)?;
+        self.take_up_at(alloc, &mut desk, rows, outputs)?;
         Ok(())
     }
 
     // Tells the manager that the process failed.
+    fn declare_at<R: Wait>(
+        &mut self,
+        rt: &R,
+        alloc: Global,
+        board: &mut Board<K>,
+        diary: &mut Diary<'_>,
+        pass: Pass<K>,
+    ) -> Result<Pass<K>, WorkerFault>
+        ensures pid { self.new.pid ≡ self.old.pid }
+        ensures round { self.new.round ≡ self.old.round }
+        ensures sound { IsBoard K.cell.n board.old }
+        ensures declared { OnOk result (HasDeclared board.old.manager self.old.pid self.old.round board.new.manager) }
+    {
+        // The look tells what holds of every board.
+        let _ = board.manager();
+        let frontier = &self.shared.frontier;
+        board.fail(rt, alloc, self.pid, self.round, frontier)?;
+        let (front, pass) = frontier.meet(rt, board, pass);
+        self.failures = self.shared.failures.fetch_add(1, SeqCst).wrapping_add(1);
+        diary.failed(rt, &front, front.round > self.round)?;
+        diary.announce(rt, board.manager())?;
+        Ok(pass)
+    }
+
+    // The same under the board's lock.
     pub(crate) fn declare<R: Wait>(
         &mut self,
         rt: &R,
@@ -351,15 +482,7 @@ impl<'a, K: Naming> ManagerLink<'a, K> {
             HasDeclared before.manager self.old.pid self.old.round after.manager)) }
     {
         let mut guard = self.shared.board.lock(rt);
-        let board = &mut *guard;
-        // The look tells what holds of every board.
-        let _ = board.manager();
-        let frontier = &self.shared.frontier;
-        board.fail(rt, alloc, self.pid, self.round, frontier)?;
-        let (front, pass) = frontier.meet(rt, board, pass);
-        self.failures = self.shared.failures.fetch_add(1, SeqCst).wrapping_add(1);
-        diary.failed(rt, &front, front.round > self.round)?;
-        diary.announce(rt, board.manager())?;
+        let pass = self.declare_at(rt, alloc, &mut *guard, diary, pass)?;
         Ok(pass)
     }
 
@@ -391,6 +514,31 @@ impl<'a, K: Naming> ManagerLink<'a, K> {
     }
 
     // What the manager says of the last finished round, which the process is in from now on.
+    fn hear_at<R: Wait>(
+        &mut self,
+        rt: &R,
+        alloc: Global,
+        board: &mut Board<K>,
+        pass: Pass<K>,
+    ) -> Result<(RoundOutcome, Pass<K>), WorkerFault>
+        ensures pid { self.new.pid ≡ self.old.pid }
+        ensures starts { IfOk result (λ r. length r.0.starts ≡ K.cell.n) }
+        ensures round { IfOk result (λ r. self.new.round ≡ r.0.verdict.round) }
+        ensures sound { IsBoard K.cell.n board.old }
+        ensures heard { IfOk result (λ r. HasHeard board.old.manager self.old.pid r.0) }
+        ensures board { board.new ≡ board.old }
+    {
+        // The next gathering may be open already: `seen` stays, so that the next turn looks for it.
+        let (_, pass) = self.shared.frontier.meet(rt, board, pass);
+        let manager = board.manager();
+        let verdict = manager.verdict(self.pid);
+        let starts = manager.starts().copy(alloc)?;
+        self.round = verdict.round;
+        self.handed = manager.next_output(self.pid);
+        Ok((RoundOutcome { verdict, starts }, pass))
+    }
+
+    // The same under the board's lock.
     pub(crate) fn hear<R: Wait>(
         &mut self,
         rt: &R,
@@ -400,18 +548,11 @@ impl<'a, K: Naming> ManagerLink<'a, K> {
         ensures pid { self.new.pid ≡ self.old.pid }
         ensures starts { IfOk result (λ r. length r.0.starts ≡ K.cell.n) }
         ensures round { IfOk result (λ r. self.new.round ≡ r.0.verdict.round) }
-        ensures round_outcome { IfOk result (λ r. UnderLock K.cell.n (λ before after.
-            (r.0.starts ≡ before.manager.starts) × IsVerdictOf before.manager self.old.pid r.0.verdict × (after ≡ before))) }
+        ensures heard { IfOk result (λ r. UnderLock K.cell.n (λ before after.
+            HasHeard before.manager self.old.pid r.0 × (after ≡ before))) }
     {
         let mut guard = self.shared.board.lock(rt);
-        let board = &mut *guard;
-        // The next gathering may be open already: `seen` stays, so that the next turn looks for it.
-        let (_, pass) = self.shared.frontier.meet(rt, board, pass);
-        let manager = board.manager();
-        let verdict = manager.verdict(self.pid);
-        let starts = manager.starts().copy(alloc)?;
-        self.round = verdict.round;
-        self.handed = manager.next_output(self.pid);
-        Ok((RoundOutcome { verdict, starts }, pass))
+        let heard = self.hear_at(rt, alloc, &mut *guard, pass)?;
+        Ok(heard)
     }
 }

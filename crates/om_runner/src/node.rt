@@ -1,19 +1,22 @@
 //! A process over its store.
 
-ghost use Rattle.std.specs.Prelude.{◌≡◌, ◌↔◌, ◌<◌, ◌+◌, ◌≤◌, IfErr, IfOk, IfSome, IsErrOf, IsOk, IsTrue, OnErr, OnOk, drop, length};
+ghost use Rattle.std.specs.Prelude.{◌≡◌, ◌≢◌, ◌↔◌, ◌<◌, ◌+◌, ◌≤◌, ℕ, ◌∷◌, [], ◌++◌, IfErr, IfOk, IfSome, IsErrOf, IsOk, IsTrue, OnErr, OnOk, drop, false, length};
 ghost use Rattle.om_manager.specs.State.{held_by, process_count};
 ghost use Rattle.om_member.specs.Handed.{AreHandedUpTo, outputs_from};
 ghost use Rattle.om_member.specs.Keeps.{Keeps};
 ghost use Rattle.om_member.specs.Told.{IsToldUpTo};
 ghost use Rattle.om_format.specs.Queues.{queue_end};
-ghost use Rattle.om_process.specs.Core.{IsEnd, cluster_size, move_of, status_of, with_pending};
+ghost use Rattle.om_process.specs.Accepts.{Answers, taken};
+ghost use Rattle.om_process.specs.Core.{IsEnd, RunsTo, cluster_size, move_of, settled, status_of, with_now, with_pending};
 ghost use Rattle.om_process.specs.Flights.{Carries, landed};
 ghost use Rattle.om_process.specs.Frames.{outputs_of};
 ghost use Rattle.om_process.specs.Images.{program_of};
+ghost use Rattle.om_process.specs.Resumes.{resumed};
 ghost use Rattle.om_process.specs.Stores.{flushed};
+ghost use Rattle.om_process.specs.Trims.{trimmed};
 ghost use Rattle.om_runner.specs.Reports.{IsWholeRun, nothing};
 ghost use Rattle.om_runner.specs.Stores.{AreNeverClean};
-ghost use Rattle.om_runner.specs.steps.Nodes.{TakesFrom};
+ghost use Rattle.om_runner.specs.steps.Nodes.{AreAlwaysClean, TakesFrom};
 ghost use Rattle.om_runner.specs.steps.Storing.{HasStored, with_flight};
 ghost use Rattle.om_stable.specs.Calls.{IsCleanCall, UsesStore};
 ghost use Rattle.om_stable.specs.declared.stable.TheConstants.{INTERVALS};
@@ -59,14 +62,17 @@ pub(crate) enum Hold<J: Series, S: Stable> {
 
 impl<'a, J: Series, S: Stable> Model for Node<'a, J, S> {
     ghost use Rattle.om_process.specs.Images.{program_of};
+    ghost use Rattle.std.specs.Prelude.{is_some};
     ghost use Rattle.om_runner.specs.steps.Nodes.{NodeState};
-    ghost use Rattle.om_runner.specs.steps.Holding.{IsHeld};
+    ghost use Rattle.om_runner.specs.steps.Holding.{IsHeld, is_away};
 
     ghost Value = { NodeState };
 
     ghost view = { λ d. record {
       member = record { program = program_of d.image.now; own = d.pid; n = d.n };
       core = d.core.value;
+      away = is_away d.hold;
+      slow = is_some d.line;
     } };
 
     ghost invariant = { λ d. IsHeld S.content S.is_clean S.IsSound
@@ -161,26 +167,34 @@ impl<'a, J: Series, S: Stable> Node<'a, J, S> {
 
     // Runs at most so many instructions.
     pub(crate) fn run(&mut self, alloc: Global, fuel: u64) -> Result<Ran, WorkerFault>
-        ensures { self.new.member ≡ self.old.member }
+        ensures member { self.new.member ≡ self.old.member }
+        ensures ran { IfOk result (λ ran. RunsTo self.old.core fuel ran.steps ran.status self.new.core) }
     {
         Ok(self.core.run(alloc, fuel)?)
     }
 
     // Offers a message to the process.
     pub(crate) fn accept(&mut self, alloc: Global, message: &Message) -> Accept
-        ensures { self.new.member ≡ self.old.member }
+        ensures member { self.new.member ≡ self.old.member }
+        ensures slow { self.new.slow ≡ self.old.slow }
+        ensures answer { Answers self.old.core message.now result }
+        ensures taken { (x : ℕ) → result ≡ Accept.Taken x → self.new.core ≡ taken self.old.core message.now }
+        ensures refused { ((x : ℕ) → result ≢ Accept.Taken x) → self.new.core ≡ self.old.core }
     {
         self.core.accept(alloc, message)
     }
 
-    // Stores the volatile log. Refused while a flight is under way.
+    // Stores the volatile log.
     #[inline(never)]
     pub(crate) fn flush(&mut self, alloc: Global) -> Result<(), WorkerFault>
+        requires here { self.old.away ≡ false }
         ensures member { self.new.member ≡ self.old.member }
+        ensures away { self.new.away ≡ false }
         ensures stored { OnOk result (self.new.core ≡ flushed self.old.core) }
+        ensures refused { OnErr result (self.new.core ≡ self.old.core) }
     {
         let Hold::Here(store) = &mut self.hold else {
-            return Err(WorkerFault::Refused);
+            unreachable!()
         };
         Ok(self.core.flush(alloc, &mut **store)?)
     }
@@ -197,6 +211,7 @@ impl<'a, J: Series, S: Stable> Node<'a, J, S> {
         ensures keeps { Keeps (O.state office.old) (O.state office.new) }
         ensures core { self.new.core ≡ with_pending self.old.core (drop result.0 self.old.core.pending) }
         ensures member { self.new.member ≡ self.old.member }
+        ensures away { self.new.away ≡ self.old.away }
     {
         om_member::note(&mut self.core, office, alloc, self.pid)
     }
@@ -219,7 +234,9 @@ impl<'a, J: Series, S: Stable> Node<'a, J, S> {
     // Drops what the process need not keep.
     pub(crate) fn trim(&mut self, bounds: &Bounds)
         requires { length bounds.now.got ≡ self.old.member.n }
-        ensures { self.new.member ≡ self.old.member }
+        ensures member { self.new.member ≡ self.old.member }
+        ensures core { self.new.core
+            ≡ with_now self.old.core (trimmed (bounds.now.got ++ bounds.now.released ∷ []) self.old.core.now) }
     {
         self.core.trim(bounds);
     }
@@ -234,14 +251,17 @@ impl<'a, J: Series, S: Stable> Node<'a, J, S> {
         requires { length starts.now ≡ self.old.member.n }
         ensures member { self.new.member ≡ self.old.member }
         ensures round { OnOk result (self.new.core.round ≡ verdict.now.round) }
+        ensures on { OnOk result (self.new.core ≡ resumed self.old.core verdict.now.round starts.now) }
+        ensures refused { OnErr result (self.new.core ≡ self.old.core) }
     {
         Ok(self.core.resume(alloc, starts, verdict)?)
     }
 
-    // The process fails. Refused while a flight is under way.
+    // The process fails.
     #[inline(never)]
-    pub(crate) fn fail(self) -> Result<DownNode<'a, J, S>, WorkerFault>
-        ensures { IfOk result (λ down. down ≡ self.entry.member) }
+    pub(crate) fn fail(self) -> DownNode<'a, J, S>
+        requires here { self.away ≡ false }
+        ensures { result ≡ self.entry.member }
     {
         let Node {
             image,
@@ -253,20 +273,21 @@ impl<'a, J: Series, S: Stable> Node<'a, J, S> {
         } = self;
         Box::into_inner(core).fail();
         let Hold::Here(store) = hold else {
-            return Err(WorkerFault::Refused);
+            unreachable!()
         };
-        Ok(DownNode {
+        DownNode {
             image,
             pid,
             n,
             store,
             line,
-        })
+        }
     }
 
-    // How the process ended, and its store; or itself, where it has not ended, or a flight is under way.
+    // How the process ended, and its store; or itself, where it has not ended.
     #[inline(never)]
     pub(crate) fn end(self) -> Result<(Status, S), Node<'a, J, S>>
+        requires here { self.away ≡ false }
         ensures end { IfOk result (λ e. IsEnd e.0) }
         ensures whole { let m = self.entry.member in IfOk result (λ e. IsTrue (S.is_clean e.1)
             → IsWholeRun m.program m.own m.n e.0 (queue_end (outputs_of self.entry.core))) }
@@ -276,24 +297,10 @@ impl<'a, J: Series, S: Stable> Node<'a, J, S> {
         if !has_ended(status) {
             return Err(self);
         }
-        let Node {
-            image,
-            pid,
-            n,
-            core,
-            hold,
-            line,
-        } = self;
+        let Node { hold, .. } = self;
         match hold {
             Hold::Here(store) => Ok((status, Box::into_inner(store))),
-            Hold::Away(stub) => Err(Node {
-                image,
-                pid,
-                n,
-                core,
-                hold: Hold::Away(stub),
-                line,
-            }),
+            Hold::Away(_) => unreachable!(),
         }
     }
 }
@@ -384,12 +391,16 @@ impl<'a, J: Series, S: Ledger> Node<'a, J, S> {
 
 impl<'a, J: Series, S: Stable> Node<'a, J, S> {
     // Whether its store is slow, so that a flight takes to it what is to be stored.
-    pub(crate) fn is_slow(&self) -> bool {
+    pub(crate) fn is_slow(&self) -> bool
+        ensures { result ≡ self.now.slow }
+    {
         self.line.is_some()
     }
 
     // Whether a flight is under way.
-    pub(crate) fn is_away(&self) -> bool {
+    pub(crate) fn is_away(&self) -> bool
+        ensures { result ≡ self.now.away }
+    {
         match self.hold {
             Hold::Here(_) => false,
             Hold::Away(_) => true,
@@ -412,6 +423,7 @@ impl<'a, J: Series, S: Stable> Node<'a, J, S> {
     pub(crate) fn land(&mut self, landing: Landing<J, S>) -> Result<Cargo, WorkerFault>
         ensures member { self.new.member ≡ self.old.member }
         ensures took { OnOk result (IsOk landing.told) }
+        ensures here { OnOk result (self.new.away ≡ false) }
         ensures cargo { IfOk result (λ cargo. cargo ≡ landing.cargo) }
         ensures landed { IfOk result (λ cargo. self.new.core ≡ landed cargo.flight self.old.core) }
         ensures refused { OnErr result (self.new.core ≡ self.old.core) }
@@ -503,6 +515,9 @@ impl<'a, J: Series, S: Stable> DownNode<'a, J, S> {
         requires { length starts.now ≡ self.n }
         ensures member { IfOk result (λ node. node.member ≡ self.entry) }
         ensures round { IfOk result (λ node. node.core.round ≡ verdict.now.round) }
+        ensures back { IfOk result (λ node. node.core
+            ≡ settled self.entry.own node.core.now verdict.now.inc verdict.now.round starts.now) }
+        ensures interval { AreAlwaysClean S.is_clean → IfOk result (λ node. node.core.now.interval ≡ verdict.now.r) }
     {
         let DownNode {
             image,

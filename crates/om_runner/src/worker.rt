@@ -1,15 +1,15 @@
 //! What the thread of a process does.
 
-ghost use Rattle.std.specs.Prelude.{◌≡◌, ◌<◌, ◌+◌, ◌⊎◌, ◌↔◌, [], Contains, false, IfNone, IfOk, IfSome, IsSome, IsTrue, None, Ok, OnErr, OnOk, Some, length, slice_get, true};
+ghost use Rattle.std.specs.Prelude.{◌≡◌, ◌<◌, ◌+◌, ◌⊎◌, ◌↔◌, [], false, IfNone, IfOk, IfSome, IsSome, IsTrue, None, Ok, OnErr, OnOk, Some, length, slice_get, true};
 ghost use Rattle.om_member.specs.Handed.{outputs_from};
 ghost use Rattle.om_process.specs.Stores.{flushed};
 ghost use Rattle.om_process.specs.Core.{IsEnd};
-ghost use Rattle.om_runner.specs.steps.Acts.{HasDeclared, HasJoined, HasReleasedAnother, UnderLock};
+ghost use Rattle.om_format.specs.declared.message.Message.{Message};
+ghost use Rattle.om_runner.specs.steps.Acts.{HasDeclared, HasHeeded, HasJoined, HasReleasedAnother, UnderLock};
 ghost use Rattle.om_runner.specs.steps.Nodes.{AreAlwaysClean};
-ghost use Rattle.om_runner.specs.steps.Places.{member_of};
+ghost use Rattle.om_runner.specs.steps.Places.{IsLanded, member_of};
 ghost use Rattle.om_runner.specs.steps.Sights.{doing_at, sight_at, sight_of};
-ghost use Rattle.om_runner.specs.steps.Storing.{HasStored};
-ghost use Rattle.om_runner.specs.steps.Turning.{HasNothingToSay, HasReported, HasRested, IsTurnOf, pause_turns, place_after};
+ghost use Rattle.om_runner.specs.steps.Turning.{HasComeBack, HasNothingToSay, HasReported, HasRested, HasRisen, HasRun, IsLandedAt, IsOffered, IsTurnOf, WasTold, pause_turns, place_after};
 ghost use Rattle.om_runner.specs.steps.Wiring.{HasEnds};
 
 mod storing;
@@ -19,14 +19,13 @@ use crate::config::Config;
 use crate::harvest::Harvest;
 use crate::idle::{Idle, Pause};
 use crate::keeping::{Deposit, Due, Kept};
-use crate::links::Links;
+use crate::links::{Links, Taken};
 use crate::manager_link::{Limits, ManagerLink, RoundOutcome, Standing};
 use crate::network::Ends;
 use crate::node::{DownNode, Node, has_ended};
 use crate::patience::Patience;
 use crate::worker_fault::WorkerFault;
 use om_board::{Front, Look, Naming, Pass, Shared};
-use om_format::Message;
 use om_interval::{Pid, Verdict};
 use om_observers::{Diary, Doing, Observers, Past, Sight, Watch};
 use om_process::{Accept, PendingRow, ProcCore, Status, Witness};
@@ -39,6 +38,9 @@ use std::time::Clock;
 
 // What is left of a worker's turns where all wait, whatever it is.
 const ALL_TURNS: u64 = u64::MAX;
+
+// How many receipts of a log are stored where all are.
+const ALL_RECEIPTS: usize = usize::MAX;
 
 // Where the process of a worker stands.
 #[derive(Drop)]
@@ -114,17 +116,16 @@ enum Step {
 impl Step {
     // Where the process stands then.
     #[inline(never)]
-    fn place_of<'a, J: Series, S: Stable>(
-        self,
-        node: Node<'a, J, S>,
-    ) -> Result<Place<'a, J, S>, WorkerFault>
-        ensures { IfOk result (λ place. place ≡ place_after self node.entry) }
+    fn place_of<'a, J: Series, S: Stable>(self, node: Node<'a, J, S>) -> Place<'a, J, S>
+        requires landed { IsLandedAt self node }
+        ensures place { result ≡ place_after self node.entry }
+        ensures landed { IsLanded result }
     {
         match self {
-            Step::Up => Ok(Place::Up(node)),
-            Step::Called => Ok(Place::Called(node)),
-            Step::Failed => Ok(Place::Failed(node.fail()?)),
-            Step::Over => Ok(Place::Over(node)),
+            Step::Up => Place::Up(node),
+            Step::Called => Place::Called(node),
+            Step::Failed => Place::Failed(node.fail()),
+            Step::Over => Place::Over(node),
         }
     }
 }
@@ -197,16 +198,6 @@ fn last_checkpoint(rows: &[PendingRow]) -> u32 {
     last
 }
 
-// Whether k receipts or more came after interval `last` up to x; never of 0.
-fn is_reached(x: u32, last: u32, k: u32) -> bool {
-    k != 0 && x.saturating_sub(last) >= k
-}
-
-// Whether x receipts are a multiple of k; none are of 0.
-fn is_multiple(x: u32, k: u32) -> bool {
-    k != 0 && x % k == 0
-}
-
 // Passes a turn in which nothing happened: the worker yields for a while at first, where it has the patience, and sleeps.
 fn pause_of<R: Wait + Clock>(
     rt: &R,
@@ -240,13 +231,16 @@ fn after_round<'a, J: Series, S: Stable>(
     node: Node<'a, J, S>,
     round_outcome: &RoundOutcome,
 ) -> Result<Node<'a, J, S>, WorkerFault>
-    requires { length round_outcome.now.starts ≡ node.member.n }
+    requires starts { length round_outcome.now.starts ≡ node.member.n }
+    requires landed { node.away ≡ false }
     ensures member { IfOk result (λ next. next.member ≡ node.entry.member) }
     ensures round { IfOk result (λ next. next.core.round ≡ round_outcome.now.verdict.round) }
+    ensures heeded { let old = node.entry in
+        IfOk result (λ next. HasHeeded round_outcome.now old.member.own old.core next.core) }
 {
     if round_outcome.verdict.back {
         return node
-            .fail()?
+            .fail()
             .come_back(alloc, &round_outcome.starts, &round_outcome.verdict);
     }
     let mut node = node;
@@ -410,8 +404,10 @@ impl<'a, K: Naming> Worker<'a, K> {
         requires program { slice_get K.programs (member_of place).own ≡ Some (member_of place).program }
         requires size { (member_of place).n ≡ K.cell.n }
         requires clean { K.OverClean → AreAlwaysClean S.is_clean }
+        requires landed { IsLanded place }
         ensures same { self.new.links ≡ self.old.links }
         ensures place { IfOk result (λ r. member_of r.0 ≡ member_of place.entry) }
+        ensures landed { IfOk result (λ r. IsLanded r.0) }
         ensures turned { IfOk result (λ r. IsTurnOf K.cell.n self.old.manager_link.round place.entry r.0) }
     {
         self.extra = 0;
@@ -438,8 +434,10 @@ impl<'a, K: Naming> Worker<'a, K> {
         requires program { slice_get K.programs (member_of place).own ≡ Some (member_of place).program }
         requires size { (member_of place).n ≡ K.cell.n }
         requires clean { K.OverClean → AreAlwaysClean S.is_clean }
+        requires landed { IsLanded place }
         ensures same { self.new.links ≡ self.old.links }
         ensures place { IfOk result (λ r. member_of r.0 ≡ member_of place.entry) }
+        ensures landed { IfOk result (λ r. IsLanded r.0) }
     {
         if self.watch.is_none() {
             return self.turn(rt, alloc, place, pass);
@@ -485,13 +483,14 @@ impl<'a, K: Naming> Worker<'a, K> {
         requires clean { K.OverClean → AreAlwaysClean S.is_clean }
         ensures same { self.new.links ≡ self.old.links }
         ensures place { IfOk result (λ r. member_of r.0 ≡ node.entry.member) }
+        ensures landed { IfOk result (λ r. IsLanded r.0) }
     {
         if self.waits_for_others(rt) {
             return Ok((Place::Up(node), pass));
         }
         let mut node = node;
         match self.step(rt, alloc, &mut node) {
-            Ok(step) => Ok((step.place_of(node)?, pass)),
+            Ok(step) => Ok((step.place_of(node), pass)),
             Err(worker_fault) => {
                 drop(node);
                 Err(worker_fault)
@@ -513,12 +512,12 @@ impl<'a, K: Naming> Worker<'a, K> {
         requires clean { K.OverClean → AreAlwaysClean S.is_clean }
         ensures same { self.new.links ≡ self.old.links }
         ensures member { node.new.member ≡ node.old.member }
+        ensures landed { IfOk result (λ step. IsLandedAt step node.new) }
     {
         self.look(rt, node)?;
-        let step = self.advance(rt, alloc, node)?;
-        match step {
-            Step::Up => Ok(step),
-            Step::Called | Step::Failed | Step::Over => {
+        match self.advance(rt, alloc, node)? {
+            Step::Up => Ok(Step::Up),
+            step => {
                 self.recall(rt, node)?;
                 Ok(step)
             }
@@ -541,7 +540,7 @@ impl<'a, K: Naming> Worker<'a, K> {
         ensures member { node.new.member ≡ node.old.member }
     {
         let status = self.run(rt, alloc, node)?;
-        let called = self.manager_link.is_called();
+        let called = self.manager_link.is_called(self.manager_link.failures());
         let standing = self.report(rt, alloc, node, status, called)?;
         match standing {
             Standing::Closed => {
@@ -569,6 +568,9 @@ impl<'a, K: Naming> Worker<'a, K> {
         requires size { node.old.member.n ≡ K.cell.n }
         ensures same { self.new.links ≡ self.old.links }
         ensures member { node.new.member ≡ node.old.member }
+        ensures ran { IfOk result (λ status. HasRun node.old.core self.old.plan.now.fuel status node.new.core.now) }
+        ensures stored { IfOk result (λ status. IsEnd status → node.new.core.log ≡ []) }
+        ensures landed { IfOk result (λ status. IsEnd status → node.new.away ≡ false) }
     {
         if self.diary.is_kept() && !node.core().pending().is_empty() {
             // Of a run that is recorded what a process stores is noted before it runs on, so that both are one event.
@@ -635,10 +637,12 @@ impl<'a, K: Naming> Worker<'a, K> {
     ) -> Result<Step, WorkerFault>
         ensures same { self.new.links ≡ self.old.links }
         ensures member { node.new.member ≡ node.old.member }
+        ensures offered { OnOk result ((node.new.core ≡ node.old.core)
+            ⊎ ((message : Message) × IsOffered node.old.core message node.new.core.now)) }
     {
         if status == Status::Waiting {
-            if let Some(message) = self.take(rt) {
-                return self.accept(rt, alloc, node, &message);
+            if let Some(taken) = self.take(rt) {
+                return self.accept(rt, alloc, node, &taken);
             }
         } else if status != Status::Ready {
             if self.links.drain(rt) {
@@ -651,7 +655,7 @@ impl<'a, K: Naming> Worker<'a, K> {
     }
 
     // Takes a message, or rests; what ends the rest is taken at once.
-    fn take<R: Wait + Clock>(&mut self, rt: &R) -> Option<Message>
+    fn take<R: Wait + Clock>(&mut self, rt: &R) -> Option<Taken>
         ensures same { self.new.links ≡ self.old.links }
     {
         let taken = self.links.take(rt);
@@ -672,17 +676,19 @@ impl<'a, K: Naming> Worker<'a, K> {
         self.resent = false;
     }
 
-    // Offers a message to the process.
+    // Offers a message to the process, as it was taken.
     fn accept<J: Series, S: Ledger, R: Wait>(
         &mut self,
         rt: &R,
         alloc: Global,
         node: &mut Node<'a, J, S>,
-        message: &Message,
+        taken: &Taken,
     ) -> Result<Step, WorkerFault>
         ensures same { self.new.links ≡ self.old.links }
         ensures member { node.new.member ≡ node.old.member }
+        ensures offered { OnOk result (IsOffered node.old.core taken.now.message node.new.core.now) }
     {
+        let message = taken.message();
         let answer = node.accept(alloc, message);
         self.diary.gave(rt, message, answer)?;
         match answer {
@@ -723,7 +729,7 @@ impl<'a, K: Naming> Worker<'a, K> {
     // at once.
     fn wait<R: Wait + Clock>(&mut self, rt: &R) -> Pause
         ensures same { self.new.links ≡ self.old.links }
-        ensures waited { HasRested K.cell.n self.old.manager_link.pid self.old.manager_link.round self.new.extra }
+        ensures waited { HasRested K.cell.n self.old.manager_link.pid self.old.manager_link.round self.old.idle.turns result self.new.extra }
     {
         if self
             .manager_link
@@ -741,6 +747,7 @@ impl<'a, K: Naming> Worker<'a, K> {
     // Counts a pause of a process that is up.
     fn count<R: Wait>(&mut self, rt: &R, pause: Pause)
         ensures same { self.new.links ≡ self.old.links }
+        ensures counted { self.new.extra + 1 ≡ pause_turns self.old.idle.turns pause }
     {
         if self.pass(pause) {
             self.manager_link.offer(rt);
@@ -771,50 +778,6 @@ impl<'a, K: Naming> Worker<'a, K> {
         self.pass(pause);
     }
 
-    // What comes after the receipt that began interval x: a failure, or what is stored by its number.
-    fn after_receipt<J: Series, S: Ledger, R: Wait>(
-        &mut self,
-        rt: &R,
-        alloc: Global,
-        node: &mut Node<'a, J, S>,
-        x: u32,
-    ) -> Result<Step, WorkerFault>
-        ensures same { self.new.links ≡ self.old.links }
-        ensures member { node.new.member ≡ node.old.member }
-        ensures killed { Contains self.old.kills.items x → result ≡ Ok Step.Failed }
-    {
-        if self.is_to_fail(x) {
-            return Ok(Step::Failed);
-        }
-        if node.is_slow() {
-            self.launch(rt, alloc, node)?;
-            return Ok(Step::Up);
-        }
-        let is_flush_due = is_multiple(x, self.plan.flush);
-        let is_checkpoint_due = is_multiple(x, self.plan.checkpoint);
-        if is_flush_due || is_checkpoint_due {
-            // The senders of the receipts before a checkpoint are read from their records, where a run may take the store up.
-            let is_log_due = is_flush_due || self.kept.is_some();
-            let k = if is_log_due { usize::MAX } else { 0 };
-            self.store(alloc, node, k, is_checkpoint_due)?;
-        }
-        Ok(Step::Up)
-    }
-
-    // Whether the process is to fail in this interval, which is then done with.
-    fn is_to_fail(&mut self, x: u32) -> bool
-        ensures same { self.new.links ≡ self.old.links }
-        ensures named { IsTrue result ↔ Contains self.old.kills.items x }
-    {
-        match self.kills.iter().position(|kill| *kill == x) {
-            Some(i) => {
-                self.kills.swap_remove(i);
-                true
-            }
-            None => false,
-        }
-    }
-
     // Joins the open gathering, with all that the process has stored and handed in.
     #[inline(never)]
     fn join<J: Series, S: Stable, R: Wait>(
@@ -828,8 +791,10 @@ impl<'a, K: Naming> Worker<'a, K> {
         requires program { slice_get K.programs node.member.own ≡ Some node.member.program }
         requires size { node.member.n ≡ K.cell.n }
         requires clean { K.OverClean → AreAlwaysClean S.is_clean }
+        requires landed { node.away ≡ false }
         ensures same { self.new.links ≡ self.old.links }
         ensures place { IfOk result (λ r. member_of r.0 ≡ node.entry.member) }
+        ensures landed { IfOk result (λ r. IsLanded r.0) }
         ensures turned { IfOk result (λ r. IsTurnOf K.cell.n self.old.manager_link.round (Place.Called node.entry) r.0) }
     {
         let mut node = node;
@@ -854,8 +819,10 @@ impl<'a, K: Naming> Worker<'a, K> {
         requires program { slice_get K.programs node.old.member.own ≡ Some node.old.member.program }
         requires size { node.old.member.n ≡ K.cell.n }
         requires clean { K.OverClean → AreAlwaysClean S.is_clean }
+        requires landed { node.old.away ≡ false }
         ensures same { self.new.links ≡ self.old.links }
         ensures member { node.new.member ≡ node.old.member }
+        ensures landed { node.new.away ≡ false }
         ensures joined { OnOk result (UnderLock K.cell.n (λ before after.
             HasJoined before.manager node.old.member.own (flushed node.old.core) after.manager node.new.core)) }
     {
@@ -883,6 +850,7 @@ impl<'a, K: Naming> Worker<'a, K> {
         requires { down_node.own ≡ self.old.links.own }
         ensures same { self.new.links ≡ self.old.links }
         ensures place { IfOk result (λ r. member_of r.0 ≡ down_node.entry) }
+        ensures landed { IfOk result (λ r. IsLanded r.0) }
         ensures turned { IfOk result (λ r. IsTurnOf K.cell.n self.old.manager_link.round (Place.Failed down_node.entry) r.0) }
     {
         let pass = self.manager_link.declare(rt, alloc, &mut self.diary, pass)?;
@@ -900,29 +868,50 @@ impl<'a, K: Naming> Worker<'a, K> {
         node: Node<'a, J, S>,
         pass: Pass<K>,
     ) -> Result<(Place<'a, J, S>, Pass<K>), WorkerFault>
+        requires own { node.member.own ≡ self.old.links.own }
         requires size { node.member.n ≡ K.cell.n }
+        requires landed { node.away ≡ false }
         ensures same { self.new.links ≡ self.old.links }
         ensures place { IfOk result (λ r. member_of r.0 ≡ node.entry.member) }
+        ensures landed { IfOk result (λ r. IsLanded r.0) }
+        ensures turned { IfOk result (λ r. IsTurnOf K.cell.n self.old.manager_link.round (Place.In node.entry) r.0) }
     {
-        let (round_outcome, pass) = match self.listen(rt, alloc, pass) {
-            Ok(round_outcome) => round_outcome,
+        let (told, pass) = match self.listen(rt, alloc, pass) {
+            Ok(heard) => heard,
             Err(worker_fault) => {
                 drop(node);
                 return Err(worker_fault);
             }
         };
-        let place = match round_outcome {
-            None => Place::In(node),
-            Some(round_outcome) => {
-                let is_back = round_outcome.verdict.back;
-                if is_back {
-                    self.past.cut(round_outcome.verdict.r);
-                }
-                let node = after_round(alloc, node, &round_outcome)?;
-                self.up_again(rt, node, &round_outcome.verdict, is_back)?
+        match told {
+            None => Ok((Place::In(node), pass)),
+            Some(told) => {
+                let place = self.rise(rt, alloc, node, &told)?;
+                Ok((place, pass))
             }
-        };
-        Ok((place, pass))
+        }
+    }
+
+    // Goes on after a finished round as its verdict says.
+    #[inline(never)]
+    fn rise<J: Series, S: Stable, R: Wait>(
+        &mut self,
+        rt: &R,
+        alloc: Global,
+        node: Node<'a, J, S>,
+        told: &RoundOutcome,
+    ) -> Result<Place<'a, J, S>, WorkerFault>
+        requires starts { length told.now.starts ≡ node.member.n }
+        requires landed { node.away ≡ false }
+        ensures same { self.new.links ≡ self.old.links }
+        ensures risen { IfOk result (λ place. HasRisen told.now node.entry place) }
+    {
+        let is_back = told.verdict.back;
+        if is_back {
+            self.past.cut(told.verdict.r);
+        }
+        let node = after_round(alloc, node, told)?;
+        self.up_again(rt, node, &told.verdict, is_back)
     }
 
     // Tells that the process is up again. It stands as the round left it, and so does its store.
@@ -936,7 +925,7 @@ impl<'a, K: Naming> Worker<'a, K> {
     ) -> Result<Place<'a, J, S>, WorkerFault>
         requires { node.core.round ≡ verdict.now.round }
         ensures same { self.new.links ≡ self.old.links }
-        ensures place { IfOk result (λ place. member_of place ≡ node.entry.member) }
+        ensures place { IfOk result (λ place. place ≡ Place.Up node.entry) }
     {
         self.links.tell_all_received(node.core());
         if is_back {
@@ -963,24 +952,39 @@ impl<'a, K: Naming> Worker<'a, K> {
         down_node: DownNode<'a, J, S>,
         pass: Pass<K>,
     ) -> Result<(Place<'a, J, S>, Pass<K>), WorkerFault>
+        requires own { down_node.own ≡ self.old.links.own }
         requires size { down_node.n ≡ K.cell.n }
         ensures same { self.new.links ≡ self.old.links }
         ensures place { IfOk result (λ r. member_of r.0 ≡ down_node.entry) }
+        ensures landed { IfOk result (λ r. IsLanded r.0) }
+        ensures turned { IfOk result (λ r. IsTurnOf K.cell.n self.old.manager_link.round (Place.Down down_node.entry) r.0) }
     {
-        let (round_outcome, pass) = self.listen(rt, alloc, pass)?;
-        let place = match round_outcome {
-            None => Place::Down(down_node),
-            Some(round_outcome) => {
-                self.past.cut(round_outcome.verdict.r);
-                let node = down_node.come_back(
-                    alloc,
-                    &round_outcome.starts,
-                    &round_outcome.verdict,
-                )?;
-                self.up_again(rt, node, &round_outcome.verdict, true)?
+        let (told, pass) = self.listen(rt, alloc, pass)?;
+        match told {
+            None => Ok((Place::Down(down_node), pass)),
+            Some(told) => {
+                let place = self.come_back(rt, alloc, down_node, &told)?;
+                Ok((place, pass))
             }
-        };
-        Ok((place, pass))
+        }
+    }
+
+    // Comes back after a finished round.
+    #[inline(never)]
+    fn come_back<J: Series, S: Stable, R: Wait>(
+        &mut self,
+        rt: &R,
+        alloc: Global,
+        down_node: DownNode<'a, J, S>,
+        told: &RoundOutcome,
+    ) -> Result<Place<'a, J, S>, WorkerFault>
+        requires { length told.now.starts ≡ down_node.n }
+        ensures same { self.new.links ≡ self.old.links }
+        ensures back { IfOk result (λ place. HasComeBack told.now down_node.entry place) }
+    {
+        self.past.cut(told.verdict.r);
+        let node = down_node.come_back(alloc, &told.starts, &told.verdict)?;
+        self.up_again(rt, node, &told.verdict, true)
     }
 
     // What the manager says of a round that is finished and that the process does not know yet, if there is one. After it all
@@ -993,6 +997,7 @@ impl<'a, K: Naming> Worker<'a, K> {
     ) -> Result<(Option<RoundOutcome>, Pass<K>), WorkerFault>
         ensures same { self.new.links ≡ self.old.links }
         ensures starts { IfOk result (λ r. IfSome r.0 (λ round_outcome. length round_outcome.starts ≡ K.cell.n)) }
+        ensures heard { IfOk result (λ r. IfSome r.0 (λ told. WasTold K.cell.n self.old.manager_link.pid told)) }
     {
         let mut pass = pass;
         let front = self.manager_link.read(rt, &mut pass);

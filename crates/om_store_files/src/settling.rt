@@ -4,13 +4,15 @@ use crate::names::{is_written, log_of, store_of};
 use sqlite::Connection;
 use std::alloc::AllocError;
 use std::fs;
+use std::thread::{Threads, map_indices};
 
 /// Copies the logs of the databases of so many processes into their files, and removes them: each store is in its one file.
 /// What cannot be settled stays as it is, a whole store in two files.
-pub fn settle(rt: &HostRuntime, prefix: &str, n: usize) {
-    for process in 0..n {
-        let _ = settle_one(rt, prefix, process);
-    }
+///
+/// Each store in a thread of its own: what a disk takes to sync many files at once is little more than it takes for one.
+pub fn settle<R: Threads + Sync>(threads: &R, rt: &HostRuntime, prefix: &str, n: usize) {
+    let settles = |process: usize| -> bool { settle_one(rt, prefix, process).is_ok() };
+    let _ = map_indices(threads, rt.alloc(), n, &settles);
 }
 
 // The log is removed where it was copied to its end.

@@ -219,7 +219,7 @@ of_take (x ∷ h) (suc k) zero r at = at
 of_take (x ∷ h) (suc k) (suc i) r at = of_take h k i r at
 
 -- the recovery state is closed
-state_closed : (w : WorldState) (p q : ℕ) → HasShape w → Sound w → q ≢ p → greatest_from q (take (recovered w.manager p) (history (past_of w) p)) ≤ recovered w.manager q
+pub state_closed : (w : WorldState) (p q : ℕ) → HasShape w → Sound w → q ≢ p → greatest_from q (take (recovered w.manager p) (history (past_of w) p)) ≤ recovered w.manager q
 state_closed w p q h s other = elim (less p n) [
   | inr ge ↦ let size = h.size in let none = beyond w.manager.recovery p (omega arith) in subst (λ k. greatest_from q (take k (history (past_of w) p)) ≤ recovered w.manager q) (sym none) (omega arith)
   | inl lt ↦ elim (less q n) [
@@ -248,7 +248,7 @@ state_closed w p q h s other = elim (less p n) [
     apart false is = rw is refl
 
 -- ---- outputs of a finished round
-front_at : (xs ys : List HeldOutput) (i : ℕ) (o : HeldOutput) → slice_get xs i ≡ Some o → slice_get (xs ++ ys) i ≡ Some o
+pub front_at : (xs ys : List HeldOutput) (i : ℕ) (o : HeldOutput) → slice_get xs i ≡ Some o → slice_get (xs ++ ys) i ≡ Some o
 front_at [] ys i o at = absurd (none_in i o at)
 front_at (x ∷ xs) ys zero o at = at
 front_at (x ∷ xs) ys (suc i) o at = front_at xs ys i o at
@@ -263,7 +263,7 @@ filtered_at true x rest zero o at = inl (refl, once x o at)
 filtered_at true x rest (suc i) o at = inr (i, at)
 filtered_at false x rest i o at = inr (i, at)
 
-within_at : (xs : List HeldOutput) (limit i : ℕ) (o : HeldOutput) → slice_get (within xs limit) i ≡ Some o → o.interval ≤ limit
+pub within_at : (xs : List HeldOutput) (limit i : ℕ) (o : HeldOutput) → slice_get (within xs limit) i ≡ Some o → o.interval ≤ limit
 within_at [] limit i o at = absurd (none_in i o at)
 within_at (x ∷ xs) limit i o at = elim (filtered_at (nat_le x.interval limit) x (within xs limit) i o at) [
   | inl here ↦ subst (λ (y : HeldOutput). y.interval ≤ limit) here.1 (low x.interval limit here.0)

@@ -29,6 +29,7 @@ pub mod Handing
 pub mod Running
 pub mod Pruning
 pub mod Finish
+pub mod Disk
 pub mod Legal
 pub mod Released
 pub mod Counting

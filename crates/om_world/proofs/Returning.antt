@@ -176,10 +176,10 @@ stored_along v p held (suc k) y s le has =
 
 -- ---- what the manager's rows say of a store
 -- from this checkpoint on the store has all that a replay to x wants
-record Serves (held : Content) (c x : ℕ) : Type 0 where
-  within : c ≤ x
-  checkpoint : IsSome (get held.checkpoints c)
-  receipts : (y : ℕ) → c < y → y ≤ x → IsSome (get held.receipts y)
+pub record Serves (held : Content) (c x : ℕ) : Type 0 where
+  pub within : c ≤ x
+  pub checkpoint : IsSome (get held.checkpoints c)
+  pub receipts : (y : ℕ) → c < y → y ≤ x → IsSome (get held.receipts y)
 
 backed_has : (w : WorldState) (p x : ℕ) (kind : RowKind) (held : Content) → Sound w → slice_get w.contents p ≡ Some held → Has w.manager.rows kind p x → HasBytes held kind x ⊎ IsOld w.manager p kind x
 backed_has w p x kind held s at has =
@@ -221,7 +221,7 @@ here_or_later w p d held s at le there logged = elim (backed_has w p d Checkpoin
   ]
 ]
 
-serves : (w : WorldState) (p : ℕ) (held : Content) (k d : ℕ) → Sound w → slice_get w.contents p ≡ Some held → recovered w.manager p ≤ d + k → d ≤ recovered w.manager p → Has w.manager.rows Checkpoint p d
+pub serves : (w : WorldState) (p : ℕ) (held : Content) (k d : ℕ) → Sound w → slice_get w.contents p ≡ Some held → recovered w.manager p ≤ d + k → d ≤ recovered w.manager p → Has w.manager.rows Checkpoint p d
     → ((y : ℕ) → d < y → y ≤ recovered w.manager p → Has w.manager.rows Log p y) → (c : ℕ) × Serves held c (recovered w.manager p)
 serves w p held zero d s at enough le there logged = elim (here_or_later w p d held s at le there logged) [
   | inl here ↦ (d, here)

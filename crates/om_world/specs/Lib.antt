@@ -1,6 +1,7 @@
 pub mod Live
 pub mod World
 pub mod Holds
+pub mod Disk
 pub mod Changes
 pub mod Failures
 pub mod Happened

@@ -8,7 +8,7 @@
 //!
 //! - what there is: `event` (events and answers), `world` (the parts, and the reads), `place`, `entry` and `live` (what was
 //!   received), `laws` (theorems over the definitions)
-//! - `start`, and `play`: one event after another
+//! - `start`, and `play`: one event after another; `stopping`: the end, of which the stores are left
 //! - the events: `run`, `give`, `frames` (what is sent), `storing` (flushes and checkpoints), `failing`, `joining`, `resume`, `trim`,
 //!   `prune`
 #![tactic(auto)]
@@ -32,6 +32,7 @@ mod prune;
 mod resume;
 mod run;
 mod start;
+mod stopping;
 mod storing;
 mod trim;
 mod world;

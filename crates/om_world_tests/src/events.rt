@@ -529,7 +529,7 @@ pub fn pair(alloc: Global) -> Result<World<MemStable>, StartFault> {
 }
 
 // Process 1 takes both messages, and stores one receipt, none, what is left, and nothing more.
-static STORED_IN_PARTS: [Event; 12] = [
+pub static STORED_IN_PARTS: [Event; 12] = [
     Event::Run {
         process: 0,
         fuel: 100,

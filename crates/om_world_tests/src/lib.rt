@@ -7,3 +7,5 @@ mod events;
 mod refused_memory;
 #[cfg(test)]
 mod spelled;
+#[cfg(test)]
+mod stopped;

@@ -24,6 +24,7 @@ use std::fmt::Display;
 use std::fs::File;
 use std::io::Write;
 use std::sync::Wait;
+use std::thread::Threads;
 use std::{fs, io};
 
 // A run that is asked for.
@@ -56,7 +57,7 @@ pub(crate) struct Surroundings<'a, 'w, R> {
     file: Option<File>,
 }
 
-impl<'a, 'w, R: Wait> RunContext for Surroundings<'a, 'w, R> {
+impl<'a, 'w, R: Threads + Wait + Sync> RunContext for Surroundings<'a, 'w, R> {
     fn random_kills(&self) -> Option<RandomKills> {
         let Kills { count, seed } = self.job.running.kills?;
         let count = count as usize;
@@ -105,7 +106,7 @@ impl<'a, 'w, R: Wait> RunContext for Surroundings<'a, 'w, R> {
     }
 }
 
-impl<'a, 'w, R: Wait> Surroundings<'a, 'w, R> {
+impl<'a, 'w, R: Threads + Wait + Sync> Surroundings<'a, 'w, R> {
     // Of a run for which nothing is made yet.
     pub(crate) fn new(
         rt: &'a HostRuntime,
@@ -217,7 +218,7 @@ impl<'a, 'w, R: Wait> Surroundings<'a, 'w, R> {
     // Puts each store into its one file.
     fn settle(&self, script: &ClusterScript) {
         if let Some(prefix) = self.job.running.prefix {
-            settle(self.rt, prefix, script.programs().n());
+            settle(self.threads, self.rt, prefix, script.programs().n());
         }
     }
 

@@ -1,8 +1,9 @@
 -- What is done with the board, from when its lock is had to when the lock goes.
-use Rattle.std.specs.Prelude.{◌≡◌, ◌≢◌, ◌↔◌, ℕ, List, [], Any, is_some, length, map, slice_index, slice_set, Bool, IsTrue, true, None, Option, IfNone, IfSome, Ok}
+use Rattle.std.specs.Prelude.{◌≡◌, ◌≢◌, ◌↔◌, ℕ, List, [], Any, is_some, length, map, slice_index, slice_set, Bool, IsTrue, true, false, None, Option, IfNone, IfSome, Ok}
 use Rattle.om_interval.specs.Starts.{is_named, newest_of}
 use Rattle.om_interval.specs.declared.verdict.Verdict.{Verdict}
-use Rattle.om_process.specs.Core.{CoreState, with_pending}
+use Rattle.om_process.specs.Core.{CoreState, settled, with_pending}
+use Rattle.om_process.specs.Resumes.{resumed}
 use Rattle.om_process.specs.declared.queues.Made.{Made}
 use Rattle.om_process.specs.declared.row.PendingRow.{PendingRow}
 use Rattle.om_recover.specs.Cutting.{IsEffective, IsPruned}
@@ -18,6 +19,7 @@ use Rattle.om_member.specs.Handed.{AreHanded, outputs_from}
 use Rattle.om_member.specs.Keeps.{Keeps}
 use Rattle.om_member.specs.Told.{AreTold}
 use Rattle.om_runner.specs.declared.manager_link.Limits.{Limits}
+use Rattle.om_runner.specs.declared.manager_link.RoundOutcome.{RoundOutcome}
 use Rattle.om_runner.specs.declared.manager_link.Standing.{Standing}
 use Rattle.om_runner.specs.declared.manager_link.Standing.TheVariants.{Gathers, Quiet}
 
@@ -85,6 +87,17 @@ pub record IsVerdictOf (m : ManagerState) (p : ℕ) (verdict : Verdict) : Type 0
   pub inc : verdict.inc ≡ newest_of m.starts p
   pub r : verdict.r ≡ slice_index m.last p
   pub back : verdict.back ≡ is_named m.backs p
+
+-- the process was told of the last finished round, with the starts of all, and nothing changed
+pub record HasHeard (before : ManagerState) (p : ℕ) (told : RoundOutcome) : Type 0 where
+  pub starts : told.starts ≡ before.starts
+  pub verdict : IsVerdictOf before p told.verdict
+
+-- what becomes of a process by a finished round: it comes back as it was in its verdict's interval, with nothing volatile, or
+-- goes on as it was; and it knows the round and the starts
+pub record HasHeeded (told : RoundOutcome) (own : ℕ) (old new : CoreState) : Type 0 where
+  pub back : told.verdict.back ≡ true → new ≡ settled own new.now told.verdict.inc told.verdict.round told.starts
+  pub on : told.verdict.back ≡ false → new ≡ resumed old told.verdict.round told.starts
 
 -- a process told that it puts anew all that it keeps, where it might
 pub record HasOffered (before : BoardState) (p round : ℕ) (after : BoardState) : Type 0 where

@@ -6,6 +6,7 @@ use Rattle.om_process.specs.Images.{program_of}
 use Rattle.om_process.specs.Process.{Program}
 use Rattle.om_process.specs.declared.image.Image.{Image}
 use Rattle.om_process.specs.declared.status.Status.{Status}
+pub use Rattle.om_runner.specs.Reports.{AreWholeOver}
 use Rattle.om_runner.specs.Reports.{IsWholeRun, process_of}
 use Rattle.om_process.specs.Core.{IsEnd}
 use Rattle.om_runner.specs.declared.config.Config.{Config}
@@ -17,7 +18,7 @@ use Rattle.om_runner.specs.declared.cluster.Turned.{Turned}
 use Rattle.om_runner.specs.declared.cluster.Turned.TheVariants.{On, Over}
 use Rattle.om_runner.specs.steps.Network.{Lines}
 use Rattle.om_runner.specs.steps.Nodes.{Member}
-use Rattle.om_runner.specs.steps.Places.{member_of}
+use Rattle.om_runner.specs.steps.Places.{IsLanded, member_of}
 use Rattle.om_runner.specs.steps.Wiring.{HasEnds}
 
 -- how a process ended, with its outputs, its store and its passes: over a clean store the outputs are all that it had made
@@ -27,20 +28,12 @@ pub record IsEndOf {K S : Type 0} (is_clean : S → Bool) (program : Program) (l
   pub whole : IsTrue (is_clean f.store) → IsWholeRun program own n f.status (length f.harvest.outputs.items)
   pub ends : HasEnds n lines own f.ends
 
--- a turn leaves the process the member that it is, or it has ended so
+-- a turn leaves the process the member that it is, with no flight under way where it does not run on, or it has ended so
 abbrev pub IsTurned : {K J S : Type 0} → (S → Bool) → Member → Turned K J S → Type 0
-IsTurned is_clean m (On place pass) = member_of place ≡ m
+IsTurned is_clean m (On place pass) = (member_of place ≡ m) × IsLanded place
 IsTurned is_clean m (Over status harvest store) =
     IsEnd status × (harvest.own ≡ m.own)
     × (IsTrue (is_clean store) → IsWholeRun m.program m.own m.n status (length harvest.outputs.items))
-
--- by process: where its store is clean, it comes to its status along its image, and its outputs are as many as it has then made
-abbrev pub AreWholeOver : {S : Type 0} → (S → Bool) → List Image → List Status → List (Vec Output Global) → List S → Type 0
-AreWholeOver is_clean images statuses released stores =
-    (p : ℕ) (image : Image) (status : Status) (outputs : Vec Output Global) (store : _)
-    → slice_get images p ≡ Some image → slice_get statuses p ≡ Some status → slice_get released p ≡ Some outputs
-    → slice_get stores p ≡ Some store → IsTrue (is_clean store)
-    → IsWholeRun (program_of image) p (length images) status (length outputs.items)
 
 -- by process: where its store is clean, it comes to its status along its image, and of the outputs that it has then made none
 -- is left out

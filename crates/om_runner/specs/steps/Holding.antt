@@ -1,5 +1,5 @@
 -- Where the store of a process is.
-use Rattle.std.specs.Prelude.{◌≡◌, Bool, IsTrue}
+use Rattle.std.specs.Prelude.{◌≡◌, Bool, true, false, IsTrue}
 use Rattle.om_process.specs.Core.{CoreState}
 use Rattle.om_process.specs.Flights.{CarriesCheckpoint}
 use Rattle.om_stable.specs.Content.{Content}
@@ -7,11 +7,16 @@ use Rattle.om_runner.specs.declared.cargo.Cargo.{Cargo}
 use Rattle.om_runner.specs.declared.node.Hold.{Hold}
 use Rattle.om_runner.specs.declared.node.Hold.TheVariants.{Here, Away}
 use Rattle.om_runner.specs.steps.Flying.{IsTicketOf, cargo_of, store_of}
-use Rattle.om_runner.specs.steps.Nodes.{IsNode, IsOnWay, Member, NodeState}
+use Rattle.om_runner.specs.steps.Nodes.{IsNode, IsOnWay, Member, MemberState}
 
 -- the checkpoint that a process handed over, if it did, is of a state on its way
 abbrev pub FliesOnWay : Member → Cargo → Type 0
 FliesOnWay m cargo = (c : CoreState) × (due : Bool) × IsOnWay m c.now × CarriesCheckpoint due c cargo.flight.checkpoint
+
+-- whether it is with a flight
+abbrev pub is_away : {J S : Type 0} → Hold J S → Bool
+is_away (Here store) = false
+is_away (Away ticket) = true
 
 -- the store that a process has, or had as its flight began
 abbrev pub IsStoreOf : {J S : Type 0} → Hold J S → S → Type 0
@@ -25,7 +30,7 @@ IsAloft is_clean m (Away ticket) =
     (went : _) × IsTicketOf ticket went × (IsTrue (is_clean (store_of went)) → FliesOnWay m (cargo_of went))
 
 -- what holds of a member, wherever its store is: with the store that it has, or as it went
-pub record IsHeld {J S : Type 0} (content : S → Content) (is_clean : S → Bool) (IsSound : S → Type 0) (d : NodeState) (hold : Hold J S)
+pub record IsHeld {J S : Type 0} (content : S → Content) (is_clean : S → Bool) (IsSound : S → Type 0) (d : MemberState) (hold : Hold J S)
     : Type 0 where
   pub store : S
   pub is : IsStoreOf hold store

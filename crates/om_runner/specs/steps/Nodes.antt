@@ -17,9 +17,16 @@ pub record Member : Type 0 where
   pub n : ℕ
 
 -- and as it runs
+pub record MemberState : Type 0 where
+  pub member : Member
+  pub core : CoreState
+
+-- one that is up: as it runs, whether its store is away with a flight, and whether flights take to it what is to be stored
 pub record NodeState : Type 0 where
   pub member : Member
   pub core : CoreState
+  pub away : Bool
+  pub slow : Bool
 
 -- the process stands where some receipts lead, with fewer entries kept
 abbrev pub IsOnWay : Member → Process → Type 0
@@ -37,7 +44,7 @@ pub record IsKept {S : Type 0} (content : S → Content) (is_clean : S → Bool)
   pub stored : IsTrue (is_clean store) → AreOnWay m (content store)
 
 -- what holds of a member that runs over a store
-pub record IsNode {S : Type 0} (content : S → Content) (is_clean : S → Bool) (IsSound : S → Type 0) (d : NodeState) (store : S)
+pub record IsNode {S : Type 0} (content : S → Content) (is_clean : S → Bool) (IsSound : S → Type 0) (d : MemberState) (store : S)
     : Type 0 where
   pub own : d.core.own ≡ d.member.own
   pub size : cluster_size d.core.now ≡ d.member.n

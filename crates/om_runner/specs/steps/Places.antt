@@ -1,4 +1,5 @@
 -- Whose place it is.
+use Rattle.std.specs.Prelude.{◌≡◌, false}
 use Rattle.om_runner.specs.steps.Nodes.{Member}
 use Rattle.om_runner.specs.declared.worker.Place.{Place}
 use Rattle.om_runner.specs.declared.worker.Place.TheVariants.{Up, Called, In, Failed, Down, Over}
@@ -11,3 +12,12 @@ member_of (In node) = node.member
 member_of (Failed down_node) = down_node
 member_of (Down down_node) = down_node
 member_of (Over node) = node.member
+
+-- no flight of a process is under way that does not run on
+abbrev pub IsLanded : {J S : Type 0} → Place J S → Type 0
+IsLanded (Up node) = Unit {0}
+IsLanded (Called node) = node.away ≡ false
+IsLanded (In node) = node.away ≡ false
+IsLanded (Failed down_node) = Unit {0}
+IsLanded (Down down_node) = Unit {0}
+IsLanded (Over node) = node.away ≡ false

@@ -1,10 +1,12 @@
 //! What a worker stores, and when.
 
-ghost use Rattle.std.specs.Prelude.{◌≡◌, IfSome, IsSome, None, OnErr, OnOk, length};
+ghost use Rattle.std.specs.Prelude.{◌≡◌, ◌↔◌, ◌&&◌, ◌||◌, ◌++◌, ◌∷◌, [], Contains, IfNone, IfOk, IfSome, IsSome, IsTrue, None, Ok, OnErr, OnOk, false, is_some, length};
 ghost use Rattle.om_process.specs.Flights.{landed};
+ghost use Rattle.om_process.specs.Trims.{trimmed};
 ghost use Rattle.om_runner.specs.steps.Storing.{HasStored};
+ghost use Rattle.om_runner.specs.steps.Turning.{HasStoredBy, is_multiple_of};
 
-use super::{Worker, is_reached};
+use super::{ALL_RECEIPTS, Step, Worker};
 use crate::flying::Landing;
 use crate::keeping::{Deposit, Due};
 use crate::manager_link::Limits;
@@ -16,7 +18,96 @@ use om_tickets::Series;
 use std::alloc::Global;
 use std::sync::Wait;
 
+// Whether k receipts or more came after interval `last` up to x; never of 0.
+fn is_reached(x: u32, last: u32, k: u32) -> bool {
+    k != 0 && x.saturating_sub(last) >= k
+}
+
+// Whether x receipts are a multiple of k; none are of 0.
+fn is_multiple(x: u32, k: u32) -> bool
+    ensures { result ≡ is_multiple_of x k }
+{
+    k != 0 && x % k == 0
+}
+
+// Whether the log is stored. The senders of the receipts before a checkpoint are read from their records, where a run may take the
+// store up.
+fn is_log_due(is_flush_due: bool, is_checkpoint_due: bool, is_kept: bool) -> bool
+    ensures { result ≡ (is_flush_due || (is_kept && is_checkpoint_due)) }
+{
+    is_flush_due || (is_kept && is_checkpoint_due)
+}
+
 impl<'a, K: Naming> Worker<'a, K> {
+    // What comes after the receipt that began interval x: a failure, or what is stored by its number.
+    pub(super) fn after_receipt<J: Series, S: Ledger, R: Wait>(
+        &mut self,
+        rt: &R,
+        alloc: Global,
+        node: &mut Node<'a, J, S>,
+        x: u32,
+    ) -> Result<Step, WorkerFault>
+        ensures same { self.new.links ≡ self.old.links }
+        ensures member { node.new.member ≡ node.old.member }
+        ensures now { node.new.core.now ≡ node.old.core.now }
+        ensures killed { Contains self.old.kills.items x → result ≡ Ok Step.Failed }
+        ensures spared { (Contains self.old.kills.items x → ⊥) → IfOk result (λ step. step ≡ Step.Up) }
+        ensures stored { let w = self.old in (Contains w.kills.items x → ⊥) → node.old.slow ≡ false
+            → OnOk result (HasStoredBy x w.plan.now.flush w.plan.now.checkpoint (is_some w.kept) node.old.core node.new.core) }
+    {
+        if self.is_to_fail(x) {
+            return Ok(Step::Failed);
+        }
+        if node.is_slow() {
+            self.launch(rt, alloc, node)?;
+        } else {
+            self.store_by(alloc, node, x)?;
+        }
+        Ok(Step::Up)
+    }
+
+    // Stores what is due after receipt x, by its number.
+    fn store_by<J: Series, S: Ledger>(
+        &mut self,
+        alloc: Global,
+        node: &mut Node<'a, J, S>,
+        x: u32,
+    ) -> Result<(), WorkerFault>
+        ensures same { self.new.links ≡ self.old.links }
+        ensures member { node.new.member ≡ node.old.member }
+        ensures now { node.new.core.now ≡ node.old.core.now }
+        ensures stored { let w = self.old in OnOk result
+            (HasStoredBy x w.plan.now.flush w.plan.now.checkpoint (is_some w.kept) node.old.core node.new.core) }
+    {
+        let is_flush_due = is_multiple(x, self.plan.flush);
+        let is_checkpoint_due = is_multiple(x, self.plan.checkpoint);
+        if is_log_due(is_flush_due, is_checkpoint_due, self.kept.is_some()) {
+            self.store(alloc, node, ALL_RECEIPTS, is_checkpoint_due)?;
+            return Ok(());
+        }
+        if is_checkpoint_due {
+            self.store(alloc, node, 0, true)?;
+            return Ok(());
+        }
+        Ok(())
+    }
+
+    // Whether the process is to fail in this interval, which is then done with.
+    fn is_to_fail(&mut self, x: u32) -> bool
+        ensures same { self.new.links ≡ self.old.links }
+        ensures plan { self.new.plan ≡ self.old.plan }
+        ensures kept { self.new.kept ≡ self.old.kept }
+        ensures named { IsTrue result ↔ Contains self.old.kills.items x }
+    {
+        match self.kills.iter().position(|kill| *kill == x) {
+            Some(i) => {
+                self.kills.swap_remove(i);
+                true
+            }
+            None => false,
+        }
+    }
+
     // Heeds the limits that were read, where there are some; of a process that has ended nothing stays due.
     pub(super) fn heed<J: Series, S: Ledger>(
         &mut self,
@@ -28,6 +119,9 @@ impl<'a, K: Naming> Worker<'a, K> {
         requires { IfSome limits (λ l. length l.bounds.got ≡ node.old.member.n) }
         ensures same { self.new.links ≡ self.old.links }
         ensures member { node.new.member ≡ node.old.member }
+        ensures trimmed { OnOk result (IfSome limits (λ l. node.new.core.now
+            ≡ trimmed (l.bounds.got ++ l.bounds.released ∷ []) node.old.core.now)) }
+        ensures untrimmed { IfNone limits (node.new.core.now ≡ node.old.core.now) }
     {
         if let Some(limits) = limits {
             self.owe(alloc, node, &limits)?;
@@ -50,6 +144,8 @@ impl<'a, K: Naming> Worker<'a, K> {
         ensures member { node.new.member ≡ node.old.member }
         ensures due { OnOk result (IfSome self.new.due (λ due. due.checkpoint ≡ limits.now.checkpoint)) }
         ensures owed { OnOk result (IsSome self.new.due) }
+        ensures trimmed { OnOk result (node.new.core.now
+            ≡ trimmed (limits.now.bounds.got ++ limits.now.bounds.released ∷ []) node.old.core.now) }
     {
         self.settle(alloc, node)?;
         let deposit = match &self.kept {
@@ -72,6 +168,7 @@ impl<'a, K: Naming> Worker<'a, K> {
     ) -> Result<(), WorkerFault>
         ensures same { self.new.links ≡ self.old.links }
         ensures member { node.new.member ≡ node.old.member }
+        ensures now { node.new.core.now ≡ node.old.core.now }
         ensures settled { OnOk result (self.new.due ≡ None) }
     {
         if self.due.is_some() {
@@ -90,6 +187,7 @@ impl<'a, K: Naming> Worker<'a, K> {
     ) -> Result<(), WorkerFault>
         ensures same { self.new.links ≡ self.old.links }
         ensures member { node.new.member ≡ node.old.member }
+        ensures now { node.new.core.now ≡ node.old.core.now }
         ensures stored { OnOk result (HasStored k is_checkpoint_due node.old.core node.new.core) }
         ensures refused { OnErr result (node.new.core ≡ node.old.core) }
         ensures settled { OnOk result (self.new.due ≡ None) }
@@ -115,6 +213,7 @@ impl<'a, K: Naming> Worker<'a, K> {
     ) -> Result<(), WorkerFault>
         ensures same { self.new.links ≡ self.old.links }
         ensures member { node.new.member ≡ node.old.member }
+        ensures now { node.new.core.now ≡ node.old.core.now }
     {
         if !node.is_slow() || node.is_away() || !node.core().pending().is_empty() {
             return Ok(());
@@ -142,6 +241,7 @@ impl<'a, K: Naming> Worker<'a, K> {
     ) -> Result<(), WorkerFault>
         ensures same { self.new.links ≡ self.old.links }
         ensures member { node.new.member ≡ node.old.member }
+        ensures now { node.new.core.now ≡ node.old.core.now }
     {
         let x = node.core().interval();
         let mut k = 0;
@@ -187,8 +287,10 @@ impl<'a, K: Naming> Worker<'a, K> {
     ) -> Result<(), WorkerFault>
         ensures same { self.new.links ≡ self.old.links }
         ensures member { node.new.member ≡ node.old.member }
+        ensures landed { OnOk result (node.new.away ≡ false) }
+        ensures now { node.new.core.now ≡ node.old.core.now }
     {
-        if !self.is_away {
+        if !node.is_away() {
             return Ok(());
         }
         match node.wait(rt) {
@@ -205,6 +307,8 @@ impl<'a, K: Naming> Worker<'a, K> {
     ) -> Result<(), WorkerFault>
         ensures same { self.new.links ≡ self.old.links }
         ensures member { node.new.member ≡ node.old.member }
+        ensures here { OnOk result (node.new.away ≡ false) }
+        ensures now { node.new.core.now ≡ node.old.core.now }
         ensures landed { OnOk result (node.new.core ≡ landed landing.cargo.flight node.old.core) }
         ensures refused { OnErr result (node.new.core ≡ node.old.core) }
     {

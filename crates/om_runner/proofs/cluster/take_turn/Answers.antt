@@ -11,4 +11,4 @@ returns-in-Over-clause-turned g c =
     subst (λ (m : Member). IfOk c.leave.result (λ t. IsTurned g.S.Stable.is_clean m t)) same c.leave.ensures.turned
 
 pub returns-in_default : goal.returns-in_default
-returns-in_default g c = record { same = c.in-Ok.ensures.same; turned = c.in-Ok.ensures.place; fault = tt }
+returns-in_default g c = record { same = c.in-Ok.ensures.same; turned = (c.in-Ok.ensures.place, c.in-Ok.ensures.landed); fault = tt }

@@ -1,25 +1,8 @@
-use Rattle.std.proofs.Common.{ℕ, subst}
-use Rattle.std.specs.Prelude.{IfSome}
-use Rattle.om_runner.specs.steps.Acts.{AreLimits, IsStanding}
-use Rattle.om_runner.proofs.ActLemmas.{pruned_where, same_where_none}
+use Rattle.om_runner.proofs.ActLemmas.{found_where}
 use Rattle.om_runner.proofs.manager_link.ManagerLink.meet.Goals as goal
 
+pub meet_at-requires-clause-checkpoint : goal.meet_at-requires-clause-checkpoint
+meet_at-requires-clause-checkpoint g c = found_where _ _ _ _ c.core.ensures.core c.pending.ensures c.have_checkpoint-has_checkpoint.ensures
+
 pub returns-clause-met : goal.returns-clause-met
-returns-clause-met g c =
-    let over = c.in_ok-hand_over.ensures in let pruned = c.prune-limits in let asked = c.ask-standing in
-    let board = pruned.new.desk.board.now in let manager_link = c.args.self.now in (
-      _,
-      asked.new.desk.board.now,
-      over.sound,
-      record {
-        handed_over = c.hand_over.new.desk.board.now.manager;
-        over = over.over;
-        asked = board;
-        with_checkpoint = pruned_where _ _ _ _ _ c.core.ensures.core c.pending.ensures pruned.ensures.asked c.have_checkpoint-has_checkpoint.ensures;
-        pruned = pruned.ensures.pruned;
-        limits_are = subst (λ (p : ℕ). IfSome pruned.result (λ l. AreLimits board.manager p l)) over.pid pruned.ensures.limits;
-        unpruned = same_where_none pruned.result board c.hand_over.new.desk.board.now pruned.ensures.unpruned;
-        stands = subst (λ (p : ℕ). IsStanding board p manager_link.round c.args.ended asked.result asked.new.desk.board.now) over.pid
-            (subst (λ (r : ℕ). IsStanding board c.hand_over.new.self.pid r c.args.ended asked.result asked.new.desk.board.now) over.round asked.ensures);
-      },
-    )
+returns-clause-met g c = (_, c.meet_at.new.desk.board.now, c.in_ok-met.ensures.sound, c.in_ok-met.ensures.met)

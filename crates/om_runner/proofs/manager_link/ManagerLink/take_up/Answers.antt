@@ -1,10 +1,4 @@
-use Rattle.om_runner.proofs.ActLemmas.{taken_up}
 use Rattle.om_runner.proofs.manager_link.ManagerLink.take_up.Goals as goal
 
 pub returns : goal.returns
-returns g c = (
-  _,
-  c.hand_all.new.office.board.now,
-  c.manager.ensures.sound,
-  taken_up _ _ _ _ _ _ _ _ _ c.in_ok-end.was c.tell_all-end.ensures c.in_ok-hand_all.ensures,
-)
+returns g c = (_, c.take_up_at.new.desk.board.now, c.in_ok-take_up_at.ensures.sound, c.in_ok-take_up_at.ensures.taken_up)

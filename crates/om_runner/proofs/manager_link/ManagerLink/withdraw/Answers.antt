@@ -1,4 +1,4 @@
 use Rattle.om_runner.proofs.manager_link.ManagerLink.withdraw.Goals as goal
 
 pub returns : goal.returns
-returns g c = (_, c.withdraw.new.self, c.manager.ensures.sound, record { told = c.withdraw.ensures.told; passed_over = c.withdraw.ensures.passed_over })
+returns g c = (_, c.withdraw_at.new.board, c.withdraw_at.ensures.sound, c.withdraw_at.ensures.withdrawn)

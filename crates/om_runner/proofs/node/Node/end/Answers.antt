@@ -9,8 +9,8 @@ use Rattle.om_runner.proofs.HoldLemmas.{node_here}
 use Rattle.om_runner.proofs.OnWay.{node_whole}
 use Rattle.om_runner.proofs.node.Node.end.Goals as goal
 
-pub returns-in-Here-clause-whole : goal.returns-in-Here-clause-whole
-returns-in-Here-clause-whole g c = λ clean.
+pub returns-clause-whole : goal.returns-clause-whole
+returns-clause-whole g c = λ clean.
     let told = subst (λ (d : CoreState). c.status-status.result ≡ status_of (move_of d)) c.deref.ensures c.status-status.ensures in
     subst (λ (d : NodeState). IsWholeRun d.member.program d.member.own d.member.n c.status-status.result (queue_end (outputs_of d.core))) c.self.view_is
     (node_whole _ _ _ _ _ _ _ (node_here _ _ _ _ _ c.in-Here.store c.self.invariant c.in-Here.is) (subst (λ s. IsTrue (g.S.Stable.is_clean s)) c.into_inner.ensures clean) told)

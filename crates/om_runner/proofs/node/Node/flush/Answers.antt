@@ -2,8 +2,8 @@ use Rattle.om_runner.proofs.HoldLemmas.{held_here, node_here}
 use Rattle.om_runner.proofs.OnWay.{node_flushed, node_refused, node_through}
 use Rattle.om_runner.proofs.node.Node.flush.Goals as goal
 
-pub invariant_of-self-in_err-flush : goal.invariant_of-self-in_err-flush
-invariant_of-self-in_err-flush g c =
+pub invariant_of-self : goal.invariant_of-self
+invariant_of-self g c =
     let e = c.in_err-flush.ensures in
     let held = node_here _ _ _ _ _ c.in-Here.store c.self.invariant c.in-Here.is in
     held_here _ _ _ _ _

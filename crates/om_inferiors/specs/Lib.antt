@@ -1,0 +1,4 @@
+pub mod Moving
+pub mod Serving
+pub mod Told
+pub mod steps

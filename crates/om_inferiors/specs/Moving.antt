@@ -1,0 +1,65 @@
+-- Several processes of a record, forward and back.
+use Rattle.std.specs.Prelude.{◌≡◌, ◌⊎◌, ℕ, List, Option, Some, slice_get}
+use Rattle.std.specs.List.{AllZip}
+use Rattle.om_debug.specs.declared.stop.Stop.{Stop}
+use Rattle.om_debug.specs.Stops.{DebugState, IsMoved, IsPassed, IsRunBack, IsStepBack, IsWithin, StandsFor, standing, with_timeline}
+use Rattle.om_inferiors.specs.declared.inferior.Inferior.{Inferior}
+
+-- the same process with another debugger
+abbrev pub with_debugger : Inferior → DebugState → Inferior
+with_debugger i d = record i { debugger = d }
+
+-- a process has gone on: nothing stops it at any position that it passed
+pub record IsGoneOn (old new : Inferior) : Type 0 where
+  pub same : new ≡ with_debugger old (with_timeline old.debugger new.debugger.timeline)
+  pub within : IsWithin old.debugger.timeline
+  pub moved : IsMoved old.debugger.timeline new.debugger.timeline
+  pub passed : IsPassed old.debugger new.debugger
+
+-- it has gone on, or stands where it stood
+abbrev pub IsOn : Inferior → Inferior → Type 0
+IsOn old new = (new ≡ old) ⊎ IsGoneOn old new
+
+-- so has each
+abbrev pub AreOn : List Inferior → List Inferior → Type 0
+AreOn olds news = AllZip IsOn olds news
+
+-- the process at a place stands where it does for this
+pub record StandsAt (all : List Inferior) (place : ℕ) (stop : Stop) : Type 0 where
+  pub inferior : Inferior
+  pub is_there : slice_get all place ≡ Some inferior
+  pub stands : StandsFor inferior.debugger stop
+
+-- a process stands at another position of what was played
+abbrev pub IsBack : Inferior → Inferior → Type 0
+IsBack old new = new ≡ with_debugger old (standing old.debugger new.debugger.timeline.event new.debugger.timeline.turns)
+
+abbrev pub AreBack : List Inferior → List Inferior → Type 0
+AreBack olds news = AllZip IsBack olds news
+
+-- the process at a place has gone back to a stop
+pub record IsRunBackAt (olds news : List Inferior) (place : ℕ) (stop : Stop) : Type 0 where
+  pub old : Inferior
+  pub new : Inferior
+  pub was : slice_get olds place ≡ Some old
+  pub is : slice_get news place ≡ Some new
+  pub back : IsRunBack old.debugger new.debugger stop
+
+-- or by a step
+pub record IsStepBackAt (olds news : List Inferior) (place : ℕ) (stop : Stop) : Type 0 where
+  pub old : Inferior
+  pub new : Inferior
+  pub was : slice_get olds place ≡ Some old
+  pub is : slice_get news place ≡ Some new
+  pub back : IsStepBack old.debugger new.debugger stop
+
+abbrev pub IsToldBack : List Inferior → List Inferior → ℕ → Stop → Type 0
+IsToldBack olds news place stop = IsRunBackAt olds news place stop ⊎ IsStepBackAt olds news place stop
+
+-- a process stands anywhere in what was played, of which more may have been played
+pub record IsMovedOne (old new : Inferior) : Type 0 where
+  pub same : new ≡ with_debugger old (with_timeline old.debugger new.debugger.timeline)
+  pub moved : IsMoved old.debugger.timeline new.debugger.timeline
+
+abbrev pub AreMoved : List Inferior → List Inferior → Type 0
+AreMoved olds news = AllZip IsMovedOne olds news

@@ -1,0 +1,5 @@
+use Rattle.om_restart_laws.proofs.Losing.{not_lost}
+use Rattle.om_restart_laws.proofs.laws.not_lost.Goals as goal
+
+pub returns : goal.returns
+returns c = not_lost

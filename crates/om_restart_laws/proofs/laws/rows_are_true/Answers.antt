@@ -1,0 +1,5 @@
+use Rattle.om_restart_laws.proofs.Told.{rows_are_true}
+use Rattle.om_restart_laws.proofs.laws.rows_are_true.Goals as goal
+
+pub returns : goal.returns
+returns c = rows_are_true

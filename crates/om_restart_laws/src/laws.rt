@@ -1,0 +1,80 @@
+//! What a start finds, as theorems over the definitions alone: each function stands for one.
+
+ghost use Rattle.std.specs.Prelude.{◌≡◌, ℕ, ◌<◌, ◌≤◌, List, Some, length, slice_get, slice_index};
+ghost use Rattle.om_format.specs.declared.queue.QueueEntry.{QueueEntry};
+ghost use Rattle.om_interval.specs.Vectors.{IsBelow};
+ghost use Rattle.om_manager.specs.Outputs.{HeldOutput};
+ghost use Rattle.om_manager.specs.State.{released_by};
+ghost use Rattle.om_process.specs.Claims.{AtInterval, CheckpointOf, Makes, RowOf};
+ghost use Rattle.om_process.specs.Core.{CoreState, cluster_size};
+ghost use Rattle.om_process.specs.Process.{Program};
+ghost use Rattle.om_process.specs.Stored.{IsReplay};
+ghost use Rattle.om_process.specs.declared.limits.TheConstants.{LAST_INTERVAL};
+ghost use Rattle.om_recover.specs.Recoverable.{IsGreatest, IsRecoverable};
+ghost use Rattle.om_recover.specs.Rows.{HasRow, Rows};
+ghost use Rattle.om_recover.specs.declared.row.Row.{Row};
+ghost use Rattle.om_stable.specs.Content.{Content, kept_by_cut};
+ghost use Rattle.om_world.specs.Live.{Legal, cut_list, program_at, received};
+ghost use Rattle.om_world.specs.declared.entry.Entry.{Entry};
+ghost use Rattle.om_world.specs.Disk.{AreTrue, CanServe, DependsWithin, IsOnDisk, held_in};
+ghost use Rattle.om_world.specs.World.{WorldState};
+ghost use Rattle.om_restart_laws.specs.Chains.{IsChain, IsSaid, Start};
+ghost use Rattle.om_restart_laws.specs.Starting.{HasRowsOf};
+ghost use Rattle.om_restart_laws.specs.Worlds.{IsTakenUpAt};
+
+/// Where the records of the stores are true of a run, so are the rows that they stand for: each row's vectors are the dependencies
+/// and the counts of its process's first receipts.
+pub fn rows_are_true()
+    ensures { (programs : List Program) (live : List Entry) (held : ℕ → Content) (rows : Rows) (row : Row)
+        → AreTrue programs live held → HasRowsOf (length programs) held rows → HasRow rows row
+        → AtInterval (received row.pid live) row.interval (RowOf row.pid (length programs) row.vec row.got) }
+{}
+
+/// What a recoverable state of these rows leaves of the run is a run without failures, of which the stores, cut to that state, are
+/// true again: so the next start finds what this one found.
+pub fn taken_up()
+    ensures legal { (programs : List Program) (live : List Entry) (held : ℕ → Content) (rows : Rows) (state : List ℕ)
+        → Legal programs live → AreTrue programs live held → HasRowsOf (length programs) held rows
+        → IsRecoverable (length programs) rows state → Legal programs (cut_list (slice_index state) live) }
+    ensures kept { (programs : List Program) (live : List Entry) (held : ℕ → Content) (state : List ℕ)
+        → AreTrue programs live held
+        → AreTrue programs (cut_list (slice_index state) live) (λ p. kept_by_cut (held p) (slice_index state p)) }
+    ensures stands { (programs : List Program) (live : List Entry) (held : ℕ → Content) (state : List ℕ) (p : ℕ) (core : CoreState)
+        → AreTrue programs live held → p < length programs → core.own ≡ p → cluster_size core.now ≡ length programs
+        → IsReplay (held p) (slice_index state p) core
+        → CheckpointOf (program_at programs p) p (length programs) core.now (received p (cut_list (slice_index state) live)) }
+    ensures said { (programs : List Program) (live : List Entry) (state : List ℕ) (p number : ℕ) (output : QueueEntry)
+        → AtInterval (received p live) output.interval
+        (Makes (program_at programs p) p (length programs) (length programs) number output)
+        → output.interval ≤ slice_index state p
+        → AtInterval (received p (cut_list (slice_index state) live)) output.interval
+        (Makes (program_at programs p) p (length programs) (length programs) number output) }
+{}
+
+/// Nothing is lost that the stores could serve: each state whose intervals they can serve, and that depends on nothing outside it, is
+/// below the greatest recoverable one of these rows.
+pub fn not_lost()
+    ensures { (programs : List Program) (live : List Entry) (held : ℕ → Content) (rows : Rows) (old state : List ℕ)
+        → AreTrue programs live held → HasRowsOf (length programs) held rows → IsGreatest (length programs) rows state
+        → length old ≡ length programs → ((p : ℕ) → p < length programs → slice_index old p ≤ LAST_INTERVAL)
+        → ((p : ℕ) → p < length programs → CanServe (held p) (slice_index old p)) → DependsWithin live (slice_index old)
+        → IsBelow old state }
+{}
+
+/// Whatever was lost, refused or failed in a world that left this on its disk: a start over its stores goes on at a point of the same
+/// run without failures, which has all that was recovered and all that was released.
+pub fn a_start_goes_on()
+    ensures { (w : WorldState) (rows : Rows) (state : List ℕ) → IsOnDisk w → HasRowsOf (length w.programs) (held_in w) rows
+        → IsGreatest (length w.programs) rows state → IsTakenUpAt w state }
+{}
+
+/// However often it ends and is taken up again, all is one run: what the last world received is a run without failures, along which each
+/// output that was ever released is made under its number, within what is recovered.
+pub fn a_chain_is_one_run()
+    ensures one { (first last : WorldState) (starts : List Start) → IsChain first starts last → IsOnDisk last
+        → Legal last.programs last.live }
+    ensures said { (first last : WorldState) (starts : List Start) (p number : ℕ) (output : HeldOutput)
+        → IsChain first starts last → p < length first.programs → IsSaid first p number output → IsSaid last p number output }
+    ensures released { (w : WorldState) (p number : ℕ) (output : HeldOutput) → IsOnDisk w → p < length w.programs
+        → slice_get (released_by w.manager p) number ≡ Some output → IsSaid w p number output }
+{}

@@ -1,0 +1,39 @@
+-- What is answered to a request for a run, by what is asked.
+use Rattle.std.specs.Prelude.{ℕ, List}
+use Rattle.om_arguments.specs.declared.arguments.Checking.{Checking}
+use Rattle.om_arguments.specs.declared.arguments.Checking.TheVariants as asked
+use Rattle.om_arguments.specs.declared.arguments.OutputForm.{OutputForm}
+use Rattle.om_arguments.specs.declared.arguments.OutputForm.TheVariants as forms
+use Rattle.om_arguments.specs.declared.arguments.Running.{Running}
+use Rattle.om_commands.specs.declared.bytes_text.BytesForm.{BytesForm}
+use Rattle.om_commands.specs.declared.bytes_text.BytesForm.TheVariants as written
+use Rattle.om_commands.specs.declared.error.CommandError.{CommandError}
+use Rattle.om_process.specs.declared.status.Status.{Status}
+use Rattle.om_run_commands.specs.Modes.{IsErrorIn, IsRunIn}
+use Rattle.om_run_commands.specs.declared.mode.RunMode.{RunMode}
+use Rattle.om_run_commands.specs.declared.mode.RunMode.TheVariants as modes
+
+-- the mode of a run that is to be checked so
+abbrev pub mode_of : Checking → RunMode
+mode_of asked.Off = modes.Plain
+mode_of asked.Check = modes.Check
+mode_of (asked.Witness path) = modes.Witness
+mode_of (asked.Record path) = modes.Record
+mode_of asked.Follow = modes.Follow
+mode_of (asked.Raw name) = modes.Raw name
+mode_of (asked.FollowRaw name) = modes.FollowRaw name
+
+-- the form of bytes that is asked for
+abbrev pub form_of : OutputForm → BytesForm
+form_of forms.Hex = written.Hex
+form_of forms.Text = written.Text
+
+-- The text answers the cluster file that these bytes are, in a run that ended with these statuses: with `--check` or `--witness` it is that
+-- of a run without failures, with `--follow` what was released with the ends behind it, with `--raw` the bytes of one process, and else that
+-- of a run; where stores are clean it is the programs' own.
+abbrev pub IsAskedRun : Running → Type 0 → List Status → List ℕ → List ℕ → Type 0
+IsAskedRun running over_clean statuses bytes text = IsRunIn (mode_of running.checking) (form_of running.form) over_clean statuses bytes text
+
+-- the error refuses these bytes in a run that is asked for so
+abbrev pub IsErrorOfAsked : Running → List ℕ → CommandError → Type 0
+IsErrorOfAsked running bytes error = IsErrorIn (mode_of running.checking) bytes error
