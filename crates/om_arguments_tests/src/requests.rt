@@ -7,7 +7,7 @@ use om_isa::Ext;
 use std::alloc::Global;
 use std::process::Abort;
 
-static PLAIN: [(&[&str], Request<'static>, Option<&str>); 15] = [
+static PLAIN: [(&[&str], Request<'static>, Option<&str>); 16] = [
     (&["omlog", "decode"], Request::Decode(Ext::I), None),
     (
         &["omlog", "decode", "--m", "words"],
