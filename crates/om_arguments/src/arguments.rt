@@ -373,9 +373,9 @@ pub enum Request<'a> {
     Draw(Lines),
     Run(Running<'a>),
     Explore(Exploring<'a>),
-    /// Of the record that is the input.
+    /// Of the record that is the input: one process, or all.
     Debug {
-        process: &'a str,
+        process: Option<&'a str>,
     },
     Look(Look<'a>),
     Image {

@@ -1,4 +1,4 @@
-//! The subcommand `debug`: which process of which record it shows, and how it is asked for.
+//! The subcommand `debug`: which processes of which record it shows, and how it is asked for.
 
 ghost use Rattle.std.specs.Prelude.{◌≡◌, ◌↔◌, IfOk, IsErr, codes};
 ghost use Rattle.om_arguments.specs.steps.Requests.{asked_by};
@@ -15,20 +15,27 @@ const PROCESS: &str = "process";
 
 /// What `--help` tells of `debug`.
 pub const DEBUG_HELP: &str = "\
-Shows a process of a record to gdb, at any moment of the run, forward and back.
+Shows processes of a record to gdb, at any moment of the run, forward and back.
 gdb starts the command, and its packets come over standard input and output:
 
   target remote | omlog debug --process w1 record.txt
+  target remote | omlog debug record.txt
 
 RECORD is a script of sim, as run writes one with --record or --witness. It is
 played as sim plays it, and is only read; standard input has the packets, so -
-is no name of it. Time is the order of the record. The process NAME stands
-before the first event at first; the others go on in the record, unseen.
+is no name of it. Time is the order of the record. At first it stands before
+the first event. With --process the process NAME alone is shown; the others go
+on in the record, unseen. Without it each process is an inferior of gdb, and
+time goes on for all of them. Say in gdb, before target remote:
+  set schedule-multiple on
+  set osabi none
+  set architecture riscv:rv32
 
 In gdb:
   step, next, finish, continue, break, watch, rwatch, awatch, and backwards
   reverse-step, reverse-next, reverse-finish, reverse-continue
-  monitor where         the next event, and how the process stands
+  thread N.1            goes over to the process of the number N, from 1 on
+  monitor where         the next event, and how the processes stand
   monitor events        the events around here
   monitor goto EVENT    goes to before an event, which are numbered from 0;
                         then say: maintenance flush register-cache
@@ -57,7 +64,7 @@ pub(crate) fn debug_request<'a>(found: &ArgMatches<'a>) -> Result<Request<'a>, M
 {
     refuse_stream(needed(found, INPUT)?)?;
     Ok(Request::Debug {
-        process: needed(found, PROCESS)?,
+        process: found.get_str(PROCESS),
     })
 }
 
@@ -75,8 +82,7 @@ pub(crate) fn debug_command<'a>(alloc: Global) -> Result<Command<'a>, AllocError
     let process = Arg::new(alloc, PROCESS)
         .long(PROCESS)
         .value_name("NAME")
-        .help("The process that is shown")
-        .required(true);
+        .help("The one process that is shown (default: all)");
     let record = Arg::new(alloc, INPUT)
         .value_name("RECORD")
         .help("The record, a script of sim")

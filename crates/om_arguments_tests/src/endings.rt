@@ -44,8 +44,8 @@ static MISTAKES: [(&[&str], &str); 22] = [
         "error: unexpected argument 'b' found\n\nUsage: omlog sim [OPTIONS] [FILE]\n\nFor more information, try '--help'.\n",
     ),
     (
-        &["omlog", "debug", "record"],
-        "error: the following required arguments were not provided:\n  --process <NAME>\n\nUsage: omlog debug --process <NAME> <RECORD>\n\nFor more information, try '--help'.\n",
+        &["omlog", "debug"],
+        "error: the following required arguments were not provided:\n  <RECORD>\n\nUsage: omlog debug <RECORD>\n\nFor more information, try '--help'.\n",
     ),
     (
         &["omlog", "debug", "--process", "p"],
@@ -53,7 +53,7 @@ static MISTAKES: [(&[&str], &str); 22] = [
     ),
     (
         &["omlog", "debug", "--process", "p", "-"],
-        "error: invalid value '-' for '<RECORD>': packets come over standard input, and a file is needed; ./- is one of this name\n\nUsage: omlog debug [OPTIONS] --process <NAME> <RECORD>\n\nFor more information, try '--help'.\n",
+        "error: invalid value '-' for '<RECORD>': packets come over standard input, and a file is needed; ./- is one of this name\n\nUsage: omlog debug [OPTIONS] <RECORD>\n\nFor more information, try '--help'.\n",
     ),
     (
         &["omlog", "show"],

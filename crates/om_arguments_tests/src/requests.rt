@@ -7,7 +7,7 @@ use om_isa::Ext;
 use std::alloc::Global;
 use std::process::Abort;
 
-static PLAIN: [(&[&str], Request<'static>, Option<&str>); 15] = [
+static PLAIN: [(&[&str], Request<'static>, Option<&str>); 16] = [
     (&["omlog", "decode"], Request::Decode(Ext::I), None),
     (
         &["omlog", "decode", "--m", "words"],
@@ -35,13 +35,20 @@ static PLAIN: [(&[&str], Request<'static>, Option<&str>); 15] = [
     ),
     (
         &["omlog", "debug", "--process", "w1", "record"],
-        Request::Debug { process: "w1" },
+        Request::Debug {
+            process: Some("w1"),
+        },
         Some("record"),
     ),
     (
         &["omlog", "debug", "--process=p", "--", "-r"],
-        Request::Debug { process: "p" },
+        Request::Debug { process: Some("p") },
         Some("-r"),
+    ),
+    (
+        &["omlog", "debug", "record"],
+        Request::Debug { process: None },
+        Some("record"),
     ),
     (
         &["omlog", "draw"],

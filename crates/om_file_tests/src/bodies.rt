@@ -2,7 +2,7 @@
 
 use crate::replay::{RECEIPT, fill};
 use om_commands::{BytesForm, CommandError};
-use om_files::{show_all_bodies, show_bodies};
+use om_look_commands::{show_all_bodies, show_bodies};
 use om_stable::{FuseStable, Ledger, LedgerTable, MemLedger, MemStable, Stable};
 use std::alloc::Global;
 use std::process::Abort;

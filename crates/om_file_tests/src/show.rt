@@ -2,7 +2,7 @@
 
 use crate::replay::{RECEIPT, fill};
 use om_commands::CommandError;
-use om_files::show_all;
+use om_look_commands::show_all;
 use om_stable::{FuseStable, Ledger, LedgerTable, MemLedger};
 use std::alloc::Global;
 use std::process::Abort;

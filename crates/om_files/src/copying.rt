@@ -1,21 +1,15 @@
-//! A database of a file that is only read: what the file and its log hold is copied into memory, and opened there.
+//! A database of a file that is only read: what the file and its log hold is read whole, and opened from there.
 
 ghost use Rattle.std.specs.Prelude.{◌≡◌, false, IfErr, IfOk};
-ghost use Rattle.om_commands.specs.Replay.{IsNoMatterOfContent};
 ghost use Rattle.om_files.specs.steps.Quiet.{IsQuiet};
 
-use crate::connecting::refusal_of_opening;
 use om_commands::CommandError;
-use om_runner::OpenFault;
+use om_copies::{CopyError, DatabaseBytes};
 use om_store_files::{is_written, log_of};
-use sqlite::{Connection, FileStore, Files, Options};
-use sqlite_disk::{Disk, Memory};
-use std::alloc::Global;
+use sqlite::{Connection, FileStore};
+use sqlite_disk::Memory;
 use std::path::PathBuf;
 use std::{fs, io};
-
-// Pages that are read again are tested by digests under this key. Any serves, since memory does not lie.
-const KEY: u64 = 0;
 
 // The database that a file and its log hold. A file that is not there, or has nothing, is a `StoreFault`; where the database is
 // in use, so may be what is read of it.
@@ -25,6 +19,18 @@ pub(crate) fn copy_of(
 ) -> Result<Connection<FileStore<Memory>>, CommandError>
     ensures idle { IfOk result (λ conn. conn.in_transaction ≡ false) }
     ensures refused { IfErr result IsQuiet }
+{
+    let bytes = bytes_of(rt, file)?;
+    match bytes.open(rt.alloc()) {
+        Ok(conn) => Ok(conn),
+        Err(CopyError::Memory) => Err(CommandError::NoMemory),
+        Err(CopyError::NoDatabase) => Err(CommandError::StoreFault),
+    }
+}
+
+// What a file and its log hold, each read once. A file that is not there, or has nothing, is a `StoreFault`.
+pub(crate) fn bytes_of(rt: &HostRuntime, file: &str) -> Result<DatabaseBytes, CommandError>
+    ensures { IfErr result IsQuiet }
 {
     let alloc = rt.alloc();
     if !is_written(rt, file) {
@@ -38,7 +44,8 @@ pub(crate) fn copy_of(
     } else {
         Vec::new(alloc)
     };
-    opened(alloc, &log, &read(rt, place.as_str())?)
+    let file = read(rt, place.as_str())?;
+    Ok(DatabaseBytes { file, log })
 }
 
 // The path of a file, with no link in it.
@@ -46,31 +53,6 @@ fn place_of(rt: &HostRuntime, file: &str) -> Result<PathBuf, CommandError>
     ensures { IfErr result IsQuiet }
 {
     fs::canonicalize(rt, file).map_err(refusal_of_reading)
-}
-
-// The database that these bytes of a log and of a file hold.
-fn opened(
-    alloc: Global,
-    log: &[u8],
-    db: &[u8],
-) -> Result<Connection<FileStore<Memory>>, CommandError>
-    ensures idle { IfOk result (λ conn. conn.in_transaction ≡ false) }
-    ensures refused { IfErr result IsQuiet }
-{
-    let mut files = Files {
-        log: Memory::new(alloc),
-        db: Memory::new(alloc),
-    };
-    if files.log.write_at(0, log).is_err() || files.db.write_at(0, db).is_err() {
-        return Err(CommandError::NoMemory);
-    }
-    match Connection::open_files(alloc, files, Options::new(KEY)) {
-        Ok(conn) => Ok(conn),
-        Err((error, _)) => Err(match refusal_of_opening(&error) {
-            OpenFault::Memory => CommandError::NoMemory,
-            OpenFault::Refused | OpenFault::InUse => CommandError::StoreFault,
-        }),
-    }
 }
 
 fn read(rt: &HostRuntime, path: &str) -> Result<Vec<u8>, CommandError>

@@ -1,5 +1,5 @@
 -- What holds of each of two lists, pair by pair.
-use Rattle.std.proofs.Common.{◌≡◌, ◌≢◌, ℕ, zero, suc, ◌<◌, ◌+◌, ◌⊎◌, inl, inr, List, [], ◌∷◌, ◌≤◌, length, get_or, set, Option, None, Some, Result, Ok, Err, refl, sym, ap, subst, ◌∙◌, arith}
+use Rattle.std.proofs.Common.{◌≡◌, ◌≢◌, ℕ, zero, suc, ◌<◌, inl, inr, List, [], ◌∷◌, ◌≤◌, length, get_or, set, Option, None, Some, Result, Ok, Err, refl, sym, ap, subst, ◌∙◌, arith}
 use Rattle.std.specs.Prelude.{IfOk, IfSome, OnOk, slice_get}
 use Rattle.std.specs.List.{AllZip}
 use Rattle.om_debug.specs.Stops.{DebugState, IsMoved, IsPassed, IsRunBack, IsStepBack, IsWithin, StandsFor, standing, with_timeline}
@@ -7,9 +7,8 @@ use Rattle.om_debug.specs.declared.stop.Stop.{Stop}
 use Rattle.om_debug.specs.declared.stop.Stop.TheVariants as stops
 use Rattle.om_timeline.specs.declared.fault.PlayFault.{PlayFault}
 use Rattle.om_timeline.specs.declared.tape.Look.{Look}
-use Rattle.om_debug.proofs.Moved.{moved_not, moved_then, same_then}
+use Rattle.om_debug.proofs.Moved.{moved_not, moved_then}
 use Rattle.om_debug.proofs.Quiet.{passed_then}
-use Rattle.om_debug.proofs.Backwards.{stands_then}
 use Rattle.om_inferiors.specs.declared.inferior.Inferior.{Inferior}
 use Rattle.om_inferiors.specs.Moving.{AreBack, AreMoved, AreOn, IsBack, IsGoneOn, IsMovedOne, IsOn, IsRunBackAt, IsStepBackAt, StandsAt, with_debugger}
 

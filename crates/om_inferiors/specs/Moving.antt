@@ -1,5 +1,5 @@
 -- Several processes of a record, forward and back.
-use Rattle.std.specs.Prelude.{◌≡◌, ◌⊎◌, ℕ, List, Option, Some, slice_get}
+use Rattle.std.specs.Prelude.{◌≡◌, ◌⊎◌, ℕ, List, Some, slice_get}
 use Rattle.std.specs.List.{AllZip}
 use Rattle.om_debug.specs.declared.stop.Stop.{Stop}
 use Rattle.om_debug.specs.Stops.{DebugState, IsMoved, IsPassed, IsRunBack, IsStepBack, IsWithin, StandsFor, standing, with_timeline}

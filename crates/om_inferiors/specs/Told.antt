@@ -1,5 +1,5 @@
 -- What packets are told of several processes.
-use Rattle.std.specs.Prelude.{◌≡◌, ◌≢◌, ◌⊎◌, ℕ, ◌<◌, Bool, true, false, not, ◌&&◌, ◌==◌, nat_lt, List, [], ◌∷◌, ◌++◌, length, slice_get, slice_set, position, remove, Option, None, Some, is_some, option_map, string_bytes, codes, if◌then◌else◌}
+use Rattle.std.specs.Prelude.{◌≡◌, ◌⊎◌, ℕ, Bool, true, false, ◌&&◌, ◌==◌, List, [], ◌∷◌, ◌++◌, length, slice_get, slice_set, position, remove, Option, None, Some, is_some, option_map, string_bytes, codes, if◌then◌else◌}
 use Rattle.std.specs.Fmt.{digits}
 use Rattle.om_machine.specs.declared.event.Cause.{Cause}
 use Rattle.om_machine.specs.declared.event.Cause.TheVariants as causes
@@ -8,7 +8,6 @@ use Rattle.om_requests.specs.declared.group.GroupRequest.{GroupRequest}
 use Rattle.om_requests.specs.declared.group.GroupRequest.TheVariants as groups
 use Rattle.om_requests.specs.declared.group.Whom.{Whom}
 use Rattle.om_requests.specs.declared.group.Whom.TheVariants.{Any, Whole, One}
-use Rattle.om_requests.specs.declared.request.Request.{Request}
 use Rattle.om_requests.specs.declared.request.Request.TheVariants as requests
 use Rattle.om_timeline.specs.Timeline.{machine_here}
 use Rattle.om_debug.specs.declared.debugger.Told.{Told}

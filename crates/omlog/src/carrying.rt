@@ -3,7 +3,6 @@
 ghost use Rattle.std.specs.Prelude.{◌≡◌, OnOk};
 ghost use Rattle.std.specs.Io.KnownBytes.{Appends};
 ghost use Rattle.om_folding.specs.Folding.{folded};
-ghost use Rattle.omlog.specs.Modes.{form_of};
 
 use crate::debugging::debug_over;
 use crate::exploring::explore_over;
@@ -14,17 +13,18 @@ use crate::source::source_of;
 use crate::store_files::run_over_tables;
 use crate::surroundings::Job;
 use crate::watching::run_watched;
-use om_arguments::{Asked, Lines, Look, OutputForm, Request, end, end_unasked, end_unread, parse};
+use om_arguments::{Asked, Lines, Look, Request, end, end_unasked, end_unread, parse};
 use om_commands::decode::decode;
 use om_commands::frontier::frontier;
 use om_commands::sim::sim;
-use om_commands::{BytesForm, CommandError, write_answer};
+use om_commands::{CommandError, write_answer};
 use om_draw_command::draw::{Window, draw};
 use om_files::{Files, fault_of, replay_file, show_bodies_file, show_file, steps_file};
 use om_folding::fold_zero_rows;
 use om_image::{ImageError, image};
 use om_interval::MAX_PROCESSES;
 use om_reasons::{advice_on, rule_of};
+use om_run_request::form_of;
 use om_runner::InMemory;
 use om_store_files::Notes;
 use om_text::{LineError, read_text};
@@ -229,15 +229,6 @@ fn answer_at_once<I: Read, W: Write>(
         Request::Run(_) | Request::Explore(_) | Request::Debug { .. } | Request::Image { .. } => {
             Ok(())
         }
-    }
-}
-
-pub(crate) fn form_of(form: OutputForm) -> BytesForm
-    ensures { result ≡ form_of form }
-{
-    match form {
-        OutputForm::Hex => BytesForm::Hex,
-        OutputForm::Text => BytesForm::Text,
     }
 }
 

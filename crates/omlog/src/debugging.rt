@@ -1,8 +1,8 @@
-//! A process of a record under gdb, whose packets come over standard input.
+//! Processes of a record under gdb, whose packets come over standard input.
 
 use crate::reasons::Reasons;
 use om_commands::CommandError;
-use om_debug_command::debug;
+use om_debug_command::{debug, debug_all};
 use om_inbox::{Inbox, Taker};
 use std::alloc::Global;
 use std::io::{Read, Write};
@@ -11,12 +11,12 @@ use std::sync::{Arc, Wait};
 use std::thread;
 use std::thread::Threads;
 
-// Answers packets about a process of a record. A thread reads them from standard input, so that a wish to stop is seen while the process
-// moves. Nobody waits for it: it ends with the input, or with the program.
+// Answers packets about a process of a record, or about all. A thread reads them from standard input, so that a wish to stop is seen while
+// processes move. Nobody waits for it: it ends with the input, or with the program.
 pub(crate) fn debug_over<R: Threads + Wait + Copy + Send + 'static, I: Read, W: Write>(
     rt: &HostRuntime,
     threads: &R,
-    process: &str,
+    process: Option<&str>,
     record: &mut I,
     writer: &mut W,
     reasons: &mut Reasons,
@@ -28,7 +28,10 @@ pub(crate) fn debug_over<R: Threads + Wait + Copy + Send + 'static, I: Read, W: 
         return Err(CommandError::NoThread);
     }
     let mut packets = Taker::new(threads, &inbox);
-    let outcome = debug(rt.alloc(), process, record, &mut packets, writer);
+    let outcome = match process {
+        Some(name) => debug(rt.alloc(), name, record, &mut packets, writer),
+        None => debug_all(rt.alloc(), record, &mut packets, writer),
+    };
     inbox.close(threads);
     if let Some(refusal) = packets.refusal() {
         reasons.add("standard input", refusal);

@@ -1,13 +1,13 @@
 //! Runs that are explored: what an exploration has beside its input and its text.
 
 ghost use Rattle.std.specs.Prelude.{◌≡◌, IfErr};
-ghost use Rattle.omlog.specs.Modes.{form_of};
+ghost use Rattle.om_run_request.specs.Asked.{form_of};
 
-use crate::carrying::form_of;
 use crate::reasons::Reasons;
 use om_arguments::Exploring;
 use om_commands::CommandError;
 use om_explore_command::{ExploreContext, Options, explore_file};
+use om_run_request::form_of;
 use std::cell::Cell;
 use std::fs::OpenOptions;
 use std::io::{IsTerminal, Read, Write};

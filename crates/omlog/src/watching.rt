@@ -1,16 +1,12 @@
 //! A run of which more is said on standard error: how far it has come, and what its processes waited for where it came to no end.
 
-ghost use Rattle.std.specs.Prelude.{◌≡◌};
-ghost use Rattle.omlog.specs.Modes.{mode_of};
-
-use crate::carrying::form_of;
 use crate::failure::Failure;
 use crate::output::Output;
 use crate::reasons::Reasons;
 use crate::surroundings::{Job, Surroundings};
-use om_arguments::Checking;
 use om_interval::MAX_PROCESSES;
-use om_run_commands::{RunMode, has_trapped, run_file};
+use om_run_commands::has_trapped;
+use om_run_request::run_asked;
 use om_runner::{Opener, Progress, Watch, Watched};
 use std::alloc::Global;
 use std::io::{IsTerminal, Read};
@@ -98,12 +94,10 @@ fn run_as<'a, 'w, R: Threads + Wait + Clock + Sync, O: Opener<R> + Sync, I: Read
 ) -> Result<(), Failure> {
     let rt = surroundings.rt;
     let running = surroundings.job.running;
-    let (outcome, output) = run_file(
+    let (outcome, output) = run_asked(
         threads,
         rt.alloc(),
-        mode_of(running.checking),
-        form_of(running.form),
-        running.turns,
+        running,
         opener,
         surroundings,
         reader,
@@ -115,21 +109,6 @@ fn run_as<'a, 'w, R: Threads + Wait + Clock + Sync, O: Opener<R> + Sync, I: Read
         return Err(Failure::Strict);
     }
     Ok(())
-}
-
-// How a run is carried out that is to be checked so.
-fn mode_of<'a>(checking: Checking<'a>) -> RunMode<'a>
-    ensures { result ≡ mode_of checking.entry }
-{
-    match checking {
-        Checking::Off => RunMode::Plain,
-        Checking::Check => RunMode::Check,
-        Checking::Witness(_) => RunMode::Witness,
-        Checking::Record(_) => RunMode::Record,
-        Checking::Follow => RunMode::Follow,
-        Checking::Raw(name) => RunMode::Raw(name),
-        Checking::FollowRaw(name) => RunMode::FollowRaw(name),
-    }
 }
 
 // Runs the cluster as it is asked for, while a thread beside says how far it has come.

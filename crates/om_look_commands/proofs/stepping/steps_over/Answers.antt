@@ -1,9 +1,9 @@
-use Rattle.std.proofs.Common.{rules, ◌≡◌, ℕ, List, IsTrue, OnOk, subst}
+use Rattle.std.proofs.Common.{ℕ, List, IsTrue, OnOk, subst}
 use Rattle.std.specs.Io.KnownBytes.{Appends}
 use Rattle.sqlite.specs.Held.{state}
 use Rattle.om_tables.specs.Store.{IsFormed, content_in, is_sure}
 use Rattle.om_commands.specs.ReplaySteps.{IsStepsText}
-use Rattle.om_files.proofs.looking.steps_over.Goals as goal
+use Rattle.om_look_commands.proofs.stepping.steps_over.Goals as goal
 
 pub returns-in-Ok-clause-text : goal.returns-in-Ok-clause-text
 returns-in-Ok-clause-text g c = λ sure formed.
