@@ -441,8 +441,8 @@ pub struct Asked<'a> {
     pub verbose: bool,
 }
 
-/// What the words of a command line ask for, of which the first is the program. Refused, the error has its text: a mistake, a
-/// help text or the version that was asked for, or out of memory.
+/// Returns what the words of a command line ask for, of which the first is the program. Refused, the error has its text: a
+/// mistake, a help text or the version that was asked for, or out of memory.
 pub fn parse<'a, S: AsStr>(alloc: Global, words: &'a [S]) -> Result<Asked<'a>, Error> {
     let mut command = command(alloc)?;
     let matches = command.try_get_matches_from_mut(words)?;
@@ -562,7 +562,7 @@ fn ext_of(with_m: bool) -> Ext
     if with_m { Ext::Im } else { Ext::I }
 }
 
-// How the bytes of outputs are to be written, by the flag `--text`.
+// Returns how the bytes of outputs are to be written, by the flag `--text`.
 pub(crate) fn form_of(with_text: bool) -> OutputForm
     ensures { result ≡ form_of with_text }
 {
@@ -573,8 +573,8 @@ pub(crate) fn form_of(with_text: bool) -> OutputForm
     }
 }
 
-// How a run is to be checked, recorded or followed: with a file for its witness it always is checked, and the bytes of one process
-// may be followed. The command line takes no other two of them together.
+// Returns how a run is to be checked, recorded or followed: with a file for its witness it always is checked, and the bytes of
+// one process may be followed. The command line takes no other two of them together.
 fn checking_of<'a>(found: &ArgMatches<'a>) -> Result<Checking<'a>, Mistake<'a>> {
     if let Some(path) = found.get_str(WITNESS) {
         return Ok(Checking::Witness(file_for("--witness <FILE>", path)?));
@@ -601,7 +601,7 @@ fn file_for<'a>(argument: &'a str, path: &'a str) -> Result<&'a str, Mistake<'a>
     Ok(path)
 }
 
-// How the bytes of a process are to be written: at the end, or as they are released.
+// Returns how the bytes of a process are to be written: at the end, or as they are released.
 fn raw_of<'a>(name: &'a str, follows: bool) -> Checking<'a> {
     if follows {
         Checking::FollowRaw(name)

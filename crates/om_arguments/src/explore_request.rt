@@ -90,7 +90,7 @@ pub struct Exploring<'a> {
     pub form: OutputForm,
 }
 
-// How a cluster is to be explored, where its numbers are numbers.
+// Returns how a cluster is to be explored, where its numbers are numbers.
 pub(crate) fn exploring_of<'a>(found: &ArgMatches<'a>) -> Result<Exploring<'a>, Mistake<'a>> {
     let all = found.get_flag(ALL);
     let most = if all { DEFAULT_ALL } else { DEFAULT_RUNS };

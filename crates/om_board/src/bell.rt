@@ -141,7 +141,7 @@ impl Bell {
         Look::Silent
     }
 
-    // Whether it was rung. Then it is silent again.
+    // Returns whether it was rung. Then it is silent again.
     fn is_rung(&self) -> bool {
         self.state.load(SeqCst) == RUNG
             && self

@@ -56,7 +56,7 @@ impl Waiting {
     }
 }
 
-// Whether the first n processes wait.
+// Returns whether the first n processes wait.
 pub(crate) fn all_wait(waiting: &[Waiting; MAX_PROCESSES], n: usize) -> bool
     requires { n ≤ MAX_PROCESSES }
     ensures { IsTrue result ↔ DoWait n waiting.now }
@@ -86,7 +86,7 @@ fn taken_in_all(waiting: &[Waiting]) -> u128
     total
 }
 
-// Whether the first n processes have taken as many messages as they have put.
+// Returns whether the first n processes have taken as many messages as they have put.
 pub(crate) fn are_matched(waiting: &[Waiting; MAX_PROCESSES], n: usize) -> bool
     requires { n ≤ MAX_PROCESSES }
     ensures { IsTrue result ↔ sum (map put_by (take n waiting.now)) ≡ sum (map taken_by (take n waiting.now)) }

@@ -14,7 +14,7 @@ pub enum CopyError {
     NoDatabase,
 }
 
-// What an error of `sqlite` comes to.
+// Returns what an error of `sqlite` comes to.
 pub(crate) fn error_of(error: &Error) -> CopyError
     ensures { (result ≡ CopyError.Memory) ↔ (error.now ≡ Error.SqliteFailure ErrorCode.OutOfMemory) }
 {

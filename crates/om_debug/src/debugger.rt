@@ -260,7 +260,7 @@ fn is_watched(kind: Watched, other: Watched) -> bool
     }
 }
 
-// Whether it is the same watchpoint.
+// Returns whether it is the same watchpoint.
 fn is_watch(watch: Watch, other: Watch) -> bool
     ensures { result ≡ is_watch watch other }
 {
@@ -275,7 +275,7 @@ fn is_among(watches: &[Watch], watch: Watch) -> bool
     watches.iter().any(|other| is_watch(*other, watch))
 }
 
-// Whether the thread is there.
+// Returns whether the thread is there.
 fn is_there(thread: Thread) -> bool
     ensures { result ≡ is_there thread }
 {

@@ -20,7 +20,7 @@ pub(crate) enum Next {
     Return,
 }
 
-// Whether the process is down behind so many events.
+// Returns whether the process is down behind so many events.
 #[tactic(auto, using(crate::proofs::Quiet::down_read, crate::proofs::Quiet::down_past, crate::proofs::Quiet::down_first))]
 pub(crate) fn is_down(deeds: &[Deed], event: usize) -> bool
     ensures { result ≡ is_down deeds.now event }
@@ -40,7 +40,7 @@ pub(crate) fn is_down(deeds: &[Deed], event: usize) -> bool
     }
 }
 
-// What comes next at a position.
+// Returns what comes next at a position.
 #[tactic(auto, using(crate::proofs::Quiet::next_read, crate::proofs::Quiet::next_past))]
 pub(crate) fn next_at(deeds: &[Deed], at: Position) -> Next
     ensures { result ≡ next_at deeds.now at.event at.turns }
@@ -69,7 +69,7 @@ pub(crate) fn next_at(deeds: &[Deed], at: Position) -> Next
     }
 }
 
-// Whether the process stands at an instruction that comes next.
+// Returns whether the process stands at an instruction that comes next.
 pub(crate) fn is_at_instruction(next: Next) -> bool
     ensures { result ≡ is_at_instruction next }
 {

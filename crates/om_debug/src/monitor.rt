@@ -36,7 +36,7 @@ fn push_event(out: &mut String, event: Event) -> Result<(), AllocError> {
 }
 
 impl Debugger {
-    // What a command of the user is told.
+    // Returns what a command of the user is told.
     pub(crate) fn monitor(&mut self, command: Command) -> Result<String, PlayFault>
         ensures moved { IsMoved self.old.timeline self.new.timeline }
         ensures same { self.new ≡ with_timeline self.old self.new.timeline }
@@ -52,7 +52,7 @@ impl Debugger {
         }
     }
 
-    // Where time and the process stand.
+    // Returns where time and the process stand.
     fn told_where(&self) -> Result<String, AllocError> {
         let mut said = String::new(self.alloc);
         self.push_event_here(&mut said)?;

@@ -34,7 +34,7 @@ fn is_paused<R: Wish>(pieces: u64, reader: &mut R) -> bool
     pieces.is_multiple_of(PIECES_UNASKED) && reader.is_there()
 }
 
-// Whether pc has come out of what is to be stepped over.
+// Returns whether pc has come out of what is to be stepped over.
 fn is_done(how: Resume, pc: u32) -> bool {
     match how {
         Resume::Step => true,
@@ -43,14 +43,14 @@ fn is_done(how: Resume, pc: u32) -> bool {
     }
 }
 
-// Whether the one position is before the other.
+// Returns whether the one position is before the other.
 fn is_before(one: Position, other: Position) -> bool
     ensures { (result ≡ true) ↔ IsBefore one.event one.turns other.event other.turns }
 {
     one.event < other.event || one.event == other.event && one.turns < other.turns
 }
 
-// How many turns are left of the event at a position.
+// Returns how many turns are left of the event at a position.
 #[tactic(auto, using(crate::proofs::Quiet::turns_read, crate::proofs::Quiet::turns_past))]
 fn turns_left(deeds: &[Deed], at: Position) -> u64
     ensures { result ≡ turns_at deeds.now at.event - at.turns }
@@ -149,21 +149,21 @@ impl Debugger {
         Ok(look)
     }
 
-    // What comes next.
+    // Returns what comes next.
     fn next(&self) -> Next
         ensures { result ≡ next_at self.now.timeline.deeds self.now.timeline.event self.now.timeline.turns }
     {
         next_at(self.timeline.deeds(), self.timeline.position())
     }
 
-    // How many instructions are left of the event.
+    // Returns how many instructions are left of the event.
     fn turns_left(&self) -> u64
         ensures { result ≡ turns_at self.now.timeline.deeds self.now.timeline.event - self.now.timeline.turns }
     {
         turns_left(self.timeline.deeds(), self.timeline.position())
     }
 
-    // What stops the process right before what comes next.
+    // Returns what stops the process right before what comes next.
     fn stop_here(&self) -> Option<Stop>
         ensures is { result ≡ stop_here self.now }
         ensures stands { IfSome result (λ stop. StandsFor self.now stop) }
@@ -177,7 +177,7 @@ impl Debugger {
         }
     }
 
-    // Whether the next instruction has a breakpoint.
+    // Returns whether the next instruction has a breakpoint.
     fn breaks_here(&self) -> bool
         ensures { result ≡ breaks_here self.now }
     {
@@ -196,7 +196,7 @@ impl Debugger {
         )
     }
 
-    // What stops the process right behind what came to it.
+    // Returns what stops the process right behind what came to it.
     fn stop_behind(&self, next: Next, how: Resume) -> Option<Stop>
         ensures { IfSome result (λ stop. StandsFor self.now stop) }
     {
@@ -247,7 +247,7 @@ impl Debugger {
         self.pass()
     }
 
-    // Whether the process is to go on, and nothing can stop it in the rest of the event.
+    // Returns whether the process is to go on, and nothing can stop it in the rest of the event.
     #[tactic(auto, using(crate::proofs::Quiet::rest_empty))]
     fn is_free(&self, how: Resume) -> bool
         ensures { result ≡ true → IsQuietRest self.now }
@@ -325,7 +325,7 @@ impl Debugger {
         Ok(())
     }
 
-    // Why a step back from right behind what comes next stops, and where it does.
+    // Returns why a step back from right behind what comes next stops, and where it does.
     #[tactic(auto, using(crate::proofs::Moved::moved_not, crate::proofs::Backwards::stands_not))]
     fn stepped_back(&mut self, behind: Position) -> Result<Stop, PlayFault>
         requires event { behind.event ≤ length self.old.timeline.deeds }
@@ -446,7 +446,7 @@ impl Debugger {
         self.last()
     }
 
-    // What stops between here and another position, which was played.
+    // Returns what stops between here and another position, which was played.
     #[tactic(auto, using(crate::proofs::Backwards::stands_not, crate::proofs::Backwards::stands_then, crate::proofs::Backwards::part_start, crate::proofs::Backwards::part_end, crate::proofs::Backwards::inside_standing))]
     fn last_stop<R: Wish>(&mut self, end: Position, reader: &mut R) -> Result<Part, PlayFault>
         requires event { end.event ≤ length self.old.timeline.deeds }
@@ -583,7 +583,7 @@ fn last_before(deeds: &[Deed], at: Position) -> Option<Position>
     None
 }
 
-// How many instructions of an event stand before the last thing that it did to the process, if it did any.
+// Returns how many instructions of an event stand before the last thing that it did to the process, if it did any.
 #[tactic(auto, using(crate::proofs::Stepping::last_read, crate::proofs::Stepping::last_past))]
 fn before_last(deeds: &[Deed], event: usize) -> Option<u64>
     ensures { result ≡ before_last deeds.now event }

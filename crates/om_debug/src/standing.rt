@@ -59,15 +59,15 @@ impl Debugger {
         self.timeline.machine()
     }
 
-    /// Whether nothing comes to the process in what is left of the next event.
+    /// Returns whether nothing comes to the process in what is left of the next event.
     pub fn is_still(&self) -> bool
         ensures { result ≡ is_still (next_at self.now.timeline.deeds self.now.timeline.event self.now.timeline.turns) }
     {
         is_still(next_at(self.timeline.deeds(), self.timeline.position()))
     }
 
-    /// How the process stands: `ready`, `waiting`, `ended` with its code, `trapped` with the number of the cause, or `down`. Refused
-    /// only where memory ran out.
+    /// Returns how the process stands: `ready`, `waiting`, `ended` with its code, `trapped` with the number of the cause, or
+    /// `down`. Refused only where memory ran out.
     pub fn standing_text(&self) -> Result<String, AllocError>
         ensures { IfOk result (λ text. string_bytes text ≡ standing_text self.now) }
     {

@@ -46,7 +46,7 @@ fn bytes_at(machine: &Machine, base: Reg, imm: Imm12, length: u32, writes: bool)
     }
 }
 
-// What an instruction reads or writes, if anything.
+// Returns what an instruction reads or writes, if anything.
 fn access_of(machine: &Machine, inst: Inst) -> Option<Access>
     ensures { result ≡ access_of machine.now inst }
 {
@@ -63,14 +63,14 @@ fn access_of(machine: &Machine, inst: Inst) -> Option<Access>
     }
 }
 
-// What the instruction at pc reads or writes, if anything.
+// Returns what the instruction at pc reads or writes, if anything.
 fn inst_access(machine: &Machine) -> Option<Access>
     ensures { result ≡ inst_access machine.now }
 {
     access_of(machine, inst_at(machine)?)
 }
 
-// Where a message of so many bytes goes.
+// Returns where a message of so many bytes goes.
 fn receipt_access(event: Event, bytes: usize) -> Option<Access>
     ensures { result ≡ receipt_access event bytes }
 {
@@ -128,7 +128,7 @@ fn first_met_by(watches: &[Watch], access: Access) -> Option<Watch>
     None
 }
 
-// Whether the bytes of a watchpoint are others in the second machine.
+// Returns whether the bytes of a watchpoint are others in the second machine.
 fn changes(watch: Watch, before: &Machine, after: &Machine) -> bool
     ensures { result ≡ changes watch before.now after.now }
 {

@@ -4,7 +4,7 @@ use om_debug_command::{debug, debug_all};
 use std::alloc::Global;
 use std::process::Abort;
 
-// What is written to one who asks these packets about a process of a record.
+// Returns what is written to one who asks these packets about a process of a record.
 pub(crate) fn told(
     rt: &impl Abort,
     alloc: Global,
@@ -24,7 +24,7 @@ pub(crate) fn told(
     written
 }
 
-// What is written to one who asks these packets about all processes of a record.
+// Returns what is written to one who asks these packets about all processes of a record.
 pub(crate) fn told_of_all(rt: &impl Abort, alloc: Global, record: &str, asked: &str) -> Vec<u8> {
     let mut written = Vec::new(alloc);
     let done = debug_all(

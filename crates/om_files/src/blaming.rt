@@ -85,7 +85,7 @@ pub fn first_unusable(
     Ok(None)
 }
 
-// Why no run can take up a file. One that is not there, or is half made, is made by a run that resumes.
+// Returns why no run can take up a file. One that is not there, or is half made, is made by a run that resumes.
 fn fault_to_resume(rt: &HostRuntime, file: &str) -> FileFault {
     if fs::symlink_metadata(rt, file).is_err() {
         return FileFault::Store;
@@ -97,7 +97,7 @@ fn fault_to_resume(rt: &HostRuntime, file: &str) -> FileFault {
     }
 }
 
-// Whether a file is a store of the kind that a run can take up.
+// Returns whether a file is a store of the kind that a run can take up.
 fn is_open_store(rt: &HostRuntime, file: &str) -> bool {
     match copy_of(rt, file) {
         Ok(conn) => SqlLedger::adopt(conn).is_ok(),
@@ -105,7 +105,7 @@ fn is_open_store(rt: &HostRuntime, file: &str) -> bool {
     }
 }
 
-/// Why a file cannot be used as a store. It is only read.
+/// Returns why a file cannot be used as a store. It is only read.
 pub fn fault_of(rt: &HostRuntime, file: &str) -> FileFault {
     match fs::metadata(rt, file) {
         Err(error) => FileFault::Unreadable(error),
@@ -140,7 +140,7 @@ fn start_of(rt: &HostRuntime, file: &str) -> io::Result<Option<u8>> {
     }
 }
 
-// What is the matter with the tables of a database.
+// Returns what is the matter with the tables of a database.
 fn fault_of_tables(rt: &HostRuntime, conn: Connection<FileStore<Memory>>) -> FileFault
     requires { conn.in_transaction ≡ false }
 {

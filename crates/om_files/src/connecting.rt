@@ -43,7 +43,7 @@ impl<R, C: Connects> Opener<R> for InTables<C> {
     }
 }
 
-// Why no store is made anew where its database is not opened: whoever else has it came between.
+// Returns why no store is made anew where its database is not opened: whoever else has it came between.
 fn made_anew(fault: OpenFault) -> OpenFault
     ensures { (result ≡ OpenFault.Memory) ↔ (fault ≡ OpenFault.Memory) }
 {
@@ -53,7 +53,7 @@ fn made_anew(fault: OpenFault) -> OpenFault
     }
 }
 
-// Why no store is made where its tables are refused.
+// Returns why no store is made where its tables are refused.
 pub(crate) fn refusal_of(error: TablesError) -> OpenFault
     ensures { (result ≡ OpenFault.Memory) ↔ (error ≡ TablesError.Memory) }
 {
@@ -63,7 +63,7 @@ pub(crate) fn refusal_of(error: TablesError) -> OpenFault
     }
 }
 
-/// Why no store is made where a database is not opened.
+/// Returns why no store is made where a database is not opened.
 pub fn refusal_of_opening(error: &Error) -> OpenFault
     ensures { (result ≡ OpenFault.Memory) ↔ (error.now ≡ Error.SqliteFailure ErrorCode.OutOfMemory) }
 {

@@ -28,7 +28,7 @@ pub(crate) fn copy_of(
     }
 }
 
-// What a file and its log hold, each read once. A file that is not there, or has nothing, is a `StoreFault`.
+// Returns what a file and its log hold, each read once. A file that is not there, or has nothing, is a `StoreFault`.
 pub(crate) fn bytes_of(rt: &HostRuntime, file: &str) -> Result<DatabaseBytes, CommandError>
     ensures { IfErr result IsQuiet }
 {

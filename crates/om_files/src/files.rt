@@ -63,7 +63,7 @@ fn options(rt: &HostRuntime) -> Result<Options, OpenFault> {
     }
 }
 
-// Why the files of a process are not opened; what the system answered is noted.
+// Returns why the files of a process are not opened; what the system answered is noted.
 fn refused(error: &OpenError, note: Option<&Note>) -> OpenFault {
     match error {
         OpenError::OutOfMemory => OpenFault::Memory,

@@ -27,7 +27,7 @@ impl Model for Front {
     ghost invariant = { λ f. f.at ≤ length f.bytes.items };
 }
 
-// Where the first wish stands.
+// Returns where the first wish stands.
 fn wish_at(bytes: &[u8]) -> Option<usize>
     ensures place { result ≡ position (λ byte. byte == WISH) bytes.now }
     ensures within { IfSome result (λ at. at < length bytes.now) }
@@ -35,7 +35,7 @@ fn wish_at(bytes: &[u8]) -> Option<usize>
     bytes.iter().position(|byte| *byte == WISH)
 }
 
-// How many may be taken at once, so that no wish is taken with others.
+// Returns how many may be taken at once, so that no wish is taken with others.
 fn reach(bytes: &[u8]) -> usize
     ensures reach { result ≡ reach bytes.now }
     ensures within { result ≤ length bytes.now }

@@ -160,7 +160,7 @@ impl<'a, W: Wait> Taker<'a, W> {
         }
     }
 
-    /// Why the bytes were not read, where they were not.
+    /// Returns why the bytes were not read, where they were not.
     pub fn refusal(&self) -> Option<io::Error> {
         self.refusal
     }

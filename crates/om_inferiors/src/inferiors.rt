@@ -52,7 +52,7 @@ fn text(alloc: Global, text: &str) -> Result<Told, AllocError>
     Ok(Told::Text(bytes(alloc, text)?))
 }
 
-// Where the process of a number stands among those that are shown.
+// Returns where the process of a number stands among those that are shown.
 pub(crate) fn place_of(members: &[Inferior], number: u32) -> Option<usize>
     ensures place { result ≡ place_of members.now number }
     ensures within { IfSome result (λ place. place < length members.now) }
@@ -446,7 +446,7 @@ impl Inferiors {
     }
 }
 
-// Whether one of several would go on alone.
+// Returns whether one of several would go on alone.
 fn is_alone(whom: Whom, count: usize) -> bool {
     match whom {
         Whom::Whole(_) => count > 1,

@@ -30,7 +30,7 @@ fn all_to_event(all: &mut [Inferior], event: usize) -> Result<(), PlayFault>
 }
 
 impl Inferiors {
-    // What a command of the user is told.
+    // Returns what a command of the user is told.
     #[tactic(auto, using(crate::proofs::Each::are_moved_same))]
     pub(crate) fn monitor(&mut self, alloc: Global, command: Command) -> Result<String, PlayFault>
         ensures { AreMoved self.old.members.items self.new.members.items }
@@ -52,7 +52,7 @@ impl Inferiors {
         all_to_event(&mut self.members, event)
     }
 
-    // Where time and the processes stand.
+    // Returns where time and the processes stand.
     fn told_where(&self, alloc: Global) -> Result<String, AllocError> {
         let mut said = String::new(alloc);
         if let Some(first) = self.under_way() {

@@ -21,7 +21,7 @@ pub(crate) struct Stopped {
     pub(crate) stop: Stop,
 }
 
-// Whether the one position is before the other.
+// Returns whether the one position is before the other.
 fn is_before(one: Position, other: Position) -> bool {
     one.event < other.event || one.event == other.event && one.turns < other.turns
 }
@@ -35,7 +35,7 @@ fn first_event(all: &[Inferior]) -> usize {
     first
 }
 
-// Who is at an event that does something to it.
+// Returns who is at an event that does something to it.
 fn mover(all: &[Inferior], event: usize) -> Option<usize>
     ensures { IfSome result (λ place. place < length all.now) }
 {
@@ -120,7 +120,7 @@ fn follow(all: &mut [Inferior], event: usize, first: usize) -> Result<(), PlayFa
     Ok(())
 }
 
-// Whether a process stands at an event in which nothing comes to it.
+// Returns whether a process stands at an event in which nothing comes to it.
 fn is_passing(inferior: &Inferior, event: usize) -> bool {
     inferior.debugger.position().event == event && inferior.debugger.is_still()
 }
@@ -251,7 +251,7 @@ fn go_to_at(all: &mut [Inferior], place: usize, to: Position) -> Result<bool, Pl
     inferior.debugger.go_to(to)
 }
 
-// Whether the one stop is behind the other in time: of two at one position a breakpoint is.
+// Returns whether the one stop is behind the other in time: of two at one position a breakpoint is.
 fn is_later(all: &[Inferior], one: Stopped, other: Stopped) -> bool
     requires one { one.place < length all.now }
     requires other { other.place < length all.now }

@@ -139,7 +139,7 @@ fn is_over(outcome: &Result<Told, PlayFault>) -> bool
     }
 }
 
-// Whether packets are acknowledged behind this one.
+// Returns whether packets are acknowledged behind this one.
 fn acks_after(acks: bool, packet: &[u8]) -> bool
     ensures { result ≡ (acks && not (bytes_eq packet.now (codes "QStartNoAckMode"))) }
 {

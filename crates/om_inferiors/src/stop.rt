@@ -60,7 +60,7 @@ fn watch_text(alloc: Global, watch: Watch) -> Result<String, AllocError>
     format!(in alloc; "{word}:{address:x};")
 }
 
-// What more is known of a stop.
+// Returns what more is known of a stop.
 fn reason_text(alloc: Global, stop: Stop) -> Result<String, AllocError>
     ensures { IfOk result (λ text. string_bytes text ≡ reason_text stop) }
 {
@@ -78,7 +78,7 @@ fn reason_text(alloc: Global, stop: Stop) -> Result<String, AllocError>
     String::from_str(alloc, text)
 }
 
-// What a stop of the process of a number is told as. Refused only where memory ran out.
+// Returns what a stop of the process of a number is told as. Refused only where memory ran out.
 pub(crate) fn group_stop_text(alloc: Global, number: u32, stop: Stop) -> Result<String, AllocError>
     ensures { IfOk result (λ text. string_bytes text ≡ group_stop_text number stop) }
 {

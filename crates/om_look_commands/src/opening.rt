@@ -39,7 +39,7 @@ fn refusal_of(error: CopyError) -> CommandError
     }
 }
 
-// What was told over a connection into memory, where that answers still; then what was told is what its database holds.
+// Returns what was told over a connection into memory, where that answers still; then what was told is what its database holds.
 pub(crate) fn known(
     told: Result<(), CommandError>,
     mut conn: Connection<FileStore<Memory>>,
@@ -56,7 +56,7 @@ pub(crate) fn known(
     }
 }
 
-// What was told into memory: only memory refuses what is written there.
+// Returns what was told into memory: only memory refuses what is written there.
 pub(crate) fn in_memory(told: Result<(), CommandError>) -> Result<(), CommandError>
     ensures told { OnOk result (told ≡ Ok tt) }
     ensures error { IfErr result (λ error. IsNoMatterOfContent error ⊎ (told ≡ Err error)) }

@@ -51,7 +51,7 @@ impl Model for Decoder {
     ghost view = { λ d. record { place = d.place; body = d.body.items; total = d.total } };
 }
 
-// What a hexadecimal digit stands for, in either case.
+// Returns what a hexadecimal digit stands for, in either case.
 fn value_of(byte: u8) -> Option<u8>
     ensures { result ≡ hex_value byte }
 {
@@ -182,7 +182,7 @@ impl Decoder {
     }
 }
 
-// Whether two digits are a sum.
+// Returns whether two digits are a sum.
 fn is_sum(high: u8, low: u8, total: u8) -> bool
     ensures { IsTrue result ↔ (high * 16 + low ≡ total) }
 {

@@ -5,7 +5,7 @@ ghost use Rattle.om_packets.specs.Packets.{checksum, escaped, escaped_byte, hex_
 
 use std::alloc::{AllocError, Global};
 
-// Whether a packet may not hold the byte as it is.
+// Returns whether a packet may not hold the byte as it is.
 fn must_be_escaped(byte: u8) -> bool
     ensures { result ≡ is_special byte }
 {

@@ -94,7 +94,7 @@ fn by_group_letter(first: &[u8]) -> Option<GroupRequest>
     None
 }
 
-// Who is meant from now on.
+// Returns who is meant from now on.
 fn group_selection(word: &[u8]) -> GroupRequest
     ensures { result ≡ group_selection word.now }
 {
@@ -123,7 +123,7 @@ fn whom_of(word: &[u8]) -> Option<Whom>
     }
 }
 
-// Where the point stands between a process and its thread.
+// Returns where the point stands between a process and its thread.
 fn point_in(word: &[u8]) -> Option<usize>
     ensures place { result ≡ position (λ byte. byte == 46) word.now }
     ensures within { IfSome result (λ at. at < length word.now) }
@@ -187,7 +187,7 @@ fn thread_of_process(word: &[u8], number: u32) -> Option<Whom>
     }
 }
 
-// How to go on, and who is to do it so.
+// Returns how to go on, and who is to do it so.
 fn group_resume(rest: &[&[u8]]) -> GroupRequest
     ensures { result ≡ group_resume (map (λ word. word.now) rest.now) }
 {
@@ -208,7 +208,7 @@ fn behind_action<'a, 'b>(rest: &'a [&'b [u8]]) -> &'a [&'b [u8]]
     }
 }
 
-// Who is named first.
+// Returns who is named first.
 fn named_first(words: &[&[u8]]) -> Option<Whom>
     ensures { result ≡ named_first (map (λ word. word.now) words.now) }
 {

@@ -15,7 +15,7 @@ pub fn hex_number(word: &[u8]) -> Option<u32>
     value_of(word)
 }
 
-// What the digits write, where they are digits and that is below 2^32.
+// Returns what the digits write, where they are digits and that is below 2^32.
 fn value_of(word: &[u8]) -> Option<u32>
     ensures { result ≡ (if are_digits 16 word.now
         then below (2 ^ 32) (Some (digits_value 16 word.now)) else None) }
@@ -28,7 +28,7 @@ fn value_of(word: &[u8]) -> Option<u32>
     Some(value)
 }
 
-// What the digits write with one more of them, where that is below 2^32.
+// Returns what the digits write with one more of them, where that is below 2^32.
 fn with_digit(value: u32, digit: u32) -> Option<u32>
     ensures { result ≡ below (2 ^ 32) (Some (value * 16 + digit)) }
 {

@@ -140,7 +140,7 @@ fn break_at(sets: bool, address: Option<u32>) -> Request
     }
 }
 
-// Which accesses the kind of a watchpoint means.
+// Returns which accesses the kind of a watchpoint means.
 fn watched_of(kind: &[u8]) -> Option<Watched>
     ensures { result ≡ watched_of kind.now }
 {
@@ -198,7 +198,7 @@ fn memory_request(address: &[u8], rest: &[&[u8]]) -> Request
     }
 }
 
-// Which thread is meant.
+// Returns which thread is meant.
 fn selection(word: &[u8]) -> Request
     ensures { result ≡ selection word.now }
 {
@@ -296,7 +296,7 @@ fn goto_command(event: Option<u32>) -> Command
     }
 }
 
-// How to go on, by the first action.
+// Returns how to go on, by the first action.
 pub(crate) fn resume_request(rest: &[&[u8]]) -> Request
     ensures { result ≡ resume_request (map (λ word. word.now) rest.now) }
 {

@@ -79,7 +79,7 @@ pub(crate) fn run_with_witness<
     Ok(report.statuses)
 }
 
-// What threads report of the cluster of a script, and what each process did.
+// Returns what threads report of the cluster of a script, and what each process did.
 fn reported<R: Threads + Wait + Clock + Sync, O: Opener<R> + Sync>(
     rt: &R,
     alloc: Global,

@@ -21,7 +21,7 @@ use om_stable::MemStable;
 use om_world::{Event, World};
 use std::alloc::{AllocError, Global};
 
-// How so many processes of a world in its end have ended.
+// Returns how so many processes of a world in its end have ended.
 fn statuses_of(alloc: Global, world: &World<MemStable>, n: usize) -> Result<Vec<Status>, AllocError>
     requires few { n ≤ MAX_PROCESSES }
     requires done { (p : ℕ) → p < n → IsDone world.now p }
@@ -35,7 +35,7 @@ fn statuses_of(alloc: Global, world: &World<MemStable>, n: usize) -> Result<Vec<
     Ok(statuses)
 }
 
-// How a process of a world in its end has ended.
+// Returns how a process of a world in its end has ended.
 fn status_of(world: &World<MemStable>, pid: Pid) -> Status
     requires { IsDone world.now pid }
     ensures { (c : CoreState) × (slice_get world.now.cores pid ≡ Some (Some c)) × (result ≡ status_of (move_of c)) }

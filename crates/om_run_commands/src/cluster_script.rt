@@ -72,7 +72,7 @@ impl ClusterScript {
         &self.programs
     }
 
-    /// Which processes are to fail, and each in which interval, in the order of the lines.
+    /// Returns which processes are to fail, and each in which interval, in the order of the lines.
     pub fn kills(&self) -> &[(Pid, u32)]
         ensures { result.now ≡ self.now.kills }
     {
@@ -237,7 +237,7 @@ fn lines_kept(alloc: Global, keeps_lines: bool) -> Option<Vec<u8>> {
     }
 }
 
-// Whether a line of this first word gives a program or a process.
+// Returns whether a line of this first word gives a program or a process.
 fn is_kept(first: &[u8]) -> bool {
     first == b"program".as_slice()
         || first == b"program-m".as_slice()

@@ -7,7 +7,7 @@ use om_check::PlayFault;
 use om_commands::CommandError;
 use om_runner::RunFault;
 
-// Why the run of a cluster came to no end.
+// Returns why the run of a cluster came to no end.
 pub(crate) fn error_of_run(fault: RunFault) -> CommandError
     ensures { result ≡ error_of_run fault }
 {
@@ -23,7 +23,7 @@ pub(crate) fn error_of_run(fault: RunFault) -> CommandError
     }
 }
 
-// Why the run without failures was not played.
+// Returns why the run without failures was not played.
 pub(crate) fn error_of_play(fault: PlayFault) -> CommandError
     ensures { result ≡ error_of_play fault }
 {

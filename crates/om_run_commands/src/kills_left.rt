@@ -10,8 +10,8 @@ use om_scripts::Programs;
 use std::alloc::{AllocError, Global};
 use std::fmt::Write;
 
-/// Whether one of these kills did not come, by the failures that there were: by each the process, and the interval that it had just
-/// begun.
+/// Returns whether one of these kills did not come, by the failures that there were: by each the process, and the interval that
+/// it had just begun.
 pub fn has_kills_left(kills: &[(Pid, u32)], failures: &[(Pid, u32)]) -> bool
     ensures some { IsTrue result → (i : ℕ) × (i < length kills.now) × IsTrue (is_left kills.now failures.now i) }
     ensures none { result ≡ false → (i : ℕ) → i < length kills.now → is_left kills.now failures.now i ≡ false }
@@ -24,14 +24,14 @@ pub fn has_kills_left(kills: &[(Pid, u32)], failures: &[(Pid, u32)]) -> bool
     false
 }
 
-// Whether a kill did not come that stands behind others: no more failures are like it than kills before it.
+// Returns whether a kill did not come that stands behind others: no more failures are like it than kills before it.
 fn is_left_after(before: &[(Pid, u32)], kill: &(Pid, u32), failures: &[(Pid, u32)]) -> bool
     ensures { result ≡ is_left_after before.now kill.now failures.now }
 {
     count_of(kill, failures) <= count_of(kill, before)
 }
 
-// How many of these are like a kill.
+// Returns how many of these are like a kill.
 fn count_of(kill: &(Pid, u32), others: &[(Pid, u32)]) -> usize
     ensures { result ≡ count_by (is_same kill.now) others.now }
 {

@@ -25,14 +25,14 @@ pub enum RunMode<'a> {
 }
 
 impl<'a> RunMode<'a> {
-    // Whether a script of `sim` is written, which begins with the lines of programs and processes.
+    // Returns whether a script of `sim` is written, which begins with the lines of programs and processes.
     pub(crate) fn writes_script(self) -> bool
         ensures { IsTrue result ↔ ((self.entry ≡ RunMode.Witness) ⊎ (self.entry ≡ RunMode.Record)) }
     {
         matches!(self, RunMode::Witness | RunMode::Record)
     }
 
-    // Whether the process whose outputs are asked for is none of these.
+    // Returns whether the process whose outputs are asked for is none of these.
     pub(crate) fn lacks(self, programs: &Programs) -> bool
         ensures { IsTrue result ↔ LacksIn self.entry programs.now }
     {

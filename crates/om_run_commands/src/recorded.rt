@@ -51,7 +51,7 @@ pub(crate) fn run_recorded<
     write_report(alloc, form, script, report, writer)
 }
 
-// What a run of the cluster of a script ends with. What the threads did is written.
+// Returns what a run of the cluster of a script ends with. What the threads did is written.
 fn recorded<R: Threads + Wait + Clock + Sync, O: Opener<R> + Sync, C: RunContext>(
     rt: &R,
     alloc: Global,
@@ -85,7 +85,7 @@ fn write_record<C: RunContext>(
     write_script(context, script, &events)
 }
 
-// What a run of the cluster of a script ends with, while the recorder takes in what the threads do.
+// Returns what a run of the cluster of a script ends with, while the recorder takes in what the threads do.
 fn report_of<R: Threads + Wait + Clock + Sync, O: Opener<R> + Sync>(
     rt: &R,
     alloc: Global,

@@ -104,7 +104,7 @@ pub(crate) fn write_report<W: Write>(
     Ok(report.statuses)
 }
 
-// What a run of the cluster of a script ends with.
+// Returns what a run of the cluster of a script ends with.
 fn report_of<R: Threads + Wait + Clock + Sync, O: Opener<R> + Sync>(
     rt: &R,
     alloc: Global,

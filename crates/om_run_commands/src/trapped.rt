@@ -14,7 +14,7 @@ use om_scripts::Programs;
 use std::alloc::{AllocError, Global};
 use std::fmt::Write;
 
-/// Whether one of these processes trapped.
+/// Returns whether one of these processes trapped.
 pub fn has_trapped(statuses: &[Status]) -> bool
     ensures { result ≡ list_any is_trap statuses.now }
 {
@@ -123,7 +123,7 @@ fn push_word(alloc: Global, text: &mut String, word: u32) -> Result<(), AllocErr
     text.push_str(&hex::encode(alloc, word.to_be_bytes())?)
 }
 
-// What a cause is.
+// Returns what a cause is.
 fn cause_words(cause: Cause) -> &'static str
     ensures { result.now ≡ cause_words cause }
 {

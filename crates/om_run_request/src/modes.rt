@@ -7,7 +7,7 @@ use om_arguments::{Checking, OutputForm};
 use om_commands::BytesForm;
 use om_run_commands::RunMode;
 
-/// How a run is carried out that is to be checked so.
+/// Returns how a run is carried out that is to be checked so.
 pub fn mode_of<'a>(checking: Checking<'a>) -> RunMode<'a>
     ensures { result ≡ mode_of checking.entry }
 {

@@ -39,7 +39,7 @@ impl<'a> Barrier<'a> {
         self.returns.fetch_add(1, SeqCst).wrapping_add(1) >= self.due
     }
 
-    // Whether the process has passed.
+    // Returns whether the process has passed.
     pub(crate) fn is_passed(&self) -> bool
         ensures { IsTrue result ↔ self.now.due ≡ 0 }
     {

@@ -286,7 +286,7 @@ fn admit<'a, K: Naming, J: Series, R: Wait, G: Gate, O: Opener<R>>(
     Ok((node, kills))
 }
 
-// What the thread of a process does that starts over a store that holds nothing.
+// Does what the thread of a process does that starts over a store that holds nothing.
 fn work_anew<'a, K: Naming, J: Series, R: Wait + Clock, G: Gate, O: Opener<R>>(
     cluster: &Cluster<'a, K, R, G, O>,
     image: &'a Image,
@@ -321,7 +321,7 @@ fn work_anew<'a, K: Naming, J: Series, R: Wait + Clock, G: Gate, O: Opener<R>>(
     take_turns(rt, alloc, plan.turns, stop, worker, Place::Up(node), pass)
 }
 
-// What the thread of a process does that is taken up from what an earlier run left of it.
+// Does what the thread of a process does that is taken up from what an earlier run left of it.
 fn work_on<'a, K: Naming, J: Series, R: Wait + Clock, G: Gate, O: Opener<R>>(
     cluster: &Cluster<'a, K, R, G, O>,
     image: &'a Image,
@@ -374,7 +374,7 @@ fn work_on<'a, K: Naming, J: Series, R: Wait + Clock, G: Gate, O: Opener<R>>(
     )
 }
 
-// What the thread of a process does.
+// Does what the thread of a process does.
 fn work<'a, K: Naming, J: Series, R: Wait + Clock, G: Gate, O: Opener<R>>(
     cluster: &Cluster<'a, K, R, G, O>,
     image: &'a Image,
@@ -473,7 +473,7 @@ fn start<
         .ok()
 }
 
-// Where stores are slow, a thread of the scope that writes the store of a process, and the way to it; None where it could not be made.
+// Starts, where stores are slow, a thread of the scope that writes the store of a process, and the way to it; None where it could not be made.
 fn started_line<
     's,
     E,
@@ -658,7 +658,7 @@ fn run_scoped<
     )
 }
 
-// What all workers of a cluster brought back, where each ended well; and what was beside them.
+// Returns what all workers of a cluster brought back, where each ended well; and what was beside them.
 pub(crate) fn run_workers<
     K: Naming + Send + Sync,
     R: Threads + Wait + Clock + Sync,
@@ -699,7 +699,7 @@ pub(crate) fn run_workers<
     }
 }
 
-// How all ended, their outputs and their stores, once the inboxes are settled; what each process did; and the ends by which
+// Returns how all ended, their outputs and their stores, once the inboxes are settled; what each process did; and the ends by which
 // each takes.
 pub(crate) fn settled<K: Naming, R: Wait, G, O: Opener<R>>(
     cluster: &Cluster<'_, K, R, G, O>,

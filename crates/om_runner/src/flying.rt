@@ -159,7 +159,7 @@ impl<J: Series, S: Ledger> Line<J, S> {
 }
 
 impl<J: Series, S: Stable> Line<J, S> {
-    // What has come back, if it has.
+    // Returns what has come back, if it has.
     pub(crate) fn look<R: Wait>(&self, rt: &R) -> Option<Landing<J, S>> {
         match self.landings.try_recv(rt) {
             Ok(landing) => Some(landing),

@@ -436,7 +436,7 @@ impl<'a, K: Naming, F: Follower> Following<'a, K, F> {
         following
     }
 
-    // Whether the run is to come to no end.
+    // Returns whether the run is to come to no end.
     pub(crate) fn is_over(&self) -> bool {
         self.fault.is_some()
     }

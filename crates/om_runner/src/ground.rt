@@ -88,7 +88,7 @@ fn bells_of(alloc: Global, n: usize) -> Result<Vec<Bell>, AllocError> {
     Ok(bells)
 }
 
-// What each of so many processes has received at its start.
+// Returns what each of so many processes has received at its start.
 fn received_of(alloc: Global, n: usize) -> Result<Vec<Received>, AllocError> {
     let mut received = Vec::with_capacity(alloc, n)?;
     for _ in 0..n {

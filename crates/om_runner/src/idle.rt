@@ -68,7 +68,7 @@ impl Idle {
         self.sleep
     }
 
-    // Whether no sleep has passed to its end since something happened.
+    // Returns whether no sleep has passed to its end since something happened.
     pub(crate) fn is_fresh(&self) -> bool
         ensures { IsTrue result ↔ self.now.sleep ≡ FIRST_SLEEP }
     {

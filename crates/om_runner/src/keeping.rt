@@ -116,7 +116,7 @@ pub(crate) struct Kept {
 }
 
 impl Kept {
-    // What the store has not yet of the outputs that are released, and of the senders of the receipts up to a checkpoint.
+    // Returns what the store has not yet of the outputs that are released, and of the senders of the receipts up to a checkpoint.
     pub(crate) fn deposit(
         &self,
         alloc: Global,

@@ -54,7 +54,7 @@ fn taken_from<R: Wait>(rt: &R, inbox: &Inbox, pass: &mut TakePass) -> Option<Tak
     }
 }
 
-// How many messages of its sender were received with this one, as those before were.
+// Returns how many messages of its sender were received with this one, as those before were.
 fn count_with(message: &Message) -> u32
     ensures { result ≡ min (message.now.ssn + 1) u32.MAX }
 {
@@ -104,7 +104,7 @@ impl<'a> Model for Links<'a> {
     ghost invariant = { λ l. AreLinks (record { own = l.own; n = l.n; lines = l.inboxes.now }) l.puts.items l.takes.items l.turn };
 }
 
-// How many messages of this sender each process has received, as far as it has told.
+// Returns how many messages of this sender each process has received, as far as it has told.
 fn received_of(received: &[Received], from: Pid) -> [u32; MAX_PROCESSES] {
     let mut counts = [u32::MAX; MAX_PROCESSES];
     for (to, receiver) in received.iter().enumerate().take(MAX_PROCESSES) {
@@ -193,22 +193,22 @@ impl<'a> Links<'a> {
         self.inboxes
     }
 
-    // How many messages the process has put.
+    // Returns how many messages the process has put.
     pub(crate) fn put(&self) -> u64 {
         self.put
     }
 
-    // How many messages it has taken.
+    // Returns how many messages it has taken.
     pub(crate) fn taken(&self) -> u64 {
         self.taken
     }
 
-    // Whether all messages that are kept were put, when they were put last.
+    // Returns whether all messages that are kept were put, when they were put last.
     pub(crate) fn has_put_all(&self) -> bool {
         !self.left.iter().any(|left| *left)
     }
 
-    // Whether something is to be put though the process sends nothing.
+    // Returns whether something is to be put though the process sends nothing.
     pub(crate) fn is_behind(&self) -> bool {
         self.is_behind
     }

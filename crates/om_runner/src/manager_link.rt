@@ -65,14 +65,14 @@ pub(crate) struct ManagerLink<'a, K: Naming> {
     ghost place: { pid < K.cell.n },
 }
 
-// Whether one of the rows is a checkpoint's.
+// Returns whether one of the rows is a checkpoint's.
 fn have_checkpoint(rows: &[PendingRow]) -> bool
     ensures { IsTrue result ↔ Any (λ row. IsTrue row.ckpt) rows.now }
 {
     rows.iter().any(|row| row.ckpt)
 }
 
-// Whether one of them is a receipt's.
+// Returns whether one of them is a receipt's.
 fn have_receipt(rows: &[PendingRow]) -> bool {
     rows.iter().any(|row| !row.ckpt)
 }
@@ -97,25 +97,25 @@ impl<'a, K: Naming> ManagerLink<'a, K> {
         self.shared.frontier.read(rt, pass)
     }
 
-    // Whether a round is finished that the process does not know yet.
+    // Returns whether a round is finished that the process does not know yet.
     pub(crate) fn is_behind(&self, front: &Front) -> bool {
         front.round > self.round
     }
 
-    // How many failures were declared.
+    // Returns how many failures were declared.
     pub(crate) fn failures(&self) -> u64 {
         self.shared.failures.load(SeqCst)
     }
 
-    // Whether a failure was declared since it last looked for an open gathering, where so many were declared.
+    // Returns whether a failure was declared since it last looked for an open gathering, where so many were declared.
     pub(crate) fn is_called(&self, failures: u64) -> bool
         ensures { IsTrue result ↔ failures ≢ self.now.failures }
     {
         failures != self.failures
     }
 
-    // Whether there is something to hand in or to learn. A gathering may be open where a failure was declared; a state that was
-    // only raised says nothing to a process.
+    // Returns whether there is something to hand in or to learn. A gathering may be open where a failure was declared; a state
+    // that was only raised says nothing to a process.
     pub(crate) fn is_due(&self, core: &ProcCore, ended: bool, called: bool) -> bool
         ensures running { result ≡ false → ended ≡ false }
         ensures told { result ≡ false → core.now.pending ≡ [] }
@@ -187,7 +187,7 @@ impl<'a, K: Naming> ManagerLink<'a, K> {
         })
     }
 
-    // How the manager stands. A process that has ended reports itself quiet.
+    // Returns how the manager stands. A process that has ended reports itself quiet.
     fn ask<R: Wait>(&self, desk: &mut Desk<'_, K, R>, ended: bool) -> Standing
         ensures { IsStanding desk.old.board.now self.now.pid self.now.round ended result desk.new.board.now }
     {
@@ -513,7 +513,7 @@ impl<'a, K: Naming> ManagerLink<'a, K> {
         }
     }
 
-    // What the manager says of the last finished round, which the process is in from now on.
+    // Returns what the manager says of the last finished round, which the process is in from now on.
     fn hear_at<R: Wait>(
         &mut self,
         rt: &R,

@@ -111,7 +111,7 @@ fn boxed<T: Drop>(alloc: Global, value: T) -> Result<Box<T>, AllocError>
     }
 }
 
-// Whether a process has come to its end.
+// Returns whether a process has come to its end.
 pub(crate) fn has_ended(status: Status) -> bool
     ensures { IsTrue result ↔ IsEnd status }
 {
@@ -284,7 +284,7 @@ impl<'a, J: Series, S: Stable> Node<'a, J, S> {
         }
     }
 
-    // How the process ended, and its store; or itself, where it has not ended.
+    // Returns how the process ended, and its store; or itself, where it has not ended.
     #[inline(never)]
     pub(crate) fn end(self) -> Result<(Status, S), Node<'a, J, S>>
         requires here { self.away ≡ false }
@@ -332,8 +332,8 @@ impl<'a, J: Series, S: Ledger> Node<'a, J, S> {
         Ok(())
     }
 
-    // What goes with a flight: the first k receipts of the log, all where it is shorter, a checkpoint of now where one is due, and what
-    // is due in the store beside.
+    // Returns what goes with a flight: the first k receipts of the log, all where it is shorter, a checkpoint of now where one
+    // is due, and what is due in the store beside.
     fn pack(
         &mut self,
         alloc: Global,
@@ -390,14 +390,14 @@ impl<'a, J: Series, S: Ledger> Node<'a, J, S> {
 }
 
 impl<'a, J: Series, S: Stable> Node<'a, J, S> {
-    // Whether its store is slow, so that a flight takes to it what is to be stored.
+    // Returns whether its store is slow, so that a flight takes to it what is to be stored.
     pub(crate) fn is_slow(&self) -> bool
         ensures { result ≡ self.now.slow }
     {
         self.line.is_some()
     }
 
-    // Whether a flight is under way.
+    // Returns whether a flight is under way.
     pub(crate) fn is_away(&self) -> bool
         ensures { result ≡ self.now.away }
     {
@@ -407,7 +407,7 @@ impl<'a, J: Series, S: Stable> Node<'a, J, S> {
         }
     }
 
-    // What came back of the flight that is under way, if it has landed.
+    // Returns what came back of the flight that is under way, if it has landed.
     pub(crate) fn look<R: Wait>(&self, rt: &R) -> Option<Landing<J, S>> {
         self.line.as_ref()?.look(rt)
     }

@@ -10,7 +10,7 @@ use thiserror::Error;
 
 /// Says when a process may start.
 pub trait Gate {
-    /// Whether the process may start. Its worker asks before it makes the process, until the answer is true.
+    /// Returns whether the process may start. Its worker asks before it makes the process, until the answer is true.
     fn may_start(&self, pid: Pid) -> bool;
 }
 
@@ -37,20 +37,20 @@ pub trait Opener<R> {
         ensures sound { IfOk result (λ store. IsTrue (Self.Store.is_clean store) → Self.Store.IsSound store) }
         ensures empty { IfOk result (λ store. IsTrue (Self.Store.is_clean store) → Self.Store.content store ≡ nothing) };
 
-    /// Whether its stores may hold what an earlier run left, which is taken up. Such a store never says that it is clean.
+    /// Returns whether its stores may hold what an earlier run left, which is taken up. Such a store never says that it is clean.
     fn resumes(&self) -> bool
         ensures unsure { IsTrue result → AreNeverClean Self.Store.is_clean }
     {
         false
     }
 
-    /// Whether its stores take long to store something, as on a disk. Then each process has a thread beside its own that writes its
-    /// store, and goes on meanwhile.
+    /// Returns whether its stores take long to store something, as on a disk. Then each process has a thread beside its own
+    /// that writes its store, and goes on meanwhile.
     fn is_slow(&self) -> bool {
         false
     }
 
-    /// Who sees what the processes do while they run, if anybody does.
+    /// Returns who sees what the processes do while they run, if anybody does.
     fn watch(&self) -> Option<&Watch> {
         None
     }

@@ -34,7 +34,7 @@ impl Patience {
         }
     }
 
-    // Whether the worker would yield before it sleeps.
+    // Returns whether the worker would yield before it sleeps.
     pub(crate) fn is_patient(&self) -> bool
         ensures { IsTrue result ↔ self.now.rests ≡ 0 }
     {

@@ -36,7 +36,7 @@ impl Received {
         }
     }
 
-    // How many of a sender's messages were received.
+    // Returns how many of a sender's messages were received.
     pub(crate) fn from(&self, from: Pid) -> u32 {
         match self.counts.get(from.index()) {
             Some(told) => told.load(SeqCst),

@@ -43,7 +43,7 @@ pub(crate) struct Parts<K: Naming, S: Stable> {
     pub(crate) witnesses: Vec<Witness>,
 }
 
-// Whether the worker's turns were out.
+// Returns whether the worker's turns were out.
 fn is_out(fault: RunFault) -> bool
     ensures { IsTrue result ↔ IsOut fault }
 {
@@ -80,7 +80,7 @@ fn fault_of<K: Naming, S: Stable>(results: &[Result<Finished<K, S>, RunFault>]) 
     last
 }
 
-// What all workers brought back.
+// Returns what all workers brought back.
 fn all_of<K: Naming, S: Stable>(
     alloc: Global,
     results: Vec<Result<Finished<K, S>, RunFault>>,
@@ -142,7 +142,7 @@ fn parted<K: Naming, S: Stable>(
     })
 }
 
-// What workers brought back, where each ended well.
+// Returns what workers brought back, where each ended well.
 pub(crate) fn gathered<K: Naming, R: Wait, G, O: Opener<R>>(
     cluster: &Cluster<'_, K, R, G, O>,
     results: Vec<Result<Finished<K, O::Store>, RunFault>>,

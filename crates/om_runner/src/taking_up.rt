@@ -66,7 +66,7 @@ impl Census {
         self.looked.fetch_add(1, SeqCst);
     }
 
-    // Whether a store that has no checkpoint was lost: others hold more than a start.
+    // Returns whether a store that has no checkpoint was lost: others hold more than a start.
     fn misses(&self, found: &Found) -> bool {
         !found.is_begun() && self.beyond.load(SeqCst) > 0
     }

@@ -60,7 +60,7 @@ pub(crate) enum Place<'a, J: Series, S: Stable> {
 }
 
 impl<'a, J: Series, S: Stable> Place<'a, J, S> {
-    // What the process does there.
+    // Returns what the process does there.
     fn doing(&self) -> Doing
         ensures { result ≡ doing_at self.now }
     {
@@ -72,7 +72,7 @@ impl<'a, J: Series, S: Stable> Place<'a, J, S> {
         }
     }
 
-    // What is seen of the process there, once this was seen of it before: of one that is down, what it does.
+    // Returns what is seen of the process there, once this was seen of it before: of one that is down, what it does.
     fn sight(&self, before: Sight) -> Sight
         ensures { result ≡ sight_at before self.now }
     {
@@ -86,7 +86,7 @@ impl<'a, J: Series, S: Stable> Place<'a, J, S> {
     }
 }
 
-// What is seen of a process that does this, once this was seen of it before.
+// Returns what is seen of a process that does this, once this was seen of it before.
 fn sight_of(core: &ProcCore, doing: Doing, before: Sight) -> Sight
     ensures { result ≡ sight_of doing before core.now }
 {
@@ -114,7 +114,7 @@ enum Step {
 }
 
 impl Step {
-    // Where the process stands then.
+    // Returns where the process stands then.
     #[inline(never)]
     fn place_of<'a, J: Series, S: Stable>(self, node: Node<'a, J, S>) -> Place<'a, J, S>
         requires landed { IsLandedAt self node }
@@ -329,7 +329,7 @@ impl<'a, K: Naming> Worker<'a, K> {
         Ok(())
     }
 
-    // How many turns the last one counts as beside itself.
+    // Returns how many turns the last one counts as beside itself.
     pub(crate) fn extra(&self) -> u64
         ensures { result ≡ self.now.extra }
     {
@@ -345,7 +345,8 @@ impl<'a, K: Naming> Worker<'a, K> {
         }
     }
 
-    // Whether the process, which is up, waits for others to come up. A turn in which it does is one in which nothing happens.
+    // Returns whether the process, which is up, waits for others to come up. A turn in which it does is one in which nothing
+    // happens.
     fn waits_for_others<R: Wait + Clock>(&mut self, rt: &R) -> bool
         ensures { self.new.links ≡ self.old.links }
     {
@@ -987,8 +988,8 @@ impl<'a, K: Naming> Worker<'a, K> {
         self.up_again(rt, node, &told.verdict, true)
     }
 
-    // What the manager says of a round that is finished and that the process does not know yet, if there is one. After it all
-    // that is kept is sent once more.
+    // Returns what the manager says of a round that is finished and that the process does not know yet, if there is one. After
+    // it all that is kept is sent once more.
     fn listen<R: Wait + Clock>(
         &mut self,
         rt: &R,

@@ -44,7 +44,7 @@ const MAX_LINKS: usize = 40;
 // What SQLite puts behind the name of a file for what it keeps beside it; nothing for the file itself.
 const ENDINGS: [&str; 4] = ["", "-wal", "-shm", "-journal"];
 
-/// What a path names that is a file already: the input, a file or else standard input, or the file of standard output. None
+/// Returns what a path names that is a file already: the input, a file or else standard input, or the file of standard output. None
 /// where it is neither, or is no regular file.
 pub fn clash_with_streams(rt: &HostRuntime, path: &str, input: Option<&str>) -> Option<Clash> {
     let found = file_at(rt, path)?;
@@ -75,8 +75,8 @@ fn start_of(rt: &HostRuntime, path: &str) -> io::Result<Vec<u8>> {
     Ok(start)
 }
 
-/// Whether what is written to a path would lie at the name of a store of so many processes, or of what SQLite keeps beside one. None
-/// of them need be there.
+/// Returns whether what is written to a path would lie at the name of a store of so many processes, or of what SQLite keeps
+/// beside one. None of them need be there.
 pub fn clashes_with_stores(
     rt: &HostRuntime,
     path: &str,
@@ -100,7 +100,7 @@ pub fn clashes_with_stores(
     Ok(false)
 }
 
-// Whether it is the name of the file, or of what SQLite keeps beside it.
+// Returns whether it is the name of the file, or of what SQLite keeps beside it.
 fn is_beside(name: &str, file: Option<&str>) -> bool {
     let Some(file) = file else {
         return false;
@@ -111,7 +111,7 @@ fn is_beside(name: &str, file: Option<&str>) -> bool {
     ENDINGS.iter().any(|known| *known == ending)
 }
 
-// Where a file would lie that is written to a path: links at its end are followed.
+// Returns where a file would lie that is written to a path: links at its end are followed.
 fn end_of_links(rt: &HostRuntime, path: &str) -> Result<PathBuf, AllocError> {
     let mut place = PathBuf::from_str(rt.alloc(), path)?;
     for _ in 0..MAX_LINKS {

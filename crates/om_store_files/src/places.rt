@@ -151,12 +151,12 @@ fn remove_made(
     Ok(())
 }
 
-// Whether anything has this name, also a link that leads nowhere.
+// Returns whether anything has this name, also a link that leads nowhere.
 fn is_there(rt: &HostRuntime, path: &str) -> bool {
     fs::symlink_metadata(rt, path).is_ok()
 }
 
-// Whether it is a file that has nothing in it; where one is named, that file.
+// Returns whether it is a file that has nothing in it; where one is named, that file.
 fn is_empty(rt: &HostRuntime, path: &str, wanted: Option<Identity>) -> bool {
     fs::symlink_metadata(rt, path).is_ok_and(|found| {
         found.is_file()

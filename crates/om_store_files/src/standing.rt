@@ -44,7 +44,7 @@ impl Standing {
     }
 }
 
-// What stands at the names of a process.
+// Returns what stands at the names of a process.
 fn stood_at(rt: &HostRuntime, prefix: &str, process: usize) -> Result<Stood, AllocError> {
     let file = store_of(rt.alloc(), prefix, process)?;
     let log = log_of(rt.alloc(), &file)?;
@@ -54,7 +54,7 @@ fn stood_at(rt: &HostRuntime, prefix: &str, process: usize) -> Result<Stood, All
     })
 }
 
-// Whether anything has this name, also a link that leads nowhere.
+// Returns whether anything has this name, also a link that leads nowhere.
 fn is_there(rt: &HostRuntime, path: &str) -> bool {
     fs::symlink_metadata(rt, path).is_ok()
 }
@@ -83,7 +83,7 @@ fn tidy_one(
     Ok(())
 }
 
-// Whether it is a file of fewer bytes than so many.
+// Returns whether it is a file of fewer bytes than so many.
 fn is_shorter(rt: &HostRuntime, path: &str, bytes: u64) -> bool {
     fs::symlink_metadata(rt, path).is_ok_and(|found| found.is_file() && found.len() < bytes)
 }

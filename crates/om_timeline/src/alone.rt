@@ -92,7 +92,7 @@ impl Alone {
         }
     }
 
-    // What the process is about to do with a send or an output of these bytes.
+    // Returns what the process is about to do with a send or an output of these bytes.
     #[tactic(auto, using(crate::proofs::Finishing::emits_told_inside, crate::proofs::Finishing::emits_told_outside))]
     fn status_at(&self, addr: u32, len: u32) -> Status
         ensures { (place : ℕ) → status_of (emits place addr len self.now.machine) ≡ result }
@@ -104,7 +104,7 @@ impl Alone {
         }
     }
 
-    // What the process is about to do.
+    // Returns what the process is about to do.
     #[tactic(auto, using(crate::proofs::Finishing::goes_told, crate::proofs::Finishing::who_told, crate::proofs::Finishing::exit_told, crate::proofs::Finishing::trap_told, crate::proofs::Finishing::receive_told, crate::proofs::Finishing::receive_trap_told, crate::proofs::Finishing::send_told, crate::proofs::Finishing::send_refused_told, crate::proofs::Finishing::output_told, crate::proofs::Finishing::output_refused_told))]
     pub(crate) fn status(&self) -> Status
         ensures { status_of (move_alone self.now.own self.now.n self.now.machine) ≡ result }

@@ -21,7 +21,7 @@ pub enum Deed {
     Back(Machine),
 }
 
-// How many turns the deed at a place has.
+// Returns how many turns the deed at a place has.
 #[tactic(auto, using(crate::proofs::Placing::turns_read, crate::proofs::Placing::none_behind))]
 pub(crate) fn turns_at(deeds: &[Deed], event: usize) -> u64
     ensures { result ≡ turns_at deeds.now event }

@@ -79,7 +79,7 @@ pub(crate) fn play_one(
     Ok(only(&answers))
 }
 
-// Whether a run of so many turns took them all.
+// Returns whether a run of so many turns took them all.
 fn uses_up(answer: Answer, turns: u64) -> bool
     ensures { (result ≡ true) ↔ UsesUp turns answer }
 {

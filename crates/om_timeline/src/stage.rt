@@ -22,14 +22,14 @@ pub(crate) struct Stage {
     pub(crate) at: Position,
 }
 
-// Whether the one position is the other, or before it.
+// Returns whether the one position is the other, or before it.
 pub(crate) fn is_up_to(one: Position, other: Position) -> bool
     ensures { (result ≡ true) ↔ IsUpTo one.event one.turns other.event other.turns }
 {
     one.event < other.event || one.event == other.event && one.turns <= other.turns
 }
 
-// How many of the stages, which stand in order, are not behind a position.
+// Returns how many of the stages, which stand in order, are not behind a position.
 pub(crate) fn up_to(stages: &[Stage], to: Position) -> usize
     ensures within { result ≤ length stages.now }
     ensures last { 0 < result → (stage : Stage) × (slice_get stages.now (result - 1) ≡ Some stage)
@@ -48,7 +48,7 @@ pub(crate) fn up_to(stages: &[Stage], to: Position) -> usize
     low
 }
 
-// Whether all of the stages, which stand in order, are before a position.
+// Returns whether all of the stages, which stand in order, are before a position.
 pub(crate) fn are_up_to(stages: &[Stage], to: Position) -> bool {
     match stages.last() {
         Some(stage) => is_up_to(stage.at, to),
@@ -56,7 +56,7 @@ pub(crate) fn are_up_to(stages: &[Stage], to: Position) -> bool {
     }
 }
 
-// Whether no more are to be kept of machines like this one.
+// Returns whether no more are to be kept of machines like this one.
 pub(crate) fn is_full(stages: &[Stage], machine: &Machine) -> bool {
     let bytes = machine.memory().len().saturating_add(BESIDE_MEMORY);
     stages.len().saturating_mul(bytes) >= MOST_BYTES

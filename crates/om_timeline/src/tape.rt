@@ -22,7 +22,7 @@ use std::alloc::{AllocError, Global};
 use std::marker::Model;
 use std::snapshot::Snapshot;
 
-// Whether the process is one of so many, and has finished no more instructions than are played.
+// Returns whether the process is one of so many, and has finished no more instructions than are played.
 pub(crate) fn is_seated(world: &World<MemStable>, process: Pid, n: u32) -> bool
     ensures seated { result ≡ true → HasSeat process n world.now }
     ensures unseated { result ≡ false → HasSeat process n world.now → ⊥ }
@@ -35,7 +35,7 @@ pub(crate) fn is_seated(world: &World<MemStable>, process: Pid, n: u32) -> bool
     }
 }
 
-// What was received last.
+// Returns what was received last.
 #[tactic(auto, using(crate::proofs::Reading::is_received))]
 fn received(alloc: Global, world: &World<MemStable>, process: Pid) -> Result<Deed, AllocError>
     ensures { IfOk result (λ deed. IsDeed deed process world.now Kind.Took) }
@@ -61,7 +61,7 @@ fn machine_now(alloc: Global, world: &World<MemStable>, process: Pid) -> Result<
     }
 }
 
-// What an event of a kind did to the process, which the world behind it shows.
+// Returns what an event of a kind did to the process, which the world behind it shows.
 pub(crate) fn deed_of(
     alloc: Global,
     world: &World<MemStable>,
@@ -178,7 +178,7 @@ impl Tape {
         }))
     }
 
-    // What the events that were played did.
+    // Returns what the events that were played did.
     pub(crate) fn deeds(&self) -> &[Deed]
         ensures { result.now ≡ self.now.deeds }
     {
@@ -192,7 +192,7 @@ impl Tape {
         &self.events
     }
 
-    // How many processes there are.
+    // Returns how many processes there are.
     pub(crate) fn n(&self) -> u32
         ensures { result ≡ self.now.n }
     {
@@ -268,7 +268,7 @@ fn next_deed(
     Ok(Some(deed))
 }
 
-// What an event that was answered so did to the process, which the world behind it shows.
+// Returns what an event that was answered so did to the process, which the world behind it shows.
 fn read_deed(
     alloc: Global,
     world: &World<MemStable>,

@@ -132,7 +132,7 @@ impl Timeline {
         &self.here.machine
     }
 
-    /// What the process is about to do at the position: where it is down, what it was about to do.
+    /// Returns what the process is about to do at the position: where it is down, what it was about to do.
     pub fn status(&self) -> Status
         ensures { status_of (move_alone self.now.process self.now.n (machine_here self.now)) ≡ result }
     {
@@ -146,7 +146,7 @@ impl Timeline {
         self.tape.events()
     }
 
-    /// What the events that were played did to the process.
+    /// Returns what the events that were played did to the process.
     pub fn deeds(&self) -> &[Deed]
         ensures deeds { result.now ≡ self.now.deeds }
         ensures within { self.now.event ≤ length result.now }

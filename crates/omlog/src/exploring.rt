@@ -136,7 +136,7 @@ pub(crate) fn explore_over<R: Clock, I: Read, W: Write>(
     outcome
 }
 
-// How far an exploration is to go that is asked for so.
+// Returns how far an exploration is to go that is asked for so.
 fn options_of(exploring: Exploring<'_>) -> Options
     ensures runs { result.runs ≡ exploring.entry.runs }
     ensures seed { result.seed ≡ exploring.entry.seed }

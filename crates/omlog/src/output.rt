@@ -21,7 +21,7 @@ impl<'a> Output<'a> {
         }
     }
 
-    // How a command ended that wrote to it.
+    // Returns how a command ended that wrote to it.
     pub(crate) fn ended<T: Drop>(&self, outcome: Result<T, CommandError>) -> Result<T, Failure> {
         match outcome {
             Ok(done) => Ok(done),
@@ -30,7 +30,7 @@ impl<'a> Output<'a> {
         }
     }
 
-    // Whether whoever reads it has closed it.
+    // Returns whether whoever reads it has closed it.
     fn is_closed(&self) -> bool {
         match self.refusal {
             Some(error) => error.kind() == ErrorKind::BrokenPipe,

@@ -30,7 +30,7 @@ impl Reasons {
         }
     }
 
-    // Whether nothing is told yet.
+    // Returns whether nothing is told yet.
     pub(crate) fn is_empty(&self) -> bool {
         self.text.is_empty()
     }

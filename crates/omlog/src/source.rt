@@ -44,7 +44,7 @@ impl<S: Read, F: Read> Read for Source<S, F> {
     }
 }
 
-// What was answered to a read; a refusal is kept.
+// Returns what was answered to a read; a refusal is kept.
 fn noted(read: io::Result<usize>, refusal: &mut Option<io::Error>) -> io::Result<usize>
     ensures same { result ≡ read }
 {

@@ -340,7 +340,7 @@ fn file_made_by<'a>(checking: Checking<'a>) -> Option<&'a str> {
     }
 }
 
-// What a file is for the run already that is to be written.
+// Returns what a file is for the run already that is to be written.
 fn clash_of(
     rt: &HostRuntime,
     job: Job<'_>,
@@ -364,7 +364,7 @@ fn first_answer(notes: Option<&Notes>) -> Option<(usize, io::Error)> {
     notes?.first()
 }
 
-// Why no stores are made where their files are not.
+// Returns why no stores are made where their files are not.
 fn refusal_of(error: PlaceError) -> CommandError
     ensures { IsErrorOfContext result }
 {

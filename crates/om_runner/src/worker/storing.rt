@@ -18,20 +18,20 @@ use om_tickets::Series;
 use std::alloc::Global;
 use std::sync::Wait;
 
-// Whether k receipts or more came after interval `last` up to x; never of 0.
+// Returns whether k receipts or more came after interval `last` up to x; never of 0.
 fn is_reached(x: u32, last: u32, k: u32) -> bool {
     k != 0 && x.saturating_sub(last) >= k
 }
 
-// Whether x receipts are a multiple of k; none are of 0.
+// Returns whether x receipts are a multiple of k; none are of 0.
 fn is_multiple(x: u32, k: u32) -> bool
     ensures { result ≡ is_multiple_of x k }
 {
     k != 0 && x % k == 0
 }
 
-// Whether the log is stored. The senders of the receipts before a checkpoint are read from their records, where a run may take the
-// store up.
+// Returns whether the log is stored. The senders of the receipts before a checkpoint are read from their records, where a run
+// may take the store up.
 fn is_log_due(is_flush_due: bool, is_checkpoint_due: bool, is_kept: bool) -> bool
     ensures { result ≡ (is_flush_due || (is_kept && is_checkpoint_due)) }
 {
@@ -39,7 +39,7 @@ fn is_log_due(is_flush_due: bool, is_checkpoint_due: bool, is_kept: bool) -> boo
 }
 
 impl<'a, K: Naming> Worker<'a, K> {
-    // What comes after the receipt that began interval x: a failure, or what is stored by its number.
+    // Returns what comes after the receipt that began interval x: a failure, or what is stored by its number.
     pub(super) fn after_receipt<J: Series, S: Ledger, R: Wait>(
         &mut self,
         rt: &R,
@@ -92,7 +92,7 @@ impl<'a, K: Naming> Worker<'a, K> {
         Ok(())
     }
 
-    // Whether the process is to fail in this interval, which is then done with.
+    // Returns whether the process is to fail in this interval, which is then done with.
     fn is_to_fail(&mut self, x: u32) -> bool
         ensures same { self.new.links ≡ self.old.links }
         ensures plan { self.new.plan ≡ self.old.plan }
