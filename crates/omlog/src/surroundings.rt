@@ -17,14 +17,13 @@ use om_run_commands::{
 use om_runner::Watch;
 use om_store_files::{
     Clash, Notes, PlaceError, Places, Standing, clash_with_databases, clash_with_streams,
-    clashes_with_stores, settle, store_of,
+    clashes_with_stores, store_of,
 };
 use std::alloc::AllocError;
 use std::fmt::Display;
 use std::fs::File;
 use std::io::Write;
 use std::sync::Wait;
-use std::thread::Threads;
 use std::{fs, io};
 
 // A run that is asked for.
@@ -49,6 +48,8 @@ pub(crate) struct Surroundings<'a, 'w, R> {
     pub(crate) reasons: Reasons,
     // Whether a kill of the input did not come, or it cannot be told.
     pub(crate) lacks_kill: bool,
+    // How many stores are to be put into their one files: all of a run that ended well.
+    pub(crate) written: usize,
     // The files of the stores, where the run makes them.
     places: Option<Places>,
     // What stood at the names of the stores, where the run takes them up.
@@ -57,7 +58,7 @@ pub(crate) struct Surroundings<'a, 'w, R> {
     file: Option<File>,
 }
 
-impl<'a, 'w, R: Threads + Wait + Sync> RunContext for Surroundings<'a, 'w, R> {
+impl<'a, 'w, R: Wait> RunContext for Surroundings<'a, 'w, R> {
     fn random_kills(&self) -> Option<RandomKills> {
         let Kills { count, seed } = self.job.running.kills?;
         let count = count as usize;
@@ -90,11 +91,12 @@ impl<'a, 'w, R: Threads + Wait + Sync> RunContext for Surroundings<'a, 'w, R> {
         }
     }
 
-    // Once the run ended well, each store is in its one file; where it was refused, the files that nobody wrote to are removed.
+    // Once the run ended well, each store is to be put into its one file; where it was refused, the files that nobody wrote to are
+    // removed.
     fn end(&mut self, script: &ClusterScript, outcome: Result<&[Status], CommandError>) {
         match outcome {
             Ok(_) => {
-                self.settle(script);
+                self.written = script.programs().n();
                 self.add_trapped(script);
                 self.add_kills_left(script);
             }
@@ -106,7 +108,7 @@ impl<'a, 'w, R: Threads + Wait + Sync> RunContext for Surroundings<'a, 'w, R> {
     }
 }
 
-impl<'a, 'w, R: Threads + Wait + Sync> Surroundings<'a, 'w, R> {
+impl<'a, 'w, R: Wait> Surroundings<'a, 'w, R> {
     // Of a run for which nothing is made yet.
     pub(crate) fn new(
         rt: &'a HostRuntime,
@@ -124,6 +126,7 @@ impl<'a, 'w, R: Threads + Wait + Sync> Surroundings<'a, 'w, R> {
             stage,
             reasons: Reasons::empty(rt.alloc(), are_heard),
             lacks_kill: false,
+            written: 0,
             places: None,
             standing: None,
             file: None,
@@ -212,13 +215,6 @@ impl<'a, 'w, R: Threads + Wait + Sync> Surroundings<'a, 'w, R> {
         }
         if let Some(standing) = &self.standing {
             standing.tidy(self.rt, prefix);
-        }
-    }
-
-    // Puts each store into its one file.
-    fn settle(&self, script: &ClusterScript) {
-        if let Some(prefix) = self.job.running.prefix {
-            settle(self.threads, self.rt, prefix, script.programs().n());
         }
     }
 

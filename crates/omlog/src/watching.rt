@@ -8,6 +8,7 @@ use om_interval::MAX_PROCESSES;
 use om_run_commands::has_trapped;
 use om_run_request::run_asked;
 use om_runner::{Opener, Progress, Watch, Watched};
+use om_store_files::settle;
 use std::alloc::Global;
 use std::io::{IsTerminal, Read};
 use std::sync::Wait;
@@ -103,6 +104,10 @@ fn run_as<'a, 'w, R: Threads + Wait + Clock + Sync, O: Opener<R> + Sync, I: Read
         reader,
         Output::new(rt),
     );
+    // Threads beside each other put them there, so it waits until all others are joined.
+    if let Some(prefix) = running.prefix {
+        settle(threads, rt, prefix, surroundings.written);
+    }
     output.tell_refusal(&mut surroundings.reasons);
     let statuses = output.ended(outcome)?;
     if running.strict && (has_trapped(&statuses) || surroundings.lacks_kill) {
