@@ -1,0 +1,2 @@
+pub mod FailingLemmas
+pub mod HandingLemmas

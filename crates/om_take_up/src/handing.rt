@@ -1,0 +1,56 @@
+//! What was put out before a manager starts anew.
+
+ghost use Rattle.std.specs.Prelude.{◌≡◌, ◌<◌, [], map, OnOk};
+ghost use Rattle.om_manager.specs.Outputs.{held_of};
+ghost use Rattle.om_manager.specs.Sound.{IsManager};
+ghost use Rattle.om_manager.specs.State.{held_by, process_count};
+ghost use Rattle.om_take_up.specs.Anew.{HasReleasedOf, HoldsNone};
+ghost use Rattle.om_take_up.specs.steps.Failing.{HoldReleased, Holds};
+
+use om_interval::Pid;
+use om_manager::{Manager, Output, OutputError};
+use std::alloc::Global;
+
+// Hands outputs of a process in, of which the manager holds none, in order.
+fn hand_in_all(
+    manager: &mut Manager,
+    alloc: Global,
+    pid: Pid,
+    round: u32,
+    outputs: &[Output],
+) -> Result<(), OutputError>
+    requires none { held_by manager.old pid ≡ [] }
+    ensures held { OnOk result (Holds manager.old pid (map held_of outputs.now) manager.new) }
+{
+    // The look tells what holds of every manager.
+    let _ = manager.recovery();
+    for seq in 0..outputs.len() {
+        let output = &outputs[seq];
+        manager.note_output(
+            alloc,
+            pid,
+            round,
+            output.interval,
+            seq as u64,
+            output.bytes.as_slice(),
+        )?;
+    }
+    Ok(())
+}
+
+/// Hands in the outputs that another manager of as many processes released, under their numbers, to a manager that holds none.
+///
+/// Refused with what the manager answers; it may hold some of the outputs then.
+pub fn hand_in_released(manager: &mut Manager, alloc: Global, from: &Manager) -> Result<(), OutputError>
+    requires size { process_count from.now ≡ process_count manager.old }
+    requires none { HoldsNone manager.old }
+    ensures handed { OnOk result (HasReleasedOf from.now manager.old manager.new) }
+    ensures sound { OnOk result (IsManager manager.new) }
+{
+    let round = manager.round();
+    for p in 0..manager.recovery().n() {
+        let pid = Pid::at(p);
+        hand_in_all(manager, alloc, pid, round, from.released(pid))?;
+    }
+    Ok(())
+}
