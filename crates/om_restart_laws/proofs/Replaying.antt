@@ -15,7 +15,7 @@ use Rattle.om_world.specs.Live.{cut_list, program_at, received}
 use Rattle.om_world.specs.declared.entry.Entry.{Entry}
 use Rattle.om_world.proofs.Legal.{cut_first}
 use Rattle.om_world.specs.Disk.{AreTrue}
-use Rattle.om_restart_laws.proofs.Rows.{front_of}
+use Rattle.om_world.proofs.StoredRows.{front_of}
 
 -- receipts that are stored one after another are those of the run behind an interval
 receipts_along : (program : Program) (own n : ℕ) (h : List Received) (held : Records) (y : ℕ) (rs : List ReceiptRecord)

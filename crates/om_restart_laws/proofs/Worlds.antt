@@ -8,11 +8,11 @@ use Rattle.om_recover.specs.Rows.{Rows}
 use Rattle.om_world.specs.Disk.{IsOnDisk, held_in}
 use Rattle.om_world.specs.Live.{program_at}
 use Rattle.om_world.specs.World.{WorldState, output_entry, recovered}
-use Rattle.om_restart_laws.specs.Starting.{HasRowsOf}
+use Rattle.om_world.specs.StoreRows.{HasRowsOf}
 use Rattle.om_restart_laws.specs.Worlds.{IsTakenUpAt}
 use Rattle.om_restart_laws.proofs.Closing.{cut_legal}
 use Rattle.om_restart_laws.proofs.Cutting.{cut_fact, cut_true}
-use Rattle.om_restart_laws.proofs.Losing.{not_lost}
+use Rattle.om_world.proofs.Losing.{not_lost}
 use Rattle.om_restart_laws.proofs.Replaying.{replay_along}
 
 pub taken_up : (w : WorldState) (rows : Rows) (state : List ℕ) → IsOnDisk w → HasRowsOf (length w.programs) (held_in w) rows

@@ -19,7 +19,7 @@ ghost use Rattle.om_world.specs.declared.entry.Entry.{Entry};
 ghost use Rattle.om_world.specs.Disk.{AreTrue, CanServe, DependsWithin, IsOnDisk, held_in};
 ghost use Rattle.om_world.specs.World.{WorldState};
 ghost use Rattle.om_restart_laws.specs.Chains.{IsChain, IsSaid, Start};
-ghost use Rattle.om_restart_laws.specs.Starting.{HasRowsOf};
+ghost use Rattle.om_world.specs.StoreRows.{HasRowsOf};
 ghost use Rattle.om_restart_laws.specs.Worlds.{IsTakenUpAt};
 
 /// Where the records of the stores are true of a run, so are the rows that they stand for: each row's vectors are the dependencies

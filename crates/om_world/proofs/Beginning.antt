@@ -52,12 +52,12 @@ all_at P xs i x all at = subst P (index_at xs i x x at) (all i x (inside xs i x 
 all_from : {A : Type 0} (P : A → Type 0) (xs : List A) → ((i : ℕ) (x : A) → slice_get xs i ≡ Some x → P x) → All P xs
 all_from P xs each i d lt = let x = there xs i lt in subst P (sym (index_at xs i x.0 d x.1)) (each i x.0 x.1)
 
-index_same : {A : Type 0} (n i : ℕ) (x : A) → slice_index_or (replicate n x) i x ≡ x
+pub index_same : {A : Type 0} (n i : ℕ) (x : A) → slice_index_or (replicate n x) i x ≡ x
 index_same zero i x = refl
 index_same (suc n) zero x = refl
 index_same (suc n) (suc i) x = index_same n i x
 
-same_at : {A : Type 0} (n i : ℕ) (x y : A) → slice_get (replicate n x) i ≡ Some y → y ≡ x
+pub same_at : {A : Type 0} (n i : ℕ) (x y : A) → slice_get (replicate n x) i ≡ Some y → y ≡ x
 same_at zero i x y at = absurd (none_in i y at)
 same_at (suc n) zero x y at = sym (once x y at)
 same_at (suc n) (suc i) x y at = same_at n i x y at
@@ -211,6 +211,12 @@ none_joined n p at = apart (same_at n p Place.Up Place.In at)
     apart : Place.In ≡ Place.Up → ⊥
     apart e = cc
 
+none_down : (n p : ℕ) (declared : Bool) → slice_get (replicate n Place.Up) p ≡ Some (Place.Down declared) → ⊥
+none_down n p declared at = apart (same_at n p Place.Up (Place.Down declared) at)
+  where
+    apart : Place.Down declared ≡ Place.Up → ⊥
+    apart e = cc
+
 shape_begun : {S : Type 0} (content : S → Content) (health : S → Health) (IsSound : S → Type 0) (programs : List Program) (cores : List (Option CoreState)) (xs ys : List S) (m : ManagerState) → IsBegun content health IsSound programs cores xs ys m → HasShape (begun content health programs cores xs ys m)
 shape_begun content health IsSound programs cores xs ys m b = record {
   few = b.few;
@@ -294,6 +300,7 @@ sound_begun content health IsSound programs cores xs ys m b known = record {
   gathered = λ p not. absurd (not (nobody_in m p b.fresh.gathering));
   current = λ p place. index_same (length programs) p 0 ∙ sym b.fresh.round;
   known = λ p. no_more (slice_index (replicate (length programs) 0) p) m.round (index_same (length programs) p 0);
+  ends = λ p declared held at. absurd (none_down (length programs) p declared at);
   behind = λ p lt news. absurd (no_news p news);
   inside = λ p c at place. absurd (none_joined (length programs) p place);
   beyond = λ p c at place. absurd (none_joined (length programs) p place);

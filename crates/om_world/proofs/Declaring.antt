@@ -46,6 +46,7 @@ record IsPlacing (w : WorldState) (p : ℕ) (place : Place) : Type 0 where
   pub ran : place ≡ Place.In → Runs w p
   pub inc : place ≡ Place.In → (c : CoreState) → slice_get w.cores p ≡ Some (Some c) → c.inc ≡ newest_of w.manager.starts p
   pub told : place ≡ Place.In → HasNews w p → ⊥
+  pub was : (declared : Bool) → place ≡ Place.Down declared → (before : Bool) × (slice_get w.places p ≡ Some (Place.Down before))
 
 pub here : {A : Type 0} (xs : List A) (i : ℕ) (x : A) → i < length xs → slice_get (set xs i x) i ≡ Some x
 here [] i x lt = absurd (omega arith)
@@ -97,6 +98,10 @@ sound_placed w p place lt s k = record {
   gathered = s.gathered;
   current = λ q up. elim (stood w p q place Place.Up up) [ inl mine ↦ absurd (k.not_up mine.1) | inr old ↦ s.current q old ];
   known = s.known;
+  ends = λ q declared held at old holds. elim (stood w p q place (Place.Down declared) at) [
+    | inl mine ↦ let before = k.was declared mine.1 in s.ends q before.0 held (subst (λ o. slice_get w.places o ≡ Some (Place.Down before.0)) (sym mine.0) before.1) old holds
+    | inr was ↦ s.ends q declared held was old holds
+  ];
   behind = s.behind;
   inside = λ q c at joined runs. elim (stood w p q place Place.In joined) [
     | inl mine ↦ k.inc mine.1 c (subst (λ o. slice_get w.cores o ≡ Some (Some c)) mine.0 at) ∙ ap (newest_of w.manager.starts) (sym mine.0)
@@ -139,13 +144,14 @@ undeclared e = cc
 failed_joined : (x : ℕ) → Failed ≡ Joined x → ⊥
 failed_joined x e = cc
 
-placing_down : (w : WorldState) (p : ℕ) → IsPlacing w p (Place.Down true)
-placing_down w p = record {
+placing_down : (w : WorldState) (p : ℕ) → slice_get w.places p ≡ Some (Place.Down false) → IsPlacing w p (Place.Down true)
+placing_down w p at = record {
   not_up = λ e. down_up true e;
   failed = λ e. refl;
   ran = λ e. absurd (down_in true e);
   inc = λ e. absurd (down_in true e);
   told = λ e. absurd (down_in true e);
+  was = λ declared e. (false, at);
 }
 
 entering_failed : (w : WorldState) (p : ℕ) → p < length w.places → slice_index w.rounds p ≡ w.manager.round → IsEntering (placed w p (Place.Down true)) p Failed
@@ -173,7 +179,7 @@ pub after_declare : {S : Type 0} (IsSound : S → Type 0) (xs : List S) (w : Wor
 after_declare IsSound xs w p round told m live i at is f g =
     let lt = inside w.places p (Place.Down false) at in
     after_gather IsSound xs w p (Place.Down true) Failed told m live i lt (record { not_up = λ e. down_up true e; core = λ e. absurd (down_in true e) })
-    (λ s. record { placing = placing_down w p; entering = entering_failed w p lt (sym is ∙ f.0.in_round); gathers = first_failed w p told m s at f.2 }) g
+    (λ s. record { placing = placing_down w p at; entering = entering_failed w p lt (sym is ∙ f.0.in_round); gathers = first_failed w p told m s at f.2 }) g
 
 pub has_declared : {S : Type 0} (IsSound : S → Type 0) (xs : List S) (w : WorldState) (p round : ℕ) (told : Gathered) (m : ManagerState) (live : List Entry) → IsWorld IsSound xs w → slice_get w.places p ≡ Some (Place.Down false)
     → Failing w.manager p round (Ok told) m → HasGathered {E = FailError} w.manager w.live (Ok told) m live → HasDeclaredAt w p (Ok told) (placed_with w p (Place.Down true) live m)
@@ -243,6 +249,7 @@ joins w p c told m h s up at may g =
         ran = λ e. inl up;
         inc = λ e d f. ap (λ (x : CoreState). x.inc) (same_core (slice_get w.cores p) d c f at) ∙ u.inc;
         told = λ e news. less_not (slice_index w.rounds p) w.manager.round current news;
+        was = λ declared e. absurd (down_in declared (sym e));
       };
       entering = record {
         not_up = λ e. in_up (once Place.In Place.Up (sym (here w.places p Place.In lt) ∙ e));

@@ -1,4 +1,4 @@
--- The stores of a world whose processes are all up are true of its run, and can serve what was recovered.
+-- The stores of a settled world are true of its run, and can serve what was recovered.
 use Rattle.std.proofs.Common.{◌≡◌, ◌≢◌, ◌⊎◌, inl, inr, ℕ, zero, suc, ◌+◌, ◌-◌, ◌<◌, ◌≤◌, List, [], ◌∷◌, length, Some, None, Option, refl, sym, ap, ◌∙◌, subst, arith}
 use Rattle.std.specs.Prelude.{slice_get, slice_index_or}
 use Rattle.std.specs.FinMap.{get}
@@ -9,29 +9,28 @@ use Rattle.om_format.proofs.Receipts.{one_receipt}
 use Rattle.om_manager.specs.Outputs.{HeldOutput}
 use Rattle.om_manager.specs.State.{held_by, released_by}
 use Rattle.om_process.specs.Claims.{AtInterval, CheckpointOf, RecordOf}
-use Rattle.om_process.specs.Process.{Process}
 use Rattle.om_process.specs.Replays.{process_of}
 use Rattle.om_process.specs.Stored.{IsCheckpointAt, IsReceiptAt}
 use Rattle.om_process.specs.declared.limits.TheConstants.{LAST_INTERVAL}
-use Rattle.om_process.proofs.Making.{interval_along}
 use Rattle.om_recover.specs.Recoverable.{IsStable}
 use Rattle.om_stable.specs.Content.{Content, nothing}
-use Rattle.om_world.specs.Disk.{AreAllUp, AreTrue, CanServe, IsOnDisk, held_in}
+use Rattle.om_world.specs.Disk.{AreTrue, CanServe, IsOnDisk, IsSettled, held_in}
 use Rattle.om_world.specs.Live.{program_at, received}
 use Rattle.om_world.specs.World.{WorldState, recovered}
-use Rattle.om_world.specs.steps.Sound.{HasShape, Sound}
+use Rattle.om_world.specs.steps.Sound.{EndsAt, HasShape, Sound}
 use Rattle.om_world.proofs.Gathering.{front_at, state_closed, within_at}
 use Rattle.om_world.proofs.Lists.{there}
 use Rattle.om_world.proofs.Raising.{recovery_row}
 use Rattle.om_world.proofs.Returning.{serves}
+use Rattle.om_world.proofs.TakenDown.{ended}
 
-index_at : (xs : List Content) (p : ℕ) (held : Content) → slice_get xs p ≡ Some held → slice_index_or xs p nothing ≡ held
+pub index_at : (xs : List Content) (p : ℕ) (held : Content) → slice_get xs p ≡ Some held → slice_index_or xs p nothing ≡ held
 index_at [] p held at = cc
 index_at (x ∷ xs) zero held at = cc
 index_at (x ∷ xs) (suc p) held at = index_at xs p held at
 
 -- what stands in the contents of a world
-content_at : (w : WorldState) (p : ℕ) → HasShape w → p < length w.programs → slice_get w.contents p ≡ Some (held_in w p)
+pub content_at : (w : WorldState) (p : ℕ) → HasShape w → p < length w.programs → slice_get w.contents p ≡ Some (held_in w p)
 content_at w p h lt =
     let size = h.stores in
     let t = there w.contents p (omega arith) in
@@ -40,48 +39,43 @@ content_at w p h lt =
 none_held : (o : Option (List ℕ)) (bytes : List ℕ) → o ≡ None → o ≡ Some bytes → ⊥
 none_held o bytes none some = cc
 
--- ---- the records of processes that are up
-world_true : (w : WorldState) → HasShape w → Sound w → AreAllUp w → AreTrue w.programs w.live (held_in w)
-world_true w h s up = record { checkpoints = checkpoints; receipts = receipts }
+-- ---- the records of processes that know the last round
+store_ends : (w : WorldState) (p : ℕ) → HasShape w → Sound w → IsSettled w → p < length w.programs → EndsAt (held_in w p) (length (received p w.live))
+store_ends w p h s settled lt = ended w p (held_in w p) h s (elim (settled p lt) [ inl up ↦ λ news. let same = s.current p up in absurd (omega arith) | inr none ↦ none ]) (content_at w p h lt)
+
+pub world_true : (w : WorldState) → HasShape w → Sound w → IsSettled w → AreTrue w.programs w.live (held_in w)
+world_true w h s settled = record { checkpoints = checkpoints; receipts = receipts }
   where
     n : ℕ
     n = length w.programs
 
+    below : (x k : ℕ) → (x ≤ k) ⊎ (k < x)
+    below x k = grind arith
+
     checkpoints : (p x : ℕ) (c : CheckpointRecord) → p < n → IsCheckpointAt (held_in w p).checkpoints x c → AtInterval (received p w.live) x (CheckpointOf (program_at w.programs p) p n (process_of c))
     checkpoints p x c lt at =
-        let core = h.there p (up p lt) in
-        let r = s.running p core.0 (held_in w p) core.1 (content_at w p h lt) (inl (up p lt)) in
+        let ends = store_ends w p h s settled lt in
         let le : x ≤ length (received p w.live) = elim (below x (length (received p w.live))) [
           | inl le ↦ le
-          | inr above ↦ absurd (none_held (get (held_in w p).checkpoints x) at.0 (r.above.checkpoints x above) at.1)
+          | inr above ↦ absurd (none_held (get (held_in w p).checkpoints x) at.0 (ends.checkpoints x above) at.1)
         ] in
         let known = (s.stored p (held_in w p) (content_at w p h lt)).checkpoints x at.0 le at.1 in
         let same : known.0 ≡ c = (one_checkpoint at.0 known.1.0 at.2.0 known.0 c known.1.1 at.2.1).1 in
         subst (λ (r : CheckpointRecord). AtInterval (received p w.live) x (CheckpointOf (program_at w.programs p) p n (process_of r))) same known.4
-      where
-        below : (x k : ℕ) → (x ≤ k) ⊎ (k < x)
-        below x k = grind arith
 
     receipts : (p x : ℕ) (r : ReceiptRecord) → p < n → 1 ≤ x → IsReceiptAt (held_in w p).receipts x r → AtInterval (received p w.live) x (RecordOf (program_at w.programs p) p n r)
     receipts p x r lt begun at =
-        let core = h.there p (up p lt) in
-        let run = s.running p core.0 (held_in w p) core.1 (content_at w p h lt) (inl (up p lt)) in
-        let whole = run.state in
-        let part : core.0.now.interval ≡ whole.0.interval = ap (λ (q : Process). q.interval) whole.2.same in
-        let long : whole.0.interval ≡ length (received p w.live) = interval_along (program_at w.programs p) p n whole.1.0 (received p w.live) whole.0 whole.1.1 in
+        let ends = store_ends w p h s settled lt in
         let le : x ≤ length (received p w.live) = elim (below x (length (received p w.live))) [
           | inl le ↦ le
-          | inr above ↦ absurd (none_held (get (held_in w p).receipts x) at.0 (run.above.receipts x (omega arith)) at.1)
+          | inr above ↦ absurd (none_held (get (held_in w p).receipts x) at.0 (ends.receipts x above) at.1)
         ] in
         let known = (s.stored p (held_in w p) (content_at w p h lt)).receipts x at.0 begun le at.1 in
         let same : known.0 ≡ r = one_receipt at.0 known.0 r known.1 at.2 in
         subst (λ (e : ReceiptRecord). AtInterval (received p w.live) x (RecordOf (program_at w.programs p) p n e)) same known.2
-      where
-        below : (x k : ℕ) → (x ≤ k) ⊎ (k < x)
-        below x k = grind arith
 
 -- ---- what was recovered can be served
-recovery_served : (w : WorldState) (p : ℕ) → HasShape w → Sound w → p < length w.programs → CanServe (held_in w p) (recovered w.manager p)
+pub recovery_served : (w : WorldState) (p : ℕ) → HasShape w → Sound w → p < length w.programs → CanServe (held_in w p) (recovered w.manager p)
 recovery_served w p h s lt =
     let size = h.size in
     let stable : IsStable w.manager.rows p (recovered w.manager p) = h.manager.exact.greatest.recoverable.stable p (omega arith) in
@@ -89,10 +83,10 @@ recovery_served w p h s lt =
     record { from = store.0; below = store.1.within; checkpoint = store.1.checkpoint; receipts = store.1.receipts }
 
 -- ---- what a world leaves
-pub on_disk : (w : WorldState) → HasShape w → Sound w → AreAllUp w → IsOnDisk w
-on_disk w h s up = record {
+pub on_disk : (w : WorldState) → HasShape w → Sound w → IsSettled w → IsOnDisk w
+on_disk w h s settled = record {
   legal = s.legal;
-  held = world_true w h s up;
+  held = world_true w h s settled;
   places = h.size;
   last = λ p lt. let row = recovery_row w p h lt in let few = h.manager.lawful.numbered row.0 row.1 in let at = row.3 in omega arith;
   served = λ p lt. recovery_served w p h s lt;

@@ -1,5 +1,5 @@
 -- What a store gains, and what stays true.
-use Rattle.std.proofs.Common.{◌≡◌, ◌≢◌, ◌⊎◌, inl, inr, ℕ, zero, suc, ◌+◌, ◌-◌, ◌≤◌, ◌<◌, List, [], ◌∷◌, ◌++◌, length, take, drop, map, set, Some, true, false, refl, sym, ap, ◌∙◌, subst, arith, append_assoc, length-append}
+use Rattle.std.proofs.Common.{◌≡◌, ◌≢◌, ◌⊎◌, inl, inr, ℕ, zero, suc, ◌+◌, ◌-◌, ◌≤◌, ◌<◌, List, [], ◌∷◌, ◌++◌, length, take, drop, map, set, Some, Bool, true, false, refl, sym, ap, ◌∙◌, subst, arith, append_assoc, length-append}
 use Rattle.std.specs.Prelude.{slice_get, slice_index}
 use Rattle.std.specs.FinMap.{get, insert}
 use Rattle.std.proofs.lemmas.List.{take_all, take-append-drop}
@@ -297,6 +297,16 @@ store_interval batches.Log c = refl
 store_interval (batches.First k) c = refl
 store_interval batches.Checkpoint c = refl
 
+-- who runs is not down
+runs_down : (w : WorldState) (p : ℕ) (declared : Bool) → Runs w p → slice_get w.places p ≡ Some (Place.Down declared) → ⊥
+runs_down w p declared runs down = elim runs [ inl up ↦ apart (once Place.Up (Place.Down declared) (sym up ∙ down)) | inr joined ↦ in_apart (once Place.In (Place.Down declared) (sym joined.0 ∙ down)) ]
+  where
+    apart : Place.Up ≡ Place.Down declared → ⊥
+    apart e = cc
+
+    in_apart : Place.In ≡ Place.Down declared → ⊥
+    in_apart e = cc
+
 pub sound_store : (kind : Batch) (w : WorldState) (p : ℕ) (a b : Content) (c : CoreState) (health : List Health) → HasShape w → Sound w → slice_get w.cores p ≡ Some (Some c) → slice_get w.contents p ≡ Some a → Runs w p → HasGained kind c a b
     → Sound (remade w w.live w.frames (set w.cores p (Some (stored kind c))) w.manager (set w.contents p b) health)
 sound_store kind w p a b c health h s at holds runs g =
@@ -336,6 +346,10 @@ sound_store kind w p a b c health h s at holds runs g =
       gathered = s.gathered;
       current = s.current;
       known = s.known;
+      ends = λ q declared held place old f. elim (at_change w.contents p q held b f) [
+        | inl same ↦ absurd (runs_down w p declared runs (subst (λ o. slice_get w.places o ≡ Some (Place.Down declared)) same.0 place))
+        | inr other ↦ s.ends q declared held place old other.1
+      ];
       behind = s.behind;
       inside = λ q d f place on. elim (at_change w.cores p q (Some d) (Some (stored kind c)) f) [
         | inl same ↦ subst (λ o. d.inc ≡ newest_of w.manager.starts o) (sym same.0)
@@ -352,4 +366,4 @@ sound_store kind w p a b c health h s at holds runs g =
 
 -- how the stores stand is in no claim
 pub sound_clean : (w : WorldState) (contents : List Content) (old new : List Health) → Sound (remade w w.live w.frames w.cores w.manager contents old) → Sound (remade w w.live w.frames w.cores w.manager contents new)
-sound_clean w contents old new s = record { legal = s.legal; frames = s.frames; outputs = s.outputs; rows = s.rows; stored = s.stored; backed = s.backed; running = s.running; up = s.up; joined = s.joined; failed = s.failed; gathered = s.gathered; current = s.current; known = s.known; behind = s.behind; inside = s.inside; beyond = s.beyond }
+sound_clean w contents old new s = record { legal = s.legal; frames = s.frames; outputs = s.outputs; rows = s.rows; stored = s.stored; backed = s.backed; running = s.running; up = s.up; joined = s.joined; failed = s.failed; gathered = s.gathered; current = s.current; known = s.known; ends = s.ends; behind = s.behind; inside = s.inside; beyond = s.beyond }

@@ -60,7 +60,7 @@ pub record IsEntering (w : WorldState) (p : ℕ) (presence : Presence) : Type 0 
   pub joined : (x : ℕ) → presence ≡ Joined x → x ≡ length (history (past_of w) p)
 
 -- what is known of all who are in
-record AreIn (w : WorldState) (presences : List Presence) : Type 0 where
+pub record AreIn (w : WorldState) (presences : List Presence) : Type 0 where
   pub up : (q : ℕ) → slice_get w.places q ≡ Some Place.Up → presence_of presences q ≡ Away
   pub round : (q : ℕ) → presence_of presences q ≢ Away → slice_index w.rounds q ≡ w.manager.round
   pub failed : (q : ℕ) → presence_of presences q ≡ Failed → slice_get w.places q ≡ Some (Place.Down true)
@@ -180,6 +180,7 @@ sound_waiting w presences s a =
       gathered = a.round;
       current = s.current;
       known = s.known;
+      ends = s.ends;
       behind = s.behind;
       inside = s.inside;
       beyond = s.beyond;
@@ -253,7 +254,7 @@ front_at [] ys i o at = absurd (none_in i o at)
 front_at (x ∷ xs) ys zero o at = at
 front_at (x ∷ xs) ys (suc i) o at = front_at xs ys i o at
 
-held_inside : (outputs : List (List HeldOutput)) (q i : ℕ) (o : HeldOutput) → slice_get (slice_index_or outputs q []) i ≡ Some o → q < length outputs
+pub held_inside : (outputs : List (List HeldOutput)) (q i : ℕ) (o : HeldOutput) → slice_get (slice_index_or outputs q []) i ≡ Some o → q < length outputs
 held_inside [] q i o at = absurd (none_in i o at)
 held_inside (x ∷ outputs) zero i o at = omega arith
 held_inside (x ∷ outputs) (suc q) i o at = let lt = held_inside outputs q i o at in omega arith
@@ -307,7 +308,7 @@ begins_joined : (a : Presence) (x place : ℕ) → a ≡ Joined x → begins a p
 begins_joined a x place e = ap (λ b. begins b place) e
 
 -- what a finished round with these in leaves
-record AreDone (w : WorldState) (presences : List Presence) (m : ManagerState) : Type 0 where
+pub record AreDone (w : WorldState) (presences : List Presence) (m : ManagerState) : Type 0 where
   pub shape : HasShape w
   pub sound : Sound w
   pub known : AreIn w presences
@@ -406,7 +407,7 @@ frame_done w presences m f d o =
         let old = o.known in
         omega arith
 
-sound_finished : (w : WorldState) (presences : List Presence) (m : ManagerState) → AreDone w presences m → Sound (gathered w Finished m)
+pub sound_finished : (w : WorldState) (presences : List Presence) (m : ManagerState) → AreDone w presences m → Sound (gathered w Finished m)
 sound_finished w presences m d =
     let s = d.sound in
     let h = d.shape in
@@ -445,6 +446,10 @@ sound_finished w presences m d =
       gathered = λ p some. absurd (some (ap (λ o. presence_of (presences_of o) p) closed ∙ none_away MAX_PROCESSES p));
       current = λ p place. absurd (none_up w presences m p d place);
       known = λ p. let le = s.known p in let next = f.round in omega arith;
+      ends = λ p declared held place old holds.
+          let long = h.places in let lt = inside w.places p (Place.Down declared) place in
+          let same = round_of w presences m p d (omega arith) in let next = f.round in
+          absurd (old (omega arith));
       behind = λ p lt news. left_length w p h s ∙ ap (λ l. slice_index l p) (sym f.last);
       inside = λ p c at place runs.
           let long = h.cores in let lt' = inside w.cores p (Some c) at in let lt : p < n = omega arith in

@@ -33,7 +33,7 @@ use Rattle.om_world.specs.Failures.{HasNews}
 use Rattle.om_world.specs.Live.{program_at, receipt_of, received, MayFollow}
 use Rattle.om_world.specs.World.{Health, WorldState, recovered, entry_of, output_entry}
 use Rattle.om_world.specs.steps.Past.{Past, past_of, history}
-use Rattle.om_world.specs.steps.Sound.{Sound, HasShape, Said, IsFrame, KeptWithin, IsStored, NothingAbove, LogAlong, LogOf, receipts_in, IsCoreOf, IsRunning, IsUpIn, Runs}
+use Rattle.om_world.specs.steps.Sound.{Sound, HasShape, Said, IsFrame, KeptWithin, IsStored, NothingAbove, LogAlong, LogOf, receipts_in, EndsAt, IsCoreOf, IsRunning, IsUpIn, Runs}
 use Rattle.om_world.proofs.Legal.{at_more, one_more, received-append}
 use Rattle.om_world.proofs.Lists.{none_in, once, at_change, set_apart, there, inside, either, none_some}
 
@@ -101,6 +101,7 @@ sound_core w p c d s at run know inc interval = record {
   gathered = s.gathered;
   current = s.current;
   known = s.known;
+  ends = s.ends;
   behind = s.behind;
   inside = λ q e f place runs. elim (at_change w.cores p q (Some e) (Some d) f) [
     | inl is ↦ subst (λ o. e.inc ≡ newest_of w.manager.starts o) (sym is.0)
@@ -316,6 +317,9 @@ low_first v p held c is = omega arith
 pub interval_is : (v : Past) (p : ℕ) (held : Content) (c : CoreState) (r : IsRunning v p held c) → c.now.interval ≡ length (history v p)
 interval_is v p held c r = ap (λ (x : Process). x.interval) r.state.2.same ∙ interval_along (program_at v.programs p) p (length v.programs) r.state.1.0 (history v p) r.state.0 r.state.1.1
 
+up_apart : (declared : Bool) → Place.Up ≡ Place.Down declared → ⊥
+up_apart declared e = cc
+
 pub sound_taken : (w : WorldState) (i : ℕ) (m : Message) (e : Entry) (c : CoreState) → HasShape w → Sound w → ((q : ℕ) → recovered w.manager q ≤ length (history (past_of w) q)) → slice_get w.frames i ≡ Some m → e ≡ entry_of m → slice_get w.places e.to ≡ Some Place.Up → slice_get w.cores e.to ≡ Some (Some c) → IsDue c m
     → Sound (remade w (w.live ++ e ∷ []) w.frames (set w.cores e.to (Some (taken c m))) w.manager w.contents w.health)
 sound_taken w i m e c h s within frame is place at due =
@@ -364,6 +368,10 @@ sound_taken w i m e c h s within frame is place at due =
       gathered = s.gathered;
       current = s.current;
       known = s.known;
+      ends = λ q declared held stands old holds. elim (either q p) [
+        | inl same ↦ absurd (up_apart declared (once Place.Up (Place.Down declared) (sym place ∙ subst (λ o. slice_get w.places o ≡ Some (Place.Down declared)) same stands)))
+        | inr other ↦ subst (λ k. EndsAt held k) (ap length (sym (theirs v e q other))) (s.ends q declared held stands old holds)
+      ];
       behind = λ q lt news. elim (either q p) [
         | inl same ↦ absurd (no_news (subst (HasNews w) same news))
         | inr other ↦ ap length (theirs v e q other) ∙ s.behind q lt news

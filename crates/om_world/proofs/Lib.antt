@@ -30,6 +30,16 @@ pub mod Running
 pub mod Pruning
 pub mod Finish
 pub mod Disk
+pub mod StoredRows
+pub mod Serving
+pub mod TrueRows
+pub mod Losing
+pub mod Backing
+pub mod RowsTold
+pub mod Reading
+pub mod Restarting
+pub mod Restarted
+pub mod Downing
 pub mod Legal
 pub mod Released
 pub mod Counting

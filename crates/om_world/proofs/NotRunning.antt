@@ -20,6 +20,7 @@ two_whys w v p refusals.Present n = absurd n
 two_whys w v p refusals.Fault n = absurd n
 two_whys w v p refusals.Damaged n = absurd n
 two_whys w v p refusals.Memory n = absurd n
+two_whys w v p refusals.Unsettled n = absurd n
 
 -- each event that needs a process that runs is refused as that
 pub told_not_running : (w v : WorldState) (p : ℕ) (e : Event) (why : Refusal) (r : Result Answer Refusal) → (NotRunning w p refusals.NoProcess v → Refused w e refusals.NoProcess v) → (NotRunning w p refusals.NotUp v → Refused w e refusals.NotUp v)

@@ -22,10 +22,11 @@ use Rattle.om_world.specs.Changes.{HasFailed, NoneFell, RoseAt}
 use Rattle.om_world.specs.Happened.{Happened, PruneStopped, Prunes, StorePruned}
 use Rattle.om_world.specs.Played.{IsCounted}
 use Rattle.om_world.specs.World.{Health, WorldState, IsEmpty, IsKnown, recovered, all_clean}
-use Rattle.om_world.specs.steps.Past.{Past, past_of}
+use Rattle.om_world.specs.declared.place.Place.{Place}
+use Rattle.om_world.specs.steps.Past.{Past, history, past_of}
 use Rattle.om_world.specs.steps.Moves.{IsCalled, Keeps, refusal_of_store}
 use Rattle.om_world.specs.steps.Pruning.{AllPruned, ArePruned, HasPruned, ManagerPruned, WasPruned}
-use Rattle.om_world.specs.steps.Sound.{HasBytes, IsBefore, IsOld, IsRunning, IsStored, IsWorld, Runs, Sound, kind_of}
+use Rattle.om_world.specs.steps.Sound.{EndsAt, HasBytes, IsBefore, IsOld, IsRunning, IsStored, IsWorld, Runs, Sound, kind_of}
 use Rattle.om_world.proofs.FailureCounts.{called_counts, counted, counts_stay, counts_then, failed_after, memory_apart, present_apart}
 use Rattle.om_world.proofs.Gaining.{sound_clean}
 use Rattle.om_world.proofs.Keeping.{keeps_same}
@@ -139,6 +140,12 @@ running_pruned v p c a core e r = record {
   };
 }
 
+ends_pruned : (c : ℕ) (a : Content) (x : ℕ) → EndsAt a x → EndsAt (kept_by_prune a c) x
+ends_pruned c a x e = record {
+  receipts = λ y lt. get-retained a.receipts (λ x. nat_lt c x) y ∙ still_none a.receipts (λ x. nat_lt c x) y (e.receipts y lt);
+  checkpoints = λ y lt. get-retained a.checkpoints (λ x. nat_le c x) y ∙ still_none a.checkpoints (λ x. nat_le c x) y (e.checkpoints y lt);
+}
+
 sound_pruned : (w : WorldState) (p c : ℕ) (a b : Content) (health : List Health) → Sound w → slice_get w.contents p ≡ Some a → IsEffective w.manager.rows p (recovered w.manager p) c → b ≡ kept_by_prune a c → Sound (remade w w.live w.frames w.cores w.manager (set w.contents p b) health)
 sound_pruned w p c a b health s at e is =
     let v = past_of w in
@@ -172,6 +179,12 @@ sound_pruned w p c a b health s at e is =
       gathered = s.gathered;
       current = s.current;
       known = s.known;
+      ends = λ q declared held place old f. elim (at_change w.contents p q held b f) [
+        | inl same ↦
+            let was = s.ends q declared a place old (subst (λ o. slice_get w.contents o ≡ Some a) (sym same.0) at) in
+            subst (λ (d : Content). EndsAt d (length (history v q))) (sym (same.1 ∙ is)) (ends_pruned c a (length (history v q)) was)
+        | inr other ↦ s.ends q declared held place old other.1
+      ];
       behind = s.behind;
       inside = s.inside;
       beyond = s.beyond;

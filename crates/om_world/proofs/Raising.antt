@@ -120,6 +120,7 @@ sound_manager w m s g outputs rows = record {
   gathered = λ p not. s.gathered p (λ away. not (ap (λ o. presence_of (presences_of o) p) g.gathering ∙ away)) ∙ sym g.round;
   current = λ p place. s.current p place ∙ sym g.round;
   known = λ p. subst (λ r. slice_index w.rounds p ≤ r) (sym g.round) (s.known p);
+  ends = λ p declared held at old holds. s.ends p declared held at (λ news. old (subst (λ r. slice_index w.rounds p < r) (sym g.round) news)) holds;
   behind = λ p lt news. s.behind p lt (had_news p news) ∙ ap (λ l. slice_index l p) (sym g.last);
   inside = λ p c at place runs. s.inside p c at place (ran p runs) ∙ ap (λ starts. newest_of starts p) (sym g.starts);
   beyond = λ p c at place news back. subst (λ l. slice_index l p < c.now.interval) (sym g.last) (s.beyond p c at place (had_news p news) (subst (λ backs. is_named backs p ≡ true) g.backs back));

@@ -83,6 +83,7 @@ after_frames IsSound xs w p c few n fs i up at is = subst (λ l. IsWorld IsSound
       gathered = s.1.gathered;
       current = s.1.current;
       known = s.1.known;
+      ends = s.1.ends;
       behind = s.1.behind;
       inside = s.1.inside;
       beyond = s.1.beyond;

@@ -479,6 +479,13 @@ up_again w p core a b health h s lt news at up run stored keeps =
         | inl same ↦ same_le (slice_index (set w.rounds p round) q) round (ap (slice_index (set w.rounds p round)) same ∙ now)
         | inr other ↦ subst (λ r. r ≤ round) (sym (round_apart w.rounds p q round other)) (s.known q)
       ];
+      ends = λ q declared held place old f. elim (at_change w.places p q (Place.Down declared) Place.Up place) [
+        | inl same ↦ absurd (down_apart declared same.1)
+        | inr other ↦ elim (at_change w.contents p q held b f) [
+          | inl too ↦ absurd (other.0 too.0)
+          | inr rest ↦ s.ends q declared held other.1 (λ more. old (subst (λ r. r < round) (sym (round_apart w.rounds p q round other.0)) more)) rest.1
+        ]
+      ];
       behind = λ q few more. elim (either q p) [
         | inl same ↦ absurd (no_more (slice_index (set w.rounds p round) q) round (ap (slice_index (set w.rounds p round)) same ∙ now) more)
         | inr other ↦ s.behind q few (other_news w p q other more)
@@ -496,6 +503,9 @@ up_again w p core a b health h s lt news at up run stored keeps =
 
     apart : Failed ≡ Away → ⊥
     apart e = cc
+
+    down_apart : (declared : Bool) → Place.Down declared ≡ Place.Up → ⊥
+    down_apart declared e = cc
 
     same_le : (a b : ℕ) → a ≡ b → a ≤ b
     same_le a b e = omega arith

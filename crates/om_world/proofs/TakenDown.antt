@@ -1,12 +1,17 @@
 -- A process that is taken down: everything then asks less of it.
-use Rattle.std.proofs.Common.{◌≡◌, ◌≢◌, inl, inr, ℕ, List, set, Option, Some, None, Bool, true, false, refl, ◌∙◌, subst, length-set}
+use Rattle.std.proofs.Common.{◌≡◌, ◌≢◌, inl, inr, ℕ, ◌<◌, List, length, set, Option, Some, None, Bool, true, false, refl, sym, ap, ◌∙◌, subst, arith, length-set}
 use Rattle.std.specs.Prelude.{slice_get}
 use Rattle.om_process.specs.Core.{CoreState}
+use Rattle.om_process.specs.Process.{Process}
+use Rattle.om_process.proofs.Making.{interval_along}
+use Rattle.om_stable.specs.Content.{Content}
 use Rattle.om_world.specs.declared.place.Place.{Place}
-use Rattle.om_world.specs.Failures.{taken_down}
+use Rattle.om_world.specs.Failures.{HasNews, taken_down}
+use Rattle.om_world.specs.Live.{program_at}
 use Rattle.om_world.specs.World.{WorldState}
-use Rattle.om_world.specs.steps.Sound.{HasShape, IsWorld, Runs, Sound}
-use Rattle.om_world.proofs.Lists.{at_change, either, none_some, set_apart}
+use Rattle.om_world.specs.steps.Past.{Past, history, past_of}
+use Rattle.om_world.specs.steps.Sound.{EndsAt, HasShape, IsRunning, IsWorld, Runs, Sound}
+use Rattle.om_world.proofs.Lists.{at_change, either, inside, none_some, set_apart, there}
 
 up_or_down : (declared : Bool) → Place.Up ≡ Place.Down declared → ⊥
 up_or_down declared e = cc
@@ -44,8 +49,27 @@ shape_down w p declared h = record {
   size = h.size;
 }
 
-sound_down : (w : WorldState) (p : ℕ) → Sound w → slice_get w.places p ≢ Some (Place.Down true) → Sound (taken_down w p false)
-sound_down w p s undeclared = record {
+-- what a process ran to, its store has no record beyond
+running_ends : (v : Past) (p : ℕ) (held : Content) (c : CoreState) → IsRunning v p held c → EndsAt held (length (history v p))
+running_ends v p held c r =
+    let part : c.now.interval ≡ r.state.0.interval = ap (λ (q : Process). q.interval) r.state.2.same in
+    let long : r.state.0.interval ≡ length (history v p) = interval_along (program_at v.programs p) p (length v.programs) r.state.1.0 (history v p) r.state.0 r.state.1.1 in
+    record { receipts = λ y lt. r.above.receipts y (omega arith); checkpoints = λ y lt. r.above.checkpoints y lt }
+
+-- wherever it stands, where it knows the last round
+pub ended : (w : WorldState) (p : ℕ) (held : Content) → HasShape w → Sound w → (HasNews w p → ⊥) → slice_get w.contents p ≡ Some held → EndsAt held (length (history (past_of w) p))
+ended w p held h s old holds =
+    let stores = h.stores in let long = h.places in let lt = inside w.contents p held holds in
+    let place = there w.places p (omega arith) in
+    by place.0 place.1
+  where
+    by : (place : Place) → slice_get w.places p ≡ Some place → EndsAt held (length (history (past_of w) p))
+    by Place.Up at = let c = h.there p at in running_ends (past_of w) p held c.0 (s.running p c.0 held c.1 holds (inl at))
+    by Place.In at = let c = h.inside p at in running_ends (past_of w) p held c.0 (s.running p c.0 held c.1 holds (inr (at, λ news. absurd (old news))))
+    by (Place.Down declared) at = s.ends p declared held at old holds
+
+sound_down : (w : WorldState) (p : ℕ) → HasShape w → Sound w → slice_get w.places p ≢ Some (Place.Down true) → Sound (taken_down w p false)
+sound_down w p h s undeclared = record {
   legal = s.legal;
   frames = s.frames;
   outputs = s.outputs;
@@ -62,6 +86,11 @@ sound_down w p s undeclared = record {
   gathered = s.gathered;
   current = λ q up. s.current q (still_up w.places p q false up).1;
   known = s.known;
+  ends = λ q declared held place old holds. elim (at_change w.places p q (Place.Down declared) (Place.Down false) place) [
+    | inl same ↦ subst (λ o. EndsAt held (length (history (past_of w) o))) (sym same.0)
+        (ended w p held h s (λ news. old (subst (HasNews w) (sym same.0) news)) (subst (λ o. slice_get w.contents o ≡ Some held) same.0 holds))
+    | inr other ↦ s.ends q declared held other.1 old holds
+  ];
   behind = s.behind;
   inside = λ q c at joined runs. s.inside q c (still_core w.cores p q c at) (still_in w.places p q false joined).1 (still_runs w p q false runs);
   beyond = λ q c at joined news back. s.beyond q c (still_core w.cores p q c at) (still_in w.places p q false joined).1 news back;
@@ -70,5 +99,5 @@ sound_down w p s undeclared = record {
 pub after_down : {S : Type 0} (IsSound : S → Type 0) (xs : List S) (w : WorldState) (p : ℕ) → IsWorld IsSound xs w → slice_get w.places p ≢ Some (Place.Down true) → IsWorld IsSound xs (taken_down w p false)
 after_down IsSound xs w p i undeclared = record {
   shape = shape_down w p false i.shape;
-  clean = λ known. let s = i.clean known in (s.0, sound_down w p s.1 undeclared);
+  clean = λ known. let s = i.clean known in (s.0, sound_down w p i.shape s.1 undeclared);
 }

@@ -1,5 +1,5 @@
 -- What stores hold of a run, in words of stores and of runs without failures; and what a world leaves on its disk.
-use Rattle.std.specs.Prelude.{◌≡◌, ℕ, ◌<◌, ◌≤◌, ◌≢◌, List, length, slice_get, slice_index_or, take, Some, IsSome}
+use Rattle.std.specs.Prelude.{◌≡◌, ◌⊎◌, ℕ, ◌<◌, ◌≤◌, ◌≢◌, List, length, slice_get, slice_index_or, take, Some, IsSome}
 use Rattle.std.specs.FinMap.{get}
 use Rattle.om_format.specs.Checkpoints.{CheckpointRecord}
 use Rattle.om_format.specs.Receipts.{ReceiptRecord}
@@ -12,10 +12,11 @@ use Rattle.om_process.specs.Replays.{process_of}
 use Rattle.om_process.specs.Stored.{IsCheckpointAt, IsReceiptAt}
 use Rattle.om_process.specs.declared.limits.TheConstants.{LAST_INTERVAL}
 use Rattle.om_stable.specs.Content.{Content, nothing}
+use Rattle.om_world.specs.Changes.{IsUp}
+use Rattle.om_world.specs.Failures.{HasNews}
 use Rattle.om_world.specs.Live.{Legal, program_at, received}
 use Rattle.om_world.specs.World.{WorldState, output_entry, recovered}
 use Rattle.om_world.specs.declared.entry.Entry.{Entry}
-use Rattle.om_world.specs.declared.place.Place.{Place}
 
 -- by process what its store holds: each record that can be read is that of its process in its interval along a run
 pub record AreTrue (programs : List Program) (live : List Entry) (held : ℕ → Content) : Type 0 where
@@ -39,9 +40,9 @@ DependsWithin live state = (p q : ℕ) → q ≢ p → greatest_from q (take (st
 abbrev pub held_in : WorldState → ℕ → Content
 held_in w p = slice_index_or w.contents p nothing
 
--- each process is up
-abbrev pub AreAllUp : WorldState → Type 0
-AreAllUp w = (p : ℕ) → p < length w.programs → slice_get w.places p ≡ Some Place.Up
+-- each process is up, or knows the last finished round
+abbrev pub IsSettled : WorldState → Type 0
+IsSettled w = (p : ℕ) → p < length w.programs → IsUp w p ⊎ (HasNews w p → ⊥)
 
 -- what a world leaves: its run is one without failures, of which the records of its stores are true; they can serve what was recovered,
 -- which depends on nothing outside it; and each output that was released was made within it

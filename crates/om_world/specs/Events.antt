@@ -17,3 +17,4 @@ process_of (events.Fail process) = Some process
 process_of (events.Join process) = Some process
 process_of (events.Resume process) = Some process
 process_of events.Prune = None
+process_of events.Restart = None

@@ -25,6 +25,7 @@ use Rattle.om_world.specs.declared.place.Place.{Place}
 use Rattle.om_world.specs.declared.event.Refusal.TheVariants as refusals
 use Rattle.om_world.specs.World.{WorldState, recovered, entry_of}
 use Rattle.om_world.specs.Events.{process_of}
+use Rattle.om_world.specs.Restarted.{HasRestarted}
 use Rattle.om_world.specs.Failures.{BackHappened, BackStopped, FailRefused, HasGoneOn, HasHanded, HasNews, IsDeclared, IsToDeclare, IsToGoOn, JoinHappened, gathered, taken_down}
 use Rattle.om_world.specs.Changes.{HasFailed, IsSame, IsUp, Changes, new_messages, all_messages, made_by, HoldsMore, stored, HasStored, HasNoted, StoreStopped}
 
@@ -117,11 +118,18 @@ abbrev pub PruneStopped : WorldState → WorldState → Type 0
 PruneStopped old new = Prunes (λ p before after. (after ≡ before) ⊎ StorePruned new p before after) old new
 
 -- ---- all events
--- why an event is refused, and what it leaves. A fault is that of a store which counts it. Where all stores are clean, none is damaged
+-- why an event is refused, and what it leaves. A fault is that of a store which counts it. Where all stores are clean, none but a
+-- restart is told that something is damaged
 abbrev pub Refused : WorldState → Event → Refusal → WorldState → Type 0
 Refused old Event.Prune refusals.Memory new = PruneStopped old new
 Refused old Event.Prune refusals.Fault new = ((p : ℕ) × HasFailed old p new) × PruneStopped old new
 Refused old Event.Prune why new = ⊥
+-- a restart leaves all but how the stores stand
+Refused old Event.Restart refusals.Unsettled new = ((p : ℕ) × (p < length old.programs) × HasNews old p) × (new ≡ old)
+Refused old Event.Restart refusals.Fault new = ((p : ℕ) × HasFailed old p new) × IsSame old new
+Refused old Event.Restart refusals.Damaged new = IsSame old new
+Refused old Event.Restart refusals.Memory new = IsSame old new
+Refused old Event.Restart why new = ⊥
 Refused old event refusals.NoProcess new = IfSome (process_of event) (λ p. (length old.programs ≤ p) × (new ≡ old))
 Refused old (Event.Fail p) refusals.NotUp new = IsDeclared old p × (new ≡ old)
 Refused old (Event.Resume p) refusals.NotUp new = ⊥
@@ -172,4 +180,5 @@ Happened old (Event.Fail p) answers.Down new = (slice_get old.places p ≡ Some 
 Happened old (Event.Join p) (answers.Gathered answer) new = JoinHappened old p answer new
 Happened old (Event.Resume p) (answers.Back interval inc) new = BackHappened old p interval inc new
 Happened old (Event.Resume p) answers.GoesOn new = IsToGoOn old p × HasGoneOn old p new
+Happened old Event.Restart answers.Restarted new = HasRestarted old new
 Happened old event answer new = ⊥

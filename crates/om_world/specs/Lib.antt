@@ -7,6 +7,8 @@ pub mod Failures
 pub mod Happened
 pub mod Played
 pub mod Started
+pub mod StoreRows
+pub mod Restarted
 pub mod Events
 pub mod Texts
 pub mod steps

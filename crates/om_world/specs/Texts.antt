@@ -7,10 +7,10 @@ use Rattle.om_process.specs.declared.accept.Accept.TheVariants as accepts
 use Rattle.om_process.specs.declared.status.Status.{Status}
 use Rattle.om_process.specs.declared.status.Status.TheVariants as statuses
 use Rattle.om_world.specs.declared.event.Answer.{Answer}
-use Rattle.om_world.specs.declared.event.Answer.TheVariants.{Ran, Given, Noted, Resent, Trimmed, Pruned, Down, Back, GoesOn, Refused}
+use Rattle.om_world.specs.declared.event.Answer.TheVariants.{Ran, Given, Noted, Resent, Trimmed, Pruned, Down, Back, GoesOn, Restarted, Refused}
 use Rattle.om_world.specs.declared.event.Answer.TheVariants as answers
 use Rattle.om_world.specs.declared.event.Event.{Event}
-use Rattle.om_world.specs.declared.event.Event.TheVariants.{Run, Give, Flush, FlushFirst, Checkpoint, Spell, Fail, Join, Resume, Resend, Trim, Prune}
+use Rattle.om_world.specs.declared.event.Event.TheVariants.{Run, Give, Flush, FlushFirst, Checkpoint, Spell, Fail, Join, Resume, Resend, Trim, Prune, Restart}
 use Rattle.om_world.specs.declared.event.Refusal.{Refusal}
 use Rattle.om_world.specs.declared.event.Refusal.TheVariants as refusals
 
@@ -28,6 +28,7 @@ event_text (Fail process) = codes "fail " ++ decimal process
 event_text (Join process) = codes "join " ++ decimal process
 event_text (Resume process) = codes "resume " ++ decimal process
 event_text Prune = codes "prune"
+event_text Restart = codes "restart"
 
 -- what a process is about to do
 abbrev pub status_text : Status → List ℕ
@@ -58,6 +59,7 @@ refusal_word refusals.Present = codes "present"
 refusal_word refusals.Fault = codes "fault"
 refusal_word refusals.Damaged = codes "damaged"
 refusal_word refusals.Memory = codes "memory"
+refusal_word refusals.Unsettled = codes "unsettled"
 
 -- what is answered to an event
 abbrev pub answer_text : Answer → List ℕ
@@ -74,4 +76,5 @@ answer_text (answers.Gathered Finished) = codes "finished"
 answer_text Down = codes "down"
 answer_text (Back interval inc) = codes "back " ++ decimal interval ++ codes " inc " ++ decimal inc
 answer_text GoesOn = codes "goes-on"
+answer_text Restarted = codes "restarted"
 answer_text (Refused why) = refusal_word why

@@ -2,6 +2,7 @@
 pub mod Past
 pub mod Legal
 pub mod Sound
+pub mod Restarting
 pub mod Moves
 pub mod Starting
 pub mod Running

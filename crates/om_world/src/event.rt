@@ -1,5 +1,6 @@
 ghost use Rattle.std.specs.Prelude.{◌≡◌};
 
+use om_look::RowsFault;
 use om_manager::{FailError, Gathered, JoinError, OutputError, RecordError};
 use om_member::{NotIn, NotUp};
 use om_process::{Accept, ReplayFault, Status};
@@ -37,6 +38,10 @@ pub enum Event {
     Resume { process: usize },
     /// The manager drops what it need not keep, and then each store what stands before its effective checkpoint.
     Prune,
+    /// The whole ends and starts over its stores: a new manager is told the rows of their records and what was released, and that
+    /// each process failed, and finishes the round. What was received is cut to its recovery state, frames are lost, and each process
+    /// is down, to come up again by `Resume`.
+    Restart,
 }
 
 /// What became of an event.
@@ -72,6 +77,8 @@ pub enum Answer {
     },
     /// The process is up, as it was.
     GoesOn,
+    /// All processes are down, and the round of the new manager is finished.
+    Restarted,
     Refused(Refusal),
 }
 
@@ -95,10 +102,13 @@ pub enum Refusal {
     /// The process's store failed, at a prune some store, and its count of failures rose.
     Fault,
     /// The manager refused a row, an output, a failure or a join, or the process is not replayed from its store. Over stores that
-    /// held nothing at the start and are clean, this does not come.
+    /// held nothing at the start and are clean, this does not come. To a restart: a record stands for no row, or the rows recover less
+    /// than before; that this does not come over such stores is not proved.
     Damaged,
     /// Memory ran out.
     Memory,
+    /// A process does not know the last finished round: it is not up again since.
+    Unsettled,
 }
 
 impl From<NotUp> for Refusal {
@@ -209,6 +219,20 @@ impl From<ReplayFault> for Refusal {
         match fault {
             ReplayFault::Fault => Refusal::Fault,
             ReplayFault::Memory => Refusal::Memory,
+            _ => Refusal::Damaged,
+        }
+    }
+}
+
+impl From<RowsFault> for Refusal {
+    ghost use Rattle.om_world.specs.steps.Restarting.{refusal_of_rows};
+
+    ghost from_gives = { λ fault why. why ≡ refusal_of_rows fault };
+
+    fn from(fault: RowsFault) -> Refusal {
+        match fault {
+            RowsFault::Fault => Refusal::Fault,
+            RowsFault::Memory => Refusal::Memory,
             _ => Refusal::Damaged,
         }
     }

@@ -10,7 +10,7 @@
 //!   received), `laws` (theorems over the definitions)
 //! - `start`, and `play`: one event after another; `stopping`: the end, of which the stores are left
 //! - the events: `run`, `give`, `frames` (what is sent), `storing` (flushes and checkpoints), `failing`, `joining`, `resume`, `trim`,
-//!   `prune`
+//!   `prune`, `restart`
 #![tactic(auto)]
 
 pub use entry::Entry;
@@ -29,6 +29,7 @@ mod live;
 mod place;
 mod play;
 mod prune;
+mod restart;
 mod resume;
 mod run;
 mod start;

@@ -51,6 +51,7 @@ impl<S: Stable> World<S> {
             Event::Join { process } => self.join(alloc, process),
             Event::Resume { process } => self.resume(alloc, process),
             Event::Prune => self.prune(alloc),
+            Event::Restart => self.restart(alloc),
         }
     }
 

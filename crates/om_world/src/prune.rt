@@ -17,7 +17,7 @@ use std::alloc::Global;
 
 impl<S: Stable> World<S> {
     // Returns how many processes there are, each with its store.
-    fn size(&self) -> usize
+    pub(crate) fn size(&self) -> usize
         ensures programs { result ≡ length self.now.programs }
         ensures stores { result ≡ length self.now.contents }
     {

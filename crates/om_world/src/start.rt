@@ -87,7 +87,7 @@ fn start_all<S: Stable>(
 }
 
 // The manager of so many processes at their start.
-fn new_manager(alloc: Global, n: usize) -> Result<Manager, AllocError>
+pub(crate) fn new_manager(alloc: Global, n: usize) -> Result<Manager, AllocError>
     requires some { 1 ≤ n }
     requires few { n ≤ MAX_PROCESSES }
     ensures fresh { IfOk result (λ manager. IsNew n manager) }

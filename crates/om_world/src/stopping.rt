@@ -1,7 +1,7 @@
 //! The end of a world.
 
 ghost use Rattle.std.specs.Prelude.{◌≡◌, IfOk, OnOk, map};
-ghost use Rattle.om_world.specs.Disk.{AreAllUp, IsOnDisk};
+ghost use Rattle.om_world.specs.Disk.{IsOnDisk, IsSettled};
 ghost use Rattle.om_world.specs.World.{IsKnown};
 ghost use Rattle.om_world.specs.steps.Members.{store_in};
 
@@ -23,11 +23,11 @@ fn stores_of<S: Stable>(alloc: Global, members: Vec<Member<S>>) -> Result<Vec<S>
 }
 
 impl<S: Stable> World<S> {
-    /// Ends the world: all is lost but its stores, by process. Where it ends while its processes are up, what stands in them is true
-    /// of what was received, and serves what was recovered. Refused for memory, the stores are dropped as they are.
+    /// Ends the world: all is lost but its stores, by process. Where each process is up or knows the last finished round, what stands
+    /// in them is true of what was received, and serves what was recovered. Refused for memory, the stores are dropped as they are.
     pub fn stop(self, alloc: Global) -> Result<Vec<S>, AllocError>
         ensures stores { IfOk result (λ stores. map S.content stores.items ≡ self.contents) }
-        ensures disk { IsKnown self → AreAllUp self → OnOk result (IsOnDisk self) }
+        ensures disk { IsKnown self → IsSettled self → OnOk result (IsOnDisk self) }
     {
         let World { members, .. } = self;
         stores_of(alloc, members)

@@ -1,5 +1,5 @@
 -- A world's members, as they are seen.
-use Rattle.std.specs.Prelude.{ℕ, List, Option, Bool, map}
+use Rattle.std.specs.Prelude.{ℕ, List, Option, Bool, true, map}
 use Rattle.om_format.specs.declared.message.Message.{Message}
 use Rattle.om_stable.specs.Content.{Content}
 use Rattle.om_process.specs.Core.{CoreState}
@@ -27,6 +27,10 @@ core_in m = core_of m.standing
 
 abbrev pub place_in : {S : Type 0} → Member S → Place
 place_in m = place_of m.standing
+
+-- a member that is down, and declared, as before any round
+abbrev pub downed : {S : Type 0} → Member S → Member S
+downed m = record m { standing = stands.Down true; round = 0 }
 
 abbrev pub round_in : {S : Type 0} → Member S → ℕ
 round_in m = m.round

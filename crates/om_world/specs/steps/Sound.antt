@@ -1,5 +1,5 @@
 -- What is kept of a world by each call that it makes.
-use Rattle.std.specs.Prelude.{◌≡◌, ◌≢◌, ◌⊎◌, ℕ, ◌<◌, ◌≤◌, List, [], ◌∷◌, ◌++◌, length, take, slice_get, slice_index, true, false, Some, None, if◌then◌else◌}
+use Rattle.std.specs.Prelude.{◌≡◌, ◌≢◌, ◌⊎◌, ℕ, ◌<◌, ◌≤◌, List, [], ◌∷◌, ◌++◌, length, take, slice_get, slice_index, Bool, true, false, Some, None, if◌then◌else◌}
 use Rattle.std.specs.FinMap.{get}
 use Rattle.std.specs.List.{AllByRecursion}
 use Rattle.om_interval.specs.declared.pid.TheConstants.{MAX_PROCESSES}
@@ -67,6 +67,11 @@ pub record IsStored (w : Past) (p : ℕ) (held : Content) : Type 0 where
 -- a store has no receipt of the core's log or of a later interval, and no checkpoint of a later interval
 pub record NothingAbove (held : Content) (c : CoreState) (interval : ℕ) : Type 0 where
   pub receipts : (y : ℕ) → first_logged c ≤ y → get held.receipts y ≡ None
+  pub checkpoints : (y : ℕ) → interval < y → get held.checkpoints y ≡ None
+
+-- a store has no record of a later interval
+pub record EndsAt (held : Content) (interval : ℕ) : Type 0 where
+  pub receipts : (y : ℕ) → interval < y → get held.receipts y ≡ None
   pub checkpoints : (y : ℕ) → interval < y → get held.checkpoints y ≡ None
 
 -- a row that no replay wants any longer: a noted checkpoint within the recovery state stands after it
@@ -166,6 +171,9 @@ pub record Sound (w : WorldState) : Type 0 where
   pub gathered : (p : ℕ) → presence_of (presences_of w.manager.gathering) p ≢ Away → slice_index w.rounds p ≡ w.manager.round
   pub current : (p : ℕ) → slice_get w.places p ≡ Some Place.Up → slice_index w.rounds p ≡ w.manager.round
   pub known : (p : ℕ) → slice_index w.rounds p ≤ w.manager.round
+  -- a process that is down and knows the last round has no record of an interval that it had not reached
+  pub ends : (p : ℕ) (declared : Bool) (held : Content) → slice_get w.places p ≡ Some (Place.Down declared) → (HasNews w p → ⊥)
+      → slice_get w.contents p ≡ Some held → EndsAt held (length (history (past_of w) p))
   -- whom the last round found: each stands where it was cut to, until it is up again; who is in and runs has the newest
   -- incarnation, and who is in and is to be rolled back was beyond
   pub behind : (p : ℕ) → p < length w.programs → HasNews w p → length (history (past_of w) p) ≡ slice_index w.manager.last p

@@ -13,8 +13,8 @@ use Rattle.om_stable.specs.Content.{Content}
 use Rattle.om_world.specs.Live.{program_at, received}
 use Rattle.om_world.specs.declared.entry.Entry.{Entry}
 use Rattle.om_world.specs.Disk.{AreTrue}
-use Rattle.om_restart_laws.specs.Starting.{HasRowsOf, IsToldOf, first_row}
-use Rattle.om_restart_laws.proofs.Rows.{IsTrueRow, store_true}
+use Rattle.om_world.specs.StoreRows.{HasRowsOf, IsToldOf, first_row}
+use Rattle.om_world.proofs.StoredRows.{IsTrueRow, store_true}
 
 -- what is true of a row, as a manager has it
 abbrev pub IsTrueOf : List Program → List Entry → Row → Type 0

@@ -19,11 +19,11 @@ use Rattle.om_world.specs.Live.{received}
 use Rattle.om_world.specs.declared.entry.Entry.{Entry}
 use Rattle.om_world.proofs.Ordered.{depends_at, length-depends}
 use Rattle.om_world.specs.Disk.{AreTrue, CanServe, DependsWithin}
-use Rattle.om_restart_laws.specs.Starting.{HasRowsOf}
-use Rattle.om_restart_laws.proofs.Serving.{IsAmong, rows_serve}
-use Rattle.om_restart_laws.proofs.Told.{rows_are_true}
+use Rattle.om_world.specs.StoreRows.{HasRowsOf}
+use Rattle.om_world.proofs.Serving.{IsAmong, rows_serve}
+use Rattle.om_world.proofs.TrueRows.{rows_are_true}
 
-has_checkpoint : (n : ℕ) (held : ℕ → Content) (rows : Rows) (p x : ℕ) (has : HasRowsOf n held rows) → p < n → IsAmong true x (has.told p) → Has rows Checkpoint p x
+pub has_checkpoint : (n : ℕ) (held : ℕ → Content) (rows : Rows) (p x : ℕ) (has : HasRowsOf n held rows) → p < n → IsAmong true x (has.told p) → Has rows Checkpoint p x
 has_checkpoint n held rows p x has lt a =
     let row : Row = row_for p a.1 in
     let shape : row_for p a.1 ≡ record { kind = Checkpoint; pid = p; interval = a.1.x; vec = a.1.vec; got = a.1.got } = rw a.3 refl in

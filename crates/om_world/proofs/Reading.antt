@@ -1,0 +1,181 @@
+-- A world whose stores are read, and whose rows a manager is told.
+use Rattle.std.proofs.Common.{◌≡◌, ◌≢◌, ◌⊎◌, inl, inr, ℕ, ◌+◌, ◌<◌, ◌≤◌, List, length, take, map, set, Some, Bool, true, Result, Ok, Err, refl, sym, ap, ◌∙◌, subst, arith, length-set}
+use Rattle.std.proofs.lemmas.List.{take_all}
+use Rattle.std.specs.List.{AllByRecursion}
+use Rattle.std.specs.Prelude.{All, IfOk, IsTrue, slice_get, slice_index_or}
+use Rattle.om_look.specs.Rows.{AreRowsOf}
+use Rattle.om_look.specs.declared.rows.RowsFault.{RowsFault}
+use Rattle.om_look.specs.declared.rows.RowsFault.TheVariants as rows_faults
+use Rattle.om_format.specs.declared.message.Message.{Message}
+use Rattle.om_process.specs.Process.{Program}
+use Rattle.om_process.specs.declared.row.PendingRow.{PendingRow}
+use Rattle.om_recover.specs.Rows.{HasRow}
+use Rattle.om_recover.specs.declared.note.NoteError.TheVariants as notes
+use Rattle.om_recover.specs.declared.row.Row.{Row}
+use Rattle.om_stable.specs.Calls.{IsCleanCall, UsesStore}
+use Rattle.om_stable.specs.Content.{Content, nothing}
+use Rattle.om_member.specs.Members.{WasCalled}
+use Rattle.om_member.specs.Told.{IsToldUpTo}
+use Rattle.om_member.specs.declared.member.Member.{Member}
+use Rattle.om_manager.specs.Sound.{IsManager}
+use Rattle.om_manager.specs.State.{ManagerState, process_count}
+use Rattle.om_manager.specs.declared.answers.FailError.{FailError}
+use Rattle.om_manager.specs.declared.answers.FailError.TheVariants as failing
+use Rattle.om_manager.specs.declared.answers.OutputError.{OutputError}
+use Rattle.om_manager.specs.declared.answers.OutputError.TheVariants as outputs
+use Rattle.om_manager.specs.declared.answers.RecordError.{RecordError}
+use Rattle.om_manager.specs.declared.answers.RecordError.TheVariants as records
+use Rattle.om_world.specs.declared.entry.Entry.{Entry}
+use Rattle.om_world.specs.declared.event.Refusal.TheVariants as why
+use Rattle.om_world.specs.Changes.{HasFailed, NoneFell}
+use Rattle.om_world.specs.Disk.{held_in}
+use Rattle.om_world.specs.StoreRows.{first_row}
+use Rattle.om_world.specs.World.{Health, IsEmpty, IsKnown, WorldState, all_clean}
+use Rattle.om_world.specs.steps.Members.{content_in, core_in, health_in, health_of, place_in, round_in, seen, sound_in}
+use Rattle.om_world.specs.steps.Moves.{IsCalled, refusal_of_failure, refusal_of_record}
+use Rattle.om_world.specs.steps.Restarting.{HasRead, HasToldStores, IsRefusal, IsToldRows, refusal_of_rows}
+use Rattle.om_world.specs.steps.Running.{refusal_of_output}
+use Rattle.om_world.specs.steps.Sound.{IsWorld, Sound}
+use Rattle.om_world.proofs.Disk.{index_at}
+use Rattle.om_world.proofs.FailureCounts.{called_counts, counted, counts_stay, counts_then, failed_after}
+use Rattle.om_world.proofs.Gaining.{sound_clean}
+use Rattle.om_world.proofs.Kept.{remade, shape_same}
+use Rattle.om_world.proofs.Lists.{clean_before, length-map, map_at, map_set, sound_at, sound_set}
+use Rattle.om_world.proofs.Noting.{over}
+use Rattle.om_world.proofs.Recording.{set_back}
+use Rattle.om_world.proofs.RowsTold.{AreAdded, are_added, no_rows, one_store, rows_same, rows_then}
+use Rattle.om_world.proofs.Seats.{called_in, restored}
+
+abbrev IsSame : Content → Content → Type 0
+IsSame before after = after ≡ before
+
+-- ---- one store is read
+module _ {S Failed : Type 0} (content : S → Content) (health : S → Health) (IsSound : S → Type 0) (w : WorldState) (p : ℕ) (xs ys : List S) (i : IsWorld IsSound xs (over content health w xs w.cores)) (k : IsCalled content health IsSound Failed xs ys p IsSame) where
+  same_contents : IsKnown (over content health w ys w.cores) → map content ys ≡ map content xs
+  same_contents known =
+      let before = clean_before health xs p k.before k.after k.there k.clean (subst (λ zs. all_clean (map health zs) ≡ true) k.stores known.1) in
+      let s = i.clean (known.0, before.0) in
+      let did = k.did before.1 (sound_at IsSound xs p k.before s.0 k.there) in
+      ap (map content) k.stores ∙ sym (map_set content xs p k.after) ∙ ap (set (map content xs) p) did ∙ set_back (map content xs) p (content k.before) (map_at content xs p k.before k.there)
+
+  pub after_read_store : IsWorld IsSound ys (over content health w ys w.cores)
+  after_read_store =
+      record {
+        shape = (shape_same (over content health w xs w.cores) w.live w.frames w.manager (map content ys) (map health ys) i.shape
+            (length-map content ys ∙ ap length k.stores ∙ length-set xs p k.after ∙ sym (length-map content xs)) i.shape.manager refl);
+        clean = λ all.
+            let before = clean_before health xs p k.before k.after k.there k.clean (subst (λ zs. all_clean (map health zs) ≡ true) k.stores all.1) in
+            let s = i.clean (all.0, before.0) in
+            let was = sound_at IsSound xs p k.before s.0 k.there in (
+              (subst (λ zs. AllByRecursion IsSound zs) (sym k.stores) (sound_set IsSound xs p k.after s.0 (k.sound before.1 was))),
+              subst (λ l. Sound (remade w w.live w.frames w.cores w.manager l (map health ys))) (sym (same_contents all)) (sound_clean w (map content xs) (map health xs) (map health ys) s.1),
+            );
+      }
+
+  pub has_read_store : HasRead (over content health w xs w.cores) (over content health w ys w.cores)
+  has_read_store = record {
+    others = refl;
+    was_clean = λ all. (clean_before health xs p k.before k.after k.there k.clean (subst (λ zs. all_clean (map health zs) ≡ true) k.stores all)).0;
+    counts = called_counts content health IsSound p xs ys IsSame k;
+    same = same_contents;
+  }
+
+-- ---- in a world
+module _ {S : Type 0} (content : S → Content) (is_clean : S → Bool) (failed : S → ℕ) (IsSound : S → Type 0) (P : List Program) (L : List Entry) (F : List Message) (ms : List (Member S)) (M : ManagerState) (O : List Content) (p : ℕ) (m : Member S) (at : slice_get ms p ≡ Some m) (n : Member S) (v : WorldState)
+    (i : IsWorld (sound_in IsSound) ms (seen content (health_of is_clean failed) P L F ms M O)) (e : seen content (health_of is_clean failed) P L F ms M O ≡ v) (others : n ≡ record m { store = n.store })
+    (Failed : Type 0) (used : UsesStore failed is_clean IsSound m.store Failed n.store) (same : IsCleanCall is_clean IsSound m.store n.store → content n.store ≡ content m.store) where
+  abbrev pub seen_before : WorldState
+  seen_before = seen content (health_of is_clean failed) P L F ms M O
+
+  abbrev pub seen_after : WorldState
+  seen_after = seen content (health_of is_clean failed) P L F (set ms p n) M O
+
+  called : IsCalled (content_in content) (health_in (health_of is_clean failed)) (sound_in IsSound) Failed ms (set ms p n) p IsSame
+  called = called_in content is_clean failed IsSound Failed IsSame ms p m n at (record { used = used; did = λ clean sound. same (clean, sound) })
+
+  as_seen : over (content_in content) (health_in (health_of is_clean failed)) seen_before (set ms p n) seen_before.cores ≡ seen_after
+  as_seen = restored content (health_of is_clean failed) IsSound P L F ms M O p m at n (ap core_in others) (ap place_in others) (ap round_in others)
+
+  pub after_read : IsWorld (sound_in IsSound) (set ms p n) seen_after
+  after_read = subst (IsWorld (sound_in IsSound) (set ms p n)) as_seen (after_read_store (content_in content) (health_in (health_of is_clean failed)) (sound_in IsSound) seen_before p ms (set ms p n) i called)
+
+  pub was_read : HasRead v seen_after
+  was_read = subst (λ (x : WorldState). HasRead x seen_after) e (subst (HasRead seen_before) as_seen (has_read_store (content_in content) (health_in (health_of is_clean failed)) (sound_in IsSound) seen_before p ms (set ms p n) i called))
+
+  pub read_clean : IsKnown seen_after → IsCleanCall is_clean IsSound m.store n.store
+  read_clean known =
+      let before = clean_before (health_in (health_of is_clean failed)) ms p m n at used.clean known.1 in
+      (before.1, sound_at (sound_in IsSound) ms p m (i.clean (known.0, before.0)).0 at)
+
+  pub read_held : held_in v p ≡ content m.store
+  read_held = ap (λ (x : WorldState). held_in x p) (sym e) ∙ index_at (map (content_in content) ms) p (content m.store) (map_at (content_in content) ms p m at)
+
+  pub read_failed : Failed → HasFailed v p seen_after
+  read_failed is = subst (λ (x : WorldState). HasFailed x p seen_after) e (counted (content_in content) (health_in (health_of is_clean failed)) (sound_in IsSound) p ms (set ms p n) IsSame called is)
+
+-- ---- one after another
+pub none_read : (w : WorldState) → HasRead w w
+none_read w = record { others = refl; was_clean = λ all. all; counts = counts_stay w.health; same = λ known. refl }
+
+pub known_read : (old new : WorldState) → HasRead old new → IsKnown new → IsKnown old
+known_read old new r known = (subst (λ l. All IsEmpty l) (ap (λ (x : WorldState). x.origins) r.others) known.0, r.was_clean known.1)
+
+pub read_then : (old mid new : WorldState) → HasRead old mid → HasRead mid new → HasRead old new
+read_then old mid new a b = record {
+  others = b.others ∙ ap (λ (x : WorldState). record x { contents = new.contents; health = new.health }) a.others;
+  was_clean = λ all. a.was_clean (b.was_clean all);
+  counts = counts_then old.health mid.health new.health a.counts b.counts;
+  same = λ known. b.same known ∙ a.same (known_read mid new b known);
+}
+
+pub held_same : (old new : WorldState) → HasRead old new → IsKnown new → (p : ℕ) → held_in old p ≡ held_in new p
+held_same old new r known p = ap (λ l. slice_index_or l p nothing) (sym (r.same known))
+
+pub failed_read : (old mid new : WorldState) (p : ℕ) → HasRead old mid → HasFailed mid p new → HasFailed old p new
+failed_read old mid new p r f = failed_after old.health mid.health new.health p r.counts f
+
+pub none_told : (w : WorldState) (m : ManagerState) → IsManager m → ((row : Row) → HasRow m.rows row → (row.pid < length w.programs) × (row ≡ first_row (length w.programs) row.pid)) → HasToldStores w m 0 w m
+none_told w m sound fresh = record { read = none_read w; told = rows_same m sound; rows = λ known. no_rows (length w.programs) (held_in w) m.rows fresh }
+
+pub one_told : (old mid new : WorldState) (first m next : ManagerState) (p count : ℕ) (rows : List PendingRow) → p < length old.programs → HasToldStores old first p mid m → HasRead mid new
+    → (IsKnown new → AreRowsOf p (length mid.programs) (held_in mid p) rows) → IsToldUpTo m 0 p rows count (Ok tt) next → HasToldStores old first (p + 1) new next
+one_told old mid new first m next p count rows lt t r are u =
+    let all = take_all count rows (let is = u.all in omega arith) in
+    let added : AreAdded m p rows next = subst (λ l. AreAdded m p l next) all (are_added m 0 p (take count rows) next t.told.sound u.told) in
+    record {
+      read = read_then old mid new t.read r;
+      told = rows_then first m next t.told added.told;
+      rows = λ known.
+          let before = known_read mid new r known in
+          let many : length mid.programs ≡ length old.programs = ap (λ (x : WorldState). length x.programs) t.read.others in
+          one_store (length old.programs) p (held_in old) m next rows lt (t.rows before)
+          (subst (λ c. AreRowsOf p (length old.programs) c rows) (sym (held_same old mid t.read before p)) (subst (λ n. AreRowsOf p n (held_in mid p) rows) many (are known))) added;
+    }
+
+-- ---- why it stops
+pub rows_refusal : (fault : RowsFault) → IsRefusal (refusal_of_rows fault)
+rows_refusal (rows_faults.Damaged x) = IsRefusal.damaged refl
+rows_refusal (rows_faults.Mismatch x) = IsRefusal.damaged refl
+rows_refusal rows_faults.Fault = IsRefusal.fault refl
+rows_refusal rows_faults.Memory = IsRefusal.memory refl
+
+pub rows_fault : (fault : RowsFault) → refusal_of_rows fault ≡ why.Fault → fault ≡ rows_faults.Fault
+rows_fault (rows_faults.Damaged x) is = cc
+rows_fault (rows_faults.Mismatch x) is = cc
+rows_fault rows_faults.Fault is = refl
+rows_fault rows_faults.Memory is = cc
+
+pub record_refusal : (fault : RecordError) → IsRefusal (refusal_of_record fault) × (refusal_of_record fault ≢ why.Fault)
+record_refusal (records.Stale told) = (IsRefusal.damaged refl, λ is. cc)
+record_refusal (records.Refused notes.Stranger) = (IsRefusal.damaged refl, λ is. cc)
+record_refusal (records.Refused notes.BadVector) = (IsRefusal.damaged refl, λ is. cc)
+record_refusal (records.Refused notes.Differs) = (IsRefusal.damaged refl, λ is. cc)
+record_refusal (records.Refused (notes.Disorder y)) = (IsRefusal.damaged refl, λ is. cc)
+record_refusal (records.Refused notes.Memory) = (IsRefusal.memory refl, λ is. cc)
+
+pub output_refusal : (fault : OutputError) → IsRefusal (refusal_of_output fault) × (refusal_of_output fault ≢ why.Fault)
+output_refusal outputs.Stranger = (IsRefusal.damaged refl, λ is. cc)
+output_refusal (outputs.Stale told) = (IsRefusal.damaged refl, λ is. cc)
+output_refusal outputs.Differs = (IsRefusal.damaged refl, λ is. cc)
+output_refusal (outputs.Gap next) = (IsRefusal.damaged refl, λ is. cc)
+output_refusal outputs.Memory = (IsRefusal.memory refl, λ is. cc)

@@ -1,0 +1,227 @@
+-- What a restart comes to.
+use Rattle.std.proofs.Common.{◌≡◌, ◌≢◌, ℕ, ◌<◌, ◌≤◌, List, [], ◌∷◌, length, map, replicate, None, Option, Bool, true, false, refl, sym, ap, ◌∙◌, subst, arith}
+use Rattle.std.specs.List.{AllByRecursion}
+use Rattle.std.specs.Prelude.{All, slice_index, slice_index_or}
+use Rattle.std.proofs.lemmas.List.{length-replicate}
+use mathlib.Core.List.{IsPrefix}
+use Rattle.om_interval.specs.Vectors.{IsBelow}
+use Rattle.om_format.specs.declared.message.Message.{Message}
+use Rattle.om_process.specs.Core.{CoreState}
+use Rattle.om_process.specs.Process.{Program}
+use Rattle.om_recover.specs.Recoverable.{IsGreatest}
+use Rattle.om_stable.specs.Content.{Content}
+use Rattle.om_member.specs.declared.member.Member.{Member}
+use Rattle.om_manager.specs.Gatherings.{AreAllIn, presences_of}
+use Rattle.om_manager.specs.Outputs.{HeldOutput}
+use Rattle.om_manager.specs.Sound.{IsManager, KeepsReleased}
+use Rattle.om_manager.specs.State.{ManagerState, held_by, process_count, released_by}
+use Rattle.om_take_up.specs.Anew.{EachFailed, HasReleasedOf, HoldsNone, IsBefore, OnlyFailed}
+use Rattle.om_world.specs.declared.entry.Entry.{Entry}
+use Rattle.om_world.specs.declared.event.Answer.TheVariants as answers
+use Rattle.om_world.specs.declared.event.Event.{Event}
+use Rattle.om_world.specs.declared.event.Refusal.{Refusal}
+use Rattle.om_world.specs.declared.event.Refusal.TheVariants as why
+use Rattle.om_world.specs.declared.place.Place.{Place}
+use Rattle.om_world.specs.Changes.{HasFailed, NoneFell}
+use Rattle.om_world.specs.Disk.{IsSettled, held_in}
+use Rattle.om_world.specs.Happened.{Happened, Refused}
+use Rattle.om_world.specs.Live.{cut_list}
+use Rattle.om_world.specs.Restarted.{HasRestarted, IsFirst, anew}
+use Rattle.om_world.specs.Started.{IsNew}
+use Rattle.om_world.specs.StoreRows.{HasRowsOf}
+use Rattle.om_world.specs.World.{Health, IsKnown, WorldState, all_clean, recovered}
+use Rattle.om_world.specs.steps.Members.{content_in, core_in, downed, health_in, place_in, round_in, seen, sound_in}
+use Rattle.om_world.specs.steps.Moves.{Keeps}
+use Rattle.om_world.specs.steps.Restarting.{HasRead, HasRowsUpTo, HasToldStores, IsAnew, IsRefusal, IsToldRows}
+use Rattle.om_world.specs.steps.Sound.{HasShape, IsWorld, Sound}
+use Rattle.om_world.proofs.Beginning.{index_same}
+use Rattle.om_world.proofs.Keeping.{keeps_same, prefix_then}
+use Rattle.om_member.proofs.KeepLemmas.{prefix_same}
+use Rattle.om_world.proofs.Lists.{length-map}
+use Rattle.om_world.proofs.Reading.{held_same, known_read}
+use Rattle.om_world.proofs.Restarting.{Starts, put_down, released_same, shape_down, sound_started}
+use Rattle.om_world.proofs.RowsTold.{all_stores, same_rows}
+use Rattle.om_world.proofs.Seats.{world_is}
+
+-- ---- the manager before the last failure
+starts : (w : WorldState) (m : ManagerState) → IsKnown w → (a : IsAnew w m) → Starts w a.failed.before
+starts w m known a = record {
+  size = ap process_count a.failed.others ∙ a.first.size;
+  sound = a.failed.sound;
+  rows = subst (λ (k : ManagerState). HasRowsOf (length w.programs) (held_in w) k.rows) (sym a.failed.others) (a.rows known);
+  kept = subst (λ (k : ManagerState). IsBelow w.manager.recovery k.recovery) (sym a.failed.others) a.kept;
+  outputs = λ p lt. ap (λ (k : ManagerState). held_by k p) a.failed.others ∙ a.outputs p lt;
+  round = ap (λ (k : ManagerState). k.round) a.failed.others ∙ a.first.round;
+  waiting = subst (λ n. OnlyFailed n (presences_of a.failed.before.gathering)) a.first.size a.failed.waiting;
+}
+
+recovery_is : (w : WorldState) (m : ManagerState) (a : IsAnew w m) → m.recovery ≡ a.told.recovery
+recovery_is w m a = a.failed.finished.recovery ∙ ap (λ (k : ManagerState). k.recovery) a.failed.others
+
+size_anew : (w : WorldState) (m : ManagerState) → IsAnew w m → process_count m ≡ length w.programs
+size_anew w m a = ap length (recovery_is w m a) ∙ a.first.size
+
+sound_anew : (w : WorldState) (m : ManagerState) → HasShape w → Sound w → IsSettled w → IsKnown w → IsAnew w m → Sound (anew w m)
+sound_anew w m h s settled known a =
+    let k = starts w m known a in
+    let before = a.failed.before in
+    let same = ap process_count a.failed.others in
+    subst (λ r. Sound (record (anew w m) { live = cut_list (slice_index r) w.live })) (sym a.failed.finished.recovery)
+    (sound_started w before m a.failed.presences h s settled k (subst (λ n. OnlyFailed n a.failed.presences) a.first.size a.failed.failed) (subst (λ n. AreAllIn n a.failed.presences) (sym same) a.failed.all) a.failed.finished)
+
+shape_anew : (w : WorldState) (m : ManagerState) → HasShape w → IsAnew w m → HasShape (anew w m)
+shape_anew w m h a =
+    let d = shape_down w m h (size_anew w m a) a.finished in
+    record { few = d.few; stores = d.stores; cores = d.cores; places = d.places; own = d.own; rounds = d.rounds; there = d.there; inside = d.inside; manager = d.manager; size = d.size }
+
+world_anew : {S T : Type 0} (IsSound : S → Type 0) (xs : List S) (Other : T → Type 0) (ys : List T) (w : WorldState) (m : ManagerState) → (AllByRecursion IsSound xs → AllByRecursion Other ys) → IsWorld IsSound xs w → IsSettled w → IsAnew w m → IsWorld Other ys (anew w m)
+world_anew IsSound xs Other ys w m goes i settled a = record {
+  shape = shape_anew w m i.shape a;
+  clean = λ known. let s = i.clean known in (goes s.0, sound_anew w m i.shape s.1 settled known a);
+}
+
+-- ---- its members
+module _ {S : Type 0} (content : S → Content) (health : S → Health) (IsSound : S → Type 0) (P : List Program) (L : List Entry) (F : List Message) (ms : List (Member S)) (M : ManagerState) (O : List Content) (v : WorldState)
+    (i : IsWorld (sound_in IsSound) ms (seen content health P L F ms M O)) (e : seen content health P L F ms M O ≡ v) (m : ManagerState) (live : List Entry) (cut : live ≡ cut_list (recovered m) L) (fs : List Message) (none : fs ≡ []) (now : List (Member S)) (down : now ≡ map downed ms) where
+  all_sound : (xs : List (Member S)) → AllByRecursion (sound_in IsSound) xs → AllByRecursion (sound_in IsSound) (map downed xs)
+  all_sound [] all = all
+  all_sound (x ∷ xs) all = (all.0, all_sound xs all.1)
+
+  all_same : {X : Type 0} (f : Member S → X) (x : X) → ((y : Member S) → f (downed y) ≡ x) → (xs : List (Member S)) → map f (map downed xs) ≡ replicate (length xs) x
+  all_same f x same [] = refl
+  all_same f x same (y ∷ xs) = ap (λ z. z ∷ map f (map downed xs)) (same y) ∙ ap (λ l. x ∷ l) (all_same f x same xs)
+
+  all_kept : {X : Type 0} (f : Member S → X) → ((y : Member S) → f (downed y) ≡ f y) → (xs : List (Member S)) → map f (map downed xs) ≡ map f xs
+  all_kept f same [] = refl
+  all_kept f same (y ∷ xs) = ap (λ z. z ∷ map f (map downed xs)) (same y) ∙ ap (λ l. f y ∷ l) (all_kept f same xs)
+
+  many : length ms ≡ length P
+  many = sym (length-map core_in ms) ∙ i.shape.cores
+
+  as_anew : seen content health P live [] (map downed ms) m O ≡ anew (seen content health P L F ms M O) m
+  as_anew = world_is (seen content health P live [] (map downed ms) m O) (anew (seen content health P L F ms M O) m)
+      refl cut refl
+      (all_same core_in None (λ y. refl) ms ∙ ap (λ n. replicate n None) many)
+      (all_same place_in (Place.Down true) (λ y. refl) ms ∙ ap (λ n. replicate n (Place.Down true)) many)
+      (all_same round_in 0 (λ y. refl) ms ∙ ap (λ n. replicate n 0) many)
+      refl (all_kept (content_in content) (λ y. refl) ms) (all_kept (health_in health) (λ y. refl) ms) refl
+
+  as_now : seen content health P live fs now m O ≡ anew (seen content health P L F ms M O) m
+  as_now = ap (λ l. seen content health P live l now m O) none ∙ ap (λ l. seen content health P live [] l m O) down ∙ as_anew
+
+  pub after_anew : IsSettled v → IsAnew v m → IsWorld (sound_in IsSound) now (seen content health P live fs now m O)
+  after_anew settled a = subst (IsWorld (sound_in IsSound) now) (sym as_now)
+      (world_anew (sound_in IsSound) ms (sound_in IsSound) now (seen content health P L F ms M O) m (λ all. subst (AllByRecursion (sound_in IsSound)) (sym down) (all_sound ms all)) i (subst IsSettled (sym e) settled) (subst (λ (x : WorldState). IsAnew x m) (sym e) a))
+
+  pub was_anew : seen content health P live fs now m O ≡ anew v m
+  was_anew = as_now ∙ ap (λ (x : WorldState). anew x m) e
+
+-- ---- what was released is
+released_anew : (w : WorldState) (m : ManagerState) → IsAnew w m → KeepsReleased w.manager m
+released_anew w m a p lt =
+    let small : p < length w.programs = let size = a.first.size in let same = a.kept.same_places in omega arith in
+    let before = a.failed.before in
+    let kept : IsBelow w.manager.recovery before.recovery = subst (λ (k : ManagerState). IsBelow w.manager.recovery k.recovery) (sym a.failed.others) a.kept in
+    let held : held_by before p ≡ released_by w.manager p = ap (λ (k : ManagerState). held_by k p) a.failed.others ∙ a.outputs p small in
+    let size : p < process_count before = let same = ap process_count a.failed.others in let many = a.first.size in omega arith in
+    let now : held_by m p ≡ released_by w.manager p = a.failed.finished.outputs p size ∙ released_same w before p kept held in
+    let more : IsBelow w.manager.recovery m.recovery = subst (λ r. IsBelow w.manager.recovery r) (sym (recovery_is w m a)) a.kept in
+    (prefix_to w m p (released_same w m p more now))
+  where
+    prefix_to : (w : WorldState) (m : ManagerState) (p : ℕ) → released_by m p ≡ released_by w.manager p → IsPrefix (released_by w.manager p) (released_by m p)
+    prefix_to w m p same = subst (λ l. IsPrefix (released_by w.manager p) l) (sym same) (prefix_same (released_by w.manager p))
+
+pub keeps_anew : (old mid new : WorldState) (m : ManagerState) → HasRead old mid → IsAnew mid m → new ≡ anew mid m → Keeps old new
+keeps_anew old mid new m r a e =
+    let manager : new.manager ≡ m = ap (λ (x : WorldState). x.manager) e in
+    let was : mid.manager ≡ old.manager = ap (λ (x : WorldState). x.manager) r.others in
+    let health : new.health ≡ mid.health = ap (λ (x : WorldState). x.health) e in
+    record {
+      size = ap process_count manager ∙ ap length (recovery_is mid m a) ∙ sym a.kept.same_places ∙ ap process_count was;
+      released = subst (λ k. KeepsReleased old.manager k) (sym manager) (subst (λ k. KeepsReleased k m) was (released_anew mid m a));
+      clean = λ all. r.was_clean (ap all_clean (sym health) ∙ all);
+      counts = subst (λ l. NoneFell old.health l) (sym health) r.counts;
+      origins = ap (λ (x : WorldState). x.origins) e ∙ ap (λ (x : WorldState). x.origins) r.others;
+    }
+
+pub keeps_read : (old new : WorldState) → HasRead old new → Keeps old new
+keeps_read old new r =
+    let was : new.manager ≡ old.manager = ap (λ (x : WorldState). x.manager) r.others in
+    record {
+      size = ap process_count was;
+      released = subst (λ k. KeepsReleased old.manager k) (sym was) (keeps_same old.manager);
+      clean = r.was_clean;
+      counts = r.counts;
+      origins = ap (λ (x : WorldState). x.origins) r.others;
+    }
+
+-- ---- what happened
+-- where what the stores hold is known, reads change their health alone
+same_but : (old mid : WorldState) → HasRead old mid → IsKnown mid → mid ≡ record old { health = mid.health }
+same_but old mid r known = r.others ∙ ap (λ c. record old { contents = c; health = mid.health }) (r.same known)
+
+pub settled_after : (old mid : WorldState) → HasRead old mid → IsSettled old → IsSettled mid
+settled_after old mid r settled = subst IsSettled (sym r.others) settled
+
+pub restart_happened : (old mid new : WorldState) (m : ManagerState) → IsSettled old → HasRead old mid → IsAnew mid m → new ≡ anew mid m → IsKnown new → HasRestarted old new
+restart_happened old mid new m settled r a e known =
+    let known_mid : IsKnown mid = subst IsKnown e known in
+    let is : mid ≡ record old { health = mid.health } = same_but old mid r known_mid in
+    let b : IsAnew (record old { health = mid.health }) m = subst (λ (x : WorldState). IsAnew x m) is a in
+    let here : IsKnown (record old { health = mid.health }) = subst IsKnown is known_mid in
+    let now : new ≡ anew (record old { health = mid.health }) m = e ∙ ap (λ (x : WorldState). anew x m) is in
+    let manager : new.manager ≡ m = ap (λ (x : WorldState). x.manager) now in
+    record {
+      settled = settled;
+      told = b.told;
+      first = b.first;
+      rows = b.rows here;
+      greatest = subst (λ n. IsGreatest n b.told.rows b.told.recovery) b.first.size b.sound.exact.greatest;
+      kept = b.kept;
+      outputs = b.outputs;
+      failed = subst (EachFailed b.told) (sym manager) b.failed;
+      recovery = ap (λ (k : ManagerState). k.recovery) manager ∙ recovery_is (record old { health = mid.health }) m b;
+      others = now ∙ ap (λ (k : ManagerState). record (anew old k) { health = mid.health }) (sym manager) ∙ ap (λ h. record (anew old new.manager) { health = h }) (sym (ap (λ (x : WorldState). x.health) now));
+    }
+
+pub restart_refused : (old mid : WorldState) (refusal : Refusal) → IsRefusal refusal → HasRead old mid → (refusal ≡ why.Fault → (p : ℕ) × HasFailed old p mid) → IsKnown mid → Happened old Event.Restart (answers.Refused refusal) mid
+restart_refused old mid refusal (IsRefusal.fault is) r failed known = subst (λ x. Refused old Event.Restart x mid) (sym is) (failed is, same_but old mid r known)
+restart_refused old mid refusal (IsRefusal.damaged is) r failed known = subst (λ x. Refused old Event.Restart x mid) (sym is) (same_but old mid r known)
+restart_refused old mid refusal (IsRefusal.memory is) r failed known = subst (λ x. Refused old Event.Restart x mid) (sym is) (same_but old mid r known)
+
+-- ---- the manager that is made
+-- what is told of a new manager, to which rows of stores and outputs were told
+pub told_first : (n : ℕ) (first m told : ManagerState) → IsNew n first → IsToldRows first m → told ≡ record m { outputs = told.outputs } → IsFirst n told
+told_first n first m told fresh t o = record {
+  size = ap process_count o ∙ t.size ∙ ap length fresh.recovery ∙ length-replicate n 0;
+  starts = ap (λ (k : ManagerState). k.starts) o ∙ ap (λ (k : ManagerState). k.starts) t.others ∙ fresh.starts;
+  round = ap (λ (k : ManagerState). k.round) o ∙ ap (λ (k : ManagerState). k.round) t.others ∙ fresh.round;
+}
+
+pub told_none : (n : ℕ) (first m : ManagerState) → IsNew n first → IsToldRows first m → HoldsNone m
+told_none n first m fresh t p = ap (λ (k : ManagerState). held_by k p) t.others ∙ ap (λ l. slice_index_or l p []) fresh.outputs ∙ index_same n p []
+
+pub told_before : (n : ℕ) (first m told : ManagerState) → IsNew n first → IsToldRows first m → told ≡ record m { outputs = told.outputs } → IsBefore told
+told_before n first m told fresh t o = record {
+  gathering = ap (λ (k : ManagerState). k.gathering) o ∙ ap (λ (k : ManagerState). k.gathering) t.others ∙ fresh.gathering;
+  round = ap (λ (k : ManagerState). k.round) o ∙ ap (λ (k : ManagerState). k.round) t.others ∙ fresh.round;
+}
+
+pub made_anew : (old mid : WorldState) (first m told final : ManagerState) → IsNew (length old.programs) first → HasToldStores old first (length old.programs) mid m → HasReleasedOf mid.manager m told → IsManager told → IsBelow mid.manager.recovery told.recovery → EachFailed told final → IsManager final
+    → IsAnew mid final
+made_anew old mid first m told final fresh s o sound kept failed finished =
+    let programs : mid.programs ≡ old.programs = ap (λ (x : WorldState). x.programs) s.read.others in
+    let many : length mid.programs ≡ length old.programs = ap length programs in
+    record {
+      told = told;
+      first = subst (λ n. IsFirst n told) (sym many) (told_first (length old.programs) first m told fresh s.told o.others);
+      rows = λ known.
+          let all = all_stores (length old.programs) (held_in old) m.rows (s.rows known) in
+          let here = same_rows (length old.programs) (held_in old) (held_in mid) m.rows (held_same old mid s.read known) all in
+          subst (λ n. HasRowsOf n (held_in mid) told.rows) (sym many) (subst (λ (k : ManagerState). HasRowsOf (length old.programs) (held_in mid) k.rows) (sym o.others) here);
+      sound = sound;
+      kept = kept;
+      outputs = λ p lt. o.held p (let size = s.told.size in let is : process_count first ≡ length old.programs = ap length fresh.recovery ∙ length-replicate (length old.programs) 0 in omega arith);
+      failed = failed;
+      finished = finished;
+    }

@@ -1,0 +1,42 @@
+-- What a restart does to a world: all that runs ends, and a new manager starts over the stores.
+use Rattle.std.specs.Prelude.{◌≡◌, ℕ, ◌<◌, [], ◌∷◌, length, replicate, None, true}
+use Rattle.om_interval.specs.Vectors.{IsBelow}
+use Rattle.om_recover.specs.Recoverable.{IsGreatest}
+use Rattle.om_manager.specs.State.{ManagerState, held_by, process_count, released_by}
+use Rattle.om_take_up.specs.Anew.{EachFailed}
+use Rattle.om_world.specs.Disk.{IsSettled, held_in}
+use Rattle.om_world.specs.Live.{cut_list}
+use Rattle.om_world.specs.StoreRows.{HasRowsOf}
+use Rattle.om_world.specs.World.{WorldState, recovered}
+use Rattle.om_world.specs.declared.place.Place.{Place}
+
+-- all is gone but the stores, and what was received up to this manager's recovery state: each process is down, and it is declared
+abbrev pub anew : WorldState → ManagerState → WorldState
+anew w m = record w {
+  live = cut_list (recovered m) w.live;
+  frames = [];
+  cores = replicate (length w.programs) None;
+  places = replicate (length w.programs) (Place.Down true);
+  rounds = replicate (length w.programs) 0;
+  manager = m;
+}
+
+-- a manager of n processes that has finished no round, each process in its first incarnation
+pub record IsFirst (n : ℕ) (m : ManagerState) : Type 0 where
+  pub size : process_count m ≡ n
+  pub starts : m.starts ≡ replicate n (0 ∷ [])
+  pub round : m.round ≡ 0
+
+-- a new manager was told the rows of the stores, and what was released, under its numbers; it recovers the greatest state that
+-- these rows allow, which is no less than was recovered. Then each process failed, and the round is finished with that state
+pub record HasRestarted (old new : WorldState) : Type 0 where
+  pub settled : IsSettled old
+  pub told : ManagerState
+  pub first : IsFirst (length old.programs) told
+  pub rows : HasRowsOf (length old.programs) (held_in old) told.rows
+  pub greatest : IsGreatest (length old.programs) told.rows told.recovery
+  pub kept : IsBelow old.manager.recovery told.recovery
+  pub outputs : (p : ℕ) → p < length old.programs → held_by told p ≡ released_by old.manager p
+  pub failed : EachFailed told new.manager
+  pub recovery : new.manager.recovery ≡ told.recovery
+  pub others : new ≡ record (anew old new.manager) { health = new.health }

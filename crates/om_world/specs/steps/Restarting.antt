@@ -1,0 +1,71 @@
+-- What the calls of a restart do.
+use Rattle.std.specs.Prelude.{◌≡◌, ◌⊎◌, ℕ, ◌<◌, ◌≤◌, List, slice_get, true, Some, length}
+use Rattle.om_interval.specs.Vectors.{IsBelow}
+use Rattle.om_look.specs.Rows.{AreRowsOf}
+use Rattle.om_look.specs.declared.rows.RowsFault.{RowsFault}
+use Rattle.om_look.specs.declared.rows.RowsFault.TheVariants as rows_faults
+use Rattle.om_member.specs.Told.{row_for}
+use Rattle.om_process.specs.declared.row.PendingRow.{PendingRow}
+use Rattle.om_recover.specs.Rows.{HasRow, Rows}
+use Rattle.om_recover.specs.declared.row.Row.{Row}
+use Rattle.om_stable.specs.Content.{Content}
+use Rattle.om_manager.specs.Sound.{IsManager}
+use Rattle.om_manager.specs.State.{ManagerState, held_by, process_count, released_by}
+use Rattle.om_take_up.specs.Anew.{EachFailed}
+use Rattle.om_world.specs.declared.event.Refusal.{Refusal}
+use Rattle.om_world.specs.declared.event.Refusal.TheVariants as why
+use Rattle.om_world.specs.Changes.{NoneFell}
+use Rattle.om_world.specs.Disk.{held_in}
+use Rattle.om_world.specs.Restarted.{IsFirst}
+use Rattle.om_world.specs.StoreRows.{HasRowsOf, first_row}
+use Rattle.om_world.specs.World.{WorldState, IsKnown, all_clean}
+
+-- stores were read: what is known of them stays
+pub record HasRead (old new : WorldState) : Type 0 where
+  pub others : new ≡ record old { contents = new.contents; health = new.health }
+  pub was_clean : all_clean new.health ≡ true → all_clean old.health ≡ true
+  pub counts : NoneFell old.health new.health
+  pub same : IsKnown new → new.contents ≡ old.contents
+
+-- a manager was told rows, and all else of it stays
+pub record IsToldRows (old new : ManagerState) : Type 0 where
+  pub sound : IsManager new
+  pub size : process_count new ≡ process_count old
+  pub others : new ≡ record old { rows = new.rows; recovery = new.recovery; version = new.version }
+
+-- the rows of the stores of the first so many of n processes are there, and checkpoint 0 of each
+pub record HasRowsUpTo (count n : ℕ) (held : ℕ → Content) (rows : Rows) : Type 0 where
+  pub told : ℕ → List PendingRow
+  pub of_store : (p : ℕ) → p < count → AreRowsOf p n (held p) (told p)
+  pub only : (row : Row) → HasRow rows row → (row.pid < n) × ((row ≡ first_row n row.pid)
+      ⊎ ((row.pid < count) × ((i : ℕ) × (t : PendingRow) × (slice_get (told row.pid) i ≡ Some t) × (row ≡ row_for row.pid t))))
+  pub all : (p i : ℕ) (t : PendingRow) → p < count → slice_get (told p) i ≡ Some t → HasRow rows (row_for p t)
+
+-- the stores of the first so many processes were read, and a manager was told their rows
+pub record HasToldStores (old : WorldState) (first : ManagerState) (count : ℕ) (new : WorldState) (m : ManagerState) : Type 0 where
+  pub read : HasRead old new
+  pub told : IsToldRows first m
+  pub rows : IsKnown new → HasRowsUpTo count (length old.programs) (held_in old) m.rows
+
+-- a manager that a restart of the world puts in place of its own
+pub record IsAnew (w : WorldState) (m : ManagerState) : Type 0 where
+  pub told : ManagerState
+  pub first : IsFirst (length w.programs) told
+  pub rows : IsKnown w → HasRowsOf (length w.programs) (held_in w) told.rows
+  pub sound : IsManager told
+  pub kept : IsBelow w.manager.recovery told.recovery
+  pub outputs : (p : ℕ) → p < length w.programs → held_by told p ≡ released_by w.manager p
+  pub failed : EachFailed told m
+  pub finished : IsManager m
+
+-- why a restart is refused where it is settled
+pub data IsRefusal (refusal : Refusal) : Type 0 where
+  fault : refusal ≡ why.Fault → IsRefusal refusal
+  damaged : refusal ≡ why.Damaged → IsRefusal refusal
+  memory : refusal ≡ why.Memory → IsRefusal refusal
+
+abbrev pub refusal_of_rows : RowsFault → Refusal
+refusal_of_rows (rows_faults.Damaged x) = why.Damaged
+refusal_of_rows (rows_faults.Mismatch x) = why.Damaged
+refusal_of_rows rows_faults.Fault = why.Fault
+refusal_of_rows rows_faults.Memory = why.Memory

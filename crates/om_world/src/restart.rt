@@ -1,0 +1,137 @@
+//! The restart of a world: all that runs ends, and a new manager starts over the stores.
+
+ghost use Rattle.std.specs.Prelude.{◌≡◌, ◌≢◌, ◌<◌, [], length, map, Err, IfErr, IfOk, IsErrOf, OnOk, slice_get};
+ghost use Rattle.om_look.specs.Rows.{AreRowsOf};
+ghost use Rattle.om_look.specs.declared.rows.RowsFault.{RowsFault};
+ghost use Rattle.om_manager.specs.State.{process_count};
+ghost use Rattle.om_manager.specs.Sound.{IsManager};
+ghost use Rattle.om_recover.specs.Records.{first_row};
+ghost use Rattle.om_recover.specs.Rows.{HasRow};
+ghost use Rattle.om_world.specs.Changes.{HasFailed};
+ghost use Rattle.om_world.specs.Disk.{IsSettled, held_in};
+ghost use Rattle.om_world.specs.Failures.{HasNews};
+ghost use Rattle.om_world.specs.Happened.{Happened};
+ghost use Rattle.om_world.specs.Played.{IsCounted, IsFaultless};
+ghost use Rattle.om_world.specs.Restarted.{anew};
+ghost use Rattle.om_world.specs.Started.{IsNew};
+ghost use Rattle.om_world.specs.World.{IsKnown};
+ghost use Rattle.om_world.specs.declared.event.Event.{Event};
+ghost use Rattle.om_world.specs.declared.event.Refusal.{Refusal};
+ghost use Rattle.om_world.specs.steps.Members.{downed};
+ghost use Rattle.om_world.specs.steps.Moves.{Keeps, answered};
+ghost use Rattle.om_world.specs.steps.Restarting.{HasRead, HasToldStores, IsAnew, IsRefusal};
+
+use crate::event::{Answer, Refusal};
+use crate::start::new_manager;
+use crate::world::World;
+use om_interval::Pid;
+use om_look::{RowsFault, stored_rows};
+use om_manager::Manager;
+use om_member::{Member, Standing, tell_all};
+use om_process::PendingRow;
+use om_stable::Stable;
+use om_take_up::{fail_all, hand_in_released};
+use std::alloc::Global;
+
+// Takes each process down, declared, as before any round.
+fn put_down<S: Stable>(members: &mut Vec<Member<S>>)
+    ensures { members.new.items ≡ map downed members.old.items }
+{
+    for p in 0..members.len() {
+        let member = &mut members[p];
+        member.standing = Standing::Down { declared: true };
+        member.round = 0;
+    }
+}
+
+impl<S: Stable> World<S> {
+    // Refuses a world in which a process does not know the last finished round.
+    fn is_settled(&self) -> Result<(), Refusal>
+        ensures settled { OnOk result (IsSettled self.now) }
+        ensures unsettled { IfErr result (λ why. (why ≡ Refusal.Unsettled) × ((p : _) × (p < length self.now.programs) × HasNews self.now p)) }
+    {
+        for p in 0..self.size() {
+            if self.has_news(p) {
+                return Err(Refusal::Unsettled);
+            }
+        }
+        Ok(())
+    }
+
+    // Returns the rows that the store of a process stands for.
+    fn rows_at(&mut self, alloc: Global, p: usize) -> Result<Vec<PendingRow>, RowsFault>
+        requires { p < length self.old.programs }
+        ensures read { HasRead self.old self.new }
+        ensures rows { IsKnown self.new → IfOk result (λ rows. AreRowsOf p (length self.old.programs) (held_in self.old p) rows.items) }
+        ensures counted { result ≡ Err RowsFault.Fault → HasFailed self.old p self.new }
+        ensures faultless { ((store : S) → S.failed store ≡ 0) → result ≢ Err RowsFault.Fault }
+    {
+        let n = self.size();
+        let member = &mut self.members[p];
+        stored_rows(alloc, &mut member.store, Pid::at(p), n)
+    }
+
+    // Tells a manager the rows of each store.
+    fn tell_stores(&mut self, alloc: Global, manager: &mut Manager) -> Result<(), Refusal>
+        requires size { process_count manager.old ≡ length self.old.programs }
+        requires fresh { (row : _) → HasRow manager.old.rows row
+            → (row.pid < length self.old.programs) × (row ≡ first_row (length self.old.programs) row.pid) }
+        requires sound { IsManager manager.old }
+        ensures told { OnOk result (HasToldStores self.old manager.old (length self.old.programs) self.new manager.new) }
+        ensures read { HasRead self.old self.new }
+        ensures refused { IfErr result IsRefusal }
+        ensures counted { result ≡ Err Refusal.Fault → (p : _) × HasFailed self.old p self.new }
+        ensures faultless { ((store : S) → S.failed store ≡ 0) → result ≢ Err Refusal.Fault }
+    {
+        for p in 0..self.size() {
+            let rows = self.rows_at(alloc, p)?;
+            let (_, end) = tell_all(manager, alloc, Pid::at(p), 0, &rows);
+            end?;
+        }
+        Ok(())
+    }
+
+    // The manager that a restart starts with: it recovers no less than this one.
+    fn manager_anew(&mut self, alloc: Global) -> Result<Manager, Refusal>
+        ensures made { IfOk result (λ manager. IsAnew self.new manager) }
+        ensures read { HasRead self.old self.new }
+        ensures refused { IfErr result IsRefusal }
+        ensures counted { result ≡ Err Refusal.Fault → (p : _) × HasFailed self.old p self.new }
+        ensures faultless { ((store : S) → S.failed store ≡ 0) → result ≢ Err Refusal.Fault }
+    {
+        let count = self.manager.recovery().n();
+        let mut manager = new_manager(alloc, count)?;
+        self.tell_stores(alloc, &mut manager)?;
+        hand_in_released(&mut manager, alloc, &self.manager)?;
+        if !self.manager.recovery().leq(&manager.recovery()) {
+            return Err(Refusal::Damaged);
+        }
+        fail_all(&mut manager, alloc)?;
+        Ok(manager)
+    }
+
+    // Ends all that runs, and puts a new manager in the place of this one.
+    fn begin_anew(&mut self, manager: Manager)
+        requires anew { IsAnew self.old manager }
+        requires settled { IsSettled self.old }
+        ensures { self.new ≡ anew self.old manager }
+    {
+        put_down(&mut self.members);
+        self.frames.clear();
+        self.live.cut(&manager.recovery());
+        self.manager = manager;
+    }
+
+    // Ends all that runs: a new manager starts over the stores, to which each process has failed.
+    pub(crate) fn restart(&mut self, alloc: Global) -> Result<Answer, Refusal>
+        ensures happened { IsKnown self.new → Happened self.old Event.Restart (answered result) self.new }
+        ensures keeps { Keeps self.old self.new }
+        ensures counted { IsCounted self.old self.new (answered result) }
+        ensures faultless { ((store : S) → S.failed store ≡ 0) → IsFaultless (answered result) }
+    {
+        self.is_settled()?;
+        let manager = self.manager_anew(alloc)?;
+        self.begin_anew(manager);
+        Ok(Answer::Restarted)
+    }
+}
