@@ -1,10 +1,9 @@
 -- Processes that fail one after another.
-use Rattle.std.proofs.Common.{◌≡◌, ◌≢◌, ◌⊎◌, inl, inr, ℕ, zero, suc, ◌+◌, ◌<◌, ◌≤◌, ◌^◌, List, [], ◌∷◌, length, set, replicate, Option, None, Some, Result, Ok, Err, refl, sym, ap, ◌∙◌, subst, arith, length-set}
+use Rattle.std.proofs.Common.{◌≡◌, ◌≢◌, ◌⊎◌, inl, inr, ℕ, zero, suc, ◌+◌, ◌<◌, ◌≤◌, List, [], ◌∷◌, length, set, replicate, Some, Ok, Err, refl, sym, ap, ◌∙◌, subst, arith, length-set}
 use Rattle.std.proofs.lemmas.List.{length-replicate}
-use Rattle.std.specs.Prelude.{slice_index_or, slice_set}
 use Rattle.om_interval.specs.declared.pid.TheConstants.{MAX_PROCESSES}
 use Rattle.om_manager.specs.Gatherings.{AreAllIn, presence_of, presences_of}
-use Rattle.om_manager.specs.Rounds.{Fails, Failing, Finishes, Gathers, again, first, gathering_with, with_presence}
+use Rattle.om_manager.specs.Rounds.{Failing, Gathers, again, first, gathering_with, with_presence}
 use Rattle.om_manager.specs.Sound.{IsManager}
 use Rattle.om_manager.specs.State.{ManagerState, process_count}
 use Rattle.om_manager.specs.declared.answers.FailError.{FailError}

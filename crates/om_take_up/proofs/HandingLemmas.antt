@@ -1,7 +1,6 @@
 -- Outputs that are handed in one after another.
-use Rattle.std.proofs.Common.{◌≡◌, ◌≢◌, ◌⊎◌, inl, inr, ℕ, zero, suc, ◌+◌, ◌<◌, ◌≤◌, List, [], ◌∷◌, ◌++◌, length, take, set, map, get_or, Option, None, Some, Ok, refl, sym, ap, ◌∙◌, subst, arith}
-use Rattle.std.proofs.Math.Seq.{take-suc}
-use Rattle.std.specs.Prelude.{slice_get, slice_index_or, slice_set}
+use Rattle.std.proofs.Common.{◌≡◌, ◌≢◌, ◌⊎◌, inl, inr, ℕ, zero, suc, ◌+◌, ◌<◌, ◌≤◌, List, [], ◌∷◌, ◌++◌, length, take, set, map, get_or, Some, Ok, refl, sym, ap, ◌∙◌, arith}
+use Rattle.std.specs.Prelude.{slice_get, slice_index_or}
 use Rattle.om_manager.specs.Notes.{NotesOutput, with_output}
 use Rattle.om_manager.specs.Outputs.{HeldOutput, held_of}
 use Rattle.om_manager.specs.Sound.{IsManager}
@@ -9,7 +8,7 @@ use Rattle.om_manager.specs.State.{ManagerState, held_by, process_count, release
 use Rattle.om_manager.specs.declared.answers.OutputNote.{OutputNote}
 use Rattle.om_manager.specs.declared.answers.OutputNote.TheVariants.{Held, Known, Released}
 use Rattle.om_manager.specs.declared.output_log.Output.{Output}
-use Rattle.om_take_up.specs.Anew.{HasReleasedOf, HoldsNone}
+use Rattle.om_take_up.specs.Anew.{HoldsNone}
 use Rattle.om_take_up.specs.steps.Failing.{HoldReleased, Holds}
 
 either : (q p : ℕ) → (q ≡ p) ⊎ (q ≢ p)

@@ -1,7 +1,6 @@
 -- What a manager is told that starts anew: what was put out before, and that each process failed.
 use Rattle.std.specs.Prelude.{◌≡◌, ◌≢◌, ℕ, ◌<◌, List, [], None}
 use Rattle.om_manager.specs.Gatherings.{AreAllIn, presence_of, presences_of}
-use Rattle.om_manager.specs.Outputs.{HeldOutput}
 use Rattle.om_manager.specs.Rounds.{Finishes}
 use Rattle.om_manager.specs.Sound.{IsManager}
 use Rattle.om_manager.specs.State.{ManagerState, held_by, process_count, released_by}

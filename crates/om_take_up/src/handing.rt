@@ -41,7 +41,11 @@ fn hand_in_all(
 /// Hands in the outputs that another manager of as many processes released, under their numbers, to a manager that holds none.
 ///
 /// Refused with what the manager answers; it may hold some of the outputs then.
-pub fn hand_in_released(manager: &mut Manager, alloc: Global, from: &Manager) -> Result<(), OutputError>
+pub fn hand_in_released(
+    manager: &mut Manager,
+    alloc: Global,
+    from: &Manager,
+) -> Result<(), OutputError>
     requires size { process_count from.now ≡ process_count manager.old }
     requires none { HoldsNone manager.old }
     ensures handed { OnOk result (HasReleasedOf from.now manager.old manager.new) }

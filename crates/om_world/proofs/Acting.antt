@@ -17,7 +17,7 @@ use Rattle.om_manager.specs.State.{ManagerState, held_by, released_by}
 use Rattle.om_manager.specs.declared.answers.OutputError.{OutputError}
 use Rattle.om_manager.specs.declared.answers.RecordError.{RecordError}
 use Rattle.om_member.specs.Handed.{AreHandedUpTo, outputs_from}
-use Rattle.om_member.specs.Members.{Gained, HasNoted, HasRun, HasStored, HasTrimmed, IsNotUp, IsOffered, TakesTurns, WasCalled, WasPruned, after_store, core_of, trimmed_core}
+use Rattle.om_member.specs.Members.{Gained, HasNoted, HasRun, HasStored, HasTrimmed, IsNotUp, IsOffered, TakesTurns, WasCalled, WasPruned, after_store, trimmed_core}
 use Rattle.om_member.specs.declared.member.Member.{Member}
 use Rattle.om_member.specs.declared.member.NotUp.{NotUp}
 use Rattle.om_member.specs.declared.member.Standing.TheVariants as stands

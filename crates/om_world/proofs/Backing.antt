@@ -1,5 +1,5 @@
 -- Each row that is read from a store has its record there.
-use Rattle.std.proofs.Common.{◌≡◌, ℕ, suc, ◌+◌, List, [], ◌∷◌, ◌++◌, Some, None, Option, Bool, true, false, refl, sym, ap, ◌∙◌, subst}
+use Rattle.std.proofs.Common.{◌≡◌, ℕ, suc, ◌+◌, List, [], ◌∷◌, Some, None, Option, Bool, true, false, refl, sym, ap, ◌∙◌, subst}
 use Rattle.std.specs.Prelude.{min, slice_get}
 use Rattle.std.specs.FinMap.{get}
 use Rattle.om_format.specs.Checkpoints.{CheckpointRecord}

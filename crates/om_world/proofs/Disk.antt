@@ -1,17 +1,15 @@
 -- The stores of a settled world are true of its run, and can serve what was recovered.
-use Rattle.std.proofs.Common.{◌≡◌, ◌≢◌, ◌⊎◌, inl, inr, ℕ, zero, suc, ◌+◌, ◌-◌, ◌<◌, ◌≤◌, List, [], ◌∷◌, length, Some, None, Option, refl, sym, ap, ◌∙◌, subst, arith}
+use Rattle.std.proofs.Common.{◌≡◌, ◌⊎◌, inl, inr, ℕ, zero, suc, ◌<◌, ◌≤◌, List, [], ◌∷◌, length, Some, None, Option, sym, ap, ◌∙◌, subst, arith}
 use Rattle.std.specs.Prelude.{slice_get, slice_index_or}
 use Rattle.std.specs.FinMap.{get}
 use Rattle.om_format.specs.Checkpoints.{CheckpointRecord}
 use Rattle.om_format.specs.Receipts.{ReceiptRecord}
 use Rattle.om_format.proofs.Checkpoints.{one_checkpoint}
 use Rattle.om_format.proofs.Receipts.{one_receipt}
-use Rattle.om_manager.specs.Outputs.{HeldOutput}
 use Rattle.om_manager.specs.State.{held_by, released_by}
 use Rattle.om_process.specs.Claims.{AtInterval, CheckpointOf, RecordOf}
 use Rattle.om_process.specs.Replays.{process_of}
 use Rattle.om_process.specs.Stored.{IsCheckpointAt, IsReceiptAt}
-use Rattle.om_process.specs.declared.limits.TheConstants.{LAST_INTERVAL}
 use Rattle.om_recover.specs.Recoverable.{IsStable}
 use Rattle.om_stable.specs.Content.{Content, nothing}
 use Rattle.om_world.specs.Disk.{AreTrue, CanServe, IsOnDisk, IsSettled, held_in}

@@ -1,16 +1,14 @@
 -- Nothing is lost that the stores could serve.
-use Rattle.std.proofs.Common.{◌≡◌, ◌≢◌, ◌⊎◌, inl, inr, ℕ, ◌<◌, ◌≤◌, List, length, take, get_or, Some, Bool, true, false, refl, sym, ap, ◌∙◌, subst, arith}
-use Rattle.std.specs.Prelude.{if◌then◌else◌, nat_eq, slice_get, slice_index}
+use Rattle.std.proofs.Common.{◌≡◌, ◌≢◌, ℕ, ◌<◌, ◌≤◌, List, length, take, get_or, Bool, true, false, refl, sym, ap, ◌∙◌, subst, arith}
+use Rattle.std.specs.Prelude.{nat_eq, slice_index}
 use Rattle.std.proofs.lemmas.Bool.Decides.{nat_tests}
 use Rattle.std.proofs.lemmas.List.{length-take-le}
 use Rattle.om_interval.specs.Vectors.{IsBelow}
 use Rattle.om_member.specs.Told.{row_for}
-use Rattle.om_process.specs.Claims.{AtInterval, RowOf}
 use Rattle.om_process.specs.Dependencies.{Depends, greatest_from}
 use Rattle.om_process.specs.Process.{Program, Received}
 use Rattle.om_process.specs.declared.limits.TheConstants.{LAST_INTERVAL}
-use Rattle.om_process.specs.declared.row.PendingRow.{PendingRow}
-use Rattle.om_recover.specs.Recoverable.{IsGreatest, IsRecoverable, IsStable}
+use Rattle.om_recover.specs.Recoverable.{IsGreatest, IsStable}
 use Rattle.om_recover.specs.Rows.{Has, HasRow, Rows}
 use Rattle.om_recover.specs.declared.row.Row.{Row}
 use Rattle.om_recover.specs.declared.row.RowKind.TheVariants.{Checkpoint, Log}

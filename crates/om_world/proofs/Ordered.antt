@@ -14,7 +14,7 @@ use Rattle.om_recover.specs.declared.note.NoteError.TheVariants.{Stranger, BadVe
 use Rattle.om_recover.specs.declared.row.Row.{Row}
 use Rattle.om_recover.specs.declared.row.RowKind.TheVariants.{Log}
 use Rattle.om_manager.specs.Notes.{Notes}
-use Rattle.om_manager.specs.State.{ManagerState, process_count}
+use Rattle.om_manager.specs.State.{process_count}
 use Rattle.om_manager.specs.declared.answers.RecordError.{RecordError}
 use Rattle.om_manager.specs.declared.answers.RecordError.TheVariants.{Stale, Refused}
 use Rattle.om_world.specs.World.{WorldState}

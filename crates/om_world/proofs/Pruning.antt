@@ -22,7 +22,6 @@ use Rattle.om_world.specs.Changes.{HasFailed, NoneFell, RoseAt}
 use Rattle.om_world.specs.Happened.{Happened, PruneStopped, Prunes, StorePruned}
 use Rattle.om_world.specs.Played.{IsCounted}
 use Rattle.om_world.specs.World.{Health, WorldState, IsEmpty, IsKnown, recovered, all_clean}
-use Rattle.om_world.specs.declared.place.Place.{Place}
 use Rattle.om_world.specs.steps.Past.{Past, history, past_of}
 use Rattle.om_world.specs.steps.Moves.{IsCalled, Keeps, refusal_of_store}
 use Rattle.om_world.specs.steps.Pruning.{AllPruned, ArePruned, HasPruned, ManagerPruned, WasPruned}

@@ -1,8 +1,8 @@
 -- A world whose stores are read, and whose rows a manager is told.
-use Rattle.std.proofs.Common.{◌≡◌, ◌≢◌, ◌⊎◌, inl, inr, ℕ, ◌+◌, ◌<◌, ◌≤◌, List, length, take, map, set, Some, Bool, true, Result, Ok, Err, refl, sym, ap, ◌∙◌, subst, arith, length-set}
+use Rattle.std.proofs.Common.{◌≡◌, ◌≢◌, ℕ, ◌+◌, ◌<◌, List, length, take, map, set, Some, Bool, true, Ok, refl, sym, ap, ◌∙◌, subst, arith, length-set}
 use Rattle.std.proofs.lemmas.List.{take_all}
 use Rattle.std.specs.List.{AllByRecursion}
-use Rattle.std.specs.Prelude.{All, IfOk, IsTrue, slice_get, slice_index_or}
+use Rattle.std.specs.Prelude.{All, slice_get, slice_index_or}
 use Rattle.om_look.specs.Rows.{AreRowsOf}
 use Rattle.om_look.specs.declared.rows.RowsFault.{RowsFault}
 use Rattle.om_look.specs.declared.rows.RowsFault.TheVariants as rows_faults
@@ -14,26 +14,23 @@ use Rattle.om_recover.specs.declared.note.NoteError.TheVariants as notes
 use Rattle.om_recover.specs.declared.row.Row.{Row}
 use Rattle.om_stable.specs.Calls.{IsCleanCall, UsesStore}
 use Rattle.om_stable.specs.Content.{Content, nothing}
-use Rattle.om_member.specs.Members.{WasCalled}
 use Rattle.om_member.specs.Told.{IsToldUpTo}
 use Rattle.om_member.specs.declared.member.Member.{Member}
 use Rattle.om_manager.specs.Sound.{IsManager}
-use Rattle.om_manager.specs.State.{ManagerState, process_count}
-use Rattle.om_manager.specs.declared.answers.FailError.{FailError}
-use Rattle.om_manager.specs.declared.answers.FailError.TheVariants as failing
+use Rattle.om_manager.specs.State.{ManagerState}
 use Rattle.om_manager.specs.declared.answers.OutputError.{OutputError}
 use Rattle.om_manager.specs.declared.answers.OutputError.TheVariants as outputs
 use Rattle.om_manager.specs.declared.answers.RecordError.{RecordError}
 use Rattle.om_manager.specs.declared.answers.RecordError.TheVariants as records
 use Rattle.om_world.specs.declared.entry.Entry.{Entry}
 use Rattle.om_world.specs.declared.event.Refusal.TheVariants as why
-use Rattle.om_world.specs.Changes.{HasFailed, NoneFell}
+use Rattle.om_world.specs.Changes.{HasFailed}
 use Rattle.om_world.specs.Disk.{held_in}
 use Rattle.om_world.specs.StoreRows.{first_row}
 use Rattle.om_world.specs.World.{Health, IsEmpty, IsKnown, WorldState, all_clean}
 use Rattle.om_world.specs.steps.Members.{content_in, core_in, health_in, health_of, place_in, round_in, seen, sound_in}
-use Rattle.om_world.specs.steps.Moves.{IsCalled, refusal_of_failure, refusal_of_record}
-use Rattle.om_world.specs.steps.Restarting.{HasRead, HasToldStores, IsRefusal, IsToldRows, refusal_of_rows}
+use Rattle.om_world.specs.steps.Moves.{IsCalled, refusal_of_record}
+use Rattle.om_world.specs.steps.Restarting.{HasRead, HasToldStores, IsRefusal, refusal_of_rows}
 use Rattle.om_world.specs.steps.Running.{refusal_of_output}
 use Rattle.om_world.specs.steps.Sound.{IsWorld, Sound}
 use Rattle.om_world.proofs.Disk.{index_at}

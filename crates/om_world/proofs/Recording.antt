@@ -11,8 +11,8 @@ use Rattle.om_manager.specs.declared.answers.RecordError.{RecordError}
 use Rattle.om_world.specs.declared.event.Answer.TheVariants as answers
 use Rattle.om_world.specs.declared.event.Event.{Event}
 use Rattle.om_world.specs.declared.event.Refusal.TheVariants as why
-use Rattle.om_world.specs.Changes.{Changes, HasNoted, HasStored, IsSame, IsUp, StoreStopped, stored}
-use Rattle.om_world.specs.Happened.{Happened, HasCheckpoint, StoreHappened}
+use Rattle.om_world.specs.Changes.{HasNoted, HasStored, IsSame, IsUp, StoreStopped, stored}
+use Rattle.om_world.specs.Happened.{Happened, StoreHappened}
 use Rattle.om_world.specs.Played.{IsCounted}
 use Rattle.om_world.specs.World.{WorldState, IsEmpty, IsKnown, all_clean}
 use Rattle.om_world.specs.steps.Moves.{AreTold, HasCalled, HasTold, IsToldUpTo, Gained, event_of, refusal_of_record, refusal_of_store}

@@ -1,18 +1,16 @@
 -- What a restart comes to.
-use Rattle.std.proofs.Common.{◌≡◌, ◌≢◌, ℕ, ◌<◌, ◌≤◌, List, [], ◌∷◌, length, map, replicate, None, Option, Bool, true, false, refl, sym, ap, ◌∙◌, subst, arith}
+use Rattle.std.proofs.Common.{◌≡◌, ℕ, ◌<◌, List, [], ◌∷◌, length, map, replicate, None, true, refl, sym, ap, ◌∙◌, subst, arith}
 use Rattle.std.specs.List.{AllByRecursion}
-use Rattle.std.specs.Prelude.{All, slice_index, slice_index_or}
+use Rattle.std.specs.Prelude.{slice_index, slice_index_or}
 use Rattle.std.proofs.lemmas.List.{length-replicate}
 use mathlib.Core.List.{IsPrefix}
 use Rattle.om_interval.specs.Vectors.{IsBelow}
 use Rattle.om_format.specs.declared.message.Message.{Message}
-use Rattle.om_process.specs.Core.{CoreState}
 use Rattle.om_process.specs.Process.{Program}
 use Rattle.om_recover.specs.Recoverable.{IsGreatest}
 use Rattle.om_stable.specs.Content.{Content}
 use Rattle.om_member.specs.declared.member.Member.{Member}
 use Rattle.om_manager.specs.Gatherings.{AreAllIn, presences_of}
-use Rattle.om_manager.specs.Outputs.{HeldOutput}
 use Rattle.om_manager.specs.Sound.{IsManager, KeepsReleased}
 use Rattle.om_manager.specs.State.{ManagerState, held_by, process_count, released_by}
 use Rattle.om_take_up.specs.Anew.{EachFailed, HasReleasedOf, HoldsNone, IsBefore, OnlyFailed}
@@ -32,14 +30,14 @@ use Rattle.om_world.specs.StoreRows.{HasRowsOf}
 use Rattle.om_world.specs.World.{Health, IsKnown, WorldState, all_clean, recovered}
 use Rattle.om_world.specs.steps.Members.{content_in, core_in, downed, health_in, place_in, round_in, seen, sound_in}
 use Rattle.om_world.specs.steps.Moves.{Keeps}
-use Rattle.om_world.specs.steps.Restarting.{HasRead, HasRowsUpTo, HasToldStores, IsAnew, IsRefusal, IsToldRows}
+use Rattle.om_world.specs.steps.Restarting.{HasRead, HasToldStores, IsAnew, IsRefusal, IsToldRows}
 use Rattle.om_world.specs.steps.Sound.{HasShape, IsWorld, Sound}
 use Rattle.om_world.proofs.Beginning.{index_same}
-use Rattle.om_world.proofs.Keeping.{keeps_same, prefix_then}
+use Rattle.om_world.proofs.Keeping.{keeps_same}
 use Rattle.om_member.proofs.KeepLemmas.{prefix_same}
 use Rattle.om_world.proofs.Lists.{length-map}
-use Rattle.om_world.proofs.Reading.{held_same, known_read}
-use Rattle.om_world.proofs.Restarting.{Starts, put_down, released_same, shape_down, sound_started}
+use Rattle.om_world.proofs.Reading.{held_same}
+use Rattle.om_world.proofs.Restarting.{Starts, released_same, shape_down, sound_started}
 use Rattle.om_world.proofs.RowsTold.{all_stores, same_rows}
 use Rattle.om_world.proofs.Seats.{world_is}
 

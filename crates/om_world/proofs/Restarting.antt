@@ -1,6 +1,6 @@
 -- A world whose manager starts anew over its stores.
-use Rattle.std.proofs.Common.{◌≡◌, ◌≢◌, ◌⊎◌, inl, inr, ℕ, zero, suc, ◌<◌, ◌≤◌, List, [], ◌∷◌, length, take, cond, get_or, replicate, Option, Some, None, Bool, true, false, refl, sym, ap, ◌∙◌, subst, arith}
-use Rattle.std.proofs.lemmas.List.{length-replicate, take_all}
+use Rattle.std.proofs.Common.{◌≡◌, ◌⊎◌, inl, inr, ℕ, zero, suc, ◌<◌, ◌≤◌, List, [], ◌∷◌, length, take, cond, replicate, Some, None, true, refl, sym, ap, ◌∙◌, subst, arith}
+use Rattle.std.proofs.lemmas.List.{length-replicate}
 use Rattle.std.proofs.lemmas.Bool.Decides.{nat_tests}
 use Rattle.std.specs.Prelude.{nat_le, slice_get, slice_index}
 use Rattle.om_interval.specs.Vectors.{IsBelow}
@@ -10,10 +10,9 @@ use Rattle.om_process.specs.Core.{CoreState}
 use Rattle.om_process.specs.Dependencies.{count_from}
 use Rattle.om_process.specs.Replays.{process_of}
 use Rattle.om_process.specs.declared.row.PendingRow.{PendingRow}
-use Rattle.om_recover.specs.Recoverable.{IsGreatest}
-use Rattle.om_recover.specs.Rows.{Has, HasRow}
+use Rattle.om_recover.specs.Rows.{HasRow}
 use Rattle.om_recover.specs.declared.row.Row.{Row}
-use Rattle.om_recover.specs.declared.row.RowKind.TheVariants.{Checkpoint, Log}
+use Rattle.om_recover.specs.declared.row.RowKind.TheVariants.{Checkpoint}
 use Rattle.om_stable.specs.Content.{Content}
 use Rattle.om_manager.specs.Gatherings.{AreAllIn, presence_of, presences_of}
 use Rattle.om_manager.specs.Outputs.{HeldOutput, within}
@@ -25,16 +24,16 @@ use Rattle.om_manager.specs.declared.presence.Presence.{Presence}
 use Rattle.om_manager.specs.declared.presence.Presence.TheVariants.{Away, Failed, Joined}
 use Rattle.om_take_up.specs.Anew.{OnlyFailed}
 use Rattle.om_world.specs.declared.place.Place.{Place}
-use Rattle.om_world.specs.Disk.{AreTrue, CanServe, IsSettled, held_in}
+use Rattle.om_world.specs.Disk.{IsSettled, held_in}
 use Rattle.om_world.specs.Failures.{HasNews, gathered}
-use Rattle.om_world.specs.StoreRows.{HasRowsOf, first_row}
+use Rattle.om_world.specs.StoreRows.{HasRowsOf}
 use Rattle.om_world.specs.World.{WorldState, recovered}
 use Rattle.om_world.specs.steps.Past.{Past, history, past_of}
 use Rattle.om_world.specs.steps.Sound.{HasBytes, HasShape, IsOld, IsStored, KeptWithin, Sound}
 use Rattle.om_world.proofs.Backing.{row_backed}
 use Rattle.om_world.proofs.Beginning.{index_same, same_at}
 use Rattle.om_world.proofs.Disk.{content_at, recovery_served, world_true}
-use Rattle.om_world.proofs.Gathering.{AreDone, AreIn, front_at, held_inside, sound_finished, within_at}
+use Rattle.om_world.proofs.Gathering.{front_at, held_inside, sound_finished, within_at}
 use Rattle.om_world.proofs.Lists.{inside, none_in, once}
 use Rattle.om_world.proofs.Losing.{has_checkpoint}
 use Rattle.om_world.proofs.Raising.{count_take, further, recovery_row}
@@ -42,7 +41,6 @@ use Rattle.om_world.proofs.Serving.{rows_serve}
 use Rattle.om_world.proofs.TakenDown.{ended}
 use Rattle.om_world.proofs.Telling.{below_all}
 use Rattle.om_world.proofs.TrueRows.{rows_are_true}
-use Rattle.om_process.specs.declared.limits.TheConstants.{LAST_INTERVAL}
 
 -- all that runs is gone, and the manager is this one
 abbrev pub put_down : WorldState → ManagerState → WorldState
@@ -106,7 +104,7 @@ pub released_same : (w : WorldState) (m : ManagerState) (p : ℕ) → IsBelow w.
 released_same w m p kept held =
     ap (λ l. within l (slice_index m.recovery p)) held
     ∙ within_all (released_by w.manager p) (slice_index m.recovery p) (λ i o at.
-      let le = within_at (held_by w.manager p) (slice_index w.manager.recovery p) i o at in let more = below_all w.manager.recovery m.recovery p kept in omega arith)
+    let le = within_at (held_by w.manager p) (slice_index w.manager.recovery p) i o at in let more = below_all w.manager.recovery m.recovery p kept in omega arith)
 
 -- ---- what is kept
 abbrev with_manager : Past → ManagerState → Past

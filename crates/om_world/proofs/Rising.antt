@@ -20,7 +20,7 @@ use Rattle.om_manager.specs.declared.answers.Gathered.{Gathered}
 use Rattle.om_manager.specs.declared.answers.Gathered.TheVariants.{Finished, Waiting}
 use Rattle.om_manager.specs.declared.answers.JoinError.{JoinError}
 use Rattle.om_manager.specs.declared.presence.Presence.{Presence}
-use Rattle.om_member.specs.Members.{HasComeBack, HasDeclared, HasJoined, IsNotIn, IsNotUp, StaysDown, WasCalled, core_of}
+use Rattle.om_member.specs.Members.{HasComeBack, HasDeclared, HasJoined, IsNotIn, IsNotUp, StaysDown, core_of}
 use Rattle.om_member.specs.declared.member.Member.{Member}
 use Rattle.om_member.specs.declared.member.NotIn.{NotIn}
 use Rattle.om_member.specs.declared.member.NotUp.{NotUp}

@@ -1,5 +1,5 @@
 -- Rows of one store after another that a manager is told.
-use Rattle.std.proofs.Common.{◌≡◌, ◌≢◌, ◌⊎◌, inl, inr, ℕ, zero, suc, ◌+◌, ◌<◌, ◌≤◌, List, [], ◌∷◌, length, take, Some, Ok, Bool, true, false, refl, sym, ap, ◌∙◌, subst, arith}
+use Rattle.std.proofs.Common.{◌≡◌, ◌≢◌, ◌⊎◌, inl, inr, ℕ, zero, suc, ◌+◌, ◌<◌, List, [], ◌∷◌, Some, Ok, Bool, true, false, refl, sym, ap, ◌∙◌, subst, arith}
 use Rattle.std.specs.Prelude.{if◌then◌else◌, nat_eq, slice_get}
 use Rattle.std.proofs.lemmas.Bool.Decides.{nat_tests}
 use Rattle.om_look.specs.Rows.{AreRowsOf}
@@ -13,7 +13,7 @@ use Rattle.om_recover.proofs.RowsLemmas.{inserted}
 use Rattle.om_stable.specs.Content.{Content}
 use Rattle.om_manager.specs.Notes.{after_note}
 use Rattle.om_manager.specs.Sound.{IsManager}
-use Rattle.om_manager.specs.State.{ManagerState, process_count}
+use Rattle.om_manager.specs.State.{ManagerState}
 use Rattle.om_world.specs.StoreRows.{HasRowsOf, first_row}
 use Rattle.om_world.specs.steps.Restarting.{HasRowsUpTo, IsToldRows}
 use Rattle.om_world.proofs.Lists.{either, none_in, once}

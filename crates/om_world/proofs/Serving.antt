@@ -1,13 +1,13 @@
 -- What stores could serve is stable in the rows that their records stand for.
-use Rattle.std.proofs.Common.{◌≡◌, ◌≢◌, ◌⊎◌, inl, inr, ℕ, zero, suc, ◌+◌, ◌-◌, ◌<◌, ◌≤◌, List, [], ◌∷◌, ◌++◌, length, Some, None, Option, Bool, true, false, refl, sym, ap, ◌∙◌, subst, arith}
-use Rattle.std.specs.Prelude.{IsSome, if◌then◌else◌, min, nat_eq, slice_get}
+use Rattle.std.proofs.Common.{◌≡◌, inl, inr, ℕ, zero, suc, ◌+◌, ◌-◌, ◌<◌, ◌≤◌, List, [], ◌∷◌, ◌++◌, Some, None, Option, Bool, true, false, refl, sym, ap, ◌∙◌, subst, arith}
+use Rattle.std.specs.Prelude.{IsSome, min, nat_eq, slice_get}
 use Rattle.std.specs.FinMap.{get}
 use Rattle.std.proofs.lemmas.Bool.Decides.{nat_tests}
 use Rattle.om_format.specs.Checkpoints.{CheckpointRecord}
-use Rattle.om_look.specs.Rows.{AreRowsOf, AreSegments, FollowOn, IsSegment, base_row, interval_before, receipts_behind, rows_of_segments}
+use Rattle.om_look.specs.Rows.{AreRowsOf, AreSegments, FollowOn, base_row, interval_before, receipts_behind, rows_of_segments}
 use Rattle.om_process.specs.declared.limits.TheConstants.{LAST_INTERVAL}
 use Rattle.om_process.specs.declared.row.PendingRow.{PendingRow}
-use Rattle.om_stable.specs.Content.{Content, IsFree, Records}
+use Rattle.om_stable.specs.Content.{Content, Records}
 use Rattle.om_stable.specs.steps.Between.{AreAllBetween}
 use Rattle.om_stable.proofs.BetweenLemmas.{between-AreAllBetween}
 use Rattle.om_world.proofs.Raising.{less}

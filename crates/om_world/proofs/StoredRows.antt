@@ -1,11 +1,11 @@
 -- The rows that true records stand for are true.
-use Rattle.std.proofs.Common.{◌≡◌, ◌≢◌, ◌⊎◌, inl, inr, ℕ, zero, suc, ◌+◌, ◌<◌, ◌≤◌, List, [], ◌∷◌, ◌++◌, length, take, set, get_or, replicate, Some, None, Option, refl, sym, ap, ◌∙◌, subst, arith, Bool, true, false}
-use Rattle.std.specs.Prelude.{if◌then◌else◌, nat_eq, slice_get, slice_index, min, IsSome}
+use Rattle.std.proofs.Common.{◌≡◌, ℕ, zero, suc, ◌+◌, ◌≤◌, List, [], ◌∷◌, ◌++◌, length, take, set, get_or, Some, None, Option, refl, sym, ap, ◌∙◌, subst, arith}
+use Rattle.std.specs.Prelude.{slice_get, min}
 use Rattle.std.specs.FinMap.{get}
-use Rattle.std.proofs.lemmas.List.{length-take-le, length-append, take_all}
+use Rattle.std.proofs.lemmas.List.{length-take-le}
 use Rattle.om_format.specs.Checkpoints.{CheckpointRecord}
 use Rattle.om_format.specs.Receipts.{ReceiptRecord}
-use Rattle.om_look.specs.Rows.{AreRowsOf, AreSegments, FollowOn, IsSegment, base_row, interval_before, next_row, receipts_behind, rows_of_segments}
+use Rattle.om_look.specs.Rows.{AreRowsOf, AreSegments, FollowOn, base_row, interval_before, next_row, receipts_behind, rows_of_segments}
 use Rattle.om_process.specs.Claims.{AtInterval, CheckpointOf, RecordOf, RowOf}
 use Rattle.om_process.specs.Dependencies.{Counts, Depends}
 use Rattle.om_process.specs.Process.{Process, Program, Received, delivered, raised, started}
@@ -17,8 +17,7 @@ use Rattle.om_process.specs.declared.row.PendingRow.{PendingRow}
 use Rattle.om_process.proofs.Making.{interval_along}
 use Rattle.om_process.proofs.Runs.{leads_more}
 use Rattle.om_process.proofs.Vectors.{row_along}
-use Rattle.om_stable.specs.Content.{Content, Records, between}
-use Rattle.om_stable.specs.steps.Between.{AreAllBetween}
+use Rattle.om_stable.specs.Content.{Content, Records}
 use Rattle.om_stable.proofs.BetweenLemmas.{between-AreAllBetween}
 
 -- what each of some rows has

@@ -1,5 +1,5 @@
 -- A process that is taken down: everything then asks less of it.
-use Rattle.std.proofs.Common.{◌≡◌, ◌≢◌, inl, inr, ℕ, ◌<◌, List, length, set, Option, Some, None, Bool, true, false, refl, sym, ap, ◌∙◌, subst, arith, length-set}
+use Rattle.std.proofs.Common.{◌≡◌, ◌≢◌, inl, inr, ℕ, List, length, set, Option, Some, None, Bool, true, false, refl, sym, ap, ◌∙◌, subst, arith, length-set}
 use Rattle.std.specs.Prelude.{slice_get}
 use Rattle.om_process.specs.Core.{CoreState}
 use Rattle.om_process.specs.Process.{Process}

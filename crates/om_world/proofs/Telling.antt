@@ -11,7 +11,7 @@ use Rattle.om_recover.proofs.RowsLemmas.{kept, of_inserted}
 use Rattle.om_manager.specs.Notes.{after_note}
 use Rattle.om_manager.specs.Outputs.{HeldOutput, within}
 use Rattle.om_manager.specs.Sound.{IsManager, KeepsReleased}
-use Rattle.om_manager.specs.State.{ManagerState, held_by, process_count, released_by}
+use Rattle.om_manager.specs.State.{ManagerState, process_count, released_by}
 use Rattle.om_world.specs.Changes.{row_for}
 use Rattle.om_world.specs.steps.Moves.{AreTold, IsTold}
 use Rattle.om_world.proofs.Raising.{GoesOn, beyond, less}

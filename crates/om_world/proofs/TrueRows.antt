@@ -1,19 +1,17 @@
 -- What a manager is told of true records.
-use Rattle.std.proofs.Common.{◌≡◌, ◌⊎◌, inl, inr, ℕ, ◌<◌, ◌≤◌, List, [], length, replicate, take, Some, refl, sym, ap, ◌∙◌, subst, arith, Bool, true, false}
-use Rattle.std.specs.Prelude.{if◌then◌else◌, slice_get}
+use Rattle.std.proofs.Common.{◌≡◌, inl, inr, ℕ, List, [], length, refl, sym, subst, arith, Bool, true, false}
 use Rattle.om_member.specs.Told.{row_for}
 use Rattle.om_process.specs.Claims.{AtInterval, RowOf}
-use Rattle.om_process.specs.Process.{Program, Received, started}
+use Rattle.om_process.specs.Process.{Program, started}
 use Rattle.om_process.specs.declared.row.PendingRow.{PendingRow}
 use Rattle.om_process.proofs.Vectors.{row_along}
-use Rattle.om_recover.specs.Records.{checkpoint_of, log_of}
 use Rattle.om_recover.specs.Rows.{HasRow, Rows}
 use Rattle.om_recover.specs.declared.row.Row.{Row}
 use Rattle.om_stable.specs.Content.{Content}
 use Rattle.om_world.specs.Live.{program_at, received}
 use Rattle.om_world.specs.declared.entry.Entry.{Entry}
 use Rattle.om_world.specs.Disk.{AreTrue}
-use Rattle.om_world.specs.StoreRows.{HasRowsOf, IsToldOf, first_row}
+use Rattle.om_world.specs.StoreRows.{HasRowsOf, first_row}
 use Rattle.om_world.proofs.StoredRows.{IsTrueRow, store_true}
 
 -- what is true of a row, as a manager has it

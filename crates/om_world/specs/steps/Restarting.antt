@@ -1,5 +1,5 @@
 -- What the calls of a restart do.
-use Rattle.std.specs.Prelude.{◌≡◌, ◌⊎◌, ℕ, ◌<◌, ◌≤◌, List, slice_get, true, Some, length}
+use Rattle.std.specs.Prelude.{◌≡◌, ◌⊎◌, ℕ, ◌<◌, List, slice_get, true, Some, length}
 use Rattle.om_interval.specs.Vectors.{IsBelow}
 use Rattle.om_look.specs.Rows.{AreRowsOf}
 use Rattle.om_look.specs.declared.rows.RowsFault.{RowsFault}

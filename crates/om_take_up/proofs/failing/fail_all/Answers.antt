@@ -1,6 +1,5 @@
-use Rattle.std.proofs.Common.{◌≡◌, ◌<◌, ◌≤◌, ◌+◌, ◌-◌, length, ap, subst, arith, Ok}
+use Rattle.std.proofs.Common.{◌-◌, length, ap, subst, arith, Ok}
 use Rattle.om_manager.specs.Rounds.{Failing}
-use Rattle.om_manager.specs.State.{process_count}
 use Rattle.om_take_up.proofs.FailingLemmas.{last_failed}
 use Rattle.om_take_up.proofs.failing.fail_all.Goals as goal
 

@@ -1,4 +1,4 @@
-use Rattle.std.proofs.Common.{◌<◌, subst, Ok}
+use Rattle.std.proofs.Common.{subst, Ok}
 use Rattle.om_manager.specs.Rounds.{Failing}
 use Rattle.om_take_up.proofs.FailingLemmas.{none_failed, one_failed}
 use Rattle.om_take_up.proofs.failing.fail_first.Goals as goal

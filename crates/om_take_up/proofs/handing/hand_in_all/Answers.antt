@@ -1,4 +1,4 @@
-use Rattle.std.proofs.Common.{◌≡◌, ◌<◌, ◌++◌, ◌∷◌, [], map, take, subst, Ok, refl}
+use Rattle.std.proofs.Common.{map, take, subst, Ok}
 use Rattle.om_manager.specs.Notes.{NotesOutput}
 use Rattle.om_manager.specs.Outputs.{held_of}
 use Rattle.om_take_up.specs.steps.Failing.{Holds}

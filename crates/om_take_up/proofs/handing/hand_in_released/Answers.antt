@@ -1,6 +1,4 @@
-use Rattle.std.proofs.Common.{◌≡◌, ◌<◌, subst, Ok, refl}
-use Rattle.om_take_up.specs.steps.Failing.{Holds}
-use Rattle.om_take_up.proofs.HandingLemmas.{none_released, one_released}
+use Rattle.om_take_up.proofs.HandingLemmas.{none_released}
 use Rattle.om_take_up.proofs.handing.hand_in_released.Goals as goal
 
 pub loop-p-init : goal.loop-p-init

@@ -1,6 +1,6 @@
 use Rattle.std.proofs.Common.{◌≡◌, ◌<◌, ◌≤◌, ◌∙◌, ap, arith, get_or, length, set, subst, sym}
 use Rattle.om_world.specs.steps.Members.{downed}
-use Rattle.om_world.proofs.Downing.{down_all, down_long, down_next, first_down}
+use Rattle.om_world.proofs.Downing.{down_all, down_long, down_next}
 use Rattle.om_world.proofs.restart.put_down.Goals as goal
 
 pub index_mut-member-requires : goal.index_mut-member-requires

@@ -1,4 +1,4 @@
-use Rattle.std.proofs.Common.{◌≡◌, ◌<◌, ◌∙◌, length, refl, subst, sym}
+use Rattle.std.proofs.Common.{length, refl, subst, sym}
 use Rattle.std.specs.Prelude.{IfOk}
 use Rattle.om_look.specs.Rows.{AreRowsOf}
 use Rattle.om_world.specs.Disk.{held_in}

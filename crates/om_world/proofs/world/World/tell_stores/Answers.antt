@@ -1,4 +1,4 @@
-use Rattle.std.proofs.Common.{◌≡◌, ◌<◌, ◌∙◌, ap, length, subst, sym, Err, Ok, rules}
+use Rattle.std.proofs.Common.{◌≡◌, ◌<◌, ◌∙◌, ap, subst, Err, rules}
 use Rattle.om_member.specs.Told.{IsToldUpTo}
 use Rattle.om_world.specs.steps.Restarting.{refusal_of_rows}
 use Rattle.om_world.proofs.Lists.{once_err}
