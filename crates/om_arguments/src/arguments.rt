@@ -133,6 +133,8 @@ stands in the end.
   resend P         each message that P keeps becomes a new frame
   trim P           P drops what it need not keep
   prune            the manager and the stores drop what they need not keep
+  restart          all that runs is lost, and a new manager starts over the
+                   stores; each process is down until it resumes
 
 Answers:
   ran STEPS STATUS sent M made K   STATUS is ready, waiting, ended CODE or
@@ -144,6 +146,8 @@ Answers:
   down                             to a fail of which nobody need know
   back X inc I, goes-on            to a resume: rolled back to interval X, in
                                    incarnation I; or as it was
+  restarted R .., unsettled        to a restart: the recovery state; or not
+                                   all are back from the last round
   no-process, not-up, no-frame, not-in, no-round, spent, present, fault,
   damaged, memory
 In the end:

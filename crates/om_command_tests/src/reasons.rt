@@ -138,7 +138,7 @@ fn advice_on_faults(rt: HostRuntime) {
 }
 
 // The first words of lines, and how such lines are written: all that a script, a cluster file or a record script may have.
-static FORMS: [(&str, Option<&str>); 22] = [
+static FORMS: [(&str, Option<&str>); 23] = [
     (
         "program",
         Some("program NAME SIZE WORD .., each WORD of eight hexadecimal digits"),
@@ -167,6 +167,7 @@ static FORMS: [(&str, Option<&str>); 22] = [
     ("resend", Some("resend P, for sim")),
     ("trim", Some("trim P, for sim")),
     ("prune", Some("prune, for sim")),
+    ("restart", Some("restart, for sim")),
     ("procs", Some("procs N, of 1 to 16, for frontier")),
     (
         "log",

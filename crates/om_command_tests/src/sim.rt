@@ -15,7 +15,7 @@ proc c pc
 ";
 
 // Events over them, the answers, and how the world stands in the end.
-static EVENTS: [Row; 9] = [
+static EVENTS: [Row; 10] = [
     (
         "run 0 100\nrun 1 100\nrun 2 100\ngive 1 0\nrun 1 100\ngive 0 1\nflush 0 0\nflush 0 1\nflush 0 2\nflush 3 1\n",
         Writes,
@@ -92,6 +92,28 @@ recovery 0 0 0
 proc a inc 0 interval 0 waiting
 proc b inc 0 interval 0 ready
 proc c inc 0 interval 0 ready
+",
+    ),
+    (
+        "run 0 100\nrun 1 100\nrun 2 100\ngive 1 0\nflush 1\nrestart\nrestart\nresume 0\nresume 1\nresume 2\nresume 2\nrestart\n",
+        Writes,
+        "\
+ran 3 waiting sent 0 made 0
+ran 3 waiting sent 0 made 0
+ran 5 ended 0 sent 1 made 0
+taken 1
+noted 1
+restarted 0 1 0
+unsettled
+back 0 inc 1
+back 1 inc 1
+back 0 inc 1
+not-in
+restarted 0 1 0
+recovery 0 1 0
+proc a down
+proc b down
+proc c down
 ",
     ),
     (
@@ -255,7 +277,7 @@ const SEVENTEEN: &str = "program a 4
 proc p0 a\nproc p1 a\nproc p2 a\nproc p3 a\nproc p4 a\nproc p5 a\nproc p6 a\nproc p7 a\nproc p8 a
 proc p9 a\nproc p10 a\nproc p11 a\nproc p12 a\nproc p13 a\nproc p14 a\nproc p15 a\nproc p16 a\n";
 
-static FAULTY: [Row; 31] = [
+static FAULTY: [Row; 32] = [
     ("", Refused, "empty script"),
     ("program a 4\n", Refused, "empty script"),
     ("run 0 1\n", Refused, "empty script"),
@@ -286,6 +308,7 @@ static FAULTY: [Row; 31] = [
     ("die 0\n", Refused, "line 1: unknown line"),
     ("run 0\n", Refused, "line 1: wrong count of words"),
     ("prune 0\n", Refused, "line 1: wrong count of words"),
+    ("restart 0\n", Refused, "line 1: wrong count of words"),
     ("flush\n", Refused, "line 1: wrong count of words"),
     ("flush 0 1 1\n", Refused, "line 1: wrong count of words"),
     ("flush 0 x\n", Refused, "line 1: bad number"),

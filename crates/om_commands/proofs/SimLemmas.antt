@@ -18,14 +18,13 @@ use Rattle.om_scripts.specs.Programs.{Cluster, IsProgram, programs_of}
 use Rattle.om_stable.specs.Content.{Content}
 use Rattle.om_world.proofs.Beginning.{all_at}
 use Rattle.om_world.specs.Started.{IsRefusedAt, IsWhy}
-use Rattle.om_world.specs.Played.{IsFaultless, Played}
 use Rattle.om_world.specs.World.{WorldState, IsEmpty, IsKnown}
-use Rattle.om_world.specs.declared.event.Answer.{Answer}
 use Rattle.om_world.specs.declared.event.Event.{Event}
 use Rattle.om_commands.specs.Command.{IsScript}
-use Rattle.om_commands.specs.Sim.{IsBegun, IsErrorOfSim, IsPlayed, IsSim, IsSimAnswer}
+use Rattle.om_commands.specs.Sim.{IsBegun, IsErrorOfSim, IsPlayed, IsSim, IsSimAnswer, PlayedLines}
 use Rattle.om_commands.specs.SimScript.{EventScript, event_script_line, no_events}
-use Rattle.om_commands.specs.SimText.{answers_text, end_text}
+use Rattle.om_commands.specs.SimText.{end_text}
+use Rattle.om_commands.specs.steps.Parts.{ArePlayed}
 use Rattle.om_commands.specs.steps.Lines.{bytes_at}
 use Rattle.om_commands.specs.declared.bytes_text.BytesForm.{BytesForm}
 use Rattle.om_commands.specs.declared.error.CommandError.{CommandError}
@@ -85,21 +84,21 @@ pub all_same : (stores : List Content) → All IsEmpty stores → All IsEmpty (m
 all_same stores all = All-map IsEmpty (λ s. s) stores all
 
 -- a script is told by what its events give
-pub is_played : {A E : Type 0} (form : BytesForm) (spelled : A → List ℕ) (script : EventScript) (cluster : Cluster) (begun end : WorldState) (events : List Event) (answers told : List Answer) (r : Result A E)
-    → cluster ≡ script.cluster → events ≡ script.events → told ≡ answers → Played begun events answers end → IsKnown end → All IsFaultless answers
-    → IfOk r (λ text. spelled text ≡ answers_text told ++ end_text form cluster (length cluster.processes) end)
-    → IfOk r (λ text. IsPlayed form script begun (spelled text))
-is_played form spelled script cluster begun end events answers told (Ok text) same_cluster same_events same_answers played known faultless written = (
+pub is_played : (form : BytesForm) (script : EventScript) (cluster : Cluster) (begun end : WorldState) (events : List Event) (n : ℕ) (first now text : List ℕ)
+    → cluster ≡ script.cluster → events ≡ script.events → n ≡ length cluster.processes → first ≡ [] → ArePlayed begun events end first now → IsKnown end
+    → text ≡ now ++ end_text form cluster n end → IsPlayed form script begun text
+is_played form script cluster begun end events n first now text same_cluster same_events number none played known written = (
   end,
-  answers,
-  subst (λ es. Played begun es answers end) same_events played,
+  played.answers,
+  played.lines,
+  subst (λ es. PlayedLines begun es played.answers end played.lines) same_events played.played,
   known,
-  faultless,
+  played.faultless,
   written
-      ∙ ap (λ xs. answers_text xs ++ end_text form cluster (length cluster.processes) end) same_answers
-      ∙ ap (λ c. answers_text answers ++ end_text form c (length c.processes) end) same_cluster,
+      ∙ ap (λ t. t ++ end_text form cluster n end) (played.written ∙ ap (λ f. f ++ played.lines) none)
+      ∙ ap (λ k. played.lines ++ end_text form cluster k end) number
+      ∙ ap (λ c. played.lines ++ end_text form c (length c.processes) end) same_cluster,
 )
-is_played form spelled script cluster begun end events answers told (Err e) same_cluster same_events same_answers played known faultless written = tt
 
 -- a script is answered by what is played from the start of its world
 pub is_answer : (form : BytesForm) (script : EventScript) (cluster : Cluster) (begun : WorldState) (text : List ℕ) → cluster ≡ script.cluster

@@ -6,7 +6,7 @@ use Rattle.om_text.specs.Reading.{◌>>=◌, or_error}
 use Rattle.om_text.specs.declared.error.LineError.{LineError}
 use Rattle.om_text.specs.declared.error.LineError.TheVariants.{UnknownLine, WrongCount, BadNumber}
 use Rattle.om_world.specs.declared.event.Event.{Event}
-use Rattle.om_world.specs.declared.event.Event.TheVariants.{Run, Give, Flush, FlushFirst, Checkpoint, Spell, Fail, Join, Resume, Resend, Trim, Prune}
+use Rattle.om_world.specs.declared.event.Event.TheVariants.{Run, Give, Flush, FlushFirst, Checkpoint, Spell, Fail, Join, Resume, Resend, Trim, Prune, Restart}
 
 -- the process that the one word stands for
 abbrev pub process_in : List (List ℕ) → Result ℕ LineError
@@ -21,10 +21,10 @@ event_of_two event read (process ∷ other ∷ []) = do
   Ok (event p k)
 event_of_two event read _ = Err WrongCount
 
--- `prune`, by the words behind it
-abbrev pub prune_line : List (List ℕ) → Result Event LineError
-prune_line [] = Ok Prune
-prune_line _ = Err WrongCount
+-- an event of the whole, which no word follows
+abbrev pub alone : Event → List (List ℕ) → Result Event LineError
+alone event [] = Ok event
+alone event _ = Err WrongCount
 
 -- `flush`, by the words behind it: a process, and how many receipts where not all are meant
 abbrev pub flush_line : List (List ℕ) → Result Event LineError
@@ -36,7 +36,8 @@ abbrev pub event_line : List ℕ → List (List ℕ) → Result Event LineError
 event_line first words =
     if bytes_eq first (codes "run") then event_of_two Run long_number_of words
     else (if bytes_eq first (codes "give") then event_of_two Give number_of words
-    else (if bytes_eq first (codes "prune") then prune_line words
+    else (if bytes_eq first (codes "prune") then alone Prune words
+    else (if bytes_eq first (codes "restart") then alone Restart words
     else (if bytes_eq first (codes "flush") then flush_line words
     else (if bytes_eq first (codes "checkpoint") then (process_in words >>= λ p. Ok (Checkpoint p))
     else (if bytes_eq first (codes "spell") then (process_in words >>= λ p. Ok (Spell p))
@@ -45,4 +46,4 @@ event_line first words =
     else (if bytes_eq first (codes "resume") then (process_in words >>= λ p. Ok (Resume p))
     else (if bytes_eq first (codes "resend") then (process_in words >>= λ p. Ok (Resend p))
     else (if bytes_eq first (codes "trim") then (process_in words >>= λ p. Ok (Trim p))
-    else Err UnknownLine))))))))))
+    else Err UnknownLine)))))))))))

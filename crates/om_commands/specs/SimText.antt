@@ -8,13 +8,19 @@ use Rattle.om_scripts.specs.Programs.{Cluster}
 use Rattle.om_world.specs.World.{WorldState}
 use Rattle.om_world.specs.Texts.{answer_text, status_text}
 use Rattle.om_world.specs.declared.event.Answer.{Answer}
+use Rattle.om_world.specs.declared.event.Answer.TheVariants.{Restarted}
 use Rattle.om_commands.specs.Quoted.{bytes_text}
 use Rattle.om_commands.specs.Report.{intervals_text}
 use Rattle.om_commands.specs.declared.bytes_text.BytesForm.{BytesForm}
 
--- a line for each answer
-abbrev pub answers_text : List Answer → List ℕ
-answers_text answers = flat_map (λ answer. answer_text answer ++ 10 ∷ []) answers
+-- the line of an answer, behind which this is the recovery state: that to a restart tells it
+abbrev pub answer_line : Answer → List ℕ → List ℕ
+answer_line Restarted state = codes "restarted" ++ intervals_text state
+answer_line answer state = answer_text answer ++ 10 ∷ []
+
+-- a line for each answer to events after which the recovery state is this where a restart is the last of them
+abbrev pub answers_text : List ℕ → List Answer → List ℕ
+answers_text state answers = flat_map (λ answer. answer_line answer state) answers
 
 -- the name of a process
 abbrev pub name_at : Cluster → ℕ → List ℕ

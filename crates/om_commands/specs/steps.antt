@@ -2,4 +2,5 @@
 pub mod Errors
 pub mod Events
 pub mod Lines
+pub mod Parts
 pub mod Behind

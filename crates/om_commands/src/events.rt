@@ -4,7 +4,7 @@ ghost use Rattle.std.specs.Prelude.{◌≡◌, map};
 ghost use Rattle.om_text.specs.Reading.{or_error};
 ghost use Rattle.om_text.specs.Numbers.{long_number_of, number_of};
 ghost use Rattle.om_text.specs.declared.error.LineError.{LineError};
-ghost use Rattle.om_commands.specs.Events.{event_line, event_of_two, flush_line, process_in, prune_line};
+ghost use Rattle.om_commands.specs.Events.{alone, event_line, event_of_two, flush_line, process_in};
 ghost use Rattle.om_commands.specs.steps.Events.{event_at};
 ghost use Rattle.om_world.specs.declared.event.Event.{Event};
 
@@ -22,7 +22,10 @@ pub(crate) fn event_of(first: &[u8], words: &[&[u8]]) -> Result<Event, LineError
         return give_of(words);
     }
     if first == b"prune".as_slice() {
-        return prune_of(words);
+        return alone(words, Event::Prune);
+    }
+    if first == b"restart".as_slice() {
+        return alone(words, Event::Restart);
     }
     event_at(first, words)
 }
@@ -125,11 +128,12 @@ fn give_of(words: &[&[u8]]) -> Result<Event, LineError>
     Ok(Event::Give { process, frame })
 }
 
-fn prune_of(words: &[&[u8]]) -> Result<Event, LineError>
-    ensures { result ≡ prune_line (map (λ word. word.now) words.now) }
+// An event of the whole, which no word follows.
+fn alone(words: &[&[u8]], event: Event) -> Result<Event, LineError>
+    ensures { result ≡ alone event (map (λ word. word.now) words.now) }
 {
     if !words.is_empty() {
         return Err(LineError::WrongCount);
     }
-    Ok(Event::Prune)
+    Ok(event)
 }

@@ -1,26 +1,27 @@
 //! The command `sim`: a world of logged processes, played event by event.
 
-ghost use Rattle.std.specs.Prelude.{◌≡◌, ◌⊎◌, ◌≤◌, ℕ, List, All, length, map, Err, IfSome, IfOk, IfErr, OnOk, OnErr, string_bytes};
+ghost use Rattle.std.specs.Prelude.{◌≡◌, ◌≢◌, ◌⊎◌, ◌+◌, ◌<◌, ◌≤◌, ℕ, List, All, length, map, slice_get, Err, IfSome, IfOk, IfErr, OnOk, OnErr, Some, string_bytes};
 ghost use Rattle.std.specs.Io.KnownBytes.{Appends, Keeps};
 ghost use Rattle.om_interval.specs.declared.pid.TheConstants.{MAX_PROCESSES};
 ghost use Rattle.om_manager.specs.State.{process_count};
 ghost use Rattle.om_process.specs.Images.{program_of};
 ghost use Rattle.om_process.specs.declared.start.StartFault.{StartFault};
 ghost use Rattle.om_scripts.specs.Programs.{IsProgram, programs_of};
-ghost use Rattle.om_world.specs.Played.{IsFaultless, Played};
 ghost use Rattle.om_world.specs.World.{IsEmpty, IsKnown};
+ghost use Rattle.om_world.specs.declared.event.Event.{Event};
 ghost use Rattle.om_commands.specs.Command.{IsSilent};
 ghost use Rattle.om_commands.specs.Sim.{IsBegun, IsErrorOfSim, IsPlayed, IsSim, IsSimAnswer};
+ghost use Rattle.om_commands.specs.steps.Parts.{ArePlayed, EndsPart};
 
 use crate::bytes_text::BytesForm;
 use crate::command::{read_input, write_answer};
 use crate::error::CommandError;
 use crate::sim_script::SimScript;
-use crate::sim_text::sim_text;
+use crate::sim_text::{push_answers, push_end};
 use om_process::{Image, StartFault};
 use om_scripts::Programs;
 use om_stable::MemStable;
-use om_world::{Answer, Event, World};
+use om_world::{Event, World};
 use std::alloc::{AllocError, Global};
 use std::io::{Read, Write};
 
@@ -92,8 +93,11 @@ fn told(
     requires managed { length script.now.cluster.processes ≤ process_count world.old.manager }
     ensures { IfOk result (λ text. IsPlayed form script.now world.old (string_bytes text)) }
 {
-    let answers = play(alloc, world, script.events())?;
-    sim_text(alloc, form, script.programs(), world, &answers)
+    let programs = script.programs();
+    let mut text = String::new(alloc);
+    play(alloc, &mut text, world, script.events())?;
+    push_end(alloc, &mut text, form, programs, world, programs.n())?;
+    Ok(text)
 }
 
 // So many stores that hold nothing.
@@ -133,17 +137,55 @@ fn memory(fault: StartFault) -> AllocError
     }
 }
 
-// Plays events over stores that never fail.
-fn play(
+// Returns where a part of events ends that begins at a place: behind the next restart, or with the last event.
+fn part_end(events: &[Event], from: usize) -> usize
+    requires { from < length events.now }
+    ensures more { from < result }
+    ensures within { result ≤ length events.now }
+    ensures only { (i : ℕ) → from ≤ i → i + 1 < result → slice_get events.now i ≢ Some Event.Restart }
+{
+    for at in from..events.len() {
+        if events[at] == Event::Restart {
+            return at + 1;
+        }
+    }
+    events.len()
+}
+
+// Plays events of which a restart can only be the last, over stores that never fail, and writes a line for each.
+fn play_part(
     alloc: Global,
+    text: &mut String,
     world: &mut World<MemStable>,
     events: &[Event],
-) -> Result<Vec<Answer>, AllocError>
-    requires { IsKnown world.old }
-    ensures played { IfOk result (λ answers. Played world.old events.now answers.items world.new) }
-    ensures faultless { IfOk result (λ answers. All IsFaultless answers.items) }
+) -> Result<(), AllocError>
+    requires known { IsKnown world.old }
+    requires part { EndsPart events.now }
+    ensures told { OnOk result (ArePlayed world.old events.now world.new (string_bytes text.old) (string_bytes text.new)) }
     ensures known { IsKnown world.new }
     ensures size { process_count world.new.manager ≡ process_count world.old.manager }
 {
-    world.play(alloc, events)
+    let answers = world.play(alloc, events)?;
+    push_answers(text, &answers, &world.manager().recovery())
+}
+
+// Plays events over stores that never fail, and writes a line for each.
+fn play(
+    alloc: Global,
+    text: &mut String,
+    world: &mut World<MemStable>,
+    events: &[Event],
+) -> Result<(), AllocError>
+    requires { IsKnown world.old }
+    ensures told { OnOk result (ArePlayed world.old events.now world.new (string_bytes text.old) (string_bytes text.new)) }
+    ensures known { IsKnown world.new }
+    ensures size { process_count world.new.manager ≡ process_count world.old.manager }
+{
+    let mut done = 0;
+    while done < events.len() {
+        let next = part_end(events, done);
+        play_part(alloc, text, world, &events[done..next])?;
+        done = next;
+    }
+    Ok(())
 }

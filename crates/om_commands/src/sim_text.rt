@@ -5,7 +5,7 @@ ghost use Rattle.std.specs.List.{flat_map, range_with_len};
 ghost use Rattle.om_interval.specs.declared.pid.TheConstants.{MAX_PROCESSES};
 ghost use Rattle.om_manager.specs.Outputs.{held_of};
 ghost use Rattle.om_manager.specs.State.{process_count};
-ghost use Rattle.om_commands.specs.SimText.{answers_text, core_text, name_at, output_line, outputs_text};
+ghost use Rattle.om_commands.specs.SimText.{answer_line, answers_text, core_text, name_at, output_line, outputs_text};
 ghost use Rattle.om_commands.specs.steps.Lines.{process_line, released_text, written_end};
 ghost use Rattle.om_world.specs.Texts.{answer_text, refusal_word};
 ghost use Rattle.om_world.specs.declared.event.Answer.{Answer};
@@ -13,7 +13,7 @@ ghost use Rattle.om_world.specs.declared.event.Answer.{Answer};
 use crate::bytes_text::{BytesForm, push_bytes_in};
 use crate::report::push_state;
 use crate::state_text::push_status;
-use om_interval::Pid;
+use om_interval::{DepVec, Pid};
 use om_manager::{Gathered, Manager, Output};
 use om_process::{Accept, ProcCore};
 use om_scripts::Programs;
@@ -52,6 +52,7 @@ fn refusal_word(why: Refusal) -> &'static str
         Refusal::Fault => "fault",
         Refusal::Damaged => "damaged",
         Refusal::Memory => "memory",
+        Refusal::Unsettled => "unsettled",
     }
 }
 
@@ -88,24 +89,32 @@ fn push_answer(text: &mut String, answer: Answer) -> Result<(), AllocError>
         Answer::Down => text.push_str("down"),
         Answer::Back { interval, inc } => write!(text, "back {interval} inc {inc}"),
         Answer::GoesOn => text.push_str("goes-on"),
+        Answer::Restarted => text.push_str("restarted"),
         Answer::Refused(why) => text.push_str(refusal_word(why)),
     }
 }
 
-// Writes the line of an answer.
-fn push_line(text: &mut String, answer: Answer) -> Result<(), AllocError>
-    ensures { OnOk result (string_bytes text.new ≡ string_bytes text.old ++ answer_text answer ++ 10 ∷ []) }
+// Writes the line of an answer, behind which this is the recovery state.
+fn push_line(text: &mut String, answer: Answer, state: &DepVec) -> Result<(), AllocError>
+    ensures { OnOk result (string_bytes text.new ≡ string_bytes text.old ++ answer_line answer state.now) }
 {
     push_answer(text, answer)?;
-    text.push('\n')
+    match answer {
+        Answer::Restarted => push_state(text, state),
+        _ => text.push('\n'),
+    }
 }
 
-// Writes a line for each answer.
-fn push_answers(text: &mut String, answers: &[Answer]) -> Result<(), AllocError>
-    ensures { OnOk result (string_bytes text.new ≡ string_bytes text.old ++ answers_text answers.now) }
+/// Writes a line for each answer to events of which a restart can only be the last, behind which this is the recovery state.
+pub(crate) fn push_answers(
+    text: &mut String,
+    answers: &[Answer],
+    state: &DepVec,
+) -> Result<(), AllocError>
+    ensures { OnOk result (string_bytes text.new ≡ string_bytes text.old ++ answers_text state.now answers.now) }
 {
     for answer in answers {
-        push_line(text, *answer)?;
+        push_line(text, *answer, state)?;
     }
     Ok(())
 }
@@ -238,8 +247,8 @@ fn push_released(
     Ok(())
 }
 
-// Writes how a world of so many processes stands.
-fn push_end<S: Stable>(
+/// Writes how a world of so many processes stands.
+pub(crate) fn push_end<S: Stable>(
     alloc: Global,
     text: &mut String,
     form: BytesForm,
@@ -256,22 +265,4 @@ fn push_end<S: Stable>(
     push_state(text, &world.manager().recovery())?;
     push_processes(text, programs, world, n)?;
     push_released(alloc, text, form, programs, world.manager(), n)
-}
-
-// The text of a world whose processes are those of these programs, and that has answered events so.
-pub(crate) fn sim_text<S: Stable>(
-    alloc: Global,
-    form: BytesForm,
-    programs: &Programs,
-    world: &World<S>,
-    answers: &[Answer],
-) -> Result<String, AllocError>
-    requires managed { length programs.now.processes ≤ process_count world.now.manager }
-    ensures { IfOk result (λ text. string_bytes text ≡ answers_text answers.now
-        ++ written_end form programs.now (length programs.now.processes) world.now) }
-{
-    let mut text = String::new(alloc);
-    push_answers(&mut text, answers)?;
-    push_end(alloc, &mut text, form, programs, world, programs.n())?;
-    Ok(text)
 }

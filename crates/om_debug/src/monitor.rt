@@ -32,6 +32,7 @@ fn push_event(out: &mut String, event: Event) -> Result<(), AllocError> {
         Event::Join { process } => write!(out, "join {process}"),
         Event::Resume { process } => write!(out, "resume {process}"),
         Event::Prune => out.push_str("prune"),
+        Event::Restart => out.push_str("restart"),
     }
 }
 

@@ -211,6 +211,7 @@ progress_told ended (events.Resume process) (answers.Back interval inc) was = re
 progress_told ended (events.Resume process) answers.GoesOn was = refl
 progress_told ended (events.Resume process) answer was = refl
 progress_told ended events.Prune answer was = refl
+progress_told ended events.Restart answer was = refl
 
 pub ended_told : (ended : Bool) (event : Event) (answer : Answer)
     → ended_shown ended (shown ended event answer) ≡ ended_after event answer ended
@@ -243,6 +244,7 @@ ended_told ended (events.Resume process) (answers.Back interval inc) = refl
 ended_told ended (events.Resume process) answers.GoesOn = refl
 ended_told ended (events.Resume process) answer = refl
 ended_told ended events.Prune answer = refl
+ended_told ended events.Restart answer = refl
 
 -- ---- one event more
 pub progress_more : (p : ℕ) (was : Progress) (rows : List EventRow) (row : EventRow)

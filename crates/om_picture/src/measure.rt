@@ -89,5 +89,6 @@ fn refusal_length(why: Refusal) -> u32 {
         Refusal::Fault => 5,
         Refusal::Damaged => 7,
         Refusal::Memory => 6,
+        Refusal::Unsettled => 9,
     }
 }

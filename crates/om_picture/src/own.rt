@@ -56,7 +56,7 @@ impl Page {
     }
 
     // A gathering is open from the left of this failure on, if none was; 0 is before the window.
-    fn open(&mut self, declared: bool, x: u32) {
+    pub(crate) fn open(&mut self, declared: bool, x: u32) {
         if declared && self.opened.is_none() {
             self.opened = Some(if x == 0 {
                 self.left

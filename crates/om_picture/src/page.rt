@@ -25,6 +25,8 @@ pub(crate) struct Page {
     pub opened: Option<u32>,
     pub lanes: Vec<Lane>,
     pub frames: Vec<Frame>,
+    /// How many of them were made before the last restart, which numbers them anew.
+    pub lost: usize,
     pub counts: Counts,
     pub sheet: Sheet,
 }
@@ -66,6 +68,7 @@ impl Page {
             opened: None,
             lanes,
             frames: Vec::new(alloc),
+            lost: 0,
             counts: Counts::default(),
             sheet: no_pieces(alloc),
         })
@@ -130,14 +133,14 @@ impl Page {
         again: bool,
     ) -> Result<Numbers, AllocError> {
         let from = self.lane_at(p).number;
-        let first = self.frames.len() as u64;
+        let first = self.frames.len().saturating_sub(self.lost) as u64;
         let count = add_frames(&mut self.frames, x, from, &step.frames, again)?;
         Ok(numbers(first, count))
     }
 
     /// The frame of a number, which is given now.
     pub(crate) fn give(&mut self, frame: usize) -> Option<Frame> {
-        let frame = self.frames.get_mut(frame)?;
+        let frame = self.frames.get_mut(self.lost.saturating_add(frame))?;
         frame.given = true;
         Some(*frame)
     }
@@ -148,6 +151,16 @@ impl Page {
             Some(lane) => lane.leave(&mut self.sheet.road, x, self.left, stand),
             None => Ok(()),
         }
+    }
+
+    /// All processes are down from here on, in the first round of a new start.
+    pub(crate) fn fall(&mut self, x: u32) -> Result<(), AllocError> {
+        self.open(true, x);
+        self.round = 0;
+        for p in 0..self.lanes.len() {
+            self.leave(p, x, Stand::Down)?;
+        }
+        Ok(())
     }
 
     /// The process is up from here on.

@@ -14,6 +14,7 @@ use crate::history::{History, Mark, Next};
 use crate::page::Page;
 use om_interval::DepVec;
 use om_sheet::{Form, More, Shape, Shown, Spot, Step, Title, is_finished, process_of, shown_of};
+use om_world::Answer;
 use std::alloc::{AllocError, Global};
 use std::slice;
 
@@ -132,8 +133,18 @@ impl Picture {
     {
         match process_of(step.event) {
             Some(p) => self.draw_own(p, step, at),
-            None => Ok(()),
+            None => self.draw_whole(step, at),
         }
+    }
+
+    // Draws what an event of no process shows: a restart takes all down.
+    fn draw_whole(&mut self, step: &Step, at: Spot) -> Result<(), AllocError>
+        ensures { OnOk result (sketch_of self.new ≡ sketch_of self.old) }
+    {
+        if step.answer == Answer::Restarted {
+            self.page.fall(at.x)?;
+        }
+        Ok(())
     }
 
     // Draws what the event itself shows.

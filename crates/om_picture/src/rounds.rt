@@ -12,6 +12,7 @@ use crate::picture::{Picture, state_if, title_of};
 use crate::settle::fate_now;
 use om_interval::DepVec;
 use om_sheet::{Crossed, Crossing, More, Spot, Step, Stretch, Style, What};
+use om_world::Answer;
 use std::alloc::{AllocError, Global};
 
 // From a mark to the recovery line beside it.
@@ -57,6 +58,9 @@ impl Page {
             self.tell_round(right, step, changed, places)?;
         }
         self.opened = None;
+        if step.answer == Answer::Restarted {
+            self.lost = self.frames.len();
+        }
         Ok(())
     }
 

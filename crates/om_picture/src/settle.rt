@@ -112,7 +112,7 @@ impl Page {
         frame: usize,
         interval: u32,
     ) -> Result<(), AllocError> {
-        if let Some(frame) = self.frames.get(frame) {
+        if let Some(frame) = self.frames.get(self.lost.saturating_add(frame)) {
             self.sheet.send.push(Way::Message {
                 again: frame.again,
                 cut: fate.cut,

@@ -111,3 +111,24 @@ fn a_checkpoint_is_drawn_before_it_is_noted(rt: HostRuntime) {
         marks(&rt, rt.alloc(), "")
     );
 }
+
+// What becomes of a script in which the whole starts over, once and twice.
+static RESTARTED: &str = "restart\nresume 0\nresume 1\nresume 2\nresume 3\n";
+
+static RESTARTED_TWICE: &str =
+    "restart\nresume 0\nresume 1\nresume 2\nresume 3\nrestart\nresume 0\nresume 1\nresume 2\nresume 3\n";
+
+// Returns how many bands of rounds are drawn, that of the legend too, and how many of them are named as the first of a start.
+fn rounds<R: Abort>(rt: &R, alloc: Global, line: &str) -> (usize, usize) {
+    let drawn = picture(rt, alloc, line);
+    let bytes = drawn.as_slice();
+    (count(bytes, b"<rect class=\"b\""), count(bytes, b">round 1<"))
+}
+
+// A restart is drawn as the first round of a new start, which nobody need have failed before.
+#[test]
+fn a_restart_is_a_round(rt: HostRuntime) {
+    assert_eq!(rt; rounds(&rt, rt.alloc(), ""), (1, 0));
+    assert_eq!(rt; rounds(&rt, rt.alloc(), RESTARTED), (2, 1));
+    assert_eq!(rt; rounds(&rt, rt.alloc(), RESTARTED_TWICE), (3, 2));
+}

@@ -49,6 +49,7 @@ pub fn form_of(word: &str) -> Option<&'static str>
         "resend" => Some("resend P, for sim"),
         "trim" => Some("trim P, for sim"),
         "prune" => Some("prune, for sim"),
+        "restart" => Some("restart, for sim"),
         "procs" => Some("procs N, of 1 to 16, for frontier"),
         "log" => Some("log P X V0 .., as many V as there are processes, for frontier"),
         "ckpt" => Some("ckpt P X V0 .., as many V as there are processes, for frontier"),

@@ -1,13 +1,11 @@
 -- What was released once stands in all that comes after.
-use Rattle.std.proofs.Common.{◌≡◌, ℕ, ◌<◌, ◌≤◌, List, [], ◌∷◌, ◌++◌, length, refl, sym, ap, ◌∙◌, subst, arith}
+use Rattle.std.proofs.Common.{◌≡◌, ℕ, ◌<◌, List, [], ◌∷◌, ◌++◌, length, sym, ap, ◌∙◌, subst, arith}
 use Rattle.std.specs.Prelude.{slice_index}
 use Rattle.om_manager.specs.Outputs.{HeldOutput}
 use Rattle.om_process.specs.Claims.{AtInterval, Makes}
 use Rattle.om_process.specs.Process.{Program, Received}
-use Rattle.om_world.specs.Disk.{IsOnDisk, held_in}
 use Rattle.om_world.specs.Live.{program_at, received}
-use Rattle.om_world.specs.World.{WorldState, output_entry, recovered}
-use Rattle.om_world.specs.declared.entry.Entry.{Entry}
+use Rattle.om_world.specs.World.{WorldState, output_entry}
 use Rattle.om_world.proofs.Legal.{at_more, received-append}
 use Rattle.om_restart_laws.specs.Chains.{GoesOnFrom, IsChain, IsSaid, Start}
 use Rattle.om_restart_laws.specs.Worlds.{IsTakenUpAt, left_of}

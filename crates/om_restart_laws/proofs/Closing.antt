@@ -1,5 +1,5 @@
 -- A recoverable state of true rows cuts a run to one that is a run too.
-use Rattle.std.proofs.Common.{◌≡◌, ◌≢◌, ◌⊎◌, inl, inr, ℕ, zero, suc, ◌<◌, ◌≤◌, List, [], ◌∷◌, ◌++◌, length, take, get_or, Some, Bool, true, false, refl, sym, ap, ◌∙◌, subst, arith}
+use Rattle.std.proofs.Common.{◌≡◌, ◌≢◌, inl, inr, ℕ, zero, suc, ◌<◌, ◌≤◌, List, [], ◌∷◌, ◌++◌, length, take, get_or, Some, Bool, true, false, refl, sym, ap, ◌∙◌, subst, arith}
 use Rattle.std.specs.Prelude.{if◌then◌else◌, nat_eq, slice_get, slice_index}
 use Rattle.std.proofs.lemmas.Bool.Decides.{nat_tests}
 use Rattle.om_process.specs.Claims.{AtInterval, RowOf}
@@ -9,7 +9,7 @@ use Rattle.om_recover.specs.Recoverable.{IsRecoverable, IsStable}
 use Rattle.om_recover.specs.Rows.{HasRow, Rows}
 use Rattle.om_recover.specs.declared.row.Row.{Row}
 use Rattle.om_stable.specs.Content.{Content}
-use Rattle.om_world.specs.Live.{Legal, MayFollow, cut_list, receipt_of, received}
+use Rattle.om_world.specs.Live.{Legal, cut_list, receipt_of, received}
 use Rattle.om_world.specs.declared.entry.Entry.{Entry}
 use Rattle.om_world.proofs.Finish.{closed_legal}
 use Rattle.om_world.proofs.Legal.{cut}

@@ -2,4 +2,5 @@ pub mod Chains
 pub mod Closing
 pub mod Cutting
 pub mod Replaying
+pub mod Restarts
 pub mod Worlds

@@ -1,13 +1,13 @@
 -- What is replayed from true records stands where the run leads.
-use Rattle.std.proofs.Common.{◌≡◌, ℕ, zero, suc, ◌+◌, ◌<◌, ◌≤◌, List, [], ◌∷◌, ◌++◌, length, take, refl, sym, ap, ◌∙◌, subst, arith}
+use Rattle.std.proofs.Common.{◌≡◌, ℕ, suc, ◌+◌, ◌<◌, ◌≤◌, List, [], ◌∷◌, ◌++◌, length, take, sym, ap, ◌∙◌, subst, arith}
 use Rattle.std.proofs.lemmas.List.{append-nil}
 use Rattle.std.proofs.Math.Seq.{append_snoc}
 use Rattle.om_format.specs.Receipts.{ReceiptRecord}
 use Rattle.om_process.specs.Claims.{AtInterval, CheckpointOf, RecordOf}
 use Rattle.om_process.specs.Core.{CoreState, cluster_size}
-use Rattle.om_process.specs.Process.{Process, Program, Received}
+use Rattle.om_process.specs.Process.{Program, Received}
 use Rattle.om_process.specs.Replays.{Replayed, process_of, received_of}
-use Rattle.om_process.specs.Stored.{AreReceiptsAfter, Anyone, IsReceiptAt, IsReplay, StandsAfter}
+use Rattle.om_process.specs.Stored.{AreReceiptsAfter, IsReceiptAt, IsReplay}
 use Rattle.om_process.specs.steps.Pieces.{receipts_of}
 use Rattle.om_process.proofs.Replays.{replayed_along}
 use Rattle.om_stable.specs.Content.{Content, Records}

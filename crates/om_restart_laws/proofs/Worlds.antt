@@ -1,5 +1,5 @@
 -- A world that ended is taken up.
-use Rattle.std.proofs.Common.{◌≡◌, ℕ, ◌<◌, ◌≤◌, List, length, subst, arith}
+use Rattle.std.proofs.Common.{ℕ, ◌≤◌, List, length, arith}
 use Rattle.std.specs.Prelude.{slice_index}
 use Rattle.om_interval.specs.Vectors.{IsBelow}
 use Rattle.om_process.specs.Claims.{Makes}

@@ -3,7 +3,6 @@ use Rattle.std.specs.Prelude.{◌≡◌, ℕ, ◌≤◌, List, [], ◌∷◌, �
 use Rattle.om_interval.specs.Vectors.{IsBelow}
 use Rattle.om_manager.specs.Outputs.{HeldOutput}
 use Rattle.om_process.specs.Claims.{AtInterval, Makes}
-use Rattle.om_process.specs.Process.{Program}
 use Rattle.om_recover.specs.Recoverable.{IsGreatest}
 use Rattle.om_recover.specs.Rows.{Rows}
 use Rattle.om_world.specs.Disk.{IsOnDisk, held_in}

@@ -18,7 +18,8 @@ ghost use Rattle.om_world.specs.Live.{Legal, cut_list, program_at, received};
 ghost use Rattle.om_world.specs.declared.entry.Entry.{Entry};
 ghost use Rattle.om_world.specs.Disk.{AreTrue, CanServe, DependsWithin, IsOnDisk, held_in};
 ghost use Rattle.om_world.specs.World.{WorldState};
-ghost use Rattle.om_restart_laws.specs.Chains.{IsChain, IsSaid, Start};
+ghost use Rattle.om_world.specs.Restarted.{HasRestarted};
+ghost use Rattle.om_restart_laws.specs.Chains.{GoesOnFrom, IsChain, IsSaid, Start};
 ghost use Rattle.om_world.specs.StoreRows.{HasRowsOf};
 ghost use Rattle.om_restart_laws.specs.Worlds.{IsTakenUpAt};
 
@@ -66,6 +67,12 @@ pub fn not_lost()
 pub fn a_start_goes_on()
     ensures { (w : WorldState) (rows : Rows) (state : List ℕ) → IsOnDisk w → HasRowsOf (length w.programs) (held_in w) rows
         → IsGreatest (length w.programs) rows state → IsTakenUpAt w state }
+{}
+
+/// The event of a restart is such a start: the world behind it stands at the recovery state of its manager, and goes on from there.
+pub fn a_restart_is_a_start()
+    ensures at { (old new : WorldState) → IsOnDisk old → HasRestarted old new → IsTakenUpAt old new.manager.recovery }
+    ensures on { (old new : WorldState) → HasRestarted old new → GoesOnFrom old new.manager.recovery new }
 {}
 
 /// However often it ends and is taken up again, all is one run: what the last world received is a run without failures, along which each

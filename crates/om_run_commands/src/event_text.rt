@@ -25,6 +25,7 @@ fn push_words(text: &mut String, event: Event) -> Result<(), AllocError>
         Event::Join { process } => write!(text, "join {process}"),
         Event::Resume { process } => write!(text, "resume {process}"),
         Event::Prune => text.push_str("prune"),
+        Event::Restart => text.push_str("restart"),
     }
 }
 

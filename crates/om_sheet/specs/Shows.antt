@@ -89,8 +89,10 @@ shown ended (events.Fail process) answer = failure_shown answer
 shown ended (events.Join process) answer = join_shown answer
 shown ended (events.Resume process) answer = resume_shown answer
 shown ended events.Prune answer = shows.Nothing
+shown ended events.Restart answer = shows.Nothing
 
 -- a round is finished with this answer
 abbrev pub is_finished : Answer → Bool
 is_finished (answers.Gathered Finished) = true
+is_finished answers.Restarted = true
 is_finished _ = false

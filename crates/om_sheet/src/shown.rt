@@ -65,7 +65,7 @@ pub fn shown_of(step: &Step, ended: bool) -> Shown
         Event::Fail { .. } => failure_shown(step.answer),
         Event::Join { .. } => join_shown(step.answer),
         Event::Resume { .. } => resume_shown(step.answer),
-        Event::Trim { .. } | Event::Prune => Shown::Nothing,
+        Event::Trim { .. } | Event::Prune | Event::Restart => Shown::Nothing,
     }
 }
 
@@ -193,7 +193,7 @@ pub fn is_finished(answer: Answer) -> bool
     ensures { result ≡ is_finished answer }
 {
     match answer {
-        Answer::Gathered(Gathered::Finished) => true,
+        Answer::Gathered(Gathered::Finished) | Answer::Restarted => true,
         _ => false,
     }
 }

@@ -62,6 +62,6 @@ pub fn process_of(event: Event) -> Option<usize>
         | Event::Fail { process }
         | Event::Join { process }
         | Event::Resume { process } => Some(process),
-        Event::Prune => None,
+        Event::Prune | Event::Restart => None,
     }
 }

@@ -134,6 +134,7 @@ plain-event (events.Fail process) = plain-decimal process
 plain-event (events.Join process) = plain-decimal process
 plain-event (events.Resume process) = plain-decimal process
 plain-event events.Prune = refl
+plain-event events.Restart = refl
 
 pub plain-status : (status : Status) → is_plain_text (status_text status) ≡ true
 plain-status statuses.Ready = refl
@@ -172,6 +173,7 @@ plain-refusal refusals.Present = refl
 plain-refusal refusals.Fault = refl
 plain-refusal refusals.Damaged = refl
 plain-refusal refusals.Memory = refl
+plain-refusal refusals.Unsettled = refl
 
 pub plain-answer : (answer : Answer) → is_plain_text (answer_text answer) ≡ true
 plain-answer (answers.Ran steps status sent made) =
@@ -189,6 +191,7 @@ plain-answer (answers.Gathered Finished) = refl
 plain-answer answers.Down = refl
 plain-answer (answers.Back interval inc) = plain-three (decimal interval) (codes " inc ") (decimal inc) (plain-decimal interval) refl (plain-decimal inc)
 plain-answer answers.GoesOn = refl
+plain-answer answers.Restarted = refl
 plain-answer (answers.Refused why) = plain-refusal why
 
 plain-places : (state : List ℕ) → is_plain_text (flat_map (λ place. 32 ∷ decimal place) state) ≡ true
@@ -249,6 +252,7 @@ plain-why (answers.Gathered gathered) = refl
 plain-why answers.Down = refl
 plain-why (answers.Back interval inc) = refl
 plain-why answers.GoesOn = refl
+plain-why answers.Restarted = refl
 plain-why (answers.Refused why) = plain-refusal why
 
 plain-bytes : (label : Label) → is_plain_text (bytes_text label) ≡ true

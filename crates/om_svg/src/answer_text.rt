@@ -28,6 +28,7 @@ pub fn push_event(text: &mut String, event: Event) -> Result<(), AllocError>
         Event::Join { process } => write!(text, "join {process}"),
         Event::Resume { process } => write!(text, "resume {process}"),
         Event::Prune => text.push_str("prune"),
+        Event::Restart => text.push_str("restart"),
     }
 }
 
@@ -82,6 +83,7 @@ pub fn push_answer(text: &mut String, answer: Answer) -> Result<(), AllocError>
         Answer::Down => text.push_str("down"),
         Answer::Back { interval, inc } => write!(text, "back {interval} inc {inc}"),
         Answer::GoesOn => text.push_str("goes-on"),
+        Answer::Restarted => text.push_str("restarted"),
         Answer::Refused(why) => text.push_str(refusal_word(why)),
     }
 }
@@ -156,5 +158,6 @@ fn refusal_word(why: Refusal) -> &'static str
         Refusal::Fault => "fault",
         Refusal::Damaged => "damaged",
         Refusal::Memory => "memory",
+        Refusal::Unsettled => "unsettled",
     }
 }

@@ -252,6 +252,7 @@ run_refused old new p k fuel refusals.Spent within h = absurd h
 run_refused old new p k fuel refusals.Present within h = absurd h
 run_refused old new p k fuel refusals.Fault within h = absurd h
 run_refused old new p k fuel refusals.Damaged within h = absurd h
+run_refused old new p k fuel refusals.Unsettled within h = absurd h
 
 -- a run that stands before its fuel is used up does not hang on it
 run_short : (old new : WorldState) (p k fuel : ℕ) (a : Answer) → k ≤ fuel → (UsesUp k a → ⊥) → Happened old (events.Run p k) a new → Happened old (events.Run p fuel) a new
@@ -270,6 +271,7 @@ run_short old new p k fuel (answers.Gathered answer) within short h = absurd h
 run_short old new p k fuel answers.Down within short h = absurd h
 run_short old new p k fuel (answers.Back interval inc) within short h = absurd h
 run_short old new p k fuel answers.GoesOn within short h = absurd h
+run_short old new p k fuel answers.Restarted within short h = absurd h
 run_short old new p k fuel (answers.Refused why) within short h = run_refused old new p k fuel why within h
 
 pub step_short : (old new : WorldState) (p k fuel : ℕ) (a : Answer) → k ≤ fuel → (UsesUp k a → ⊥) → Step old (events.Run p k) a new → Step old (events.Run p fuel) a new
@@ -305,6 +307,7 @@ first_part old new p k next (answers.Gathered answer) ahead all step = absurd al
 first_part old new p k next answers.Down ahead all step = absurd all
 first_part old new p k next (answers.Back interval inc) ahead all step = absurd all
 first_part old new p k next answers.GoesOn ahead all step = absurd all
+first_part old new p k next answers.Restarted ahead all step = absurd all
 first_part old new p k next (answers.Refused why) ahead all step = absurd all
 
 -- one more
@@ -325,6 +328,7 @@ next_part old mid new own n p done k m next (answers.Gathered answer) s going al
 next_part old mid new own n p done k m next answers.Down s going all step = absurd all
 next_part old mid new own n p done k m next (answers.Back interval inc) s going all step = absurd all
 next_part old mid new own n p done k m next answers.GoesOn s going all step = absurd all
+next_part old mid new own n p done k m next answers.Restarted s going all step = absurd all
 next_part old mid new own n p done k m next (answers.Refused why) s going all step = absurd all
 
 -- the last

@@ -1,5 +1,5 @@
 -- What an event leaves of the machine of a process.
-use Rattle.std.proofs.Common.{◌≡◌, ◌≢◌, inl, inr, ℕ, set, Option, Some, None, Bool, true, false, refl, sym, ap, ◌∙◌}
+use Rattle.std.proofs.Common.{◌≡◌, ◌≢◌, inl, inr, ℕ, zero, suc, length, replicate, set, Option, Some, None, Bool, true, false, refl, sym, ap, ◌∙◌}
 use Rattle.std.specs.Prelude.{if◌then◌else◌, nat_eq, slice_get}
 use Rattle.std.proofs.lemmas.Bool.Decides.{nat_tests}
 use Rattle.std.proofs.Common.{arith}
@@ -101,6 +101,7 @@ refused_run p q fuel old new refusals.Spent h k = absurd h
 refused_run p q fuel old new refusals.Present h k = absurd h
 refused_run p q fuel old new refusals.Fault h k = absurd h
 refused_run p q fuel old new refusals.Damaged h k = absurd h
+refused_run p q fuel old new refusals.Unsettled h k = absurd h
 refused_run p q fuel old new refusals.Memory h k = absurd (not_memory k)
 
 stays_run : (p : ℕ) (q : ℕ) (fuel : ℕ) (old new : WorldState) (a : Answer) → Happened old (events.Run q fuel) a new → kind_of p a (events.Run q fuel) ≡ kinds.Nothing → StaysFor p old new
@@ -114,6 +115,7 @@ stays_run p q fuel old new (answers.Gathered answer) h k = absurd h
 stays_run p q fuel old new answers.Down h k = absurd h
 stays_run p q fuel old new (answers.Back interval inc) h k = absurd h
 stays_run p q fuel old new answers.GoesOn h k = absurd h
+stays_run p q fuel old new answers.Restarted h k = absurd h
 stays_run p q fuel old new (answers.Refused why) h k = refused_run p q fuel old new why h k
 
 refused_give : (p : ℕ) (q : ℕ) (f : ℕ) (old new : WorldState) (why : Refusal) → Happened old (events.Give q f) (answers.Refused why) new → kind_of p (answers.Refused why) (events.Give q f) ≡ kinds.Nothing → StaysFor p old new
@@ -126,6 +128,7 @@ refused_give p q f old new refusals.Spent h k = absurd h
 refused_give p q f old new refusals.Present h k = absurd h
 refused_give p q f old new refusals.Fault h k = absurd h
 refused_give p q f old new refusals.Damaged h k = absurd h
+refused_give p q f old new refusals.Unsettled h k = absurd h
 refused_give p q f old new refusals.Memory h k = absurd (not_memory k)
 
 stays_give : (p : ℕ) (q : ℕ) (f : ℕ) (old new : WorldState) (a : Answer) → Happened old (events.Give q f) a new → kind_of p a (events.Give q f) ≡ kinds.Nothing → StaysFor p old new
@@ -139,6 +142,7 @@ stays_give p q f old new (answers.Gathered answer) h k = absurd h
 stays_give p q f old new answers.Down h k = absurd h
 stays_give p q f old new (answers.Back interval inc) h k = absurd h
 stays_give p q f old new answers.GoesOn h k = absurd h
+stays_give p q f old new answers.Restarted h k = absurd h
 stays_give p q f old new (answers.Refused why) h k = refused_give p q f old new why h k
 
 refused_flush : (p : ℕ) (q : ℕ) (old new : WorldState) (why : Refusal) → Happened old (events.Flush q) (answers.Refused why) new → kind_of p (answers.Refused why) (events.Flush q) ≡ kinds.Nothing → StaysFor p old new
@@ -151,6 +155,7 @@ refused_flush p q old new refusals.Spent h k = absurd h
 refused_flush p q old new refusals.Present h k = absurd h
 refused_flush p q old new refusals.Fault h k = stays_cores p old new (ap (λ (w : WorldState). w.cores) h.2)
 refused_flush p q old new refusals.Damaged h k = absurd h
+refused_flush p q old new refusals.Unsettled h k = absurd h
 refused_flush p q old new refusals.Memory h k = absurd (not_memory k)
 
 stays_flush : (p : ℕ) (q : ℕ) (old new : WorldState) (a : Answer) → Happened old (events.Flush q) a new → kind_of p a (events.Flush q) ≡ kinds.Nothing → StaysFor p old new
@@ -164,6 +169,7 @@ stays_flush p q old new (answers.Gathered answer) h k = absurd h
 stays_flush p q old new answers.Down h k = absurd h
 stays_flush p q old new (answers.Back interval inc) h k = absurd h
 stays_flush p q old new answers.GoesOn h k = absurd h
+stays_flush p q old new answers.Restarted h k = absurd h
 stays_flush p q old new (answers.Refused why) h k = refused_flush p q old new why h k
 
 refused_flush_first : (p : ℕ) (q n : ℕ) (old new : WorldState) (why : Refusal) → Happened old (events.FlushFirst q n) (answers.Refused why) new → kind_of p (answers.Refused why) (events.FlushFirst q n) ≡ kinds.Nothing → StaysFor p old new
@@ -176,6 +182,7 @@ refused_flush_first p q n old new refusals.Spent h k = absurd h
 refused_flush_first p q n old new refusals.Present h k = absurd h
 refused_flush_first p q n old new refusals.Fault h k = stays_cores p old new (ap (λ (w : WorldState). w.cores) h.2)
 refused_flush_first p q n old new refusals.Damaged h k = absurd h
+refused_flush_first p q n old new refusals.Unsettled h k = absurd h
 refused_flush_first p q n old new refusals.Memory h k = absurd (not_memory k)
 
 stays_flush_first : (p : ℕ) (q n : ℕ) (old new : WorldState) (a : Answer) → Happened old (events.FlushFirst q n) a new → kind_of p a (events.FlushFirst q n) ≡ kinds.Nothing → StaysFor p old new
@@ -189,6 +196,7 @@ stays_flush_first p q n old new (answers.Gathered answer) h k = absurd h
 stays_flush_first p q n old new answers.Down h k = absurd h
 stays_flush_first p q n old new (answers.Back interval inc) h k = absurd h
 stays_flush_first p q n old new answers.GoesOn h k = absurd h
+stays_flush_first p q n old new answers.Restarted h k = absurd h
 stays_flush_first p q n old new (answers.Refused why) h k = refused_flush_first p q n old new why h k
 
 refused_checkpoint : (p : ℕ) (q : ℕ) (old new : WorldState) (why : Refusal) → Happened old (events.Checkpoint q) (answers.Refused why) new → kind_of p (answers.Refused why) (events.Checkpoint q) ≡ kinds.Nothing → StaysFor p old new
@@ -201,6 +209,7 @@ refused_checkpoint p q old new refusals.Spent h k = absurd h
 refused_checkpoint p q old new refusals.Present h k = stays_cores p old new (ap (λ (w : WorldState). w.cores) h.2)
 refused_checkpoint p q old new refusals.Fault h k = stays_cores p old new (ap (λ (w : WorldState). w.cores) h.2)
 refused_checkpoint p q old new refusals.Damaged h k = absurd h
+refused_checkpoint p q old new refusals.Unsettled h k = absurd h
 refused_checkpoint p q old new refusals.Memory h k = absurd (not_memory k)
 
 stays_checkpoint : (p : ℕ) (q : ℕ) (old new : WorldState) (a : Answer) → Happened old (events.Checkpoint q) a new → kind_of p a (events.Checkpoint q) ≡ kinds.Nothing → StaysFor p old new
@@ -214,6 +223,7 @@ stays_checkpoint p q old new (answers.Gathered answer) h k = absurd h
 stays_checkpoint p q old new answers.Down h k = absurd h
 stays_checkpoint p q old new (answers.Back interval inc) h k = absurd h
 stays_checkpoint p q old new answers.GoesOn h k = absurd h
+stays_checkpoint p q old new answers.Restarted h k = absurd h
 stays_checkpoint p q old new (answers.Refused why) h k = refused_checkpoint p q old new why h k
 
 refused_spell : (p : ℕ) (q : ℕ) (old new : WorldState) (why : Refusal) → Happened old (events.Spell q) (answers.Refused why) new → kind_of p (answers.Refused why) (events.Spell q) ≡ kinds.Nothing → StaysFor p old new
@@ -226,6 +236,7 @@ refused_spell p q old new refusals.Spent h k = absurd h
 refused_spell p q old new refusals.Present h k = stays_cores p old new (ap (λ (w : WorldState). w.cores) h.2)
 refused_spell p q old new refusals.Fault h k = stays_cores p old new (ap (λ (w : WorldState). w.cores) h.2)
 refused_spell p q old new refusals.Damaged h k = absurd h
+refused_spell p q old new refusals.Unsettled h k = absurd h
 refused_spell p q old new refusals.Memory h k = absurd (not_memory k)
 
 stays_spell : (p : ℕ) (q : ℕ) (old new : WorldState) (a : Answer) → Happened old (events.Spell q) a new → kind_of p a (events.Spell q) ≡ kinds.Nothing → StaysFor p old new
@@ -239,6 +250,7 @@ stays_spell p q old new (answers.Gathered answer) h k = absurd h
 stays_spell p q old new answers.Down h k = absurd h
 stays_spell p q old new (answers.Back interval inc) h k = absurd h
 stays_spell p q old new answers.GoesOn h k = absurd h
+stays_spell p q old new answers.Restarted h k = absurd h
 stays_spell p q old new (answers.Refused why) h k = refused_spell p q old new why h k
 
 refused_resend : (p : ℕ) (q : ℕ) (old new : WorldState) (why : Refusal) → Happened old (events.Resend q) (answers.Refused why) new → kind_of p (answers.Refused why) (events.Resend q) ≡ kinds.Nothing → StaysFor p old new
@@ -251,6 +263,7 @@ refused_resend p q old new refusals.Spent h k = absurd h
 refused_resend p q old new refusals.Present h k = absurd h
 refused_resend p q old new refusals.Fault h k = absurd h
 refused_resend p q old new refusals.Damaged h k = absurd h
+refused_resend p q old new refusals.Unsettled h k = absurd h
 refused_resend p q old new refusals.Memory h k = absurd (not_memory k)
 
 stays_resend : (p : ℕ) (q : ℕ) (old new : WorldState) (a : Answer) → Happened old (events.Resend q) a new → kind_of p a (events.Resend q) ≡ kinds.Nothing → StaysFor p old new
@@ -264,6 +277,7 @@ stays_resend p q old new (answers.Gathered answer) h k = absurd h
 stays_resend p q old new answers.Down h k = absurd h
 stays_resend p q old new (answers.Back interval inc) h k = absurd h
 stays_resend p q old new answers.GoesOn h k = absurd h
+stays_resend p q old new answers.Restarted h k = absurd h
 stays_resend p q old new (answers.Refused why) h k = refused_resend p q old new why h k
 
 refused_trim : (p : ℕ) (q : ℕ) (old new : WorldState) (why : Refusal) → Happened old (events.Trim q) (answers.Refused why) new → kind_of p (answers.Refused why) (events.Trim q) ≡ kinds.Nothing → StaysFor p old new
@@ -276,6 +290,7 @@ refused_trim p q old new refusals.Spent h k = absurd h
 refused_trim p q old new refusals.Present h k = absurd h
 refused_trim p q old new refusals.Fault h k = absurd h
 refused_trim p q old new refusals.Damaged h k = absurd h
+refused_trim p q old new refusals.Unsettled h k = absurd h
 refused_trim p q old new refusals.Memory h k = absurd (not_memory k)
 
 stays_trim : (p : ℕ) (q : ℕ) (old new : WorldState) (a : Answer) → Happened old (events.Trim q) a new → kind_of p a (events.Trim q) ≡ kinds.Nothing → StaysFor p old new
@@ -289,6 +304,7 @@ stays_trim p q old new (answers.Gathered answer) h k = absurd h
 stays_trim p q old new answers.Down h k = absurd h
 stays_trim p q old new (answers.Back interval inc) h k = absurd h
 stays_trim p q old new answers.GoesOn h k = absurd h
+stays_trim p q old new answers.Restarted h k = absurd h
 stays_trim p q old new (answers.Refused why) h k = refused_trim p q old new why h k
 
 refused_fail : (p : ℕ) (q : ℕ) (old new : WorldState) (why : Refusal) → Happened old (events.Fail q) (answers.Refused why) new → kind_of p (answers.Refused why) (events.Fail q) ≡ kinds.Nothing → StaysFor p old new
@@ -301,6 +317,7 @@ refused_fail p q old new refusals.Spent h k = stays_down p q old new (ap (λ (w 
 refused_fail p q old new refusals.Present h k = absurd h
 refused_fail p q old new refusals.Fault h k = absurd h
 refused_fail p q old new refusals.Damaged h k = absurd h
+refused_fail p q old new refusals.Unsettled h k = absurd h
 refused_fail p q old new refusals.Memory h k = absurd (not_memory k)
 
 stays_fail : (p : ℕ) (q : ℕ) (old new : WorldState) (a : Answer) → Happened old (events.Fail q) a new → kind_of p a (events.Fail q) ≡ kinds.Nothing → StaysFor p old new
@@ -314,6 +331,7 @@ stays_fail p q old new (answers.Gathered answer) h k = stays_down p q old new (a
 stays_fail p q old new answers.Down h k = stays_down p q old new (ap (λ (w : WorldState). w.cores) h.2)
 stays_fail p q old new (answers.Back interval inc) h k = absurd h
 stays_fail p q old new answers.GoesOn h k = absurd h
+stays_fail p q old new answers.Restarted h k = absurd h
 stays_fail p q old new (answers.Refused why) h k = refused_fail p q old new why h k
 
 refused_join : (p : ℕ) (q : ℕ) (old new : WorldState) (why : Refusal) → Happened old (events.Join q) (answers.Refused why) new → kind_of p (answers.Refused why) (events.Join q) ≡ kinds.Nothing → StaysFor p old new
@@ -326,6 +344,7 @@ refused_join p q old new refusals.Spent h k = absurd h
 refused_join p q old new refusals.Present h k = absurd h
 refused_join p q old new refusals.Fault h k = stays_cores p old new (ap (λ (w : WorldState). w.cores) h.3)
 refused_join p q old new refusals.Damaged h k = absurd h
+refused_join p q old new refusals.Unsettled h k = absurd h
 refused_join p q old new refusals.Memory h k = absurd (not_memory k)
 
 stays_join : (p : ℕ) (q : ℕ) (old new : WorldState) (a : Answer) → Happened old (events.Join q) a new → kind_of p a (events.Join q) ≡ kinds.Nothing → StaysFor p old new
@@ -339,6 +358,7 @@ stays_join p q old new (answers.Gathered answer) h k = stays_set p q old new h.c
 stays_join p q old new answers.Down h k = absurd h
 stays_join p q old new (answers.Back interval inc) h k = absurd h
 stays_join p q old new answers.GoesOn h k = absurd h
+stays_join p q old new answers.Restarted h k = absurd h
 stays_join p q old new (answers.Refused why) h k = refused_join p q old new why h k
 
 refused_resume : (p : ℕ) (q : ℕ) (old new : WorldState) (why : Refusal) → Happened old (events.Resume q) (answers.Refused why) new → kind_of p (answers.Refused why) (events.Resume q) ≡ kinds.Nothing → StaysFor p old new
@@ -351,6 +371,7 @@ refused_resume p q old new refusals.Spent h k = absurd h
 refused_resume p q old new refusals.Present h k = absurd h
 refused_resume p q old new refusals.Fault h k = stays_stopped p q old new h.1
 refused_resume p q old new refusals.Damaged h k = absurd h
+refused_resume p q old new refusals.Unsettled h k = absurd h
 refused_resume p q old new refusals.Memory h k = absurd (not_memory k)
 
 stays_resume : (p : ℕ) (q : ℕ) (old new : WorldState) (a : Answer) → Happened old (events.Resume q) a new → kind_of p a (events.Resume q) ≡ kinds.Nothing → StaysFor p old new
@@ -364,6 +385,7 @@ stays_resume p q old new (answers.Gathered answer) h k = absurd h
 stays_resume p q old new answers.Down h k = absurd h
 stays_resume p q old new (answers.Back interval inc) h k = stays_apart p q old new (Some h.core) (apart q p (other_if (nat_eq q p) kinds.Back k back_some)) (ap (λ (w : WorldState). w.cores) h.others)
 stays_resume p q old new answers.GoesOn h k = stays_set p q old new h.1.0 _ h.1.1 (ap (λ (w : WorldState). w.cores) h.1.2) refl
+stays_resume p q old new answers.Restarted h k = absurd h
 stays_resume p q old new (answers.Refused why) h k = refused_resume p q old new why h k
 
 refused_prune : (p : ℕ) (old new : WorldState) (why : Refusal) → Happened old events.Prune (answers.Refused why) new → kind_of p (answers.Refused why) events.Prune ≡ kinds.Nothing → StaysFor p old new
@@ -376,6 +398,7 @@ refused_prune p old new refusals.Spent h k = absurd h
 refused_prune p old new refusals.Present h k = absurd h
 refused_prune p old new refusals.Fault h k = stays_cores p old new (ap (λ (w : WorldState). w.cores) h.1.others)
 refused_prune p old new refusals.Damaged h k = absurd h
+refused_prune p old new refusals.Unsettled h k = absurd h
 refused_prune p old new refusals.Memory h k = absurd (not_memory k)
 
 stays_prune : (p : ℕ) (old new : WorldState) (a : Answer) → Happened old events.Prune a new → kind_of p a events.Prune ≡ kinds.Nothing → StaysFor p old new
@@ -389,7 +412,40 @@ stays_prune p old new (answers.Gathered answer) h k = absurd h
 stays_prune p old new answers.Down h k = absurd h
 stays_prune p old new (answers.Back interval inc) h k = absurd h
 stays_prune p old new answers.GoesOn h k = absurd h
+stays_prune p old new answers.Restarted h k = absurd h
 stays_prune p old new (answers.Refused why) h k = refused_prune p old new why h k
+
+no_core : (n p : ℕ) (d : CoreState) → slice_get (replicate n None) p ≡ Some (Some d) → ⊥
+no_core zero p d at = cc
+no_core (suc n) zero d at = none_some d (once (Some d) None (sym at))
+no_core (suc n) (suc p) d at = no_core n p d at
+
+refused_restart : (p : ℕ) (old new : WorldState) (why : Refusal) → Happened old events.Restart (answers.Refused why) new → kind_of p (answers.Refused why) events.Restart ≡ kinds.Nothing → StaysFor p old new
+refused_restart p old new refusals.NoProcess h k = absurd h
+refused_restart p old new refusals.NotUp h k = absurd h
+refused_restart p old new refusals.NoFrame h k = absurd h
+refused_restart p old new refusals.NotIn h k = absurd h
+refused_restart p old new refusals.NoRound h k = absurd h
+refused_restart p old new refusals.Spent h k = absurd h
+refused_restart p old new refusals.Present h k = absurd h
+refused_restart p old new refusals.Fault h k = stays_cores p old new (ap (λ (w : WorldState). w.cores) h.1)
+refused_restart p old new refusals.Damaged h k = stays_cores p old new (ap (λ (w : WorldState). w.cores) h)
+refused_restart p old new refusals.Unsettled h k = stays_same p old new h.1
+refused_restart p old new refusals.Memory h k = absurd (not_memory k)
+
+stays_restart : (p : ℕ) (old new : WorldState) (a : Answer) → Happened old events.Restart a new → kind_of p a events.Restart ≡ kinds.Nothing → StaysFor p old new
+stays_restart p old new (answers.Ran steps status sent made) h k = absurd h
+stays_restart p old new (answers.Given accept) h k = absurd h
+stays_restart p old new (answers.Noted count) h k = absurd h
+stays_restart p old new (answers.Resent count) h k = absurd h
+stays_restart p old new answers.Trimmed h k = absurd h
+stays_restart p old new answers.Pruned h k = absurd h
+stays_restart p old new (answers.Gathered answer) h k = absurd h
+stays_restart p old new answers.Down h k = absurd h
+stays_restart p old new (answers.Back interval inc) h k = absurd h
+stays_restart p old new answers.GoesOn h k = absurd h
+stays_restart p old new answers.Restarted h k = λ d at. absurd (no_core (length old.programs) p d (ap (λ (w : WorldState). slice_get w.cores p) (sym h.others) ∙ at))
+stays_restart p old new (answers.Refused why) h k = refused_restart p old new why h k
 
 -- an event that is of no kind which changes it leaves a process its machine, or takes its process down
 pub stays : (p : ℕ) (old new : WorldState) (e : Event) (a : Answer) → Happened old e a new → kind_of p a e ≡ kinds.Nothing → StaysFor p old new
@@ -405,3 +461,4 @@ stays p old new (events.Fail q) a h k = stays_fail p q old new a h k
 stays p old new (events.Join q) a h k = stays_join p q old new a h k
 stays p old new (events.Resume q) a h k = stays_resume p q old new a h k
 stays p old new events.Prune a h k = stays_prune p old new a h k
+stays p old new events.Restart a h k = stays_restart p old new a h k

@@ -105,7 +105,7 @@ static STATUSES: [Row; 4] = [
     (Word::Status(Status::Trapped(Cause::Break)), "trapped CAUSE"),
 ];
 
-static ANSWERS: [Row; 28] = [
+static ANSWERS: [Row; 30] = [
     (
         Word::Answer(Answer::Ran {
             steps: 4,
@@ -144,6 +144,7 @@ static ANSWERS: [Row; 28] = [
         "back X inc I",
     ),
     (Word::Answer(Answer::GoesOn), "goes-on"),
+    (Word::Answer(Answer::Restarted), "restarted"),
     (
         Word::Answer(Answer::Refused(Refusal::NoProcess)),
         "no-process",
@@ -157,6 +158,10 @@ static ANSWERS: [Row; 28] = [
     (Word::Answer(Answer::Refused(Refusal::Fault)), "fault"),
     (Word::Answer(Answer::Refused(Refusal::Damaged)), "damaged"),
     (Word::Answer(Answer::Refused(Refusal::Memory)), "memory"),
+    (
+        Word::Answer(Answer::Refused(Refusal::Unsettled)),
+        "unsettled",
+    ),
 ];
 
 pub fn line_faults() -> Group {

@@ -6,6 +6,8 @@ mod events;
 #[cfg(test)]
 mod refused_memory;
 #[cfg(test)]
+mod restarted;
+#[cfg(test)]
 mod spelled;
 #[cfg(test)]
 mod stopped;

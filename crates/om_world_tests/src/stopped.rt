@@ -45,5 +45,6 @@ fn laws_of_restarts_are_called(_rt: HostRuntime) {
     laws::taken_up();
     laws::not_lost();
     laws::a_start_goes_on();
+    laws::a_restart_is_a_start();
     laws::a_chain_is_one_run();
 }

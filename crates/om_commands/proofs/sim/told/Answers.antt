@@ -4,6 +4,6 @@ use Rattle.om_commands.proofs.sim.told.Goals as goal
 
 pub returns : goal.returns
 returns c =
-    is_played c.args.form string_bytes c.args.script.now c.programs.result.now c.args.world.now c.play.new.world c.events.result.now c.in_ok-answers.answers.items
-    c.deref.result.now c.sim_text.result c.programs.ensures c.events.ensures c.deref.ensures.value c.in_ok-answers.ensures.played c.play.ensures.known c.in_ok-answers.ensures.faultless
-    c.sim_text.ensures
+    is_played c.args.form c.args.script.now c.programs-programs.result.now c.args.world.now c.play.new.world c.events.result.now c.n.result
+    (string_bytes c.new-text.result) (string_bytes c.play.new.text) (string_bytes c.push_end.new.text) c.programs-programs.ensures c.events.ensures
+    c.n.ensures.number c.new-text.ensures.bytes c.in_ok-play.ensures.told c.play.ensures.known c.in_ok-push_end.ensures

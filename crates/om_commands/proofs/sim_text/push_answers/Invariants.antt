@@ -3,4 +3,4 @@ use Rattle.om_commands.specs.SimText.{answers_text}
 use Rattle.om_commands.proofs.sim_text.push_answers.Given as goal
 
 abbrev pub invariant-loop-answer : goal.invariant-loop-answer
-invariant-loop-answer l = string_bytes l.text ≡ string_bytes l.initial.text ++ answers_text (take l.answer-index l.answers)
+invariant-loop-answer l = string_bytes l.text ≡ string_bytes l.initial.text ++ answers_text l.state (take l.answer-index l.answers)
