@@ -2,6 +2,7 @@
 
 ghost use Rattle.std.specs.Prelude.{◌≡◌, ◌↔◌, false, IfOk, IsTrue};
 ghost use Rattle.om_runner.specs.Reports.{nothing};
+ghost use Rattle.om_tables.specs.Refusals.{out_of_memory};
 
 use om_interval::Pid;
 use om_runner::{OpenFault, Opener};
@@ -55,11 +56,11 @@ fn made_anew(fault: OpenFault) -> OpenFault
 
 // Returns why no store is made where its tables are refused.
 pub(crate) fn refusal_of(error: TablesError) -> OpenFault
-    ensures { (result ≡ OpenFault.Memory) ↔ (error ≡ TablesError.Memory) }
+    ensures { (result ≡ OpenFault.Memory) ↔ (error ≡ TablesError.Refused out_of_memory) }
 {
     match error {
-        TablesError::Memory => OpenFault::Memory,
-        TablesError::Present | TablesError::NoTables | TablesError::Fault => OpenFault::Refused,
+        TablesError::Refused(refusal) => refusal_of_opening(&refusal.error()),
+        TablesError::Present | TablesError::NoTables => OpenFault::Refused,
     }
 }
 

@@ -7,7 +7,7 @@ use Rattle.sqlite.specs.Compile.{table_defined_by}
 use Rattle.sqlite.specs.Change.{created, next_tree, KeepsRows}
 use Rattle.sqlite.specs.Does.{Tally, lacks_sequence}
 use Rattle.sqlite_tied.specs.Compute.{everything}
-use Rattle.sqlite.specs.declared.error.Error.{Error}
+use Rattle.om_tables.specs.declared.refusal.Refusal.{Refusal}
 use Rattle.sqlite.specs.Listing.{understood}
 use Rattle.sqlite.specs.Effect.{Database}
 use Rattle.sqlite.specs.State.{State, Writes, Executes}
@@ -86,10 +86,10 @@ checkpoints_hold old new count had none h =
     record { schema = m.0; receipts = m.2.0 ∙ none ∙ ap (map stored_row) (sym entries_of_empty); checkpoints = m.1 ∙ ap (map stored_row) (sym entries_of_empty) }
 
 -- as the clauses have them
-pub on_ok : {P : Type 0} (r : Result ℕ Error) → ((count : ℕ) → r ≡ Ok count → P) → OnOk r P
+pub on_ok : {P : Type 0} (r : Result ℕ Refusal) → ((count : ℕ) → r ≡ Ok count → P) → OnOk r P
 on_ok (Ok count) f = f count refl
 on_ok (Err e) f = tt
 
-pub on_err : {P : Type 0} (r : Result ℕ Error) → ((e : Error) → r ≡ Err e → P) → OnErr r P
+pub on_err : {P : Type 0} (r : Result ℕ Refusal) → ((e : Refusal) → r ≡ Err e → P) → OnErr r P
 on_err (Ok count) f = tt
 on_err (Err e) f = f e refl

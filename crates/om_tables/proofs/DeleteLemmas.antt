@@ -37,7 +37,7 @@ use Rattle.om_tables.specs.Tables.{receipts, checkpoints, store_schema, stored_r
 use Rattle.om_tables.specs.Store.{Holds, rows_for}
 use Rattle.om_tables.specs.steps.Statements.{GoesOn, Goes, Performs}
 use Rattle.om_tables.proofs.InsertLemmas.{keeps_then}
-use Rattle.sqlite.specs.declared.error.Error.{Error}
+use Rattle.om_tables.specs.declared.refusal.Refusal.{Refusal}
 use Rattle.om_tables.proofs.QueryLemmas.{over, up_to, under, and_true, matched, entries_rise}
 use Rattle.std.specs.Cmp.{nat_cmp_total}
 use Rattle.std.specs.FinMap.{entries, entries_sorted, entries-from_sorted, get-from_sorted, get-entries, retain_keys, from_sorted, same_map, nat_cmp-IsAntisymmetric}
@@ -279,7 +279,7 @@ pub prune_checkpoints : (old new : State) (a : ℕ) (c : Content) (count : ℕ) 
 prune_checkpoints old new a c count had h = removes_checkpoints Lt prune_checkpoints_text prune_checkpoints_is prune_checkpoints_plain a (λ x. nat_lt x a) (λ x. nat_le a x) (prune_checkpoints_passes a) (prune_checkpoints_turns a) old new c count had h
 
 -- ---- two statements
-abbrev done : {A : Type 0} → A → Result A Error
+abbrev done : {A : Type 0} → A → Result A Refusal
 done x = Ok x
 
 goes_ok : {A B C : Type 0} {f g : Content → Content} (old mid new : State) (x : A) (y : C) → Goes f old mid (done x) → {z : B} → Goes g mid new (done z) → Goes (λ k. g (f k)) old new (done y)

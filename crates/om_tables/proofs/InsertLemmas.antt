@@ -16,6 +16,8 @@ use Rattle.sqlite.specs.Rows.{Written}
 use Rattle.sqlite.specs.Tree.{Trees, put_row}
 use Rattle.sqlite_tied.specs.Compute.{everything}
 use Rattle.sqlite.specs.declared.error.Error.{Error}
+use Rattle.om_tables.specs.declared.refusal.Refusal.{Refusal}
+use Rattle.om_tables.specs.steps.Answers.{answered}
 use Rattle.sqlite.specs.Listing.{understood}
 use Rattle.sqlite.specs.Effect.{Database}
 use Rattle.sqlite.specs.State.{State, HasCleanDisk, mode_of, Executes, ExecutesInside, KeepsCommit, FailsToQuery, IsNotRun}
@@ -136,9 +138,9 @@ pub same_keeps : (old new : State) → new ≡ old → KeepsCommit old new
 same_keeps old new same = subst (KeepsCommit old) (sym same) (record { was_open = λ h. h; committed = λ h. refl })
 
 -- and so does one that is done
-pub keeps : (old new : State) (sql : List ℕ) (params : Row) (r : Result ℕ Error) → ExecutesInside 0 sql params old new r → KeepsCommit old new
+pub keeps : (old new : State) (sql : List ℕ) (params : Row) (r : Result ℕ Refusal) → ExecutesInside 0 sql params old new (answered r) → KeepsCommit old new
 keeps old new sql params (Ok count) h = record { was_open = λ _. h.1.was_open; committed = λ _. h.1.committed_is }
-keeps old new sql params (Err e) h = fails old new sql params e h
+keeps old new sql params (Err e) h = fails old new sql params e.error h
 
 pub keeps_then : (a b c : State) → KeepsCommit a b → KeepsCommit b c → KeepsCommit a c
 keeps_then a b c p q = record { was_open = λ h. p.was_open (q.was_open h); committed = λ h. q.committed h ∙ p.committed (q.was_open h) }
@@ -161,9 +163,9 @@ uncommitted_then old mid last e kept fails here begun =
     was_open mid last e (inl fails) here = fails.3.was_open here
     was_open mid last e (inr (_, _, same)) here = same.0.was_open
 
-pub err_then : {A : Type 0} {P : Error → Type 0} {Q : Type 0} (r : Result A Error) → IfErr r P → ((e : Error) → P e → Q) → OnErr r Q
+pub err_then : {A : Type 0} {P : Error → Type 0} {Q : Type 0} (r : Result A Refusal) → IfErr r (λ e. P e.error) → ((e : Error) → P e → Q) → OnErr r Q
 err_then (Ok a) h f = tt
-err_then (Err e) h f = f e h
+err_then (Err e) h f = f e.error h
 
 -- A query that is refused changes nothing, or rolls back, which outside a transaction is the same.
 pub unharmed : (old new : State) (sql : List ℕ) (params : Row) (e : Error) → IsPlain (understood old.now.schema sql) → FailsToQuery sql params old new e → IsTrue new.is_open → old.now ≡ old.committed
@@ -177,12 +179,12 @@ unharmed old new sql params e plain (inr h) here settled =
     (same.3.0.now_is, same.3.0.committed_is)
 
 -- a statement in a transaction
-goes : {f : Content → Content} (old new : State) (text : List ℕ) (params : Row) (r : Result ℕ Error)
-    → (IsTrue old.in_transaction → ExecutesInside 0 text params old new r) → (old.in_transaction ≡ false → new ≡ old)
+goes : {f : Content → Content} (old new : State) (text : List ℕ) (params : Row) (r : Result ℕ Refusal)
+    → (IsTrue old.in_transaction → ExecutesInside 0 text params old new (answered r)) → (old.in_transaction ≡ false → new ≡ old)
     → ((c : Content) (count : ℕ) → Holds old.now c → ExecutesInside 0 text params old new (Ok count) → GoesOn old new (f c)) → Goes f old new r
 goes old new text params r runs ended puts = record {
-  put = λ c had begun. on_ok r (λ count is. puts c count had (subst (ExecutesInside 0 text params old new) is (runs begun)));
-  goes_on = λ begun. on_ok r (λ count is. still_begun old new text params count (subst (ExecutesInside 0 text params old new) is (runs begun)));
+  put = λ c had begun. on_ok r (λ count is. puts c count had (subst (λ it. ExecutesInside 0 text params old new (answered it)) is (runs begun)));
+  goes_on = λ begun. on_ok r (λ count is. still_begun old new text params count (subst (λ it. ExecutesInside 0 text params old new (answered it)) is (runs begun)));
   kept = elim (cases_Bool old.in_transaction) [
     | inl begun ↦ keeps old new text params r (runs begun)
     | inr none ↦ same_keeps old new (ended none)
@@ -190,19 +192,19 @@ goes old new text params r runs ended puts = record {
 }
 
 -- a statement inside a transaction, by what its text means
-pub performs : {f : Content → Content} (old new : State) (text : List ℕ) (params : Row) (r : Result ℕ Error)
-    → (HasCleanDisk new → HasCleanDisk old) → (HasCleanDisk new → IsTrue old.in_transaction → ExecutesInside 0 text params old new r)
+pub performs : {f : Content → Content} (old new : State) (text : List ℕ) (params : Row) (r : Result ℕ Refusal)
+    → (HasCleanDisk new → HasCleanDisk old) → (HasCleanDisk new → IsTrue old.in_transaction → ExecutesInside 0 text params old new (answered r))
     → (old.in_transaction ≡ false → new ≡ old)
     → ((c : Content) (count : ℕ) → Holds old.now c → ExecutesInside 0 text params old new (Ok count) → GoesOn old new (f c)) → Performs f old new r
 performs old new text params r clean runs ended puts = record { step = λ h. goes old new text params r (runs h) ended puts; clean = clean }
 
 -- a statement inside a transaction that makes a table, by what its text means
-pub makes : {Before After : Database → Type 0} (old new : State) (text : List ℕ) (r : Result ℕ Error)
-    → (HasCleanDisk new → IsTrue old.in_transaction → ExecutesInside 0 text [] old new r) → (old.in_transaction ≡ false → new ≡ old)
+pub makes : {Before After : Database → Type 0} (old new : State) (text : List ℕ) (r : Result ℕ Refusal)
+    → (HasCleanDisk new → IsTrue old.in_transaction → ExecutesInside 0 text [] old new (answered r)) → (old.in_transaction ≡ false → new ≡ old)
     → ((count : ℕ) → Before old.now → ExecutesInside 0 text [] old new (Ok count) → After new.now) → Makes Before After old new r
 makes old new text r runs ended made = record {
-  made = λ clean had begun. on_ok r (λ count is. made count had (subst (ExecutesInside 0 text [] old new) is (runs clean begun)));
-  goes_on = λ clean begun. on_ok r (λ count is. still_begun old new text [] count (subst (ExecutesInside 0 text [] old new) is (runs clean begun)));
+  made = λ clean had begun. on_ok r (λ count is. made count had (subst (λ it. ExecutesInside 0 text [] old new (answered it)) is (runs clean begun)));
+  goes_on = λ clean begun. on_ok r (λ count is. still_begun old new text [] count (subst (λ it. ExecutesInside 0 text [] old new (answered it)) is (runs clean begun)));
   kept = λ clean. elim (cases_Bool old.in_transaction) [
     | inl begun ↦ keeps old new text [] r (runs clean begun)
     | inr none ↦ same_keeps old new (ended none)
@@ -210,7 +212,7 @@ makes old new text r runs ended made = record {
 }
 
 -- ---- two statements
-abbrev done : {A : Type 0} → A → Result A Error
+abbrev done : {A : Type 0} → A → Result A Refusal
 done x = Ok x
 
 -- two statements one after the other

@@ -4,6 +4,7 @@ use Rattle.std.specs.declared.alloc.Global.{Global}
 use Rattle.sqlite_schema.specs.declared.command.Returning.{Returning}
 use Rattle.sqlite.specs.Order.{Row}
 use Rattle.sqlite.specs.declared.error.Error.{Error}
+use Rattle.om_tables.specs.declared.refusal.Refusal.{Refusal}
 use Rattle.sqlite.specs.Listing.{understood}
 use Rattle.sqlite.specs.State.{State, HasCleanDisk, Shown, ShowsRows, FailsToQuery, FailsToShow, IsNotRun}
 use Rattle.sqlite.specs.Clock.{timed}
@@ -37,9 +38,9 @@ module _ (sql : List ℕ) (params : Row) (old new : State) where
       go (Some what) (inl it) = it.1.0.was_open
       go (Some what) (inr it) = it.3.was_open here
 
-  was_open : (r : Result (Vec Row Global) Error) → IfOk r (λ rows. Shown sql params old new rows.items) → IfErr r (FailsToQuery sql params old new) → IsTrue new.is_open → IsTrue old.is_open
+  was_open : (r : Result (Vec Row Global) Refusal) → IfOk r (λ rows. Shown sql params old new rows.items) → IfErr r (λ e. FailsToQuery sql params old new e.error) → IsTrue new.is_open → IsTrue old.is_open
   was_open (Ok rows) ok err here = shown_open rows.items ok
-  was_open (Err e) ok err here = fails_open e err here
+  was_open (Err e) ok err here = fails_open e.error err here
 
   shown_same : (rows : List Row) → IsPlain (understood old.now.schema sql) → Shown sql params old new rows → (new.now ≡ old.now) × (new.committed ≡ old.committed)
   unfolding Shown
@@ -51,23 +52,23 @@ module _ (sql : List ℕ) (params : Row) (old new : State) where
   same_of : IsFormed old → (new.now ≡ old.now) × (new.committed ≡ old.committed) → Same old new
   same_of formed is = record { formed = still_formed old new formed is.0 is.1; content = ap content_in is.0 }
 
-  left_same : IsPlain (understood store_schema sql) → (r : Result (Vec Row Global) Error) → IfOk r (λ rows. Shown sql params old new rows.items) → IfErr r (FailsToQuery sql params old new)
+  left_same : IsPlain (understood store_schema sql) → (r : Result (Vec Row Global) Refusal) → IfOk r (λ rows. Shown sql params old new rows.items) → IfErr r (λ e. FailsToQuery sql params old new e.error)
       → IsTrue new.is_open → IsFormed old → Same old new
   left_same plain (Ok rows) ok err here formed = same_of formed (shown_same rows.items (subst (λ s. IsPlain (understood s sql)) (sym formed.holds.schema) plain) ok)
-  left_same plain (Err e) ok err here formed = same_of formed (unharmed old new sql params e (subst (λ s. IsPlain (understood s sql)) (sym formed.holds.schema) plain) err here formed.settled)
+  left_same plain (Err e) ok err here formed = same_of formed (unharmed old new sql params e.error (subst (λ s. IsPlain (understood s sql)) (sym formed.holds.schema) plain) err here formed.settled)
 
-  pub asks : IsPlain (understood store_schema sql) → (r : Result (Vec Row Global) Error) → (HasCleanDisk new → HasCleanDisk old)
-      → (HasCleanDisk new → IfOk r (λ rows. Shown sql params old new rows.items)) → (HasCleanDisk new → IfErr r (FailsToQuery sql params old new)) → Asks old new
+  pub asks : IsPlain (understood store_schema sql) → (r : Result (Vec Row Global) Refusal) → (HasCleanDisk new → HasCleanDisk old)
+      → (HasCleanDisk new → IfOk r (λ rows. Shown sql params old new rows.items)) → (HasCleanDisk new → IfErr r (λ e. FailsToQuery sql params old new e.error)) → Asks old new
   asks plain r clean ok err = record {
     same = λ h here formed. left_same plain r (ok h) (err h) here formed;
     follows = record { clean = clean; was_open = λ h here. was_open r (ok h) (err h) here };
   }
 
-  pub found_by : {Q : List Row → Type 0} (r : Result (Vec Row Global) Error) → IfOk r (λ rows. Shown sql params old new rows.items) → ((rows : List Row) → Shown sql params old new rows → Q rows) → IfOk r (λ rows. Q rows.items)
+  pub found_by : {Q : List Row → Type 0} (r : Result (Vec Row Global) Refusal) → IfOk r (λ rows. Shown sql params old new rows.items) → ((rows : List Row) → Shown sql params old new rows → Q rows) → IfOk r (λ rows. Q rows.items)
   found_by (Ok rows) ok f = f rows.items ok
   found_by (Err e) ok f = tt
 
 -- what rows of both columns read as
-pub shown_back : (r : Result (Vec (ℕ × Vec ℕ Global) Global) Error) (read rows : List Row) (es : List (ℕ × List ℕ)) → IfOk r (λ found. rows_of found.items ≡ map shown_entry read) → read ≡ rows → rows ≡ map shown es → IfOk r (λ found. rows_of found.items ≡ es)
+pub shown_back : (r : Result (Vec (ℕ × Vec ℕ Global) Global) Refusal) (read rows : List Row) (es : List (ℕ × List ℕ)) → IfOk r (λ found. rows_of found.items ≡ map shown_entry read) → read ≡ rows → rows ≡ map shown es → IfOk r (λ found. rows_of found.items ≡ es)
 shown_back (Ok found) read rows es h same is = h ∙ ap (map shown_entry) (same ∙ is) ∙ map_back shown shown_entry (λ e. refl) es
 shown_back (Err e) read rows es h same is = tt

@@ -3,7 +3,7 @@ use Rattle.std.proofs.Common.{◌≡◌, ℕ, [], Bool, true, false, ◌&&◌, N
 use Rattle.std.specs.Prelude.{is_ok, ◌↔◌}
 use Rattle.std.specs.Bool.{OnTrue, OnFalse}
 use Rattle.std.specs.FinMap.{get}
-use Rattle.sqlite.specs.declared.error.Error.{Error}
+use Rattle.om_tables.specs.declared.refusal.Refusal.{Refusal}
 use Rattle.sqlite.specs.Schema.{Schema}
 use Rattle.sqlite.specs.State.{State, HasCleanDisk}
 use Rattle.sqlite_trees.proofs.Doubt as doubt
@@ -33,7 +33,7 @@ was_sure old new follows h = sure_of old (follows.clean (clean_of new h)) (follo
 pub still : (old new : State) → Asks old new → IsTrue (is_sure new) → IsFormed old → Same old new
 still old new asks h was = asks.same (clean_of new h) (open_of new h) was
 
-pub changed : {A : Type 0} (f : Content → Content) (old new : State) (r : Result A Error) → Transacts f old new r
+pub changed : {A : Type 0} (f : Content → Content) (old new : State) (r : Result A Refusal) → Transacts f old new r
     → IsTrue (is_sure new) → IsFormed old → Changed f old new r
 changed f old new (Ok a) done h was =
     let now = done.put (clean_of new h) (content_in old.now) was.holds in
@@ -43,13 +43,13 @@ changed f old new (Err e) done h was =
     record { formed = still_formed old new was (back.0 ∙ sym was.settled) back.1; ok = tt; err = ap content_in (back.0 ∙ sym was.settled) }
 
 -- ---- what `told` hands on
-pub through : {A : Type 0} (P : A → Type 0) (r : Result A StoreError) (o : Result A Error) → IfOk r (λ x. o ≡ Ok x) → IfOk o P → IfOk r P
-through {A} P (Ok x) o is h = subst (λ (o : Result A Error). IfOk o P) is h
+pub through : {A : Type 0} (P : A → Type 0) (r : Result A StoreError) (o : Result A Refusal) → IfOk r (λ x. o ≡ Ok x) → IfOk o P → IfOk r P
+through {A} P (Ok x) o is h = subst (λ (o : Result A Refusal). IfOk o P) is h
 through P (Err e) o is h = tt
 
-pub then_changed : {A : Type 0} (f : Content → Content) (old mid new : State) (r : Result A StoreError) (o : Result A Error) → Same old mid → Changed f mid new o → IfOk r (λ x. o ≡ Ok x) → is_ok r ≡ is_ok o
+pub then_changed : {A : Type 0} (f : Content → Content) (old mid new : State) (r : Result A StoreError) (o : Result A Refusal) → Same old mid → Changed f mid new o → IfOk r (λ x. o ≡ Ok x) → is_ok r ≡ is_ok o
     → OnOk r (content_in new.now ≡ f (content_in old.now)) × OnErr r (content_in new.now ≡ content_in old.now)
-then_changed {A} f old mid new (Ok x) o same change is alike = (subst (λ (o : Result A Error). OnOk o (content_in new.now ≡ f (content_in mid.now))) is change.ok ∙ ap f same.content, tt)
+then_changed {A} f old mid new (Ok x) o same change is alike = (subst (λ (o : Result A Refusal). OnOk o (content_in new.now ≡ f (content_in mid.now))) is change.ok ∙ ap f same.content, tt)
 then_changed f old mid new (Err e) (Err d) same change is alike = (tt, change.err ∙ same.content)
 then_changed f old mid new (Err e) (Ok x) same change is alike = absurd cc
 
@@ -61,11 +61,11 @@ pub always_err : {A E P : Type 0} (r : Result A E) → P → OnErr r P
 always_err (Ok x) p = tt
 always_err (Err e) p = p
 
-pub if_true : {P : Type 0} (o : Result Bool Error) (b : Bool) → IfOk o (λ r. OnTrue r P) → o ≡ Ok b → b ≡ true → P
-if_true {P} o b h is t = subst (λ b. OnTrue b P) t (subst (λ (o : Result Bool Error). IfOk o (λ r. OnTrue r P)) is h)
+pub if_true : {P : Type 0} (o : Result Bool Refusal) (b : Bool) → IfOk o (λ r. OnTrue r P) → o ≡ Ok b → b ≡ true → P
+if_true {P} o b h is t = subst (λ b. OnTrue b P) t (subst (λ (o : Result Bool Refusal). IfOk o (λ r. OnTrue r P)) is h)
 
-pub if_false : {P : Type 0} (o : Result Bool Error) (b : Bool) → IfOk o (λ r. OnFalse r P) → o ≡ Ok b → b ≡ false → P
-if_false {P} o b h is f = subst (λ b. OnFalse b P) f (subst (λ (o : Result Bool Error). IfOk o (λ r. OnFalse r P)) is h)
+pub if_false : {P : Type 0} (o : Result Bool Refusal) (b : Bool) → IfOk o (λ r. OnFalse r P) → o ≡ Ok b → b ≡ false → P
+if_false {P} o b h is f = subst (λ b. OnFalse b P) f (subst (λ (o : Result Bool Refusal). IfOk o (λ r. OnFalse r P)) is h)
 
 -- ---- one interval
 pub taken_one : (held : Records) (x : ℕ) → IsTaken held x 1 → IsSome (get held x)

@@ -1,4 +1,5 @@
 pub mod Store
 pub mod Cached
+pub mod Refusals
 pub mod Tables
 pub mod steps

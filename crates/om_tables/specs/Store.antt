@@ -1,5 +1,5 @@
 -- The content of a store of two tables.
-use Rattle.std.specs.Prelude.{◌≡◌, ℕ, pos, Bool, ◌&&◌, List, [], ◌∷◌, map, codes, length, Any}
+use Rattle.std.specs.Prelude.{◌≡◌, ℕ, pos, Bool, ◌&&◌, List, [], ◌∷◌, map, codes, length, Any, Option}
 use Rattle.std.specs.FinMap as finite
 use Rattle.sqlite.specs.declared.types.Value.{Value}
 use Rattle.sqlite.specs.declared.types.Value.TheVariants.{Int, Blob}
@@ -11,6 +11,7 @@ use Rattle.sqlite.specs.State.{State}
 use Rattle.sqlite.specs.Table.{Table}
 use Rattle.om_stable.specs.Content.{Records, Content}
 use Rattle.om_tables.specs.Tables.{store_schema, stored_row}
+use Rattle.om_tables.specs.declared.refusal.Refusal.{Refusal}
 
 abbrev pub number_in : Value → ℕ
 number_in (Int (pos n)) = n
@@ -41,10 +42,11 @@ pub record IsFormed (s : State) : Type 0 where
   pub holds : Holds s.now (content_in s.now)
   pub settled : s.now ≡ s.committed
 
--- a store, as its clauses see it: its connection, and how often it has failed
+-- a store, as its clauses see it: its connection, how often it has failed, and what the last statement was refused for
 pub record Tables (S : Type 0) : Type 0 where
   pub connection : Held S
   pub failures : ℕ
+  pub last : Option Refusal
 
 -- the connection is open, and its disk has returned what was written
 abbrev pub is_sure : State → Bool

@@ -1,3 +1,4 @@
 pub mod Statements
 pub mod Halfway
 pub mod Codes
+pub mod Answers

@@ -5,33 +5,36 @@ ghost use Rattle.om_tables.specs.steps.Statements.{Follows, Makes, HasNoTables, 
 ghost use Rattle.sqlite.specs.Held.{state};
 ghost use Rattle.sqlite.specs.State.{HasCleanDisk};
 
-use sqlite::{Alter, Connection, Error, Transaction};
+use crate::refusal::{Refusal, commit, execute};
+use sqlite::{Alter, Connection, Transaction};
 
-fn create_receipts<S: Alter>(tx: &mut Transaction<'_, S>) -> Result<usize, Error>
+fn create_receipts<S: Alter>(tx: &mut Transaction<'_, S>) -> Result<usize, Refusal>
     ensures same_reference { tx.new.conn.ghost_name ≡ tx.old.conn.ghost_name }
     ensures makes { Makes HasNoTables HasReceipts
         (state S.Store tx.old.conn.now) (state S.Store tx.new.conn.now) result }
     ensures clean { HasCleanDisk (state S.Store tx.new.conn.now) → HasCleanDisk (state S.Store tx.old.conn.now) }
 {
-    tx.execute(
+    execute(
+        tx,
         "CREATE TABLE receipts (x INTEGER PRIMARY KEY, body BLOB NOT NULL)",
         &[],
     )
 }
 
-fn create_checkpoints<S: Alter>(tx: &mut Transaction<'_, S>) -> Result<usize, Error>
+fn create_checkpoints<S: Alter>(tx: &mut Transaction<'_, S>) -> Result<usize, Refusal>
     ensures same_reference { tx.new.conn.ghost_name ≡ tx.old.conn.ghost_name }
     ensures makes { Makes HasReceipts HoldsNothing
         (state S.Store tx.old.conn.now) (state S.Store tx.new.conn.now) result }
     ensures clean { HasCleanDisk (state S.Store tx.new.conn.now) → HasCleanDisk (state S.Store tx.old.conn.now) }
 {
-    tx.execute(
+    execute(
+        tx,
         "CREATE TABLE checkpoints (x INTEGER PRIMARY KEY, body BLOB NOT NULL)",
         &[],
     )
 }
 
-pub(crate) fn create_both<S: Alter>(tx: &mut Transaction<'_, S>) -> Result<(), Error>
+pub(crate) fn create_both<S: Alter>(tx: &mut Transaction<'_, S>) -> Result<(), Refusal>
     ensures same_reference { tx.new.conn.ghost_name ≡ tx.old.conn.ghost_name }
     ensures makes { Makes HasNoTables HoldsNothing
         (state S.Store tx.old.conn.now) (state S.Store tx.new.conn.now) result }
@@ -43,7 +46,7 @@ pub(crate) fn create_both<S: Alter>(tx: &mut Transaction<'_, S>) -> Result<(), E
 }
 
 // Makes both tables, or none.
-pub(crate) fn create_tables<S: Alter>(conn: &mut Connection<S>) -> Result<(), Error>
+pub(crate) fn create_tables<S: Alter>(conn: &mut Connection<S>) -> Result<(), Refusal>
     requires idle { (state S.Store conn.old).in_transaction ≡ false }
     ensures idle { (state S.Store conn.new).in_transaction ≡ false }
     ensures made { HasCleanDisk (state S.Store conn.new) → HasNoTables (state S.Store conn.old).now
@@ -56,5 +59,5 @@ pub(crate) fn create_tables<S: Alter>(conn: &mut Connection<S>) -> Result<(), Er
 {
     let mut tx = conn.transaction();
     create_both(&mut tx)?;
-    tx.commit()
+    commit(tx)
 }

@@ -5,41 +5,42 @@ ghost use Rattle.om_tables.specs.steps.Statements.{Performs, Transacts};
 ghost use Rattle.om_stable.specs.Content.{kept_by_cut, kept_by_prune};
 ghost use Rattle.sqlite.specs.Held.{state};
 
-use sqlite::{Alter, Connection, Error, Transaction, params};
+use crate::refusal::{Refusal, commit, execute};
+use sqlite::{Alter, Connection, Transaction, params};
 
-fn cut_receipts<S: Alter>(tx: &mut Transaction<'_, S>, r: u32) -> Result<usize, Error>
+fn cut_receipts<S: Alter>(tx: &mut Transaction<'_, S>, r: u32) -> Result<usize, Refusal>
     ensures same_reference { tx.new.conn.ghost_name ≡ tx.old.conn.ghost_name }
     ensures performs { Performs (λ k. record k { receipts = finite.retain_keys k.receipts (λ x. nat_le x r) })
         (state S.Store tx.old.conn.now) (state S.Store tx.new.conn.now) result }
 {
-    tx.execute("DELETE FROM receipts WHERE x > ?1", params![r])
+    execute(tx, "DELETE FROM receipts WHERE x > ?1", params![r])
 }
 
-fn cut_checkpoints<S: Alter>(tx: &mut Transaction<'_, S>, r: u32) -> Result<usize, Error>
+fn cut_checkpoints<S: Alter>(tx: &mut Transaction<'_, S>, r: u32) -> Result<usize, Refusal>
     ensures same_reference { tx.new.conn.ghost_name ≡ tx.old.conn.ghost_name }
     ensures performs { Performs (λ k. record k { checkpoints = finite.retain_keys k.checkpoints (λ x. nat_le x r) })
         (state S.Store tx.old.conn.now) (state S.Store tx.new.conn.now) result }
 {
-    tx.execute("DELETE FROM checkpoints WHERE x > ?1", params![r])
+    execute(tx, "DELETE FROM checkpoints WHERE x > ?1", params![r])
 }
 
-fn prune_receipts<S: Alter>(tx: &mut Transaction<'_, S>, c: u32) -> Result<usize, Error>
+fn prune_receipts<S: Alter>(tx: &mut Transaction<'_, S>, c: u32) -> Result<usize, Refusal>
     ensures same_reference { tx.new.conn.ghost_name ≡ tx.old.conn.ghost_name }
     ensures performs { Performs (λ k. record k { receipts = finite.retain_keys k.receipts (λ x. nat_lt c x) })
         (state S.Store tx.old.conn.now) (state S.Store tx.new.conn.now) result }
 {
-    tx.execute("DELETE FROM receipts WHERE x <= ?1", params![c])
+    execute(tx, "DELETE FROM receipts WHERE x <= ?1", params![c])
 }
 
-fn prune_checkpoints<S: Alter>(tx: &mut Transaction<'_, S>, c: u32) -> Result<usize, Error>
+fn prune_checkpoints<S: Alter>(tx: &mut Transaction<'_, S>, c: u32) -> Result<usize, Refusal>
     ensures same_reference { tx.new.conn.ghost_name ≡ tx.old.conn.ghost_name }
     ensures performs { Performs (λ k. record k { checkpoints = finite.retain_keys k.checkpoints (λ x. nat_le c x) })
         (state S.Store tx.old.conn.now) (state S.Store tx.new.conn.now) result }
 {
-    tx.execute("DELETE FROM checkpoints WHERE x < ?1", params![c])
+    execute(tx, "DELETE FROM checkpoints WHERE x < ?1", params![c])
 }
 
-fn cut_both<S: Alter>(tx: &mut Transaction<'_, S>, r: u32) -> Result<(), Error>
+fn cut_both<S: Alter>(tx: &mut Transaction<'_, S>, r: u32) -> Result<(), Refusal>
     ensures same_reference { tx.new.conn.ghost_name ≡ tx.old.conn.ghost_name }
     ensures performs { Performs (λ k. kept_by_cut k r)
         (state S.Store tx.old.conn.now) (state S.Store tx.new.conn.now) result }
@@ -50,17 +51,17 @@ fn cut_both<S: Alter>(tx: &mut Transaction<'_, S>, r: u32) -> Result<(), Error>
 }
 
 // Removes what stands above `r`, or nothing.
-pub(crate) fn cut<S: Alter>(conn: &mut Connection<S>, r: u32) -> Result<(), Error>
+pub(crate) fn cut<S: Alter>(conn: &mut Connection<S>, r: u32) -> Result<(), Refusal>
     requires idle { (state S.Store conn.old).in_transaction ≡ false }
     ensures idle { (state S.Store conn.new).in_transaction ≡ false }
     ensures transacts { Transacts (λ c. kept_by_cut c r) (state S.Store conn.old) (state S.Store conn.new) result }
 {
     let mut tx = conn.transaction();
     cut_both(&mut tx, r)?;
-    tx.commit()
+    commit(tx)
 }
 
-pub(crate) fn prune_both<S: Alter>(tx: &mut Transaction<'_, S>, at: u32) -> Result<(), Error>
+pub(crate) fn prune_both<S: Alter>(tx: &mut Transaction<'_, S>, at: u32) -> Result<(), Refusal>
     ensures same_reference { tx.new.conn.ghost_name ≡ tx.old.conn.ghost_name }
     ensures performs { Performs (λ k. kept_by_prune k at)
         (state S.Store tx.old.conn.now) (state S.Store tx.new.conn.now) result }
@@ -71,12 +72,12 @@ pub(crate) fn prune_both<S: Alter>(tx: &mut Transaction<'_, S>, at: u32) -> Resu
 }
 
 // Removes what a prune to `at` removes, or nothing.
-pub(crate) fn prune<S: Alter>(conn: &mut Connection<S>, at: u32) -> Result<(), Error>
+pub(crate) fn prune<S: Alter>(conn: &mut Connection<S>, at: u32) -> Result<(), Refusal>
     requires idle { (state S.Store conn.old).in_transaction ≡ false }
     ensures idle { (state S.Store conn.new).in_transaction ≡ false }
     ensures transacts { Transacts (λ c. kept_by_prune c at) (state S.Store conn.old) (state S.Store conn.new) result }
 {
     let mut tx = conn.transaction();
     prune_both(&mut tx, at)?;
-    tx.commit()
+    commit(tx)
 }

@@ -1,3 +1,4 @@
+use crate::refusal::Refusal;
 use thiserror::Error;
 
 /// Why a connection was not taken as a store.
@@ -9,9 +10,7 @@ pub enum TablesError {
     /// It has not the two tables, or something beside them.
     #[error("the tables of a store are not there")]
     NoTables,
-    /// The database refused a statement.
-    #[error("the store failed")]
-    Fault,
-    #[error("no memory")]
-    Memory,
+    /// The database refused a statement, or memory ran out.
+    #[error("{0}")]
+    Refused(Refusal),
 }

@@ -5,9 +5,10 @@ ghost use Rattle.om_stable.specs.declared.stable.TheConstants.{INTERVALS};
 ghost use Rattle.sqlite.specs.Held.{state};
 
 use crate::creating::create_both;
+use crate::refusal::{Refusal, commit, execute, query_all, read};
 use crate::writing::write_records;
 use om_stable::{LedgerTable, WriteBatch};
-use sqlite::{Alter, Connection, Error, Row, Transaction, params};
+use sqlite::{Alter, Connection, Row, Transaction, params};
 use std::alloc::Global;
 
 // The number of a row of a table that holds `first + k`, which is below 2^63.
@@ -18,18 +19,21 @@ fn number_of(first: u64, k: usize) -> i64
     (first + k as u64) as i64
 }
 
-fn create_further<S: Alter>(tx: &mut Transaction<'_, S>) -> Result<(), Error>
+fn create_further<S: Alter>(tx: &mut Transaction<'_, S>) -> Result<(), Refusal>
     ensures same_reference { tx.new.conn.ghost_name ≡ tx.old.conn.ghost_name }
 {
-    tx.execute(
+    execute(
+        tx,
         "CREATE TABLE outputs (x INTEGER PRIMARY KEY, body BLOB NOT NULL)",
         &[],
     )?;
-    tx.execute(
+    execute(
+        tx,
         "CREATE TABLE senders (x INTEGER PRIMARY KEY, body BLOB NOT NULL)",
         &[],
     )?;
-    tx.execute(
+    execute(
+        tx,
         "CREATE TABLE about (x INTEGER PRIMARY KEY, body BLOB NOT NULL)",
         &[],
     )?;
@@ -37,14 +41,14 @@ fn create_further<S: Alter>(tx: &mut Transaction<'_, S>) -> Result<(), Error>
 }
 
 // Makes all five tables, or none.
-pub(crate) fn create_five<S: Alter>(conn: &mut Connection<S>) -> Result<(), Error>
+pub(crate) fn create_five<S: Alter>(conn: &mut Connection<S>) -> Result<(), Refusal>
     requires idle { (state S.Store conn.old).in_transaction ≡ false }
     ensures idle { (state S.Store conn.new).in_transaction ≡ false }
 {
     let mut tx = conn.transaction();
     create_both(&mut tx)?;
     create_further(&mut tx)?;
-    tx.commit()
+    commit(tx)
 }
 
 fn insert_row<S: Alter>(
@@ -52,7 +56,7 @@ fn insert_row<S: Alter>(
     table: LedgerTable,
     x: i64,
     body: &[u8],
-) -> Result<usize, Error>
+) -> Result<usize, Refusal>
     ensures same_reference { tx.new.conn.ghost_name ≡ tx.old.conn.ghost_name }
 {
     let text = match table {
@@ -60,7 +64,7 @@ fn insert_row<S: Alter>(
         LedgerTable::Senders => "INSERT INTO senders (x, body) VALUES (?1, ?2)",
         LedgerTable::About => "INSERT INTO about (x, body) VALUES (?1, ?2)",
     };
-    tx.execute(text, params![x, body])
+    execute(tx, text, params![x, body])
 }
 
 fn insert_rows<S: Alter>(
@@ -68,7 +72,7 @@ fn insert_rows<S: Alter>(
     table: LedgerTable,
     first: u64,
     recs: &[Vec<u8>],
-) -> Result<(), Error>
+) -> Result<(), Refusal>
     requires { first + length recs.now ≤ LEDGER_NUMBERS }
     ensures same_reference { tx.new.conn.ghost_name ≡ tx.old.conn.ghost_name }
 {
@@ -84,21 +88,21 @@ pub(crate) fn put_rows<S: Alter>(
     table: LedgerTable,
     first: u64,
     recs: &[Vec<u8>],
-) -> Result<(), Error>
+) -> Result<(), Refusal>
     requires fits { first + length recs.now ≤ LEDGER_NUMBERS }
     requires idle { (state S.Store conn.old).in_transaction ≡ false }
     ensures idle { (state S.Store conn.new).in_transaction ≡ false }
 {
     let mut tx = conn.transaction();
     insert_rows(&mut tx, table, first, recs)?;
-    tx.commit()
+    commit(tx)
 }
 
 // Writes all of a batch, or nothing of it.
 pub(crate) fn write_five<S: Alter>(
     conn: &mut Connection<S>,
     batch: &WriteBatch<'_>,
-) -> Result<(), Error>
+) -> Result<(), Refusal>
     requires receipts { batch.now.first + length batch.now.receipts.now ≤ INTERVALS }
     requires outputs { batch.now.outputs.first + length batch.now.outputs.recs.now ≤ LEDGER_NUMBERS }
     requires senders { batch.now.senders.first + length batch.now.senders.recs.now ≤ LEDGER_NUMBERS }
@@ -110,10 +114,13 @@ pub(crate) fn write_five<S: Alter>(
     write_records(&mut tx, batch)?;
     insert_rows(&mut tx, LedgerTable::Outputs, outputs.first, outputs.recs)?;
     insert_rows(&mut tx, LedgerTable::Senders, senders.first, senders.recs)?;
-    tx.commit()
+    commit(tx)
 }
 
-fn rows_in_table<S: Alter>(conn: &mut Connection<S>, table: LedgerTable) -> Result<Vec<Row>, Error>
+fn rows_in_table<S: Alter>(
+    conn: &mut Connection<S>,
+    table: LedgerTable,
+) -> Result<Vec<Row>, Refusal>
     requires idle { (state S.Store conn.old).in_transaction ≡ false }
     ensures idle { (state S.Store conn.new).in_transaction ≡ false }
 {
@@ -122,12 +129,12 @@ fn rows_in_table<S: Alter>(conn: &mut Connection<S>, table: LedgerTable) -> Resu
         LedgerTable::Senders => "SELECT x, body FROM senders ORDER BY x",
         LedgerTable::About => "SELECT x, body FROM about ORDER BY x",
     };
-    conn.query_all(text, &[])
+    query_all(conn, text, &[])
 }
 
 // The number and the bytes that a row shows. A number below 0 is out of range.
-fn numbered_in(row: &Row) -> Result<(u64, Vec<u8>), Error> {
-    Ok((row.get(0)?, row.get(1)?))
+fn numbered_in(row: &Row) -> Result<(u64, Vec<u8>), Refusal> {
+    Ok((read(row, 0)?, read(row, 1)?))
 }
 
 // Returns all of a table, ascending.
@@ -135,7 +142,7 @@ pub(crate) fn all_in<S: Alter>(
     conn: &mut Connection<S>,
     alloc: Global,
     table: LedgerTable,
-) -> Result<Vec<(u64, Vec<u8>)>, Error>
+) -> Result<Vec<(u64, Vec<u8>)>, Refusal>
     requires idle { (state S.Store conn.old).in_transaction ≡ false }
     ensures idle { (state S.Store conn.new).in_transaction ≡ false }
 {

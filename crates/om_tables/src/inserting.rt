@@ -6,18 +6,20 @@ ghost use Rattle.om_stable.specs.declared.stable.TheConstants.{INTERVALS};
 ghost use Rattle.std.specs.FinMap as finite;
 ghost use Rattle.sqlite.specs.Held.{state};
 
-use sqlite::{Alter, Connection, Error, Transaction, params};
+use crate::refusal::{Refusal, commit, execute};
+use sqlite::{Alter, Connection, Transaction, params};
 
 fn insert_receipt<S: Alter>(
     tx: &mut Transaction<'_, S>,
     x: u32,
     body: &[u8],
-) -> Result<usize, Error>
+) -> Result<usize, Refusal>
     ensures same_reference { tx.new.conn.ghost_name ≡ tx.old.conn.ghost_name }
     ensures performs { Performs (λ c. record c { receipts = finite.insert c.receipts x body.now })
         (state S.Store tx.old.conn.now) (state S.Store tx.new.conn.now) result }
 {
-    tx.execute(
+    execute(
+        tx,
         "INSERT INTO receipts (x, body) VALUES (?1, ?2)",
         params![x, body],
     )
@@ -27,12 +29,13 @@ pub(crate) fn insert_checkpoint<S: Alter>(
     tx: &mut Transaction<'_, S>,
     x: u32,
     body: &[u8],
-) -> Result<usize, Error>
+) -> Result<usize, Refusal>
     ensures same_reference { tx.new.conn.ghost_name ≡ tx.old.conn.ghost_name }
     ensures performs { Performs (λ c. with_checkpoint c x body.now)
         (state S.Store tx.old.conn.now) (state S.Store tx.new.conn.now) result }
 {
-    tx.execute(
+    execute(
+        tx,
         "INSERT INTO checkpoints (x, body) VALUES (?1, ?2)",
         params![x, body],
     )
@@ -42,7 +45,7 @@ pub(crate) fn insert_receipts<S: Alter>(
     tx: &mut Transaction<'_, S>,
     first: u32,
     recs: &[Vec<u8>],
-) -> Result<(), Error>
+) -> Result<(), Refusal>
     requires { first + length recs.now ≤ INTERVALS }
     ensures same_reference { tx.new.conn.ghost_name ≡ tx.old.conn.ghost_name }
     ensures performs { Performs (λ c. with_receipts c first (bytes_of recs.now))
@@ -59,7 +62,7 @@ pub(crate) fn put_receipts<S: Alter>(
     conn: &mut Connection<S>,
     first: u32,
     recs: &[Vec<u8>],
-) -> Result<(), Error>
+) -> Result<(), Refusal>
     requires fits { first + length recs.now ≤ INTERVALS }
     requires idle { (state S.Store conn.old).in_transaction ≡ false }
     ensures idle { (state S.Store conn.new).in_transaction ≡ false }
@@ -68,7 +71,7 @@ pub(crate) fn put_receipts<S: Alter>(
 {
     let mut tx = conn.transaction();
     insert_receipts(&mut tx, first, recs)?;
-    tx.commit()
+    commit(tx)
 }
 
 // All or none.
@@ -76,12 +79,12 @@ pub(crate) fn put_checkpoint<S: Alter>(
     conn: &mut Connection<S>,
     x: u32,
     body: &[u8],
-) -> Result<(), Error>
+) -> Result<(), Refusal>
     requires idle { (state S.Store conn.old).in_transaction ≡ false }
     ensures idle { (state S.Store conn.new).in_transaction ≡ false }
     ensures transacts { Transacts (λ c. with_checkpoint c x body.now) (state S.Store conn.old) (state S.Store conn.new) result }
 {
     let mut tx = conn.transaction();
     insert_checkpoint(&mut tx, x, body)?;
-    tx.commit()
+    commit(tx)
 }

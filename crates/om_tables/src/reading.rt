@@ -8,7 +8,8 @@ ghost use Rattle.om_stable.specs.Content.{Records, IsFree, IsTaken, IsEffective,
 ghost use Rattle.om_stable.specs.declared.stable.TheConstants.{INTERVALS};
 ghost use Rattle.sqlite.specs.Held.{state};
 
-use sqlite::{Alter, Connection, Error, Row, params};
+use crate::refusal::{Refusal, query_all, read};
+use sqlite::{Alter, Connection, Row, params};
 use std::alloc::Global;
 
 // A row, where one of the intervals from `first` to `last` has a receipt.
@@ -16,14 +17,15 @@ fn any_receipt_rows<S: Alter>(
     conn: &mut Connection<S>,
     first: u32,
     last: u32,
-) -> Result<Vec<Row>, Error>
+) -> Result<Vec<Row>, Refusal>
     requires idle { (state S.Store conn.old).in_transaction ≡ false }
     ensures idle { (state S.Store conn.new).in_transaction ≡ false }
     ensures found { Told (state S.Store conn.old) (state S.Store conn.new)
         (λ c. IfOk result (λ rows. ShowsAny c.receipts first last rows.items)) }
     ensures asks { Asks (state S.Store conn.old) (state S.Store conn.new) }
 {
-    conn.query_all(
+    query_all(
+        conn,
         "SELECT x FROM receipts WHERE x >= ?1 AND x <= ?2 LIMIT 1",
         params![first, last],
     )
@@ -34,14 +36,15 @@ fn any_checkpoint_rows<S: Alter>(
     conn: &mut Connection<S>,
     first: u32,
     last: u32,
-) -> Result<Vec<Row>, Error>
+) -> Result<Vec<Row>, Refusal>
     requires idle { (state S.Store conn.old).in_transaction ≡ false }
     ensures idle { (state S.Store conn.new).in_transaction ≡ false }
     ensures found { Told (state S.Store conn.old) (state S.Store conn.new)
         (λ c. IfOk result (λ rows. ShowsAny c.checkpoints first last rows.items)) }
     ensures asks { Asks (state S.Store conn.old) (state S.Store conn.new) }
 {
-    conn.query_all(
+    query_all(
+        conn,
         "SELECT x FROM checkpoints WHERE x >= ?1 AND x <= ?2 LIMIT 1",
         params![first, last],
     )
@@ -52,7 +55,7 @@ pub(crate) fn has_any_receipt<S: Alter>(
     conn: &mut Connection<S>,
     first: u32,
     count: usize,
-) -> Result<bool, Error>
+) -> Result<bool, Refusal>
     requires fits { first + count ≤ INTERVALS }
     requires idle { (state S.Store conn.old).in_transaction ≡ false }
     ensures idle { (state S.Store conn.new).in_transaction ≡ false }
@@ -71,7 +74,7 @@ pub(crate) fn has_any_receipt<S: Alter>(
 }
 
 // Returns whether `x` has a checkpoint.
-pub(crate) fn has_checkpoint<S: Alter>(conn: &mut Connection<S>, x: u32) -> Result<bool, Error>
+pub(crate) fn has_checkpoint<S: Alter>(conn: &mut Connection<S>, x: u32) -> Result<bool, Refusal>
     requires idle { (state S.Store conn.old).in_transaction ≡ false }
     ensures idle { (state S.Store conn.new).in_transaction ≡ false }
     ensures taken { Told (state S.Store conn.old) (state S.Store conn.new)
@@ -85,13 +88,13 @@ pub(crate) fn has_checkpoint<S: Alter>(conn: &mut Connection<S>, x: u32) -> Resu
 }
 
 // The interval and the bytes that a row shows.
-fn record_in(row: &Row) -> Result<(u32, Vec<u8>), Error>
+fn record_in(row: &Row) -> Result<(u32, Vec<u8>), Refusal>
     ensures { IfOk result (λ found. (found.0, found.1.items) ≡ shown_entry row.now) }
 {
-    Ok((row.get(0)?, row.get(1)?))
+    Ok((read(row, 0)?, read(row, 1)?))
 }
 
-fn records_in(alloc: Global, rows: &[Row]) -> Result<Vec<(u32, Vec<u8>)>, Error>
+fn records_in(alloc: Global, rows: &[Row]) -> Result<Vec<(u32, Vec<u8>)>, Refusal>
     ensures { IfOk result (λ found. rows_of found.items ≡ map shown_entry rows.now) }
 {
     let mut found = Vec::with_capacity(alloc, rows.len())?;
@@ -102,14 +105,19 @@ fn records_in(alloc: Global, rows: &[Row]) -> Result<Vec<(u32, Vec<u8>)>, Error>
 }
 
 // The receipts above `after` and at or below `to`, as rows.
-fn receipt_rows<S: Alter>(conn: &mut Connection<S>, after: u32, to: u32) -> Result<Vec<Row>, Error>
+fn receipt_rows<S: Alter>(
+    conn: &mut Connection<S>,
+    after: u32,
+    to: u32,
+) -> Result<Vec<Row>, Refusal>
     requires idle { (state S.Store conn.old).in_transaction ≡ false }
     ensures idle { (state S.Store conn.new).in_transaction ≡ false }
     ensures found { Told (state S.Store conn.old) (state S.Store conn.new)
         (λ c. IfOk result (λ rows. rows.items ≡ map shown (between c.receipts after to))) }
     ensures asks { Asks (state S.Store conn.old) (state S.Store conn.new) }
 {
-    conn.query_all(
+    query_all(
+        conn,
         "SELECT x, body FROM receipts WHERE x > ?1 AND x <= ?2 ORDER BY x",
         params![after, to],
     )
@@ -121,7 +129,7 @@ pub(crate) fn receipts<S: Alter>(
     alloc: Global,
     after: u32,
     to: u32,
-) -> Result<Vec<(u32, Vec<u8>)>, Error>
+) -> Result<Vec<(u32, Vec<u8>)>, Refusal>
     requires idle { (state S.Store conn.old).in_transaction ≡ false }
     ensures idle { (state S.Store conn.new).in_transaction ≡ false }
     ensures found { Told (state S.Store conn.old) (state S.Store conn.new)
@@ -133,20 +141,21 @@ pub(crate) fn receipts<S: Alter>(
 }
 
 // The greatest checkpoint at or below `x`, as a row, if there is one.
-fn effective_rows<S: Alter>(conn: &mut Connection<S>, x: u32) -> Result<Vec<Row>, Error>
+fn effective_rows<S: Alter>(conn: &mut Connection<S>, x: u32) -> Result<Vec<Row>, Refusal>
     requires idle { (state S.Store conn.old).in_transaction ≡ false }
     ensures idle { (state S.Store conn.new).in_transaction ≡ false }
     ensures found { Told (state S.Store conn.old) (state S.Store conn.new)
         (λ c. IfOk result (λ rows. ShowsEffective c.checkpoints x rows.items)) }
     ensures asks { Asks (state S.Store conn.old) (state S.Store conn.new) }
 {
-    conn.query_all(
+    query_all(
+        conn,
         "SELECT x, body FROM checkpoints WHERE x <= ?1 ORDER BY x DESC LIMIT 1",
         params![x],
     )
 }
 
-fn first_in(rows: &[Row]) -> Result<Option<(u32, Vec<u8>)>, Error>
+fn first_in(rows: &[Row]) -> Result<Option<(u32, Vec<u8>)>, Refusal>
     ensures effective { (held : Records) (x : ℕ) → ShowsEffective held x rows.now
         → IfOk result (λ found. IfSome found (λ e. IsEffective held x e.0)) }
     ensures bytes { (held : Records) (x : ℕ) → ShowsEffective held x rows.now
@@ -164,7 +173,7 @@ fn first_in(rows: &[Row]) -> Result<Option<(u32, Vec<u8>)>, Error>
 pub(crate) fn effective<S: Alter>(
     conn: &mut Connection<S>,
     x: u32,
-) -> Result<Option<(u32, Vec<u8>)>, Error>
+) -> Result<Option<(u32, Vec<u8>)>, Refusal>
     requires idle { (state S.Store conn.old).in_transaction ≡ false }
     ensures idle { (state S.Store conn.new).in_transaction ≡ false }
     ensures effective { Told (state S.Store conn.old) (state S.Store conn.new)

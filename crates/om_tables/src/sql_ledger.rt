@@ -6,7 +6,7 @@ ghost use Rattle.sqlite.specs.Held.{state};
 
 use crate::error::TablesError;
 use crate::further::create_five;
-use crate::sql_stable::{SqlStable, refusal_of};
+use crate::sql_stable::SqlStable;
 use om_stable::{Ledger, LedgerTable, Stable, StoreError, WriteBatch};
 use sqlite::{Alter, Connection};
 use sqlite_schema::schema::{Schema, Table};
@@ -38,7 +38,8 @@ impl<S: Alter> Model for SqlLedger<S> {
 
 impl<S: Alter> SqlLedger<S> {
     /// Takes a store up again: makes its five tables in a database that has nothing, and takes one that has these five and
-    /// nothing beside them, in any order. A refusal hands the connection back: NoTables, where it has others, Fault, Memory.
+    /// nothing beside them, in any order. A refusal hands the connection back: NoTables, where it has others, or Refused, with what
+    /// the database answered.
     pub fn take_up(
         _alloc: Global,
         mut conn: Connection<S>,
@@ -58,7 +59,7 @@ impl<S: Alter> SqlLedger<S> {
                 Ok(()) => Ok(SqlLedger {
                     store: SqlStable::over(conn),
                 }),
-                Err(error) => Err((refusal_of(error), conn)),
+                Err(refusal) => Err((TablesError::Refused(refusal), conn)),
             };
         }
         SqlLedger::adopt(conn)
@@ -139,6 +140,7 @@ fn has_table(tables: &[Table], name: &[u8]) -> bool
 
 impl<S: Alter + Drop> Stable for SqlLedger<S> {
     ghost use Rattle.om_stable.specs.declared.error.StoreError.TheVariants.{Fault};
+    ghost use Rattle.om_tables.specs.Refusals.{TellsRefusal};
 
     ghost content = { λ s. content_in (state S.Store s.connection).now };
 
@@ -148,8 +150,8 @@ impl<S: Alter + Drop> Stable for SqlLedger<S> {
 
     ghost IsSound = { λ _. Unit {0} };
 
-    // The count rises at a fault alone.
-    ghost call_gives = { λ old error new. error ≢ Some Fault → new.failures ≡ old.failures };
+    // The count rises at a fault alone, and what a call tells is what the database answered.
+    ghost call_gives = { λ old error new. (error ≢ Some Fault → new.failures ≡ old.failures) × TellsRefusal new.last error };
 
     fn put_receipts(
         &mut self,

@@ -8,6 +8,7 @@ ghost use Rattle.om_stable.specs.Batches.{IsHeld, written};
 ghost use Rattle.om_stable.specs.Content.{IsFree, IsTaken};
 ghost use Rattle.om_stable.specs.declared.ledger.TheConstants.{LEDGER_NUMBERS};
 ghost use Rattle.om_stable.specs.declared.stable.TheConstants.{INTERVALS};
+ghost use Rattle.om_tables.specs.Refusals.{TellsRefusal, out_of_memory};
 ghost use Rattle.om_tables.specs.Tables.{no_schema};
 ghost use Rattle.om_tables.specs.Store.{content_in, IsFormed, HasBothTables, LeavesCommitted, is_sure};
 ghost use Rattle.om_tables.specs.steps.Statements.{Same};
@@ -15,6 +16,7 @@ ghost use Rattle.sqlite.specs.Held.{state};
 
 use crate::creating::create_tables;
 use crate::error::TablesError;
+use crate::refusal::Refusal;
 use crate::{deleting, further, inserting, reading, writing};
 use om_stable::{Ledger, LedgerTable, NewCheckpoint, Stable, StoreError, WriteBatch};
 use sqlite::{Alter, Connection, Error, ErrorCode};
@@ -29,6 +31,7 @@ use std::marker::Model;
 pub struct SqlStable<S: Alter> {
     conn: Connection<S>,
     failures: u64,
+    last: Option<Refusal>,
 }
 
 impl<S: Alter> Model for SqlStable<S> {
@@ -40,14 +43,15 @@ impl<S: Alter> Model for SqlStable<S> {
 
     ghost coded = { tables_code S.code };
 
-    ghost view = { λ s. record { connection = s.conn; failures = s.failures } };
+    ghost view = { λ s. record { connection = s.conn; failures = s.failures; last = s.last } };
 
     ghost invariant = { λ s. s.conn.in_transaction ≡ false };
 }
 
 impl<S: Alter> SqlStable<S> {
     /// Makes the tables in a database that has nothing. A refusal hands the connection back: Present, where there is a
-    /// table, an index or a view, Fault, Memory. Then the database stands as it was, or as it was last committed.
+    /// table, an index or a view, or Refused, with what the database answered. Then the database stands as it was, or as it was last
+    /// committed.
     pub fn create(
         _alloc: Global,
         mut conn: Connection<S>,
@@ -71,8 +75,12 @@ impl<S: Alter> SqlStable<S> {
             return Err((TablesError::Present, conn));
         }
         match create_tables(&mut conn) {
-            Ok(()) => Ok(SqlStable { conn, failures: 0 }),
-            Err(error) => Err((refusal_of(error), conn)),
+            Ok(()) => Ok(SqlStable {
+                conn,
+                failures: 0,
+                last: None,
+            }),
+            Err(refusal) => Err((TablesError::Refused(refusal), conn)),
         }
     }
 
@@ -91,15 +99,26 @@ impl<S: Alter> SqlStable<S> {
         if !has_both_tables(conn.schema()) {
             return Err((TablesError::NoTables, conn));
         }
-        Ok(SqlStable { conn, failures: 0 })
+        Ok(SqlStable::over(conn))
     }
 
     /// The connection, with its tables.
     pub fn into_connection(self) -> Connection<S>
         ensures { result ≡ self.connection }
     {
-        let SqlStable { conn, failures: _ } = self;
+        let SqlStable {
+            conn,
+            failures: _,
+            last: _,
+        } = self;
         conn
+    }
+
+    /// Returns what the database answered to the last statement of the last call that ran any, where it refused that.
+    pub fn last_refusal(&self) -> Option<Refusal>
+        ensures { result ≡ self.now.last }
+    {
+        self.last
     }
 
     // Returns a store over the connection, which has failed at nothing yet.
@@ -108,7 +127,11 @@ impl<S: Alter> SqlStable<S> {
         ensures connection { result.connection ≡ conn }
         ensures count { result.failures ≡ 0 }
     {
-        SqlStable { conn, failures: 0 }
+        SqlStable {
+            conn,
+            failures: 0,
+            last: None,
+        }
     }
 
     // Puts rows into a further table, all of them or none. A number that is taken answers Present.
@@ -119,11 +142,12 @@ impl<S: Alter> SqlStable<S> {
         recs: &[Vec<u8>],
     ) -> Result<(), StoreError>
         requires { first + length recs.now ≤ LEDGER_NUMBERS }
+        ensures tells { TellsRefusal self.new.last (result_err result) }
         ensures fault { result_err result ≡ Some Fault → Rose self.old.failures self.new.failures }
         ensures count { self.old.failures ≤ self.new.failures }
     {
         let put = further::put_rows(&mut self.conn, table, first, recs);
-        put_told(&mut self.failures, put)
+        put_told(&mut self.failures, &mut self.last, put)
     }
 
     // Returns the rows of a further table, ascending.
@@ -133,11 +157,12 @@ impl<S: Alter> SqlStable<S> {
         table: LedgerTable,
     ) -> Result<Vec<(u64, Vec<u8>)>, StoreError>
         ensures never_present { result ≢ Err StoreError.Present }
+        ensures tells { TellsRefusal self.new.last (result_err result) }
         ensures fault { result_err result ≡ Some Fault → Rose self.old.failures self.new.failures }
         ensures count { self.old.failures ≤ self.new.failures }
     {
         let found = further::all_in(&mut self.conn, alloc, table);
-        told(&mut self.failures, found)
+        told(&mut self.failures, &mut self.last, found)
     }
 
     // Writes a batch into all five tables, all of it or nothing. A number that is taken answers Present.
@@ -145,11 +170,12 @@ impl<S: Alter> SqlStable<S> {
         requires receipts { batch.now.first + length batch.now.receipts.now ≤ INTERVALS }
         requires outputs { batch.now.outputs.first + length batch.now.outputs.recs.now ≤ LEDGER_NUMBERS }
         requires senders { batch.now.senders.first + length batch.now.senders.recs.now ≤ LEDGER_NUMBERS }
+        ensures tells { TellsRefusal self.new.last (result_err result) }
         ensures fault { result_err result ≡ Some Fault → Rose self.old.failures self.new.failures }
         ensures count { self.old.failures ≤ self.new.failures }
     {
         let written = further::write_five(&mut self.conn, batch);
-        put_told(&mut self.failures, written)
+        put_told(&mut self.failures, &mut self.last, written)
     }
 
     // Answers Present where one of the `count` intervals from `first` on has a receipt.
@@ -162,12 +188,13 @@ impl<S: Alter> SqlStable<S> {
         ensures same { IsTrue (is_sure (state S.Store self.new.connection)) → IsFormed (state S.Store self.old.connection)
             → Same (state S.Store self.old.connection) (state S.Store self.new.connection) }
         ensures clean { IsTrue (is_sure (state S.Store self.new.connection)) → IsTrue (is_sure (state S.Store self.old.connection)) }
+        ensures tells { TellsRefusal self.new.last (result_err result) }
         ensures fault { result_err result ≡ Some Fault → Rose self.old.failures self.new.failures }
         ensures count { self.old.failures ≤ self.new.failures }
         ensures kept { result_err result ≢ Some Fault → self.new.failures ≡ self.old.failures }
     {
         let found = reading::has_any_receipt(&mut self.conn, first, count);
-        if told(&mut self.failures, found)? {
+        if told(&mut self.failures, &mut self.last, found)? {
             return Err(StoreError::Present);
         }
         Ok(())
@@ -182,12 +209,13 @@ impl<S: Alter> SqlStable<S> {
         ensures same { IsTrue (is_sure (state S.Store self.new.connection)) → IsFormed (state S.Store self.old.connection)
             → Same (state S.Store self.old.connection) (state S.Store self.new.connection) }
         ensures clean { IsTrue (is_sure (state S.Store self.new.connection)) → IsTrue (is_sure (state S.Store self.old.connection)) }
+        ensures tells { TellsRefusal self.new.last (result_err result) }
         ensures fault { result_err result ≡ Some Fault → Rose self.old.failures self.new.failures }
         ensures count { self.old.failures ≤ self.new.failures }
         ensures kept { result_err result ≢ Some Fault → self.new.failures ≡ self.old.failures }
     {
         let found = reading::has_checkpoint(&mut self.conn, x);
-        if told(&mut self.failures, found)? {
+        if told(&mut self.failures, &mut self.last, found)? {
             return Err(StoreError::Present);
         }
         Ok(())
@@ -202,6 +230,7 @@ impl<S: Alter> SqlStable<S> {
         ensures same { IsTrue (is_sure (state S.Store self.new.connection)) → IsFormed (state S.Store self.old.connection)
             → Same (state S.Store self.old.connection) (state S.Store self.new.connection) }
         ensures clean { IsTrue (is_sure (state S.Store self.new.connection)) → IsTrue (is_sure (state S.Store self.old.connection)) }
+        ensures tells { TellsRefusal self.new.last (result_err result) }
         ensures fault { result_err result ≡ Some Fault → Rose self.old.failures self.new.failures }
         ensures count { self.old.failures ≤ self.new.failures }
         ensures kept { result_err result ≢ Some Fault → self.new.failures ≡ self.old.failures }
@@ -223,11 +252,12 @@ impl<S: Alter> SqlStable<S> {
             → IsFormed (state S.Store self.new.connection) }
         ensures clean { IsTrue (is_sure (state S.Store self.new.connection)) → IsTrue (is_sure (state S.Store self.old.connection)) }
         ensures never_present { result ≢ Err StoreError.Present }
+        ensures tells { TellsRefusal self.new.last (result_err result) }
         ensures fault { result_err result ≡ Some Fault → Rose self.old.failures self.new.failures }
         ensures count { self.old.failures ≤ self.new.failures }
     {
         let done = writing::write(&mut self.conn, batch);
-        told(&mut self.failures, done)
+        told(&mut self.failures, &mut self.last, done)
     }
 }
 
@@ -253,48 +283,76 @@ fn are_receipts_and_checkpoints(tables: &[Table]) -> bool
     checkpoints.name.as_slice() == b"checkpoints".as_slice()
 }
 
-// Returns why the tables were not made, by the error of `sqlite`.
-pub(crate) fn refusal_of(error: Error) -> TablesError
-    ensures memory { (result ≡ TablesError.Memory) ↔ (error ≡ Error.SqliteFailure ErrorCode.OutOfMemory) }
-    ensures fault { result ≢ TablesError.Memory → result ≡ TablesError.Fault }
-{
-    match error {
-        Error::SqliteFailure(ErrorCode::OutOfMemory) => TablesError::Memory,
-        _ => TablesError::Fault,
-    }
-}
-
-// Counts an error of `sqlite`, except out of memory.
-fn told<T>(failures: &mut u64, outcome: Result<T, Error>) -> Result<T, StoreError>
+// Notes what a statement answered, and counts a refusal, except out of memory.
+fn told<T>(
+    failures: &mut u64,
+    last: &mut Option<Refusal>,
+    outcome: Result<T, Refusal>,
+) -> Result<T, StoreError>
     ensures ok { IfOk result (λ x. outcome ≡ Ok x) }
     ensures err { is_ok result ≡ is_ok outcome }
+    ensures last { last.new ≡ result_err outcome }
+    ensures tells { TellsRefusal last.new (result_err result) }
     ensures never_present { result ≢ Err StoreError.Present }
-    ensures memory { IsErrOf result StoreError.Memory ↔ IsErrOf outcome (Error.SqliteFailure ErrorCode.OutOfMemory) }
+    ensures memory { IsErrOf result StoreError.Memory ↔ (result_err outcome ≡ Some out_of_memory) }
     ensures fault { result_err result ≡ Some Fault → Rose failures.old failures.new }
     ensures count { failures.old ≤ failures.new }
     ensures kept { result_err result ≢ Some Fault → failures.new ≡ failures.old }
 {
     match outcome {
-        Ok(x) => Ok(x),
-        Err(Error::SqliteFailure(ErrorCode::OutOfMemory)) => Err(StoreError::Memory),
-        Err(_) => {
+        Ok(x) => {
+            *last = None;
+            Ok(x)
+        }
+        Err(refusal) => {
+            *last = Some(refusal);
+            if is_out_of_memory(refusal) {
+                return Err(StoreError::Memory);
+            }
             *failures = failures.saturating_add(1);
             Err(StoreError::Fault)
         }
     }
 }
 
-// Counts an error of `sqlite`, except out of memory and a number that is taken.
-fn put_told(failures: &mut u64, outcome: Result<(), Error>) -> Result<(), StoreError>
+fn is_out_of_memory(refusal: Refusal) -> bool
+    ensures { IsTrue result ↔ (refusal ≡ out_of_memory) }
+{
+    matches!(
+        refusal.error(),
+        Error::SqliteFailure(ErrorCode::OutOfMemory)
+    )
+}
+
+// Notes what a statement answered, and counts a refusal, except out of memory and a number that is taken.
+fn put_told(
+    failures: &mut u64,
+    last: &mut Option<Refusal>,
+    outcome: Result<(), Refusal>,
+) -> Result<(), StoreError>
     ensures ok { is_ok result ≡ is_ok outcome }
+    ensures tells { TellsRefusal last.new (result_err result) }
+    ensures last { last.new ≡ result_err outcome }
     ensures fault { result_err result ≡ Some Fault → Rose failures.old failures.new }
     ensures count { failures.old ≤ failures.new }
 {
+    if is_taken(&outcome) {
+        *last = outcome.err();
+        return Err(StoreError::Present);
+    }
+    told(failures, last, outcome)
+}
+
+// Returns whether a number that was to be put is taken.
+fn is_taken(outcome: &Result<(), Refusal>) -> bool
+    ensures { IsTrue result → is_ok outcome.now ≡ false }
+{
     match outcome {
-        Err(Error::SqliteFailure(ErrorCode::ConstraintViolation(Constraint::PrimaryKey))) => {
-            Err(StoreError::Present)
-        }
-        outcome => told(failures, outcome),
+        Ok(()) => false,
+        Err(refusal) => matches!(
+            refusal.error(),
+            Error::SqliteFailure(ErrorCode::ConstraintViolation(Constraint::PrimaryKey))
+        ),
     }
 }
 
@@ -307,8 +365,8 @@ impl<S: Alter + Drop> Stable for SqlStable<S> {
 
     ghost IsSound = { λ s. IsFormed (state S.Store s.connection) };
 
-    // The count rises at a fault alone.
-    ghost call_gives = { λ old error new. error ≢ Some Fault → new.failures ≡ old.failures };
+    // The count rises at a fault alone, and what a call tells is what the database answered.
+    ghost call_gives = { λ old error new. (error ≢ Some Fault → new.failures ≡ old.failures) × TellsRefusal new.last error };
 
     fn put_receipts(
         &mut self,
@@ -317,25 +375,25 @@ impl<S: Alter + Drop> Stable for SqlStable<S> {
         recs: &[Vec<u8>],
     ) -> Result<(), StoreError> {
         let found = reading::has_any_receipt(&mut self.conn, first, recs.len());
-        if told(&mut self.failures, found)? {
+        if told(&mut self.failures, &mut self.last, found)? {
             return Err(StoreError::Present);
         }
         let put = inserting::put_receipts(&mut self.conn, first, recs);
-        told(&mut self.failures, put)
+        told(&mut self.failures, &mut self.last, put)
     }
 
     fn put_checkpoint(&mut self, _alloc: Global, x: u32, bytes: &[u8]) -> Result<(), StoreError> {
         let found = reading::has_checkpoint(&mut self.conn, x);
-        if told(&mut self.failures, found)? {
+        if told(&mut self.failures, &mut self.last, found)? {
             return Err(StoreError::Present);
         }
         let put = inserting::put_checkpoint(&mut self.conn, x, bytes);
-        told(&mut self.failures, put)
+        told(&mut self.failures, &mut self.last, put)
     }
 
     fn effective(&mut self, _alloc: Global, x: u32) -> Result<Option<(u32, Vec<u8>)>, StoreError> {
         let found = reading::effective(&mut self.conn, x);
-        told(&mut self.failures, found)
+        told(&mut self.failures, &mut self.last, found)
     }
 
     fn receipts(
@@ -345,17 +403,17 @@ impl<S: Alter + Drop> Stable for SqlStable<S> {
         to: u32,
     ) -> Result<Vec<(u32, Vec<u8>)>, StoreError> {
         let found = reading::receipts(&mut self.conn, alloc, after, to);
-        told(&mut self.failures, found)
+        told(&mut self.failures, &mut self.last, found)
     }
 
     fn cut(&mut self, _alloc: Global, r: u32) -> Result<(), StoreError> {
         let done = deleting::cut(&mut self.conn, r);
-        told(&mut self.failures, done)
+        told(&mut self.failures, &mut self.last, done)
     }
 
     fn prune(&mut self, _alloc: Global, c: u32) -> Result<(), StoreError> {
         let done = deleting::prune(&mut self.conn, c);
-        told(&mut self.failures, done)
+        told(&mut self.failures, &mut self.last, done)
     }
 
     fn failures(&self) -> u64 {

@@ -8,13 +8,14 @@ ghost use Rattle.sqlite.specs.Held.{state};
 
 use crate::deleting::prune_both;
 use crate::inserting::{insert_checkpoint, insert_receipts};
+use crate::refusal::{Refusal, commit};
 use om_stable::{NewCheckpoint, WriteBatch};
-use sqlite::{Alter, Connection, Error, Transaction};
+use sqlite::{Alter, Connection, Transaction};
 
 fn insert_new<S: Alter>(
     tx: &mut Transaction<'_, S>,
     checkpoint: Option<NewCheckpoint<'_>>,
-) -> Result<(), Error>
+) -> Result<(), Refusal>
     ensures same_reference { tx.new.conn.ghost_name ≡ tx.old.conn.ghost_name }
     ensures performs { Performs (λ c. with_new c checkpoint.entry)
         (state S.Store tx.old.conn.now) (state S.Store tx.new.conn.now) result }
@@ -25,7 +26,7 @@ fn insert_new<S: Alter>(
     Ok(())
 }
 
-fn prune_to<S: Alter>(tx: &mut Transaction<'_, S>, to: Option<u32>) -> Result<(), Error>
+fn prune_to<S: Alter>(tx: &mut Transaction<'_, S>, to: Option<u32>) -> Result<(), Refusal>
     ensures same_reference { tx.new.conn.ghost_name ≡ tx.old.conn.ghost_name }
     ensures performs { Performs (λ c. pruned_to c to)
         (state S.Store tx.old.conn.now) (state S.Store tx.new.conn.now) result }
@@ -36,7 +37,7 @@ fn prune_to<S: Alter>(tx: &mut Transaction<'_, S>, to: Option<u32>) -> Result<()
     Ok(())
 }
 
-fn insert_both<S: Alter>(tx: &mut Transaction<'_, S>, batch: &WriteBatch<'_>) -> Result<(), Error>
+fn insert_both<S: Alter>(tx: &mut Transaction<'_, S>, batch: &WriteBatch<'_>) -> Result<(), Refusal>
     requires { batch.now.first + length batch.now.receipts.now ≤ INTERVALS }
     ensures same_reference { tx.new.conn.ghost_name ≡ tx.old.conn.ghost_name }
     ensures performs { Performs (λ c. with_new (with_receipts c batch.now.first (bytes_of batch.now.receipts.now)) batch.now.checkpoint)
@@ -50,7 +51,7 @@ fn insert_both<S: Alter>(tx: &mut Transaction<'_, S>, batch: &WriteBatch<'_>) ->
 pub(crate) fn write_records<S: Alter>(
     tx: &mut Transaction<'_, S>,
     batch: &WriteBatch<'_>,
-) -> Result<(), Error>
+) -> Result<(), Refusal>
     requires { batch.now.first + length batch.now.receipts.now ≤ INTERVALS }
     ensures same_reference { tx.new.conn.ghost_name ≡ tx.old.conn.ghost_name }
     ensures performs { Performs (written batch.now) (state S.Store tx.old.conn.now) (state S.Store tx.new.conn.now) result }
@@ -61,7 +62,10 @@ pub(crate) fn write_records<S: Alter>(
 }
 
 // Writes the records of a batch, or nothing of it.
-pub(crate) fn write<S: Alter>(conn: &mut Connection<S>, batch: &WriteBatch<'_>) -> Result<(), Error>
+pub(crate) fn write<S: Alter>(
+    conn: &mut Connection<S>,
+    batch: &WriteBatch<'_>,
+) -> Result<(), Refusal>
     requires fits { batch.now.first + length batch.now.receipts.now ≤ INTERVALS }
     requires idle { (state S.Store conn.old).in_transaction ≡ false }
     ensures idle { (state S.Store conn.new).in_transaction ≡ false }
@@ -69,5 +73,5 @@ pub(crate) fn write<S: Alter>(conn: &mut Connection<S>, batch: &WriteBatch<'_>) 
 {
     let mut tx = conn.transaction();
     write_records(&mut tx, batch)?;
-    tx.commit()
+    commit(tx)
 }

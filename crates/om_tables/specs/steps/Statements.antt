@@ -1,7 +1,7 @@
 -- What the code's own steps do to the tables. No public clause cites this.
 use Rattle.std.specs.Prelude.{◌≡◌, ◌⊎◌, ◌+◌, ◌≤◌, ℕ, IsTrue, List, [], ◌∷◌, Some, None, IsSome, Result, OnOk, OnErr}
 use Rattle.std.specs.FinMap as finite
-use Rattle.sqlite.specs.declared.error.Error.{Error}
+use Rattle.om_tables.specs.declared.refusal.Refusal.{Refusal}
 use Rattle.sqlite.specs.Effect.{Database}
 use Rattle.sqlite.specs.Order.{Row, column}
 use Rattle.sqlite.specs.State.{State, HasCleanDisk, KeepsCommit}
@@ -29,7 +29,7 @@ pub record GoesOn (old new : State) (c : Content) : Type 0 where
   pub committed : new.committed ≡ old.committed
 
 -- a statement inside a transaction, which makes this of the content
-pub record Goes {A : Type 0} (f : Content → Content) (old new : State) (r : Result A Error) : Type 0 where
+pub record Goes {A : Type 0} (f : Content → Content) (old new : State) (r : Result A Refusal) : Type 0 where
   pub put : (c : Content) → Holds old.now c → IsTrue old.in_transaction → OnOk r (GoesOn old new (f c))
   pub goes_on : IsTrue old.in_transaction → OnOk r (IsTrue new.in_transaction)
   pub kept : KeepsCommit old new
@@ -50,7 +50,7 @@ abbrev pub HoldsNothing : Database → Type 0
 HoldsNothing db = Holds db (record { receipts = finite.empty; checkpoints = finite.empty })
 
 -- a statement inside a transaction that makes this of a database like that
-pub record Makes {A : Type 0} (Before After : Database → Type 0) (old new : State) (r : Result A Error) : Type 0 where
+pub record Makes {A : Type 0} (Before After : Database → Type 0) (old new : State) (r : Result A Refusal) : Type 0 where
   pub made : HasCleanDisk new → Before old.now → IsTrue old.in_transaction → OnOk r (After new.now)
   pub goes_on : HasCleanDisk new → IsTrue old.in_transaction → OnOk r (IsTrue new.in_transaction)
   pub kept : HasCleanDisk new → KeepsCommit old new
@@ -61,12 +61,12 @@ pub record Follows (old new : State) : Type 0 where
   pub was_open : HasCleanDisk new → IsTrue new.is_open → IsTrue old.is_open
 
 -- a statement inside a transaction
-pub record Performs {A : Type 0} (f : Content → Content) (old new : State) (r : Result A Error) : Type 0 where
+pub record Performs {A : Type 0} (f : Content → Content) (old new : State) (r : Result A Refusal) : Type 0 where
   pub step : HasCleanDisk new → Goes f old new r
   pub clean : HasCleanDisk new → HasCleanDisk old
 
 -- a transaction that makes this of the content, whole or not at all
-pub record Transacts {A : Type 0} (f : Content → Content) (old new : State) (r : Result A Error) : Type 0 where
+pub record Transacts {A : Type 0} (f : Content → Content) (old new : State) (r : Result A Refusal) : Type 0 where
   pub put : Told old new (λ c. OnOk r (Holds new.now (f c)))
   pub settled : HasCleanDisk new → OnOk r (new.committed ≡ new.now)
   pub refused : HasCleanDisk new → IsTrue new.is_open
@@ -74,7 +74,7 @@ pub record Transacts {A : Type 0} (f : Content → Content) (old new : State) (r
   pub follows : Follows old new
 
 -- a change of the content, which is made whole or not at all
-pub record Changed {A : Type 0} (f : Content → Content) (old new : State) (r : Result A Error) : Type 0 where
+pub record Changed {A : Type 0} (f : Content → Content) (old new : State) (r : Result A Refusal) : Type 0 where
   pub formed : IsFormed new
   pub ok : OnOk r (content_in new.now ≡ f (content_in old.now))
   pub err : OnErr r (content_in new.now ≡ content_in old.now)

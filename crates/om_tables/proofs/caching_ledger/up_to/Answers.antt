@@ -1,5 +1,5 @@
-use Rattle.std.proofs.Common.{◌≡◌, ap, ◌∙◌, rules}
-use Rattle.std.specs.Prelude.{nat_le, filter}
+use Rattle.std.proofs.Common.{ap, ◌∙◌, rules}
+use Rattle.std.specs.Prelude.{nat_le}
 use Rattle.std.proofs.lemmas.Fn.{filter_same}
 use Rattle.om_stable.specs.Content.{rows_of}
 use Rattle.om_tables.proofs.CachedLemmas.{shown-kept}

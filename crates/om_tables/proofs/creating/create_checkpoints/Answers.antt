@@ -7,6 +7,6 @@ use Rattle.om_tables.proofs.creating.create_checkpoints.Goals as goal
 pub returns-clause-makes : goal.returns-clause-makes
 returns-clause-makes g c =
     let old = state g.S.Store c.args.tx.now.conn.now in
-    let new = state g.S.Store c.execute.new.self.conn.now in
-    makes old new checkpoints_text c.execute.result c.execute.ensures.runs (λ none. ap (state g.S.Store) (c.execute.ensures.ended none).1)
+    let new = state g.S.Store c.execute.new.tx.conn.now in
+    makes old new checkpoints_text c.execute.result c.execute.ensures.runs (λ none. ap (state g.S.Store) (c.execute.ensures.ended none))
     (λ count had h. checkpoints_hold old new count had.schema had.receipts h.0)

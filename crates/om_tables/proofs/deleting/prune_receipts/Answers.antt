@@ -9,9 +9,9 @@ use Rattle.om_tables.proofs.deleting.prune_receipts.Goals as goal
 pub returns-clause-performs : goal.returns-clause-performs
 returns-clause-performs g a =
     let old = state g.S.Store a.args.tx.now.conn.now in
-    let new = state g.S.Store a.execute.new.self.conn.now in
+    let new = state g.S.Store a.execute.new.tx.conn.now in
     let clean : HasCleanDisk new → HasCleanDisk old = search rules in
     performs old new prune_receipts_text (Int (pos a.args.c) ∷ []) a.execute.result clean
     (λ clean begun. rw a.params-to_sql.ensures at (a.execute.ensures.runs clean begun))
-    (λ none. ap (state g.S.Store) (a.execute.ensures.ended none).1)
+    (λ none. ap (state g.S.Store) (a.execute.ensures.ended none))
     (λ c count had h. prune_receipts old new a.args.c c count had h)

@@ -10,13 +10,13 @@ use Rattle.om_tables.proofs.reading.any_checkpoint_rows.Goals as goal
 pub returns-clause-found : goal.returns-clause-found
 returns-clause-found g c clean had holds =
     let old = state g.S.Store c.args.conn.now in
-    let new = state g.S.Store c.query_all.new.self in
+    let new = state g.S.Store c.query_all.new.conn in
     found_by any_checkpoint_text (Int (pos c.args.first) ∷ Int (pos c.args.last) ∷ []) old new {Q = ShowsAny had.checkpoints c.args.first c.args.last} c.query_all.result (rw (c.params-to_sql.ensures, c.params-to_sql-2.ensures) at (c.query_all.ensures.ok clean)) (λ rows h. any_checkpoint old new had c.args.first c.args.last rows holds h)
 
 pub returns-clause-asks : goal.returns-clause-asks
 returns-clause-asks g c =
     let old = state g.S.Store c.args.conn.now in
-    let new = state g.S.Store c.query_all.new.self in
+    let new = state g.S.Store c.query_all.new.conn in
     let clean : HasCleanDisk new → HasCleanDisk old = search rules in
     asks any_checkpoint_text (Int (pos c.args.first) ∷ Int (pos c.args.last) ∷ []) old new any_checkpoint_plain c.query_all.result clean
     (λ h. rw (c.params-to_sql.ensures, c.params-to_sql-2.ensures) at (c.query_all.ensures.ok h)) (λ h. rw (c.params-to_sql.ensures, c.params-to_sql-2.ensures) at (c.query_all.ensures.err h))

@@ -1,5 +1,4 @@
-use Rattle.std.proofs.Common.{rules, ◌≡◌, ap, sym, ◌∙◌, [], length, IsTrue, true}
-use Rattle.om_tables.specs.Store.{HasFiveTables}
+use Rattle.std.proofs.Common.{rules, ◌≡◌, sym, [], length, IsTrue}
 use Rattle.om_tables.proofs.sql_ledger.has_five_tables.Goals as goal
 
 pub returns : goal.returns

@@ -1,6 +1,6 @@
-use Rattle.std.proofs.Common.{◌≡◌, ap, ◌∙◌, sym, subst, rules}
-use Rattle.std.specs.Prelude.{◌≤◌, IsTrue, nat_le, filter}
-use Rattle.om_stable.specs.Content.{Records, between, rows_of}
+use Rattle.std.proofs.Common.{◌≡◌, ap, ◌∙◌, subst, rules}
+use Rattle.std.specs.Prelude.{nat_le, filter}
+use Rattle.om_stable.specs.Content.{between}
 use Rattle.om_tables.specs.Cached.{Covers, IsOf}
 use Rattle.om_tables.specs.declared.caching_ledger.Cache.TheVariants.{Holds}
 use Rattle.om_tables.proofs.CachedLemmas.{Row, narrowed}

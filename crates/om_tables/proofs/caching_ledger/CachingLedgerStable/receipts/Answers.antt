@@ -1,4 +1,4 @@
-use Rattle.std.proofs.Common.{rules, ◌≡◌, IsTrue, sym, subst, refl, arith}
+use Rattle.std.proofs.Common.{rules, ◌≡◌, sym, subst, arith}
 use Rattle.om_stable.specs.Content.{Content, between, rows_of}
 use Rattle.om_tables.specs.Cached.{IsOf}
 use Rattle.om_tables.proofs.caching_ledger.CachingLedgerStable.receipts.Goals as goal

@@ -1,4 +1,4 @@
-use Rattle.std.proofs.Common.{rules, ◌≡◌, sym, IsTrue}
+use Rattle.std.proofs.Common.{rules, sym, IsTrue}
 use Rattle.om_tables.specs.Store.{HasFiveTables}
 use Rattle.om_tables.proofs.sql_ledger.SqlLedger.adopt.Goals as goal
 

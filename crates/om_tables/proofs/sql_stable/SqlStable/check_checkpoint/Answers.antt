@@ -1,5 +1,5 @@
 use Rattle.sqlite.specs.Held.{state}
-use Rattle.om_tables.proofs.SureLemmas.{clean_of, was_sure, still, always_ok, if_true, if_false, taken_one, free_one}
+use Rattle.om_tables.proofs.SureLemmas.{clean_of, was_sure, still, if_true, if_false, taken_one, free_one}
 use Rattle.om_tables.specs.Store.{content_in}
 use Rattle.om_tables.proofs.sql_stable.SqlStable.check_checkpoint.Goals as goal
 

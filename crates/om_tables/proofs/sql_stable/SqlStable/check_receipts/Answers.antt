@@ -1,5 +1,5 @@
 use Rattle.sqlite.specs.Held.{state}
-use Rattle.om_tables.proofs.SureLemmas.{clean_of, was_sure, still, always_ok, if_true, if_false}
+use Rattle.om_tables.proofs.SureLemmas.{clean_of, was_sure, still, if_true, if_false}
 use Rattle.om_tables.proofs.sql_stable.SqlStable.check_receipts.Goals as goal
 
 pub returns-in_err-told-clause-same : goal.returns-in_err-told-clause-same

@@ -1,12 +1,12 @@
-use Rattle.std.proofs.Common.{rules, ◌≡◌, ◌∙◌, subst, inl, inr}
+use Rattle.std.proofs.Common.{rules, ◌≡◌, ◌∙◌, subst}
 use Rattle.std.specs.Prelude.{None, IfSome, OnOk, OnErr}
 use Rattle.std.specs.FinMap.{get}
 use Rattle.sqlite.specs.Held.{state}
-use Rattle.om_stable.specs.Batches.{IsHeld, written}
+use Rattle.om_stable.specs.Batches.{written}
 use Rattle.om_stable.specs.Content.{Content}
 use Rattle.om_tables.specs.Store.{content_in}
 use Rattle.om_tables.specs.steps.Statements.{Same}
-use Rattle.om_tables.proofs.SureLemmas.{always_ok, always_err}
+use Rattle.om_tables.proofs.SureLemmas.{always_ok}
 use Rattle.om_tables.proofs.sql_stable.SqlStableLedger.put_batch.Goals as goal
 
 pub returns-clause-put : goal.returns-clause-put

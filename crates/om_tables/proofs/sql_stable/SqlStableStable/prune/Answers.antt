@@ -26,7 +26,7 @@ returns-clause-call g c = rw (← c.self.view_is) (
     record {
       fault = search rules;
       count = search rules;
-      gives = search rules;
+      gives = (search rules, search rules);
       clean = was_sure old new transacts.follows;
       sound = λ h formed. (changed _ old new c.prune-done.result transacts h formed).formed;
     })

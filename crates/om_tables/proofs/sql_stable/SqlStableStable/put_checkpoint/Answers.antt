@@ -17,7 +17,7 @@ returns-in_err-told-clause-call g c = rw (← c.self.view_is) (
     record {
       fault = search rules;
       count = search rules;
-      gives = search rules;
+      gives = (search rules, search rules);
       clean = was_sure old mid c.has_checkpoint-found.ensures.asks.follows;
       sound = λ h formed. (still old mid c.has_checkpoint-found.ensures.asks h formed).formed;
     })
@@ -38,7 +38,7 @@ returns-then-branch-clause-call g c = rw (← c.self.view_is) (
     record {
       fault = search rules;
       count = search rules;
-      gives = search rules;
+      gives = (search rules, search rules);
       clean = was_sure old mid c.has_checkpoint-found.ensures.asks.follows;
       sound = λ h formed. (still old mid c.has_checkpoint-found.ensures.asks h formed).formed;
     })
@@ -82,7 +82,7 @@ returns-clause-call g c = rw (← c.self.view_is) (
     record {
       fault = search rules;
       count = search rules;
-      gives = search rules;
+      gives = (search rules, search rules);
       clean = λ h. was_sure old mid asks.follows (was_sure mid new transacts.follows h);
       sound = λ h formed.
           let same : Same old mid = still old mid asks (was_sure mid new transacts.follows h) formed in

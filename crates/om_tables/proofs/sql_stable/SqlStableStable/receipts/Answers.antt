@@ -19,7 +19,7 @@ returns-clause-call g c = rw (← c.self.view_is) (
     record {
       fault = search rules;
       count = search rules;
-      gives = search rules;
+      gives = (search rules, search rules);
       clean = was_sure old new c.receipts-found.ensures.asks.follows;
       sound = λ h formed. (still old new c.receipts-found.ensures.asks h formed).formed;
     })
