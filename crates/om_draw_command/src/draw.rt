@@ -20,7 +20,7 @@ use om_commands::sim::start;
 use om_commands::{CommandError, SimScript, write_answer};
 use om_picture::{MOST_NAME, Picture};
 use om_scripts::{MAX_NAME, Programs};
-use om_sheet::Step;
+use om_sheet::PlayedEvent;
 use om_stable::MemStable;
 use om_svg::picture_text;
 use om_text::{numbered_lines, read_script, read_text};
@@ -150,8 +150,8 @@ fn played_picture(
     let events = first_of(script.events(), count);
     play(alloc, world, events, lines, &mut picture)?;
     let lengths = name_lengths(alloc, programs)?;
-    let standings = standings_of(alloc, world, programs.n())?;
-    let drawn = picture.end(alloc, &standings, &lengths)?;
+    let end_states = standings_of(alloc, world, programs.n())?;
+    let drawn = picture.end(alloc, &end_states, &lengths)?;
     picture_text(alloc, programs, &drawn)
 }
 
@@ -199,7 +199,7 @@ fn play_line(
     world: &mut World<MemStable>,
     line: usize,
     event: Event,
-) -> Result<Step, AllocError>
+) -> Result<PlayedEvent, AllocError>
     requires known { IsKnown world.old }
     ensures played { IfOk result (λ step. Played world.old (event ∷ []) (step.answer ∷ []) world.new) }
     ensures line { IfOk result (λ step. step.line ≡ line) }

@@ -9,14 +9,14 @@ ghost use Rattle.om_world.specs.World.{IsKnown, all_clean};
 
 use om_interval::{MAX_PROCESSES, Pid};
 use om_process::ProcCore;
-use om_sheet::{LABEL_BYTES, Label, Standing, Step, process_of};
+use om_sheet::{EndState, LABEL_BYTES, Label, PlayedEvent, process_of};
 use om_stable::Stable;
 use om_world::{Answer, Event, World};
 use std::alloc::{AllocError, Global};
 
 // What is known of a process before an event.
 #[derive(Clone, Copy)]
-struct Past {
+struct ProcessBefore {
     // The messages that it keeps, by receiver.
     kept: [usize; MAX_PROCESSES],
     // How many outputs it has handed in.
@@ -32,11 +32,11 @@ fn kept_of(core: &ProcCore) -> [usize; MAX_PROCESSES] {
     kept
 }
 
-fn before<S: Stable>(world: &World<S>, p: usize) -> Past
+fn before<S: Stable>(world: &World<S>, p: usize) -> ProcessBefore
     ensures { result.next ≡ handed_by world.now.manager p }
 {
     if p >= world.manager().recovery().n() {
-        return Past {
+        return ProcessBefore {
             kept: [0; MAX_PROCESSES],
             next: 0,
         };
@@ -45,7 +45,7 @@ fn before<S: Stable>(world: &World<S>, p: usize) -> Past
         Some(core) => kept_of(core),
         None => [0; MAX_PROCESSES],
     };
-    Past {
+    ProcessBefore {
         kept,
         next: world.manager().next_output(Pid::at(p)),
     }
@@ -132,8 +132,8 @@ fn step_of<S: Stable>(
     event: Event,
     answer: Answer,
     p: usize,
-    old: &Past,
-) -> Step
+    old: &ProcessBefore,
+) -> PlayedEvent
     ensures line { result.line ≡ line }
     ensures event { result.event ≡ event }
     ensures answer { result.answer ≡ answer }
@@ -141,7 +141,7 @@ fn step_of<S: Stable>(
     ensures fresh { result.fresh ≡ (if makes event answer then handed_by world.now.manager p - old.now.next else 0) }
 {
     let new = before(world, p);
-    Step {
+    PlayedEvent {
         line,
         event,
         answer,
@@ -170,7 +170,7 @@ pub fn play_step<S: Stable>(
     world: &mut World<S>,
     line: usize,
     event: Event,
-) -> Result<Step, AllocError>
+) -> Result<PlayedEvent, AllocError>
     ensures played { IsKnown world.new → IfOk result (λ step. Played world.old (event ∷ []) (step.answer ∷ []) world.new) }
     ensures line { IfOk result (λ step. step.line ≡ line) }
     ensures event { IfOk result (λ step. step.event ≡ event) }
@@ -192,17 +192,17 @@ pub fn standings_of<S: Stable>(
     alloc: Global,
     world: &World<S>,
     n: usize,
-) -> Result<Vec<Option<Standing>>, AllocError> {
-    let mut standings = Vec::new(alloc);
+) -> Result<Vec<Option<EndState>>, AllocError> {
+    let mut end_states = Vec::new(alloc);
     for p in 0..n.min(MAX_PROCESSES) {
-        standings.push(standing_of(world, Pid::at(p)))?;
+        end_states.push(end_state_of(world, Pid::at(p)))?;
     }
-    Ok(standings)
+    Ok(end_states)
 }
 
-fn standing_of<S: Stable>(world: &World<S>, pid: Pid) -> Option<Standing> {
+fn end_state_of<S: Stable>(world: &World<S>, pid: Pid) -> Option<EndState> {
     let core = world.core(pid)?;
-    Some(Standing {
+    Some(EndState {
         inc: core.inc(),
         interval: core.interval(),
         status: core.status(),

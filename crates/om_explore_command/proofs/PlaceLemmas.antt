@@ -8,7 +8,7 @@ use Rattle.std.proofs.lemmas.List.{get_or_append_left, length-append}
 use Rattle.std.proofs.lemmas.Option.{get_or_from_slice_get, slice_get-get_or, slice_get_within, unwrap_or-slice_get}
 use Rattle.om_explore_command.specs.Differences.{DifferFirst}
 use Rattle.om_explore_command.specs.ExplorationText.{DifferAt}
-use Rattle.om_explore_command.specs.declared.difference.Place.{Place}
+use Rattle.om_explore_command.specs.declared.difference.TextPosition.{TextPosition}
 use Rattle.om_explore_command.specs.declared.tally.Found.{Found}
 
 some_same : {X : Type 0} (x y : X) → Some x ≡ Some y → x ≡ y
@@ -29,7 +29,7 @@ push_cases xs x y j at =
     ]
 
 -- one place more
-pub places_more : (n : ℕ) (found : List Found) (places : List (Option Place)) (first this : Found) (p : Option Place) → slice_get found 0 ≡ Some first
+pub places_more : (n : ℕ) (found : List Found) (places : List (Option TextPosition)) (first this : Found) (p : Option TextPosition) → slice_get found 0 ≡ Some first
     → slice_get found (length places) ≡ Some this → DifferFirst n first.outcome.report this.outcome.report p → DifferAt n found places
     → DifferAt n found (places ++ p ∷ [])
 places_more n found places first this p at_first at_this differ before k one other place at_one at_other at = elim (push_cases places p place k at) [

@@ -5,8 +5,8 @@ use Rattle.std.specs.Option.{option_map}
 use Rattle.om_manager.specs.Outputs.{HeldOutput}
 use Rattle.om_runner.specs.declared.report.Report.{Report}
 use Rattle.om_run_commands.specs.Run.{outputs_of}
-use Rattle.om_explore_command.specs.declared.difference.Place.{Place}
-use Rattle.om_explore_command.specs.declared.difference.Place.TheVariants.{Output, End}
+use Rattle.om_explore_command.specs.declared.difference.TextPosition.{TextPosition}
+use Rattle.om_explore_command.specs.declared.difference.TextPosition.TheVariants.{Output, End}
 
 -- the bytes of the output of a number, if there is one
 abbrev pub bytes_in : List HeldOutput → ℕ → Option (List ℕ)
@@ -26,7 +26,7 @@ abbrev pub PutOutSameUpTo : List (List HeldOutput) → List (List HeldOutput) �
 PutOutSameUpTo one other n = (p : ℕ) → p < n → PutOutSame (slice_index_or one p []) (slice_index_or other p [])
 
 -- the first difference of two runs of n processes is at this place, or there is none
-abbrev pub DifferFirst : ℕ → Report → Report → Option Place → Type 0
+abbrev pub DifferFirst : ℕ → Report → Report → Option TextPosition → Type 0
 DifferFirst n one other (Some (Output process number)) = (process < n) × PutOutSameUpTo (outputs_of one) (outputs_of other) process
     × DifferIn (slice_index_or (outputs_of one) process []) (slice_index_or (outputs_of other) process []) number
 DifferFirst n one other (Some (End process)) = (process < n) × PutOutSameUpTo (outputs_of one) (outputs_of other) n

@@ -15,8 +15,8 @@ use Rattle.om_commands.specs.declared.bytes_text.BytesForm.{BytesForm}
 use Rattle.om_run_commands.specs.Run.{outputs_of}
 use Rattle.om_explore_command.specs.Differences.{DifferFirst}
 use Rattle.om_explore_command.specs.Tallies.{text_of}
-use Rattle.om_explore_command.specs.declared.difference.Place.{Place}
-use Rattle.om_explore_command.specs.declared.difference.Place.TheVariants.{Output, End}
+use Rattle.om_explore_command.specs.declared.difference.TextPosition.{TextPosition}
+use Rattle.om_explore_command.specs.declared.difference.TextPosition.TheVariants.{Output, End}
 use Rattle.om_explore_command.specs.declared.exploration.Exploration.{Exploration}
 use Rattle.om_explore_command.specs.declared.tally.Found.{Found}
 
@@ -52,7 +52,7 @@ output_text form (Some output) = bytes_text form output.bytes ++ codes " in inte
 output_text form None = codes "none"
 
 -- what stands at a place in two runs
-abbrev pub place_text : BytesForm → Cluster → Report → Report → Place → List ℕ
+abbrev pub place_text : BytesForm → Cluster → Report → Report → TextPosition → List ℕ
 place_text form cluster one other (Output process number) =
     codes "output " ++ decimal number ++ codes " of " ++ name_at cluster process ++ codes ": "
     ++ output_text form (slice_get (slice_index_or (outputs_of one) process []) number) ++ codes ", "
@@ -62,7 +62,7 @@ place_text form cluster one other (End process) =
     ++ status_text (slice_index_or other.statuses.items process Ready)
 
 -- the line of where the first text and that of a number differ first
-abbrev pub difference_text : BytesForm → Cluster → ℕ → Option Found → Option Found → Option (Option Place) → List ℕ
+abbrev pub difference_text : BytesForm → Cluster → ℕ → Option Found → Option Found → Option (Option TextPosition) → List ℕ
 difference_text form cluster number (Some one) (Some other) (Some (Some place)) =
     codes "texts 1 and " ++ decimal number ++ codes " differ at " ++ place_text form cluster one.outcome.report other.outcome.report place ++ 10 ∷ []
 difference_text form cluster number _ _ _ = []
@@ -78,7 +78,7 @@ runs_text true false runs = decimal runs ++ codes " runs, not all"
 runs_text false false runs = decimal runs ++ codes " runs"
 
 -- a line for each text; one for each that differs from the first; and how many there are
-abbrev pub exploration_text : BytesForm → Cluster → Bool → Exploration → List (Option Place) → List ℕ
+abbrev pub exploration_text : BytesForm → Cluster → Bool → Exploration → List (Option TextPosition) → List ℕ
 exploration_text form cluster is_asked exploration places =
     flat_map (λ k. found_text cluster (k + 1) (slice_get exploration.found.items k)) (range_with_len 0 (length exploration.found.items))
     ++ flat_map (λ k. difference_text form cluster (k + 1) (slice_get exploration.found.items 0) (slice_get exploration.found.items k) (slice_get places k))
@@ -86,17 +86,17 @@ exploration_text form cluster is_asked exploration places =
     ++ texts_text (length exploration.found.items) ++ codes " in " ++ runs_text is_asked exploration.is_all exploration.runs ++ 10 ∷ []
 
 -- at these places the first of what was found and the others differ first
-abbrev pub DifferAt : ℕ → List Found → List (Option Place) → Type 0
-DifferAt n found places = (k : ℕ) (one other : Found) (place : Option Place) → slice_get found 0 ≡ Some one → slice_get found k ≡ Some other
+abbrev pub DifferAt : ℕ → List Found → List (Option TextPosition) → Type 0
+DifferAt n found places = (k : ℕ) (one other : Found) (place : Option TextPosition) → slice_get found 0 ≡ Some one → slice_get found k ≡ Some other
     → slice_get places k ≡ Some place → DifferFirst n one.outcome.report other.outcome.report place
 
 -- there is one for each
-pub record ArePlaces (n : ℕ) (found : List Found) (places : List (Option Place)) : Type 0 where
+pub record ArePlaces (n : ℕ) (found : List Found) (places : List (Option TextPosition)) : Type 0 where
   pub number : length places ≡ length found
   pub each : DifferAt n found places
 
 -- the text of an exploration, of which it is said whether all runs were asked for, with the bytes of outputs in a form
 pub record IsExplorationText (form : BytesForm) (cluster : Cluster) (is_asked : Bool) (exploration : Exploration) (text : List ℕ) : Type 0 where
-  pub places : List (Option Place)
+  pub places : List (Option TextPosition)
   pub are_places : ArePlaces (length cluster.processes) exploration.found.items places
   pub written : text ≡ exploration_text form cluster is_asked exploration places

@@ -17,8 +17,8 @@ use Rattle.om_commands.specs.declared.error.CommandError.TheVariants.{NoMemory, 
 use Rattle.om_explore_command.specs.Differences.{DifferIn, PutOutSameUpTo}
 use Rattle.om_explore_command.specs.Outcomes.{IsOutcome}
 use Rattle.om_explore_command.specs.Tallies.{IsTally}
-use Rattle.om_explore_command.specs.declared.difference.Place.{Place}
-use Rattle.om_explore_command.specs.declared.difference.Place.TheVariants as places
+use Rattle.om_explore_command.specs.declared.difference.TextPosition.{TextPosition}
+use Rattle.om_explore_command.specs.declared.difference.TextPosition.TheVariants as places
 use Rattle.om_explore_command.specs.declared.outcome.Outcome.{Outcome}
 use Rattle.om_explore_command.specs.declared.tally.Found.{Found}
 
@@ -54,13 +54,13 @@ pub record AreOf (n : ℕ) (report : Report) : Type 0 where
   pub statuses : length report.statuses.items ≡ n
 
 -- the first difference in what n processes put out is at this place
-abbrev pub IsOutputPlace : ℕ → List (List HeldOutput) → List (List HeldOutput) → Place → Type 0
+abbrev pub IsOutputPlace : ℕ → List (List HeldOutput) → List (List HeldOutput) → TextPosition → Type 0
 IsOutputPlace n one other (places.Output process number) = (process < n) × PutOutSameUpTo one other process
     × DifferIn (slice_index_or one process []) (slice_index_or other process []) number
 IsOutputPlace n one other (places.End process) = ⊥
 
 -- that in how they ended
-abbrev pub IsEndPlace : ℕ → List Status → List Status → Place → Type 0
+abbrev pub IsEndPlace : ℕ → List Status → List Status → TextPosition → Type 0
 IsEndPlace n one other (places.Output process number) = ⊥
 IsEndPlace n one other (places.End process) = (process < n) × ((p : ℕ) → p < process → slice_get one p ≡ slice_get other p)
     × (slice_get one process ≢ slice_get other process)

@@ -11,7 +11,7 @@ use om_runner::Report;
 
 /// A place in the text of a run.
 #[derive(Clone, Copy, Debug, PartialEq, Eq)]
-pub enum Place {
+pub enum TextPosition {
     /// The output of a number of a process.
     Output { process: usize, number: usize },
     /// How a process ended, or that it waits.
@@ -44,7 +44,7 @@ fn first_output(one: &[Output], other: &[Output]) -> Option<usize>
 }
 
 // The first place at which the outputs of so many processes differ.
-fn output_place(one: &[Vec<Output>], other: &[Vec<Output>], n: usize) -> Option<Place>
+fn output_place(one: &[Vec<Output>], other: &[Vec<Output>], n: usize) -> Option<TextPosition>
     requires one { length one.now ≡ n }
     requires other { length other.now ≡ n }
     ensures some { IfSome result (IsOutputPlace n (held one.now) (held other.now)) }
@@ -52,14 +52,14 @@ fn output_place(one: &[Vec<Output>], other: &[Vec<Output>], n: usize) -> Option<
 {
     for process in 0..n {
         if let Some(number) = first_output(&one[process], &other[process]) {
-            return Some(Place::Output { process, number });
+            return Some(TextPosition::Output { process, number });
         }
     }
     None
 }
 
 // The first place at which the ends of so many processes differ.
-fn end_place(one: &[Status], other: &[Status], n: usize) -> Option<Place>
+fn end_place(one: &[Status], other: &[Status], n: usize) -> Option<TextPosition>
     requires one { length one.now ≡ n }
     requires other { length other.now ≡ n }
     ensures some { IfSome result (IsEndPlace n one.now other.now) }
@@ -67,14 +67,14 @@ fn end_place(one: &[Status], other: &[Status], n: usize) -> Option<Place>
 {
     for process in 0..n {
         if one[process] != other[process] {
-            return Some(Place::End { process });
+            return Some(TextPosition::End { process });
         }
     }
     None
 }
 
 // The first place at which two runs of so many processes differ.
-pub(crate) fn first_difference(one: &Report, other: &Report, n: usize) -> Option<Place>
+pub(crate) fn first_difference(one: &Report, other: &Report, n: usize) -> Option<TextPosition>
     requires one { AreOf n one.now }
     requires other { AreOf n other.now }
     ensures { DifferFirst n one.now other.now result }

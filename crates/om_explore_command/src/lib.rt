@@ -25,7 +25,7 @@ mod text;
 mod texts;
 
 pub use context::ExploreContext;
-pub use difference::Place;
+pub use difference::TextPosition;
 pub use exploration::{Exploration, explored};
 pub use options::Options;
 pub use outcome::Outcome;

@@ -10,7 +10,7 @@ ghost use Rattle.om_run_commands.specs.Run.{outputs_of};
 ghost use Rattle.om_explore_command.specs.ExplorationText.{ArePlaces, IsExplorationText, difference_text, found_line, found_text, is_waiting, output_text, place_text, runs_text, texts_text, waiter_text, waiting_text};
 ghost use Rattle.om_explore_command.specs.steps.{AreOf, OfCluster};
 
-use crate::difference::{Place, first_difference};
+use crate::difference::{TextPosition, first_difference};
 use crate::exploration::Exploration;
 use crate::tally::Found;
 use om_commands::{BytesForm, push_bytes_in, push_status};
@@ -193,7 +193,7 @@ fn push_outputs(
     one: &Report,
     other: &Report,
 ) -> Result<(), AllocError>
-    ensures { OnOk result (string_bytes text.new ≡ string_bytes text.old ++ place_text form programs.now one.now other.now (Place.Output process number)) }
+    ensures { OnOk result (string_bytes text.new ≡ string_bytes text.old ++ place_text form programs.now one.now other.now (TextPosition.Output process number)) }
 {
     let name = name_of(programs, process);
     write!(text, "output {number} of {name}: ")?;
@@ -210,7 +210,7 @@ fn push_ends(
     one: &Report,
     other: &Report,
 ) -> Result<(), AllocError>
-    ensures { OnOk result (string_bytes text.new ≡ string_bytes text.old ++ place_text BytesForm.Hex programs.now one.now other.now (Place.End process)) }
+    ensures { OnOk result (string_bytes text.new ≡ string_bytes text.old ++ place_text BytesForm.Hex programs.now one.now other.now (TextPosition.End process)) }
 {
     let name = name_of(programs, process);
     write!(text, "the end of {name}: ")?;
@@ -225,17 +225,17 @@ fn push_place(
     text: &mut String,
     form: BytesForm,
     programs: &Programs,
-    place: Place,
+    place: TextPosition,
     one: &Report,
     other: &Report,
 ) -> Result<(), AllocError>
     ensures { OnOk result (string_bytes text.new ≡ string_bytes text.old ++ place_text form programs.now one.now other.now place) }
 {
     match place {
-        Place::Output { process, number } => {
+        TextPosition::Output { process, number } => {
             push_outputs(alloc, text, form, programs, process, number, one, other)
         }
-        Place::End { process } => push_ends(text, programs, process, one, other),
+        TextPosition::End { process } => push_ends(text, programs, process, one, other),
     }
 }
 
@@ -248,7 +248,7 @@ fn push_difference(
     number: usize,
     one: &Found,
     other: &Found,
-    place: Place,
+    place: TextPosition,
 ) -> Result<(), AllocError>
     ensures { OnOk result (string_bytes text.new ≡ string_bytes text.old
         ++ difference_text form programs.now number (Some one.now) (Some other.now) (Some (Some place))) }
@@ -275,7 +275,7 @@ fn push_first(
     number: usize,
     one: &Found,
     other: &Found,
-    place: Option<Place>,
+    place: Option<TextPosition>,
 ) -> Result<(), AllocError>
     ensures { OnOk result (string_bytes text.new ≡ string_bytes text.old
         ++ difference_text form programs.now number (Some one.now) (Some other.now) (Some place)) }
@@ -293,7 +293,7 @@ fn push_differences(
     form: BytesForm,
     programs: &Programs,
     found: &[Found],
-    places: &[Option<Place>],
+    places: &[Option<TextPosition>],
 ) -> Result<(), AllocError>
     requires { length places.now ≡ length found.now }
     ensures { OnOk result (string_bytes text.new ≡ string_bytes text.old
@@ -337,7 +337,11 @@ fn push_runs(text: &mut String, is_asked: bool, is_all: bool, runs: u64) -> Resu
 }
 
 // Returns where the first of what was found and each differ first, of so many processes.
-fn places_of(alloc: Global, found: &[Found], n: usize) -> Result<Vec<Option<Place>>, AllocError>
+fn places_of(
+    alloc: Global,
+    found: &[Found],
+    n: usize,
+) -> Result<Vec<Option<TextPosition>>, AllocError>
     requires { All (OfCluster n) found.now }
     ensures { IfOk result (λ places. ArePlaces n found.now places.items) }
 {

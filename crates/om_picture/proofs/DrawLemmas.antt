@@ -24,8 +24,8 @@ use Rattle.om_picture.specs.declared.history.Mark.{Mark}
 use Rattle.om_sheet.specs.declared.sheet.Shape.{Shape}
 use Rattle.om_sheet.specs.declared.sheet.Spot.{Spot}
 use Rattle.om_sheet.specs.declared.shown.Shown.{Shown}
-use Rattle.om_sheet.specs.declared.step.Step.{Step}
-use Rattle.om_picture.specs.steps.Adding.{AreNew, IsAmid, LaneShows, LearnsAll, PlacesEvent, Reaches, SettlesAll, SettlesIf, Shows, ShowsEvent, ShowsOn, Stays, amid_marks, fate_amid, fate_now, freed_below, frees, lane_number, now_marks, shows_at}
+use Rattle.om_sheet.specs.declared.step.PlayedEvent.{PlayedEvent}
+use Rattle.om_picture.specs.steps.Adding.{AreNew, IsAmid, LaneShows, LearnsAll, PlacesEvent, ReachesWindow, SettlesAll, SettlesIf, Shows, ShowsEvent, ShowsOn, Stays, amid_marks, fate_amid, fate_now, freed_below, frees, lane_number, now_marks, shows_at}
 use Rattle.om_picture.proofs.FateLemmas.{end_fate, ended_more, ended_told, first_fate, highest_more, open_fate, place_again, progress_more, progress_told, round_fate, waiting_alike}
 use Rattle.om_picture.proofs.HeldLemmas.{held_more, left_none, left_own}
 use Rattle.om_picture.proofs.LaneLemmas.{all_counted, lane_counted, lanes_alike}
@@ -419,7 +419,7 @@ column_shown n (Some p) rows row a count lanes h =
     ∙ ap (λ (b : Bool). is_shown (shown b row.entry.event row.entry.answer)) (lanes p below).ended ∙ parts.1
 
 -- where an event stands, behind those that are drawn
-placed_behind : (n first : ℕ) (rows : List EventRow) (row : EventRow) (a b m : Sketch) → IsSketchOf n first rows a → Reaches a b row.entry.line
+placed_behind : (n first : ℕ) (rows : List EventRow) (row : EventRow) (a b m : Sketch) → IsSketchOf n first rows a → ReachesWindow a b row.entry.line
     → PlacesEvent b m row → b.on ≡ is_reached first (rows ++ row ∷ []) → IsPlacedBehind n first rows row
 placed_behind n first rows row a b m before reached placed on = record {
   lane = λ (p : ℕ) (is : process_of row.entry.event ≡ Some p) (below : p < n).
@@ -448,7 +448,7 @@ same_all v a b drawn lanes =
     ap (λ (l : List EventMark). l ++ lanes_marks v 0 b.lanes) drawn
     ∙ ap (λ (ls : List LaneState). a.drawn ++ lanes_marks v 0 ls) lanes
 
-sketch_more : (a b m c d e : Sketch) (row : EventRow) → Reaches a b row.entry.line → PlacesEvent b m row → ShowsEvent m c row
+sketch_more : (a b m c d e : Sketch) (row : EventRow) → ReachesWindow a b row.entry.line → PlacesEvent b m row → ShowsEvent m c row
     → LearnsAll row c d → SettlesIf (is_finished row.entry.answer) d e
     → (n first : ℕ) (rows : List EventRow) → IsSketchOf n first rows a → IsSketchOf n first (rows ++ row ∷ []) e
 sketch_more a b m c d e row reached placed shows learns settles n first rows before =
@@ -542,7 +542,7 @@ sketch_more a b m c d e row reached placed shows learns settles n first rows bef
           omega arith;
     }
 
-pub step_drawn : (r : Result (Unit {0}) AllocError) (a b m c d e f : Sketch) (step : Step) (at : Spot) → Reaches a b step.line
+pub step_drawn : (r : Result (Unit {0}) AllocError) (a b m c d e f : Sketch) (step : PlayedEvent) (at : Spot) → ReachesWindow a b step.line
     → PlacesEvent b m (step_row step at) → ShowsEvent m c (step_row step at) → d ≡ c → LearnsAll (step_row step at) d e
     → OnOk r (SettlesIf (is_finished step.answer) e f)
     → OnOk r ((at : Spot) × ((n first : ℕ) (rows : List EventRow) → IsSketchOf n first rows a

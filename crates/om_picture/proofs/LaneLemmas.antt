@@ -18,13 +18,13 @@ use Rattle.om_sheet.specs.Shows.{shown}
 use Rattle.om_picture.specs.declared.history.History.{History}
 use Rattle.om_picture.specs.declared.history.Mark.{Mark}
 use Rattle.om_picture.specs.declared.history.Next.{Next}
-use Rattle.om_sheet.specs.declared.sheet.Form.{Form}
+use Rattle.om_sheet.specs.declared.sheet.Glyph.{Glyph}
 use Rattle.om_sheet.specs.declared.sheet.Shape.{Shape}
 use Rattle.om_sheet.specs.declared.sheet.Spot.{Spot}
 use Rattle.om_sheet.specs.declared.sheet.Title.{Title}
 use Rattle.om_sheet.specs.declared.shown.Shown.{Shown}
 use Rattle.om_sheet.specs.declared.shown.Shown.TheVariants as shows
-use Rattle.om_picture.specs.steps.Adding.{IsMore, Keeps, KeepsWith, Learning, Learns, LearnsAll, LearnsAt, LearnsBelow, Raises, Settles, SettlesAll, SettlesBelow, SettlesLane, SettlesSome, Shows, ShowsAt, Stays, Takes, TakesCovered, TakesFirst, Told, Turns, Waits, amid_marks, fate_amid, fate_now, freed_below, frees, kept, kind_late, lane_number, made_by, now_marks}
+use Rattle.om_picture.specs.steps.Adding.{IsMore, KeepsMarks, KeepsWith, Learning, Learns, LearnsAll, LearnsAt, LearnsBelow, Raises, Settles, SettlesAll, SettlesBelow, SettlesLane, SettlesSome, Shows, ShowsAt, Stays, Takes, TakesCovered, TakesFirst, TellsPlace, Turns, Waits, amid_marks, fate_amid, fate_now, freed_below, frees, kept, kind_late, lane_number, made_by, now_marks}
 use Rattle.om_picture.proofs.FateLemmas.{amid_again, kept_amid, waiting_alike}
 use Rattle.om_picture.proofs.HeldLemmas.{covered_first, covered_none, uncovered_all, uncovered_first}
 
@@ -125,10 +125,10 @@ pub settled_lane : (a b : Sketch) (more : List EventMark) → Settles a b more �
 settled_lane a b more s q = ap (λ (ls : List LaneState). get_or ls q new_lane) s.lanes
 
 -- ---- what is kept
-pub keeps_none : (v : ℕ → LaneState → List EventMark) (s : Sketch) → Keeps v s s
+pub keeps_none : (v : ℕ → LaneState → List EventMark) (s : Sketch) → KeepsMarks v s s
 keeps_none v s = record { on = refl; edge = refl; count = refl; marks = λ (c : EventMark → ℕ). refl }
 
-pub keeps_then : (v : ℕ → LaneState → List EventMark) (a b c : Sketch) → Keeps v a b → Keeps v b c → Keeps v a c
+pub keeps_then : (v : ℕ → LaneState → List EventMark) (a b c : Sketch) → KeepsMarks v a b → KeepsMarks v b c → KeepsMarks v a c
 keeps_then v a b c p q = record {
   on = q.on ∙ p.on;
   edge = q.edge ∙ p.edge;
@@ -137,7 +137,7 @@ keeps_then v a b c p q = record {
 }
 
 turn_keeps : (v : ℕ → LaneState → List EventMark) (Turn : LaneState → LaneState → Type 0) (a b : Sketch) (p : ℕ) → Turns Turn a b p
-    → v p (lane_of b p) ≡ v p (lane_of a p) → Keeps v a b
+    → v p (lane_of b p) ≡ v p (lane_of a p) → KeepsMarks v a b
 turn_keeps v Turn a b p t same = record {
   on = t.on;
   edge = t.edge;
@@ -150,7 +150,7 @@ turn_keeps v Turn a b p t same = record {
 
 -- a mark that is taken and drawn
 taken_keeps : (v : ℕ → LaneState → List EventMark) (Turn : LaneState → LaneState → Type 0) (a b c : Sketch) (p : ℕ) (more : List EventMark)
-    → Turns Turn a b p → Settles b c more → v p (lane_of a p) ≡ more ++ v p (lane_of b p) → Keeps v a c
+    → Turns Turn a b p → Settles b c more → v p (lane_of a p) ≡ more ++ v p (lane_of b p) → KeepsMarks v a c
 taken_keeps v Turn a b c p more t s was = record {
   on = s.on ∙ t.on;
   edge = s.edge ∙ t.edge;
@@ -215,7 +215,7 @@ covered_marks row later p mark a b t =
     ∙ ap (λ (f : Fate). mark_marks mark f ++ amid_marks row later p b)
     (kept_amid row later p mark.interval a.reached a.progress t.covered)
 
-told_still : (place : ℕ) (a b c : LaneState) → Told place a b → Stays b c → Told place a c
+told_still : (place : ℕ) (a b c : LaneState) → TellsPlace place a b → Stays b c → TellsPlace place a c
 told_still place a b c p q = record {
   progress = q.progress ∙ p.progress;
   ended = q.ended ∙ p.ended;
@@ -324,7 +324,7 @@ freed_one row found a b c p on lane is =
     ∙ ap (λ (l : LaneState). if a.on then released_at (frees row p l) (lane_number p) row.entry else []) lane
 
 freed_more : (v : ℕ → LaneState → List EventMark) (row : EventRow) (a b c d : Sketch) (p : ℕ) (more : List EventMark)
-    → KeepsWith (freed_below row a p) v a b → Keeps v b c → Settles c d more
+    → KeepsWith (freed_below row a p) v a b → KeepsMarks v b c → Settles c d more
     → more ≡ (if a.on then released_at (frees row p (lane_of a p)) (lane_number p) row.entry else [])
     → KeepsWith (freed_below row a (p + 1)) v a d
 freed_more v row a b c d p more before at s is =
@@ -608,14 +608,14 @@ shape_added (Ok x) on edge shapes more lanes shape one is added = record {
 }
 shape_added (Err e) on edge shapes more lanes shape one is added = tt
 
-pub form_settles : (r : Result (Unit {0}) AllocError) (a b : Sketch) (shape : Shape) (form : Form) (cut : Bool) (title : Title) (at : Spot)
-    → shape.form ≡ form → shape.cut ≡ cut → shape.title ≡ title → shape.at ≡ at → OnOk r (Settles a b (shape_marks shape))
-    → OnOk r (Settles a b (mark_of (kind_drawn form) cut (title_entry title at)))
-form_settles r a b shape form cut title at form_is cut_is title_is at_is settled =
-    subst (λ (f : Form). OnOk r (Settles a b (mark_of (kind_drawn f) cut (title_entry title at)))) form_is
-    (subst (λ (x : Bool). OnOk r (Settles a b (mark_of (kind_drawn shape.form) x (title_entry title at)))) cut_is
-    (subst (λ (t : Title). OnOk r (Settles a b (mark_of (kind_drawn shape.form) shape.cut (title_entry t at)))) title_is
-    (subst (λ (x : Spot). OnOk r (Settles a b (mark_of (kind_drawn shape.form) shape.cut (title_entry shape.title x)))) at_is settled)))
+pub form_settles : (r : Result (Unit {0}) AllocError) (a b : Sketch) (shape : Shape) (glyph : Glyph) (cut : Bool) (title : Title) (at : Spot)
+    → shape.glyph ≡ glyph → shape.cut ≡ cut → shape.title ≡ title → shape.at ≡ at → OnOk r (Settles a b (shape_marks shape))
+    → OnOk r (Settles a b (mark_of (kind_drawn glyph) cut (title_entry title at)))
+form_settles r a b shape glyph cut title at form_is cut_is title_is at_is settled =
+    subst (λ (f : Glyph). OnOk r (Settles a b (mark_of (kind_drawn f) cut (title_entry title at)))) form_is
+    (subst (λ (x : Bool). OnOk r (Settles a b (mark_of (kind_drawn shape.glyph) x (title_entry title at)))) cut_is
+    (subst (λ (t : Title). OnOk r (Settles a b (mark_of (kind_drawn shape.glyph) shape.cut (title_entry t at)))) title_is
+    (subst (λ (x : Spot). OnOk r (Settles a b (mark_of (kind_drawn shape.glyph) shape.cut (title_entry shape.title x)))) at_is settled)))
 
 -- the marks of a mark that waited: of its outputs, and its own
 late_both : (s : Shown) (fresh : ℕ) (fate : Fate) (entry : EventAt)

@@ -11,7 +11,7 @@ use Rattle.om_sheet.specs.Shows.{process_of, shown}
 use Rattle.om_picture.specs.declared.history.History.{History}
 use Rattle.om_sheet.specs.declared.sheet.Spot.{Spot}
 use Rattle.om_sheet.specs.declared.shown.Shown.{Shown}
-use Rattle.om_sheet.specs.declared.step.Step.{Step}
+use Rattle.om_sheet.specs.declared.step.PlayedEvent.{PlayedEvent}
 use Rattle.om_picture.specs.steps.Adding.{MovesTo, Places, PlacesEvent, lane_number, shows_at}
 use Rattle.om_picture.proofs.LaneLemmas.{lane_at, not_zero}
 
@@ -80,7 +80,7 @@ placed_if (Ok x) shows a b on moved = placed_moved shows x a b on moved
 placed_if (Err e) shows a b on moved = tt
 
 -- an event of a process, and one of none
-pub placed_own : (r : Result Spot AllocError) (a b : Sketch) (step : Step) (p : ℕ) → Some p ≡ process_of step.event
+pub placed_own : (r : Result Spot AllocError) (a b : Sketch) (step : PlayedEvent) (p : ℕ) → Some p ≡ process_of step.event
     → IfOk r (λ at. Places (shows_at (Some p) a (step_row step at)) at.x a b) → IfOk r (λ at. at.lane ≡ lane_number p)
     → IfOk r (λ at. PlacesEvent a b (step_row step at))
 placed_own (Ok at) a b step p is places lane = record {
@@ -92,7 +92,7 @@ placed_own (Ok at) a b step p is places lane = record {
 }
 placed_own (Err e) a b step p is places lane = tt
 
-pub placed_none : (a : Sketch) (step : Step) (at : Spot) → None ≡ process_of step.event → Places false at.x a a
+pub placed_none : (a : Sketch) (step : PlayedEvent) (at : Spot) → None ≡ process_of step.event → Places false at.x a a
     → PlacesEvent a a (step_row step at)
 placed_none a step at is places = record {
   places = subst (λ (o : Option ℕ). Places (shows_at o a (step_row step at)) at.x a a) is places;

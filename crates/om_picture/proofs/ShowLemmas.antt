@@ -13,7 +13,7 @@ use Rattle.om_sheet.specs.declared.sheet.Spot.{Spot}
 use Rattle.om_sheet.specs.declared.sheet.Title.{Title}
 use Rattle.om_sheet.specs.declared.shown.Shown.{Shown}
 use Rattle.om_sheet.specs.declared.shown.Shown.TheVariants as shows
-use Rattle.om_sheet.specs.declared.step.Step.{Step}
+use Rattle.om_sheet.specs.declared.step.PlayedEvent.{PlayedEvent}
 use Rattle.om_picture.specs.steps.Adding.{Ends, GoesBack, IsMore, LaneShows, Logs, Receives, Settles, Shows, Stores, Turns, Waits, ended_shown, progress_shown}
 use Rattle.om_picture.proofs.FateLemmas.{waiting_more}
 use Rattle.om_picture.proofs.LaneLemmas.{settled_lane, settles_none, settles_then}
@@ -305,7 +305,7 @@ freed_none s held p entry none =
     subst (λ (b : Bool). Settles s s (if s.on then released_at b p entry else [])) (sym none)
     (subst (λ (l : List EventMark). Settles s s l) (none_if s.on) (settles_none s))
 
-pub freed_shown : (r : Result (Unit {0}) AllocError) (a b : Sketch) (held : Bool) (p : ℕ) (title : Title) (step : Step) (at to : Spot)
+pub freed_shown : (r : Result (Unit {0}) AllocError) (a b : Sketch) (held : Bool) (p : ℕ) (title : Title) (step : PlayedEvent) (at to : Spot)
     → a.on ≡ true → held ≡ true → to ≡ record { x = at.x; lane = p } → ((spot : Spot) → title_entry title spot ≡ step_entry step spot)
     → OnOk r (Settles a b (mark_of (Some Released) false (title_entry title to)))
     → OnOk r (Settles a b (if a.on then released_at held p (step_entry step at) else []))

@@ -8,7 +8,7 @@ use Rattle.om_world.specs.declared.event.Event.{Event}
 use Rattle.om_world.specs.declared.event.Event.TheVariants as events
 use Rattle.om_sheet.specs.Shows.{end_of, is_finished, process_of}
 use Rattle.om_sheet.specs.declared.sheet.Spot.{Spot}
-use Rattle.om_sheet.specs.declared.step.Step.{Step}
+use Rattle.om_sheet.specs.declared.step.PlayedEvent.{PlayedEvent}
 
 -- an event of a script, the number of its line, its answer, and where it stands in a picture
 pub record EventAt : Type 0 where
@@ -23,10 +23,10 @@ pub record EventRow : Type 0 where
   pub fresh : ℕ
   pub recovery : List ℕ
 
-abbrev pub step_entry : Step → Spot → EventAt
+abbrev pub step_entry : PlayedEvent → Spot → EventAt
 step_entry step at = record { line = step.line; event = step.event; answer = step.answer; at = at }
 
-abbrev pub step_row : Step → Spot → EventRow
+abbrev pub step_row : PlayedEvent → Spot → EventRow
 step_row step at = record { entry = step_entry step at; fresh = step.fresh; recovery = step.recovery }
 
 abbrev pub is_process : ℕ → Option ℕ → Bool

@@ -5,8 +5,8 @@ use Rattle.om_picture.specs.Fates.{EventAt, EventRow, Fate, fate_of, has_ended, 
 use Rattle.om_picture.specs.Held.{releases}
 use Rattle.om_sheet.specs.Shows.{process_of, shown}
 use Rattle.om_sheet.specs.declared.sheet.Drawn.{Drawn}
-use Rattle.om_sheet.specs.declared.sheet.Form.{Form}
-use Rattle.om_sheet.specs.declared.sheet.Form.TheVariants as forms
+use Rattle.om_sheet.specs.declared.sheet.Glyph.{Glyph}
+use Rattle.om_sheet.specs.declared.sheet.Glyph.TheVariants as glyphs
 use Rattle.om_sheet.specs.declared.sheet.Shape.{Shape}
 use Rattle.om_sheet.specs.declared.sheet.Spot.{Spot}
 use Rattle.om_sheet.specs.declared.sheet.Title.{Title}
@@ -48,24 +48,24 @@ mark_of None cut entry = []
 mark_of (Some kind) cut entry = record { kind = kind; cut = cut; entry = entry } ∷ []
 
 -- what a form that is drawn says of its event
-abbrev pub kind_drawn : Form → Option Kind
-kind_drawn (forms.Receipt stored) = Some (Taken stored)
-kind_drawn forms.Checkpoint = Some Saved
-kind_drawn (forms.Stem again) = Some (Stands again)
-kind_drawn (forms.Head released) = Some (Made released)
-kind_drawn forms.End = Some Worked
-kind_drawn forms.Dot = Some Worked
-kind_drawn forms.Refused = Some NotTaken
-kind_drawn (forms.Flush from) = Some Logged
-kind_drawn forms.Failure = Some Failed
-kind_drawn forms.Join = Some Joined
-kind_drawn forms.Back = Some CameBack
-kind_drawn forms.GoesOn = Some WentOn
-kind_drawn forms.Released = Some Released
+abbrev pub kind_drawn : Glyph → Option Kind
+kind_drawn (glyphs.Receipt stored) = Some (Taken stored)
+kind_drawn glyphs.Checkpoint = Some Saved
+kind_drawn (glyphs.Stem again) = Some (Stands again)
+kind_drawn (glyphs.Head released) = Some (Made released)
+kind_drawn glyphs.End = Some Worked
+kind_drawn glyphs.Dot = Some Worked
+kind_drawn glyphs.Refused = Some NotTaken
+kind_drawn (glyphs.Flush from) = Some Logged
+kind_drawn glyphs.Failure = Some Failed
+kind_drawn glyphs.Join = Some Joined
+kind_drawn glyphs.Back = Some CameBack
+kind_drawn glyphs.GoesOn = Some WentOn
+kind_drawn glyphs.Released = Some Released
 
 -- the marks of events among those that are drawn
 abbrev pub shape_marks : Shape → List EventMark
-shape_marks shape = mark_of (kind_drawn shape.form) shape.cut (title_entry shape.title shape.at)
+shape_marks shape = mark_of (kind_drawn shape.glyph) shape.cut (title_entry shape.title shape.at)
 
 -- what was received and is in memory only is stored, if there is such a thing
 abbrev pub log_marks : Bool → EventAt → List EventMark

@@ -4,7 +4,7 @@ ghost use Rattle.std.specs.Prelude.{◌≡◌, ◌+◌, ◌-◌, ◌^◌, ◌<�
 
 use crate::measure::digits;
 use crate::page::{AGAIN, Page};
-use om_sheet::{Road, Style, What};
+use om_sheet::{LabelContent, LaneSegment, Style};
 use std::alloc::AllocError;
 
 /// The height of the numbers of lines.
@@ -91,8 +91,8 @@ impl Page {
             return Ok(());
         }
         self.axis = x.saturating_add(half).saturating_add(8);
-        self.say(Style::Middle, x, AXIS, What::Number(line as u64))?;
-        self.sheet.road.push(Road::Tick { x })?;
+        self.say(Style::Middle, x, AXIS, LabelContent::Number(line as u64))?;
+        self.sheet.segment.push(LaneSegment::Tick { x })?;
         Ok(())
     }
 
@@ -112,7 +112,7 @@ impl Page {
     fn names_at(&mut self, x: u32) -> Result<(), AllocError> {
         for p in 0..self.lanes.len() {
             let y = self.y(p).saturating_add(32);
-            self.say(Style::Grey, x, y, What::Name(p))?;
+            self.say(Style::Grey, x, y, LabelContent::Name(p))?;
         }
         Ok(())
     }

@@ -10,13 +10,13 @@ use crate::column::AXIS;
 use crate::frame::Frame;
 use crate::history::Next;
 use crate::lane::{Stand, lane_y};
-use crate::measure::{CHARACTER, digits, standing_length};
+use crate::measure::{CHARACTER, digits, end_state_length};
 use crate::page::{Page, count_of};
 use crate::picture::Picture;
 use crate::rounds::before;
 use crate::settle::{fate_now, place_of};
 use om_interval::DepVec;
-use om_sheet::{Crossed, Crossing, Drawn, Spot, Standing, Style, Way, What};
+use om_sheet::{Crossing, Drawn, EndState, LabelContent, LineKind, MessageLine, Spot, Style};
 use std::alloc::{AllocError, Global};
 
 // The least width: that of the legend.
@@ -41,13 +41,13 @@ fn group_of(frame: &Frame) -> Group {
 }
 
 // The characters of the longest word behind the lanes.
-fn longest(recovery: DepVec, standings: &[Option<Standing>], lengths: &[u32]) -> u32 {
+fn longest(recovery: DepVec, end_states: &[Option<EndState>], lengths: &[u32]) -> u32 {
     let mut longest = 0;
     for length in lengths {
         longest = longest.max(*length);
     }
-    for standing in standings {
-        longest = longest.max(standing_length(*standing));
+    for end_state in end_states {
+        longest = longest.max(end_state_length(*end_state));
     }
     for place in recovery.as_slice() {
         longest = longest.max(digits(u64::from(*place)).saturating_add(9));
@@ -68,7 +68,7 @@ impl Page {
     // Draws the band of a gathering that is open, within the window.
     fn end_band(&mut self, on: bool, right: u32) -> Result<(), AllocError> {
         match self.opened {
-            Some(opened) if on => self.band(opened, right, What::Gathering),
+            Some(opened) if on => self.band(opened, right, LabelContent::Gathering),
             _ => Ok(()),
         }
     }
@@ -93,25 +93,35 @@ impl Page {
         &mut self,
         p: usize,
         right: u32,
-        standing: Option<Standing>,
+        end_state: Option<EndState>,
         place: u32,
     ) -> Result<(), AllocError> {
         let x = right.saturating_add(12);
         let y = self.y(p);
-        self.say(Style::Plain, x, y.saturating_sub(9), What::Name(p))?;
+        self.say(Style::Plain, x, y.saturating_sub(9), LabelContent::Name(p))?;
         let beside = y.saturating_add(3);
-        self.say(Style::Small, x, beside, What::Standing(standing))?;
-        self.say(Style::Small, x, y.saturating_add(15), What::Place(place))
+        self.say(Style::Small, x, beside, LabelContent::EndState(end_state))?;
+        self.say(
+            Style::Small,
+            x,
+            y.saturating_add(15),
+            LabelContent::Place(place),
+        )
     }
 
     // The words before the lanes.
     fn name_lanes(&mut self) -> Result<(), AllocError> {
         for p in 0..self.lanes.len() {
             let y = self.y(p);
-            self.say(Style::Plain, 16, y, What::Name(p))?;
-            self.say(Style::Grey, 16, y.saturating_add(12), What::Program(p))?;
+            self.say(Style::Plain, 16, y, LabelContent::Name(p))?;
+            self.say(
+                Style::Grey,
+                16,
+                y.saturating_add(12),
+                LabelContent::Program(p),
+            )?;
         }
-        self.say(Style::Grey, 16, AXIS, What::Line)
+        self.say(Style::Grey, 16, AXIS, LabelContent::Line)
     }
 
     // A stub for the frames of an event to one receiver that were never given.
@@ -153,7 +163,7 @@ impl Page {
             lane: group.from,
         };
         let below = group.to > group.from;
-        self.sheet.send.push(Way::Stub { below, from })?;
+        self.sheet.send.push(MessageLine::Stub { below, from })?;
         if group.few == 1 {
             return Ok(());
         }
@@ -164,7 +174,7 @@ impl Page {
             y.saturating_sub(11)
         };
         let x = group.x.saturating_add(12);
-        self.say(Style::Grey, x, y, What::Number(group.few))
+        self.say(Style::Grey, x, y, LabelContent::Number(group.few))
     }
 }
 
@@ -173,7 +183,7 @@ impl Picture {
     pub fn end(
         self,
         alloc: Global,
-        standings: &[Option<Standing>],
+        end_states: &[Option<EndState>],
         lengths: &[u32],
     ) -> Result<Drawn, AllocError>
         ensures { (n first : ℕ) (rows : List EventRow) → IsSketchOf n first rows (sketch_of self)
@@ -182,10 +192,10 @@ impl Picture {
         let mut picture = self;
         let right = picture.page.right(picture.columns.right);
         picture.page.end_band(picture.on, right)?;
-        picture.end_lanes(alloc, right, standings)?;
+        picture.end_lanes(alloc, right, end_states)?;
         picture.page.stubs()?;
         picture.page.name_lanes()?;
-        let longest = longest(picture.recovery, standings, lengths);
+        let longest = longest(picture.recovery, end_states, lengths);
         Ok(picture.drawn(right, longest))
     }
 
@@ -194,7 +204,7 @@ impl Picture {
         &mut self,
         alloc: Global,
         right: u32,
-        standings: &[Option<Standing>],
+        end_states: &[Option<EndState>],
     ) -> Result<(), AllocError>
         ensures { OnOk result (SettlesAll false (sketch_of self.old) (sketch_of self.new)) }
     {
@@ -204,11 +214,11 @@ impl Picture {
             let x = self.end_lane(p, right)?;
             let spot = self.page.spot(p, x);
             places.push(spot)?;
-            let standing = standings.get(p).copied().unwrap_or(None);
+            let end_state = end_states.get(p).copied().unwrap_or(None);
             let place = place_of(recovery, p);
-            self.page.tell_lane(p, right, standing, place)?;
+            self.page.tell_lane(p, right, end_state, place)?;
         }
-        let kind = Crossed::End(recovery);
+        let kind = LineKind::End(recovery);
         self.page.sheet.line.push(Crossing { places, kind })?;
         Ok(())
     }

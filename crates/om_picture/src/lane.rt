@@ -1,6 +1,6 @@
 //! A lane, and where its next words may stand.
 
-use om_sheet::{Road, Stretch};
+use om_sheet::{LaneSegment, SegmentKind};
 use om_world::Answer;
 use std::alloc::AllocError;
 
@@ -104,15 +104,15 @@ impl Lane {
     }
 
     /// Returns how its process is drawn where it is up.
-    pub fn up(&self) -> Stretch {
-        Stretch::Up(self.inc)
+    pub fn up(&self) -> SegmentKind {
+        SegmentKind::Up(self.inc)
     }
 
     /// Returns how its process is drawn where it is not.
-    pub fn away(&self) -> Stretch {
+    pub fn away(&self) -> SegmentKind {
         match self.stand {
-            Stand::In => Stretch::In,
-            _ => Stretch::Down,
+            Stand::In => SegmentKind::In,
+            _ => SegmentKind::Down,
         }
     }
 
@@ -124,7 +124,7 @@ impl Lane {
     /// The process is in or down from here on; 0 is before the window.
     pub fn leave(
         &mut self,
-        road: &mut Vec<Road>,
+        segment: &mut Vec<LaneSegment>,
         x: u32,
         left: u32,
         stand: Stand,
@@ -132,7 +132,7 @@ impl Lane {
         if self.stand == Stand::Up {
             self.stop = or_left(x, left);
         } else {
-            add_stretch(road, Stretch::In, self.number, self.wait, x)?;
+            add_stretch(segment, SegmentKind::In, self.number, self.wait, x)?;
         }
         self.wait = or_left(x, left);
         self.stand = stand;
@@ -152,14 +152,14 @@ pub fn or_left(x: u32, left: u32) -> u32 {
 
 /// Adds a stretch, if it has a length.
 pub fn add_stretch(
-    road: &mut Vec<Road>,
-    kind: Stretch,
+    segment: &mut Vec<LaneSegment>,
+    kind: SegmentKind,
     lane: u32,
     from: u32,
     to: u32,
 ) -> Result<(), AllocError> {
     if to > from {
-        road.push(Road::Stretch {
+        segment.push(LaneSegment::Span {
             kind,
             lane,
             from,

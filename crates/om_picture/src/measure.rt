@@ -1,7 +1,7 @@
 //! How long words are.
 
 use om_process::{Accept, Status};
-use om_sheet::{LABEL_BYTES, Label, Standing};
+use om_sheet::{EndState, LABEL_BYTES, Label};
 use om_world::{Answer, Refusal};
 
 /// How wide a character counts.
@@ -35,8 +35,8 @@ pub fn status_length(status: Status) -> u32 {
     }
 }
 
-pub fn standing_length(standing: Option<Standing>) -> u32 {
-    match standing {
+pub fn end_state_length(end_state: Option<EndState>) -> u32 {
+    match end_state {
         None => 4,
         Some(now) => digits(u64::from(now.inc))
             .saturating_add(digits(u64::from(now.interval)))

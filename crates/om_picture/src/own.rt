@@ -12,7 +12,7 @@ use crate::page::{Page, numbers};
 use crate::picture::Picture;
 use crate::placing::FAILURE;
 use om_process::Status;
-use om_sheet::{Form, More, Shown, Spot, Step, Style, Way, What};
+use om_sheet::{Glyph, LabelContent, MessageLine, PlayedEvent, Shown, Spot, Style, TitleDetail};
 use std::alloc::AllocError;
 
 // The longest way of a refused message.
@@ -32,15 +32,15 @@ impl Page {
             x,
             lane: frame.from,
         };
-        let way = if to.x.saturating_sub(x) <= TRAIL {
-            Way::Trail { from, to }
+        let message_line = if to.x.saturating_sub(x) <= TRAIL {
+            MessageLine::Trail { from, to }
         } else {
-            Way::Short {
+            MessageLine::Short {
                 below: frame.from > to.lane,
                 to,
             }
         };
-        self.sheet.send.push(way)?;
+        self.sheet.send.push(message_line)?;
         Ok(())
     }
 
@@ -86,10 +86,15 @@ impl Page {
             return Ok(());
         }
         let y = self.y(p);
-        let what = What::Number(u64::from(interval));
+        let what = LabelContent::Number(u64::from(interval));
         self.say(Style::Plain, x.saturating_add(7), y.saturating_sub(5), what)?;
         let below = y.saturating_add(20);
-        self.say(Style::Small, x.saturating_sub(4), below, What::Inc(inc))
+        self.say(
+            Style::Small,
+            x.saturating_sub(4),
+            below,
+            LabelContent::Inc(inc),
+        )
     }
 }
 
@@ -97,7 +102,7 @@ impl Picture {
     pub(crate) fn draw_run(
         &mut self,
         p: usize,
-        step: &Step,
+        step: &PlayedEvent,
         at: Spot,
         sent: usize,
         made: usize,
@@ -113,13 +118,13 @@ impl Picture {
         self.page.count_run(self.on, step.fresh, sent);
         self.end_program(p, ends.is_some());
         let shown = Shown::Run { sent, made, ends };
-        self.wait(p, step, at, shown, More::Made { outputs, frames })
+        self.wait(p, step, at, shown, TitleDetail::Made { outputs, frames })
     }
 
     pub(crate) fn draw_resend(
         &mut self,
         p: usize,
-        step: &Step,
+        step: &PlayedEvent,
         at: Spot,
         sent: usize,
     ) -> Result<(), AllocError>
@@ -131,13 +136,13 @@ impl Picture {
         let outputs = numbers(0, 0);
         self.page.count_resend(self.on, sent);
         let shown = Shown::Resend { sent };
-        self.wait(p, step, at, shown, More::Made { outputs, frames })
+        self.wait(p, step, at, shown, TitleDetail::Made { outputs, frames })
     }
 
     pub(crate) fn draw_receipt(
         &mut self,
         p: usize,
-        step: &Step,
+        step: &PlayedEvent,
         at: Spot,
         frame: usize,
         interval: u32,
@@ -151,13 +156,13 @@ impl Picture {
         self.page.count_receipt(self.on);
         self.receive(p, interval);
         let shown = Shown::Receipt { frame, interval };
-        self.wait(p, step, at, shown, More::Nothing)
+        self.wait(p, step, at, shown, TitleDetail::Nothing)
     }
 
     pub(crate) fn draw_refused(
         &mut self,
         p: usize,
-        step: &Step,
+        step: &PlayedEvent,
         at: Spot,
         frame: usize,
     ) -> Result<(), AllocError>
@@ -166,14 +171,14 @@ impl Picture {
             step.now.fresh (step_entry step.now at)) }
     {
         self.page.refuse(self.on, frame, at)?;
-        self.shape(Form::Refused, step, at)
+        self.shape(Glyph::Refused, step, at)
     }
 
     // So many receipts of a process are stored, or all; that is drawn, if some were in memory only.
     fn log(
         &mut self,
         p: usize,
-        step: &Step,
+        step: &PlayedEvent,
         at: Spot,
         many: Option<usize>,
     ) -> Result<(), AllocError>
@@ -183,13 +188,18 @@ impl Picture {
         match self.store(p, many) {
             Some(from) => {
                 let from = or_left(from, self.page.left);
-                self.shape(Form::Flush { from }, step, at)
+                self.shape(Glyph::Flush { from }, step, at)
             }
             None => Ok(()),
         }
     }
 
-    pub(crate) fn draw_flush(&mut self, p: usize, step: &Step, at: Spot) -> Result<(), AllocError>
+    pub(crate) fn draw_flush(
+        &mut self,
+        p: usize,
+        step: &PlayedEvent,
+        at: Spot,
+    ) -> Result<(), AllocError>
         requires { p < length self.old.histories.items }
         ensures { OnOk result (Shows (sketch_of self.old) (sketch_of self.new) p shows.Flush step.now.fresh (step_entry step.now at)) }
     {
@@ -199,7 +209,7 @@ impl Picture {
     pub(crate) fn draw_flush_first(
         &mut self,
         p: usize,
-        step: &Step,
+        step: &PlayedEvent,
         at: Spot,
         count: usize,
     ) -> Result<(), AllocError>
@@ -213,7 +223,7 @@ impl Picture {
     pub(crate) fn draw_checkpoint(
         &mut self,
         p: usize,
-        step: &Step,
+        step: &PlayedEvent,
         at: Spot,
     ) -> Result<(), AllocError>
         requires within { p < length self.old.histories.items }
@@ -221,13 +231,19 @@ impl Picture {
         ensures { OnOk result (Shows (sketch_of self.old) (sketch_of self.new) p shows.Checkpoint step.now.fresh (step_entry step.now at)) }
     {
         let interval = self.interval(p);
-        self.wait(p, step, at, Shown::Checkpoint, More::Interval(interval))
+        self.wait(
+            p,
+            step,
+            at,
+            Shown::Checkpoint,
+            TitleDetail::Interval(interval),
+        )
     }
 
     pub(crate) fn draw_failure(
         &mut self,
         p: usize,
-        step: &Step,
+        step: &PlayedEvent,
         at: Spot,
         declared: bool,
     ) -> Result<(), AllocError>
@@ -238,30 +254,40 @@ impl Picture {
         self.page.open(declared, at.x);
         self.page.leave(p, at.x, Stand::Down)?;
         self.page.count_failure(self.on);
-        self.shape(Form::Failure, step, at)
+        self.shape(Glyph::Failure, step, at)
     }
 
-    pub(crate) fn draw_join(&mut self, p: usize, step: &Step, at: Spot) -> Result<(), AllocError>
+    pub(crate) fn draw_join(
+        &mut self,
+        p: usize,
+        step: &PlayedEvent,
+        at: Spot,
+    ) -> Result<(), AllocError>
         requires { p < length self.old.histories.items }
         ensures { OnOk result (Shows (sketch_of self.old) (sketch_of self.new) p shows.Join step.now.fresh (step_entry step.now at)) }
     {
         self.log(p, step, at, None)?;
         self.page.leave(p, at.x, Stand::In)?;
-        self.shape(Form::Join, step, at)
+        self.shape(Glyph::Join, step, at)
     }
 
-    pub(crate) fn draw_goes_on(&mut self, p: usize, step: &Step, at: Spot) -> Result<(), AllocError>
+    pub(crate) fn draw_goes_on(
+        &mut self,
+        p: usize,
+        step: &PlayedEvent,
+        at: Spot,
+    ) -> Result<(), AllocError>
         requires { p < length self.old.histories.items }
         ensures { OnOk result (Shows (sketch_of self.old) (sketch_of self.new) p shows.GoesOn step.now.fresh (step_entry step.now at)) }
     {
         self.page.stand_up(p, at.x)?;
-        self.shape(Form::GoesOn, step, at)
+        self.shape(Glyph::GoesOn, step, at)
     }
 
     pub(crate) fn draw_back(
         &mut self,
         p: usize,
-        step: &Step,
+        step: &PlayedEvent,
         at: Spot,
         interval: u32,
         inc: u32,
@@ -274,6 +300,6 @@ impl Picture {
         self.page.begin_inc(p, inc);
         self.page.tell_back(self.on, p, at.x, interval, inc)?;
         self.go_back(p, interval);
-        self.shape(Form::Back, step, at)
+        self.shape(Glyph::Back, step, at)
     }
 }

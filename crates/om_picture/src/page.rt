@@ -3,7 +3,9 @@
 use crate::frame::{Frame, add_frames};
 use crate::lane::{Lane, Stand, add_stretch, lane_y, or_left};
 use crate::measure::{CHARACTER, digits};
-use om_sheet::{Band, Counts, Numbers, Sheet, Spot, Step, Stretch, Style, What, Word};
+use om_sheet::{
+    Band, Counts, LabelContent, Numbers, PlayedEvent, SegmentKind, Sheet, Spot, Style, Word,
+};
 use std::alloc::{AllocError, Global};
 
 /// How far apart the names of the lanes are told again.
@@ -34,7 +36,7 @@ pub(crate) struct Page {
 fn no_pieces(alloc: Global) -> Sheet {
     Sheet {
         back: Vec::new(alloc),
-        road: Vec::new(alloc),
+        segment: Vec::new(alloc),
         send: Vec::new(alloc),
         line: Vec::new(alloc),
         text: Vec::new(alloc),
@@ -80,7 +82,7 @@ impl Page {
         style: Style,
         x: u32,
         y: u32,
-        what: What,
+        what: LabelContent,
     ) -> Result<(), AllocError> {
         self.sheet.text.push(Word { style, x, y, what })?;
         Ok(())
@@ -98,10 +100,10 @@ impl Page {
         let inc = digits(u64::from(lane.inc))
             .saturating_add(4)
             .saturating_mul(CHARACTER);
-        let what = What::Number(u64::from(interval));
+        let what = LabelContent::Number(u64::from(interval));
         self.say(Style::Plain, x, y.saturating_sub(5), what)?;
         let below = y.saturating_add(20);
-        self.say(Style::Small, x, below, What::Inc(lane.inc))?;
+        self.say(Style::Small, x, below, LabelContent::Inc(lane.inc))?;
         if let Some(lane) = self.lanes.get_mut(p) {
             lane.beside = x.saturating_add(number).saturating_add(4);
             lane.below = x.saturating_add(inc).saturating_add(4);
@@ -129,7 +131,7 @@ impl Page {
         &mut self,
         x: u32,
         p: usize,
-        step: &Step,
+        step: &PlayedEvent,
         again: bool,
     ) -> Result<Numbers, AllocError> {
         let from = self.lane_at(p).number;
@@ -148,7 +150,7 @@ impl Page {
     /// The process is in or down from here on.
     pub(crate) fn leave(&mut self, p: usize, x: u32, stand: Stand) -> Result<(), AllocError> {
         match self.lanes.get_mut(p) {
-            Some(lane) => lane.leave(&mut self.sheet.road, x, self.left, stand),
+            Some(lane) => lane.leave(&mut self.sheet.segment, x, self.left, stand),
             None => Ok(()),
         }
     }
@@ -166,8 +168,8 @@ impl Page {
     /// The process is up from here on.
     pub(crate) fn stand_up(&mut self, p: usize, x: u32) -> Result<(), AllocError> {
         let lane = self.lane_at(p);
-        let road = &mut self.sheet.road;
-        add_stretch(road, lane.away(), lane.number, lane.wait, x)?;
+        let segment = &mut self.sheet.segment;
+        add_stretch(segment, lane.away(), lane.number, lane.wait, x)?;
         if let Some(lane) = self.lanes.get_mut(p) {
             lane.stand = Stand::Up;
             lane.live = Some(or_left(x, self.left));
@@ -182,16 +184,21 @@ impl Page {
 
     pub(crate) fn stretch(
         &mut self,
-        kind: Stretch,
+        kind: SegmentKind,
         lane: &Lane,
         from: u32,
         to: u32,
     ) -> Result<(), AllocError> {
-        add_stretch(&mut self.sheet.road, kind, lane.number, from, to)
+        add_stretch(&mut self.sheet.segment, kind, lane.number, from, to)
     }
 
     /// Draws a round, from its left to its right side.
-    pub(crate) fn band(&mut self, left: u32, right: u32, what: What) -> Result<(), AllocError> {
+    pub(crate) fn band(
+        &mut self,
+        left: u32,
+        right: u32,
+        what: LabelContent,
+    ) -> Result<(), AllocError> {
         self.sheet.back.push(Band { left, right })?;
         self.say(Style::Small, left, ROUNDS, what)
     }

@@ -7,13 +7,15 @@ ghost use Rattle.om_picture.specs.Held.{covered_by};
 ghost use Rattle.om_picture.specs.Marks.{kind_drawn, mark_of, shape_marks, title_entry};
 ghost use Rattle.om_sheet.specs.Shows.{is_finished};
 ghost use Rattle.om_sheet.specs.declared.sheet.Spot.{Spot};
-ghost use Rattle.om_picture.specs.steps.Adding.{AreNew, Ends, GoesBack, Raises, Reaches, Receives, Settles, SettlesIf, Shows, ShowsEvent, ShowsOn, Stores, TakesCovered, TakesFirst, Turns, Waits};
+ghost use Rattle.om_picture.specs.steps.Adding.{AreNew, Ends, GoesBack, Raises, ReachesWindow, Receives, Settles, SettlesIf, Shows, ShowsEvent, ShowsOn, Stores, TakesCovered, TakesFirst, Turns, Waits};
 
 use crate::column::{Columns, MOST_LEFT};
 use crate::history::{History, Mark, Next};
 use crate::page::Page;
 use om_interval::DepVec;
-use om_sheet::{Form, More, Shape, Shown, Spot, Step, Title, is_finished, process_of, shown_of};
+use om_sheet::{
+    Glyph, PlayedEvent, Shape, Shown, Spot, Title, TitleDetail, is_finished, process_of, shown_of,
+};
 use om_world::Answer;
 use std::alloc::{AllocError, Global};
 use std::slice;
@@ -81,7 +83,7 @@ impl Picture {
     }
 
     /// Draws what an event showed.
-    pub fn draw(&mut self, alloc: Global, step: &Step) -> Result<(), AllocError>
+    pub fn draw(&mut self, alloc: Global, step: &PlayedEvent) -> Result<(), AllocError>
         ensures { OnOk result ((at : Spot) × ((n first : ℕ) (rows : List EventRow) → IsSketchOf n first rows (sketch_of self.old)
             → IsSketchOf n first (rows ++ step_row step.now at ∷ []) (sketch_of self.new))) }
     {
@@ -95,7 +97,7 @@ impl Picture {
 
     // The event of a line is counted; with the first line of the window, the picture begins.
     fn begin(&mut self, line: usize) -> Result<(), AllocError>
-        ensures { OnOk result (Reaches (sketch_of self.old) (sketch_of self.new) line) }
+        ensures { OnOk result (ReachesWindow (sketch_of self.old) (sketch_of self.new) line) }
     {
         self.reach(line)?;
         self.page.count_event(self.on);
@@ -103,7 +105,7 @@ impl Picture {
     }
 
     fn reach(&mut self, line: usize) -> Result<(), AllocError>
-        ensures { OnOk result (Reaches (sketch_of self.old) (sketch_of self.new) line) }
+        ensures { OnOk result (ReachesWindow (sketch_of self.old) (sketch_of self.new) line) }
     {
         if self.on {
             return Ok(());
@@ -127,7 +129,7 @@ impl Picture {
     }
 
     // Draws what an event shows, which stands there.
-    fn draw_event(&mut self, step: &Step, at: Spot) -> Result<(), AllocError>
+    fn draw_event(&mut self, step: &PlayedEvent, at: Spot) -> Result<(), AllocError>
         requires { (at.x == 0) ≡ not self.old.on }
         ensures { OnOk result (ShowsEvent (sketch_of self.old) (sketch_of self.new) (step_row step.now at)) }
     {
@@ -138,7 +140,7 @@ impl Picture {
     }
 
     // Draws what an event of no process shows: a restart takes all down.
-    fn draw_whole(&mut self, step: &Step, at: Spot) -> Result<(), AllocError>
+    fn draw_whole(&mut self, step: &PlayedEvent, at: Spot) -> Result<(), AllocError>
         ensures { OnOk result (sketch_of self.new ≡ sketch_of self.old) }
     {
         if step.answer == Answer::Restarted {
@@ -148,7 +150,7 @@ impl Picture {
     }
 
     // Draws what the event itself shows.
-    fn draw_own(&mut self, p: usize, step: &Step, at: Spot) -> Result<(), AllocError>
+    fn draw_own(&mut self, p: usize, step: &PlayedEvent, at: Spot) -> Result<(), AllocError>
         requires { (at.x == 0) ≡ not self.old.on }
         ensures { OnOk result (ShowsOn (Some p) (sketch_of self.old) (sketch_of self.new) (step_row step.now at)) }
     {
@@ -163,7 +165,7 @@ impl Picture {
     fn draw_shown(
         &mut self,
         p: usize,
-        step: &Step,
+        step: &PlayedEvent,
         at: Spot,
         shown: Shown,
     ) -> Result<(), AllocError>
@@ -197,7 +199,12 @@ impl Picture {
     }
 
     // If a round is finished, all is cut to the recovery state.
-    fn end_round(&mut self, alloc: Global, step: &Step, changed: bool) -> Result<(), AllocError>
+    fn end_round(
+        &mut self,
+        alloc: Global,
+        step: &PlayedEvent,
+        changed: bool,
+    ) -> Result<(), AllocError>
         ensures { OnOk result (SettlesIf (is_finished step.now.answer) (sketch_of self.old) (sketch_of self.new)) }
     {
         if is_finished(step.answer) {
@@ -220,16 +227,21 @@ impl Picture {
     }
 
     // Adds the mark of an event that is not settled later, within the window.
-    pub(crate) fn shape(&mut self, form: Form, step: &Step, at: Spot) -> Result<(), AllocError>
+    pub(crate) fn shape(
+        &mut self,
+        glyph: Glyph,
+        step: &PlayedEvent,
+        at: Spot,
+    ) -> Result<(), AllocError>
         ensures { OnOk result (Settles (sketch_of self.old) (sketch_of self.new)
-            (if self.old.on then mark_of (kind_drawn form) false (step_entry step.now at) else [])) }
+            (if self.old.on then mark_of (kind_drawn glyph) false (step_entry step.now at) else [])) }
     {
         if !self.on {
             return Ok(());
         }
-        let title = title_of(step, More::Nothing);
+        let title = title_of(step, TitleDetail::Nothing);
         self.add_shape(&Shape {
-            form,
+            glyph,
             cut: false,
             at,
             title,
@@ -247,10 +259,10 @@ impl Picture {
     pub(crate) fn wait(
         &mut self,
         p: usize,
-        step: &Step,
+        step: &PlayedEvent,
         at: Spot,
         shown: Shown,
-        more: More,
+        more: TitleDetail,
     ) -> Result<(), AllocError>
         requires { p < length self.old.histories.items }
         ensures { OnOk result (Turns (Waits at.x shown step.now.fresh (step_entry step.now at)) (sketch_of self.old) (sketch_of self.new) p) }
@@ -343,12 +355,12 @@ impl Picture {
 }
 
 // The recovery state behind an event, if it changed.
-pub(crate) fn state_if(changed: bool, step: &Step) -> Option<DepVec> {
+pub(crate) fn state_if(changed: bool, step: &PlayedEvent) -> Option<DepVec> {
     if changed { Some(step.recovery) } else { None }
 }
 
 // The title of an event.
-pub(crate) fn title_of(step: &Step, more: More) -> Title
+pub(crate) fn title_of(step: &PlayedEvent, more: TitleDetail) -> Title
     ensures { (at : Spot) → title_entry result at ≡ step_entry step.now at }
 {
     Title {

@@ -12,7 +12,7 @@ use crate::measure::{CHARACTER, digits, label_length, status_length, why_length}
 use crate::page::Page;
 use crate::picture::Picture;
 use om_process::Status;
-use om_sheet::{Shown, Spot, Step, Style, What, process_of, shown_of};
+use om_sheet::{LabelContent, PlayedEvent, Shown, Spot, Style, process_of, shown_of};
 use om_world::Answer;
 use std::alloc::AllocError;
 
@@ -46,7 +46,7 @@ fn extent(shift: u32, characters: u32) -> Option<Extent> {
 }
 
 // Room for the words of a run.
-fn run_words(step: &Step, ends: Option<Status>) -> Wanted {
+fn run_words(step: &PlayedEvent, ends: Option<Status>) -> Wanted {
     let above = if step.fresh == 0 {
         None
     } else {
@@ -91,7 +91,7 @@ fn back_words(interval: u32, inc: u32) -> Wanted {
 }
 
 // Room for the words of what an event shows, but for a refusal.
-fn words_of(step: &Step, shown: Shown) -> Wanted {
+fn words_of(step: &PlayedEvent, shown: Shown) -> Wanted {
     match shown {
         Shown::Run { ends, .. } => run_words(step, ends),
         Shown::Receipt { interval, .. } => number_beside(9, interval),
@@ -128,14 +128,19 @@ impl Page {
             lane.why = Some(answer);
         }
         let y = self.y(p).saturating_add(20);
-        self.say(Style::Small, x.saturating_sub(4), y, What::Why(answer))
+        self.say(
+            Style::Small,
+            x.saturating_sub(4),
+            y,
+            LabelContent::Why(answer),
+        )
     }
 }
 
 impl Picture {
     /// Returns where an event stands: in the next column, if it shows something in the window, and else in the last one; 0 before
     /// the window.
-    pub(crate) fn place(&mut self, step: &Step) -> Result<Spot, AllocError>
+    pub(crate) fn place(&mut self, step: &PlayedEvent) -> Result<Spot, AllocError>
         ensures { IfOk result (λ at. PlacesEvent (sketch_of self.old) (sketch_of self.new) (step_row step.now at)) }
     {
         match process_of(step.event) {
@@ -155,7 +160,7 @@ impl Picture {
     }
 
     // Returns where an event of a process stands.
-    fn place_of_own(&mut self, p: usize, step: &Step) -> Result<Spot, AllocError>
+    fn place_of_own(&mut self, p: usize, step: &PlayedEvent) -> Result<Spot, AllocError>
         ensures x { IfOk result (λ at. Places (shows_at (Some p) (sketch_of self.old) (step_row step.now at)) at.x
             (sketch_of self.old) (sketch_of self.new)) }
         ensures lane { IfOk result (λ at. at.lane ≡ lane_number p) }
@@ -173,7 +178,7 @@ impl Picture {
     }
 
     // The same, by what it shows.
-    fn next_place(&mut self, p: usize, step: &Step, shown: Shown) -> Result<u32, AllocError>
+    fn next_place(&mut self, p: usize, step: &PlayedEvent, shown: Shown) -> Result<u32, AllocError>
         ensures { IfOk result (λ x. Places (is_shown shown) x (sketch_of self.old) (sketch_of self.new)) }
     {
         if !self.on {
@@ -187,7 +192,7 @@ impl Picture {
     }
 
     // The column of a refusal, with its word unless that was just told.
-    fn why_column(&mut self, p: usize, step: &Step) -> Result<u32, AllocError>
+    fn why_column(&mut self, p: usize, step: &PlayedEvent) -> Result<u32, AllocError>
         ensures { IfOk result (λ x. MovesTo x (sketch_of self.old) (sketch_of self.new)) }
     {
         let least = self.columns.least(REFUSED);

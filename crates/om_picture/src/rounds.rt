@@ -11,7 +11,9 @@ use crate::page::Page;
 use crate::picture::{Picture, state_if, title_of};
 use crate::settle::fate_now;
 use om_interval::DepVec;
-use om_sheet::{Crossed, Crossing, More, Spot, Step, Stretch, Style, What};
+use om_sheet::{
+    Crossing, LabelContent, LineKind, PlayedEvent, SegmentKind, Spot, Style, TitleDetail,
+};
 use om_world::Answer;
 use std::alloc::{AllocError, Global};
 
@@ -31,7 +33,7 @@ impl Page {
             Some(x) => {
                 let at = or_left(x, self.left);
                 self.stretch_up(&lane, at)?;
-                self.stretch(Stretch::Cut, &lane, at, lane.stop)?;
+                self.stretch(SegmentKind::Cut, &lane, at, lane.stop)?;
                 before(x, self.left)
             }
             None => {
@@ -50,7 +52,7 @@ impl Page {
         &mut self,
         on: bool,
         right: u32,
-        step: &Step,
+        step: &PlayedEvent,
         changed: bool,
         places: Vec<Spot>,
     ) -> Result<(), AllocError> {
@@ -68,20 +70,20 @@ impl Page {
     fn tell_round(
         &mut self,
         right: u32,
-        step: &Step,
+        step: &PlayedEvent,
         changed: bool,
         places: Vec<Spot>,
     ) -> Result<(), AllocError> {
         self.count_round();
         let opened = self.opened.unwrap_or(self.left);
-        self.band(opened, right, What::Round(self.round))?;
+        self.band(opened, right, LabelContent::Round(self.round))?;
         let state = step.recovery;
-        let more = More::Round {
+        let more = TitleDetail::Round {
             changed: state_if(changed, step),
             round: self.round,
             state,
         };
-        let kind = Crossed::Round(title_of(step, more));
+        let kind = LineKind::Round(title_of(step, more));
         self.sheet.line.push(Crossing { places, kind })?;
         self.tell_foot(opened, state)
     }
@@ -92,7 +94,7 @@ impl Page {
             return Ok(());
         }
         let y = self.bottom().saturating_add(12);
-        self.say(Style::Small, opened, y, What::Recovery(state))?;
+        self.say(Style::Small, opened, y, LabelContent::Recovery(state))?;
         let length = recovery_length(state.as_slice()).saturating_mul(CHARACTER);
         self.foot = opened.saturating_add(length).saturating_add(8);
         Ok(())
@@ -104,7 +106,7 @@ impl Picture {
     pub(crate) fn finish(
         &mut self,
         alloc: Global,
-        step: &Step,
+        step: &PlayedEvent,
         changed: bool,
     ) -> Result<(), AllocError>
         ensures { OnOk result (SettlesAll true (sketch_of self.old) (sketch_of self.new)) }

@@ -14,7 +14,9 @@ use crate::picture::{Picture, state_if, title_of};
 use crate::placing::lane_number;
 use om_interval::DepVec;
 use om_process::Status;
-use om_sheet::{Form, More, Shape, Shown, Spot, Step, Style, Way, What};
+use om_sheet::{
+    Glyph, LabelContent, MessageLine, PlayedEvent, Shape, Shown, Spot, Style, TitleDetail,
+};
 use std::alloc::AllocError;
 
 /// How a mark is settled: cut by a round or not; covered by a recovery state, its outputs are released; stored.
@@ -42,14 +44,14 @@ fn style(fate: FateNow, style: Style) -> Style {
 }
 
 // A mark of a form, at the place of this one.
-fn shape_of(form: Form, mark: &Mark, fate: FateNow) -> Shape
-    ensures form { result.form ≡ form }
+fn shape_of(glyph: Glyph, mark: &Mark, fate: FateNow) -> Shape
+    ensures glyph { result.glyph ≡ glyph }
     ensures cut { result.cut ≡ fate.cut }
     ensures at { result.at ≡ mark.now.at }
     ensures title { result.title ≡ mark.now.title }
 {
     Shape {
-        form,
+        glyph,
         cut: fate.cut,
         at: mark.at,
         title: mark.title,
@@ -57,16 +59,16 @@ fn shape_of(form: Form, mark: &Mark, fate: FateNow) -> Shape
 }
 
 // The form of a mark.
-fn form_of(shown: Shown, fate: FateNow) -> Form
+fn glyph_of(shown: Shown, fate: FateNow) -> Glyph
     ensures { kind_drawn result ≡ Some (kind_late shown (fate_in fate)) }
 {
     match shown {
-        Shown::Receipt { .. } => Form::Receipt {
+        Shown::Receipt { .. } => Glyph::Receipt {
             stored: fate.stored,
         },
-        Shown::Checkpoint => Form::Checkpoint,
-        Shown::Run { ends: Some(_), .. } => Form::End,
-        _ => Form::Dot,
+        Shown::Checkpoint => Glyph::Checkpoint,
+        Shown::Run { ends: Some(_), .. } => Glyph::End,
+        _ => Glyph::Dot,
     }
 }
 
@@ -113,7 +115,7 @@ impl Page {
         interval: u32,
     ) -> Result<(), AllocError> {
         if let Some(frame) = self.frames.get(self.lost.saturating_add(frame)) {
-            self.sheet.send.push(Way::Message {
+            self.sheet.send.push(MessageLine::Message {
                 again: frame.again,
                 cut: fate.cut,
                 from: Spot {
@@ -124,7 +126,7 @@ impl Page {
             })?;
         }
         let y = lane_y(mark.at.lane).saturating_sub(5);
-        let what = What::Number(u64::from(interval));
+        let what = LabelContent::Number(u64::from(interval));
         self.say(
             style(fate, Style::Plain),
             mark.at.x.saturating_add(5),
@@ -144,13 +146,13 @@ impl Page {
         };
         let y = lane_y(mark.at.lane).saturating_add(20);
         let x = mark.at.x.saturating_add(3);
-        self.say(style(fate, Style::Small), x, y, What::End(status))
+        self.say(style(fate, Style::Small), x, y, LabelContent::End(status))
     }
 
     fn tell_outputs(&mut self, mark: &Mark, fate: FateNow) -> Result<(), AllocError> {
         let y = lane_y(mark.at.lane).saturating_sub(24);
         let x = mark.at.x.saturating_sub(4);
-        let what = What::Output {
+        let what = LabelContent::Output {
             label: mark.label,
             more: mark.fresh.saturating_sub(1),
         };
@@ -168,7 +170,7 @@ impl Picture {
         }
         self.page.tell(mark, fate)?;
         self.add_outputs(mark, fate)?;
-        self.add_form(form_of(mark.shown, fate), mark, fate)
+        self.add_form(glyph_of(mark.shown, fate), mark, fate)
     }
 
     // The stem of the outputs of a mark, and its head, if they were not all made before.
@@ -180,24 +182,29 @@ impl Picture {
             return Ok(());
         }
         let again = mark.fresh == 0;
-        self.add_form(Form::Stem { again }, mark, fate)?;
+        self.add_form(Glyph::Stem { again }, mark, fate)?;
         if again {
             return Ok(());
         }
         let released = fate.covered;
-        self.add_form(Form::Head { released }, mark, fate)
+        self.add_form(Glyph::Head { released }, mark, fate)
     }
 
     // A form at the place of a mark.
-    fn add_form(&mut self, form: Form, mark: &Mark, fate: FateNow) -> Result<(), AllocError>
+    fn add_form(&mut self, glyph: Glyph, mark: &Mark, fate: FateNow) -> Result<(), AllocError>
         ensures { OnOk result (Settles (sketch_of self.old) (sketch_of self.new)
-            (mark_of (kind_drawn form) fate.cut (title_entry mark.now.title mark.now.at))) }
+            (mark_of (kind_drawn glyph) fate.cut (title_entry mark.now.title mark.now.at))) }
     {
-        self.add_shape(&shape_of(form, mark, fate))
+        self.add_shape(&shape_of(glyph, mark, fate))
     }
 
     // Settles what the recovery state now covers, and shows where outputs that were held are released.
-    pub(crate) fn keep(&mut self, step: &Step, at: Spot, changed: bool) -> Result<(), AllocError>
+    pub(crate) fn keep(
+        &mut self,
+        step: &PlayedEvent,
+        at: Spot,
+        changed: bool,
+    ) -> Result<(), AllocError>
         ensures { OnOk result (LearnsAll (step_row step.now at) (sketch_of self.old) (sketch_of self.new)) }
     {
         for p in 0..self.histories.len() {
@@ -208,7 +215,12 @@ impl Picture {
     }
 
     // The same for a lane: the place of the first output that was held and is released.
-    fn keep_lane(&mut self, p: usize, step: &Step, at: Spot) -> Result<Option<u32>, AllocError>
+    fn keep_lane(
+        &mut self,
+        p: usize,
+        step: &PlayedEvent,
+        at: Spot,
+    ) -> Result<Option<u32>, AllocError>
         requires { p < length self.old.histories.items }
         ensures learns { OnOk result (LearnsAt (step_row step.now at) (sketch_of self.old) (sketch_of self.new) p) }
         ensures freed { IfOk result (λ held. is_some held ≡ frees (step_row step.now at) p (lane_of (sketch_of self.old) p)) }
@@ -242,7 +254,7 @@ impl Picture {
         &mut self,
         p: usize,
         held: Option<u32>,
-        step: &Step,
+        step: &PlayedEvent,
         at: Spot,
         changed: bool,
     ) -> Result<(), AllocError>
@@ -259,11 +271,11 @@ impl Picture {
             x: at.x,
             lane: lane_number(p),
         };
-        self.page.sheet.send.push(Way::Held { from, to })?;
-        let more = More::Released(state_if(changed, step));
+        self.page.sheet.send.push(MessageLine::Held { from, to })?;
+        let more = TitleDetail::Released(state_if(changed, step));
         let title = title_of(step, more);
         self.add_shape(&Shape {
-            form: Form::Released,
+            glyph: Glyph::Released,
             cut: false,
             at: to,
             title,

@@ -122,7 +122,10 @@ static RESTARTED_TWICE: &str =
 fn rounds<R: Abort>(rt: &R, alloc: Global, line: &str) -> (usize, usize) {
     let drawn = picture(rt, alloc, line);
     let bytes = drawn.as_slice();
-    (count(bytes, b"<rect class=\"b\""), count(bytes, b">round 1<"))
+    (
+        count(bytes, b"<rect class=\"b\""),
+        count(bytes, b">round 1<"),
+    )
 }
 
 // A restart is drawn as the first round of a new start, which nobody need have failed before.

@@ -8,11 +8,11 @@
 #![tactic(auto)]
 
 pub use sheet::{
-    Band, Counts, Crossed, Crossing, Drawn, Form, More, Numbers, Road, Shape, Sheet, Spot, Stretch,
-    Style, Title, Way, What, Word,
+    Band, Counts, Crossing, Drawn, Glyph, LabelContent, LaneSegment, LineKind, MessageLine,
+    Numbers, SegmentKind, Shape, Sheet, Spot, Style, Title, TitleDetail, Word,
 };
 pub use shown::{Shown, is_finished, shown_of};
-pub use step::{LABEL_BYTES, Label, Standing, Step, process_of};
+pub use step::{EndState, LABEL_BYTES, Label, PlayedEvent, process_of};
 
 mod sheet;
 mod shown;

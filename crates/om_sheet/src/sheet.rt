@@ -1,6 +1,6 @@
 //! The pieces of a picture, with their places.
 
-use crate::step::{Label, Standing};
+use crate::step::{EndState, Label};
 use om_interval::DepVec;
 use om_process::Status;
 use om_world::{Answer, Event};
@@ -39,8 +39,8 @@ pub struct Counts {
 #[derive(Drop)]
 pub struct Sheet {
     pub back: Vec<Band>,
-    pub road: Vec<Road>,
-    pub send: Vec<Way>,
+    pub segment: Vec<LaneSegment>,
+    pub send: Vec<MessageLine>,
     pub line: Vec<Crossing>,
     pub text: Vec<Word>,
 }
@@ -54,9 +54,9 @@ pub struct Band {
 
 /// A piece of a lane, or a tick of the axis.
 #[derive(Clone, Copy)]
-pub enum Road {
-    Stretch {
-        kind: Stretch,
+pub enum LaneSegment {
+    Span {
+        kind: SegmentKind,
         lane: u32,
         from: u32,
         to: u32,
@@ -68,7 +68,7 @@ pub enum Road {
 
 /// How a process was in a stretch.
 #[derive(Clone, Copy)]
-pub enum Stretch {
+pub enum SegmentKind {
     /// Up, in this incarnation.
     Up(u32),
     In,
@@ -79,7 +79,7 @@ pub enum Stretch {
 
 /// A line across the lanes.
 #[derive(Clone, Copy)]
-pub enum Way {
+pub enum MessageLine {
     /// A message that was taken.
     Message {
         again: bool,
@@ -120,11 +120,11 @@ pub struct Spot {
 #[derive(Drop)]
 pub struct Crossing {
     pub places: Vec<Spot>,
-    pub kind: Crossed,
+    pub kind: LineKind,
 }
 
 #[derive(Clone, Copy)]
-pub enum Crossed {
+pub enum LineKind {
     Round(Title),
     /// The last one, with its state.
     End(DepVec),
@@ -133,7 +133,7 @@ pub enum Crossed {
 /// A mark on a lane.
 #[derive(Clone, Copy)]
 pub struct Shape {
-    pub form: Form,
+    pub glyph: Glyph,
     /// Whether a round cut it.
     pub cut: bool,
     pub at: Spot,
@@ -142,7 +142,7 @@ pub struct Shape {
 }
 
 #[derive(Clone, Copy)]
-pub enum Form {
+pub enum Glyph {
     Receipt { stored: bool },
     Checkpoint,
     /// The stem of outputs; again, they were all made before.
@@ -169,11 +169,11 @@ pub struct Title {
     pub line: usize,
     pub event: Event,
     pub answer: Answer,
-    pub more: More,
+    pub more: TitleDetail,
 }
 
 #[derive(Clone, Copy)]
-pub enum More {
+pub enum TitleDetail {
     Nothing,
     Made {
         outputs: Numbers,
@@ -203,7 +203,7 @@ pub struct Word {
     pub style: Style,
     pub x: u32,
     pub y: u32,
-    pub what: What,
+    pub what: LabelContent,
 }
 
 #[derive(Clone, Copy)]
@@ -216,7 +216,7 @@ pub enum Style {
 }
 
 #[derive(Clone, Copy)]
-pub enum What {
+pub enum LabelContent {
     Number(u64),
     Inc(u32),
     Round(u32),
@@ -229,7 +229,7 @@ pub enum What {
     End(Status),
     /// Why a frame was refused.
     Why(Answer),
-    Standing(Option<Standing>),
+    EndState(Option<EndState>),
     Name(usize),
     Program(usize),
     Line,

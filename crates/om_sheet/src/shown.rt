@@ -3,7 +3,7 @@
 ghost use Rattle.std.specs.Prelude.{◌≡◌};
 ghost use Rattle.om_sheet.specs.Shows.{checkpoint_shown, end_of, failure_shown, first_shown, flush_shown, give_shown, is_finished, join_shown, refusal_shown, resend_shown, resume_shown, run_shown, shown};
 
-use crate::step::Step;
+use crate::step::PlayedEvent;
 use om_manager::Gathered;
 use om_process::{Accept, Status};
 use om_world::{Answer, Event, Refusal};
@@ -52,7 +52,7 @@ pub enum Shown {
 }
 
 /// Returns what a step shows. `ended`: it is known already that the program of its process came to its end.
-pub fn shown_of(step: &Step, ended: bool) -> Shown
+pub fn shown_of(step: &PlayedEvent, ended: bool) -> Shown
     ensures { result ≡ shown ended step.now.event step.now.answer }
 {
     match step.event {

@@ -12,7 +12,7 @@ pub const LABEL_BYTES: usize = 4;
 
 /// An event that was played, its answer, and what was read of the world.
 #[derive(Clone, Copy)]
-pub struct Step {
+pub struct PlayedEvent {
     /// The number of the event's line in the script, from 1.
     pub line: usize,
     pub event: Event,
@@ -40,7 +40,7 @@ pub struct Label {
 
 /// Where a process that is up or in stands.
 #[derive(Clone, Copy)]
-pub struct Standing {
+pub struct EndState {
     pub inc: u32,
     pub interval: u32,
     pub status: Status,

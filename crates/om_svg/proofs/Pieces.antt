@@ -7,8 +7,8 @@ use Rattle.om_sheet.specs.declared.sheet.Drawn.{Drawn}
 use Rattle.om_sheet.specs.declared.sheet.Shape.{Shape}
 use Rattle.om_sheet.specs.declared.sheet.Spot.{Spot}
 use Rattle.om_svg.specs.PictureText.{counts_text, head_text, open_text, styles_text, summary_text}
-use Rattle.om_svg.specs.ShapeText.{above_of, band_text, circle_text, class_of, crossed_class, crossed_title, crossing_text, cut_letter, flush_text, height, left_of, path_end, path_of, path_text, place_text, square_text, start_of, title_text, turning_text}
-use Rattle.om_svg.specs.steps.Marks.{band_at, band_end, band_left, band_parts, band_width, circle_at, circle_end, circle_parts, circle_start, circle_x, circle_y, crossed_text, crossing_parts, flush_at, flush_end, flush_parts, flush_start, line_text, path_at, path_middle, path_parts, path_start, path_tail, square_at, square_class, square_end, square_parts, square_x, turning_at, turning_end, turning_parts, turning_start}
+use Rattle.om_svg.specs.ShapeText.{above_of, band_text, circle_text, class_of, line_kind_class, crossed_title, crossing_text, cut_letter, flush_text, height, left_of, path_end, path_of, path_text, place_text, square_text, start_of, title_text, turning_text}
+use Rattle.om_svg.specs.steps.Marks.{band_at, band_end, band_left, band_parts, band_width, circle_at, circle_end, circle_parts, circle_start, circle_x, circle_y, line_kind_text, crossing_parts, flush_at, flush_end, flush_parts, flush_start, line_text, path_at, path_middle, path_parts, path_start, path_tail, square_at, square_class, square_end, square_parts, square_x, turning_at, turning_end, turning_parts, turning_start}
 use Rattle.om_svg.specs.steps.Sheets.{failure_count, ground_height, ground_width, head_parts, open_parts, outputs_text, refused_count, resent_count, sent_count, shown_count, svg_height, svg_width, taken_count, view_text}
 
 -- what was written in parts is the whole
@@ -84,7 +84,7 @@ turning_is from to =
 pub circle_is : (shape : Shape) (radius : ℕ) → circle_text shape radius ≡ circle_parts shape radius
 unfolding circle_text circle_parts circle_at circle_start circle_x circle_y circle_end
 circle_is shape radius =
-    circle_grouped (codes "<circle class=\"") (class_of shape.form) (cut_letter shape.cut) (codes "\" cx=\"") (decimal shape.at.x)
+    circle_grouped (codes "<circle class=\"") (class_of shape.glyph) (cut_letter shape.cut) (codes "\" cx=\"") (decimal shape.at.x)
     (codes "\" cy=\"") (decimal (height shape.at.lane)) (codes "\" r=\"") (decimal radius) (codes "\">") (title_text shape.title) (codes "</circle>\n")
 
 pub square_is : (shape : Shape) → square_text shape ≡ square_parts shape
@@ -102,13 +102,13 @@ flush_is shape from =
 pub path_is : (shape : Shape) → path_text shape ≡ path_parts shape
 unfolding path_text path_parts path_at path_start path_middle path_tail
 path_is shape =
-    path_grouped (codes "<path class=\"") (class_of shape.form) (cut_letter shape.cut) (codes "\" d=\"M") (decimal (shape.at.x - left_of shape.form))
-    (32 ∷ decimal (height shape.at.lane - above_of shape.form)) (path_of shape.form) (codes "\"") (path_end shape.form shape.title)
+    path_grouped (codes "<path class=\"") (class_of shape.glyph) (cut_letter shape.cut) (codes "\" d=\"M") (decimal (shape.at.x - left_of shape.glyph))
+    (32 ∷ decimal (height shape.at.lane - above_of shape.glyph)) (path_of shape.glyph) (codes "\"") (path_end shape.glyph shape.title)
 
 pub crossing_is : (crossing : Crossing) → crossing_text crossing ≡ crossing_parts crossing
-unfolding crossing_text crossing_parts line_text crossed_text
+unfolding crossing_text crossing_parts line_text line_kind_text
 crossing_is crossing =
-    crossing_grouped (codes "<path class=\"") (crossed_class crossing.kind) (codes "\" d=\"M") (decimal (start_of crossing.places.items)) (codes " 88")
+    crossing_grouped (codes "<path class=\"") (line_kind_class crossing.kind) (codes "\" d=\"M") (decimal (start_of crossing.places.items)) (codes " 88")
     (flat_map place_text crossing.places.items) (codes "v14\">") (crossed_title crossing.kind) (codes "</path>\n")
 
 -- ---- the parts

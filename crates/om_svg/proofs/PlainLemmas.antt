@@ -22,16 +22,16 @@ use Rattle.om_world.specs.declared.event.Refusal.TheVariants as refusals
 use Rattle.om_svg.specs.AnswerText.{recovery_text, why_word}
 use Rattle.om_world.specs.Texts.{accept_word, answer_text, event_text, refusal_word, status_text}
 use Rattle.om_svg.specs.Plain.{HasPlainNames, is_plain, is_plain_text}
-use Rattle.om_svg.specs.ShapeText.{changed_text, more_text, numbers_text, told_text}
-use Rattle.om_svg.specs.WordText.{bytes_text, label_text, name_text, standing_text, what_text}
-use Rattle.om_sheet.specs.declared.sheet.More.{More}
-use Rattle.om_sheet.specs.declared.sheet.More.TheVariants as mores
+use Rattle.om_svg.specs.ShapeText.{changed_text, detail_text, numbers_text, told_text}
+use Rattle.om_svg.specs.WordText.{bytes_text, label_text, name_text, end_state_text, content_text}
+use Rattle.om_sheet.specs.declared.sheet.TitleDetail.{TitleDetail}
+use Rattle.om_sheet.specs.declared.sheet.TitleDetail.TheVariants as details
 use Rattle.om_sheet.specs.declared.sheet.Numbers.{Numbers}
 use Rattle.om_sheet.specs.declared.sheet.Title.{Title}
-use Rattle.om_sheet.specs.declared.sheet.What.{What}
-use Rattle.om_sheet.specs.declared.sheet.What.TheVariants as whats
+use Rattle.om_sheet.specs.declared.sheet.LabelContent.{LabelContent}
+use Rattle.om_sheet.specs.declared.sheet.LabelContent.TheVariants as contents
 use Rattle.om_sheet.specs.declared.step.Label.{Label}
-use Rattle.om_sheet.specs.declared.step.Standing.{Standing}
+use Rattle.om_sheet.specs.declared.step.EndState.{EndState}
 use Rattle.om_sheet.specs.declared.step.TheConstants.{LABEL_BYTES}
 
 both : (a b : Bool) → a ≡ true → b ≡ true → (a && b) ≡ true
@@ -219,14 +219,14 @@ plain-changed : (changed : Option (List ℕ)) → is_plain_text (changed_text ch
 plain-changed None = refl
 plain-changed (Some state) = plain-recovery state
 
-plain-more : (more : More) → is_plain_text (more_text more) ≡ true
-plain-more mores.Nothing = refl
-plain-more (mores.Made outputs frames) =
+plain-detail : (more : TitleDetail) → is_plain_text (detail_text more) ≡ true
+plain-detail details.Nothing = refl
+plain-detail (details.Made outputs frames) =
     plain-append (numbers_text (codes "output") outputs) (numbers_text (codes "frame") frames)
     (plain-numbers (codes "output") outputs refl) (plain-numbers (codes "frame") frames refl)
-plain-more (mores.Interval interval) = plain-decimal interval
-plain-more (mores.Released changed) = plain-append (changed_text changed) (codes ": released") (plain-changed changed) refl
-plain-more (mores.Round changed round state) =
+plain-detail (details.Interval interval) = plain-decimal interval
+plain-detail (details.Released changed) = plain-append (changed_text changed) (codes ": released") (plain-changed changed) refl
+plain-detail (details.Round changed round state) =
     let begun = plain-three (changed_text changed) (codes ": round ") (decimal round) (plain-changed changed) refl (plain-decimal round) in
     plain-three (changed_text changed ++ codes ": round " ++ decimal round) (codes ", ") (recovery_text state) begun refl (plain-recovery state)
 
@@ -236,8 +236,8 @@ plain-told title =
     let begun = plain-append (decimal title.line) (32 ∷ event_text title.event) (plain-decimal title.line) (plain-event title.event) in
     let answered = plain-three (decimal title.line ++ 32 ∷ event_text title.event) (codes ": ") (answer_text title.answer)
     begun refl (plain-answer title.answer) in
-    plain-append (decimal title.line ++ 32 ∷ event_text title.event ++ codes ": " ++ answer_text title.answer) (more_text title.more)
-    answered (plain-more title.more)
+    plain-append (decimal title.line ++ 32 ∷ event_text title.event ++ codes ": " ++ answer_text title.answer) (detail_text title.more)
+    answered (plain-detail title.more)
 
 -- words
 
@@ -268,25 +268,25 @@ plain-label label more =
     plain-append (bytes_text label) (if more == 0 then [] else codes "+" ++ decimal more) (plain-bytes label)
     (plain-if (more == 0) [] (codes "+" ++ decimal more) refl (plain-decimal more))
 
-plain-standing : (standing : Option Standing) → is_plain_text (standing_text standing) ≡ true
-plain-standing None = refl
-plain-standing (Some now) =
+plain-end-state : (end_state : Option EndState) → is_plain_text (end_state_text end_state) ≡ true
+plain-end-state None = refl
+plain-end-state (Some now) =
     let begun = plain-three (decimal now.inc) (codes " interval ") (decimal now.interval)
     (plain-decimal now.inc) refl (plain-decimal now.interval) in
     plain-append (decimal now.inc ++ codes " interval " ++ decimal now.interval) (32 ∷ status_text now.status) begun (plain-status now.status)
 
-pub plain-what : (cluster : Cluster) → HasPlainNames cluster → (what : What) → is_plain_text (what_text cluster what) ≡ true
-plain-what cluster names (whats.Number number) = plain-decimal number
-plain-what cluster names (whats.Inc inc) = plain-decimal inc
-plain-what cluster names (whats.Round round) = plain-decimal round
-plain-what cluster names whats.Gathering = refl
-plain-what cluster names (whats.Recovery state) = plain-recovery state
-plain-what cluster names (whats.Place place) = plain-decimal place
-plain-what cluster names (whats.Output label more) = plain-label label more
-plain-what cluster names (whats.End status) = plain-status status
-plain-what cluster names (whats.Why answer) = plain-why answer
-plain-what cluster names (whats.Standing standing) = plain-standing standing
-plain-what cluster names (whats.Name p) = plain-entry cluster.processes p names.processes
-plain-what cluster names (whats.Program p) =
+pub plain-content : (cluster : Cluster) → HasPlainNames cluster → (what : LabelContent) → is_plain_text (content_text cluster what) ≡ true
+plain-content cluster names (contents.Number number) = plain-decimal number
+plain-content cluster names (contents.Inc inc) = plain-decimal inc
+plain-content cluster names (contents.Round round) = plain-decimal round
+plain-content cluster names contents.Gathering = refl
+plain-content cluster names (contents.Recovery state) = plain-recovery state
+plain-content cluster names (contents.Place place) = plain-decimal place
+plain-content cluster names (contents.Output label more) = plain-label label more
+plain-content cluster names (contents.End status) = plain-status status
+plain-content cluster names (contents.Why answer) = plain-why answer
+plain-content cluster names (contents.EndState end_state) = plain-end-state end_state
+plain-content cluster names (contents.Name p) = plain-entry cluster.processes p names.processes
+plain-content cluster names (contents.Program p) =
     plain-option (slice_get cluster.processes p) (λ e. program_name cluster e.1) (λ e. plain-or cluster.programs e.1 _ names.programs refl)
-plain-what cluster names whats.Line = refl
+plain-content cluster names contents.Line = refl

@@ -2,7 +2,7 @@
 use Rattle.std.specs.Prelude.{ℕ, List, ◌∷◌, ◌++◌, codes, decimal}
 use Rattle.std.specs.List.{flat_map}
 use Rattle.om_scripts.specs.Programs.{Cluster}
-use Rattle.om_svg.specs.ShapeText.{band_text, crossing_text, road_text, shape_text, way_text}
+use Rattle.om_svg.specs.ShapeText.{band_text, crossing_text, segment_text, shape_text, message_line_text}
 use Rattle.om_svg.specs.WordText.{word_text}
 use Rattle.om_sheet.specs.declared.sheet.Counts.{Counts}
 use Rattle.om_sheet.specs.declared.sheet.Drawn.{Drawn}
@@ -41,8 +41,8 @@ open_text drawn =
 unfoldable pub layers_text : ℕ → Sheet → List ℕ
 layers_text bottom sheet =
     flat_map (band_text bottom) sheet.back.items
-    ++ flat_map road_text sheet.road.items
-    ++ flat_map way_text sheet.send.items
+    ++ flat_map segment_text sheet.segment.items
+    ++ flat_map message_line_text sheet.send.items
     ++ flat_map crossing_text sheet.line.items
 
 -- the two lines of the head

@@ -7,11 +7,11 @@ use Rattle.om_svg.specs.AnswerText.{recovery_text, why_word}
 use Rattle.om_world.specs.Texts.{status_text}
 use Rattle.om_sheet.specs.declared.sheet.Style.{Style}
 use Rattle.om_sheet.specs.declared.sheet.Style.TheVariants as styles
-use Rattle.om_sheet.specs.declared.sheet.What.{What}
-use Rattle.om_sheet.specs.declared.sheet.What.TheVariants as whats
+use Rattle.om_sheet.specs.declared.sheet.LabelContent.{LabelContent}
+use Rattle.om_sheet.specs.declared.sheet.LabelContent.TheVariants as contents
 use Rattle.om_sheet.specs.declared.sheet.Word.{Word}
 use Rattle.om_sheet.specs.declared.step.Label.{Label}
-use Rattle.om_sheet.specs.declared.step.Standing.{Standing}
+use Rattle.om_sheet.specs.declared.step.EndState.{EndState}
 use Rattle.om_sheet.specs.declared.step.TheConstants.{LABEL_BYTES}
 
 -- a name, if there is one
@@ -31,25 +31,25 @@ abbrev pub label_text : Label → ℕ → List ℕ
 label_text label more = bytes_text label ++ (if more == 0 then [] else codes "+" ++ decimal more)
 
 -- where a process stands
-abbrev pub standing_text : Option Standing → List ℕ
-standing_text None = codes "down"
-standing_text (Some now) =
+abbrev pub end_state_text : Option EndState → List ℕ
+end_state_text None = codes "down"
+end_state_text (Some now) =
     codes "inc " ++ decimal now.inc ++ codes " interval " ++ decimal now.interval ++ 32 ∷ status_text now.status
 
-abbrev pub what_text : Cluster → What → List ℕ
-what_text cluster (whats.Number number) = decimal number
-what_text cluster (whats.Inc inc) = codes "inc " ++ decimal inc
-what_text cluster (whats.Round round) = codes "round " ++ decimal round
-what_text cluster whats.Gathering = codes "gathering"
-what_text cluster (whats.Recovery state) = recovery_text state
-what_text cluster (whats.Place place) = codes "recovery " ++ decimal place
-what_text cluster (whats.Output label more) = label_text label more
-what_text cluster (whats.End status) = status_text status
-what_text cluster (whats.Why answer) = why_word answer
-what_text cluster (whats.Standing standing) = standing_text standing
-what_text cluster (whats.Name p) = name_text (option_map (λ e. e.0) (slice_get cluster.processes p))
-what_text cluster (whats.Program p) = name_text (option_map (λ e. program_name cluster e.1) (slice_get cluster.processes p))
-what_text cluster whats.Line = codes "line"
+abbrev pub content_text : Cluster → LabelContent → List ℕ
+content_text cluster (contents.Number number) = decimal number
+content_text cluster (contents.Inc inc) = codes "inc " ++ decimal inc
+content_text cluster (contents.Round round) = codes "round " ++ decimal round
+content_text cluster contents.Gathering = codes "gathering"
+content_text cluster (contents.Recovery state) = recovery_text state
+content_text cluster (contents.Place place) = codes "recovery " ++ decimal place
+content_text cluster (contents.Output label more) = label_text label more
+content_text cluster (contents.End status) = status_text status
+content_text cluster (contents.Why answer) = why_word answer
+content_text cluster (contents.EndState end_state) = end_state_text end_state
+content_text cluster (contents.Name p) = name_text (option_map (λ e. e.0) (slice_get cluster.processes p))
+content_text cluster (contents.Program p) = name_text (option_map (λ e. program_name cluster e.1) (slice_get cluster.processes p))
+content_text cluster contents.Line = codes "line"
 
 abbrev pub style_text : Style → List ℕ
 style_text styles.Plain = []
@@ -61,4 +61,4 @@ style_text styles.Middle = codes " class=\"p\""
 abbrev pub word_text : Cluster → Word → List ℕ
 word_text cluster word =
     codes "<text" ++ style_text word.style ++ codes " x=\"" ++ decimal word.x ++ codes "\" y=\"" ++ decimal word.y ++ codes "\">"
-    ++ what_text cluster word.what ++ codes "</text>\n"
+    ++ content_text cluster word.what ++ codes "</text>\n"

@@ -4,11 +4,11 @@ ghost use Rattle.std.specs.Prelude.{◌≡◌, ℕ, List, true};
 ghost use Rattle.om_scripts.specs.Named.{is_name};
 ghost use Rattle.om_scripts.specs.Programs.{Cluster};
 ghost use Rattle.om_sheet.specs.declared.sheet.Title.{Title};
-ghost use Rattle.om_sheet.specs.declared.sheet.What.{What};
+ghost use Rattle.om_sheet.specs.declared.sheet.LabelContent.{LabelContent};
 ghost use Rattle.om_svg.specs.AnswerText.{recovery_text};
 ghost use Rattle.om_svg.specs.Plain.{HasPlainNames, is_plain_text};
 ghost use Rattle.om_svg.specs.ShapeText.{told_text};
-ghost use Rattle.om_svg.specs.WordText.{what_text};
+ghost use Rattle.om_svg.specs.WordText.{content_text};
 
 /// What is told of a mark needs no escape.
 pub fn titles_are_plain()
@@ -22,7 +22,7 @@ pub fn states_are_plain()
 
 /// Nor do words, if the names of processes and programs need none.
 pub fn words_are_plain()
-    ensures { (cluster : Cluster) → HasPlainNames cluster → (what : What) → is_plain_text (what_text cluster what) ≡ true }
+    ensures { (cluster : Cluster) → HasPlainNames cluster → (what : LabelContent) → is_plain_text (content_text cluster what) ≡ true }
 {}
 
 /// Names that a script may give need none.

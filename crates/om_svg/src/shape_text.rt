@@ -2,14 +2,15 @@
 
 ghost use Rattle.std.specs.Prelude.{◌≡◌, ◌++◌, codes, OnOk, string_bytes};
 ghost use Rattle.std.specs.List.{flat_map};
-ghost use Rattle.om_svg.specs.ShapeText.{above_of, arrow_text, band_text, changed_text, circle_text, class_of, crossed_class, crossed_title, crossing_text, cut_letter, flush_text, height, left_of, message_class, message_start, more_text, numbers_text, path_end, path_of, path_text, place_text, road_text, shape_text, square_text, start_of, straight_text, stretch_class, stub_path, title_text, told_text, turning_text, way_text};
-ghost use Rattle.om_svg.specs.steps.Marks.{band_at, band_end, band_left, band_start, band_width, circle_at, circle_end, circle_middle, circle_start, circle_x, circle_y, crossed_text, flush_at, flush_end, flush_start, line_text, path_at, path_middle, path_start, path_tail, square_at, square_class, square_end, square_start, square_x, turning_at, turning_end, turning_start};
-ghost use Rattle.om_sheet.specs.declared.sheet.Way.{Way};
+ghost use Rattle.om_svg.specs.ShapeText.{above_of, arrow_text, band_text, changed_text, circle_text, class_of, line_kind_class, crossed_title, crossing_text, cut_letter, flush_text, height, left_of, message_class, message_start, detail_text, numbers_text, path_end, path_of, path_text, place_text, segment_text, shape_text, square_text, start_of, straight_text, segment_class, stub_path, title_text, told_text, turning_text, message_line_text};
+ghost use Rattle.om_svg.specs.steps.Marks.{band_at, band_end, band_left, band_start, band_width, circle_at, circle_end, circle_middle, circle_start, circle_x, circle_y, line_kind_text, flush_at, flush_end, flush_start, line_text, path_at, path_middle, path_start, path_tail, square_at, square_class, square_end, square_start, square_x, turning_at, turning_end, turning_start};
+ghost use Rattle.om_sheet.specs.declared.sheet.MessageLine.{MessageLine};
 
 use crate::answer_text::{push_answer, push_event, push_recovery};
 use om_interval::DepVec;
 use om_sheet::{
-    Band, Crossed, Crossing, Form, More, Numbers, Road, Shape, Spot, Stretch, Title, Way,
+    Band, Crossing, Glyph, LaneSegment, LineKind, MessageLine, Numbers, SegmentKind, Shape, Spot,
+    Title, TitleDetail,
 };
 use std::alloc::AllocError;
 use std::fmt::Write;
@@ -75,37 +76,37 @@ fn push_band_end(text: &mut String, high: u32) -> Result<(), AllocError>
     write!(text, "\" height=\"{high}\"/>\n")
 }
 
-fn stretch_class(kind: Stretch) -> &'static str
-    ensures { result.now ≡ stretch_class kind }
+fn segment_class(kind: SegmentKind) -> &'static str
+    ensures { result.now ≡ segment_class kind }
 {
     match kind {
-        Stretch::Up(inc) => match inc % 3 {
+        SegmentKind::Up(inc) => match inc % 3 {
             0 => "u0",
             1 => "u1",
             _ => "u2",
         },
-        Stretch::In => "w",
-        Stretch::Down => "d",
-        Stretch::Cut => "c",
+        SegmentKind::In => "w",
+        SegmentKind::Down => "d",
+        SegmentKind::Cut => "c",
     }
 }
 
 /// Writes a piece of a lane, or a tick.
-pub fn push_road(text: &mut String, road: Road) -> Result<(), AllocError>
-    ensures { OnOk result (string_bytes text.new ≡ string_bytes text.old ++ road_text road) }
+pub fn push_segment(text: &mut String, segment: LaneSegment) -> Result<(), AllocError>
+    ensures { OnOk result (string_bytes text.new ≡ string_bytes text.old ++ segment_text segment) }
 {
-    match road {
-        Road::Stretch {
+    match segment {
+        LaneSegment::Span {
             kind,
             lane,
             from,
             to,
         } => {
-            let class = stretch_class(kind);
+            let class = segment_class(kind);
             let y = height(lane);
             write!(text, "<path class=\"{class}\" d=\"M{from} {y}H{to}\"/>\n")
         }
-        Road::Tick { x } => write!(text, "<path class=\"q\" d=\"M{x} 57v4\"/>\n"),
+        LaneSegment::Tick { x } => write!(text, "<path class=\"q\" d=\"M{x} 57v4\"/>\n"),
     }
 }
 
@@ -176,11 +177,11 @@ fn push_message_start(text: &mut String, again: bool, cut: bool) -> Result<(), A
 }
 
 /// Writes a line across the lanes.
-pub fn push_way(text: &mut String, way: Way) -> Result<(), AllocError>
-    ensures { OnOk result (string_bytes text.new ≡ string_bytes text.old ++ way_text way) }
+pub fn push_message_line(text: &mut String, message_line: MessageLine) -> Result<(), AllocError>
+    ensures { OnOk result (string_bytes text.new ≡ string_bytes text.old ++ message_line_text message_line) }
 {
-    match way {
-        Way::Message {
+    match message_line {
+        MessageLine::Message {
             again,
             cut,
             from,
@@ -189,18 +190,18 @@ pub fn push_way(text: &mut String, way: Way) -> Result<(), AllocError>
             push_message_start(text, again, cut)?;
             push_arrow(text, from, to)
         }
-        Way::Trail { from, to } => {
+        MessageLine::Trail { from, to } => {
             text.push_str("<path class=\"o\" d=\"")?;
             push_arrow(text, from, to)
         }
-        Way::Short { below, to } => push_short(text, below, to),
-        Way::Held { from, to } => push_held(text, from, to),
-        Way::Stub { below, from } => push_stub(text, below, from),
+        MessageLine::Short { below, to } => push_short(text, below, to),
+        MessageLine::Held { from, to } => push_held(text, from, to),
+        MessageLine::Stub { below, from } => push_stub(text, below, from),
     }
 }
 
 fn push_short(text: &mut String, below: bool, to: Spot) -> Result<(), AllocError>
-    ensures { OnOk result (string_bytes text.new ≡ string_bytes text.old ++ way_text (Way.Short below to)) }
+    ensures { OnOk result (string_bytes text.new ≡ string_bytes text.old ++ message_line_text (MessageLine.Short below to)) }
 {
     let x = to.x;
     let y = height(to.lane);
@@ -210,7 +211,7 @@ fn push_short(text: &mut String, below: bool, to: Spot) -> Result<(), AllocError
 }
 
 fn push_held(text: &mut String, from: u32, to: Spot) -> Result<(), AllocError>
-    ensures { OnOk result (string_bytes text.new ≡ string_bytes text.old ++ way_text (Way.Held from to)) }
+    ensures { OnOk result (string_bytes text.new ≡ string_bytes text.old ++ message_line_text (MessageLine.Held from to)) }
 {
     let start = u64::from(from) + 5;
     let y = height(to.lane) - 19;
@@ -229,12 +230,12 @@ fn stub_path(below: bool) -> &'static str
 }
 
 fn push_stub(text: &mut String, below: bool, from: Spot) -> Result<(), AllocError>
-    ensures { OnOk result (string_bytes text.new ≡ string_bytes text.old ++ way_text (Way.Stub below from)) }
+    ensures { OnOk result (string_bytes text.new ≡ string_bytes text.old ++ message_line_text (MessageLine.Stub below from)) }
 {
     let x = from.x;
     let y = height(from.lane);
-    let way = stub_path(below);
-    write!(text, "<path class=\"q\" d=\"M{x} {y}{way}\"/>\n")
+    let path = stub_path(below);
+    write!(text, "<path class=\"q\" d=\"M{x} {y}{path}\"/>\n")
 }
 
 /// Writes a recovery line.
@@ -243,34 +244,34 @@ pub fn push_crossing(text: &mut String, crossing: &Crossing) -> Result<(), Alloc
 {
     push_line(text, crossing)?;
     push_places(text, &crossing.places)?;
-    push_crossed(text, &crossing.kind)
+    push_line_kind(text, &crossing.kind)
 }
 
-fn crossed_class(kind: &Crossed) -> &'static str
-    ensures { result.now ≡ crossed_class kind.now }
+fn line_kind_class(kind: &LineKind) -> &'static str
+    ensures { result.now ≡ line_kind_class kind.now }
 {
     match kind {
-        Crossed::Round(_) => "r",
-        Crossed::End(_) => "j",
+        LineKind::Round(_) => "r",
+        LineKind::End(_) => "j",
     }
 }
 
 // Writes what is told of a recovery line.
-#[tactic(auto, unfolding(crate::specs::steps::Marks::crossed_text))]
-fn push_crossed(text: &mut String, kind: &Crossed) -> Result<(), AllocError>
-    ensures { OnOk result (string_bytes text.new ≡ string_bytes text.old ++ crossed_text kind.now) }
+#[tactic(auto, unfolding(crate::specs::steps::Marks::line_kind_text))]
+fn push_line_kind(text: &mut String, kind: &LineKind) -> Result<(), AllocError>
+    ensures { OnOk result (string_bytes text.new ≡ string_bytes text.old ++ line_kind_text kind.now) }
 {
     text.push_str("v14\">")?;
-    push_crossed_title(text, kind)?;
+    push_line_title(text, kind)?;
     text.push_str("</path>\n")
 }
 
-fn push_crossed_title(text: &mut String, kind: &Crossed) -> Result<(), AllocError>
+fn push_line_title(text: &mut String, kind: &LineKind) -> Result<(), AllocError>
     ensures { OnOk result (string_bytes text.new ≡ string_bytes text.old ++ crossed_title kind.now) }
 {
     match kind {
-        Crossed::Round(title) => push_title(text, title),
-        Crossed::End(state) => {
+        LineKind::Round(title) => push_title(text, title),
+        LineKind::End(state) => {
             text.push_str("<title>")?;
             push_recovery(text, state.as_slice())?;
             text.push_str("</title>")
@@ -293,7 +294,7 @@ fn start_of(places: &[Spot]) -> u32
 fn push_line(text: &mut String, crossing: &Crossing) -> Result<(), AllocError>
     ensures { OnOk result (string_bytes text.new ≡ string_bytes text.old ++ line_text crossing.now) }
 {
-    let class = crossed_class(&crossing.kind);
+    let class = line_kind_class(&crossing.kind);
     let first = start_of(&crossing.places);
     write!(text, "<path class=\"{class}\" d=\"M{first} 88")
 }
@@ -316,61 +317,61 @@ fn push_place(text: &mut String, spot: Spot) -> Result<(), AllocError>
 }
 
 // The class of a mark.
-fn class_of(form: Form) -> &'static str
-    ensures { result.now ≡ class_of form }
+fn class_of(glyph: Glyph) -> &'static str
+    ensures { result.now ≡ class_of glyph }
 {
-    match form {
-        Form::Receipt { stored: true }
-        | Form::Checkpoint
-        | Form::Head { released: true }
-        | Form::Dot
-        | Form::Back
-        | Form::Released => "l",
-        Form::Receipt { stored: false } | Form::Head { released: false } | Form::GoesOn => "v",
-        Form::Stem { .. } | Form::End | Form::Join => "k",
-        Form::Refused => "h",
-        Form::Flush { .. } => "i",
-        Form::Failure => "f",
+    match glyph {
+        Glyph::Receipt { stored: true }
+        | Glyph::Checkpoint
+        | Glyph::Head { released: true }
+        | Glyph::Dot
+        | Glyph::Back
+        | Glyph::Released => "l",
+        Glyph::Receipt { stored: false } | Glyph::Head { released: false } | Glyph::GoesOn => "v",
+        Glyph::Stem { .. } | Glyph::End | Glyph::Join => "k",
+        Glyph::Refused => "h",
+        Glyph::Flush { .. } => "i",
+        Glyph::Failure => "f",
     }
 }
 
 // Returns how far left of its place the path of a mark begins.
-fn left_of(form: Form) -> u64
-    ensures { result ≡ left_of form }
+fn left_of(glyph: Glyph) -> u64
+    ensures { result ≡ left_of glyph }
 {
-    match form {
-        Form::Failure => 6,
-        Form::Head { .. } | Form::Back | Form::GoesOn | Form::Released => 4,
+    match glyph {
+        Glyph::Failure => 6,
+        Glyph::Head { .. } | Glyph::Back | Glyph::GoesOn | Glyph::Released => 4,
         _ => 0,
     }
 }
 
 // Returns how far above its lane.
-fn above_of(form: Form) -> u64
-    ensures { result ≡ above_of form }
+fn above_of(glyph: Glyph) -> u64
+    ensures { result ≡ above_of glyph }
 {
-    match form {
-        Form::Head { .. } | Form::Released => 16,
-        Form::End => 7,
-        Form::Refused => 5,
-        Form::Failure | Form::Join | Form::Back | Form::GoesOn => 6,
+    match glyph {
+        Glyph::Head { .. } | Glyph::Released => 16,
+        Glyph::End => 7,
+        Glyph::Refused => 5,
+        Glyph::Failure | Glyph::Join | Glyph::Back | Glyph::GoesOn => 6,
         _ => 0,
     }
 }
 
 // The path of a mark, from there on.
-fn path_of(form: Form) -> &'static str
-    ensures { result.now ≡ path_of form }
+fn path_of(glyph: Glyph) -> &'static str
+    ensures { result.now ≡ path_of glyph }
 {
-    match form {
-        Form::Stem { again: true } => "v-16m-4 0h8",
-        Form::Stem { again: false } => "v-16",
-        Form::Head { .. } | Form::Released => "l4-6 4 6z",
-        Form::End => "v14",
-        Form::Refused => "l5 5-5 5-5-5z",
-        Form::Failure => "l12 12m0-12l-12 12",
-        Form::Join => "v12",
-        Form::Back | Form::GoesOn => "l10 6-10 6z",
+    match glyph {
+        Glyph::Stem { again: true } => "v-16m-4 0h8",
+        Glyph::Stem { again: false } => "v-16",
+        Glyph::Head { .. } | Glyph::Released => "l4-6 4 6z",
+        Glyph::End => "v14",
+        Glyph::Refused => "l5 5-5 5-5-5z",
+        Glyph::Failure => "l12 12m0-12l-12 12",
+        Glyph::Join => "v12",
+        Glyph::Back | Glyph::GoesOn => "l10 6-10 6z",
         _ => "",
     }
 }
@@ -379,11 +380,11 @@ fn path_of(form: Form) -> &'static str
 pub fn push_shape(text: &mut String, shape: &Shape) -> Result<(), AllocError>
     ensures { OnOk result (string_bytes text.new ≡ string_bytes text.old ++ shape_text shape.now) }
 {
-    match shape.form {
-        Form::Receipt { .. } => push_circle(text, shape, 4),
-        Form::Dot => push_circle(text, shape, 2),
-        Form::Checkpoint => push_square(text, shape),
-        Form::Flush { from } => push_flush(text, shape, from),
+    match shape.glyph {
+        Glyph::Receipt { .. } => push_circle(text, shape, 4),
+        Glyph::Dot => push_circle(text, shape, 2),
+        Glyph::Checkpoint => push_square(text, shape),
+        Glyph::Flush { from } => push_flush(text, shape, from),
         _ => push_path(text, shape),
     }
 }
@@ -391,7 +392,7 @@ pub fn push_shape(text: &mut String, shape: &Shape) -> Result<(), AllocError>
 fn push_circle(text: &mut String, shape: &Shape, radius: u32) -> Result<(), AllocError>
     ensures { OnOk result (string_bytes text.new ≡ string_bytes text.old ++ circle_text shape.now radius) }
 {
-    let class = class_of(shape.form);
+    let class = class_of(shape.glyph);
     let cut = cut_letter(shape.cut);
     let y = height(shape.at.lane);
     push_circle_at(text, class, cut, shape.at.x, y, radius)?;
@@ -532,11 +533,11 @@ fn push_flush_end(text: &mut String, x: u32) -> Result<(), AllocError>
 fn push_path(text: &mut String, shape: &Shape) -> Result<(), AllocError>
     ensures { OnOk result (string_bytes text.new ≡ string_bytes text.old ++ path_text shape.now) }
 {
-    let class = class_of(shape.form);
+    let class = class_of(shape.glyph);
     let cut = cut_letter(shape.cut);
-    let x = u64::from(shape.at.x).saturating_sub(left_of(shape.form));
-    let y = height(shape.at.lane).saturating_sub(above_of(shape.form));
-    let path = path_of(shape.form);
+    let x = u64::from(shape.at.x).saturating_sub(left_of(shape.glyph));
+    let y = height(shape.at.lane).saturating_sub(above_of(shape.glyph));
+    let path = path_of(shape.glyph);
     push_path_at(text, class, cut, x, y, path)?;
     push_path_end(text, shape)
 }
@@ -581,10 +582,10 @@ fn push_path_tail(text: &mut String, path: &str) -> Result<(), AllocError>
 // Writes what stands behind the path: stems and heads have no title.
 #[tactic(auto, unfolding(crate::specs::ShapeText::path_end))]
 fn push_path_end(text: &mut String, shape: &Shape) -> Result<(), AllocError>
-    ensures { OnOk result (string_bytes text.new ≡ string_bytes text.old ++ path_end shape.now.form shape.now.title) }
+    ensures { OnOk result (string_bytes text.new ≡ string_bytes text.old ++ path_end shape.now.glyph shape.now.title) }
 {
-    match shape.form {
-        Form::Stem { .. } | Form::Head { .. } => text.push_str("/>\n"),
+    match shape.glyph {
+        Glyph::Stem { .. } | Glyph::Head { .. } => text.push_str("/>\n"),
         _ => {
             text.push('>')?;
             push_title(text, &shape.title)?;
@@ -612,24 +613,24 @@ fn push_told(text: &mut String, title: &Title) -> Result<(), AllocError>
     push_event(text, title.event)?;
     text.push_str(": ")?;
     push_answer(text, title.answer)?;
-    push_more(text, title.more)
+    push_detail(text, title.more)
 }
 
-fn push_more(text: &mut String, more: More) -> Result<(), AllocError>
-    ensures { OnOk result (string_bytes text.new ≡ string_bytes text.old ++ more_text more) }
+fn push_detail(text: &mut String, more: TitleDetail) -> Result<(), AllocError>
+    ensures { OnOk result (string_bytes text.new ≡ string_bytes text.old ++ detail_text more) }
 {
     match more {
-        More::Nothing => Ok(()),
-        More::Made { outputs, frames } => {
+        TitleDetail::Nothing => Ok(()),
+        TitleDetail::Made { outputs, frames } => {
             push_numbers(text, "output", outputs)?;
             push_numbers(text, "frame", frames)
         }
-        More::Interval(interval) => write!(text, ", interval {interval}"),
-        More::Released(changed) => {
+        TitleDetail::Interval(interval) => write!(text, ", interval {interval}"),
+        TitleDetail::Released(changed) => {
             push_changed(text, changed)?;
             text.push_str(": released")
         }
-        More::Round {
+        TitleDetail::Round {
             changed,
             round,
             state,

@@ -4,13 +4,13 @@ ghost use Rattle.std.specs.Prelude.{◌≡◌, ◌++◌, IfOk, OnOk, string_byte
 ghost use Rattle.std.specs.List.{flat_map};
 ghost use Rattle.om_svg.specs.PictureText.{head_text, key_text, layers_text, legend_text, open_text, picture_text, styles_text, summary_text};
 ghost use Rattle.om_svg.specs.steps.Sheets.{failed_text, failure_count, ground_height, ground_text, ground_width, moved_text, outputs_text, refused_count, resent_count, sent_count, sent_text, shown_count, shown_text, size_text, svg_height, svg_width, taken_count, taken_text, view_text};
-ghost use Rattle.om_svg.specs.ShapeText.{band_text, crossing_text, road_text, shape_text, way_text};
+ghost use Rattle.om_svg.specs.ShapeText.{band_text, crossing_text, segment_text, shape_text, message_line_text};
 ghost use Rattle.om_svg.specs.WordText.{word_text};
 
-use crate::shape_text::{push_band, push_crossing, push_road, push_shape, push_way};
+use crate::shape_text::{push_band, push_crossing, push_message_line, push_segment, push_shape};
 use crate::word_text::push_word;
 use om_scripts::Programs;
-use om_sheet::{Band, Counts, Crossing, Drawn, Road, Shape, Sheet, Way, Word};
+use om_sheet::{Band, Counts, Crossing, Drawn, LaneSegment, MessageLine, Shape, Sheet, Word};
 use std::alloc::{AllocError, Global};
 use std::fmt::Write;
 
@@ -313,8 +313,8 @@ fn push_layers(text: &mut String, sheet: &Sheet, bottom: u32) -> Result<(), Allo
     ensures { OnOk result (string_bytes text.new ≡ string_bytes text.old ++ layers_text bottom sheet.now) }
 {
     push_bands(text, &sheet.back, bottom)?;
-    push_roads(text, &sheet.road)?;
-    push_ways(text, &sheet.send)?;
+    push_segments(text, &sheet.segment)?;
+    push_message_lines(text, &sheet.send)?;
     push_crossings(text, &sheet.line)
 }
 
@@ -327,20 +327,20 @@ fn push_bands(text: &mut String, bands: &[Band], bottom: u32) -> Result<(), Allo
     Ok(())
 }
 
-fn push_roads(text: &mut String, roads: &[Road]) -> Result<(), AllocError>
-    ensures { OnOk result (string_bytes text.new ≡ string_bytes text.old ++ flat_map road_text roads.now) }
+fn push_segments(text: &mut String, segments: &[LaneSegment]) -> Result<(), AllocError>
+    ensures { OnOk result (string_bytes text.new ≡ string_bytes text.old ++ flat_map segment_text segments.now) }
 {
-    for road in roads {
-        push_road(text, *road)?;
+    for segment in segments {
+        push_segment(text, *segment)?;
     }
     Ok(())
 }
 
-fn push_ways(text: &mut String, ways: &[Way]) -> Result<(), AllocError>
-    ensures { OnOk result (string_bytes text.new ≡ string_bytes text.old ++ flat_map way_text ways.now) }
+fn push_message_lines(text: &mut String, message_lines: &[MessageLine]) -> Result<(), AllocError>
+    ensures { OnOk result (string_bytes text.new ≡ string_bytes text.old ++ flat_map message_line_text message_lines.now) }
 {
-    for way in ways {
-        push_way(text, *way)?;
+    for message_line in message_lines {
+        push_message_line(text, *message_line)?;
     }
     Ok(())
 }

@@ -2,11 +2,11 @@
 
 ghost use Rattle.std.specs.Prelude.{◌≡◌, ◌++◌, OnOk, string_bytes};
 ghost use Rattle.std.specs.Option.{option_map};
-ghost use Rattle.om_svg.specs.WordText.{bytes_text, label_text, name_text, standing_text, style_text, what_text, word_text};
+ghost use Rattle.om_svg.specs.WordText.{bytes_text, label_text, name_text, end_state_text, style_text, content_text, word_text};
 
 use crate::answer_text::{push_recovery, push_status, why_word};
 use om_scripts::Programs;
-use om_sheet::{LABEL_BYTES, Label, Standing, Style, What, Word};
+use om_sheet::{EndState, LABEL_BYTES, Label, LabelContent, Style, Word};
 use std::alloc::{AllocError, Global};
 use std::fmt::Write;
 
@@ -42,24 +42,24 @@ fn push_what(
     alloc: Global,
     text: &mut String,
     programs: &Programs,
-    what: What,
+    what: LabelContent,
 ) -> Result<(), AllocError>
-    ensures { OnOk result (string_bytes text.new ≡ string_bytes text.old ++ what_text programs.now what) }
+    ensures { OnOk result (string_bytes text.new ≡ string_bytes text.old ++ content_text programs.now what) }
 {
     match what {
-        What::Number(number) => write!(text, "{number}"),
-        What::Inc(inc) => write!(text, "inc {inc}"),
-        What::Round(round) => write!(text, "round {round}"),
-        What::Gathering => text.push_str("gathering"),
-        What::Recovery(state) => push_recovery(text, state.as_slice()),
-        What::Place(place) => write!(text, "recovery {place}"),
-        What::Output { label, more } => push_label(alloc, text, label, more),
-        What::End(status) => push_status(text, status),
-        What::Why(answer) => text.push_str(why_word(answer)),
-        What::Standing(standing) => push_standing(text, standing),
-        What::Name(p) => push_name(text, programs.name(p)),
-        What::Program(p) => push_name(text, programs.program_of(p)),
-        What::Line => text.push_str("line"),
+        LabelContent::Number(number) => write!(text, "{number}"),
+        LabelContent::Inc(inc) => write!(text, "inc {inc}"),
+        LabelContent::Round(round) => write!(text, "round {round}"),
+        LabelContent::Gathering => text.push_str("gathering"),
+        LabelContent::Recovery(state) => push_recovery(text, state.as_slice()),
+        LabelContent::Place(place) => write!(text, "recovery {place}"),
+        LabelContent::Output { label, more } => push_label(alloc, text, label, more),
+        LabelContent::End(status) => push_status(text, status),
+        LabelContent::Why(answer) => text.push_str(why_word(answer)),
+        LabelContent::EndState(end_state) => push_end_state(text, end_state),
+        LabelContent::Name(p) => push_name(text, programs.name(p)),
+        LabelContent::Program(p) => push_name(text, programs.program_of(p)),
+        LabelContent::Line => text.push_str("line"),
     }
 }
 
@@ -98,10 +98,10 @@ fn push_bytes(alloc: Global, text: &mut String, label: Label) -> Result<(), Allo
     text.push_str("..")
 }
 
-fn push_standing(text: &mut String, standing: Option<Standing>) -> Result<(), AllocError>
-    ensures { OnOk result (string_bytes text.new ≡ string_bytes text.old ++ standing_text standing) }
+fn push_end_state(text: &mut String, end_state: Option<EndState>) -> Result<(), AllocError>
+    ensures { OnOk result (string_bytes text.new ≡ string_bytes text.old ++ end_state_text end_state) }
 {
-    let Some(now) = standing else {
+    let Some(now) = end_state else {
         return text.push_str("down");
     };
     let inc = now.inc;

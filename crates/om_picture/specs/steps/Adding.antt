@@ -78,7 +78,7 @@ pub record Logs (many : Option ℕ) (entry : EventAt) (old new : Sketch) (p : �
   pub settles : Settles stored new (if old.on then log_marks (has_loose (lane_of old p).progress) entry else [])
 
 -- the window is reached, if this is a line of it
-pub record Reaches (old new : Sketch) (line : ℕ) : Type 0 where
+pub record ReachesWindow (old new : Sketch) (line : ℕ) : Type 0 where
   pub on : new.on ≡ (old.on || nat_le old.edge.first line)
   pub edge : new.edge ≡ old.edge
   pub drawn : new.drawn ≡ old.drawn
@@ -220,18 +220,18 @@ pub record Stays (old new : LaneState) : Type 0 where
   pub reached : new.reached ≡ old.reached
 
 -- the same, where its place in a recovery state is told
-pub record Told (place : ℕ) (old new : LaneState) : Type 0 where
+pub record TellsPlace (place : ℕ) (old new : LaneState) : Type 0 where
   pub progress : new.progress ≡ old.progress
   pub ended : new.ended ≡ old.ended
   pub reached : new.reached ≡ max old.reached place
 
 -- and what that covers waits no more
 pub record Learns (place : ℕ) (old new : LaneState) : Type 0 where
-  pub told : Told place old new
+  pub told : TellsPlace place old new
   pub held : held_in new ≡ left_behind new.reached (held_in old)
 
 -- all marks come to the same
-pub record Keeps (value : ℕ → LaneState → List EventMark) (old new : Sketch) : Type 0 where
+pub record KeepsMarks (value : ℕ → LaneState → List EventMark) (old new : Sketch) : Type 0 where
   pub on : new.on ≡ old.on
   pub edge : new.edge ≡ old.edge
   pub count : length new.lanes ≡ length old.lanes
@@ -256,8 +256,8 @@ freed_below row old (suc p) =
 
 -- a lane is learning its place: what waits first goes while that covers it; found: there were outputs among that from elsewhere
 pub record Learning (row : EventRow) (found : Bool) (old new : Sketch) (p : ℕ) : Type 0 where
-  pub keeps : (later : List EventRow) → Keeps (amid_marks row later) old new
-  pub here : Told (slice_index row.recovery p) (lane_of old p) (lane_of new p)
+  pub keeps : (later : List EventRow) → KeepsMarks (amid_marks row later) old new
+  pub here : TellsPlace (slice_index row.recovery p) (lane_of old p) (lane_of new p)
   pub left : left_behind (lane_of new p).reached (held_in (lane_of old p)) ≡ left_behind (lane_of new p).reached (held_in (lane_of new p))
   pub freed : is_any_elsewhere row.entry.at.x (covered_by (lane_of new p).reached (held_in (lane_of old p)))
       ≡ (found || is_any_elsewhere row.entry.at.x (covered_by (lane_of new p).reached (held_in (lane_of new p))))
@@ -265,7 +265,7 @@ pub record Learning (row : EventRow) (found : Bool) (old new : Sketch) (p : ℕ)
 
 -- a lane learns its place in a recovery state
 pub record LearnsAt (row : EventRow) (old new : Sketch) (p : ℕ) : Type 0 where
-  pub keeps : (later : List EventRow) → Keeps (amid_marks row later) old new
+  pub keeps : (later : List EventRow) → KeepsMarks (amid_marks row later) old new
   pub here : Learns (slice_index row.recovery p) (lane_of old p) (lane_of new p)
   pub others : (q : ℕ) → q ≢ p → lane_of new q ≡ lane_of old q
 
@@ -282,7 +282,7 @@ pub record LearnsAll (row : EventRow) (old new : Sketch) : Type 0 where
 
 -- some of what waits on a lane is settled
 pub record SettlesSome (finished : Bool) (old new : Sketch) (p : ℕ) : Type 0 where
-  pub keeps : Keeps (now_marks finished) old new
+  pub keeps : KeepsMarks (now_marks finished) old new
   pub here : Stays (lane_of old p) (lane_of new p)
   pub others : (q : ℕ) → q ≢ p → lane_of new q ≡ lane_of old q
 
@@ -293,13 +293,13 @@ pub record SettlesLane (finished : Bool) (old new : Sketch) (p : ℕ) : Type 0 w
 
 -- and on the lanes below one
 pub record SettlesBelow (finished : Bool) (old new : Sketch) (p : ℕ) : Type 0 where
-  pub keeps : Keeps (now_marks finished) old new
+  pub keeps : KeepsMarks (now_marks finished) old new
   pub lanes : (q : ℕ) → Stays (lane_of old q) (lane_of new q)
   pub empty : (q : ℕ) → q < p → (lane_of new q).waiting ≡ []
 
 -- and on all lanes
 pub record SettlesAll (finished : Bool) (old new : Sketch) : Type 0 where
-  pub keeps : Keeps (now_marks finished) old new
+  pub keeps : KeepsMarks (now_marks finished) old new
   pub lanes : (p : ℕ) → Stays (lane_of old p) (lane_of new p)
   pub empty : (p : ℕ) → p < length old.lanes → (lane_of new p).waiting ≡ []
 

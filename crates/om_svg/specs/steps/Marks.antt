@@ -2,11 +2,11 @@
 use Rattle.std.specs.Prelude.{ℕ, ◌+◌, ◌-◌, List, ◌∷◌, ◌++◌, codes, decimal}
 use Rattle.std.specs.List.{flat_map}
 use Rattle.om_sheet.specs.declared.sheet.Band.{Band}
-use Rattle.om_sheet.specs.declared.sheet.Crossed.{Crossed}
+use Rattle.om_sheet.specs.declared.sheet.LineKind.{LineKind}
 use Rattle.om_sheet.specs.declared.sheet.Crossing.{Crossing}
 use Rattle.om_sheet.specs.declared.sheet.Shape.{Shape}
 use Rattle.om_sheet.specs.declared.sheet.Spot.{Spot}
-use Rattle.om_svg.specs.ShapeText.{above_of, class_of, crossed_class, crossed_title, cut_letter, height, left_of, path_end, path_of, place_text, start_of, title_text}
+use Rattle.om_svg.specs.ShapeText.{above_of, class_of, line_kind_class, crossed_title, cut_letter, height, left_of, path_end, path_of, place_text, start_of, title_text}
 
 -- a rectangle of this left side, width and height
 unfoldable pub band_left : ℕ → List ℕ
@@ -60,7 +60,7 @@ circle_at class cut x y radius = circle_start class cut ++ circle_middle x y ++ 
 
 unfoldable pub circle_parts : Shape → ℕ → List ℕ
 circle_parts shape radius =
-    circle_at (class_of shape.form) (cut_letter shape.cut) shape.at.x (height shape.at.lane) radius ++ title_text shape.title
+    circle_at (class_of shape.glyph) (cut_letter shape.cut) shape.at.x (height shape.at.lane) radius ++ title_text shape.title
     ++ codes "</circle>\n"
 
 unfoldable pub square_class : List ℕ → List ℕ
@@ -109,16 +109,16 @@ path_at class cut x y path = path_start class cut ++ path_middle x y ++ path_tai
 
 unfoldable pub path_parts : Shape → List ℕ
 path_parts shape =
-    path_at (class_of shape.form) (cut_letter shape.cut) (shape.at.x - left_of shape.form) (height shape.at.lane - above_of shape.form)
-    (path_of shape.form) ++ path_end shape.form shape.title
+    path_at (class_of shape.glyph) (cut_letter shape.cut) (shape.at.x - left_of shape.glyph) (height shape.at.lane - above_of shape.glyph)
+    (path_of shape.glyph) ++ path_end shape.glyph shape.title
 
-unfoldable pub crossed_text : Crossed → List ℕ
-crossed_text kind = codes "v14\">" ++ crossed_title kind ++ codes "</path>\n"
+unfoldable pub line_kind_text : LineKind → List ℕ
+line_kind_text kind = codes "v14\">" ++ crossed_title kind ++ codes "</path>\n"
 
 unfoldable pub line_text : Crossing → List ℕ
 line_text crossing =
-    codes "<path class=\"" ++ crossed_class crossing.kind ++ codes "\" d=\"M" ++ decimal (start_of crossing.places.items) ++ codes " 88"
+    codes "<path class=\"" ++ line_kind_class crossing.kind ++ codes "\" d=\"M" ++ decimal (start_of crossing.places.items) ++ codes " 88"
 
 -- a recovery line
 unfoldable pub crossing_parts : Crossing → List ℕ
-crossing_parts crossing = line_text crossing ++ flat_map place_text crossing.places.items ++ crossed_text crossing.kind
+crossing_parts crossing = line_text crossing ++ flat_map place_text crossing.places.items ++ line_kind_text crossing.kind

@@ -1,5 +1,5 @@
-use Rattle.om_svg.proofs.PlainLemmas.{plain-what}
+use Rattle.om_svg.proofs.PlainLemmas.{plain-content}
 use Rattle.om_svg.proofs.laws.words_are_plain.Goals as goal
 
 pub returns : goal.returns
-returns c = plain-what
+returns c = plain-content

@@ -10,4 +10,4 @@ returns-then-mark-eq0 c =
 pub returns : goal.returns
 returns c =
     settles_mark c.add_form.result (sketch_of c.args.self.now) (sketch_of c.add_outputs.new.self) (sketch_of c.add_form.new.self)
-    c.args.mark.now _ _ (not_zero c.args.mark.now.at.x c.if-mark-eq0.false) c.form_of.ensures c.in_ok-add_outputs.ensures c.add_form.ensures
+    c.args.mark.now _ _ (not_zero c.args.mark.now.at.x c.if-mark-eq0.false) c.glyph_of.ensures c.in_ok-add_outputs.ensures c.add_form.ensures

@@ -11,4 +11,4 @@ returns-then-not-self c = off_mark (sketch_of c.args.self.now) _ c.if-not-self.t
 pub returns : goal.returns
 returns c =
     on_mark c.add_shape.result (sketch_of c.args.self.now) (sketch_of c.add_shape.new.self) _ _ c.if-not-self.false
-    (ap (λ (e : EventAt). mark_of (kind_drawn c.args.form) false e) (c.title_of-title.ensures c.args.at)) c.add_shape.ensures
+    (ap (λ (e : EventAt). mark_of (kind_drawn c.args.glyph) false e) (c.title_of-title.ensures c.args.at)) c.add_shape.ensures

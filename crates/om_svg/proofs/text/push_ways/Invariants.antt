@@ -1,7 +1,0 @@
-use Rattle.std.proofs.Common.{◌≡◌, ◌++◌, take, string_bytes}
-use Rattle.std.specs.List.{flat_map}
-use Rattle.om_svg.specs.ShapeText.{way_text}
-use Rattle.om_svg.proofs.text.push_ways.Given as goal
-
-abbrev pub invariant-loop-way : goal.invariant-loop-way
-invariant-loop-way l = string_bytes l.text ≡ string_bytes l.initial.text ++ flat_map way_text (take l.way-index l.ways)
