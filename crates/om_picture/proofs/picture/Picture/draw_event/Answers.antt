@@ -1,4 +1,4 @@
-use Rattle.std.proofs.Common.{Option, ℕ, OnOk, refl, subst}
+use Rattle.std.proofs.Common.{Option, ℕ, OnOk, subst}
 use Rattle.om_picture.specs.Drawing.{sketch_of}
 use Rattle.om_picture.specs.Fates.{step_row}
 use Rattle.om_picture.specs.steps.Adding.{ShowsOn}
@@ -11,5 +11,5 @@ returns-in-Some c =
 
 pub returns-in-None : goal.returns-in-None
 returns-in-None c =
-    subst (λ (o : Option ℕ). ShowsOn o (sketch_of c.args.self.now) (sketch_of c.args.self.now) (step_row c.args.step.now c.args.at)) c.in-None.ensures
-    refl
+    subst (λ (o : Option ℕ). OnOk c.draw_whole.result (ShowsOn o (sketch_of c.args.self.now) (sketch_of c.draw_whole.new.self)
+    (step_row c.args.step.now c.args.at))) c.in-None.ensures c.draw_whole.ensures
