@@ -3,9 +3,9 @@
 use std::alloc::{AllocError, Global};
 
 /// Returns whether what is printed is of a form, in which each word in capitals stands for any word.
-pub fn is_of(printed: &str, glyph: &str) -> bool {
+pub fn is_of(printed: &str, form: &str) -> bool {
     let mut words = printed.split_whitespace();
-    for wanted in glyph.split_whitespace() {
+    for wanted in form.split_whitespace() {
         match words.next() {
             Some(word) if word == wanted || stands_for_any(wanted) => {}
             _ => return false,

@@ -4,13 +4,13 @@
 //! Each has a form, in which words in capitals stand for any: `taken X`. What is printed has to be of its form, and the form has
 //! to stand in the section of its command: in backquotes in the formats, and in the help.
 //!
-//! In an order of reading: `words` (what is printed, its forms, and where they are told), `glyphs`.
+//! In an order of reading: `words` (what is printed, its forms, and where they are told), `forms`.
 #![tactic(auto)]
 
-mod glyphs;
+mod forms;
 mod words;
 
-use crate::glyphs::{is_of, section};
+use crate::forms::{is_of, section};
 use crate::words::{
     Group, Word, answers, debug_faults, faults, image_faults, line_faults, printed, replay_faults,
     run_faults, statuses,
@@ -68,8 +68,8 @@ fn compare_rows(
     group: &Group,
 ) -> io::Result<bool> {
     let mut count: usize = 0;
-    for (word, glyph) in group.rows {
-        if is_told(rt, *word, glyph, formats, help)? {
+    for (word, form) in group.rows {
+        if is_told(rt, *word, form, formats, help)? {
             count = count.saturating_add(1);
         }
     }
@@ -83,12 +83,12 @@ fn compare_rows(
 fn is_told(
     rt: &HostRuntime,
     word: Word,
-    glyph: &str,
+    form: &str,
     formats: &str,
     help: Option<&str>,
 ) -> io::Result<bool> {
     let printed = printed(rt.alloc(), word)?;
-    if is_of(&printed, glyph) && stands(rt, "`", glyph, formats)? && is_helped(rt, glyph, help)? {
+    if is_of(&printed, form) && stands(rt, "`", form, formats)? && is_helped(rt, form, help)? {
         return Ok(true);
     }
     println!(rt; "'{printed}' is not told as '{form}'")?;
@@ -96,15 +96,15 @@ fn is_told(
 }
 
 // Returns whether the help tells of a form, where there is one that is to.
-fn is_helped(rt: &HostRuntime, glyph: &str, help: Option<&str>) -> io::Result<bool> {
+fn is_helped(rt: &HostRuntime, form: &str, help: Option<&str>) -> io::Result<bool> {
     match help {
-        Some(help) => stands(rt, " ", glyph, help),
+        Some(help) => stands(rt, " ", form, help),
         None => Ok(true),
     }
 }
 
 // Returns whether a form stands in a text between these marks.
-fn stands(rt: &HostRuntime, mark: &str, glyph: &str, text: &str) -> io::Result<bool> {
+fn stands(rt: &HostRuntime, mark: &str, form: &str, text: &str) -> io::Result<bool> {
     let marked = format!(in rt.alloc(); "{mark}{form}{mark}")?;
     Ok(text.contains(marked.as_str()))
 }
