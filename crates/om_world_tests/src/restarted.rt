@@ -13,6 +13,9 @@ const TURNS: usize = 4;
 // More frames than the script makes.
 const FRAMES: usize = 16;
 
+// Before each event of the script, and behind the last.
+const POINTS: usize = 25;
+
 fn play(rt: &impl Abort, alloc: Global, world: &mut World<MemStable>, event: Event) -> Answer {
     let answers = world.play(alloc, &[event]).expect(rt, "memory");
     let answer = answers.as_slice().first().copied().expect(rt, "an answer");
@@ -74,14 +77,14 @@ fn a_restart_at_each_point_loses_nothing(rt: HostRuntime) {
     let alloc = rt.alloc();
     let whole = wanted(&rt, alloc);
     assert_eq!(&rt; whole.is_empty(), false);
-    let mut unsettled = 0;
-    for count in 0..=RUN_WITH_A_FAILURE.len() {
+    let mut unsettled: usize = 0;
+    for count in 0..POINTS {
         let mut world = begun(&rt, alloc, count);
         let before = released(&rt, alloc, &world);
         let recovery = world.manager().recovery();
         let answer = play(&rt, alloc, &mut world, Event::Restart);
         if answer == Answer::Refused(Refusal::Unsettled) {
-            unsettled += 1;
+            unsettled = unsettled.saturating_add(1);
             continue;
         }
         assert_eq!(&rt; answer, Answer::Restarted);
