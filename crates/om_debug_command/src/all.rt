@@ -12,7 +12,7 @@ ghost use Rattle.om_debug_command.specs.declared.error.DebugError.TheVariants.{N
 
 use crate::command::stand;
 use crate::error::DebugError;
-use crate::symbols::{Symbols, check_known, file_of};
+use crate::symbols::{Symbols, check_known, file_for};
 use om_commands::{CommandError, SimScript, read_input};
 use om_debug::Wish;
 use om_inferiors::{Inferior, Inferiors, ServeError, Shown, serve};
@@ -108,10 +108,7 @@ fn member_at(
 {
     let programs = script.programs();
     let name = programs.name(place).unwrap_or("");
-    let file = match programs.program_of(place) {
-        Some(program) => file_of(alloc, symbols, program)?,
-        None => None,
-    };
+    let file = file_for(alloc, symbols, programs, place)?;
     let debugger = stand(alloc, script, place, name)?;
     Ok(Inferior {
         number: place as u32 + 1,

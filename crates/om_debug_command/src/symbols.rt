@@ -1,7 +1,7 @@
 //! Files with the symbols of programs.
 
-ghost use Rattle.std.specs.Prelude.{◌≡◌, ◌×◌, IfOk, IfErr, IsSome, MatchBool, option_map, string_bytes};
-ghost use Rattle.om_debug_command.specs.Symbols.{AreRun, IsRun, IsUnknown, file_of};
+ghost use Rattle.std.specs.Prelude.{◌≡◌, IfOk, IfErr, MatchBool, option_map, string_bytes};
+ghost use Rattle.om_debug_command.specs.Symbols.{AreRun, IsRun, IsUnknown, file_if, file_of, program_at_place};
 ghost use Rattle.om_debug_command.specs.declared.error.DebugError.TheVariants.{NoSuchName};
 
 use crate::error::DebugError;
@@ -18,19 +18,30 @@ pub struct Symbols {
 }
 
 // Returns the name of the file that is given for a program, if one is.
-pub(crate) fn file_of(
-    alloc: Global,
-    symbols: &[Symbols],
-    program: &str,
-) -> Result<Option<String>, AllocError>
+fn file_of(alloc: Global, symbols: &[Symbols], program: &str) -> Result<Option<String>, AllocError>
     ensures { IfOk result (λ file. option_map string_bytes file ≡ file_of program.now symbols.now) }
 {
     for one in symbols {
-        if one.program.as_str() == program {
+        if program == one.program.as_str() {
             return Ok(Some(String::from_str(alloc, &one.file)?));
         }
     }
     Ok(None)
+}
+
+// Returns the name of the file that is given for the program of the process at a place, if one is.
+pub(crate) fn file_for(
+    alloc: Global,
+    symbols: &[Symbols],
+    programs: &Programs,
+    place: usize,
+) -> Result<Option<String>, AllocError>
+    ensures { IfOk result (λ file. option_map string_bytes file ≡ file_if symbols.now (program_at_place programs.now place)) }
+{
+    match programs.program_of(place) {
+        Some(program) => file_of(alloc, symbols, program),
+        None => Ok(None),
+    }
 }
 
 // Refuses a file for a program that no process runs.

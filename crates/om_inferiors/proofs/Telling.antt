@@ -1,5 +1,5 @@
 -- Processes that are sent to before an event, one after another.
-use Rattle.std.proofs.Common.{◌≡◌, ℕ, zero, suc, ◌+◌, ◌<◌, List, [], ◌∷◌, ◌++◌, length, get_or, set, Option, None, Some, Result, Ok, Err, refl, sym, ap, subst, ◌∙◌, add-one, append_assoc, arith}
+use Rattle.std.proofs.Common.{◌≡◌, ℕ, zero, suc, ◌+◌, ◌<◌, ◌≤◌, List, [], ◌∷◌, ◌++◌, length, get_or, set, Option, None, Some, Result, Ok, Err, refl, sym, ap, subst, ◌∙◌, add-one, append_assoc, arith}
 use Rattle.std.specs.Prelude.{OnOk, slice_get, slice_set}
 use Rattle.std.specs.List.{AllZip}
 use Rattle.om_debug.specs.Monitor.{IsAtEvent}
@@ -54,11 +54,14 @@ more_none : {A : Type 0} (x : A) (xs : List A) → x ∷ xs ≡ [] → ⊥
 more_none x xs is = cc
 
 -- all were
-pub all_sent : (number : ℕ) (olds news : List Inferior) → AreFirstSent number (length olds) olds news → AreSentTo number olds news
-all_sent number [] [] up = tt
-all_sent number [] (n ∷ news) up = absurd (more_none n news up)
-all_sent number (o ∷ olds) [] up = absurd up
-all_sent number (o ∷ olds) (n ∷ news) up = (up.0, all_sent number olds news up.1)
+pub all_sent : (number k : ℕ) (olds news : List Inferior) → AreFirstSent number k olds news → length olds ≤ k → AreSentTo number olds news
+all_sent number zero [] [] up behind = tt
+all_sent number zero [] (n ∷ news) up behind = absurd (more_none n news up)
+all_sent number zero (o ∷ olds) news up behind = absurd (omega (arith, behind))
+all_sent number (suc k) [] [] up behind = tt
+all_sent number (suc k) [] (n ∷ news) up behind = absurd up
+all_sent number (suc k) (o ∷ olds) [] up behind = absurd up
+all_sent number (suc k) (o ∷ olds) (n ∷ news) up behind = (up.0, all_sent number k olds news up.1 (omega (arith, behind)))
 
 pub length_first : (number k : ℕ) (olds news : List Inferior) → AreFirstSent number k olds news → length news ≡ length olds
 length_first number zero olds news up = ap length up

@@ -70,7 +70,7 @@ def of_group(rng, words, events, count, breaks, watches):
         return [rng.choice([f'Hgp{p:x}.1', f'Hgp{p:x}.1', f'Hgp{p:x}.0', 'Hgp0.0', f'Hg{p:x}', f'Hgp{count + 1:x}.1'])]
     if x < 0.26:
         return [rng.choice(['Hc0', 'Hc-1', f'Hcp{p:x}.1', f'Tp{p:x}.1', f'Tp{p:x}.2'])]
-    if x < 0.3 and not os.environ.get("NO_ELF"):
+    if x < 0.3:
         return [f'qXfer:exec-file:read:{p:x}:{rng.randrange(8):x},{rng.randrange(1, 40):x}', 'qXfer:threads:read::0,1000']
     if x < 0.31:
         return [f'vCont;c:p{p:x}.-1']
