@@ -1,2 +1,1 @@
 pub mod Debug
-pub mod Symbols

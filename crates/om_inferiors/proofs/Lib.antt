@@ -1,4 +1,3 @@
 pub mod Each
 pub mod Sets
 pub mod Taking
-pub mod Telling

@@ -1,4 +1,3 @@
-pub mod Monitor
 pub mod Moving
 pub mod Serving
 pub mod Told

@@ -1,5 +1,0 @@
-set schedule-multiple off
-break transfer
-continue
-info threads
-print balance
