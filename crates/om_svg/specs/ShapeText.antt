@@ -45,7 +45,7 @@ segment_class kinds.Cut = codes "c"
 
 -- a piece of a lane, or a tick of the axis
 abbrev pub segment_text : LaneSegment → List ℕ
-segment_text (segments.SegmentKind kind lane from to) =
+segment_text (segments.Span kind lane from to) =
     codes "<path class=\"" ++ segment_class kind ++ codes "\" d=\"M" ++ decimal from ++ 32 ∷ decimal (height lane)
     ++ codes "H" ++ decimal to ++ codes "\"/>\n"
 segment_text (segments.Tick x) = codes "<path class=\"q\" d=\"M" ++ decimal x ++ codes " 57v4\"/>\n"
