@@ -46,6 +46,7 @@ fn drive(rt: &impl Abort, alloc: Global, world: &mut World<MemStable>) {
 
 // The bytes of the outputs of process 0 that are released, one after another.
 fn released(rt: &impl Abort, alloc: Global, world: &World<MemStable>) -> Vec<u8> {
+    assert!(rt; 1 <= world.manager().recovery().n());
     let mut bytes = Vec::new(alloc);
     for output in world.manager().released(Pid::at(0)) {
         let more = bytes.extend_from_slice(output.bytes.as_slice());
