@@ -12,13 +12,15 @@ use Rattle.om_format.specs.declared.error.DecodeError.{DecodeError}
 use Rattle.om_format.specs.declared.error.DecodeError.TheVariants as decoding
 use Rattle.om_format.specs.declared.version.Version.{Version}
 use Rattle.om_stable.specs.Content.{Content, between, rows_of}
+use Rattle.om_process.specs.Stored.{IsCheckpointAt, IsReceiptAt}
 use Rattle.om_process.specs.declared.row.PendingRow.{PendingRow}
 use Rattle.om_look.specs.declared.rows.RowsFault.{RowsFault}
+use Rattle.om_stable.specs.steps.Between.{AreAllBetween}
 use Rattle.om_stable.proofs.BetweenLemmas.{between-AreAllBetween}
 use Rattle.om_process.proofs.RowLemmas.{rows_from}
 use Rattle.om_look.specs.declared.rows.RowsFault.TheVariants.{Damaged, Mismatch, Fault, Memory}
-use Rattle.om_look.specs.Rows.{AreSegments, FollowOn, IsBase, IsReceiptOf, IsSenderOf, RefusesRows, base_row, next_row, rows_of_segments}
-use Rattle.om_look.specs.steps.Rowing.{FindsSegment, RefusesBase, RefusesFollowing, RefusesNext, RefusesReceipt, damage_of}
+use Rattle.om_look.specs.Rows.{AreSegments, FollowOn, IsBase, IsNoReceipt, IsReceiptOf, IsSenderOf, Lead, RefusesRows, RefusesSenders, base_row, next_row, rows_of_segments}
+use Rattle.om_look.specs.steps.Rowing.{FindsSegment, IsIn, LeadTo, RefusesBase, RefusesFollowing, RefusesNext, RefusesOneOf, RefusesReceipt, damage_of}
 
 -- bytes that are not decoded are no checkpoint
 no_base : (own n x : ℕ) (bytes : List ℕ) (e : DecodeError) → ((version : Version) (c : CheckpointRecord) → SpellsCheckpoint version c bytes → Fails e (Ok c)) → RefusesBase own n x bytes (damage_of x e)
@@ -96,51 +98,124 @@ follow_gap own n base before found i item so_far within here gap past =
     let none : FollowOn own n before (rows_of (drop i found)) [] = subst (λ rows. FollowOn own n before rows []) (sym (rows_from found i item within here)) gap in
     subst (FollowOn own n base (rows_of found)) (append-nil so_far) (past [] none)
 
-pub follow_refused : (own n : ℕ) (found : Found) (i x : ℕ) (item : ℕ × Vec ℕ Global) (bytes : List ℕ) (fault : RowsFault)
-    → i < length found → item ≡ get_or found i item → item.0 ≡ x → bytes ≡ item.1.items → RefusesNext own n x bytes fault
-    → RefusesFollowing own n (rows_of found) fault
-follow_refused own n found i x item bytes fault within here at is why =
-    inr (
-      i,
-      row_of item,
-      row_at found i item within here,
-      subst (λ bs. RefusesNext own n item.0 bs fault) is (subst (λ y. RefusesNext own n y bytes fault) (sym at) why),
-    )
+-- ---- the records that lead to a row
+lead_on : (own n : ℕ) (IsAt : ℕ → ReceiptRecord → Type 0) (first last : PendingRow) (rs : List ReceiptRecord) (r : ReceiptRecord)
+    → Lead own n IsAt first rs last → IsAt (last.x + 1) r → IsReceiptOf own n (last.x + 1) r → r.ssn ≡ slice_index last.got r.from
+    → Lead own n IsAt first (rs ++ r ∷ []) (next_row own last r)
+lead_on own n IsAt first last [] r same at is_of next = subst (λ (row : PendingRow). Lead own n IsAt row (r ∷ []) (next_row own last r)) (sym same) (at, is_of, next, refl)
+lead_on own n IsAt first last (s ∷ rs) r lead at is_of next = (lead.0, lead.1, lead.2, lead_on own n IsAt (next_row own first s) last rs r lead.3 at is_of next)
+
+lead_weaker : (own n : ℕ) (IsAt IsThere : ℕ → ReceiptRecord → Type 0) (first last : PendingRow) (rs : List ReceiptRecord)
+    → ((x : ℕ) (r : ReceiptRecord) → IsReceiptOf own n x r → IsAt x r → IsThere x r) → Lead own n IsAt first rs last → Lead own n IsThere first rs last
+lead_weaker own n IsAt IsThere first last [] more same = same
+lead_weaker own n IsAt IsThere first last (r ∷ rs) more lead = (more (first.x + 1) r lead.1 lead.0, lead.1, lead.2, lead_weaker own n IsAt IsThere (next_row own first r) last rs more lead.3)
+
+pub lead_none : (own n : ℕ) (found : Found) (base : PendingRow) → LeadTo own n (rows_of found) base base
+lead_none own n found base = ([], refl)
+
+pub lead_more : (own n : ℕ) (base before row : PendingRow) (found : Found) (i : ℕ) (item : ℕ × Vec ℕ Global) (bytes : List ℕ)
+    → i < length found → item ≡ get_or found i item → item.0 ≡ before.x + 1 → bytes ≡ item.1.items → IsNextOf own n before bytes row
+    → LeadTo own n (rows_of found) base before → LeadTo own n (rows_of found) base row
+lead_more own n base before row found i item bytes within here next is one lead = (
+  lead.0 ++ one.0 ∷ [],
+  subst (Lead own n (IsIn (rows_of found)) base (lead.0 ++ one.0 ∷ [])) (sym one.4)
+      (lead_on own n (IsIn (rows_of found)) base before lead.0 one.0 lead.1 (i, row_of item, row_at found i item within here, next, subst (SpellsReceipt one.0) is one.1) one.2 one.3),
+)
+
+pub follow_refused : (own n : ℕ) (base before : PendingRow) (found : Found) (i : ℕ) (item : ℕ × Vec ℕ Global) (bytes : List ℕ) (fault : RowsFault)
+    → i < length found → item ≡ get_or found i item → item.0 ≡ before.x + 1 → bytes ≡ item.1.items → LeadTo own n (rows_of found) base before → RefusesNext own n before bytes fault
+    → RefusesFollowing own n base (rows_of found) fault
+follow_refused own n base before found i item bytes fault within here next is lead why =
+    inr (record {
+      before = before;
+      lead = lead;
+      place = i;
+      record_at = row_of item;
+      there = row_at found i item within here;
+      next = next;
+      why = subst (λ bs. RefusesNext own n before bs fault) is why;
+    })
+
+pub sender_refused : (own n : ℕ) (found : Found) (i : ℕ) (item : ℕ × Vec ℕ Global) (bytes : List ℕ) (fault : RowsFault)
+    → i < length found → item ≡ get_or found i item → bytes ≡ item.1.items → RefusesReceipt own n item.0 bytes fault → RefusesOneOf own n (rows_of found) fault
+sender_refused own n found i item bytes fault within here is why =
+    inr (i, row_of item, row_at found i item within here, subst (λ bs. RefusesReceipt own n item.0 bs fault) is why)
 
 -- ---- why the records of a store stand for no rows
 pub base_refuses : (own n x : ℕ) (held : Content) (bytes : List ℕ) (fault : RowsFault) → get held.checkpoints x ≡ Some bytes → RefusesBase own n x bytes fault → RefusesRows own n held fault
-base_refuses own n x held bytes (Damaged y) there why = subst (λ z. RefusesRows own n held (Damaged z)) (sym why.0) (inl (
-  ap is_some there,
-  λ c at base.
+base_refuses own n x held bytes (Damaged y) there why = subst (λ z. RefusesRows own n held (Damaged z)) (sym why.0) (inl (record {
+  there = ap is_some there;
+  none = λ c at base.
       let same : at.0 ≡ bytes = some_same at.0 bytes (sym at.1 ∙ there) in
-      why.1 c (subst (IsSpelled c) same at.2) base,
-))
+      why.1 c (subst (IsSpelled c) same at.2) base;
+}))
 base_refuses own n x held bytes (Mismatch y) there why = absurd why
 base_refuses own n x held bytes Fault there why = absurd why
 base_refuses own n x held bytes Memory there why = tt
 
-next_refuses : (own n x : ℕ) (held : Content) (bytes : List ℕ) (fault : RowsFault) → get held.receipts x ≡ Some bytes → RefusesNext own n x bytes fault → RefusesRows own n held fault
-next_refuses own n x held bytes (Damaged y) there why = subst (λ z. RefusesRows own n held (Damaged z)) (sym why.0) (inr (
-  ap is_some there,
-  λ r at of.
+no_receipt : (own n x : ℕ) (held : Content) (bytes : List ℕ) → 0 < x → get held.receipts x ≡ Some bytes → ((r : ReceiptRecord) → SpellsReceipt r bytes → IsReceiptOf own n x r → ⊥) → IsNoReceipt own n x held
+no_receipt own n x held bytes begun there none = record {
+  begun = begun;
+  there = ap is_some there;
+  none = λ r at is_of.
       let same : at.0 ≡ bytes = some_same at.0 bytes (sym at.1 ∙ there) in
-      why.1 r (subst (SpellsReceipt r) same at.2) of,
-))
-next_refuses own n x held bytes (Mismatch y) there why = subst (λ z. RefusesRows own n held (Mismatch z)) (sym why.0) (why.1.0, (bytes, there, why.1.1, why.1.2.interval), why.1.2)
-next_refuses own n x held bytes Fault there why = absurd why
-next_refuses own n x held bytes Memory there why = tt
+      none r (subst (SpellsReceipt r) same at.2) is_of;
+}
 
-pub following_refuses : (own n after to : ℕ) (held : Content) (fault : RowsFault) → RefusesFollowing own n (between held.receipts after to) fault → RefusesRows own n held fault
-following_refuses own n after to held fault why = elim why [
+next_refuses : (own n : ℕ) (held : Content) (c : CheckpointRecord) (rs : List ReceiptRecord) (before : PendingRow) (bytes : List ℕ) (fault : RowsFault)
+    → IsCheckpointAt held.checkpoints c.head.interval c → IsBase own n c.head.interval c → Lead own n (IsReceiptAt held.receipts) (base_row c) rs before
+    → get held.receipts (before.x + 1) ≡ Some bytes → RefusesNext own n before bytes fault → RefusesRows own n held fault
+next_refuses own n held c rs before bytes (Damaged y) stored base lead there why =
+    inr (subst (λ z. IsNoReceipt own n z held) (sym why.0) (no_receipt own n (before.x + 1) held bytes (omega arith) there why.1))
+next_refuses own n held c rs before bytes (Mismatch y) stored base lead there why = record {
+  checkpoint = c;
+  stored = stored;
+  base = base;
+  receipts = rs;
+  before = before;
+  lead = lead;
+  next = why.0;
+  receipt = why.1.0;
+  there = subst (λ z. IsReceiptAt held.receipts z why.1.0) (sym why.0) (bytes, there, why.1.1, why.1.2.interval);
+  is_of = subst (λ z. IsReceiptOf own n z why.1.0) (sym why.0) why.1.2;
+  other = why.1.3;
+}
+next_refuses own n held c rs before bytes Fault stored base lead there why = absurd why
+next_refuses own n held c rs before bytes Memory stored base lead there why = tt
+
+pub following_refuses : (own n after to : ℕ) (held : Content) (c : CheckpointRecord) (fault : RowsFault) → IsCheckpointAt held.checkpoints c.head.interval c → IsBase own n c.head.interval c
+    → RefusesFollowing own n (base_row c) (between held.receipts after to) fault → RefusesRows own n held fault
+following_refuses own n after to held c fault stored base why = elim why [
   | inl memory ↦ subst (RefusesRows own n held) (sym memory) tt
-  | inr one ↦ next_refuses own n one.1.0 held one.1.1 fault ((between-AreAllBetween held.receipts after to).are_held one.0 one.1 one.2) one.3
+  | inr stop ↦
+      next_refuses own n held c stop.lead.0 stop.before stop.record_at.1 fault stored base
+      (lead_weaker own n (IsIn rows) (IsReceiptAt held.receipts) (base_row c) stop.before stop.lead.0 are_at stop.lead.1)
+      (subst (λ x. get held.receipts x ≡ Some stop.record_at.1) stop.next (all.are_held stop.place stop.record_at stop.there)) stop.why
 ]
+  where
+    rows : List (ℕ × List ℕ)
+    rows = between held.receipts after to
 
-pub receipt_refused : (own n x : ℕ) (bytes : List ℕ) (fault : RowsFault) → RefusesReceipt own n x bytes fault → RefusesNext own n x bytes fault
-receipt_refused own n x bytes (Damaged y) why = why
-receipt_refused own n x bytes (Mismatch y) why = absurd why
-receipt_refused own n x bytes Fault why = absurd why
-receipt_refused own n x bytes Memory why = tt
+    all : AreAllBetween held.receipts after to rows
+    all = between-AreAllBetween held.receipts after to
+
+    are_at : (x : ℕ) (r : ReceiptRecord) → IsReceiptOf own n x r → IsIn rows x r → IsReceiptAt held.receipts x r
+    are_at x r is_of there = (there.1.1, subst (λ y. get held.receipts y ≡ Some there.1.1) there.3 (all.are_held there.0 there.1 there.2), there.4, is_of.interval)
+
+one_refuses : (own n x : ℕ) (held : Content) (bytes : List ℕ) (fault : RowsFault) → 0 < x → get held.receipts x ≡ Some bytes → RefusesReceipt own n x bytes fault → RefusesSenders own n held fault
+one_refuses own n x held bytes (Damaged y) begun there why = subst (λ z. IsNoReceipt own n z held) (sym why.0) (no_receipt own n x held bytes begun there why.1)
+one_refuses own n x held bytes (Mismatch y) begun there why = absurd why
+one_refuses own n x held bytes Fault begun there why = absurd why
+one_refuses own n x held bytes Memory begun there why = tt
+
+pub senders_refuse : (own n after to : ℕ) (held : Content) (fault : RowsFault) → RefusesOneOf own n (between held.receipts after to) fault → RefusesSenders own n held fault
+senders_refuse own n after to held fault why = elim why [
+  | inl memory ↦ subst (RefusesSenders own n held) (sym memory) tt
+  | inr one ↦
+      let all = between-AreAllBetween held.receipts after to in
+      let low = (all.within one.0 one.1 one.2).0 in
+      one_refuses own n one.1.0 held one.1.1 fault (omega arith) (all.are_held one.0 one.1 one.2) one.3
+]
 
 -- ---- the senders
 AllZip_more : {A B : Type 0} (R : A → B → Type 0) (xs : List A) (ys : List B) (x : A) (y : B) → AllZip R xs ys → R x y → AllZip R (xs ++ x ∷ []) (ys ++ y ∷ [])

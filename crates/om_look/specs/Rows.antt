@@ -94,12 +94,49 @@ IsSenderOf own n record_at sender =
 abbrev pub AreSendersOf : ℕ → ℕ → Content → List (ℕ × ℕ) → Type 0
 AreSendersOf own n held senders = AllZip (IsSenderOf own n) (between held.receipts 0 LAST_INTERVAL) senders
 
+-- what stands in the store as the checkpoint of this interval is none of process own of n
+pub record IsNoBase (own n x : ℕ) (held : Content) : Type 0 where
+  pub there : IsSome (get held.checkpoints x)
+  pub none : (c : CheckpointRecord) → IsCheckpointAt held.checkpoints x c → IsBase own n x c → ⊥
+
+-- what stands in the store as the receipt of this interval is none of process own of n
+pub record IsNoReceipt (own n x : ℕ) (held : Content) : Type 0 where
+  pub begun : 0 < x
+  pub there : IsSome (get held.receipts x)
+  pub none : (r : ReceiptRecord) → IsReceiptAt held.receipts x r → IsReceiptOf own n x r → ⊥
+
+-- receipts lead from one row to another without a gap: each is that of the interval after the row before, and the next of its sender
+abbrev pub Lead : ℕ → ℕ → (ℕ → ReceiptRecord → Type 0) → PendingRow → List ReceiptRecord → PendingRow → Type 0
+Lead own n IsAt first [] last = first ≡ last
+Lead own n IsAt first (r ∷ rs) last =
+    IsAt (first.x + 1) r × IsReceiptOf own n (first.x + 1) r × (r.ssn ≡ slice_index first.got r.from)
+    × Lead own n IsAt (next_row own first r) rs last
+
+-- a checkpoint of the store and the receipts behind it lead to a row, and the receipt of the next interval is not the next of its sender
+pub record IsMismatch (own n x : ℕ) (held : Content) : Type 0 where
+  pub checkpoint : CheckpointRecord
+  pub stored : IsCheckpointAt held.checkpoints checkpoint.head.interval checkpoint
+  pub base : IsBase own n checkpoint.head.interval checkpoint
+  pub receipts : List ReceiptRecord
+  pub before : PendingRow
+  pub lead : Lead own n (IsReceiptAt held.receipts) (base_row checkpoint) receipts before
+  pub next : x ≡ before.x + 1
+  pub receipt : ReceiptRecord
+  pub there : IsReceiptAt held.receipts x receipt
+  pub is_of : IsReceiptOf own n x receipt
+  pub other : receipt.ssn ≢ slice_index before.got receipt.from
+
 -- why records stand for no rows: the checkpoint or the receipt of this interval is none of process own of n, or the receipt
 -- is not the next of its sender
 abbrev pub RefusesRows : ℕ → ℕ → Content → RowsFault → Type 0
-RefusesRows own n held (Damaged x) =
-    (IsSome (get held.checkpoints x) × ((c : CheckpointRecord) → IsCheckpointAt held.checkpoints x c → IsBase own n x c → ⊥))
-    ⊎ (IsSome (get held.receipts x) × ((r : ReceiptRecord) → IsReceiptAt held.receipts x r → IsReceiptOf own n x r → ⊥))
-RefusesRows own n held (Mismatch x) = (r : ReceiptRecord) × IsReceiptAt held.receipts x r × IsReceiptOf own n x r
+RefusesRows own n held (Damaged x) = IsNoBase own n x held ⊎ IsNoReceipt own n x held
+RefusesRows own n held (Mismatch x) = IsMismatch own n x held
 RefusesRows own n held Fault = Unit {0}
 RefusesRows own n held Memory = Unit {0}
+
+-- why receipts have no senders: that of this interval is none of process own of n
+abbrev pub RefusesSenders : ℕ → ℕ → Content → RowsFault → Type 0
+RefusesSenders own n held (Damaged x) = IsNoReceipt own n x held
+RefusesSenders own n held (Mismatch x) = ⊥
+RefusesSenders own n held Fault = Unit {0}
+RefusesSenders own n held Memory = Unit {0}

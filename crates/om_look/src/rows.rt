@@ -4,8 +4,8 @@ ghost use Rattle.std.specs.Prelude.{◌≡◌, ◌+◌, ◌<◌, ◌++◌, ◌�
 ghost use Rattle.std.specs.List.{AllZip};
 ghost use Rattle.om_format.specs.Checkpoints.{CheckpointRecord, IsSpelled};
 ghost use Rattle.om_format.specs.Receipts.{ReceiptRecord, SpellsReceipt, receipt_record};
-ghost use Rattle.om_look.specs.Rows.{AreRowsOf, AreSendersOf, IsSenderOf, FollowOn, IsBase, IsReceiptOf, RefusesRows, base_row, next_row, receipts_behind};
-ghost use Rattle.om_look.specs.steps.Rowing.{FindsSegment, IsOfStore, RefusesBase, RefusesFollowing, RefusesNext, RefusesReceipt, damage_of};
+ghost use Rattle.om_look.specs.Rows.{AreRowsOf, AreSendersOf, IsSenderOf, FollowOn, IsBase, IsReceiptOf, RefusesRows, RefusesSenders, base_row, next_row, receipts_behind};
+ghost use Rattle.om_look.specs.steps.Rowing.{FindsSegment, IsOfStore, RefusesBase, RefusesFollowing, RefusesNext, RefusesOneOf, RefusesReceipt, damage_of};
 ghost use Rattle.om_look.specs.steps.Reading.{IsReading};
 ghost use Rattle.om_process.specs.declared.limits.TheConstants.{LAST_INTERVAL};
 ghost use Rattle.om_process.specs.declared.row.PendingRow.{PendingRow};
@@ -74,7 +74,8 @@ impl From<LookFault> for RowsFault {
 /// checkpoint its row, and the row of each receipt that follows on it without a gap, up to the next checkpoint. The store
 /// keeps its content.
 ///
-/// Refused with `Damaged` and `Mismatch` at a record on the way, with `Fault` and `Memory` where they arise.
+/// Refused with `Damaged` at a record that is none of the process's, with `Mismatch` at a receipt that does not follow on those
+/// before it, with `Fault` and `Memory` where they arise.
 pub fn stored_rows<S: Stable>(
     alloc: Global,
     store: &mut S,
@@ -109,7 +110,7 @@ pub fn stored_senders<S: Stable>(
     ensures senders { IsCleanCall S.is_clean S.IsSound store.old store.new
         → IfOk result (λ senders. AreSendersOf own n (S.content store.old) senders.items) }
     ensures refused { IsCleanCall S.is_clean S.IsSound store.old store.new
-        → IfErr result (λ fault. RefusesRows own n (S.content store.old) fault) }
+        → IfErr result (λ fault. RefusesSenders own n (S.content store.old) fault) }
     ensures same { IsCleanCall S.is_clean S.IsSound store.old store.new → S.content store.new ≡ S.content store.old }
     ensures used { UsesStore S.failed S.is_clean S.IsSound store.old (IsErrOf result RowsFault.Fault) store.new }
 {
@@ -125,7 +126,7 @@ fn senders_in(
     found: &[(u32, Vec<u8>)],
 ) -> Result<Vec<(u32, Pid)>, RowsFault>
     ensures senders { IfOk result (λ senders. AllZip (IsSenderOf own n) (rows_of found.now) senders.items) }
-    ensures refused { IfErr result (λ fault. RefusesFollowing own n (rows_of found.now) fault) }
+    ensures refused { IfErr result (λ fault. RefusesOneOf own n (rows_of found.now) fault) }
     ensures never_fault { IsErrOf result RowsFault.Fault → ⊥ }
 {
     let mut senders = Vec::new(alloc);
@@ -235,7 +236,7 @@ fn push_rows(
     requires got { length base.now.got ≡ n }
     ensures follow { OnOk result ((behind : List PendingRow) × FollowOn own n base.now (rows_of found.now) behind
         × (rows.new.items ≡ rows.old.items ++ base.now ∷ behind)) }
-    ensures refused { IfErr result (λ fault. RefusesFollowing own n (rows_of found.now) fault) }
+    ensures refused { IfErr result (λ fault. RefusesFollowing own n base.now (rows_of found.now) fault) }
 {
     rows.push(*base)?;
     let mut before = *base;
@@ -272,7 +273,7 @@ fn next_at(
         × (r.ssn ≡ slice_index before.now.got r.from) × (row ≡ next_row own before.now r)) }
     ensures vec { IfOk result (λ row. length row.vec ≡ n) }
     ensures got { IfOk result (λ row. length row.got ≡ n) }
-    ensures refused { IfErr result (λ fault. RefusesNext own n (before.now.x + 1) bytes.now fault) }
+    ensures refused { IfErr result (λ fault. RefusesNext own n before.now bytes.now fault) }
 {
     let x = before.x + 1;
     let receipt = receipt_of(alloc, own, n, x, bytes)?;
