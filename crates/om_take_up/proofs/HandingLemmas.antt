@@ -1,10 +1,15 @@
 -- Outputs that are handed in one after another.
-use Rattle.std.proofs.Common.{◌≡◌, ◌≢◌, ◌⊎◌, inl, inr, ℕ, zero, suc, ◌+◌, ◌<◌, ◌≤◌, List, [], ◌∷◌, ◌++◌, length, take, set, map, get_or, Some, Ok, refl, sym, ap, ◌∙◌, arith}
-use Rattle.std.specs.Prelude.{slice_get, slice_index_or}
-use Rattle.om_manager.specs.Notes.{NotesOutput, with_output}
-use Rattle.om_manager.specs.Outputs.{HeldOutput, held_of}
+use Rattle.std.proofs.Common.{◌≡◌, ◌≢◌, ◌⊎◌, inl, inr, ℕ, zero, suc, ◌+◌, ◌<◌, ◌≤◌, List, [], ◌∷◌, ◌++◌, length, take, set, map, get_or, Some, Ok, Err, refl, sym, ap, ◌∙◌, subst, arith}
+use Rattle.std.specs.Prelude.{All, nat_le, slice_get, slice_index, slice_index_or}
+use Rattle.std.proofs.lemmas.List.{get_or-map, get_or-take, get_or_default, length-map, length-take-le}
+use Rattle.std.proofs.lemmas.List.Elements.{All-map}
+use Rattle.std.proofs.lemmas.List.Kept.{AllPairs-filter}
+use Rattle.om_manager.specs.Notes.{IsDifferent, NotesOutput, with_output}
+use Rattle.om_manager.specs.Outputs.{AreRising, HeldOutput, held_of}
 use Rattle.om_manager.specs.Sound.{IsManager}
 use Rattle.om_manager.specs.State.{ManagerState, held_by, process_count, released_by}
+use Rattle.om_manager.specs.declared.answers.OutputError.{OutputError}
+use Rattle.om_manager.specs.declared.answers.OutputError.TheVariants as refused
 use Rattle.om_manager.specs.declared.answers.OutputNote.{OutputNote}
 use Rattle.om_manager.specs.declared.answers.OutputNote.TheVariants.{Held, Known, Released}
 use Rattle.om_manager.specs.declared.output_log.Output.{Output}
@@ -47,6 +52,46 @@ pub one_held : (old m new : ManagerState) (p round seq : ℕ) (outputs : List He
 one_held old m new p round seq outputs o Known sound h is n = absurd (beyond (held_by m p) seq o (let same = ap length h.here in omega arith) n.1)
 one_held old m new p round seq outputs o Released sound h is n = with_one old m new p outputs o sound h n.0.current.known n.2
 one_held old m new p round seq outputs o Held sound h is n = with_one old m new p outputs o sound h n.0.current.known n.2
+
+-- ---- an output is refused for memory alone
+-- none of those before is later
+pub latest : (xs : List Output) (i : ℕ) (x : Output) → AreRising (map held_of xs) → i < length xs → x ≡ get_or xs i x → All (λ held. held.interval ≤ x.interval) (map held_of (take i xs))
+latest xs i x rising lt is =
+    All-map (λ held. held.interval ≤ x.interval) held_of (take i xs)
+    (λ k d small.
+    let many = length-take-le i xs (omega arith) in
+    let before : k < i = omega arith in
+    let le = rising k i (held_of x) before (let long = length-map xs held_of in omega arith) in
+    let low : (get_or (map held_of xs) k (held_of x)).interval ≡ (get_or (take i xs) k d).interval =
+    ap (λ (h : HeldOutput). h.interval) (get_or-map held_of xs k x (held_of x) (omega arith)) ∙ ap (λ (o : Output). o.interval) (sym (get_or-take i xs k x before) ∙ get_or_default (take i xs) k x d small) in
+    let high : (get_or (map held_of xs) i (held_of x)).interval ≡ x.interval = ap (λ (h : HeldOutput). h.interval) (get_or-map held_of xs i x (held_of x) lt) ∙ ap (λ (o : Output). o.interval) (sym is) in
+    omega arith)
+
+pub released_rising : (m : ManagerState) (p : ℕ) (xs : List Output) → IsManager m → p < process_count m → map held_of xs ≡ released_by m p → AreRising (map held_of xs)
+released_rising m p xs sound lt is = subst AreRising (sym is) (AllPairs-filter (λ early late. early.interval ≤ late.interval) (λ o. nat_le o.interval (slice_index m.recovery p)) (held_by m p) (sound.rising p lt))
+
+pub for_memory : (old m new : ManagerState) (p round seq : ℕ) (outputs : List HeldOutput) (o : HeldOutput) (fault : OutputError) → Holds old p outputs m → p < process_count old → round ≡ old.round → seq ≡ length outputs → All (λ held. held.interval ≤ o.interval) outputs
+    → NotesOutput m p round seq o (Err fault) new → fault ≡ refused.Memory
+for_memory old m new p round seq outputs o fault h lt current is last n = by fault n
+  where
+    size : process_count m ≡ process_count old
+    size = ap process_count h.others
+
+    same : m.round ≡ old.round
+    same = ap (λ (k : ManagerState). k.round) h.others
+
+    long : length (held_by m p) ≡ length outputs
+    long = ap length h.here
+
+    by : (fault : OutputError) → NotesOutput m p round seq o (Err fault) new → fault ≡ refused.Memory
+    by refused.Stranger n = let ge = n.0 in let many = size in absurd (omega arith)
+    by (refused.Stale told) n = absurd (n.1 (current ∙ sym same))
+    by refused.Differs n = elim n.1 [
+      | IsDifferent.other small other ↦ let many = long in absurd (omega arith)
+      | IsDifferent.earlier next early ↦ absurd (early (subst (All (λ held. held.interval ≤ o.interval)) (sym h.here) last))
+    ]
+    by (refused.Gap next) n = let many = long in let told = n.1 in let gap = n.2 in absurd (omega arith)
+    by refused.Memory n = refl
 
 -- the outputs that are handed in, one more
 pub take_next : (xs : List Output) (i : ℕ) (x : Output) → i < length xs → x ≡ get_or xs i x → map held_of (take i xs) ++ held_of x ∷ [] ≡ map held_of (take (i + 1) xs)
