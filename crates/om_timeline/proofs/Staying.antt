@@ -429,7 +429,7 @@ refused_restart p old new refusals.NoRound h k = absurd h
 refused_restart p old new refusals.Spent h k = absurd h
 refused_restart p old new refusals.Present h k = absurd h
 refused_restart p old new refusals.Fault h k = stays_cores p old new (ap (λ (w : WorldState). w.cores) h.1)
-refused_restart p old new refusals.Damaged h k = stays_cores p old new (ap (λ (w : WorldState). w.cores) h)
+refused_restart p old new refusals.Damaged h k = absurd h
 refused_restart p old new refusals.Unsettled h k = stays_same p old new h.1
 refused_restart p old new refusals.Memory h k = absurd (not_memory k)
 

@@ -38,7 +38,7 @@ none_held : (o : Option (List ℕ)) (bytes : List ℕ) → o ≡ None → o ≡ 
 none_held o bytes none some = cc
 
 -- ---- the records of processes that know the last round
-store_ends : (w : WorldState) (p : ℕ) → HasShape w → Sound w → IsSettled w → p < length w.programs → EndsAt (held_in w p) (length (received p w.live))
+pub store_ends : (w : WorldState) (p : ℕ) → HasShape w → Sound w → IsSettled w → p < length w.programs → EndsAt (held_in w p) (length (received p w.live))
 store_ends w p h s settled lt = ended w p (held_in w p) h s (elim (settled p lt) [ inl up ↦ λ news. let same = s.current p up in absurd (omega arith) | inr none ↦ none ]) (content_at w p h lt)
 
 pub world_true : (w : WorldState) → HasShape w → Sound w → IsSettled w → AreTrue w.programs w.live (held_in w)

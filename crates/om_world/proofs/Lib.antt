@@ -39,6 +39,7 @@ pub mod RowsTold
 pub mod Reading
 pub mod Restarting
 pub mod Restarted
+pub mod Undamaged
 pub mod Downing
 pub mod Legal
 pub mod Released

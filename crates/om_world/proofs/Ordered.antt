@@ -8,7 +8,7 @@ use Rattle.om_process.specs.Claims.{AtInterval, RowOf}
 use Rattle.om_process.specs.Dependencies.{count_from, greatest_from, places, Depends, Counts}
 use Rattle.om_process.proofs.Vectors.{places_at, places_set}
 use Rattle.om_recover.specs.Offered.{offered}
-use Rattle.om_recover.specs.Rows.{HasRow, HaveSameVectors, IsAtMost, IsFair}
+use Rattle.om_recover.specs.Rows.{HasRow, HaveSameVectors, IsAtMost, IsFair, Rows}
 use Rattle.om_recover.specs.declared.note.NoteError.{NoteError}
 use Rattle.om_recover.specs.declared.note.NoteError.TheVariants.{Stranger, BadVector, Differs, Disorder, Memory}
 use Rattle.om_recover.specs.declared.row.Row.{Row}
@@ -102,29 +102,30 @@ fair n own h row is lt a begun = record {
   begun = begun;
 }
 
--- a true row is refused for memory alone
-offers : (w : WorldState) (row : Row) (fault : NoteError) → HasShape w → Sound w → row.pid < length w.programs → AtInterval (history (past_of w) row.pid) row.interval (RowOf row.pid (length w.programs) row.vec row.got) → (row.kind ≡ Log → 0 < row.interval)
-    → offered (process_count w.manager) w.manager.rows row (Err fault) w.manager.rows → fault ≡ Memory
-offers w row fault h s lt true_row begun o = by fault (subst (λ k. offered k w.manager.rows row (Err fault) w.manager.rows) h.size o)
+-- a true row is refused for memory alone where all others of its process are true
+pub offers_by : (n : ℕ) (h : List Received) (rows : Rows) (row : Row) (fault : NoteError) → row.pid < n
+    → ((other : Row) → HasRow rows other → other.pid ≡ row.pid → AtInterval h other.interval (RowOf row.pid n other.vec other.got))
+    → AtInterval h row.interval (RowOf row.pid n row.vec row.got) → (row.kind ≡ Log → 0 < row.interval)
+    → offered n rows row (Err fault) rows → fault ≡ Memory
+offers_by n h rows row fault lt claim true_row begun o = by fault o
   where
-    n : ℕ
-    n = length w.programs
-
-    g : List Received
-    g = history (past_of w) row.pid
-
-    claim : (other : Row) → HasRow w.manager.rows other → other.pid ≡ row.pid → AtInterval g other.interval (RowOf row.pid n other.vec other.got)
-    claim other has is = subst (λ o. AtInterval (history (past_of w) o) other.interval (RowOf o n other.vec other.got)) is (s.rows other has)
-
-    by : (fault : NoteError) → offered n w.manager.rows row (Err fault) w.manager.rows → fault ≡ Memory
+    by : (fault : NoteError) → offered n rows row (Err fault) rows → fault ≡ Memory
     by Stranger o = let ge = o.0 in absurd (omega arith)
-    by BadVector o = absurd (o.1 (fair n row.pid g row refl lt true_row begun))
-    by Differs o = absurd (o.5 (same_rows n row.pid g o.1 row (claim o.1 o.2 o.3) true_row o.4))
+    by BadVector o = absurd (o.1 (fair n row.pid h row refl lt true_row begun))
+    by Differs o = absurd (o.5 (same_rows n row.pid h o.1 row (claim o.1 o.2 o.3) true_row o.4))
     by (Disorder y) o = let d = o.0 in elim d.breaks [
-      | inl b ↦ let low = b.below in absurd (b.breaks (at_most n row.pid g d.other row (claim d.other d.there b.pid) true_row (omega arith)))
-      | inr b ↦ let c = b.1 in let low = c.below in absurd (c.breaks (at_most n row.pid g row d.other true_row (claim d.other d.there (sym c.pid)) (omega arith)))
+      | inl b ↦ let low = b.below in absurd (b.breaks (at_most n row.pid h d.other row (claim d.other d.there b.pid) true_row (omega arith)))
+      | inr b ↦ let c = b.1 in let low = c.below in absurd (c.breaks (at_most n row.pid h row d.other true_row (claim d.other d.there (sym c.pid)) (omega arith)))
     ]
     by Memory o = refl
+
+offers : (w : WorldState) (row : Row) (fault : NoteError) → HasShape w → Sound w → row.pid < length w.programs → AtInterval (history (past_of w) row.pid) row.interval (RowOf row.pid (length w.programs) row.vec row.got) → (row.kind ≡ Log → 0 < row.interval)
+    → offered (process_count w.manager) w.manager.rows row (Err fault) w.manager.rows → fault ≡ Memory
+offers w row fault h s lt true_row begun o =
+    let n : ℕ = length w.programs in
+    offers_by n (history (past_of w) row.pid) w.manager.rows row fault lt
+    (λ other has is. subst (λ p. AtInterval (history (past_of w) p) other.interval (RowOf p n other.vec other.got)) is (s.rows other has)) true_row begun
+    (subst (λ k. offered k w.manager.rows row (Err fault) w.manager.rows) h.size o)
 
 pub notes_refused : (w : WorldState) (p round : ℕ) (row : Row) (fault : RecordError) → HasShape w → Sound w → round ≡ w.manager.round → row.pid < length w.programs → AtInterval (history (past_of w) row.pid) row.interval (RowOf row.pid (length w.programs) row.vec row.got) → (row.kind ≡ Log → 0 < row.interval)
     → Notes w.manager round row (Err fault) w.manager → fault ≡ Refused Memory

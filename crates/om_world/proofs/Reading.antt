@@ -25,7 +25,7 @@ use Rattle.om_manager.specs.declared.answers.RecordError.TheVariants as records
 use Rattle.om_world.specs.declared.entry.Entry.{Entry}
 use Rattle.om_world.specs.declared.event.Refusal.TheVariants as why
 use Rattle.om_world.specs.Changes.{HasFailed}
-use Rattle.om_world.specs.Disk.{held_in}
+use Rattle.om_world.specs.Disk.{IsSettled, held_in}
 use Rattle.om_world.specs.StoreRows.{first_row}
 use Rattle.om_world.specs.World.{Health, IsEmpty, IsKnown, WorldState, all_clean}
 use Rattle.om_world.specs.steps.Members.{content_in, core_in, health_in, health_of, place_in, round_in, seen, sound_in}
@@ -127,6 +127,13 @@ read_then old mid new a b = record {
 
 pub held_same : (old new : WorldState) → HasRead old new → IsKnown new → (p : ℕ) → held_in old p ≡ held_in new p
 held_same old new r known p = ap (λ l. slice_index_or l p nothing) (sym (r.same known))
+
+-- where what the stores hold is known, reads change their health alone
+pub same_but : (old mid : WorldState) → HasRead old mid → IsKnown mid → mid ≡ record old { health = mid.health }
+same_but old mid r known = r.others ∙ ap (λ c. record old { contents = c; health = mid.health }) (r.same known)
+
+pub settled_after : (old mid : WorldState) → HasRead old mid → IsSettled old → IsSettled mid
+settled_after old mid r settled = subst IsSettled (sym r.others) settled
 
 pub failed_read : (old mid new : WorldState) (p : ℕ) → HasRead old mid → HasFailed mid p new → HasFailed old p new
 failed_read old mid new p r f = failed_after old.health mid.health new.health p r.counts f

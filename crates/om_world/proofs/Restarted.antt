@@ -1,5 +1,5 @@
 -- What a restart comes to.
-use Rattle.std.proofs.Common.{◌≡◌, ℕ, ◌<◌, List, [], ◌∷◌, length, map, replicate, None, true, refl, sym, ap, ◌∙◌, subst, arith}
+use Rattle.std.proofs.Common.{◌≡◌, ◌≢◌, ℕ, ◌<◌, List, [], ◌∷◌, length, map, replicate, None, true, refl, sym, ap, ◌∙◌, subst, arith}
 use Rattle.std.specs.List.{AllByRecursion}
 use Rattle.std.specs.Prelude.{slice_index, slice_index_or}
 use Rattle.std.proofs.lemmas.List.{length-replicate}
@@ -36,7 +36,7 @@ use Rattle.om_world.proofs.Beginning.{index_same}
 use Rattle.om_world.proofs.Keeping.{keeps_same}
 use Rattle.om_member.proofs.KeepLemmas.{prefix_same}
 use Rattle.om_world.proofs.Lists.{length-map}
-use Rattle.om_world.proofs.Reading.{held_same}
+use Rattle.om_world.proofs.Reading.{held_same, same_but}
 use Rattle.om_world.proofs.Restarting.{Starts, released_same, shape_down, sound_started}
 use Rattle.om_world.proofs.RowsTold.{all_stores, same_rows}
 use Rattle.om_world.proofs.Seats.{world_is}
@@ -154,13 +154,6 @@ keeps_read old new r =
     }
 
 -- ---- what happened
--- where what the stores hold is known, reads change their health alone
-same_but : (old mid : WorldState) → HasRead old mid → IsKnown mid → mid ≡ record old { health = mid.health }
-same_but old mid r known = r.others ∙ ap (λ c. record old { contents = c; health = mid.health }) (r.same known)
-
-pub settled_after : (old mid : WorldState) → HasRead old mid → IsSettled old → IsSettled mid
-settled_after old mid r settled = subst IsSettled (sym r.others) settled
-
 pub restart_happened : (old mid new : WorldState) (m : ManagerState) → IsSettled old → HasRead old mid → IsAnew mid m → new ≡ anew mid m → IsKnown new → HasRestarted old new
 restart_happened old mid new m settled r a e known =
     let known_mid : IsKnown mid = subst IsKnown e known in
@@ -182,10 +175,10 @@ restart_happened old mid new m settled r a e known =
       others = now ∙ ap (λ (k : ManagerState). record (anew old k) { health = mid.health }) (sym manager) ∙ ap (λ h. record (anew old new.manager) { health = h }) (sym (ap (λ (x : WorldState). x.health) now));
     }
 
-pub restart_refused : (old mid : WorldState) (refusal : Refusal) → IsRefusal refusal → HasRead old mid → (refusal ≡ why.Fault → (p : ℕ) × HasFailed old p mid) → IsKnown mid → Happened old Event.Restart (answers.Refused refusal) mid
-restart_refused old mid refusal (IsRefusal.fault is) r failed known = subst (λ x. Refused old Event.Restart x mid) (sym is) (failed is, same_but old mid r known)
-restart_refused old mid refusal (IsRefusal.damaged is) r failed known = subst (λ x. Refused old Event.Restart x mid) (sym is) (same_but old mid r known)
-restart_refused old mid refusal (IsRefusal.memory is) r failed known = subst (λ x. Refused old Event.Restart x mid) (sym is) (same_but old mid r known)
+pub restart_refused : (old mid : WorldState) (refusal : Refusal) → IsRefusal refusal → HasRead old mid → (refusal ≡ why.Fault → (p : ℕ) × HasFailed old p mid) → refusal ≢ why.Damaged → IsKnown mid → Happened old Event.Restart (answers.Refused refusal) mid
+restart_refused old mid refusal (IsRefusal.fault is) r failed whole known = subst (λ x. Refused old Event.Restart x mid) (sym is) (failed is, same_but old mid r known)
+restart_refused old mid refusal (IsRefusal.damaged is) r failed whole known = absurd (whole is)
+restart_refused old mid refusal (IsRefusal.memory is) r failed whole known = subst (λ x. Refused old Event.Restart x mid) (sym is) (same_but old mid r known)
 
 -- ---- the manager that is made
 -- what is told of a new manager, to which rows of stores and outputs were told

@@ -50,7 +50,7 @@ has_some o x e = cc
 none_has : (o : Option (List ℕ)) → o ≡ None → IsSome o → ⊥
 none_has o e f = cc
 
-what : (o : Option (List ℕ)) → IsSome o → (x : List ℕ) × (o ≡ Some x)
+pub what : (o : Option (List ℕ)) → IsSome o → (x : List ℕ) × (o ≡ Some x)
 what None h = absurd (none_has None refl h)
 what (Some x) h = (x, refl)
 

@@ -95,7 +95,7 @@ with_other told p q rows other = by (nat_eq q p) refl
     by true e = absurd (other (grind (arith, nat_tests)))
     by false e = rw e refl
 
-row_pid : (p : ℕ) (t : PendingRow) → (row_for p t).pid ≡ p
+pub row_pid : (p : ℕ) (t : PendingRow) → (row_for p t).pid ≡ p
 row_pid p t = by t.ckpt refl
   where
     by : (b : Bool) → t.ckpt ≡ b → (row_for p t).pid ≡ p

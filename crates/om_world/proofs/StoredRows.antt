@@ -1,6 +1,6 @@
 -- The rows that true records stand for are true.
 use Rattle.std.proofs.Common.{◌≡◌, ℕ, zero, suc, ◌+◌, ◌≤◌, List, [], ◌∷◌, ◌++◌, length, take, set, get_or, Some, None, Option, refl, sym, ap, ◌∙◌, subst, arith}
-use Rattle.std.specs.Prelude.{slice_get, min}
+use Rattle.std.specs.Prelude.{slice_get, slice_index, min}
 use Rattle.std.specs.FinMap.{get}
 use Rattle.std.proofs.lemmas.List.{length-take-le}
 use Rattle.om_format.specs.Checkpoints.{CheckpointRecord}
@@ -64,10 +64,15 @@ front_of (suc x) (y ∷ h) (z ∷ front) r le is =
     let rest : take (suc x) h ≡ front ++ r ∷ [] = cc in
     ap (λ d. d ∷ front) (sym head) ∙ ap (λ l. y ∷ l) (front_of x h front r (omega arith) rest)
 
--- the receipt of the next interval makes the row of that interval
-pub next_true : (program : Program) (own n : ℕ) (h : List Received) (before : PendingRow) (r : ReceiptRecord)
-    → IsTrueRow own n h before → AtInterval h (before.x + 1) (RecordOf program own n r) → IsTrueRow own n h (next_row own before r)
-next_true program own n h before r old at =
+-- a true row is that of the process to which the receipt of the next interval comes
+record ComesTo (own n : ℕ) (h : List Received) (before : PendingRow) (w : Process) : Type 0 where
+  interval : w.interval ≡ before.x
+  vec : before.vec ≡ w.vec
+  got : before.got ≡ w.got
+
+comes_to : (program : Program) (own n : ℕ) (h : List Received) (before : PendingRow) (r : ReceiptRecord)
+    → IsTrueRow own n h before → (at : AtInterval h (before.x + 1) (RecordOf program own n r)) → ComesTo own n h before at.1.2
+comes_to program own n h before r old at =
     let x : ℕ = before.x in
     let one : before.x + 1 ≡ suc x = omega arith in
     let front = at.1.0 in
@@ -75,22 +80,40 @@ next_true program own n h before r old at =
     let same : front ≡ take x h = front_of x h front (received_of r) (omega arith) is in
     let w = at.1.2 in
     let reaches = at.1.3 in
-    let fits = at.1.4 in
     let long : w.interval ≡ length front = interval_along program own n reaches.0 front w reaches.1 in
     let many : length (take x h) ≡ x = length-take-le x h (omega arith) in
-    let there : w.interval ≡ before.x = long ∙ ap length same ∙ many in
     let row = row_along program own n front w reaches in
+    record {
+      interval = long ∙ ap length same ∙ many;
+      vec = old.1.0 ∙ ap (Depends n own) (sym same) ∙ sym row.0;
+      got = old.1.1 ∙ ap (Counts n) (sym same) ∙ sym row.1;
+    }
+
+-- so its number is the next one of its sender
+pub next_number : (program : Program) (own n : ℕ) (h : List Received) (before : PendingRow) (r : ReceiptRecord)
+    → IsTrueRow own n h before → AtInterval h (before.x + 1) (RecordOf program own n r) → r.ssn ≡ slice_index before.got r.from
+next_number program own n h before r old at =
+    let c = comes_to program own n h before r old at in
+    at.1.4.number ∙ ap (λ g. slice_index g r.from) (sym c.got)
+
+-- the receipt of the next interval makes the row of that interval
+pub next_true : (program : Program) (own n : ℕ) (h : List Received) (before : PendingRow) (r : ReceiptRecord)
+    → IsTrueRow own n h before → AtInterval h (before.x + 1) (RecordOf program own n r) → IsTrueRow own n h (next_row own before r)
+next_true program own n h before r old at =
+    let c = comes_to program own n h before r old at in
+    let front = at.1.0 in
+    let w = at.1.2 in
+    let reaches = at.1.3 in
+    let fits = at.1.4 in
     let d : Process = delivered own w (received_of r) in
     let on : Reaches program own n (front ++ received_of r ∷ []) d = (0, (d, leads_more own n front reaches.0 (started program n) w (received_of r) reaches.1 fits.waits, refl)) in
-    let new = row_along program own n (front ++ received_of r ∷ []) d on in
-    let vec : before.vec ≡ w.vec = old.1.0 ∙ ap (Depends n own) (sym same) ∙ sym row.0 in
-    let got : before.got ≡ w.got = old.1.1 ∙ ap (Counts n) (sym same) ∙ sym row.1 in (
+    let new = row_along program own n (front ++ received_of r ∷ []) d on in (
       at.0,
       (
-        ap (λ v. set (raised v r.from r.sender_interval) own (before.x + 1)) vec
-            ∙ ap (λ k. set (raised w.vec r.from r.sender_interval) own (k + 1)) (sym there)
+        ap (λ v. set (raised v r.from r.sender_interval) own (before.x + 1)) c.vec
+            ∙ ap (λ k. set (raised w.vec r.from r.sender_interval) own (k + 1)) (sym c.interval)
             ∙ new.0 ∙ ap (Depends n own) (sym at.1.1),
-        ap (λ v. set v r.from (get_or v r.from 0 + 1)) got ∙ new.1 ∙ ap (Counts n) (sym at.1.1),
+        ap (λ v. set v r.from (get_or v r.from 0 + 1)) c.got ∙ new.1 ∙ ap (Counts n) (sym at.1.1),
       ),
     )
 

@@ -19,7 +19,7 @@ abbrev pub IsTrueOf : List Program → List Entry → Row → Type 0
 IsTrueOf programs live row = AtInterval (received row.pid live) row.interval (RowOf row.pid (length programs) row.vec row.got)
 
 -- checkpoint 0 is true of each run
-first_true : (programs : List Program) (live : List Entry) (p : ℕ) → IsTrueOf programs live (first_row (length programs) p)
+pub first_true : (programs : List Program) (live : List Entry) (p : ℕ) → IsTrueOf programs live (first_row (length programs) p)
 first_true programs live p =
     let n : ℕ = length programs in
     let program : Program = program_at programs p in (
@@ -28,7 +28,7 @@ first_true programs live p =
     )
 
 -- a row of a process, as its manager has it
-for_true : (programs : List Program) (live : List Entry) (p : ℕ) (t : PendingRow) → IsTrueRow p (length programs) (received p live) t → IsTrueOf programs live (row_for p t)
+pub for_true : (programs : List Program) (live : List Entry) (p : ℕ) (t : PendingRow) → IsTrueRow p (length programs) (received p live) t → IsTrueOf programs live (row_for p t)
 for_true programs live p t old = go t.ckpt refl
   where
     go : (b : Bool) → t.ckpt ≡ b → IsTrueOf programs live (row_for p t)

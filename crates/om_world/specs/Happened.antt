@@ -118,8 +118,8 @@ abbrev pub PruneStopped : WorldState → WorldState → Type 0
 PruneStopped old new = Prunes (λ p before after. (after ≡ before) ⊎ StorePruned new p before after) old new
 
 -- ---- all events
--- why an event is refused, and what it leaves. A fault is that of a store which counts it. Where all stores are clean, none but a
--- restart is told that something is damaged
+-- why an event is refused, and what it leaves. A fault is that of a store which counts it. Where all stores are clean, no event is
+-- told that something is damaged
 abbrev pub Refused : WorldState → Event → Refusal → WorldState → Type 0
 Refused old Event.Prune refusals.Memory new = PruneStopped old new
 Refused old Event.Prune refusals.Fault new = ((p : ℕ) × HasFailed old p new) × PruneStopped old new
@@ -127,7 +127,6 @@ Refused old Event.Prune why new = ⊥
 -- a restart leaves all but how the stores stand
 Refused old Event.Restart refusals.Unsettled new = ((p : ℕ) × (p < length old.programs) × HasNews old p) × (new ≡ old)
 Refused old Event.Restart refusals.Fault new = ((p : ℕ) × HasFailed old p new) × IsSame old new
-Refused old Event.Restart refusals.Damaged new = IsSame old new
 Refused old Event.Restart refusals.Memory new = IsSame old new
 Refused old Event.Restart why new = ⊥
 Refused old event refusals.NoProcess new = IfSome (process_of event) (λ p. (length old.programs ≤ p) × (new ≡ old))

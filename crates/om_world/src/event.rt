@@ -101,9 +101,9 @@ pub enum Refusal {
     Present,
     /// The process's store failed, at a prune some store, and its count of failures rose.
     Fault,
-    /// The manager refused a row, an output, a failure or a join, or the process is not replayed from its store. Over stores that
-    /// held nothing at the start and are clean, this does not come. To a restart: a record stands for no row, or the rows recover less
-    /// than before; that this does not come over such stores is not proved.
+    /// The manager refused a row, an output, a failure or a join, or the process is not replayed from its store; to a restart also
+    /// where a record stands for no row, or the rows recover less than before. Over stores that held nothing at the start and are
+    /// clean, this does not come.
     Damaged,
     /// Memory ran out.
     Memory,

@@ -8,7 +8,7 @@ ghost use Rattle.om_manager.specs.Sound.{IsManager};
 ghost use Rattle.om_recover.specs.Records.{first_row};
 ghost use Rattle.om_recover.specs.Rows.{HasRow};
 ghost use Rattle.om_world.specs.Changes.{HasFailed};
-ghost use Rattle.om_world.specs.Disk.{IsSettled, held_in};
+ghost use Rattle.om_world.specs.Disk.{AreTrue, IsSettled, held_in};
 ghost use Rattle.om_world.specs.Failures.{HasNews};
 ghost use Rattle.om_world.specs.Happened.{Happened};
 ghost use Rattle.om_world.specs.Played.{IsCounted, IsFaultless};
@@ -19,7 +19,7 @@ ghost use Rattle.om_world.specs.declared.event.Event.{Event};
 ghost use Rattle.om_world.specs.declared.event.Refusal.{Refusal};
 ghost use Rattle.om_world.specs.steps.Members.{downed};
 ghost use Rattle.om_world.specs.steps.Moves.{Keeps, answered};
-ghost use Rattle.om_world.specs.steps.Restarting.{HasRead, HasToldStores, IsAnew, IsRefusal};
+ghost use Rattle.om_world.specs.steps.Restarting.{HasRead, HasToldStores, IsAnew, IsRefusal, refusal_of_rows};
 
 use crate::event::{Answer, Refusal};
 use crate::start::new_manager;
@@ -65,6 +65,8 @@ impl<S: Stable> World<S> {
         ensures rows { IsKnown self.new → IfOk result (λ rows. AreRowsOf p (length self.old.programs) (held_in self.old p) rows.items) }
         ensures counted { result ≡ Err RowsFault.Fault → HasFailed self.old p self.new }
         ensures faultless { ((store : S) → S.failed store ≡ 0) → result ≢ Err RowsFault.Fault }
+        ensures stands { IsKnown self.new → IsSettled self.old → AreTrue self.old.programs self.old.live (held_in self.old) }
+        ensures whole { IsKnown self.new → IsSettled self.old → IfErr result (λ fault. refusal_of_rows fault ≢ Refusal.Damaged) }
     {
         let n = self.size();
         let member = &mut self.members[p];
@@ -77,11 +79,13 @@ impl<S: Stable> World<S> {
         requires fresh { (row : _) → HasRow manager.old.rows row
             → (row.pid < length self.old.programs) × (row ≡ first_row (length self.old.programs) row.pid) }
         requires sound { IsManager manager.old }
+        requires round { manager.old.round ≡ 0 }
         ensures told { OnOk result (HasToldStores self.old manager.old (length self.old.programs) self.new manager.new) }
         ensures read { HasRead self.old self.new }
         ensures refused { IfErr result IsRefusal }
         ensures counted { result ≡ Err Refusal.Fault → (p : _) × HasFailed self.old p self.new }
         ensures faultless { ((store : S) → S.failed store ≡ 0) → result ≢ Err Refusal.Fault }
+        ensures whole { IsKnown self.new → IsSettled self.old → result ≢ Err Refusal.Damaged }
     {
         for p in 0..self.size() {
             let rows = self.rows_at(alloc, p)?;
@@ -98,6 +102,7 @@ impl<S: Stable> World<S> {
         ensures refused { IfErr result IsRefusal }
         ensures counted { result ≡ Err Refusal.Fault → (p : _) × HasFailed self.old p self.new }
         ensures faultless { ((store : S) → S.failed store ≡ 0) → result ≢ Err Refusal.Fault }
+        ensures whole { IsKnown self.new → IsSettled self.old → result ≢ Err Refusal.Damaged }
     {
         let count = self.manager.recovery().n();
         let mut manager = new_manager(alloc, count)?;

@@ -6,10 +6,13 @@ use Rattle.om_take_up.specs.Anew.{HasReleasedOf}
 use Rattle.om_world.specs.Started.{IsNew}
 use Rattle.om_world.specs.World.{WorldState}
 use Rattle.om_world.specs.steps.Restarting.{IsRefusal}
+use Rattle.om_world.specs.steps.Members.{sound_in}
 use Rattle.om_world.specs.steps.Running.{refusal_of_output}
+use Rattle.om_world.specs.declared.event.Refusal.TheVariants as why
 use Rattle.om_world.proofs.Lists.{once_err}
 use Rattle.om_world.proofs.Reading.{output_refusal}
 use Rattle.om_world.proofs.Restarted.{made_anew, told_none}
+use Rattle.om_world.proofs.Undamaged.{none_lost, stands}
 use Rattle.om_world.proofs.world.World.manager_anew.Goals as goal
 
 pub tell_stores-requires-clause-size : goal.tell_stores-requires-clause-size
@@ -60,3 +63,31 @@ returns-in_err-hand_in_released-clause-faultless g c = λ never is.
     let fault = c.in_err-hand_in_released.field-0.0 in
     let from : c.from_residual-in_err-hand_in_released.result ≡ Err (refusal_of_output fault) = search rules in
     (output_refusal fault).1 (once_err c.from_residual-in_err-hand_in_released.result _ _ from is)
+
+pub returns-in_err-tell_stores-clause-whole : goal.returns-in_err-tell_stores-clause-whole
+returns-in_err-tell_stores-clause-whole g c = λ known settled is.
+    let from : c.from_residual-in_err-tell_stores.result ≡ Err c.in_err-tell_stores.field-0.0 = search rules in
+    c.tell_stores.ensures.whole known settled (c.in_err-tell_stores.was ∙ ap (λ e. Err e) (once_err c.from_residual-in_err-tell_stores.result _ _ from is))
+
+pub returns-in_err-hand_in_released-clause-whole : goal.returns-in_err-hand_in_released-clause-whole
+returns-in_err-hand_in_released-clause-whole g c = λ known settled is.
+    let fault = c.in_err-hand_in_released.field-0.0 in
+    let from : c.from_residual-in_err-hand_in_released.result ≡ Err (refusal_of_output fault) = search rules in
+    let memory = c.in_err-hand_in_released.ensures.memory in
+    apart (sym (ap refusal_of_output memory) ∙ once_err c.from_residual-in_err-hand_in_released.result _ _ from is)
+  where
+    apart : why.Memory ≡ why.Damaged → ⊥
+    apart e = cc
+
+pub returns-then-not-leq-clause-whole : goal.returns-then-not-leq-clause-whole
+returns-then-not-leq-clause-whole g c = λ known settled is.
+    let many : c.n-count.result ≡ length c.args.self.now.programs = c.n-count.ensures.places ∙ ap length c.recovery.ensures.recovery ∙ c.self.invariant.shape.size ∙ ap (λ (w : WorldState). length w.programs) c.self.view_is in
+    let fresh = subst (λ n. IsNew n c.in_ok-manager.manager) many c.in_ok-manager.ensures.fresh in
+    let mid = c.tell_stores.new.self in let m = c.tell_stores.new.manager in let told = c.hand_in_released.new.manager in
+    let w = stands (sound_in g.S.Stable.IsSound) _ _ mid c.self-2.invariant c.self-2.view_is known in
+    let handed = subst (λ (w : WorldState). HasReleasedOf w.manager m told) c.self-2.view_is c.in_ok-hand_in_released.ensures.handed in
+    let below = none_lost c.args.self.now mid c.in_ok-manager.manager m told fresh c.in_ok-tell_stores.ensures.told handed c.in_ok-hand_in_released.ensures.sound w.0 w.1 settled known in
+    let here : IsBelow c.recovery-2.result c.recovery-3.result =
+    subst (λ r. IsBelow r c.recovery-3.result) (sym (c.recovery-2.ensures.recovery ∙ ap (λ (w : WorldState). w.manager.recovery) c.self-2.view_is)) (subst (λ r. IsBelow mid.manager.recovery r) (sym c.recovery-3.ensures.recovery) below) in
+    let yes = c.leq.ensures.1 here in
+    cc
