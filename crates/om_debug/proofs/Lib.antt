@@ -2,3 +2,4 @@ pub mod Backwards
 pub mod Moved
 pub mod Quiet
 pub mod Stepping
+pub mod Telling

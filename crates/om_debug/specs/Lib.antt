@@ -1,4 +1,6 @@
+pub mod Answered
 pub mod Moments
+pub mod Monitor
 pub mod Standing
 pub mod Stops
 pub mod Told

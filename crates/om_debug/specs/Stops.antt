@@ -22,11 +22,12 @@ use Rattle.om_debug.specs.Moments.{is_at_instruction, next_at}
 use Rattle.om_debug.specs.Watching.{watch_met}
 
 -- ---- what stops the process
--- a process of a record, where it is to stop, and the list of its one thread
+-- a process of a record, where it is to stop, its name, and the list of its one thread
 pub record DebugState : Type 0 where
   pub timeline : TimelineState
   pub breaks : List ℕ  -- addresses of instructions
   pub watches : List Watch
+  pub name : List ℕ
   pub threads : List ℕ
 
 -- the machine of the process at a position of the tape

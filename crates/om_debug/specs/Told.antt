@@ -1,5 +1,5 @@
 -- What packets that only ask are told.
-use Rattle.std.specs.Prelude.{◌≡◌, ℕ, Bool, true, false, not, ◌&&◌, ◌==◌, List, [], ◌∷◌, ◌++◌, filter, if◌then◌else◌, codes}
+use Rattle.std.specs.Prelude.{ℕ, Bool, true, false, not, ◌&&◌, ◌==◌, List, [], ◌∷◌, ◌++◌, filter, if◌then◌else◌, codes}
 use Rattle.std.specs.List.{list_any}
 use Rattle.om_requests.specs.Answers.{error_text, memory_text, piece_text, registers_text, target_text}
 use Rattle.om_requests.specs.declared.request.Request.{Request}
@@ -12,9 +12,8 @@ use Rattle.om_requests.specs.declared.request.Watched.TheVariants.{Writes, Reads
 use Rattle.om_timeline.specs.Timeline.{machine_here}
 use Rattle.om_debug.specs.declared.debugger.Told.{Told}
 use Rattle.om_debug.specs.declared.debugger.Told.TheVariants.{Text, Last}
-use Rattle.om_debug.specs.declared.stop.Stop.{Stop}
 use Rattle.om_debug.specs.declared.stop.Stop.TheVariants.{Here}
-use Rattle.om_debug.specs.Stops.{DebugState, IsPassed, IsRunBack, IsStepBack, StandsFor, stop_text, with_timeline}
+use Rattle.om_debug.specs.Stops.{DebugState, stop_text}
 
 -- thread 1 is there, and no other
 abbrev pub is_there : Thread → Bool
@@ -85,40 +84,3 @@ set_watch watch watches = if list_any (λ other. is_watch other watch) watches t
 
 abbrev pub clear_watch : Watch → List Watch → List Watch
 clear_watch watch watches = filter (λ other. not (is_watch other watch)) watches
-
--- ---- answers
--- the process has gone on: nothing stops it at any position that it passed, and it stands where it does for this, which is told
-pub record IsResumed (old : DebugState) (told : Told) (new : DebugState) : Type 0 where
-  pub stop : Stop
-  pub text : text_of told ≡ stop_text stop
-  pub same : new ≡ with_timeline old new.timeline
-  pub passed : IsPassed old new
-  pub stands : StandsFor new stop
-
--- the process has gone back by a step, and why it stands there is told
-pub record IsSteppedBack (old : DebugState) (told : Told) (new : DebugState) : Type 0 where
-  pub stop : Stop
-  pub text : text_of told ≡ stop_text stop
-  pub same : new ≡ with_timeline old new.timeline
-  pub back : IsStepBack old new stop
-
--- the process has gone back to a stop, which is told
-pub record IsGoneBack (old : DebugState) (told : Told) (new : DebugState) : Type 0 where
-  pub stop : Stop
-  pub text : text_of told ≡ stop_text stop
-  pub same : new ≡ with_timeline old new.timeline
-  pub back : IsRunBack old new stop
-
--- what a packet is told, and what it leaves
-abbrev pub IsAnswered : Request → DebugState → Told → DebugState → Type 0
-IsAnswered (requests.Resume how) old told new = IsResumed old told new
-IsAnswered requests.BackStep old told new = IsSteppedBack old told new
-IsAnswered requests.BackContinue old told new = IsGoneBack old told new
-IsAnswered (requests.SetBreak address) old told new = (text_of told ≡ codes "OK") × (new ≡ with_breaks old (set_break address old.breaks))
-IsAnswered (requests.ClearBreak address) old told new = (text_of told ≡ codes "OK") × (new ≡ with_breaks old (clear_break address old.breaks))
-IsAnswered (requests.SetWatch watch) old told new = (text_of told ≡ codes "OK") × (new ≡ with_watches old (set_watch watch old.watches))
-IsAnswered (requests.ClearWatch watch) old told new = (text_of told ≡ codes "OK") × (new ≡ with_watches old (clear_watch watch old.watches))
-IsAnswered (requests.Monitor command) old told new = new ≡ with_timeline old new.timeline
-IsAnswered requests.Detach old told new = (text_of told ≡ codes "OK") × (new ≡ old)
-IsAnswered requests.Kill old told new = (text_of told ≡ codes "OK") × (new ≡ old)
-IsAnswered request old told new = (text_of told ≡ asked old request) × (new ≡ old)

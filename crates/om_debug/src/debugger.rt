@@ -4,8 +4,11 @@ ghost use Rattle.std.specs.Prelude.{◌≡◌, IfOk, OnErr, OnOk, [], false};
 ghost use Rattle.std.specs.List.{list_any};
 ghost use Rattle.om_requests.specs.Requests.{request_of};
 ghost use Rattle.om_debug.specs.Stops.{IsMoved, stop_text, with_timeline};
-ghost use Rattle.om_debug.specs.Told.{IsAnswered, asked, clear_break, clear_watch, is_last, is_leaving, is_there, is_watch, is_watched, ok_if, set_break, set_watch, text_of, with_breaks, with_watches};
+ghost use Rattle.om_debug.specs.Answered.{IsAnswered};
+ghost use Rattle.om_debug.specs.Monitor.{IsCommanded, IsSaid, where_text};
+ghost use Rattle.om_debug.specs.Told.{asked, clear_break, clear_watch, is_last, is_leaving, is_there, is_watch, is_watched, ok_if, set_break, set_watch, text_of, with_breaks, with_watches};
 
+use crate::monitor::HELP;
 use crate::stop::{Stop, stop_text};
 use crate::wish::Wish;
 use om_requests::{
@@ -50,6 +53,7 @@ impl Model for Debugger {
       timeline = d.timeline;
       breaks = d.breaks.items;
       watches = d.watches.items;
+      name = string_bytes d.name;
       threads = string_bytes d.threads;
     } };
 }
@@ -75,6 +79,7 @@ impl Debugger {
         ensures timeline { IfOk result (λ d. d.timeline ≡ timeline) }
         ensures breaks { IfOk result (λ d. d.breaks ≡ []) }
         ensures watches { IfOk result (λ d. d.watches ≡ []) }
+        ensures name { IfOk result (λ d. d.name ≡ name.now) }
     {
         let threads = format!(in alloc;
             "<?xml version=\"1.0\"?><threads><thread id=\"1\" name=\"{name}\"></thread></threads>"
@@ -154,9 +159,37 @@ impl Debugger {
         ensures last { IfOk result (λ told. is_last told ≡ false) }
         ensures moved { IsMoved self.old.timeline self.new.timeline }
         ensures same { self.new ≡ with_timeline self.old self.new.timeline }
+        ensures commanded { IfOk result (λ told. IsCommanded command self.old told self.new) }
     {
-        let said = self.monitor(command)?;
-        Ok(Told::Text(hex::encode(self.alloc, said.as_bytes())?.into_bytes()))
+        match command {
+            Command::Where => self.said_where(),
+            Command::Events => {
+                let events = self.told_events()?;
+                Ok(self.said(&events)?)
+            }
+            Command::Goto(event) => {
+                self.go_to_event(event as usize)?;
+                self.said_where()
+            }
+            Command::Help => Ok(self.said(HELP)?),
+        }
+    }
+
+    // Where time and the process stand, as it is told.
+    fn said_where(&self) -> Result<Told, PlayFault>
+        ensures said { IfOk result (λ told. IsSaid (where_text self.now) told) }
+        ensures last { IfOk result (λ told. is_last told ≡ false) }
+    {
+        let text = self.told_where()?;
+        Ok(self.said(&text)?)
+    }
+
+    // A text for the user, whose bytes are told in hexadecimal.
+    fn said(&self, text: &str) -> Result<Told, AllocError>
+        ensures said { IfOk result (λ told. IsSaid text.now told) }
+        ensures last { IfOk result (λ told. is_last told ≡ false) }
+    {
+        Ok(Told::Text(hex::encode(self.alloc, text.as_bytes())?.into_bytes()))
     }
 
     /// Tells that the process stands where it stands, as one who asked for a stop is told. Refused only where memory ran out.

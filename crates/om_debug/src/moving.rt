@@ -3,6 +3,7 @@
 
 ghost use Rattle.std.specs.Prelude.{◌≡◌, ◌↔◌, ◌+◌, ◌-◌, ◌<◌, ◌≤◌, IfOk, IfSome, MatchOption, None, OnOk, false, length, true};
 ghost use Rattle.om_debug.specs.Moments.{next_at};
+ghost use Rattle.om_debug.specs.Monitor.{IsAtEvent};
 ghost use Rattle.om_timeline.specs.declared.tape.Look.{Look};
 ghost use Rattle.om_timeline.specs.Deeds.{turns_at};
 ghost use Rattle.om_debug.specs.Stops.{IsBefore, IsBehind, IsFrom, IsLast, IsMoved, IsPartBack, IsPassed, IsQuiet, IsQuietRest, IsRunBack, IsStepBack, IsStillBefore, IsWithin, StandsFor, breaks_here, standing, stop_here, watch_here, with_timeline};
@@ -511,21 +512,24 @@ impl Debugger {
     pub fn go_to_event(&mut self, event: usize) -> Result<(), PlayFault>
         ensures moved { IsMoved self.old.timeline self.new.timeline }
         ensures same { self.new ≡ with_timeline self.old self.new.timeline }
+        ensures there { OnOk result (IsAtEvent event self.new.timeline) }
     {
-        let to = Position { event, turns: 0 };
         'pieces: for _ in 0..MOST_PIECES {
-            if self.go_nearer(to)? {
+            if self.go_nearer(event)? {
                 return Ok(());
             }
         }
-        Ok(())
+        // No record has so many events.
+        Err(PlayFault::TooLong)
     }
 
-    // Goes to a position, or plays one event more, and tells whether it stands there or at the end.
-    fn go_nearer(&mut self, to: Position) -> Result<bool, PlayFault>
+    // Goes to before an event, or plays one event more, and tells whether it stands there or at the end.
+    fn go_nearer(&mut self, event: usize) -> Result<bool, PlayFault>
         ensures moved { IsMoved self.old.timeline self.new.timeline }
         ensures same { self.new ≡ with_timeline self.old self.new.timeline }
+        ensures there { IfOk result (λ there. there ≡ true → IsAtEvent event self.new.timeline) }
     {
+        let to = Position { event, turns: 0 };
         if self.timeline.go_to(self.alloc, to)? {
             return Ok(true);
         }

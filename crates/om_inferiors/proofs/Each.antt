@@ -7,10 +7,10 @@ use Rattle.om_debug.specs.declared.stop.Stop.{Stop}
 use Rattle.om_debug.specs.declared.stop.Stop.TheVariants as stops
 use Rattle.om_timeline.specs.declared.fault.PlayFault.{PlayFault}
 use Rattle.om_timeline.specs.declared.tape.Look.{Look}
-use Rattle.om_debug.proofs.Moved.{moved_not, moved_then}
+use Rattle.om_debug.proofs.Moved.{moved_then}
 use Rattle.om_debug.proofs.Quiet.{passed_then}
 use Rattle.om_inferiors.specs.declared.inferior.Inferior.{Inferior}
-use Rattle.om_inferiors.specs.Moving.{AreBack, AreMoved, AreOn, IsBack, IsGoneOn, IsMovedOne, IsOn, IsRunBackAt, IsStepBackAt, StandsAt, with_debugger}
+use Rattle.om_inferiors.specs.Moving.{AreBack, AreOn, IsBack, IsGoneOn, IsOn, IsRunBackAt, IsStepBackAt, StandsAt, with_debugger}
 
 zip_same : {A : Type 0} (R : A → A → Type 0) → ((x : A) → R x x) → (xs : List A) → AllZip R xs xs
 zip_same R same [] = tt
@@ -153,32 +153,6 @@ length_back [] [] each = refl
 length_back [] (y ∷ ys) each = absurd each
 length_back (x ∷ xs) [] each = absurd each
 length_back (x ∷ xs) (y ∷ ys) each = ap suc (length_back xs ys each.1)
-
--- ---- to events
-moved_same_one : (i : Inferior) → IsMovedOne i i
-moved_same_one i = record { same = refl; moved = moved_not i.debugger.timeline }
-
-moved_one_then : (a b c : Inferior) → IsMovedOne a b → IsMovedOne b c → IsMovedOne a c
-moved_one_then a b c first second = record {
-  same = second.same ∙ ap (λ (i : Inferior). with_debugger i (with_timeline i.debugger c.debugger.timeline)) first.same;
-  moved = moved_then a.debugger.timeline b.debugger.timeline c.debugger.timeline first.moved second.moved;
-}
-
-pub are_moved_same : (xs : List Inferior) → AreMoved xs xs
-are_moved_same xs = zip_same IsMovedOne moved_same_one xs
-
-pub are_moved_then : (xs ys zs : List Inferior) → AreMoved xs ys → AreMoved ys zs → AreMoved xs zs
-are_moved_then xs ys zs first second = zip_then IsMovedOne moved_one_then xs ys zs first second
-
-pub are_moved_at : (xs : List Inferior) (i : ℕ) (x : Inferior) (d : DebugState) → d ≡ with_timeline (get_or xs i x).debugger d.timeline → IsMoved (get_or xs i x).debugger.timeline d.timeline
-    → AreMoved xs (set xs i (with_debugger (get_or xs i x) d))
-are_moved_at xs i x d same moved = zip_set_or IsMovedOne moved_same_one xs i x (with_debugger (get_or xs i x) d) (record { same = ap (with_debugger (get_or xs i x)) same; moved = moved })
-
-pub length_moved : (xs ys : List Inferior) → AreMoved xs ys → length ys ≡ length xs
-length_moved [] [] each = refl
-length_moved [] (y ∷ ys) each = absurd each
-length_moved (x ∷ xs) [] each = absurd each
-length_moved (x ∷ xs) (y ∷ ys) each = ap suc (length_moved xs ys each.1)
 
 -- ---- as one that stands
 pub stands_kept : (xs ys : List Inferior) (place : ℕ) (stop : Stop) → slice_get ys place ≡ slice_get xs place → StandsAt xs place stop → StandsAt ys place stop

@@ -1,3 +1,4 @@
 pub mod Each
 pub mod Sets
 pub mod Taking
+pub mod Telling

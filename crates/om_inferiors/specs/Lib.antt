@@ -1,3 +1,4 @@
+pub mod Monitor
 pub mod Moving
 pub mod Serving
 pub mod Told

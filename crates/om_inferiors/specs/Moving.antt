@@ -60,6 +60,3 @@ IsToldBack olds news place stop = IsRunBackAt olds news place stop ⊎ IsStepBac
 pub record IsMovedOne (old new : Inferior) : Type 0 where
   pub same : new ≡ with_debugger old (with_timeline old.debugger new.debugger.timeline)
   pub moved : IsMoved old.debugger.timeline new.debugger.timeline
-
-abbrev pub AreMoved : List Inferior → List Inferior → Type 0
-AreMoved olds news = AllZip IsMovedOne olds news

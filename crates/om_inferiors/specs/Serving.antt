@@ -12,7 +12,8 @@ use Rattle.om_debug.specs.declared.debugger.Told.{Told}
 use Rattle.om_requests.specs.Groups.{group_request_of}
 use Rattle.om_debug.specs.declared.stop.Stop.TheVariants.{Paused}
 use Rattle.om_debug.specs.Stops.{DebugState, IsMoved, stop_text, with_timeline}
-use Rattle.om_debug.specs.Told.{IsAnswered, is_last, text_of}
+use Rattle.om_debug.specs.Answered.{IsAnswered}
+use Rattle.om_debug.specs.Told.{is_last, text_of}
 use Rattle.om_inferiors.specs.declared.inferiors.Inferiors.{Inferiors}
 use Rattle.om_inferiors.specs.declared.shown.Shown.{Shown}
 use Rattle.om_inferiors.specs.declared.shown.Shown.TheVariants.{One, All}

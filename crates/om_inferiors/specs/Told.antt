@@ -18,7 +18,8 @@ use Rattle.om_debug.specs.Stops.{DebugState, watch_word}
 use Rattle.om_debug.specs.Told.{clear_break, clear_watch, is_last, is_leaving, ok_if, set_break, set_watch, text_of, with_breaks, with_watches}
 use Rattle.om_inferiors.specs.declared.inferior.Inferior.{Inferior}
 use Rattle.om_inferiors.specs.declared.inferiors.Inferiors.{Inferiors}
-use Rattle.om_inferiors.specs.Moving.{AreBack, AreMoved, AreOn, StandsAt, with_debugger}
+use Rattle.om_inferiors.specs.Monitor.{IsGroupCommanded}
+use Rattle.om_inferiors.specs.Moving.{AreBack, AreOn, StandsAt, with_debugger}
 
 -- ---- stops
 -- SIGSEGV (11) for an address outside memory, SIGBUS (10) for one that is not aligned, SIGTRAP (5) for EBREAK, SIGILL (4) for the rest
@@ -212,7 +213,7 @@ IsGroupAnswered (groups.Other (requests.SetBreak address)) old told new = IsSet 
 IsGroupAnswered (groups.Other (requests.ClearBreak address)) old told new = IsSet old (λ d. with_breaks d (clear_break address d.breaks)) told new
 IsGroupAnswered (groups.Other (requests.SetWatch watch)) old told new = IsSet old (λ d. with_watches d (set_watch watch d.watches)) told new
 IsGroupAnswered (groups.Other (requests.ClearWatch watch)) old told new = IsSet old (λ d. with_watches d (clear_watch watch d.watches)) told new
-IsGroupAnswered (groups.Other (requests.Monitor command)) old told new = AreMoved old.members.items new.members.items
+IsGroupAnswered (groups.Other (requests.Monitor command)) old told new = IsGroupCommanded command old told new
 IsGroupAnswered (groups.Other requests.Detach) old told new = (text_of told ≡ codes "OK") × (new ≡ old)
 IsGroupAnswered (groups.Other requests.Kill) old told new = (text_of told ≡ codes "OK") × (new ≡ old)
 IsGroupAnswered request old told new = (text_of told ≡ asked_group old request) × (new ≡ old)

@@ -4,7 +4,6 @@ ghost use Rattle.std.specs.Prelude.{◌≡◌, ◌==◌, ◌<◌, ◌⊎◌, IfO
 ghost use Rattle.om_requests.specs.Groups.{group_request_of};
 ghost use Rattle.om_debug.specs.Told.{clear_break, clear_watch, is_last, is_leaving, set_break, set_watch, text_of, with_breaks, with_watches};
 ghost use Rattle.om_debug.specs.declared.stop.Stop.TheVariants.{Paused};
-ghost use Rattle.om_inferiors.specs.Moving.{AreMoved};
 ghost use Rattle.om_inferiors.specs.Told.{IsGroupAnswered, IsGroupBack, IsGroupEnd, IsGroupOn, IsLeft, IsRefused, IsSet, IsTold, asked_group, group_stop_text, is_there, member_of, memory_of, number_of, place_of, registers_of, thread_text, threads_text};
 
 use crate::inferior::Inferior;
@@ -12,8 +11,8 @@ use crate::moving::{Stopped, backward, forward};
 use crate::stop::group_stop_text;
 use om_debug::{Stop, Told, Wish};
 use om_requests::{
-    Command, ERROR, GroupRequest, Request, Resume, Watch, Whom, group_request_of, memory_text,
-    piece_text, registers_text, target_text,
+    ERROR, GroupRequest, Request, Resume, Watch, Whom, group_request_of, memory_text, piece_text,
+    registers_text, target_text,
 };
 use om_timeline::PlayFault;
 use std::alloc::{AllocError, Global};
@@ -368,14 +367,6 @@ impl Inferiors {
         let member = &mut self.members[place];
         member.debugger.clear_watch(watch);
         Ok(done)
-    }
-
-    fn commanded(&mut self, alloc: Global, command: Command) -> Result<Told, PlayFault>
-        ensures moved { AreMoved self.old.members.items self.new.members.items }
-        ensures last { IfOk result (λ told. is_last told ≡ false) }
-    {
-        let said = self.monitor(alloc, command)?;
-        Ok(Told::Text(hex::encode(alloc, said.as_bytes())?.into_bytes()))
     }
 }
 

@@ -276,14 +276,36 @@ pub(crate) fn backward<R: Wish>(
     ensures within { IfOk result (λ s. s.place < length all.new) }
     ensures unread { R.remaining reader.new ≡ R.remaining reader.old }
 {
-    let stop = if steps {
-        step_back_at(all, who)?
-    } else {
-        run_back_at(all, who, reader)?
-    };
+    let stop = own_stop(all, who, steps, reader)?;
+    if steps && stop == Stop::Begin {
+        // Nothing came to it: nobody moves.
+        return Ok(Stopped { place: who, stop });
+    }
     let last = last_of(all, Stopped { place: who, stop }, reader)?;
     stand_with(all, last.place)?;
     Ok(last)
+}
+
+// Takes the one at a place back to its last stop, or by a step. Where that is an access, it goes to right behind it: something may have
+// stopped another one later.
+#[tactic(auto, using(crate::proofs::Each::are_back_same, crate::proofs::Each::are_back_then, crate::proofs::Each::length_back))]
+fn own_stop<R: Wish>(
+    all: &mut [Inferior],
+    who: usize,
+    steps: bool,
+    reader: &mut R,
+) -> Result<Stop, PlayFault>
+    requires { who < length all.old }
+    ensures back { AreBack all.old all.new }
+    ensures unread { R.remaining reader.new ≡ R.remaining reader.old }
+{
+    if !steps {
+        return run_back_at(all, who, reader);
+    }
+    match step_back_at(all, who)? {
+        Stop::Watched(_) => run_back_at(all, who, reader),
+        stop => Ok(stop),
+    }
 }
 
 // Takes all others back to their last stops, and tells the latest of all.

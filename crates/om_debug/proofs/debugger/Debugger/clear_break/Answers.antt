@@ -6,7 +6,7 @@ use Rattle.om_debug.proofs.debugger.Debugger.clear_break.Goals as goal
 
 pub returns : goal.returns
 returns c =
-    let here : DebugState = record { timeline = c.self.inside.timeline; breaks = c.self.inside.breaks.items; watches = c.self.inside.watches.items; threads = string_bytes c.self.inside.threads } in
+    let here : DebugState = record { timeline = c.self.inside.timeline; breaks = c.self.inside.breaks.items; watches = c.self.inside.watches.items; name = string_bytes c.self.inside.name; threads = string_bytes c.self.inside.threads } in
     let kept : c.retain.new.self.items ≡ filter (λ (other : ℕ). not (other == c.args.address)) c.self.inside.breaks.items =
     filter_same _ (λ (other : ℕ). not (other == c.args.address)) _ (λ x r f' k. search rules) _ _ c.retain.ensures.filtered in
     subst (λ (d : DebugState). with_breaks here c.retain.new.self.items ≡ with_breaks d (clear_break c.args.address d.breaks)) c.self.view_is

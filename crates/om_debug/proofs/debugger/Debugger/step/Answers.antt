@@ -5,7 +5,7 @@ use Rattle.om_debug.proofs.debugger.Debugger.step.Goals as goal
 
 pub returns-clause-passed : goal.returns-clause-passed
 returns-clause-passed c =
-    let here : DebugState = record { timeline = c.self.inside.timeline; breaks = c.self.inside.breaks.items; watches = c.self.inside.watches.items; threads = string_bytes c.self.inside.threads } in
+    let here : DebugState = record { timeline = c.self.inside.timeline; breaks = c.self.inside.breaks.items; watches = c.self.inside.watches.items; name = string_bytes c.self.inside.name; threads = string_bytes c.self.inside.threads } in
     let there : DebugState = with_timeline here c.step_one.new.self in
     let none : stop_here here ≡ None = subst (λ (d : DebugState). stop_here d ≡ None) (sym c.self.view_is) c.requires.quiet in
     subst (λ (d : DebugState). IsPassed d there) c.self.view_is

@@ -10,7 +10,7 @@ step_many-requires c =
 
 pub returns-clause-passed : goal.returns-clause-passed
 returns-clause-passed c =
-    let here : DebugState = record { timeline = c.self.inside.timeline; breaks = c.self.inside.breaks.items; watches = c.self.inside.watches.items; threads = string_bytes c.self.inside.threads } in
+    let here : DebugState = record { timeline = c.self.inside.timeline; breaks = c.self.inside.breaks.items; watches = c.self.inside.watches.items; name = string_bytes c.self.inside.name; threads = string_bytes c.self.inside.threads } in
     let there : DebugState = with_timeline here c.step_many.new.self in
     subst (λ (d : DebugState). IsPassed d there) c.self.view_is
     (passed_some here there (here.timeline.turns + c.args.turns) refl c.step_many.ensures (subst IsQuietRest (sym c.self.view_is) c.requires.quiet))
