@@ -1,4 +1,4 @@
-//! Worlds that start over their stores, at each point of a script, beside one that never stopped.
+//! Worlds that start over their stores, at each point of scripts, beside worlds that never stopped.
 
 use crate::events::{RUN_WITH_A_FAILURE, line};
 use om_interval::Pid;
@@ -10,11 +10,16 @@ use std::process::Abort;
 // How often each process runs, sends again, is offered all frames and stores, until nothing more comes.
 const TURNS: usize = 4;
 
-// More frames than the script makes.
-const FRAMES: usize = 16;
+// More frames than a script makes.
+const FRAMES: usize = 64;
 
 // Before each event of the script, and behind the last.
 const POINTS: usize = 25;
+
+// The scripts that are drawn, and how many events each has.
+static SEEDS: [u64; 6] = [1, 2, 3, 4, 5, 6];
+
+const DRAWN: usize = 20;
 
 fn play(rt: &impl Abort, alloc: Global, world: &mut World<MemStable>, event: Event) -> Answer {
     let answers = world.play(alloc, &[event]).expect(rt, "memory");
@@ -29,16 +34,24 @@ fn resume_all(rt: &impl Abort, alloc: Global, world: &mut World<MemStable>) {
     }
 }
 
+// A process runs, and is offered each frame.
+fn take_all(rt: &impl Abort, alloc: Global, world: &mut World<MemStable>, process: usize) {
+    for frame in 0..FRAMES {
+        let run = Event::Run { process, fuel: 100 };
+        let _ = play(rt, alloc, world, run);
+        let answer = play(rt, alloc, world, Event::Give { process, frame });
+        if answer == Answer::Refused(Refusal::NoFrame) {
+            return;
+        }
+    }
+}
+
 // Each process runs, is offered what there is, and stores it.
 fn drive(rt: &impl Abort, alloc: Global, world: &mut World<MemStable>) {
     for _ in 0..TURNS {
         for process in 0..3 {
             let _ = play(rt, alloc, world, Event::Resend { process });
-            for frame in 0..FRAMES {
-                let run = Event::Run { process, fuel: 100 };
-                let _ = play(rt, alloc, world, run);
-                let _ = play(rt, alloc, world, Event::Give { process, frame });
-            }
+            take_all(rt, alloc, world, process);
             let _ = play(rt, alloc, world, Event::Flush { process });
         }
     }
@@ -55,20 +68,56 @@ fn released(rt: &impl Abort, alloc: Global, world: &World<MemStable>) -> Vec<u8>
     bytes
 }
 
-// A world that played so many events of the script.
-fn begun(rt: &impl Abort, alloc: Global, count: usize) -> World<MemStable> {
+// A world that played so many events of a script.
+fn begun(rt: &impl Abort, alloc: Global, script: &[Event], count: usize) -> World<MemStable> {
     let mut world = line(alloc).expect(rt, "a world");
-    for event in RUN_WITH_A_FAILURE.as_slice().get(..count).unwrap_or(&[]) {
+    for event in script.get(..count).unwrap_or(script) {
         let _ = play(rt, alloc, &mut world, *event);
     }
     world
 }
 
-// What the script puts out in all, where nothing stops.
-fn wanted(rt: &impl Abort, alloc: Global) -> Vec<u8> {
-    let mut world = begun(rt, alloc, RUN_WITH_A_FAILURE.len());
+// Who is up joins and who is down comes back, as often as it takes until no round is open: one that is down can join once it is back.
+fn settle(rt: &impl Abort, alloc: Global, world: &mut World<MemStable>) {
+    for _ in 0..3 {
+        for process in 0..3 {
+            let _ = play(rt, alloc, world, Event::Join { process });
+        }
+        resume_all(rt, alloc, world);
+    }
+}
+
+// What a script puts out in all, where nothing stops.
+fn wanted(rt: &impl Abort, alloc: Global, script: &[Event]) -> Vec<u8> {
+    let mut world = begun(rt, alloc, script, script.len());
+    settle(rt, alloc, &mut world);
     drive(rt, alloc, &mut world);
     released(rt, alloc, &world)
+}
+
+// A restart leaves all that was released, and in the end the same is released as without one. Returns whether it was refused first,
+// since not all knew the last round.
+fn loses_nothing(
+    rt: &impl Abort,
+    alloc: Global,
+    world: &mut World<MemStable>,
+    whole: &[u8],
+) -> bool {
+    let before = released(rt, alloc, world);
+    let recovery = world.manager().recovery();
+    let mut answer = play(rt, alloc, world, Event::Restart);
+    let is_unsettled = answer == Answer::Refused(Refusal::Unsettled);
+    if is_unsettled {
+        settle(rt, alloc, world);
+        answer = play(rt, alloc, world, Event::Restart);
+    }
+    assert_eq!(rt; answer, Answer::Restarted);
+    assert!(rt; recovery.leq(&world.manager().recovery()));
+    resume_all(rt, alloc, world);
+    assert_eq!(rt; released(rt, alloc, world).starts_with(&before), true);
+    drive(rt, alloc, world);
+    assert_eq!(rt; released(rt, alloc, world).as_slice(), whole);
+    is_unsettled
 }
 
 // Between the finish of the round and the last return nobody starts over; at each other point all that was released stays, each
@@ -76,24 +125,68 @@ fn wanted(rt: &impl Abort, alloc: Global) -> Vec<u8> {
 #[test]
 fn a_restart_at_each_point_loses_nothing(rt: HostRuntime) {
     let alloc = rt.alloc();
-    let whole = wanted(&rt, alloc);
+    let whole = wanted(&rt, alloc, &RUN_WITH_A_FAILURE);
     assert_eq!(&rt; whole.is_empty(), false);
     let mut unsettled: usize = 0;
     for count in 0..POINTS {
-        let mut world = begun(&rt, alloc, count);
-        let before = released(&rt, alloc, &world);
-        let recovery = world.manager().recovery();
-        let answer = play(&rt, alloc, &mut world, Event::Restart);
-        if answer == Answer::Refused(Refusal::Unsettled) {
+        let mut world = begun(&rt, alloc, &RUN_WITH_A_FAILURE, count);
+        if loses_nothing(&rt, alloc, &mut world, &whole) {
             unsettled = unsettled.saturating_add(1);
-            continue;
         }
-        assert_eq!(&rt; answer, Answer::Restarted);
-        assert!(&rt; recovery.leq(&world.manager().recovery()));
-        resume_all(&rt, alloc, &mut world);
-        assert_eq!(&rt; released(&rt, alloc, &world).starts_with(&before), true);
-        drive(&rt, alloc, &mut world);
-        assert_eq!(&rt; released(&rt, alloc, &world).as_slice(), whole.as_slice());
     }
     assert_eq!(&rt; unsettled, 3);
+}
+
+// The event that a number stands for: of thirty-six, nine run, nine are offers, and six store.
+fn event_of(draw: u64) -> Event {
+    let process = (draw % 3) as usize;
+    match draw / 3 % 12 {
+        0 | 1 | 2 => Event::Run { process, fuel: 100 },
+        3 | 4 | 5 => Event::Give {
+            process,
+            frame: (draw / 36 % 4) as usize,
+        },
+        6 => Event::Flush { process },
+        7 => Event::Checkpoint { process },
+        8 => Event::Fail { process },
+        9 => Event::Prune,
+        10 => Event::Join { process },
+        _ => Event::Resume { process },
+    }
+}
+
+// The next number of a linear congruence modulo 2 ^ 64.
+fn next_draw(draw: u64) -> u64 {
+    draw.wrapping_mul(6_364_136_223_846_793_005)
+        .wrapping_add(1_442_695_040_888_963_407)
+}
+
+// A script by its seed.
+fn drawn(rt: &impl Abort, alloc: Global, seed: u64) -> Vec<Event> {
+    let mut script = Vec::new(alloc);
+    let mut draw = seed;
+    for _ in 0..DRAWN {
+        draw = next_draw(draw);
+        script.push(event_of(draw >> 33)).expect(rt, "memory");
+    }
+    script
+}
+
+// At each point of each script that is drawn: with failures, rounds that are open or finished, checkpoints and prunes before it.
+#[test]
+fn a_restart_in_a_drawn_script_loses_nothing(rt: HostRuntime) {
+    let alloc = rt.alloc();
+    let mut unsettled: usize = 0;
+    for seed in &SEEDS {
+        let script = drawn(&rt, alloc, *seed);
+        let whole = wanted(&rt, alloc, &script);
+        assert_eq!(&rt; whole.is_empty(), false);
+        for count in 0..DRAWN + 1 {
+            let mut world = begun(&rt, alloc, &script, count);
+            if loses_nothing(&rt, alloc, &mut world, &whole) {
+                unsettled = unsettled.saturating_add(1);
+            }
+        }
+    }
+    assert!(&rt; 0 < unsettled);
 }
