@@ -1,9 +1,10 @@
 #!/usr/bin/env python3
-"""Random packets to two commands about one process of a record: each answer must be the same.
+"""Random packets to two commands about one process of a record, or all: each answer must be the same.
 
     fuzz.py COUNT SEED NAME RECORD 'COMMAND' 'COMMAND'       as fuzz.py 1000 1 p2 bank.record 'omlog debug' ./stub.py
+    fuzz.py COUNT SEED - RECORD 'COMMAND' 'COMMAND'          as fuzz.py 1000 1 - bank.record 'omlog debug' ./group.py
 
---process NAME RECORD is put behind each command."""
+--process NAME RECORD is put behind each command, and RECORD alone for all processes."""
 import os
 import random
 import subprocess
@@ -61,9 +62,31 @@ def packets(rng, words, events, breaks, watches):
     return ['vCont;c']
 
 
+def of_group(rng, words, events, count, breaks, watches):
+    """The same packets about all processes, each about one of them."""
+    p = rng.randrange(1, count + 1)
+    x = rng.random()
+    if x < 0.2:
+        return [rng.choice([f'Hgp{p:x}.1', f'Hgp{p:x}.1', f'Hgp{p:x}.0', 'Hgp0.0', f'Hg{p:x}', f'Hgp{count + 1:x}.1'])]
+    if x < 0.26:
+        return [rng.choice(['Hc0', 'Hc-1', f'Hcp{p:x}.1', f'Tp{p:x}.1', f'Tp{p:x}.2'])]
+    if x < 0.3:
+        return [f'qXfer:exec-file:read:{p:x}:{rng.randrange(8):x},{rng.randrange(1, 40):x}', 'qXfer:threads:read::0,1000']
+    if x < 0.31:
+        return [f'vCont;c:p{p:x}.-1']
+    asked = packets(rng, words, events, breaks, watches)
+    if asked[0].startswith('vCont;s'):
+        return [f'vCont;s:p{p:x}.1;c']
+    if asked[0].startswith('vCont;r'):
+        return [asked[0].replace(':1;c', f':p{p:x}.1;c')]
+    if asked[0] == 'bs' and rng.random() < 0.5:
+        return [f'Tp{p:x}.1', 'Hc0', 'bs']
+    return asked
+
+
 def seen(packet, told):
-    """What is compared: of `where` how the process stands, since of events that do nothing to the process each may say on which side it stands."""
-    return bytes.fromhex(told).split(b'\n')[1] if packet.startswith('qRcmd,') else told
+    """What is compared: of `where` how the processes stand, since of events that do nothing to a process each may say on which side it stands."""
+    return bytes.fromhex(told).split(b'\n')[1:] if packet.startswith('qRcmd,') else told
 
 
 def main():
@@ -71,11 +94,13 @@ def main():
     lines = [line.split() for line in open(record) if line.strip() and not line.startswith('#')]
     words = max(len(w) - 3 for w in lines if w[0].startswith('program'))
     events = sum(w[0] not in ('program', 'program-m', 'proc') for w in lines)
-    a, b = (Side(f'{command} --process {name} {record}') for command in sys.argv[5:7])
+    shown = '' if name == '-' else f'--process {name}'
+    a, b = (Side(f'{command} {shown} {record}') for command in sys.argv[5:7])
     rng, breaks, watches = random.Random(seed), [], []
+    procs = sum(w[0] == 'proc' for w in lines)
     asked = moves = stops = 0
     while asked < count:
-        for packet in packets(rng, words, events, breaks, watches):
+        for packet in of_group(rng, words, events, procs, breaks, watches) if name == '-' else packets(rng, words, events, breaks, watches):
             told, wanted = (seen(packet, side.ask(packet)) for side in (a, b))
             asked += 1
             if packet[0] in 'bv':

@@ -246,8 +246,10 @@ class Stub:
         at, size = int(at, 16), int(size, 16)
         if kind in '01':
             (self.breaks.add if q[0] == 'Z' else self.breaks.discard)(at)
-        else:
-            self.watches = [w for w in self.watches if w != (kind, at, size)] + ([(kind, at, size)] if q[0] == 'Z' else [])
+        elif q[0] == 'z':
+            self.watches = [w for w in self.watches if w != (kind, at, size)]
+        elif (kind, at, size) not in self.watches:
+            self.watches.append((kind, at, size))
         return 'OK'
 
     def moved(self, q):
