@@ -3,7 +3,7 @@
 ghost use Rattle.std.specs.Prelude.{◌≡◌, ◌↔◌, IfOk, IsErr, Some, codes};
 ghost use Rattle.om_arguments.specs.steps.Requests.{asked_by, ext_of, form_of, subcommand_named};
 
-use crate::debug_request::{DEBUG, debug_command, debug_request};
+use crate::debug_request::{DEBUG, Symbols, debug_command, debug_request, symbols_of};
 use crate::draw_request::{DRAW, Lines, draw_command, lines_of};
 use crate::explore_request::{EXPLORE, Exploring, explore_command, exploring_of};
 use crate::look_requests::{
@@ -436,11 +436,13 @@ pub enum Checking<'a> {
 }
 
 /// A request, and what goes with each.
-#[derive(Clone, Copy, Debug, PartialEq, Eq)]
+#[derive(Debug, PartialEq, Eq, Drop)]
 pub struct Asked<'a> {
     pub request: Request<'a>,
     /// The file that is read in place of standard input, where one is named.
     pub input: Option<&'a str>,
+    /// The files with the symbols of programs, for `debug`: one for each program at most.
+    pub symbols: Vec<Symbols<'a>>,
     /// Whether more is said on standard error.
     pub verbose: bool,
 }
@@ -460,6 +462,7 @@ pub fn parse<'a, S: AsStr>(alloc: Global, words: &'a [S]) -> Result<Asked<'a>, E
         Ok(request) => Ok(Asked {
             request,
             input: found.get_str(INPUT).filter(|name| *name != STANDARD_STREAM),
+            symbols: symbols_of(alloc, found)?,
             verbose: found.get_flag(VERBOSE),
         }),
         Err(mistake) => Err(refusal_of(alloc, subcommand, mistake)),

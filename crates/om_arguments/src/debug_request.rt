@@ -1,17 +1,20 @@
 //! The subcommand `debug`: which processes of which record it shows, and how it is asked for.
 
-ghost use Rattle.std.specs.Prelude.{◌≡◌, ◌↔◌, IfOk, IsErr, codes};
+ghost use Rattle.std.specs.Prelude.{◌≡◌, ◌↔◌, ◌==◌, IfOk, IfSome, IsErr, codes};
+ghost use Rattle.std.specs.List.{after_first, before_first};
 ghost use Rattle.om_arguments.specs.steps.Requests.{asked_by};
 ghost use Rattle.om_arguments.specs.declared.arguments.Subcommand.{Subcommand};
 
 use crate::arguments::{INPUT, Request, STANDARD_STREAM};
 use crate::mistake::{Mistake, needed};
-use clap::{Arg, ArgMatches, Command};
+use clap::{Arg, ArgAction, ArgMatches, Command};
 use std::alloc::{AllocError, Global};
 
 pub(crate) const DEBUG: &str = "debug";
 
 const PROCESS: &str = "process";
+
+const ELF: &str = "elf";
 
 /// What `--help` tells of `debug`.
 pub const DEBUG_HELP: &str = "\
@@ -19,7 +22,7 @@ Shows processes of a record to gdb, at any moment of the run, forward and back.
 gdb starts the command, and its packets come over standard input and output:
 
   target remote | omlog debug --process w1 record.txt
-  target remote | omlog debug record.txt
+  target remote | omlog debug --elf queue=queue.elf record.txt
 
 RECORD is a script of sim, as run writes one with --record or --witness. It is
 played as sim plays it, and is only read; standard input has the packets, so -
@@ -30,6 +33,8 @@ time goes on for all of them. Say in gdb, before target remote:
   set schedule-multiple on
   set osabi none
   set architecture riscv:rv32
+With --elf PROGRAM=FILE, once for each program, gdb is told that FILE has the
+symbols of each process that runs PROGRAM. FILE itself is read by gdb alone.
 
 In gdb:
   step, next, finish, continue, break, watch, rwatch, awatch, and backwards
@@ -47,6 +52,7 @@ Registers and memory cannot be changed.
 
 Refused, on standard error, status 1, before the first packet:
   no such process   no process of the record has this name
+  no such name      no process of the record runs a program of this name
   empty script      there is no process
 A faulty record is refused whole, as by sim. The status is 0 when gdb is done.
 
@@ -58,11 +64,19 @@ Example: from the end of a run back to what wrote the variable found.
   (gdb) watch -location found
   (gdb) reverse-continue";
 
+/// The file that has the symbols of a program.
+#[derive(Clone, Copy, Debug, PartialEq, Eq)]
+pub struct Symbols<'a> {
+    pub program: &'a str,
+    pub file: &'a str,
+}
+
 // The request to show a process of a record.
 pub(crate) fn debug_request<'a>(found: &ArgMatches<'a>) -> Result<Request<'a>, Mistake<'a>>
     ensures { IfOk result (λ request. asked_by request ≡ Subcommand.Debug) }
 {
     refuse_stream(needed(found, INPUT)?)?;
+    check_symbols(found.get_strs(ELF).unwrap_or(&[]))?;
     Ok(Request::Debug {
         process: found.get_str(PROCESS),
     })
@@ -78,11 +92,52 @@ fn refuse_stream<'a>(path: &str) -> Result<(), Mistake<'a>>
     Ok(())
 }
 
+// The program and the file of a word PROGRAM=FILE, of which neither is empty.
+fn symbols_in<'a>(word: &'a str) -> Option<Symbols<'a>>
+    ensures program { IfSome result (λ s. s.program.now ≡ before_first (λ byte. byte == 61) word.now) }
+    ensures file { IfSome result (λ s. s.file.now ≡ after_first (λ byte. byte == 61) word.now) }
+{
+    let (program, file) = word.split_once('=')?;
+    if program.is_empty() || file.is_empty() {
+        return None;
+    }
+    Some(Symbols { program, file })
+}
+
+// Refuses a word that is no PROGRAM=FILE, and one whose program has a file already.
+fn check_symbols<'a>(words: &[&'a str]) -> Result<(), Mistake<'a>> {
+    for (place, word) in words.iter().enumerate() {
+        match symbols_in(word) {
+            None => return Err(Mistake::NoSymbols(word)),
+            Some(symbols) if is_named(&words[..place], symbols.program) => {
+                return Err(Mistake::NamedTwice(word));
+            }
+            Some(_) => {}
+        }
+    }
+    Ok(())
+}
+
+// Returns whether one of these words gives a file to the program.
+fn is_named(words: &[&str], program: &str) -> bool {
+    words.iter().any(|word| symbols_in(word).is_some_and(|symbols| symbols.program == program))
+}
+
+// Returns the files with the symbols of programs that are given.
+pub(crate) fn symbols_of<'a>(
+    alloc: Global,
+    found: &ArgMatches<'a>,
+) -> Result<Vec<Symbols<'a>>, AllocError> {
+    let mut all = Vec::new(alloc);
+    for word in found.get_strs(ELF).unwrap_or(&[]) {
+        if let Some(symbols) = symbols_in(word) {
+            all.push(symbols)?;
+        }
+    }
+    Ok(all)
+}
+
 pub(crate) fn debug_command<'a>(alloc: Global) -> Result<Command<'a>, AllocError> {
-    let process = Arg::new(alloc, PROCESS)
-        .long(PROCESS)
-        .value_name("NAME")
-        .help("The one process that is shown (default: all)");
     let record = Arg::new(alloc, INPUT)
         .value_name("RECORD")
         .help("The record, a script of sim")
@@ -90,6 +145,23 @@ pub(crate) fn debug_command<'a>(alloc: Global) -> Result<Command<'a>, AllocError
     Command::new(alloc, DEBUG)
         .about("A process of a record under gdb, forward and back")
         .after_long_help(DEBUG_HELP)
-        .arg(process)?
+        .arg(process_option(alloc))?
+        .arg(elf_option(alloc)?)?
         .arg(record)
+}
+
+fn process_option<'a>(alloc: Global) -> Arg<'a> {
+    Arg::new(alloc, PROCESS)
+        .long(PROCESS)
+        .value_name("NAME")
+        .help("The one process that is shown (default: all)")
+}
+
+fn elf_option<'a>(alloc: Global) -> Result<Arg<'a>, AllocError> {
+    Arg::new(alloc, ELF)
+        .long(ELF)
+        .value_name("PROGRAM=FILE")
+        .action(ArgAction::Append)
+        .help("The file with the symbols of a program, for gdb to read; once for each")
+        .conflicts_with(PROCESS)
 }

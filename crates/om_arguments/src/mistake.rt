@@ -28,6 +28,10 @@ pub(crate) enum Mistake<'a> {
     NoFile(&'a str),
     // The record that an argument names is to be standard input, over which packets come.
     NoRecord(&'a str),
+    // A word is no program and a file for its symbols.
+    NoSymbols(&'a str),
+    // The program of such a word has a file already.
+    NamedTwice(&'a str),
 }
 
 impl<'a> fmt::Display for Mistake<'a> {
@@ -57,6 +61,14 @@ impl<'a> fmt::Display for Mistake<'a> {
             Mistake::NoRecord(argument) => write!(
                 f,
                 "invalid value '-' for '{argument}': packets come over standard input, and a file is needed; ./- is one of this name"
+            ),
+            Mistake::NoSymbols(word) => write!(
+                f,
+                "invalid value '{word}' for '--elf <PROGRAM=FILE>': it is no program and a file with = between them"
+            ),
+            Mistake::NamedTwice(word) => write!(
+                f,
+                "invalid value '{word}' for '--elf <PROGRAM=FILE>': its program has a file already"
             ),
         }
     }

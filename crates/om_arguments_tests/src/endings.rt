@@ -7,7 +7,7 @@ use std::io;
 use std::process::{Abort, ExitCode};
 
 // Words that are mistaken, and all that is told of them.
-static MISTAKES: [(&[&str], &str); 22] = [
+static MISTAKES: [(&[&str], &str); 27] = [
     (
         &["omlog", "replay", "s0.db", "x"],
         "error: invalid value 'x' for '<INTERVAL>': it is no number of 32 bits\n\nUsage: omlog replay [OPTIONS] <FILE> <INTERVAL>\n\nFor more information, try '--help'.\n",
@@ -54,6 +54,26 @@ static MISTAKES: [(&[&str], &str); 22] = [
     (
         &["omlog", "debug", "--process", "p", "-"],
         "error: invalid value '-' for '<RECORD>': packets come over standard input, and a file is needed; ./- is one of this name\n\nUsage: omlog debug [OPTIONS] <RECORD>\n\nFor more information, try '--help'.\n",
+    ),
+    (
+        &["omlog", "debug", "--elf", "q", "r"],
+        "error: invalid value 'q' for '--elf <PROGRAM=FILE>': it is no program and a file with = between them\n\nUsage: omlog debug [OPTIONS] <RECORD>\n\nFor more information, try '--help'.\n",
+    ),
+    (
+        &["omlog", "debug", "--elf", "=q.elf", "r"],
+        "error: invalid value '=q.elf' for '--elf <PROGRAM=FILE>': it is no program and a file with = between them\n\nUsage: omlog debug [OPTIONS] <RECORD>\n\nFor more information, try '--help'.\n",
+    ),
+    (
+        &["omlog", "debug", "--elf=q=", "r"],
+        "error: invalid value 'q=' for '--elf <PROGRAM=FILE>': it is no program and a file with = between them\n\nUsage: omlog debug [OPTIONS] <RECORD>\n\nFor more information, try '--help'.\n",
+    ),
+    (
+        &["omlog", "debug", "--elf", "q=a", "--elf", "q=a", "r"],
+        "error: invalid value 'q=a' for '--elf <PROGRAM=FILE>': its program has a file already\n\nUsage: omlog debug [OPTIONS] <RECORD>\n\nFor more information, try '--help'.\n",
+    ),
+    (
+        &["omlog", "debug", "--elf", "q=a", "--process", "p", "r"],
+        "error: the argument '--elf <PROGRAM=FILE>' cannot be used with '--process <NAME>'\n\nUsage: omlog debug --elf <PROGRAM=FILE> <RECORD>\n\nFor more information, try '--help'.\n",
     ),
     (
         &["omlog", "show"],

@@ -1,7 +1,7 @@
 //! Command lines, and what they ask for.
 
 use om_arguments::{
-    Asked, Checking, Exploring, Kills, Lines, Look, OutputForm, Request, Running, parse,
+    Asked, Checking, Exploring, Kills, Lines, Look, OutputForm, Request, Running, Symbols, parse,
 };
 use om_isa::Ext;
 use std::alloc::Global;
@@ -350,6 +350,7 @@ fn check(
     let wanted = Asked {
         request,
         input,
+        symbols: Vec::new(alloc),
         verbose: false,
     };
     check_asked(rt, alloc, words, wanted);
@@ -377,6 +378,7 @@ fn check_loud(
     let wanted = Asked {
         request,
         input: None,
+        symbols: Vec::new(alloc),
         verbose: true,
     };
     check_asked(rt, alloc, words, wanted);
@@ -417,5 +419,32 @@ fn words_and_what_they_ask_for(rt: HostRuntime) {
             strict: false,
         };
         check(&rt, rt.alloc(), words, Request::Run(running), *input);
+    }
+}
+
+static WITH_SYMBOLS: [&str; 7] = [
+    "omlog",
+    "debug",
+    "--elf",
+    "queue=q=1.elf",
+    "record",
+    "--elf",
+    "bank=./b.elf",
+];
+
+// The first = parts the program from its file.
+#[test]
+fn files_with_symbols(rt: HostRuntime) {
+    let wanted = [("queue", "q=1.elf"), ("bank", "./b.elf")];
+    match parse(rt.alloc(), &WITH_SYMBOLS) {
+        Ok(asked) => {
+            assert_eq!(&rt; asked.request, Request::Debug { process: None });
+            assert_eq!(&rt; asked.input, Some("record"));
+            assert_eq!(&rt; asked.symbols.len(), wanted.len());
+            for (symbols, (program, file)) in asked.symbols.iter().zip(wanted) {
+                assert_eq!(&rt; *symbols, Symbols { program, file });
+            }
+        }
+        Err(error) => panic!(&rt; "{error}"),
     }
 }

@@ -21,7 +21,11 @@ use Rattle.om_inferiors.specs.declared.inferior.Inferior.{Inferior}
 use Rattle.om_inferiors.specs.declared.inferiors.Inferiors.{Inferiors}
 use Rattle.om_inferiors.specs.declared.shown.Shown.TheVariants.{One, All}
 use Rattle.om_debug.specs.Stops.{DebugState}
-use Rattle.om_debug_command.specs.Debug.{AreBegun, IsAllOpened, IsMember, IsBefore, IsBegunAll, IsBegunAt, IsErrorOfDebug, IsOpened, IsPlaced, IsServed}
+use Rattle.om_debug_command.specs.Debug.{AreBegun, IsAllOpened, IsMember, IsBefore, IsBegunAll, IsBegunAt, IsErrorOfAll, IsErrorOfDebug, IsOpened, IsPlaced, IsServed}
+use Rattle.om_debug_command.specs.Symbols.{IsUnknown}
+use Rattle.om_debug_command.specs.declared.error.DebugError.{DebugError}
+use Rattle.om_debug_command.specs.declared.error.DebugError.TheVariants.{NoSuchName, Refused}
+use Rattle.om_debug_command.specs.declared.symbols.Symbols.{Symbols}
 
 -- a process stands before the first event of a script
 pub placed_at : (script : EventScript) (cluster : Cluster) (place p : ℕ) (world : WorldState) (events read : List Event) (t : TimelineState) (d : DebugState) → cluster ≡ script.cluster
@@ -112,36 +116,40 @@ served_of (Some bytes) had left before after name d opened s = (
 )
 
 -- ---- the same of all processes
-pub all_opened : (remaining : Option (List ℕ)) (start script : EventScript) (r : Result Inferiors CommandError) → start ≡ no_events
-    → IfSome remaining (λ bytes. IsScript event_script_line start bytes script) → IfOk r (IsBegunAll script)
-    → IfSome remaining (λ bytes. IfOk r (IsAllOpened bytes))
-all_opened None start script r is read begun = tt
-all_opened (Some bytes) start script (Ok d) is read begun =
+pub all_opened : (remaining : Option (List ℕ)) (start script : EventScript) (symbols : List Symbols) (r : Result Inferiors DebugError) → start ≡ no_events
+    → IfSome remaining (λ bytes. IsScript event_script_line start bytes script) → IfOk r (IsBegunAll script symbols)
+    → IfSome remaining (λ bytes. IfOk r (IsAllOpened bytes symbols))
+all_opened None start script symbols r is read begun = tt
+all_opened (Some bytes) start script symbols (Ok d) is read begun =
     record { script = script; is_script = subst (λ s. IsScript event_script_line s bytes script) is read; begins = begun }
-all_opened (Some bytes) start script (Err e) is read begun = tt
+all_opened (Some bytes) start script symbols (Err e) is read begun = tt
 
-of_all : (bytes : List ℕ) (script : EventScript) (error : CommandError) → IsScript event_script_line no_events bytes script
-    → (error ≡ errors.NoMemory) ⊎ ((error ≡ errors.EmptyScript) × (length script.cluster.processes ≡ 0)) → IsErrorOfSim bytes error
-of_all bytes script error read told = ⊎_elim
-    (λ memory. subst (IsErrorOfSim bytes) (sym memory) tt)
-    (λ empty. subst (IsErrorOfSim bytes) (sym empty.0) (script, read, empty.1))
+of_all : (bytes : List ℕ) (symbols : List Symbols) (script : EventScript) (error : DebugError) → IsScript event_script_line no_events bytes script
+    → (error ≡ Refused errors.NoMemory) ⊎ (((error ≡ Refused errors.EmptyScript) × (length script.cluster.processes ≡ 0)) ⊎ ((error ≡ NoSuchName) × IsUnknown script.cluster symbols))
+    → IsErrorOfAll bytes symbols error
+of_all bytes symbols script error read told = ⊎_elim
+    (λ memory. subst (IsErrorOfAll bytes symbols) (sym memory) tt)
+    (λ rest. ⊎_elim
+    (λ empty. subst (IsErrorOfAll bytes symbols) (sym empty.0) (script, read, empty.1))
+    (λ unknown. subst (IsErrorOfAll bytes symbols) (sym unknown.0) (record { script = script; is_script = read; unknown = unknown.1 }))
+    rest)
     told
 
-pub error_of_all : (remaining : Option (List ℕ)) (start script : EventScript) (r : Result Inferiors CommandError) → start ≡ no_events
+pub error_of_all : (remaining : Option (List ℕ)) (start script : EventScript) (symbols : List Symbols) (r : Result Inferiors DebugError) → start ≡ no_events
     → IfSome remaining (λ bytes. IsScript event_script_line start bytes script)
-    → IfErr r (λ error. (error ≡ errors.NoMemory) ⊎ ((error ≡ errors.EmptyScript) × (length script.cluster.processes ≡ 0)))
-    → IfSome remaining (λ bytes. IfErr r (IsErrorOfSim bytes))
-error_of_all None start script r is read error = tt
-error_of_all (Some bytes) start script (Ok x) is read error = tt
-error_of_all (Some bytes) start script (Err e) is read error =
-    of_all bytes script e (subst (λ s. IsScript event_script_line s bytes script) is read) error
+    → IfErr r (λ error. (error ≡ Refused errors.NoMemory) ⊎ (((error ≡ Refused errors.EmptyScript) × (length script.cluster.processes ≡ 0)) ⊎ ((error ≡ NoSuchName) × IsUnknown script.cluster symbols)))
+    → IfSome remaining (λ bytes. IfErr r (IsErrorOfAll bytes symbols))
+error_of_all None start script symbols r is read error = tt
+error_of_all (Some bytes) start script symbols (Ok x) is read error = tt
+error_of_all (Some bytes) start script symbols (Err e) is read error =
+    of_all bytes symbols script e (subst (λ s. IsScript event_script_line s bytes script) is read) error
 
-pub served_of_all : (remaining had left before after : Option (List ℕ)) (d : Inferiors) → IfSome remaining (λ bytes. IsAllOpened bytes d)
+pub served_of_all : (remaining had left before after : Option (List ℕ)) (symbols : List Symbols) (d : Inferiors) → IfSome remaining (λ bytes. IsAllOpened bytes symbols d)
     → ((bytes : List ℕ) × (written : List ℕ) × (over : Bool) × (last : SessionState) × Takes (session (All d)) bytes written over last
     × Appends before after written × Consumes had left bytes × (over ≡ false → IsAtEnd left))
-    → IfSome remaining (λ bytes. (e : Inferiors) × IsAllOpened bytes e × IsServed (All e) had left before after)
-served_of_all None had left before after d opened served = tt
-served_of_all (Some bytes) had left before after d opened s = (
+    → IfSome remaining (λ bytes. (e : Inferiors) × IsAllOpened bytes symbols e × IsServed (All e) had left before after)
+served_of_all None had left before after symbols d opened served = tt
+served_of_all (Some bytes) had left before after symbols d opened s = (
   d,
   opened,
   record { bytes = s.0; written = s.1; over = s.2; last = s.3; takes = s.4; consumes = s.6; appends = s.5; ended = s.7 },
@@ -157,10 +165,11 @@ split_last (x ∷ xs) m i (suc k) is = ⊎_elim (λ before. inl before) (λ last
 same_some : {A : Type 0} (m i : A) → Some m ≡ Some i → m ≡ i
 same_some m i is = cc
 
-pub members_more : (script : EventScript) (items : List Inferior) (m : Inferior) (place : ℕ) → length items ≡ place → AreBegun script items → IsMember script place m → AreBegun script (items ++ m ∷ [])
-members_more script items m place count before member = λ k i is. ⊎_elim
+pub members_more : (script : EventScript) (symbols : List Symbols) (items : List Inferior) (m : Inferior) (place : ℕ) → length items ≡ place → AreBegun script symbols items → IsMember script symbols place m
+    → AreBegun script symbols (items ++ m ∷ [])
+members_more script symbols items m place count before member = λ k i is. ⊎_elim
     (λ there. before k i there)
-    (λ last. subst (λ n. IsMember script n i) (sym (last.0 ∙ count)) (subst (IsMember script place) (same_some m i last.1) member))
+    (λ last. subst (λ n. IsMember script symbols n i) (sym (last.0 ∙ count)) (subst (IsMember script symbols place) (same_some m i last.1) member))
     (split_last items m i k is)
 
 pub length_more : {A : Type 0} (xs ys : List A) (m : A) (n : ℕ) → ys ≡ xs ++ m ∷ [] → length xs ≡ n → length ys ≡ n + 1

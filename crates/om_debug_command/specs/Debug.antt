@@ -15,6 +15,10 @@ use Rattle.om_inferiors.specs.declared.inferior.Inferior.{Inferior}
 use Rattle.om_inferiors.specs.declared.inferiors.Inferiors.{Inferiors}
 use Rattle.om_inferiors.specs.declared.shown.Shown.{Shown}
 use Rattle.om_inferiors.specs.Serving.{SessionState, Takes, session}
+use Rattle.om_debug_command.specs.Symbols.{AreRun, IsUnknown, file_if, program_at_place}
+use Rattle.om_debug_command.specs.declared.error.DebugError.{DebugError}
+use Rattle.om_debug_command.specs.declared.error.DebugError.TheVariants.{NoSuchName, Refused}
+use Rattle.om_debug_command.specs.declared.symbols.Symbols.{Symbols}
 
 -- the process at a place, before the first event of a script, in the world that the script begins with
 pub record IsPlaced (script : EventScript) (place : ℕ) (d : DebugState) : Type 0 where
@@ -36,29 +40,32 @@ pub record IsOpened (bytes name : List ℕ) (d : DebugState) : Type 0 where
   pub is_script : IsScript event_script_line no_events bytes script
   pub begins : IsBegunAt script name d
 
--- a process among all of a script, before the first event: its number is its place and 1
-pub record IsMember (script : EventScript) (place : ℕ) (i : Inferior) : Type 0 where
+-- a process among all of a script, before the first event: its number is its place and 1, and its file is that which is given for its
+-- program
+pub record IsMember (script : EventScript) (symbols : List Symbols) (place : ℕ) (i : Inferior) : Type 0 where
   pub number : i.number ≡ place + 1
   pub name : option_map (λ e. e.0) (slice_get script.cluster.processes place) ≡ Some (string_bytes i.name)
+  pub file : option_map string_bytes i.file ≡ file_if symbols (program_at_place script.cluster place)
   pub placed : IsPlaced script place i.debugger
 
 -- each of some is the one of its place
-abbrev pub AreBegun : EventScript → List Inferior → Type 0
-AreBegun script members = (place : ℕ) (i : Inferior) → slice_get members place ≡ Some i → IsMember script place i
+abbrev pub AreBegun : EventScript → List Symbols → List Inferior → Type 0
+AreBegun script symbols members = (place : ℕ) (i : Inferior) → slice_get members place ≡ Some i → IsMember script symbols place i
 
--- all processes of a script are, and the first is meant
-pub record IsBegunAll (script : EventScript) (d : Inferiors) : Type 0 where
+-- all processes of a script are, the first is meant, and each file that is given is of one of their programs
+pub record IsBegunAll (script : EventScript) (symbols : List Symbols) (d : Inferiors) : Type 0 where
   pub count : length d.members.items ≡ length script.cluster.processes
-  pub members : AreBegun script d.members.items
+  pub members : AreBegun script symbols d.members.items
+  pub known : AreRun script.cluster symbols
   pub selected : d.selected ≡ 1
   pub focus : d.focus ≡ 1
   pub going : d.going ≡ None
 
 -- the same, of the script that these bytes are
-pub record IsAllOpened (bytes : List ℕ) (d : Inferiors) : Type 0 where
+pub record IsAllOpened (bytes : List ℕ) (symbols : List Symbols) (d : Inferiors) : Type 0 where
   pub script : EventScript
   pub is_script : IsScript event_script_line no_events bytes script
-  pub begins : IsBegunAll script d
+  pub begins : IsBegunAll script symbols d
 
 -- packets are answered from the first on: these bytes are read, and what they are answered is written; it ends with the last
 -- answer, or where there are no more bytes
@@ -90,3 +97,18 @@ IsBefore errors.CannotRead kept = Unit {0}
 IsBefore errors.CannotWrite kept = Unit {0}
 IsBefore errors.NoMemory kept = Unit {0}
 IsBefore error kept = kept
+
+-- the bytes are a script, and a file is given for a program that none of its processes runs
+pub record LacksProgram (bytes : List ℕ) (symbols : List Symbols) : Type 0 where
+  pub script : EventScript
+  pub is_script : IsScript event_script_line no_events bytes script
+  pub unknown : IsUnknown script.cluster symbols
+
+-- the errors of sim; or that of a program that no process runs
+abbrev pub IsErrorOfAll : List ℕ → List Symbols → DebugError → Type 0
+IsErrorOfAll bytes symbols (Refused error) = IsErrorOfSim bytes error
+IsErrorOfAll bytes symbols NoSuchName = LacksProgram bytes symbols
+
+abbrev pub IsBeforeAll : DebugError → Type 0 → Type 0
+IsBeforeAll (Refused error) kept = IsBefore error kept
+IsBeforeAll NoSuchName kept = kept

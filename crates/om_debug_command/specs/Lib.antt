@@ -1,1 +1,2 @@
 pub mod Debug
+pub mod Symbols

@@ -1,6 +1,7 @@
 //! All processes of a small record: who is there, who stops, and who leaves.
 
-use crate::told::told_of_all;
+use crate::told::{symbols_in, told_of_all};
+use om_debug_command::{DebugError, debug_all};
 
 // Each process puts 1 into a0, and then adds 1 to it without end: addi a0, zero, 1; addi a0, a0, 1; jal zero, -4.
 static RECORD: &str =
@@ -18,8 +19,53 @@ static ANSWERED: &str =
 
 #[test]
 fn two_processes_in_one_time(rt: HostRuntime) {
-    let written = told_of_all(&rt, rt.alloc(), RECORD, ASKED);
+    let written = told_of_all(&rt, rt.alloc(), &[], RECORD, ASKED);
     assert_eq!(&rt; written.as_slice(), ANSWERED.as_bytes());
+}
+
+// The processes p and q run a program each that has a file, r one that has none.
+static PROGRAMS: &str =
+    "program a 16 00000893 00000073\nprogram b 16 00000893 00000073\nprogram c 16 00000893 00000073\nproc p a\nproc q b\nproc r c\n";
+
+// The file of each, whole and in pieces; one that is not known, and one of a process that is not there.
+static FILES_ASKED: &str =
+    "$QStartNoAckMode#b0$qXfer:exec-file:read:1:0,1000#4a$qXfer:exec-file:read:2:0,3#bd$qXfer:exec-file:read:2:3,1000#4e$qXfer:exec-file:read:3:0,1000#4c$qXfer:exec-file:read:4:0,1000#4d$k#6b";
+
+static FILES_TOLD: &str = "+$OK#9a$l./a&b.elf#17$m/x/#43$lq.elf#42$E01#a6$E01#a6$OK#9a";
+
+#[test]
+fn files_with_symbols(rt: HostRuntime) {
+    let alloc = rt.alloc();
+    let symbols = [
+        symbols_in(&rt, alloc, "b", "/x/q.elf"),
+        symbols_in(&rt, alloc, "a", "./a&b.elf"),
+    ];
+    let written = told_of_all(&rt, alloc, &symbols, PROGRAMS, FILES_ASKED);
+    assert_eq!(&rt; written.as_slice(), FILES_TOLD.as_bytes());
+}
+
+// A program that is there, which no process runs, and one that is not. Nothing is read or written then.
+#[test]
+fn files_of_no_process(rt: HostRuntime) {
+    let alloc = rt.alloc();
+    for program in ["a", "c"] {
+        let symbols = [
+            symbols_in(&rt, alloc, "b", "b.elf"),
+            symbols_in(&rt, alloc, program, "a.elf"),
+        ];
+        let record = "program a 16 00000893 00000073\nprogram b 16 00000893 00000073\nproc p b\n";
+        let mut written = Vec::new(alloc);
+        let mut packets = "$g#67".as_bytes();
+        let outcome = debug_all(
+            alloc,
+            &symbols,
+            &mut record.as_bytes(),
+            &mut packets,
+            &mut written,
+        );
+        assert!(&rt; outcome == Err(DebugError::NoSuchName), "{program}");
+        assert!(&rt; written.is_empty() && packets.len() == 5, "{program}");
+    }
 }
 
 // p writes 1 to address 12, and q counts, as above, while r does nothing.
@@ -37,7 +83,7 @@ static BACK_TOLD: &str =
 
 #[test]
 fn a_step_back_of_one_among_three(rt: HostRuntime) {
-    let written = told_of_all(&rt, rt.alloc(), THREE, BACK_ASKED);
+    let written = told_of_all(&rt, rt.alloc(), &[], THREE, BACK_ASKED);
     assert_eq!(&rt; written.as_slice(), BACK_TOLD.as_bytes());
 }
 
@@ -51,6 +97,6 @@ static COMMANDS_TOLD: &str =
 
 #[test]
 fn commands_of_the_user(rt: HostRuntime) {
-    let written = told_of_all(&rt, rt.alloc(), THREE, COMMANDS_ASKED);
+    let written = told_of_all(&rt, rt.alloc(), &[], THREE, COMMANDS_ASKED);
     assert_eq!(&rt; written.as_slice(), COMMANDS_TOLD.as_bytes());
 }

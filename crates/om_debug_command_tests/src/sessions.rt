@@ -17,6 +17,6 @@ fn over_failures_to_the_end_and_back(rt: HostRuntime) {
 
 #[test]
 fn all_processes_forward_and_back(rt: HostRuntime) {
-    let written = told_of_all(&rt, rt.alloc(), group::RECORD, group::SENT);
+    let written = told_of_all(&rt, rt.alloc(), &[], group::RECORD, group::SENT);
     assert!(&rt; written.as_slice() == group::TOLD.as_bytes());
 }

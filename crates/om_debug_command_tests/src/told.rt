@@ -1,6 +1,6 @@
 //! Processes of a record, and what is asked about them.
 
-use om_debug_command::{debug, debug_all};
+use om_debug_command::{Symbols, debug, debug_all};
 use std::alloc::Global;
 use std::process::Abort;
 
@@ -24,15 +24,30 @@ pub(crate) fn told(
     written
 }
 
-// Returns what is written to one who asks these packets about all processes of a record.
-pub(crate) fn told_of_all(rt: &impl Abort, alloc: Global, record: &str, asked: &str) -> Vec<u8> {
+// Returns what is written to one who asks these packets about all processes of a record, with these files for its programs.
+pub(crate) fn told_of_all(
+    rt: &impl Abort,
+    alloc: Global,
+    symbols: &[Symbols],
+    record: &str,
+    asked: &str,
+) -> Vec<u8> {
     let mut written = Vec::new(alloc);
     let done = debug_all(
         alloc,
+        symbols,
         &mut record.as_bytes(),
         &mut asked.as_bytes(),
         &mut written,
     );
     assert!(rt; done.is_ok());
     written
+}
+
+// Returns a file with the symbols of a program.
+pub(crate) fn symbols_in(rt: &impl Abort, alloc: Global, program: &str, file: &str) -> Symbols {
+    Symbols {
+        program: String::from_str(alloc, program).expect(rt, "memory"),
+        file: String::from_str(alloc, file).expect(rt, "memory"),
+    }
 }

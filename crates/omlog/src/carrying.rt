@@ -4,7 +4,7 @@ ghost use Rattle.std.specs.Prelude.{◌≡◌, OnOk};
 ghost use Rattle.std.specs.Io.KnownBytes.{Appends};
 ghost use Rattle.om_folding.specs.Folding.{folded};
 
-use crate::debugging::debug_over;
+use crate::debugging::{Wanted, debug_over};
 use crate::exploring::explore_over;
 use crate::failure::Failure;
 use crate::output::Output;
@@ -18,6 +18,7 @@ use om_commands::decode::decode;
 use om_commands::frontier::frontier;
 use om_commands::sim::sim;
 use om_commands::{CommandError, write_answer};
+use om_debug_command::DebugError;
 use om_draw_command::draw::{Window, draw};
 use om_files::{Files, fault_of, replay_file, show_bodies_file, show_file, steps_file};
 use om_folding::fold_zero_rows;
@@ -55,7 +56,7 @@ pub(crate) fn run<R: Threads + Wait + Clock + Eprint + Copy + Send + Sync + 'sta
     match parse(rt.alloc(), &words) {
         Ok(asked) => {
             let mut reasons = Reasons::new(rt, asked.verbose);
-            let status = ended(rt, threads, asked, &mut reasons);
+            let status = ended(rt, threads, &asked, &mut reasons);
             reasons.say(rt);
             status
         }
@@ -67,7 +68,7 @@ pub(crate) fn run<R: Threads + Wait + Clock + Eprint + Copy + Send + Sync + 'sta
 fn ended<R: Threads + Wait + Clock + Eprint + Copy + Send + Sync + 'static>(
     rt: &HostRuntime,
     threads: &R,
-    asked: Asked<'_>,
+    asked: &Asked<'_>,
     reasons: &mut Reasons,
 ) -> ExitCode {
     match asked.request {
@@ -97,6 +98,7 @@ fn end_carried(rt: &HostRuntime, outcome: Result<(), Failure>) -> ExitCode {
         Err(Failure::Refused(error)) => end(rt, Err(error)),
         Err(Failure::Unread) => ExitCode::from(CLOSED_PIPE),
         Err(Failure::Strict) => ExitCode::FAILURE,
+        Err(Failure::NoSuchName) => end(rt, Err(DebugError::NoSuchName)),
     }
 }
 
@@ -121,7 +123,7 @@ fn words<R: Runtime + AllocGlobal>(rt: &R) -> io::Result<Vec<String>> {
 fn carry_out<R: Threads + Wait + Clock + Eprint + Copy + Send + Sync + 'static>(
     rt: &HostRuntime,
     threads: &R,
-    asked: Asked<'_>,
+    asked: &Asked<'_>,
     reasons: &mut Reasons,
 ) -> Result<(), Failure> {
     let reader = &mut source_of(rt, asked.input, reasons)?;
@@ -170,7 +172,7 @@ fn reads_text(request: Request<'_>) -> bool {
 fn carry_out_over<R: Threads + Wait + Clock + Eprint + Copy + Send + Sync + 'static, I: Read>(
     rt: &HostRuntime,
     threads: &R,
-    asked: Asked<'_>,
+    asked: &Asked<'_>,
     reader: &mut I,
     reasons: &mut Reasons,
 ) -> Result<(), Failure> {
@@ -185,7 +187,7 @@ fn carry_out_over<R: Threads + Wait + Clock + Eprint + Copy + Send + Sync + 'sta
 fn answer<R: Threads + Wait + Clock + Eprint + Copy + Send + Sync + 'static, I: Read>(
     rt: &HostRuntime,
     threads: &R,
-    asked: Asked<'_>,
+    asked: &Asked<'_>,
     reader: &mut I,
     reasons: &mut Reasons,
 ) -> Result<(), Failure> {
@@ -203,7 +205,15 @@ fn answer<R: Threads + Wait + Clock + Eprint + Copy + Send + Sync + 'static, I: 
             explore_over(rt, threads, exploring, reader, &mut writer, reasons)
         }
         Request::Debug { process } => {
-            debug_over(rt, threads, process, reader, &mut writer, reasons)
+            let wanted = Wanted {
+                process,
+                symbols: &asked.symbols,
+            };
+            match debug_over(rt, threads, wanted, reader, &mut writer, reasons) {
+                Ok(()) => Ok(()),
+                Err(DebugError::Refused(error)) => Err(error),
+                Err(DebugError::NoSuchName) => return Err(Failure::NoSuchName),
+            }
         }
         request => answer_at_once(rt, request, reader, &mut writer, reasons),
     };

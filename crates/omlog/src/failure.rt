@@ -11,6 +11,8 @@ pub(crate) enum Failure {
     Unread,
     // A process trapped or a kill did not come, where that is a failure.
     Strict,
+    // A file with symbols is given for a program that no process of the record runs.
+    NoSuchName,
 }
 
 impl From<CommandError> for Failure {

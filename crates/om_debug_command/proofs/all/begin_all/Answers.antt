@@ -1,6 +1,7 @@
 use Rattle.std.proofs.Common.{◌≡◌, length, ap, sym, subst, ◌∙◌}
 use Rattle.om_scripts.specs.Programs.{Cluster}
 use Rattle.om_debug_command.specs.Debug.{AreBegun}
+use Rattle.om_debug_command.specs.Symbols.{AreRun}
 use Rattle.om_debug_command.proofs.all.begin_all.Goals as goal
 
 pub returns-clause-opened : goal.returns-clause-opened
@@ -8,7 +9,8 @@ returns-clause-opened c =
     let e = c.new.ensures in
     record {
       count = ap length e.members ∙ c.in_ok-members_of.ensures.count ∙ c.n-count.ensures.number ∙ ap (λ (k : Cluster). length k.processes) c.programs.ensures;
-      members = subst (AreBegun c.args.script.now) (sym e.members) c.in_ok-members_of.ensures.members;
+      members = subst (AreBegun c.args.script.now c.args.symbols.now) (sym e.members) c.in_ok-members_of.ensures.members;
+      known = subst (λ (k : Cluster). AreRun k c.args.symbols.now) c.programs-2.ensures c.in_ok-check_known.ensures.known;
       selected = e.selected;
       focus = e.focus;
       going = e.going;

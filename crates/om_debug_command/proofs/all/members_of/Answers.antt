@@ -11,5 +11,5 @@ loop-place-preserved c =
     let is : c.push.new.self.items ≡ items ++ m ∷ [] = pushed (m ∷ []) refl c.in_ok-push.was c.push.ensures.items in
     record {
       count = length_more items c.push.new.self.items m c.loop-place.place is c.loop-place.invariant.count;
-      members = subst (AreBegun c.args.script.now) (sym is) (members_more c.args.script.now items m c.loop-place.place c.loop-place.invariant.count c.loop-place.invariant.members c.in_ok-member_at.ensures);
+      members = subst (AreBegun c.args.script.now c.args.symbols.now) (sym is) (members_more c.args.script.now c.args.symbols.now items m c.loop-place.place c.loop-place.invariant.count c.loop-place.invariant.members c.in_ok-member_at.ensures);
     }

@@ -1,0 +1,5 @@
+set schedule-multiple off
+break transfer
+continue
+info threads
+print balance
