@@ -4,7 +4,8 @@
     fuzz.py COUNT SEED NAME RECORD 'COMMAND' 'COMMAND'       as fuzz.py 1000 1 p2 bank.record 'omlog debug' ./stub.py
     fuzz.py COUNT SEED - RECORD 'COMMAND' 'COMMAND'          as fuzz.py 1000 1 - bank.record 'omlog debug' ./group.py
 
---process NAME RECORD is put behind each command, and RECORD alone for all processes."""
+--process NAME RECORD is put behind each command; for all processes RECORD, behind --elf PROGRAM=PROGRAM.elf for
+some of its programs."""
 import os
 import random
 import subprocess
@@ -94,9 +95,10 @@ def main():
     lines = [line.split() for line in open(record) if line.strip() and not line.startswith('#')]
     words = max(len(w) - 3 for w in lines if w[0].startswith('program'))
     events = sum(w[0] not in ('program', 'program-m', 'proc') for w in lines)
-    shown = '' if name == '-' else f'--process {name}'
-    a, b = (Side(f'{command} {shown} {record}') for command in sys.argv[5:7])
     rng, breaks, watches = random.Random(seed), [], []
+    programs = [it for it in sorted({w[2] for w in lines if w[0] == 'proc'}) if rng.random() < 0.7]
+    shown = ' '.join(f'--elf {it}={it}.elf' for it in programs) if name == '-' else f'--process {name}'
+    a, b = (Side(f'{command} {shown} {record}') for command in sys.argv[5:7])
     procs = sum(w[0] == 'proc' for w in lines)
     asked = moves = stops = 0
     while asked < count:

@@ -1,7 +1,7 @@
 #!/usr/bin/env python3
 """The second implementation of `omlog debug` over all processes of a record: each is an inferior of gdb, and time goes on for all.
 
-    group.py [--log FILE] RECORD
+    group.py [--log FILE] [--elf PROGRAM=FILE].. RECORD
 
 The ticks of all processes stand in one list, in the order of the record, and going on or back walks it."""
 import sys
@@ -33,11 +33,11 @@ class Member(Stub):
 
 
 class Group(Stub):
-    def __init__(self, text, log):
+    def __init__(self, text, log, files):
         procs = [line.split()[1:3] for line in text.split('\n') if line.split()[:1] == ['proc']]
         self.members = [Member(text, i + 1, name, program) for i, (name, program) in enumerate(procs)]
         super().__init__(self.members[0].h, '', log)
-        self.shown = list(self.members)
+        self.shown, self.files = list(self.members), files
         # Who makes which tick: each event changes one process.
         self.line = sorted(((t.e, t.k, i) for i, m in enumerate(self.members) for t in m.h.ticks))
         self.place_now, self.selected, self.going, self.focus = 0, 1, None, 1
@@ -168,7 +168,9 @@ class Group(Stub):
         if q == 'g' or q[:1] in 'mZz' and q[0] != 'v':
             return one.answer(q) if one else 'E01'
         if q.startswith('qXfer:exec-file:read:'):
-            return 'E01'
+            number, part = q.split(':')[3:]
+            file = self.files.get(getattr(self.of(int(number, 16)), 'program', None))
+            return 'E01' if file is None else self.piece(file, *(int(x, 16) for x in part.split(',')))
         if q.startswith('qXfer:threads:read:'):
             text = ''.join(f'<thread id="p{m.number:x}.1" name="{m.name}">{m.standing()}</thread>' for m in self.shown)
             return self.piece(f'<?xml version="1.0"?><threads>{text}</threads>', *(int(x, 16) for x in q.split(':')[-1].split(',')))
@@ -187,7 +189,13 @@ class Group(Stub):
 def main():
     words = sys.argv[1:]
     log = open(words.pop(words.index('--log') + 1), 'w') if '--log' in words else None
-    Group(open(words[-1]).read(), log).serve()
+    files = {}
+    while '--elf' in words:
+        at = words.index('--elf')
+        program, _, file = words[at + 1].partition('=')
+        files[program] = file
+        del words[at:at + 2]
+    Group(open(words[-1]).read(), log, files).serve()
 
 
 if __name__ == '__main__':
