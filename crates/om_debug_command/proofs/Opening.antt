@@ -1,16 +1,15 @@
 -- A script that is opened, and why it is not.
 use Rattle.std.proofs.Common.{◌≡◌, ◌⊎◌, ℕ, ◌<◌, ◌≤◌, Option, Some, None, Result, Ok, Err, Bool, false, List, [], length, map, refl, ap, sym, subst, ◌∙◌, ⊎_elim, inl, inr, zero, suc, ◌+◌, ◌∷◌, ◌++◌, length-append, arith}
-use Rattle.std.specs.Prelude.{IfErr, IfOk, IfSome, OnOk, slice_get}
+use Rattle.std.specs.Prelude.{IfErr, IfOk, IfSome, slice_get}
 use Rattle.std.specs.Str.{bytes_eq}
 use Rattle.std.proofs.lemmas.List.Quantifiers.{position-Some}
-use Rattle.std.specs.Io.KnownBytes.{Appends, Consumes, IsAtEnd, Keeps}
-use Rattle.std.proofs.KnownBytes.{Keeps-refl}
+use Rattle.std.specs.Io.KnownBytes.{Appends, Consumes, IsAtEnd}
 use Rattle.om_scripts.specs.Named.{place_of}
 use Rattle.om_scripts.specs.Programs.{Cluster, program_at, programs_of}
 use Rattle.om_world.specs.World.{WorldState}
 use Rattle.om_world.specs.declared.event.Event.{Event}
-use Rattle.om_commands.specs.Command.{IsErrorOf, IsScript}
-use Rattle.om_commands.specs.Sim.{IsBegun, IsErrorOfSim}
+use Rattle.om_commands.specs.Command.{IsScript}
+use Rattle.om_commands.specs.Sim.{IsBegun}
 use Rattle.om_commands.specs.SimScript.{EventScript, event_script_line, no_events}
 use Rattle.om_commands.specs.declared.error.CommandError.{CommandError}
 use Rattle.om_commands.specs.declared.error.CommandError.TheVariants as errors
@@ -21,7 +20,7 @@ use Rattle.om_inferiors.specs.declared.inferior.Inferior.{Inferior}
 use Rattle.om_inferiors.specs.declared.inferiors.Inferiors.{Inferiors}
 use Rattle.om_inferiors.specs.declared.shown.Shown.TheVariants.{One, All}
 use Rattle.om_debug.specs.Stops.{DebugState}
-use Rattle.om_debug_command.specs.Debug.{AreBegun, IsAllOpened, IsMember, IsBefore, IsBegunAll, IsBegunAt, IsErrorOfAll, IsErrorOfDebug, IsOpened, IsPlaced, IsServed}
+use Rattle.om_debug_command.specs.Debug.{AreBegun, IsAllOpened, IsMember, IsBegunAll, IsBegunAt, IsErrorOfAll, IsErrorOfDebug, IsOpened, IsPlaced, IsServed}
 use Rattle.om_debug_command.specs.Symbols.{IsUnknown}
 use Rattle.om_debug_command.specs.declared.error.DebugError.{DebugError}
 use Rattle.om_debug_command.specs.declared.error.DebugError.TheVariants.{NoSuchName, Refused}

@@ -1,7 +1,7 @@
-use Rattle.std.proofs.Common.{◌≡◌, length, ap, sym, subst, ◌∙◌}
+use Rattle.std.proofs.Common.{◌≡◌, Err, length, ap, inr, sym, subst, ◌∙◌, rules}
 use Rattle.om_scripts.specs.Programs.{Cluster}
 use Rattle.om_debug_command.specs.Debug.{AreBegun}
-use Rattle.om_debug_command.specs.Symbols.{AreRun}
+use Rattle.om_debug_command.specs.Symbols.{AreRun, IsUnknown}
 use Rattle.om_debug_command.proofs.all.begin_all.Goals as goal
 
 pub returns-clause-opened : goal.returns-clause-opened
@@ -15,3 +15,9 @@ returns-clause-opened c =
       focus = e.focus;
       going = e.going;
     }
+
+pub returns-in_err-check_known-clause-error : goal.returns-in_err-check_known-clause-error
+returns-in_err-check_known-clause-error c =
+    let same : c.from_residual.result ≡ Err c.in_err-check_known.field-0.0 = search rules in
+    let told = c.in_err-check_known.ensures.refused in
+    rw same (inr (inr (told.0, subst (λ (k : Cluster). IsUnknown k c.args.symbols.now) c.programs-2.ensures told.1)))

@@ -1,4 +1,4 @@
-use Rattle.std.proofs.Common.{◌≡◌, ℕ, Option, subst}
+use Rattle.std.proofs.Common.{ℕ, Option, subst}
 use Rattle.std.specs.Prelude.{IfSome, MatchOption}
 use Rattle.om_world.specs.World.{WorldState}
 use Rattle.om_timeline.specs.Timeline.{CanBegin, IsBegin, TimelineState}
