@@ -1,4 +1,5 @@
 pub mod Each
+pub mod Lasting
 pub mod Sets
 pub mod Taking
 pub mod Telling

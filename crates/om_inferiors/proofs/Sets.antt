@@ -1,5 +1,5 @@
 -- Processes by their numbers, and what is set of one.
-use Rattle.std.proofs.Common.{◌≡◌, ℕ, zero, suc, ◌<◌, ◌+◌, List, [], ◌∷◌, ◌++◌, length, get_or, set, take, drop, Option, Some, refl, sym, ap, subst, ◌∙◌, arith, append_assoc, append-nil}
+use Rattle.std.proofs.Common.{◌≡◌, ◌⊎◌, ℕ, zero, suc, ◌<◌, ◌+◌, List, [], ◌∷◌, ◌++◌, length, get_or, set, take, drop, Option, Some, refl, sym, ap, subst, ◌∙◌, arith, append_assoc, append-nil}
 use Rattle.std.specs.Prelude.{slice_get}
 use Rattle.std.proofs.lemmas.List.{take_more}
 use Rattle.om_debug.specs.Stops.{DebugState}
@@ -7,7 +7,7 @@ use Rattle.om_inferiors.specs.declared.inferior.Inferior.{Inferior}
 use Rattle.om_debug.specs.declared.debugger.Told.{Told}
 use Rattle.om_debug.specs.declared.stop.Stop.{Stop}
 use Rattle.om_inferiors.specs.declared.inferiors.Inferiors.{Inferiors}
-use Rattle.om_inferiors.specs.Moving.{AreBack, AreOn, StandsAt, with_debugger}
+use Rattle.om_inferiors.specs.Moving.{AreBack, AreOn, IsLastOf, IsNoStepBack, StandsAt, with_debugger}
 use Rattle.om_inferiors.specs.Told.{IsGroupBack, IsGroupOn, IsTold, at_place, set_members, set_place, thread_text, threads_of}
 
 drop_all : {A : Type 0} (xs : List A) → drop (length xs) xs ≡ []
@@ -68,10 +68,12 @@ group_on old mid new told place stop were news begun same going t on stands = re
 }
 
 pub group_back : (old mid new : Inferiors) (told : Told) (place : ℕ) (stop : Stop) (were news : List Inferior) → were ≡ old.members.items → new.members.items ≡ news → mid.going ≡ old.going
-    → IsTold mid place stop told new → AreBack were news → IsGroupBack old told new
-group_back old mid new told place stop were news begun same going t back = record {
+    → IsTold mid place stop told new → AreBack were news → IsLastOf were news place stop ⊎ IsNoStepBack were news place stop → IsGroupBack old told new
+group_back old mid new told place stop were news begun same going t back last = record {
   place = place;
   stop = stop;
   is_told = told_of old mid new place stop told going t;
   back = subst (λ xs. AreBack old.members.items xs) (sym same) (subst (λ xs. AreBack xs news) begun back);
+  last = subst (λ xs. IsLastOf old.members.items xs place stop ⊎ IsNoStepBack old.members.items xs place stop) (sym same)
+      (subst (λ xs. IsLastOf xs news place stop ⊎ IsNoStepBack xs news place stop) begun last);
 }

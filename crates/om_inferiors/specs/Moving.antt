@@ -1,7 +1,9 @@
 -- Several processes of a record, forward and back.
-use Rattle.std.specs.Prelude.{◌≡◌, ◌⊎◌, ℕ, List, Some, slice_get}
+use Rattle.std.specs.Prelude.{◌≡◌, ◌≢◌, ◌⊎◌, ℕ, List, Some, slice_get}
 use Rattle.std.specs.List.{AllZip}
 use Rattle.om_debug.specs.declared.stop.Stop.{Stop}
+use Rattle.om_debug.specs.declared.stop.Stop.TheVariants as stops
+use Rattle.om_timeline.specs.Timeline.{IsUpTo}
 use Rattle.om_debug.specs.Stops.{DebugState, IsMoved, IsPassed, IsRunBack, IsStepBack, IsWithin, StandsFor, standing, with_timeline}
 use Rattle.om_inferiors.specs.declared.inferior.Inferior.{Inferior}
 
@@ -55,6 +57,26 @@ pub record IsStepBackAt (olds news : List Inferior) (place : ℕ) (stop : Stop) 
 
 abbrev pub IsToldBack : List Inferior → List Inferior → ℕ → Stop → Type 0
 IsToldBack olds news place stop = IsRunBackAt olds news place stop ⊎ IsStepBackAt olds news place stop
+
+-- the own last stop of a process that goes back, or by a step, is at this position or before it
+pub record StopsBy (old : Inferior) (event turns : ℕ) : Type 0 where
+  pub there : DebugState
+  pub stop : Stop
+  pub back : IsRunBack old.debugger there stop ⊎ IsStepBack old.debugger there stop
+  pub order : IsUpTo there.timeline.event there.timeline.turns event turns
+
+-- of all that go back the one at a place stops last: it has gone to its own last stop, or by a step, and that of each other one is not later
+pub record IsLastOf (olds news : List Inferior) (place : ℕ) (stop : Stop) : Type 0 where
+  pub new : Inferior
+  pub is_there : slice_get news place ≡ Some new
+  pub told : IsToldBack olds news place stop
+  pub others : (k : ℕ) (other : Inferior) → slice_get olds k ≡ Some other → k ≢ place → StopsBy other new.debugger.timeline.event new.debugger.timeline.turns
+
+-- nothing came to the one that was to go back by a step, and nobody has moved
+pub record IsNoStepBack (olds news : List Inferior) (place : ℕ) (stop : Stop) : Type 0 where
+  pub begin : stop ≡ stops.Begin
+  pub told : IsStepBackAt olds news place stop
+  pub stays : news ≡ olds
 
 -- a process stands anywhere in what was played, of which more may have been played
 pub record IsMovedOne (old new : Inferior) : Type 0 where

@@ -19,7 +19,7 @@ use Rattle.om_debug.specs.Told.{clear_break, clear_watch, is_last, is_leaving, o
 use Rattle.om_inferiors.specs.declared.inferior.Inferior.{Inferior}
 use Rattle.om_inferiors.specs.declared.inferiors.Inferiors.{Inferiors}
 use Rattle.om_inferiors.specs.Monitor.{IsGroupCommanded}
-use Rattle.om_inferiors.specs.Moving.{AreBack, AreOn, StandsAt, with_debugger}
+use Rattle.om_inferiors.specs.Moving.{AreBack, AreOn, IsLastOf, IsNoStepBack, StandsAt, with_debugger}
 
 -- ---- stops
 -- SIGSEGV (11) for an address outside memory, SIGBUS (10) for one that is not aligned, SIGTRAP (5) for EBREAK, SIGILL (4) for the rest
@@ -191,12 +191,13 @@ pub record IsRefused (old : Inferiors) (told : Told) (new : Inferiors) : Type 0 
   pub goes_on : is_last told ≡ false
   pub same : new ≡ old
 
--- all have gone back, and one stop is told
+-- all have gone back, and the last of their stops is told; or nothing came to the one that was to go back by a step
 pub record IsGroupBack (old : Inferiors) (told : Told) (new : Inferiors) : Type 0 where
   pub place : ℕ
   pub stop : Stop
   pub is_told : IsTold old place stop told new
   pub back : AreBack old.members.items new.members.items
+  pub last : IsLastOf old.members.items new.members.items place stop ⊎ IsNoStepBack old.members.items new.members.items place stop
 
 abbrev pub IsGroupAnswered : GroupRequest → Inferiors → Told → Inferiors → Type 0
 IsGroupAnswered (groups.Resume how whom) old told new = IsGroupOn old told new ⊎ IsRefused old told new

@@ -1,7 +1,10 @@
 //! All processes forward to a stop, and back to one.
 
-ghost use Rattle.std.specs.Prelude.{◌≡◌, ◌≢◌, ℕ, ◌<◌, IfOk, IfSome, OnOk, length, slice_get};
-ghost use Rattle.om_inferiors.specs.Moving.{AreBack, AreOn, IsRunBackAt, IsStepBackAt, IsToldBack, StandsAt};
+ghost use Rattle.std.specs.Prelude.{◌≡◌, ◌≢◌, ◌⊎◌, ℕ, ◌<◌, List, IfOk, IfSome, OnOk, false, length, slice_get, true};
+ghost use Rattle.om_timeline.specs.Timeline.{IsUpTo};
+ghost use Rattle.om_inferiors.specs.declared.inferior.Inferior.{Inferior};
+ghost use Rattle.om_inferiors.specs.Moving.{AreBack, AreOn, IsLastOf, IsNoStepBack, IsRunBackAt, IsStepBackAt, StandsAt};
+ghost use Rattle.om_inferiors.specs.steps.Lasting.{IsBehindAt, IsLastUpTo, IsLaterOf};
 
 use crate::inferior::Inferior;
 use om_debug::{Stop, Wish};
@@ -19,11 +22,6 @@ const PIECES_UNASKED: u64 = 64;
 pub(crate) struct Stopped {
     pub(crate) place: usize,
     pub(crate) stop: Stop,
-}
-
-// Returns whether the one position is before the other.
-fn is_before(one: Position, other: Position) -> bool {
-    one.event < other.event || one.event == other.event && one.turns < other.turns
 }
 
 // The event before which the one stands that is furthest back.
@@ -228,6 +226,7 @@ fn run_back_at<R: Wish>(
     requires { place < length all.old }
     ensures back { AreBack all.old all.new }
     ensures told { IfOk result (IsRunBackAt all.old all.new place) }
+    ensures others { (k : ℕ) → k ≢ place → slice_get all.new k ≡ slice_get all.old k }
     ensures unread { R.remaining reader.new ≡ R.remaining reader.old }
 {
     let inferior = &mut all[place];
@@ -238,6 +237,7 @@ fn step_back_at(all: &mut [Inferior], place: usize) -> Result<Stop, PlayFault>
     requires { place < length all.old }
     ensures back { AreBack all.old all.new }
     ensures told { IfOk result (IsStepBackAt all.old all.new place) }
+    ensures others { (k : ℕ) → k ≢ place → slice_get all.new k ≡ slice_get all.old k }
 {
     let inferior = &mut all[place];
     inferior.debugger.step_back()
@@ -245,7 +245,8 @@ fn step_back_at(all: &mut [Inferior], place: usize) -> Result<Stop, PlayFault>
 
 fn go_to_at(all: &mut [Inferior], place: usize, to: Position) -> Result<bool, PlayFault>
     requires { place < length all.old }
-    ensures { AreBack all.old all.new }
+    ensures back { AreBack all.old all.new }
+    ensures others { (k : ℕ) → k ≢ place → slice_get all.new k ≡ slice_get all.old k }
 {
     let inferior = &mut all[place];
     inferior.debugger.go_to(to)
@@ -255,12 +256,25 @@ fn go_to_at(all: &mut [Inferior], place: usize, to: Position) -> Result<bool, Pl
 fn is_later(all: &[Inferior], one: Stopped, other: Stopped) -> bool
     requires one { one.place < length all.now }
     requires other { other.place < length all.now }
+    ensures later { result ≡ true → IsBehindAt all.now other.place one.place }
+    ensures earlier { result ≡ false → IsBehindAt all.now one.place other.place }
 {
     let (here, there) = (
         all[one.place].debugger.position(),
         all[other.place].debugger.position(),
     );
-    is_before(there, here) || here == there && one.stop == Stop::Break
+    if here == there {
+        return one.stop == Stop::Break;
+    }
+    is_up_to(there, here)
+}
+
+// Returns whether the one position is the other, or before it.
+fn is_up_to(one: Position, other: Position) -> bool
+    ensures yes { result ≡ true → IsUpTo one.event one.turns other.event other.turns }
+    ensures no { result ≡ false → IsUpTo other.event other.turns one.event one.turns }
+{
+    one.event < other.event || one.event == other.event && one.turns <= other.turns
 }
 
 // Goes back to the last stop before the moment: with a step the one at a place goes back by what came last to it.
@@ -273,43 +287,49 @@ pub(crate) fn backward<R: Wish>(
 ) -> Result<Stopped, PlayFault>
     requires { who < length all.old }
     ensures back { AreBack all.old all.new }
+    ensures last { IfOk result (λ s. IsLastOf all.old all.new s.place s.stop ⊎ IsNoStepBack all.old all.new s.place s.stop) }
     ensures within { IfOk result (λ s. s.place < length all.new) }
     ensures unread { R.remaining reader.new ≡ R.remaining reader.old }
 {
-    let stop = own_stop(all, who, steps, reader)?;
-    if steps && stop == Stop::Begin {
-        // Nothing came to it: nobody moves.
-        return Ok(Stopped { place: who, stop });
+    if steps {
+        match step_back_at(all, who)? {
+            // It stays behind what it accessed: something may have stopped another one later.
+            Stop::Watched(_) => {}
+            // Nothing came to it: nobody moves.
+            Stop::Begin => {
+                return Ok(Stopped {
+                    place: who,
+                    stop: Stop::Begin,
+                });
+            }
+            stop => return last_with(all, Stopped { place: who, stop }, reader),
+        }
     }
-    let last = last_of(all, Stopped { place: who, stop }, reader)?;
+    let stop = run_back_at(all, who, reader)?;
+    last_with(all, Stopped { place: who, stop }, reader)
+}
+
+// Takes all others back to their last stops, and then all to the latest of all, which is told.
+#[tactic(auto, using(crate::proofs::Each::are_back_same, crate::proofs::Each::are_back_then, crate::proofs::Each::length_back))]
+fn last_with<R: Wish>(
+    all: &mut [Inferior],
+    first: Stopped,
+    reader: &mut R,
+) -> Result<Stopped, PlayFault>
+    requires { first.place < length all.old }
+    ensures back { AreBack all.old all.new }
+    ensures last { IfOk result (λ s. (mids : List Inferior) × IsLastUpTo all.old mids first.place first.stop (length all.old) s.place s.stop
+        × (slice_get all.new s.place ≡ slice_get mids s.place)) }
+    ensures within { IfOk result (λ s. s.place < length all.new) }
+    ensures unread { R.remaining reader.new ≡ R.remaining reader.old }
+{
+    let last = last_of(all, first, reader)?;
     stand_with(all, last.place)?;
     Ok(last)
 }
 
-// Takes the one at a place back to its last stop, or by a step. Where that is an access, it goes to right behind it: something may have
-// stopped another one later.
-#[tactic(auto, using(crate::proofs::Each::are_back_same, crate::proofs::Each::are_back_then, crate::proofs::Each::length_back))]
-fn own_stop<R: Wish>(
-    all: &mut [Inferior],
-    who: usize,
-    steps: bool,
-    reader: &mut R,
-) -> Result<Stop, PlayFault>
-    requires { who < length all.old }
-    ensures back { AreBack all.old all.new }
-    ensures unread { R.remaining reader.new ≡ R.remaining reader.old }
-{
-    if !steps {
-        return run_back_at(all, who, reader);
-    }
-    match step_back_at(all, who)? {
-        Stop::Watched(_) => run_back_at(all, who, reader),
-        stop => Ok(stop),
-    }
-}
-
 // Takes all others back to their last stops, and tells the latest of all.
-#[tactic(auto, using(crate::proofs::Each::are_back_same, crate::proofs::Each::are_back_then, crate::proofs::Each::length_back))]
+#[tactic(auto, using(crate::proofs::Each::are_back_same, crate::proofs::Each::are_back_then, crate::proofs::Each::length_back, crate::proofs::Lasting::last_first, crate::proofs::Lasting::untouched_first))]
 fn last_of<R: Wish>(
     all: &mut [Inferior],
     first: Stopped,
@@ -317,20 +337,41 @@ fn last_of<R: Wish>(
 ) -> Result<Stopped, PlayFault>
     requires { first.place < length all.old }
     ensures back { AreBack all.old all.new }
+    ensures last { IfOk result (λ s. IsLastUpTo all.old all.new first.place first.stop (length all.old) s.place s.stop) }
     ensures within { IfOk result (λ s. s.place < length all.new) }
     ensures unread { R.remaining reader.new ≡ R.remaining reader.old }
 {
     let mut last = first;
     for place in 0..all.len() {
         if place != first.place {
-            let stop = run_back_at(all, place, reader)?;
-            let here = Stopped { place, stop };
-            if is_later(all, here, last) {
-                last = here;
-            }
+            last = later_of(all, last, place, reader)?;
         }
     }
     Ok(last)
+}
+
+// Takes the one at a place back to its last stop, and tells this stop where it is later than another one.
+#[tactic(auto, using(crate::proofs::Each::length_back))]
+fn later_of<R: Wish>(
+    all: &mut [Inferior],
+    last: Stopped,
+    place: usize,
+    reader: &mut R,
+) -> Result<Stopped, PlayFault>
+    requires place { place < length all.old }
+    requires last { last.place < length all.old }
+    ensures back { AreBack all.old all.new }
+    ensures later { IfOk result (λ s. IsLaterOf all.old all.new last.place last.stop place s.place s.stop) }
+    ensures others { (k : ℕ) → k ≢ place → slice_get all.new k ≡ slice_get all.old k }
+    ensures unread { R.remaining reader.new ≡ R.remaining reader.old }
+{
+    let stop = run_back_at(all, place, reader)?;
+    let here = Stopped { place, stop };
+    if is_later(all, here, last) {
+        Ok(here)
+    } else {
+        Ok(last)
+    }
 }
 
 // Takes all others to before the event at which one stands, or in which it does.
@@ -338,6 +379,7 @@ fn last_of<R: Wish>(
 fn stand_with(all: &mut [Inferior], place: usize) -> Result<(), PlayFault>
     requires { place < length all.old }
     ensures back { AreBack all.old all.new }
+    ensures stays { slice_get all.new place ≡ slice_get all.old place }
 {
     let event = all[place].debugger.position().event;
     for other in 0..all.len() {

@@ -1,4 +1,4 @@
-use Rattle.om_inferiors.proofs.Each.{are_back_at, ok_run_back}
+use Rattle.om_inferiors.proofs.Each.{are_back_at, get_other, ok_run_back}
 use Rattle.om_inferiors.proofs.moving.run_back_at.Goals as goal
 
 pub returns-clause-back : goal.returns-clause-back
@@ -6,3 +6,6 @@ returns-clause-back g c = are_back_at c.args.all.now c.args.place c.index-all-pl
 
 pub returns-clause-told : goal.returns-clause-told
 returns-clause-told g c = ok_run_back c.args.all.now c.args.place c.index-all-place.result c.run_back.new.self c.run_back.result c.requires c.run_back.ensures.back
+
+pub returns-clause-others : goal.returns-clause-others
+returns-clause-others g c = λ k apart. get_other c.args.all.now c.args.place k _ apart

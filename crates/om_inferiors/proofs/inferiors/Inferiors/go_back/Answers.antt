@@ -18,4 +18,4 @@ returns-clause-answered g c =
     let same : length news ≡ length items = length_back c.deref_mut.result.now news c.backward.ensures.back ∙ ap length c.deref_mut.ensures.value in
     let long : c.args.self.now.members.len ≡ length items = sym c.deref_mut.ensures.len ∙ ap length c.deref_mut.ensures.value in
     inl (group_back c.args.self.now _ c.stopped.new.self c.in_ok-stopped-2.field-0 c.in_ok-stopped.stopped.place c.in_ok-stopped.stopped.stop c.deref_mut.result.now news
-    c.deref_mut.ensures.value (c.stopped.ensures.members ∙ put_back c.args.self.now.members.len news items same long) refl c.in_ok-stopped-2.ensures.told c.backward.ensures.back)
+    c.deref_mut.ensures.value (c.stopped.ensures.members ∙ put_back c.args.self.now.members.len news items same long) refl c.in_ok-stopped-2.ensures.told c.backward.ensures.back c.in_ok-stopped.ensures.last)

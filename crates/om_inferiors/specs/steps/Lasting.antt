@@ -1,0 +1,35 @@
+-- Which of the stops back is the last, while one process after another goes back to its own.
+use Rattle.std.specs.Prelude.{◌≡◌, ◌≢◌, ◌⊎◌, ℕ, ◌<◌, List, Some, slice_get}
+use Rattle.om_timeline.specs.Timeline.{IsUpTo}
+use Rattle.om_debug.specs.declared.stop.Stop.{Stop}
+use Rattle.om_inferiors.specs.declared.inferior.Inferior.{Inferior}
+use Rattle.om_inferiors.specs.Moving.{IsRunBackAt, StopsBy}
+
+-- the one at a place is not another one's, or it is that of the first, who stands where it stood
+abbrev pub IsFoundAt : List Inferior → List Inferior → ℕ → Stop → ℕ → Stop → Type 0
+IsFoundAt olds news first its_stop place stop =
+    ((place ≡ first) × (stop ≡ its_stop)) ⊎ ((place ≢ first) × IsRunBackAt olds news place stop)
+
+-- of the processes at two places the first stands where the other does, or before it
+abbrev pub IsBehindAt : List Inferior → ℕ → ℕ → Type 0
+IsBehindAt all one other = (here there : Inferior) → slice_get all one ≡ Some here → slice_get all other ≡ Some there
+    → IsUpTo here.debugger.timeline.event here.debugger.timeline.turns there.debugger.timeline.event there.debugger.timeline.turns
+
+-- one more has gone back to its own stop, and of that and another one this is the later
+pub record IsLaterOf (olds news : List Inferior) (last : ℕ) (its_stop : Stop) (place later : ℕ) (stop : Stop) : Type 0 where
+  pub own : Stop
+  pub run : IsRunBackAt olds news place own
+  pub which : ((later ≡ place) × (stop ≡ own) × IsBehindAt news last place) ⊎ ((later ≡ last) × (stop ≡ its_stop) × IsBehindAt news place last)
+
+-- the last stop of the first, who has one, and of the others up to this place
+pub record IsLastUpTo (olds news : List Inferior) (first : ℕ) (its_stop : Stop) (upto place : ℕ) (stop : Stop) : Type 0 where
+  pub new : Inferior
+  pub is_there : slice_get news place ≡ Some new
+  pub kept : slice_get news first ≡ slice_get olds first
+  pub found : IsFoundAt olds news first its_stop place stop
+  pub others : (k : ℕ) (other : Inferior) → k < upto → slice_get olds k ≡ Some other → k ≢ first → StopsBy other new.debugger.timeline.event new.debugger.timeline.turns
+  pub order : (f : Inferior) → slice_get olds first ≡ Some f → IsUpTo f.debugger.timeline.event f.debugger.timeline.turns new.debugger.timeline.event new.debugger.timeline.turns
+
+-- those from a place on stand where they stood
+abbrev pub AreUntouched : List Inferior → List Inferior → ℕ → Type 0
+AreUntouched olds news upto = (k : ℕ) → (k < upto → ⊥) → slice_get news k ≡ slice_get olds k
