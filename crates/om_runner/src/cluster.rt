@@ -734,15 +734,7 @@ pub(crate) fn settled<K: Naming, R: Wait, G, O: Opener<R>>(
 fn close<K: Naming, R: Wait, G: Gate, O: Opener<R>>(
     cluster: &Cluster<'_, K, R, G, O>,
     parts: Parts<K, O::Store>,
-) -> Result<
-    (
-        Report,
-        Vec<O::Store>,
-        Vec<Witness>,
-        Vec<Vec<TakePass>>,
-    ),
-    RunFault,
->
+) -> Result<(Report, Vec<O::Store>, Vec<Witness>, Vec<Vec<TakePass>>), RunFault>
     requires images { length cluster.now.plan.now.images.items ≡ K.cell.n }
     requires passes { ArePasses (length cluster.now.inboxes.now) cluster.now.inboxes.now parts.puts.items parts.takes.items }
     requires statuses { length parts.statuses.items ≡ length cluster.now.plan.now.images.items }
