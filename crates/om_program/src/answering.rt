@@ -1,9 +1,9 @@
 //! What is asked for is answered, over a reader and a writer.
 
-ghost use Rattle.std.specs.Prelude.{◌≡◌, ℕ, List, IfErr, IfSome, OnOk};
+ghost use Rattle.std.specs.Prelude.{◌≡◌, ℕ, List, IfErr, IfSome, IsTrue, OnOk};
 ghost use Rattle.om_run_request.specs.Asked.{WhereRefused, WhereRun};
 ghost use Rattle.om_program.specs.Answers.{IsAnswerTo, IsErrorOfRequest};
-ghost use Rattle.om_program.specs.steps.Requests.{IsRunRequest};
+ghost use Rattle.om_program.specs.steps.Requests.{IsRunRequest, reads_text};
 
 use crate::debugging::debug_over;
 use crate::exploring::explore_over;
@@ -49,7 +49,9 @@ pub fn answer<
     }
 }
 
-fn reads_text(request: Request<'_>) -> bool {
+fn reads_text(request: Request<'_>) -> bool
+    ensures { result ≡ reads_text request.entry }
+{
     match request {
         Request::Decode(_)
         | Request::Frontier
@@ -75,6 +77,7 @@ fn answer_over<
     writer: W,
     reasons: &mut Reasons,
 ) -> (Result<(), Failure>, W)
+    requires { IsTrue (reads_text asked.request) }
     ensures text { IfSome (I.remaining reader.old) (λ bytes. WhereRun result.0
         (IsAnswerTo asked.entry.request bytes (W.contents writer) (W.contents result.1))) }
     ensures error { IfSome (I.remaining reader.old) (λ bytes. WhereRefused result.0 (IsErrorOfRequest asked.entry.request bytes)) }

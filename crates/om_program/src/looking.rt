@@ -2,6 +2,7 @@
 
 ghost use Rattle.std.specs.Prelude.{◌≡◌, ℕ, List, IfErr, IsTrue, OnOk};
 ghost use Rattle.std.specs.Io.KnownBytes.{Appends};
+ghost use Rattle.om_commands.specs.Replay.{IsNoMatterOfContent};
 ghost use Rattle.om_folding.specs.Folding.{folded};
 ghost use Rattle.om_program.specs.Answers.{IsLookError, IsLookText, Writes};
 ghost use Rattle.om_program.specs.steps.Looks.{IsLongText, is_short};
@@ -66,7 +67,8 @@ fn is_short(look: Look<'_>) -> bool
 }
 
 fn write_folded<W: Write>(alloc: Global, text: &[u8], writer: &mut W) -> Result<(), CommandError>
-    ensures { OnOk result (Appends (W.contents writer.old) (W.contents writer.new) (folded text.now)) }
+    ensures text { OnOk result (Appends (W.contents writer.old) (W.contents writer.new) (folded text.now)) }
+    ensures error { IfErr result IsNoMatterOfContent }
 {
     let short = fold_zero_rows(alloc, text)?;
     write_answer(writer, &short)

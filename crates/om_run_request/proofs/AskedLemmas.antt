@@ -110,17 +110,18 @@ done_error {X} told x P (inl done) = let Q : Result X Failure → Type 0 = λ r.
 done_error {X} told x P (inr strict) = let Q : Result X Failure → Type 0 = λ r. WhereRefused r P in subst Q (sym strict) tt
 
 pub run_text : {X : Type 0} (remaining : Option (List ℕ)) (outcome : Result (Vec Status Global) CommandError) (ended : Result (Vec Status Global) Failure)
-    (told : Result X Failure) (done : X) (running : Running) (over : Type 0) (a b : Option (List ℕ))
-    → Ends outcome ended → Judges ended told done
-    → IfSome remaining (λ bytes. IfOk outcome (λ statuses. (text : List ℕ) × IsAskedRun running over statuses.items bytes text × Appends a b text))
+    (told : Result X Failure) (done : X) (running : Running) (over : Type 0) (a begun b : Option (List ℕ))
+    → Ends outcome ended → Judges ended told done → begun ≡ a
+    → IfSome remaining (λ bytes. IfOk outcome (λ statuses. (text : List ℕ) × IsAskedRun running over statuses.items bytes text × Appends begun b text))
     → IfSome remaining (λ bytes. WhereRun told (IsAnswered running over bytes a b))
-run_text None outcome ended told done running over a b ends judges h = tt
-run_text (Some bytes) (Ok statuses) ended told done running over a b ends judges h =
-    where_done told done _ (subst (λ e. Judges e told done) ends judges) (h.0, (statuses.items, h.1), h.2)
-run_text (Some bytes) (Err e) ended told done running over a b (inl refused) judges h =
-    where_refused told e _ (subst (λ x. Judges x told done) refused judges)
-run_text (Some bytes) (Err e) ended told done running over a b (inr unread) judges h =
-    where_unread told _ (subst (λ x. Judges x told done) unread.1 judges)
+run_text None outcome ended told done running over a begun b ends judges same h = tt
+run_text (Some bytes) (Ok statuses) ended told done running over a begun b ends judges same h =
+    where_done told done (IsAnswered running over bytes a b) (subst (λ e. Judges e told done) ends judges)
+    (h.0, (statuses.items, h.1), subst (λ o. Appends o b h.0) same h.2)
+run_text (Some bytes) (Err e) ended told done running over a begun b (inl refused) judges same h =
+    where_refused told e (IsAnswered running over bytes a b) (subst (λ x. Judges x told done) refused judges)
+run_text (Some bytes) (Err e) ended told done running over a begun b (inr unread) judges same h =
+    where_unread told (IsAnswered running over bytes a b) (subst (λ x. Judges x told done) unread.1 judges)
 
 pub run_error : {X : Type 0} (remaining : Option (List ℕ)) (outcome : Result (Vec Status Global) CommandError) (ended : Result (Vec Status Global) Failure)
     (told : Result X Failure) (done : X) (running : Running)
@@ -129,11 +130,11 @@ pub run_error : {X : Type 0} (remaining : Option (List ℕ)) (outcome : Result (
     → IfSome remaining (λ bytes. WhereRefused told (IsErrorOfAsked running bytes))
 run_error None outcome ended told done running ends judges h = tt
 run_error (Some bytes) (Ok statuses) ended told done running ends judges h =
-    done_error told done _ (subst (λ e. Judges e told done) ends judges)
+    done_error told done (IsErrorOfAsked running bytes) (subst (λ e. Judges e told done) ends judges)
 run_error (Some bytes) (Err e) ended told done running (inl refused) judges h =
-    error_of told e _ (subst (λ x. Judges x told done) refused judges) h
+    error_of told e (IsErrorOfAsked running bytes) (subst (λ x. Judges x told done) refused judges) h
 run_error (Some bytes) (Err e) ended told done running (inr unread) judges h =
-    no_error told _ (subst (λ x. Judges x told done) unread.1 judges)
+    no_error told (IsErrorOfAsked running bytes) (subst (λ x. Judges x told done) unread.1 judges)
 
 -- ---- memory that ran out before a run
 no_memory : (mode : RunMode) (bytes : List ℕ) → IsErrorIn mode bytes errors.NoMemory
@@ -148,9 +149,10 @@ no_memory (modes.FollowRaw name) bytes = tt
 pub early_text : {X : Type 0} (remaining : Option (List ℕ)) (told : Result X Failure) (running : Running) (over : Type 0) (a b : Option (List ℕ))
     → told ≡ Err (failures.Refused errors.NoMemory) → IfSome remaining (λ bytes. WhereRun told (IsAnswered running over bytes a b))
 early_text None told running over a b is = tt
-early_text (Some bytes) told running over a b is = where_refused told errors.NoMemory _ is
+early_text (Some bytes) told running over a b is = where_refused told errors.NoMemory (IsAnswered running over bytes a b) is
 
 pub early_error : {X : Type 0} (remaining : Option (List ℕ)) (told : Result X Failure) (running : Running)
     → told ≡ Err (failures.Refused errors.NoMemory) → IfSome remaining (λ bytes. WhereRefused told (IsErrorOfAsked running bytes))
 early_error None told running is = tt
-early_error (Some bytes) told running is = error_of told errors.NoMemory _ is (no_memory (mode_of running.checking) bytes)
+early_error (Some bytes) told running is =
+    error_of told errors.NoMemory (IsErrorOfAsked running bytes) is (no_memory (mode_of running.checking) bytes)
