@@ -162,15 +162,23 @@ fn run_and_say<
 {
     let (watch, stage) = seen;
     let alloc = surroundings.rt.alloc();
-    thread::scope(thread::scope_env(), threads, |scope| {
-        let beside = scope.spawn(move || say_progress(threads, alloc, watch, stage));
-        let told = run_as(threads, running, opener, surroundings, reader, writer);
-        stage.end();
-        if let Ok(beside) = beside {
-            beside.join(threads);
-        }
-        told
-    })
+    thread::scope(
+        thread::scope_env(),
+        threads,
+        |scope| -> (Result<(), Failure>, W)
+            ensures text { IfSome (I.remaining reader.entry.now) (λ bytes. WhereRun result.0
+                (IsAnswered running.entry ((store : O.Store) → IsTrue (O.Store.is_clean store)) bytes (W.contents writer) (W.contents result.1))) }
+            ensures error { IfSome (I.remaining reader.entry.now) (λ bytes. WhereRefused result.0 (IsErrorOfAsked running.entry bytes)) }
+        {
+            let beside = scope.spawn(move || say_progress(threads, alloc, watch, stage));
+            let told = run_as(threads, running, opener, surroundings, reader, writer);
+            stage.end();
+            if let Ok(beside) = beside {
+                beside.join(threads);
+            }
+            told
+        },
+    )
 }
 
 // Runs the cluster as it is asked for, where somebody may watch its processes.
