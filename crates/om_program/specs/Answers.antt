@@ -22,8 +22,9 @@ use Rattle.om_files.specs.Looked.{IsErrorOfFile, IsSoOfFile}
 use Rattle.om_folding.specs.Folding.{folded}
 use Rattle.om_look.specs.Show.{IsShown}
 use Rattle.om_look_commands.specs.Looks.{IsShownWithBodies}
+use Rattle.om_run_commands.specs.Modes.{IsFollowing}
 use Rattle.om_run_commands.specs.Run.{IsErrorOfRun}
-use Rattle.om_run_request.specs.Asked.{IsAnswered, IsErrorOfAsked, form_of}
+use Rattle.om_run_request.specs.Asked.{IsAnswered, IsErrorOfAsked, form_of, mode_of}
 
 -- the text is this one, or it with its rows of zeros folded
 abbrev pub IsInForm : Bool → (List ℕ → Type 0) → List ℕ → Type 0
@@ -52,6 +53,12 @@ IsAnswerTo (requests.Run running) bytes before after = IsAnswered running (runni
 IsAnswerTo (requests.Explore exploring) bytes before after = Writes (IsExploredFile (form_of exploring.form) exploring.all bytes) before after
 IsAnswerTo (requests.Look look) bytes before after = Writes (IsLookText look) before after
 IsAnswerTo _ bytes before after = ⊤
+
+-- what is written of the request is written at its end, when all of it is known
+abbrev pub IsWrittenAtOnce : Request → Type 0
+IsWrittenAtOnce (requests.Run running) = IsFollowing (mode_of running.checking) → ⊥
+IsWrittenAtOnce (requests.Debug process) = ⊥
+IsWrittenAtOnce _ = Unit {0}
 
 -- the error refuses a look into the store of a file
 abbrev pub IsLookError : Look → CommandError → Type 0

@@ -1,8 +1,10 @@
 //! What is asked for is answered, over a reader and a writer.
 
 ghost use Rattle.std.specs.Prelude.{◌≡◌, ℕ, List, IfErr, IfSome, IsTrue, OnOk};
+ghost use Rattle.std.specs.Io.KnownBytes.{Keeps};
+ghost use Rattle.om_commands.specs.Command.{IsSilent};
 ghost use Rattle.om_run_request.specs.Asked.{WhereRefused, WhereRun};
-ghost use Rattle.om_program.specs.Answers.{IsAnswerTo, IsErrorOfRequest};
+ghost use Rattle.om_program.specs.Answers.{IsAnswerTo, IsErrorOfRequest, IsWrittenAtOnce};
 ghost use Rattle.om_program.specs.steps.Requests.{IsRunRequest, reads_text};
 
 use crate::debugging::debug_over;
@@ -25,7 +27,8 @@ use std::time::Clock;
 /// Answers what is asked for, but the line of an image: `reader` is the input, or stands for it, `writer` is standard output. Files are those
 /// of the system: stores, witnesses, records. Where reasons are heard, the whole text of an input is read first, so that its faulty line can
 /// be shown. `Unread` where whoever reads standard output has closed it; `Strict` where it is asked for, and a process trapped or a line
-/// `kill` did not come.
+/// `kill` did not come: then the text is written. Refused, nothing is written but of a run that is followed and to gdb, unless it was the
+/// writer that refused.
 pub fn answer<
     R: Threads + Wait + Clock + Eprint + Copy + Send + Sync + 'static,
     I: Read,
@@ -41,6 +44,8 @@ pub fn answer<
     ensures text { IfSome (I.remaining reader.old) (λ bytes. WhereRun result.0
         (IsAnswerTo asked.entry.request bytes (W.contents writer) (W.contents result.1))) }
     ensures error { IfSome (I.remaining reader.old) (λ bytes. WhereRefused result.0 (IsErrorOfRequest asked.entry.request bytes)) }
+    ensures silent { IsWrittenAtOnce asked.entry.request
+        → WhereRefused result.0 (λ error. IsSilent error (Keeps (W.contents writer) (W.contents result.1))) }
 {
     if reasons.are_heard && reads_text(asked.request) {
         answer_over(rt, threads, asked, reader, writer, reasons)
@@ -81,6 +86,8 @@ fn answer_over<
     ensures text { IfSome (I.remaining reader.old) (λ bytes. WhereRun result.0
         (IsAnswerTo asked.entry.request bytes (W.contents writer) (W.contents result.1))) }
     ensures error { IfSome (I.remaining reader.old) (λ bytes. WhereRefused result.0 (IsErrorOfRequest asked.entry.request bytes)) }
+    ensures silent { IsWrittenAtOnce asked.entry.request
+        → WhereRefused result.0 (λ error. IsSilent error (Keeps (W.contents writer) (W.contents result.1))) }
 {
     let bytes = match read_text(rt.alloc(), reader) {
         Ok(bytes) => bytes,
@@ -108,6 +115,8 @@ fn answer_from<
     ensures text { IfSome (I.remaining reader.old) (λ bytes. WhereRun result.0
         (IsAnswerTo asked.entry.request bytes (W.contents writer) (W.contents result.1))) }
     ensures error { IfSome (I.remaining reader.old) (λ bytes. WhereRefused result.0 (IsErrorOfRequest asked.entry.request bytes)) }
+    ensures silent { IsWrittenAtOnce asked.entry.request
+        → WhereRefused result.0 (λ error. IsSilent error (Keeps (W.contents writer) (W.contents result.1))) }
 {
     if let Request::Run(running) = asked.request {
         return run_request(rt, threads, running, asked.input, reader, writer, reasons);
@@ -130,6 +139,8 @@ fn answer_to<R: Threads + Wait + Clock + Copy + Send + Sync + 'static, I: Read, 
     ensures text { (IsRunRequest request.entry → ⊥) → IfSome (I.remaining reader.old) (λ bytes. OnOk result
         (IsAnswerTo request.entry bytes (W.contents writer.old) (W.contents writer.new))) }
     ensures error { IfSome (I.remaining reader.old) (λ bytes. IfErr result (IsErrorOfRequest request.entry bytes)) }
+    ensures silent { IsWrittenAtOnce request.entry
+        → IfErr result (λ error. IsSilent error (Keeps (W.contents writer.old) (W.contents writer.new))) }
 {
     match request {
         Request::Decode(ext) => decode(rt.alloc(), ext, reader, writer),

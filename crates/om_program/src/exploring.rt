@@ -1,6 +1,8 @@
 //! Runs that are explored: what an exploration has beside its input and its text.
 
 ghost use Rattle.std.specs.Prelude.{◌≡◌, ℕ, List, IfErr, IfSome, OnOk};
+ghost use Rattle.std.specs.Io.KnownBytes.{Keeps};
+ghost use Rattle.om_commands.specs.Command.{IsSilent};
 ghost use Rattle.om_explore_command.specs.Request.{IsExploredFile};
 ghost use Rattle.om_program.specs.Answers.{Writes};
 ghost use Rattle.om_run_commands.specs.Run.{IsErrorOfRun};
@@ -124,6 +126,7 @@ pub(crate) fn explore_over<R: Clock, I: Read, W: Write>(
     ensures error { IfSome (I.remaining reader.old) (λ bytes. IfErr result (IsErrorOfRun bytes)) }
     ensures text { IfSome (I.remaining reader.old) (λ bytes. OnOk result
         (Writes (IsExploredFile (form_of exploring.entry.form) exploring.entry.all bytes) (W.contents writer.old) (W.contents writer.new))) }
+    ensures silent { IfErr result (λ error. IsSilent error (Keeps (W.contents writer.old) (W.contents writer.new))) }
 {
     if let Some(prefix) = exploring.witnesses {
         refuse_taken(rt, prefix, reasons)?;

@@ -1,7 +1,8 @@
 //! Looks into the stores of files.
 
-ghost use Rattle.std.specs.Prelude.{◌≡◌, ℕ, List, IfErr, IsTrue, OnOk};
-ghost use Rattle.std.specs.Io.KnownBytes.{Appends};
+ghost use Rattle.std.specs.Prelude.{◌≡◌, ℕ, List, IfErr, OnOk};
+ghost use Rattle.std.specs.Io.KnownBytes.{Appends, Keeps};
+ghost use Rattle.om_commands.specs.Command.{IsSilent};
 ghost use Rattle.om_commands.specs.Replay.{IsNoMatterOfContent};
 ghost use Rattle.om_folding.specs.Folding.{folded};
 ghost use Rattle.om_program.specs.Answers.{IsLookError, IsLookText, Writes};
@@ -25,6 +26,7 @@ pub(crate) fn look_into<W: Write>(
 ) -> Result<(), CommandError>
     ensures text { OnOk result (Writes (IsLookText look.entry) (W.contents writer.old) (W.contents writer.new)) }
     ensures error { IfErr result (IsLookError look.entry) }
+    ensures silent { IfErr result (λ error. IsSilent error (Keeps (W.contents writer.old) (W.contents writer.new))) }
 {
     let outcome = look_at(rt, look, writer);
     if outcome == Err(CommandError::StoreFault) && reasons.are_heard {
@@ -44,6 +46,7 @@ fn file_of<'a>(look: Look<'a>) -> &'a str {
 fn look_at<W: Write>(rt: &HostRuntime, look: Look<'_>, writer: &mut W) -> Result<(), CommandError>
     ensures text { OnOk result (Writes (IsLookText look.entry) (W.contents writer.old) (W.contents writer.new)) }
     ensures error { IfErr result (IsLookError look.entry) }
+    ensures silent { IfErr result (λ error. IsSilent error (Keeps (W.contents writer.old) (W.contents writer.new))) }
 {
     if !is_short(look) {
         return look_long(rt, look, writer);
@@ -69,6 +72,7 @@ fn is_short(look: Look<'_>) -> bool
 fn write_folded<W: Write>(alloc: Global, text: &[u8], writer: &mut W) -> Result<(), CommandError>
     ensures text { OnOk result (Appends (W.contents writer.old) (W.contents writer.new) (folded text.now)) }
     ensures error { IfErr result IsNoMatterOfContent }
+    ensures silent { IfErr result (λ error. IsSilent error (Keeps (W.contents writer.old) (W.contents writer.new))) }
 {
     let short = fold_zero_rows(alloc, text)?;
     write_answer(writer, &short)
@@ -78,6 +82,7 @@ fn write_folded<W: Write>(alloc: Global, text: &[u8], writer: &mut W) -> Result<
 fn look_long<W: Write>(rt: &HostRuntime, look: Look<'_>, writer: &mut W) -> Result<(), CommandError>
     ensures text { OnOk result (Writes (IsLongText look.entry) (W.contents writer.old) (W.contents writer.new)) }
     ensures error { IfErr result (IsLookError look.entry) }
+    ensures silent { IfErr result (λ error. IsSilent error (Keeps (W.contents writer.old) (W.contents writer.new))) }
 {
     match look {
         Look::Show { file, bodies: None } => show_file(rt, file, writer),

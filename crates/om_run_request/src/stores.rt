@@ -1,7 +1,10 @@
 //! The run over memory, or over the files of a prefix.
 
 ghost use Rattle.std.specs.Prelude.{◌≡◌, IsTrue, IfSome, None};
-ghost use Rattle.om_run_request.specs.Asked.{IsAnswered, IsErrorOfAsked, WhereRefused, WhereRun};
+ghost use Rattle.std.specs.Io.KnownBytes.{Keeps};
+ghost use Rattle.om_commands.specs.Command.{IsSilent};
+ghost use Rattle.om_run_commands.specs.Modes.{IsFollowing};
+ghost use Rattle.om_run_request.specs.Asked.{IsAnswered, IsErrorOfAsked, WhereRefused, WhereRun, mode_of};
 
 use crate::surroundings::Job;
 use crate::watching::run_watched;
@@ -33,6 +36,8 @@ pub fn run_request<'a, R: Threads + Wait + Clock + Eprint + Sync, I: Read, W: Wr
     ensures text { IfSome (I.remaining reader.old) (λ bytes. WhereRun result.0
         (IsAnswered running.entry (running.entry.prefix ≡ None) bytes (W.contents writer) (W.contents result.1))) }
     ensures error { IfSome (I.remaining reader.old) (λ bytes. WhereRefused result.0 (IsErrorOfAsked running.entry bytes)) }
+    ensures silent { (IsFollowing (mode_of running.entry.checking) → ⊥)
+        → WhereRefused result.0 (λ error. IsSilent error (Keeps (W.contents writer) (W.contents result.1))) }
 {
     let job = Job {
         running,
@@ -59,6 +64,8 @@ fn run_in_files<R: Threads + Wait + Clock + Eprint + Sync, I: Read, W: Write + D
     ensures text { IfSome (I.remaining reader.old) (λ bytes. WhereRun result.0
         (IsAnswered job.entry.running ⊥ bytes (W.contents writer) (W.contents result.1))) }
     ensures error { IfSome (I.remaining reader.old) (λ bytes. WhereRefused result.0 (IsErrorOfAsked job.entry.running bytes)) }
+    ensures silent { (IsFollowing (mode_of job.entry.running.checking) → ⊥)
+        → WhereRefused result.0 (λ error. IsSilent error (Keeps (W.contents writer) (W.contents result.1))) }
 {
     let notes = match Notes::new(rt.alloc(), MAX_PROCESSES) {
         Ok(notes) => notes,
@@ -94,6 +101,8 @@ fn run_over_tables<
     ensures text { IfSome (I.remaining reader.old) (λ bytes. WhereRun result.0
         (IsAnswered job.entry.running ⊥ bytes (W.contents writer) (W.contents result.1))) }
     ensures error { IfSome (I.remaining reader.old) (λ bytes. WhereRefused result.0 (IsErrorOfAsked job.entry.running bytes)) }
+    ensures silent { (IsFollowing (mode_of job.entry.running.checking) → ⊥)
+        → WhereRefused result.0 (λ error. IsSilent error (Keeps (W.contents writer) (W.contents result.1))) }
 {
     if job.running.resumes {
         run_again(rt, threads, job, connects, reader, writer, reasons)
@@ -120,6 +129,8 @@ fn run_anew<
     ensures text { IfSome (I.remaining reader.old) (λ bytes. WhereRun result.0
         (IsAnswered job.entry.running ⊥ bytes (W.contents writer) (W.contents result.1))) }
     ensures error { IfSome (I.remaining reader.old) (λ bytes. WhereRefused result.0 (IsErrorOfAsked job.entry.running bytes)) }
+    ensures silent { (IsFollowing (mode_of job.entry.running.checking) → ⊥)
+        → WhereRefused result.0 (λ error. IsSilent error (Keeps (W.contents writer) (W.contents result.1))) }
 {
     let opener = InTables { connects };
     run_watched(rt, threads, job, &opener, reader, writer, reasons)
@@ -143,6 +154,8 @@ fn run_again<
     ensures text { IfSome (I.remaining reader.old) (λ bytes. WhereRun result.0
         (IsAnswered job.entry.running ⊥ bytes (W.contents writer) (W.contents result.1))) }
     ensures error { IfSome (I.remaining reader.old) (λ bytes. WhereRefused result.0 (IsErrorOfAsked job.entry.running bytes)) }
+    ensures silent { (IsFollowing (mode_of job.entry.running.checking) → ⊥)
+        → WhereRefused result.0 (λ error. IsSilent error (Keeps (W.contents writer) (W.contents result.1))) }
 {
     let opener = TakenUp { connects };
     run_watched(rt, threads, job, &opener, reader, writer, reasons)

@@ -1,7 +1,10 @@
 //! A run of which more is said on standard error: how far it has come, and what its processes waited for where it came to no end.
 
 ghost use Rattle.std.specs.Prelude.{◌≡◌, ◌⊎◌, IsTrue, IfSome, MatchResult, Ok, Err};
-ghost use Rattle.om_run_request.specs.Asked.{IsAnswered, IsErrorOfAsked, WhereRefused, WhereRun};
+ghost use Rattle.std.specs.Io.KnownBytes.{Keeps};
+ghost use Rattle.om_commands.specs.Command.{IsSilent};
+ghost use Rattle.om_run_commands.specs.Modes.{IsFollowing};
+ghost use Rattle.om_run_request.specs.Asked.{IsAnswered, IsErrorOfAsked, WhereRefused, WhereRun, mode_of};
 
 use crate::asked::run_asked;
 use crate::surroundings::{Job, Surroundings};
@@ -101,6 +104,8 @@ fn run_as<'a, 'w, R: Threads + Wait + Clock + Sync, O: Opener<R> + Sync, I: Read
     ensures text { IfSome (I.remaining reader.old) (λ bytes. WhereRun result.0
         (IsAnswered running.entry ((store : O.Store) → IsTrue (O.Store.is_clean store)) bytes (W.contents writer) (W.contents result.1))) }
     ensures error { IfSome (I.remaining reader.old) (λ bytes. WhereRefused result.0 (IsErrorOfAsked running.entry bytes)) }
+    ensures silent { (IsFollowing (mode_of running.entry.checking) → ⊥)
+        → WhereRefused result.0 (λ error. IsSilent error (Keeps (W.contents writer) (W.contents result.1))) }
 {
     let rt = surroundings.rt;
     let (outcome, output) = run_asked(
@@ -159,6 +164,8 @@ fn run_and_say<
     ensures text { IfSome (I.remaining reader.old) (λ bytes. WhereRun result.0
         (IsAnswered running.entry ((store : O.Store) → IsTrue (O.Store.is_clean store)) bytes (W.contents writer) (W.contents result.1))) }
     ensures error { IfSome (I.remaining reader.old) (λ bytes. WhereRefused result.0 (IsErrorOfAsked running.entry bytes)) }
+    ensures silent { (IsFollowing (mode_of running.entry.checking) → ⊥)
+        → WhereRefused result.0 (λ error. IsSilent error (Keeps (W.contents writer) (W.contents result.1))) }
 {
     let (watch, stage) = seen;
     let alloc = surroundings.rt.alloc();
@@ -169,6 +176,8 @@ fn run_and_say<
             ensures text { IfSome (I.remaining reader.entry.now) (λ bytes. WhereRun result.0
                 (IsAnswered running.entry ((store : O.Store) → IsTrue (O.Store.is_clean store)) bytes (W.contents writer) (W.contents result.1))) }
             ensures error { IfSome (I.remaining reader.entry.now) (λ bytes. WhereRefused result.0 (IsErrorOfAsked running.entry bytes)) }
+            ensures silent { (IsFollowing (mode_of running.entry.checking) → ⊥)
+                → WhereRefused result.0 (λ error. IsSilent error (Keeps (W.contents writer) (W.contents result.1))) }
         {
             let beside = scope.spawn(move || say_progress(threads, alloc, watch, stage));
             let told = run_as(threads, running, opener, surroundings, reader, writer);
@@ -201,6 +210,8 @@ fn run_seen<
     ensures text { IfSome (I.remaining reader.old) (λ bytes. WhereRun result.0
         (IsAnswered running.entry ((store : O.Store) → IsTrue (O.Store.is_clean store)) bytes (W.contents writer) (W.contents result.1))) }
     ensures error { IfSome (I.remaining reader.old) (λ bytes. WhereRefused result.0 (IsErrorOfAsked running.entry bytes)) }
+    ensures silent { (IsFollowing (mode_of running.entry.checking) → ⊥)
+        → WhereRefused result.0 (λ error. IsSilent error (Keeps (W.contents writer) (W.contents result.1))) }
 {
     let watch = surroundings.watch;
     let opener = Watched { opener, watch };
@@ -239,6 +250,8 @@ fn run_beside<
     ensures text { IfSome (I.remaining reader.old) (λ bytes. WhereRun result.0
         (IsAnswered job.entry.running ((store : O.Store) → IsTrue (O.Store.is_clean store)) bytes (W.contents writer) (W.contents result.1))) }
     ensures error { IfSome (I.remaining reader.old) (λ bytes. WhereRefused result.0 (IsErrorOfAsked job.entry.running bytes)) }
+    ensures silent { (IsFollowing (mode_of job.entry.running.checking) → ⊥)
+        → WhereRefused result.0 (λ error. IsSilent error (Keeps (W.contents writer) (W.contents result.1))) }
 {
     let (watch, stage) = seen;
     let mut surroundings = Surroundings::new(rt, threads, job, watch, stage, reasons.are_heard);
@@ -275,6 +288,8 @@ pub(crate) fn run_watched<
     ensures text { IfSome (I.remaining reader.old) (λ bytes. WhereRun result.0
         (IsAnswered job.entry.running ((store : O.Store) → IsTrue (O.Store.is_clean store)) bytes (W.contents writer) (W.contents result.1))) }
     ensures error { IfSome (I.remaining reader.old) (λ bytes. WhereRefused result.0 (IsErrorOfAsked job.entry.running bytes)) }
+    ensures silent { (IsFollowing (mode_of job.entry.running.checking) → ⊥)
+        → WhereRefused result.0 (λ error. IsSilent error (Keeps (W.contents writer) (W.contents result.1))) }
 {
     let stage = Stage::new();
     if !reasons.are_heard && !job.running.strict {
