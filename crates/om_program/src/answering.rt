@@ -36,15 +36,15 @@ pub fn answer<
 >(
     rt: &HostRuntime,
     threads: &R,
-    asked: Asked<'_>,
+    asked: &Asked<'_>,
     reader: &mut I,
     writer: W,
     reasons: &mut Reasons,
 ) -> (Result<(), Failure>, W)
     ensures text { IfSome (I.remaining reader.old) (λ bytes. WhereRun result.0
-        (IsAnswerTo asked.entry.request bytes (W.contents writer) (W.contents result.1))) }
-    ensures error { IfSome (I.remaining reader.old) (λ bytes. WhereRefused result.0 (IsErrorOfRequest asked.entry.request bytes)) }
-    ensures silent { IsWrittenAtOnce asked.entry.request
+        (IsAnswerTo asked.now.request bytes (W.contents writer) (W.contents result.1))) }
+    ensures error { IfSome (I.remaining reader.old) (λ bytes. WhereRefused result.0 (IsErrorOfRequest asked.now.request bytes)) }
+    ensures silent { IsWrittenAtOnce asked.now.request
         → WhereRefused result.0 (λ error. IsSilent error (Keeps (W.contents writer) (W.contents result.1))) }
 {
     if reasons.are_heard && reads_text(asked.request) {
@@ -77,16 +77,16 @@ fn answer_over<
 >(
     rt: &HostRuntime,
     threads: &R,
-    asked: Asked<'_>,
+    asked: &Asked<'_>,
     reader: &mut I,
     writer: W,
     reasons: &mut Reasons,
 ) -> (Result<(), Failure>, W)
-    requires { IsTrue (reads_text asked.request) }
+    requires { IsTrue (reads_text asked.now.request) }
     ensures text { IfSome (I.remaining reader.old) (λ bytes. WhereRun result.0
-        (IsAnswerTo asked.entry.request bytes (W.contents writer) (W.contents result.1))) }
-    ensures error { IfSome (I.remaining reader.old) (λ bytes. WhereRefused result.0 (IsErrorOfRequest asked.entry.request bytes)) }
-    ensures silent { IsWrittenAtOnce asked.entry.request
+        (IsAnswerTo asked.now.request bytes (W.contents writer) (W.contents result.1))) }
+    ensures error { IfSome (I.remaining reader.old) (λ bytes. WhereRefused result.0 (IsErrorOfRequest asked.now.request bytes)) }
+    ensures silent { IsWrittenAtOnce asked.now.request
         → WhereRefused result.0 (λ error. IsSilent error (Keeps (W.contents writer) (W.contents result.1))) }
 {
     let bytes = match read_text(rt.alloc(), reader) {
@@ -107,15 +107,15 @@ fn answer_from<
 >(
     rt: &HostRuntime,
     threads: &R,
-    asked: Asked<'_>,
+    asked: &Asked<'_>,
     reader: &mut I,
     writer: W,
     reasons: &mut Reasons,
 ) -> (Result<(), Failure>, W)
     ensures text { IfSome (I.remaining reader.old) (λ bytes. WhereRun result.0
-        (IsAnswerTo asked.entry.request bytes (W.contents writer) (W.contents result.1))) }
-    ensures error { IfSome (I.remaining reader.old) (λ bytes. WhereRefused result.0 (IsErrorOfRequest asked.entry.request bytes)) }
-    ensures silent { IsWrittenAtOnce asked.entry.request
+        (IsAnswerTo asked.now.request bytes (W.contents writer) (W.contents result.1))) }
+    ensures error { IfSome (I.remaining reader.old) (λ bytes. WhereRefused result.0 (IsErrorOfRequest asked.now.request bytes)) }
+    ensures silent { IsWrittenAtOnce asked.now.request
         → WhereRefused result.0 (λ error. IsSilent error (Keeps (W.contents writer) (W.contents result.1))) }
 {
     if let Request::Run(running) = asked.request {

@@ -44,7 +44,7 @@ pub fn run_words<R: Threads + Wait + Clock + Eprint + Copy + Send + Sync + 'stat
     match parse(rt.alloc(), words) {
         Ok(asked) => {
             let mut reasons = Reasons::new(rt, asked.verbose);
-            let status = ended(rt, threads, asked, &mut reasons);
+            let status = ended(rt, threads, &asked, &mut reasons);
             reasons.say(rt);
             status
         }
@@ -56,7 +56,7 @@ pub fn run_words<R: Threads + Wait + Clock + Eprint + Copy + Send + Sync + 'stat
 fn ended<R: Threads + Wait + Clock + Eprint + Copy + Send + Sync + 'static>(
     rt: &HostRuntime,
     threads: &R,
-    asked: Asked<'_>,
+    asked: &Asked<'_>,
     reasons: &mut Reasons,
 ) -> ExitCode {
     match asked.request {
@@ -110,7 +110,7 @@ fn words<R: Runtime + AllocGlobal>(rt: &R) -> io::Result<Vec<String>> {
 fn carry_out<R: Threads + Wait + Clock + Eprint + Copy + Send + Sync + 'static>(
     rt: &HostRuntime,
     threads: &R,
-    asked: Asked<'_>,
+    asked: &Asked<'_>,
     reasons: &mut Reasons,
 ) -> Result<(), Failure> {
     let reader = &mut source_of(rt, asked.input, reasons)?;
