@@ -1,7 +1,7 @@
 -- From what a run over any stores answers to what a request for one is answered with.
 use Rattle.std.proofs.Common.{◌≡◌, ◌⊎◌, ℕ, List, Option, None, Some, Result, Ok, Err, IfErr, IfOk, inl, inr, sym, subst}
 use Rattle.std.specs.Prelude.{IfSome, MatchResult, Vec}
-use Rattle.std.specs.Io.KnownBytes.{Appends}
+use Rattle.std.specs.Io.KnownBytes.{Appends, Keeps}
 use Rattle.std.specs.declared.alloc.Global.{Global}
 use Rattle.om_arguments.specs.declared.arguments.Running.{Running}
 use Rattle.om_commands.specs.declared.bytes_text.BytesForm.{BytesForm}
@@ -14,11 +14,24 @@ use Rattle.om_process.specs.declared.status.Status.{Status}
 use Rattle.om_runner.specs.declared.report.Report.{Report}
 use Rattle.om_run_commands.specs.ClusterScript.{ClusterFile}
 use Rattle.om_run_commands.specs.Follow.{IsFollowedAnswer, IsFollowedRawAnswer}
-use Rattle.om_run_commands.specs.Modes.{IsErrorIn, IsRunIn}
-use Rattle.om_run_commands.specs.Run.{IsRawAnswer, IsReport, IsRunAnswer}
+use Rattle.om_run_commands.specs.Modes.{IsErrorIn, IsPartIn, IsRunIn}
+use Rattle.om_run_commands.specs.Run.{IsByKind, IsRawAnswer, IsReport, IsRunAnswer}
 use Rattle.om_run_commands.specs.declared.mode.RunMode.{RunMode}
 use Rattle.om_run_commands.specs.declared.mode.RunMode.TheVariants as modes
-use Rattle.om_run_request.specs.Asked.{IsAnswered, IsAskedRun, IsErrorOfAsked, WhereRefused, WhereRun, form_of, mode_of}
+use Rattle.om_run_request.specs.Asked.{IsAnswered, IsAskedRun, IsErrorOfAsked, IsRefusedRun, WhereRefused, WhereRun, form_of, mode_of}
+
+-- ---- by the kind of an error
+kind_along : (error : CommandError) (P Q K : Type 0) → (P → Q) → IsByKind error P K → IsByKind error Q K
+kind_along errors.CannotWrite P Q K f h = tt
+kind_along errors.NoMemory P Q K f h = tt
+kind_along errors.OutOfTurns P Q K f h = f h
+kind_along errors.GateShut P Q K f h = f h
+kind_along errors.StoreFault P Q K f h = f h
+kind_along (errors.StoreInUse process) P Q K f h = f h
+kind_along (errors.AnotherCluster process) P Q K f h = f h
+kind_along (errors.StoreMissing process) P Q K f h = f h
+kind_along errors.NoThread P Q K f h = f h
+kind_along _ P Q K f h = h
 
 -- ---- over stores that are clean where others are
 module _ (A B : Type 0) (back : B → A) where
@@ -80,6 +93,33 @@ module _ (A B : Type 0) (back : B → A) where
       → IfSome remaining (λ bytes. WhereRun r (IsAnswered running A bytes a b)) → IfSome remaining (λ bytes. WhereRun r (IsAnswered running B bytes a b))
   answered_along None r running a b h = tt
   answered_along (Some bytes) r running a b h = where_along r running bytes a b h
+
+  -- what was written of a run that was refused
+  part_along : (mode : RunMode) (form : BytesForm) (bytes : List ℕ) (a b : Option (List ℕ)) → IsPartIn mode form A bytes a b
+      → IsPartIn mode form B bytes a b
+  part_along modes.Follow form bytes a b h = record {
+    script = h.script;
+    is_script = h.is_script;
+    part = (h.part.0, h.part.1, (λ over. h.part.2 (back over)), h.part.3);
+  }
+  part_along (modes.FollowRaw name) form bytes a b h = record {
+    script = h.script;
+    is_script = h.is_script;
+    part = (h.part.0, h.part.1, (h.part.2.0, h.part.2.1, (λ over. h.part.2.2 (back over)), h.part.2.3));
+  }
+  part_along _ form bytes a b h = h
+
+  pub refused_along : {X : Type 0} (remaining : Option (List ℕ)) (r : Result X Failure) (running : Running) (a b : Option (List ℕ))
+      → IfSome remaining (λ bytes. WhereRefused r (IsRefusedRun running A bytes a b))
+      → IfSome remaining (λ bytes. WhereRefused r (IsRefusedRun running B bytes a b))
+  refused_along None r running a b h = tt
+  refused_along (Some bytes) (Ok x) running a b h = tt
+  refused_along (Some bytes) (Err (failures.Refused e)) running a b h =
+      kind_along e (IsPartIn (mode_of running.checking) (form_of running.form) A bytes a b)
+      (IsPartIn (mode_of running.checking) (form_of running.form) B bytes a b) (Keeps a b)
+      (part_along (mode_of running.checking) (form_of running.form) bytes a b) h
+  refused_along (Some bytes) (Err failures.Unread) running a b h = tt
+  refused_along (Some bytes) (Err failures.Strict) running a b h = tt
 
 -- ---- how a run ended, as a failure or none
 abbrev Ends : Result (Vec Status Global) CommandError → Result (Vec Status Global) Failure → Type 0

@@ -4,7 +4,7 @@ ghost use Rattle.std.specs.Prelude.{◌≡◌, IsTrue, IfSome, None};
 ghost use Rattle.std.specs.Io.KnownBytes.{Keeps};
 ghost use Rattle.om_commands.specs.Command.{IsSilent};
 ghost use Rattle.om_run_commands.specs.Modes.{IsFollowing};
-ghost use Rattle.om_run_request.specs.Asked.{IsAnswered, IsErrorOfAsked, WhereRefused, WhereRun, mode_of};
+ghost use Rattle.om_run_request.specs.Asked.{IsAnswered, IsErrorOfAsked, IsRefusedRun, WhereRefused, WhereRun, mode_of};
 
 use crate::surroundings::Job;
 use crate::watching::run_watched;
@@ -38,6 +38,8 @@ pub fn run_request<'a, R: Threads + Wait + Clock + Eprint + Sync, I: Read, W: Wr
     ensures error { IfSome (I.remaining reader.old) (λ bytes. WhereRefused result.0 (IsErrorOfAsked running.entry bytes)) }
     ensures silent { (IsFollowing (mode_of running.entry.checking) → ⊥)
         → WhereRefused result.0 (λ error. IsSilent error (Keeps (W.contents writer) (W.contents result.1))) }
+    ensures partly { IsFollowing (mode_of running.entry.checking) → IfSome (I.remaining reader.old) (λ bytes. WhereRefused result.0
+        (IsRefusedRun running.entry (running.entry.prefix ≡ None) bytes (W.contents writer) (W.contents result.1))) }
 {
     let job = Job {
         running,
@@ -66,6 +68,8 @@ fn run_in_files<R: Threads + Wait + Clock + Eprint + Sync, I: Read, W: Write + D
     ensures error { IfSome (I.remaining reader.old) (λ bytes. WhereRefused result.0 (IsErrorOfAsked job.entry.running bytes)) }
     ensures silent { (IsFollowing (mode_of job.entry.running.checking) → ⊥)
         → WhereRefused result.0 (λ error. IsSilent error (Keeps (W.contents writer) (W.contents result.1))) }
+    ensures partly { IsFollowing (mode_of job.entry.running.checking) → IfSome (I.remaining reader.old) (λ bytes. WhereRefused result.0
+        (IsRefusedRun job.entry.running ⊥ bytes (W.contents writer) (W.contents result.1))) }
 {
     let notes = match Notes::new(rt.alloc(), MAX_PROCESSES) {
         Ok(notes) => notes,
@@ -103,6 +107,8 @@ fn run_over_tables<
     ensures error { IfSome (I.remaining reader.old) (λ bytes. WhereRefused result.0 (IsErrorOfAsked job.entry.running bytes)) }
     ensures silent { (IsFollowing (mode_of job.entry.running.checking) → ⊥)
         → WhereRefused result.0 (λ error. IsSilent error (Keeps (W.contents writer) (W.contents result.1))) }
+    ensures partly { IsFollowing (mode_of job.entry.running.checking) → IfSome (I.remaining reader.old) (λ bytes. WhereRefused result.0
+        (IsRefusedRun job.entry.running ⊥ bytes (W.contents writer) (W.contents result.1))) }
 {
     if job.running.resumes {
         run_again(rt, threads, job, connects, reader, writer, reasons)
@@ -131,6 +137,8 @@ fn run_anew<
     ensures error { IfSome (I.remaining reader.old) (λ bytes. WhereRefused result.0 (IsErrorOfAsked job.entry.running bytes)) }
     ensures silent { (IsFollowing (mode_of job.entry.running.checking) → ⊥)
         → WhereRefused result.0 (λ error. IsSilent error (Keeps (W.contents writer) (W.contents result.1))) }
+    ensures partly { IsFollowing (mode_of job.entry.running.checking) → IfSome (I.remaining reader.old) (λ bytes. WhereRefused result.0
+        (IsRefusedRun job.entry.running ⊥ bytes (W.contents writer) (W.contents result.1))) }
 {
     let opener = InTables { connects };
     run_watched(rt, threads, job, &opener, reader, writer, reasons)
@@ -156,6 +164,8 @@ fn run_again<
     ensures error { IfSome (I.remaining reader.old) (λ bytes. WhereRefused result.0 (IsErrorOfAsked job.entry.running bytes)) }
     ensures silent { (IsFollowing (mode_of job.entry.running.checking) → ⊥)
         → WhereRefused result.0 (λ error. IsSilent error (Keeps (W.contents writer) (W.contents result.1))) }
+    ensures partly { IsFollowing (mode_of job.entry.running.checking) → IfSome (I.remaining reader.old) (λ bytes. WhereRefused result.0
+        (IsRefusedRun job.entry.running ⊥ bytes (W.contents writer) (W.contents result.1))) }
 {
     let opener = TakenUp { connects };
     run_watched(rt, threads, job, &opener, reader, writer, reasons)

@@ -4,7 +4,7 @@ ghost use Rattle.std.specs.Prelude.{◌≡◌, ◌⊎◌, IsTrue, IfSome, MatchR
 ghost use Rattle.std.specs.Io.KnownBytes.{Keeps};
 ghost use Rattle.om_commands.specs.Command.{IsSilent};
 ghost use Rattle.om_run_commands.specs.Modes.{IsFollowing};
-ghost use Rattle.om_run_request.specs.Asked.{IsAnswered, IsErrorOfAsked, WhereRefused, WhereRun, mode_of};
+ghost use Rattle.om_run_request.specs.Asked.{IsAnswered, IsErrorOfAsked, IsRefusedRun, WhereRefused, WhereRun, mode_of};
 
 use crate::asked::run_asked;
 use crate::surroundings::{Job, Surroundings};
@@ -106,6 +106,8 @@ fn run_as<'a, 'w, R: Threads + Wait + Clock + Sync, O: Opener<R> + Sync, I: Read
     ensures error { IfSome (I.remaining reader.old) (λ bytes. WhereRefused result.0 (IsErrorOfAsked running.entry bytes)) }
     ensures silent { (IsFollowing (mode_of running.entry.checking) → ⊥)
         → WhereRefused result.0 (λ error. IsSilent error (Keeps (W.contents writer) (W.contents result.1))) }
+    ensures partly { IsFollowing (mode_of running.entry.checking) → IfSome (I.remaining reader.old) (λ bytes. WhereRefused result.0
+        (IsRefusedRun running.entry ((store : O.Store) → IsTrue (O.Store.is_clean store)) bytes (W.contents writer) (W.contents result.1))) }
 {
     let rt = surroundings.rt;
     let (outcome, output) = run_asked(
@@ -166,6 +168,8 @@ fn run_and_say<
     ensures error { IfSome (I.remaining reader.old) (λ bytes. WhereRefused result.0 (IsErrorOfAsked running.entry bytes)) }
     ensures silent { (IsFollowing (mode_of running.entry.checking) → ⊥)
         → WhereRefused result.0 (λ error. IsSilent error (Keeps (W.contents writer) (W.contents result.1))) }
+    ensures partly { IsFollowing (mode_of running.entry.checking) → IfSome (I.remaining reader.old) (λ bytes. WhereRefused result.0
+        (IsRefusedRun running.entry ((store : O.Store) → IsTrue (O.Store.is_clean store)) bytes (W.contents writer) (W.contents result.1))) }
 {
     let (watch, stage) = seen;
     let alloc = surroundings.rt.alloc();
@@ -178,6 +182,8 @@ fn run_and_say<
             ensures error { IfSome (I.remaining reader.entry.now) (λ bytes. WhereRefused result.0 (IsErrorOfAsked running.entry bytes)) }
             ensures silent { (IsFollowing (mode_of running.entry.checking) → ⊥)
                 → WhereRefused result.0 (λ error. IsSilent error (Keeps (W.contents writer) (W.contents result.1))) }
+            ensures partly { IsFollowing (mode_of running.entry.checking) → IfSome (I.remaining reader.entry.now) (λ bytes. WhereRefused result.0
+                (IsRefusedRun running.entry ((store : O.Store) → IsTrue (O.Store.is_clean store)) bytes (W.contents writer) (W.contents result.1))) }
         {
             let beside = scope.spawn(move || say_progress(threads, alloc, watch, stage));
             let told = run_as(threads, running, opener, surroundings, reader, writer);
@@ -212,6 +218,8 @@ fn run_seen<
     ensures error { IfSome (I.remaining reader.old) (λ bytes. WhereRefused result.0 (IsErrorOfAsked running.entry bytes)) }
     ensures silent { (IsFollowing (mode_of running.entry.checking) → ⊥)
         → WhereRefused result.0 (λ error. IsSilent error (Keeps (W.contents writer) (W.contents result.1))) }
+    ensures partly { IsFollowing (mode_of running.entry.checking) → IfSome (I.remaining reader.old) (λ bytes. WhereRefused result.0
+        (IsRefusedRun running.entry ((store : O.Store) → IsTrue (O.Store.is_clean store)) bytes (W.contents writer) (W.contents result.1))) }
 {
     let watch = surroundings.watch;
     let opener = Watched { opener, watch };
@@ -252,6 +260,8 @@ fn run_beside<
     ensures error { IfSome (I.remaining reader.old) (λ bytes. WhereRefused result.0 (IsErrorOfAsked job.entry.running bytes)) }
     ensures silent { (IsFollowing (mode_of job.entry.running.checking) → ⊥)
         → WhereRefused result.0 (λ error. IsSilent error (Keeps (W.contents writer) (W.contents result.1))) }
+    ensures partly { IsFollowing (mode_of job.entry.running.checking) → IfSome (I.remaining reader.old) (λ bytes. WhereRefused result.0
+        (IsRefusedRun job.entry.running ((store : O.Store) → IsTrue (O.Store.is_clean store)) bytes (W.contents writer) (W.contents result.1))) }
 {
     let (watch, stage) = seen;
     let mut surroundings = Surroundings::new(rt, threads, job, watch, stage, reasons.are_heard);
@@ -290,6 +300,8 @@ pub(crate) fn run_watched<
     ensures error { IfSome (I.remaining reader.old) (λ bytes. WhereRefused result.0 (IsErrorOfAsked job.entry.running bytes)) }
     ensures silent { (IsFollowing (mode_of job.entry.running.checking) → ⊥)
         → WhereRefused result.0 (λ error. IsSilent error (Keeps (W.contents writer) (W.contents result.1))) }
+    ensures partly { IsFollowing (mode_of job.entry.running.checking) → IfSome (I.remaining reader.old) (λ bytes. WhereRefused result.0
+        (IsRefusedRun job.entry.running ((store : O.Store) → IsTrue (O.Store.is_clean store)) bytes (W.contents writer) (W.contents result.1))) }
 {
     let stage = Stage::new();
     if !reasons.are_heard && !job.running.strict {
