@@ -24,7 +24,7 @@ use Rattle.om_look.specs.Show.{IsShown}
 use Rattle.om_look_commands.specs.Looks.{IsShownWithBodies}
 use Rattle.om_run_commands.specs.Modes.{IsFollowing}
 use Rattle.om_run_commands.specs.Run.{IsErrorOfRun}
-use Rattle.om_run_request.specs.Asked.{IsAnswered, IsErrorOfAsked, form_of, mode_of}
+use Rattle.om_run_request.specs.Asked.{IsAnswered, IsErrorOfAsked, IsRefusedRun, form_of, mode_of}
 
 -- the text is this one, or it with its rows of zeros folded
 abbrev pub IsInForm : Bool → (List ℕ → Type 0) → List ℕ → Type 0
@@ -59,6 +59,16 @@ abbrev pub IsWrittenAtOnce : Request → Type 0
 IsWrittenAtOnce (requests.Run running) = IsFollowing (mode_of running.checking) → ⊥
 IsWrittenAtOnce (requests.Debug process) = ⊥
 IsWrittenAtOnce _ = Unit {0}
+
+-- what is written of the request is written as it is released
+abbrev pub IsWrittenAlong : Request → Type 0
+IsWrittenAlong (requests.Run running) = IsFollowing (mode_of running.checking)
+IsWrittenAlong _ = ⊥
+
+-- what was written where such a request was refused with the error, for these bytes
+abbrev pub IsRefusedAnswer : Request → List ℕ → Option (List ℕ) → Option (List ℕ) → CommandError → Type 0
+IsRefusedAnswer (requests.Run running) bytes before after error = IsRefusedRun running (running.prefix ≡ None) bytes before after error
+IsRefusedAnswer _ bytes before after error = ⊤
 
 -- the error refuses a look into the store of a file
 abbrev pub IsLookError : Look → CommandError → Type 0

@@ -4,7 +4,7 @@ ghost use Rattle.std.specs.Prelude.{◌≡◌, ℕ, List, IfErr, IfSome, IsTrue,
 ghost use Rattle.std.specs.Io.KnownBytes.{Keeps};
 ghost use Rattle.om_commands.specs.Command.{IsSilent};
 ghost use Rattle.om_run_request.specs.Asked.{WhereRefused, WhereRun};
-ghost use Rattle.om_program.specs.Answers.{IsAnswerTo, IsErrorOfRequest, IsWrittenAtOnce};
+ghost use Rattle.om_program.specs.Answers.{IsAnswerTo, IsErrorOfRequest, IsRefusedAnswer, IsWrittenAlong, IsWrittenAtOnce};
 ghost use Rattle.om_program.specs.steps.Requests.{IsRunRequest, reads_text};
 
 use crate::debugging::debug_over;
@@ -27,8 +27,8 @@ use std::time::Clock;
 /// Answers what is asked for, but the line of an image: `reader` is the input, or stands for it, `writer` is standard output. Files are those
 /// of the system: stores, witnesses, records. Where reasons are heard, the whole text of an input is read first, so that its faulty line can
 /// be shown. `Unread` where whoever reads standard output has closed it; `Strict` where it is asked for, and a process trapped or a line
-/// `kill` did not come: then the text is written. Refused, nothing is written but of a run that is followed and to gdb, unless it was the
-/// writer that refused.
+/// `kill` did not come: then the text is written. Refused, nothing is written, unless it was the writer that refused; of a run that is
+/// followed what was released by then, and to gdb what was answered.
 pub fn answer<
     R: Threads + Wait + Clock + Eprint + Copy + Send + Sync + 'static,
     I: Read,
@@ -46,6 +46,8 @@ pub fn answer<
     ensures error { IfSome (I.remaining reader.old) (λ bytes. WhereRefused result.0 (IsErrorOfRequest asked.now.request bytes)) }
     ensures silent { IsWrittenAtOnce asked.now.request
         → WhereRefused result.0 (λ error. IsSilent error (Keeps (W.contents writer) (W.contents result.1))) }
+    ensures partly { IsWrittenAlong asked.now.request → IfSome (I.remaining reader.old) (λ bytes. WhereRefused result.0
+        (IsRefusedAnswer asked.now.request bytes (W.contents writer) (W.contents result.1))) }
 {
     if reasons.are_heard && reads_text(asked.request) {
         answer_over(rt, threads, asked, reader, writer, reasons)
@@ -88,6 +90,8 @@ fn answer_over<
     ensures error { IfSome (I.remaining reader.old) (λ bytes. WhereRefused result.0 (IsErrorOfRequest asked.now.request bytes)) }
     ensures silent { IsWrittenAtOnce asked.now.request
         → WhereRefused result.0 (λ error. IsSilent error (Keeps (W.contents writer) (W.contents result.1))) }
+    ensures partly { IsWrittenAlong asked.now.request → IfSome (I.remaining reader.old) (λ bytes. WhereRefused result.0
+        (IsRefusedAnswer asked.now.request bytes (W.contents writer) (W.contents result.1))) }
 {
     let bytes = match read_text(rt.alloc(), reader) {
         Ok(bytes) => bytes,
@@ -117,6 +121,8 @@ fn answer_from<
     ensures error { IfSome (I.remaining reader.old) (λ bytes. WhereRefused result.0 (IsErrorOfRequest asked.now.request bytes)) }
     ensures silent { IsWrittenAtOnce asked.now.request
         → WhereRefused result.0 (λ error. IsSilent error (Keeps (W.contents writer) (W.contents result.1))) }
+    ensures partly { IsWrittenAlong asked.now.request → IfSome (I.remaining reader.old) (λ bytes. WhereRefused result.0
+        (IsRefusedAnswer asked.now.request bytes (W.contents writer) (W.contents result.1))) }
 {
     if let Request::Run(running) = asked.request {
         return run_request(rt, threads, running, asked.input, reader, writer, reasons);
