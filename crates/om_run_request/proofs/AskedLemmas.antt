@@ -176,6 +176,20 @@ run_error (Some bytes) (Err e) ended told done running (inl refused) judges h =
 run_error (Some bytes) (Err e) ended told done running (inr unread) judges h =
     no_error told (IsErrorOfAsked running bytes) (subst (λ x. Judges x told done) unread.1 judges)
 
+pub run_partly : {X : Type 0} (remaining : Option (List ℕ)) (outcome : Result (Vec Status Global) CommandError)
+    (ended : Result (Vec Status Global) Failure) (told : Result X Failure) (done : X) (running : Running) (over : Type 0)
+    (a begun b : Option (List ℕ)) → Ends outcome ended → Judges ended told done → begun ≡ a
+    → IfSome remaining (λ bytes. IfErr outcome (IsRefusedRun running over bytes begun b))
+    → IfSome remaining (λ bytes. WhereRefused told (IsRefusedRun running over bytes a b))
+run_partly None outcome ended told done running over a begun b ends judges same h = tt
+run_partly (Some bytes) (Ok statuses) ended told done running over a begun b ends judges same h =
+    done_error told done (IsRefusedRun running over bytes a b) (subst (λ e. Judges e told done) ends judges)
+run_partly (Some bytes) (Err e) ended told done running over a begun b (inl refused) judges same h =
+    error_of told e (IsRefusedRun running over bytes a b) (subst (λ x. Judges x told done) refused judges)
+    (subst (λ o. IsRefusedRun running over bytes o b e) same h)
+run_partly (Some bytes) (Err e) ended told done running over a begun b (inr unread) judges same h =
+    no_error told (IsRefusedRun running over bytes a b) (subst (λ x. Judges x told done) unread.1 judges)
+
 -- ---- memory that ran out before a run
 no_memory : (mode : RunMode) (bytes : List ℕ) → IsErrorIn mode bytes errors.NoMemory
 no_memory modes.Plain bytes = tt
