@@ -3,11 +3,11 @@
 ghost use Rattle.std.specs.Prelude.{◌≡◌, ◌⊎◌, IfErr};
 ghost use Rattle.om_run_commands.specs.Modes.{IsErrorOfContext};
 
-use crate::reasons::Reasons;
 use crate::watching::Stage;
 use om_arguments::{Checking, Kills, Running};
 use om_commands::CommandError;
 use om_files::first_unusable;
+use om_outcomes::Reasons;
 use om_process::Status;
 use om_reasons::ends_text;
 use om_run_commands::{

@@ -1,12 +1,17 @@
 //! Runs that are explored: what an exploration has beside its input and its text.
 
-ghost use Rattle.std.specs.Prelude.{◌≡◌, IfErr};
+ghost use Rattle.std.specs.Prelude.{◌≡◌, ℕ, List, IfErr, IfSome, OnOk};
+ghost use Rattle.std.specs.Io.KnownBytes.{Keeps};
+ghost use Rattle.om_commands.specs.Command.{IsSilent};
+ghost use Rattle.om_explore_command.specs.Request.{IsExploredFile};
+ghost use Rattle.om_program.specs.Answers.{Writes};
+ghost use Rattle.om_run_commands.specs.Run.{IsErrorOfRun};
 ghost use Rattle.om_run_request.specs.Asked.{form_of};
 
-use crate::reasons::Reasons;
 use om_arguments::Exploring;
 use om_commands::CommandError;
 use om_explore_command::{ExploreContext, Options, explore_file};
+use om_outcomes::Reasons;
 use om_run_request::form_of;
 use std::cell::Cell;
 use std::fs::OpenOptions;
@@ -117,7 +122,12 @@ pub(crate) fn explore_over<R: Clock, I: Read, W: Write>(
     reader: &mut I,
     writer: &mut W,
     reasons: &mut Reasons,
-) -> Result<(), CommandError> {
+) -> Result<(), CommandError>
+    ensures error { IfSome (I.remaining reader.old) (λ bytes. IfErr result (IsErrorOfRun bytes)) }
+    ensures text { IfSome (I.remaining reader.old) (λ bytes. OnOk result
+        (Writes (IsExploredFile (form_of exploring.entry.form) exploring.entry.all bytes) (W.contents writer.old) (W.contents writer.new))) }
+    ensures silent { IfErr result (λ error. IsSilent error (Keeps (W.contents writer.old) (W.contents writer.new))) }
+{
     if let Some(prefix) = exploring.witnesses {
         refuse_taken(rt, prefix, reasons)?;
     }

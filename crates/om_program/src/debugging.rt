@@ -1,9 +1,13 @@
 //! Processes of a record under gdb, whose packets come over standard input.
 
-use crate::reasons::Reasons;
+ghost use Rattle.std.specs.Prelude.{◌≡◌, IfErr, IfSome};
+ghost use Rattle.om_arguments.specs.declared.arguments.Request.TheVariants.{Debug};
+ghost use Rattle.om_program.specs.Answers.{IsErrorOfRequest};
+
 use om_commands::CommandError;
 use om_debug_command::{debug, debug_all};
 use om_inbox::{Inbox, Taker};
+use om_outcomes::Reasons;
 use std::alloc::Global;
 use std::io::{Read, Write};
 use std::rt::Runtime;
@@ -17,10 +21,12 @@ pub(crate) fn debug_over<R: Threads + Wait + Copy + Send + 'static, I: Read, W: 
     rt: &HostRuntime,
     threads: &R,
     process: Option<&str>,
-    record: &mut I,
+    input: &mut I,
     writer: &mut W,
     reasons: &mut Reasons,
-) -> Result<(), CommandError> {
+) -> Result<(), CommandError>
+    ensures { IfSome (I.remaining input.old) (λ bytes. IfErr result (IsErrorOfRequest (Debug process.entry) bytes)) }
+{
     let Ok(inbox) = Arc::new(rt.alloc(), Inbox::new(rt.alloc())) else {
         return Err(CommandError::NoMemory);
     };
@@ -29,8 +35,8 @@ pub(crate) fn debug_over<R: Threads + Wait + Copy + Send + 'static, I: Read, W: 
     }
     let mut packets = Taker::new(threads, &inbox);
     let outcome = match process {
-        Some(name) => debug(rt.alloc(), name, record, &mut packets, writer),
-        None => debug_all(rt.alloc(), record, &mut packets, writer),
+        Some(name) => debug(rt.alloc(), name, input, &mut packets, writer),
+        None => debug_all(rt.alloc(), input, &mut packets, writer),
     };
     inbox.close(threads);
     if let Some(refusal) = packets.refusal() {
@@ -44,7 +50,9 @@ fn begin_reading<R: Threads + Wait + Copy + Send + 'static>(
     rt: &HostRuntime,
     threads: &R,
     inbox: &Arc<Inbox, Global>,
-) -> Result<bool, CommandError> {
+) -> Result<bool, CommandError>
+    ensures { IfErr result (λ error. error ≡ CommandError.NoMemory) }
+{
     let theirs = Arc::try_clone(inbox)?;
     let mut reader = rt.reader();
     let own = *threads;

@@ -1,6 +1,7 @@
 //! What a command reads: standard input, or a file.
 
 ghost use Rattle.std.specs.Prelude.{◌≡◌, IfErr, IsOk, None};
+ghost use Rattle.om_outcomes.specs.Sources.{left_in};
 
 use crate::reasons::Reasons;
 use om_commands::CommandError;
@@ -8,34 +9,36 @@ use std::io::Read;
 use std::rt::Runtime;
 use std::{fs, io};
 
-// Where the bytes of an input come from.
+/// Where the bytes of an input come from.
 #[derive(Drop)]
-enum Origin<S, F> {
+pub enum Origin<S, F> {
     Standard(S),
     Named(F),
 }
 
-// An input, and why it was not read, where it was not.
+/// An input, and why it was not read, where it was not.
 #[derive(Drop)]
-pub(crate) struct Source<S, F> {
-    from: Origin<S, F>,
-    refusal: Option<io::Error>,
+pub struct Source<S, F> {
+    pub from: Origin<S, F>,
+    pub refusal: Option<io::Error>,
 }
 
 impl<S, F> Source<S, F> {
-    fn new(from: Origin<S, F>) -> Source<S, F> {
+    /// An input of which nothing was read.
+    pub fn new(from: Origin<S, F>) -> Source<S, F>
+        ensures from { result.from ≡ from }
+        ensures none { result.refusal ≡ None }
+    {
         Source {
             from,
             refusal: None,
         }
     }
-
-    pub(crate) fn refusal(&self) -> Option<io::Error> {
-        self.refusal
-    }
 }
 
 impl<S: Read, F: Read> Read for Source<S, F> {
+    ghost remaining = { λ source. left_in S.remaining F.remaining source.from };
+
     fn read(&mut self, buf: &mut [u8]) -> io::Result<usize> {
         match &mut self.from {
             Origin::Standard(reader) => noted(reader.read(buf), &mut self.refusal),
@@ -57,8 +60,9 @@ fn noted(read: io::Result<usize>, refusal: &mut Option<io::Error>) -> io::Result
     }
 }
 
-// The file of this name, or standard input where none is given. One that cannot be opened cannot be read.
-pub(crate) fn source_of<R: Runtime>(
+/// The file of this name, or standard input where none is given. One that cannot be opened is refused with `CannotRead`, and the reason is
+/// added.
+pub fn source_of<R: Runtime>(
     rt: &R,
     file: Option<&str>,
     reasons: &mut Reasons,

@@ -1,5 +1,7 @@
 //! Why a command was refused, in more words than the line that tells it.
 
+ghost use Rattle.std.specs.Prelude.{◌≡◌, ◌↔◌, [], IsTrue, string_bytes};
+
 use om_reasons::{form_of, rule_of};
 use om_text::ScriptError;
 use std::alloc::Global;
@@ -9,60 +11,79 @@ use std::io::IsTerminal;
 // How much of a line is shown.
 const SHOWN: usize = 100;
 
-// What is told behind that line, where somebody hears it: a person at a terminal, or who asks for more. Where it cannot be made or
-// written, nothing comes of it.
+/// What is told behind that line, where somebody hears it: a person at a terminal, or who asks for more. Where it cannot be made or
+/// written, nothing comes of it.
 #[derive(Drop)]
-pub(crate) struct Reasons {
-    pub(crate) are_heard: bool,
-    text: String,
+pub struct Reasons {
+    pub are_heard: bool,
+    pub text: String,
 }
 
 impl Reasons {
-    pub(crate) fn new(rt: &HostRuntime, is_verbose: bool) -> Reasons {
+    /// None yet; they are heard by whoever asks for more, or sits at a terminal.
+    pub fn new(rt: &HostRuntime, is_verbose: bool) -> Reasons
+        ensures heard { IsTrue is_verbose → IsTrue result.are_heard }
+        ensures none { string_bytes result.text ≡ [] }
+    {
         Reasons::empty(rt.alloc(), is_verbose || rt.stderr().is_terminal())
     }
 
-    // None yet.
-    pub(crate) fn empty(alloc: Global, are_heard: bool) -> Reasons {
+    /// None yet.
+    pub fn empty(alloc: Global, are_heard: bool) -> Reasons
+        ensures heard { result.are_heard ≡ are_heard }
+        ensures none { string_bytes result.text ≡ [] }
+    {
         Reasons {
             are_heard,
             text: String::new(alloc),
         }
     }
 
-    // Returns whether nothing is told yet.
-    pub(crate) fn is_empty(&self) -> bool {
+    /// Whether nothing is told yet.
+    pub fn is_empty(&self) -> bool
+        ensures { IsTrue result ↔ (string_bytes self.now.text ≡ []) }
+    {
         self.text.is_empty()
     }
 
-    // What is the matter with a file.
-    pub(crate) fn add<D: Display + Drop>(&mut self, file: &str, what: D) {
+    /// Adds what is the matter with a file.
+    pub fn add<D: Display + Drop>(&mut self, file: &str, what: D)
+        ensures { self.new.are_heard ≡ self.old.are_heard }
+    {
         if self.are_heard {
             let _ = writeln!(self.text, "omlog: {file}: {what}");
         }
     }
 
-    // What can be done.
-    pub(crate) fn advise<D: Display + Drop>(&mut self, what: D) {
+    /// Adds what can be done.
+    pub fn advise<D: Display + Drop>(&mut self, what: D)
+        ensures { self.new.are_heard ≡ self.old.are_heard }
+    {
         if self.are_heard {
             let _ = writeln!(self.text, "omlog: {what}");
         }
     }
 
-    // Lines that are made already.
-    pub(crate) fn add_lines(&mut self, lines: &str) {
+    /// Adds lines that are made already.
+    pub fn add_lines(&mut self, lines: &str)
+        ensures { self.new.are_heard ≡ self.old.are_heard }
+    {
         if self.are_heard {
             let _ = self.text.push_str(lines);
         }
     }
 
-    // Other reasons, behind these.
-    pub(crate) fn add_all(&mut self, others: &Reasons) {
+    /// Adds other reasons, behind these.
+    pub fn add_all(&mut self, others: &Reasons)
+        ensures { self.new.are_heard ≡ self.old.are_heard }
+    {
         self.add_lines(others.text.as_str());
     }
 
-    // The line of an input that was refused, the rule that it breaks, and how such a line is written.
-    pub(crate) fn add_line(&mut self, file: &str, bytes: &[u8], refused: ScriptError) {
+    /// Adds the line of an input that was refused, the rule that it breaks, and how such a line is written.
+    pub fn add_line(&mut self, file: &str, bytes: &[u8], refused: ScriptError)
+        ensures { self.new.are_heard ≡ self.old.are_heard }
+    {
         if !self.are_heard {
             return;
         }
@@ -78,7 +99,8 @@ impl Reasons {
         };
     }
 
-    pub(crate) fn say<R: Eprint>(&self, rt: &R) {
+    /// Writes them to standard error; where that refuses, nothing comes of it.
+    pub fn say<R: Eprint>(&self, rt: &R) {
         if !self.text.is_empty() {
             let _ = rt.eprint(self.text.as_str());
         }
