@@ -78,8 +78,8 @@ is_report over_clean programs images report same_programs are_released made proc
     }
 
 -- what holds of an answer
-pub ok_at : {E : Type 0} (P : Report → Type 0) (r : Result Report E) (report : Report) → r ≡ Ok report → IfOk r P → P report
-ok_at P r report is holds = subst (λ x. IfOk x P) is holds
+pub ok_at : {A E : Type 0} (P : A → Type 0) (r : Result A E) (x : A) → r ≡ Ok x → IfOk r P → P x
+ok_at P r x is holds = subst (λ answer. IfOk answer P) is holds
 
 -- what a run of images answered is what one of their programs ends with
 pub report_of_run : {E : Type 0} (over_clean : Type 0) (programs : List Program) (images : List Image) (r : Result Report E) (report : Report)
@@ -100,6 +100,26 @@ report_of_run over_clean programs images r report is same_programs are_released 
     (λ clean. ok_at (λ report. AreAlongOf images report.statuses.items) r report is (along clean))
     (λ clean. all-of-whole images report.statuses.items report.released.items
     (ok_at (λ report. AreWholeOf images report.statuses.items report.released.items) r report is (whole clean)))
+
+-- so is the report that something else comes with
+pub report_of_pair : {A E : Type 0} (over_clean : Type 0) (programs : List Program) (images : List Image) (r : Result (Report × A) E) (done : Report × A)
+    → r ≡ Ok done → map program_of images ≡ programs
+    → IfOk r (λ d. AreAllReleased d.0.front.vec d.0.released.items)
+    → (over_clean → IfOk r (λ d. AreOutputsOf images d.0.released.items)) → IfOk r (λ d. length d.0.released.items ≡ length images)
+    → IfOk r (λ d. length d.0.statuses.items ≡ length images) → IfOk r (λ d. All IsEnd d.0.statuses.items)
+    → (over_clean → IfOk r (λ d. AreAlongOf images d.0.statuses.items))
+    → (over_clean → IfOk r (λ d. AreWholeOf images d.0.statuses.items d.0.released.items))
+    → IsReport over_clean programs done.0
+report_of_pair over_clean programs images r done is same_programs are_released made processes number ended along whole =
+    is_report over_clean programs images done.0 same_programs
+    (ok_at (λ d. AreAllReleased d.0.front.vec d.0.released.items) r done is are_released)
+    (λ clean. ok_at (λ d. AreOutputsOf images d.0.released.items) r done is (made clean))
+    (ok_at (λ d. length d.0.released.items ≡ length images) r done is processes)
+    (ok_at (λ d. length d.0.statuses.items ≡ length images) r done is number)
+    (ok_at (λ d. All IsEnd d.0.statuses.items) r done is ended)
+    (λ clean. ok_at (λ d. AreAlongOf images d.0.statuses.items) r done is (along clean))
+    (λ clean. all-of-whole images done.0.statuses.items done.0.released.items
+    (ok_at (λ d. AreWholeOf images d.0.statuses.items d.0.released.items) r done is (whole clean)))
 
 -- the text of a report answers its script, and says how its processes ended
 pub told_of_report : (form : BytesForm) (over_clean : Type 0) (script : ClusterFile) (report : Report) (r : Result (Vec Status Global) CommandError)

@@ -1,7 +1,9 @@
 //! The command `run --check`: a cluster that is run, and compared with the run without failures that it comes to.
 
-ghost use Rattle.std.specs.Prelude.{◌≡◌, ◌≤◌, ℕ, List, length, IfOk, IfErr};
+ghost use Rattle.std.specs.Prelude.{◌≡◌, ◌≤◌, ℕ, List, IsTrue, length, IfOk, IfErr};
 ghost use Rattle.std.specs.Io.KnownBytes.{Appends, Keeps};
+ghost use Rattle.om_scripts.specs.Programs.{programs_of};
+ghost use Rattle.om_run_commands.specs.Run.{IsReport};
 ghost use Rattle.om_run_commands.specs.steps.Modes.{IsCheckedAnswer};
 ghost use Rattle.om_run_commands.specs.steps.Scripts.{IsErrorOfCheckedScript, IsErrorOfScript};
 ghost use Rattle.om_commands.specs.Command.{IsSilent};
@@ -79,7 +81,7 @@ pub(crate) fn run_with_witness<
     Ok(report.statuses)
 }
 
-// Returns what threads report of the cluster of a script, and what each process did.
+// Returns what threads report of the cluster of a script, with its kills, and what each process did.
 fn reported<R: Threads + Wait + Clock + Sync, O: Opener<R> + Sync>(
     rt: &R,
     alloc: Global,
@@ -88,8 +90,12 @@ fn reported<R: Threads + Wait + Clock + Sync, O: Opener<R> + Sync>(
     script: &ClusterScript,
 ) -> Result<(Report, Vec<Witness>), CommandError>
     requires { 1 ≤ length script.now.cluster.processes }
-    ensures { IfErr result (IsErrorOfScript script.now) }
+    ensures report { IfOk result (λ r. IsReport ((store : O.Store) → IsTrue (O.Store.is_clean store)) (programs_of script.now.cluster) r.0) }
+    ensures error { IfErr result (IsErrorOfScript script.now) }
 {
     let config = config_of(alloc, turns, script)?;
-    run_and_keep_witnesses(rt, alloc, &config, &OpenGate, opener).map_err(error_of_run)
+    match run_and_keep_witnesses(rt, alloc, &config, &OpenGate, opener) {
+        Ok(done) => Ok(done),
+        Err(fault) => Err(error_of_run(fault)),
+    }
 }

@@ -730,11 +730,11 @@ pub(crate) fn settled<K: Naming, R: Wait, G, O: Opener<R>>(
 }
 
 // Settles the inboxes, and makes the report of what the workers brought back and of the last front. The stores stand beside it,
-// and what each process did.
+// what each process did, and the ends by which each took.
 fn close<K: Naming, R: Wait, G: Gate, O: Opener<R>>(
     cluster: &Cluster<'_, K, R, G, O>,
     parts: Parts<K, O::Store>,
-) -> Result<(Report, Vec<O::Store>, Vec<Witness>), RunFault>
+) -> Result<(Report, Vec<O::Store>, Vec<Witness>, Vec<Vec<TakePass>>), RunFault>
     requires images { length cluster.now.plan.now.images.items ≡ K.cell.n }
     requires passes { ArePasses (length cluster.now.inboxes.now) cluster.now.inboxes.now parts.puts.items parts.takes.items }
     requires statuses { length parts.statuses.items ≡ length cluster.now.plan.now.images.items }
@@ -744,6 +744,7 @@ fn close<K: Naming, R: Wait, G: Gate, O: Opener<R>>(
     requires of_each { AreOwn parts.harvests.items }
     requires whole { AreWholeOver O.Store.is_clean cluster.now.plan.now.images.items parts.statuses.items
         (harvested parts.harvests.items) parts.stores.items }
+    ensures settled { IfOk result (λ r. AreSettled (length parts.puts.items) parts.puts.items parts.takes.items r.3.items) }
     ensures outputs { IfOk result (λ r. r.0.released.items ≡ harvested parts.harvests.items) }
     ensures each { IfOk result (λ r. r.0.statuses ≡ parts.statuses) }
     ensures released { IfOk result (λ r. AreAllReleased r.0.front.vec r.0.released.items) }
@@ -757,7 +758,7 @@ fn close<K: Naming, R: Wait, G: Gate, O: Opener<R>>(
         r.0.released.items r.1.items) }
     ensures fault { IfErr result (λ f. f ≡ Memory) }
 {
-    let (statuses, harvests, stores, witnesses, _) = settled(cluster, parts);
+    let (statuses, harvests, stores, witnesses, takes) = settled(cluster, parts);
     let Ok((released, front)) = gathered_in(cluster.rt, cluster.alloc, cluster.shared, harvests)
     else {
         return Err(RunFault::Memory);
@@ -767,7 +768,7 @@ fn close<K: Naming, R: Wait, G: Gate, O: Opener<R>>(
         statuses,
         front,
     };
-    Ok((report, stores, witnesses))
+    Ok((report, stores, witnesses, takes))
 }
 
 fn run_named<
@@ -821,7 +822,8 @@ fn run_named<
         received: &ground.received,
     };
     let (parts, _) = run_workers(&cluster, ends, passes, Alone);
-    close(&cluster, parts?)
+    let (report, stores, witnesses, _) = close(&cluster, parts?)?;
+    Ok((report, stores, witnesses))
 }
 
 /// Runs a cluster as [`run_cluster`] does, and hands back the store of each process beside the report. Where a process's store

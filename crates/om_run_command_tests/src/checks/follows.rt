@@ -206,6 +206,16 @@ fn a_writer_refuses(rt: HostRuntime) {
     }
 }
 
+// c has turns for many minutes: the run ends in time only where an output is written as soon as it is released.
+#[test]
+fn an_output_is_written_while_others_run(rt: HostRuntime) {
+    let (answer, written) = narrowed(&rt, rt.alloc(), 0, ENDLESS.as_bytes());
+    assert!(&rt;
+        answer == Err(CommandError::CannotWrite) && written.is_empty(),
+        "{written}"
+    );
+}
+
 // A faulty file writes nothing.
 #[test]
 fn a_faulty_file_is_refused(rt: HostRuntime) {

@@ -1,0 +1,2 @@
+pub mod GivenLemmas
+mod LookLemmas
