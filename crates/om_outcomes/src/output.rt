@@ -16,7 +16,7 @@ pub struct Output<W> {
 }
 
 impl<W> Output<W> {
-    /// A writer that has not refused.
+    /// Begins with a writer that has not refused.
     pub fn new(to: W) -> Output<W>
         ensures to { result.to ≡ to }
         ensures none { result.refusal ≡ None }
@@ -24,7 +24,7 @@ impl<W> Output<W> {
         Output { to, refusal: None }
     }
 
-    /// How a command ended that wrote to it: that nobody wants more is no refusal.
+    /// Returns how a command ended that wrote to it: that nobody wants more is no refusal.
     pub fn ended<T: Drop>(&self, outcome: Result<T, CommandError>) -> Result<T, Failure>
         ensures { MatchResult outcome (λ done. result ≡ Ok done) (λ error. (result ≡ Err (Failure.Refused error))
             ⊎ ((error ≡ CommandError.CannotWrite) × (result ≡ Err Failure.Unread))) }

@@ -20,7 +20,7 @@ pub struct Reasons {
 }
 
 impl Reasons {
-    /// None yet; they are heard by whoever asks for more, or sits at a terminal.
+    /// Begins with none: they are heard by whoever asks for more, or sits at a terminal.
     pub fn new(rt: &HostRuntime, is_verbose: bool) -> Reasons
         ensures heard { IsTrue is_verbose → IsTrue result.are_heard }
         ensures none { string_bytes result.text ≡ [] }
@@ -28,7 +28,7 @@ impl Reasons {
         Reasons::empty(rt.alloc(), is_verbose || rt.stderr().is_terminal())
     }
 
-    /// None yet.
+    /// Begins with none.
     pub fn empty(alloc: Global, are_heard: bool) -> Reasons
         ensures heard { result.are_heard ≡ are_heard }
         ensures none { string_bytes result.text ≡ [] }
@@ -39,7 +39,7 @@ impl Reasons {
         }
     }
 
-    /// Whether nothing is told yet.
+    /// Says whether nothing is told yet.
     pub fn is_empty(&self) -> bool
         ensures { IsTrue result ↔ (string_bytes self.now.text ≡ []) }
     {

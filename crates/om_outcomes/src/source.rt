@@ -24,7 +24,7 @@ pub struct Source<S, F> {
 }
 
 impl<S, F> Source<S, F> {
-    /// An input of which nothing was read.
+    /// Begins with an input of which nothing was read.
     pub fn new(from: Origin<S, F>) -> Source<S, F>
         ensures from { result.from ≡ from }
         ensures none { result.refusal ≡ None }
@@ -60,8 +60,8 @@ fn noted(read: io::Result<usize>, refusal: &mut Option<io::Error>) -> io::Result
     }
 }
 
-/// The file of this name, or standard input where none is given. One that cannot be opened is refused with `CannotRead`, and the reason is
-/// added.
+/// Opens the file of this name, or takes standard input where none is given. One that cannot be opened is refused with `CannotRead`, and the
+/// reason is added.
 pub fn source_of<R: Runtime>(
     rt: &R,
     file: Option<&str>,

@@ -1,6 +1,8 @@
 //! What the words of the command line ask for is carried out.
 
 ghost use Rattle.std.specs.Prelude.{◌≡◌};
+ghost use Rattle.std.specs.Process.{exit_status};
+ghost use Rattle.om_program.specs.steps.Ends.{status_of};
 
 use crate::answering::answer;
 use om_arguments::{Asked, Request, end, end_unasked, end_unread, parse};
@@ -81,7 +83,9 @@ fn ended<R: Threads + Wait + Clock + Eprint + Copy + Send + Sync + 'static>(
 }
 
 // Ends a command. Whoever has closed standard output is told nothing.
-fn end_carried(rt: &HostRuntime, outcome: Result<(), Failure>) -> ExitCode {
+fn end_carried(rt: &HostRuntime, outcome: Result<(), Failure>) -> ExitCode
+    ensures { exit_status result ≡ status_of outcome }
+{
     match outcome {
         Ok(()) => ExitCode::SUCCESS,
         Err(Failure::Refused(error)) => end(rt, Err(error)),

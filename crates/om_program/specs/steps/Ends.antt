@@ -1,4 +1,4 @@
--- How an answer ends that is written to standard output, and what a debugger is refused for.
+-- How an answer ends that is written to standard output, with which status, and what a debugger is refused for.
 use Rattle.std.specs.Prelude.{◌≡◌, ◌⊎◌, ℕ, List, None, Ok, Err, Result}
 use Rattle.om_arguments.specs.declared.arguments.Request.TheVariants as requests
 use Rattle.om_arguments.specs.declared.debug_request.Symbols.{Symbols as Given}
@@ -30,3 +30,11 @@ IsRefusalOfAll given bytes error = IsRefusal (requests.Debug None) given bytes e
 abbrev pub IsRefusalOfOne : List ℕ → List ℕ → DebugError → Type 0
 IsRefusalOfOne name bytes (Refused error) = IsErrorOfShown (IsErrorOfDebug bytes name) error
 IsRefusalOfOne name bytes NoSuchName = ⊥
+
+-- the status that the program ends with: where nobody reads on it is that of a program that the signal SIGPIPE, 13, ended
+abbrev pub status_of : Result (Unit {0}) Failure → ℕ
+status_of (Ok done) = 0
+status_of (Err (failures.Refused error)) = 1
+status_of (Err failures.Unread) = 141
+status_of (Err failures.Strict) = 1
+status_of (Err failures.NoSuchName) = 1
