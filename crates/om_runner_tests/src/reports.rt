@@ -3,6 +3,7 @@
 ghost use Rattle.std.specs.Prelude.{◌≡◌};
 
 use crate::clusters::{Always, ring};
+use crate::rows::process;
 use om_runner::{Blank, Front, InMemory, Naming, Shared, run_cluster};
 use std::alloc::Global;
 use std::marker::Brand;
@@ -49,4 +50,24 @@ fn declared<K: Naming>(rt: &impl Abort, alloc: Global, blank: Blank) -> u64
 fn no_failure_is_declared_at_the_start(rt: HostRuntime) {
     let blank = Blank::new(rt.alloc(), 2).expect(&rt, "memory");
     assert_eq!(&rt; declared::<Brand>(&rt, rt.alloc(), blank), 0);
+}
+
+// Process 1 of two is quiet, and nobody else has said anything: so not all are.
+fn one_is_quiet<K: Naming, R: Wait + Abort>(rt: &R, alloc: Global, blank: Blank)
+    requires named { blank ≡ K.cell }
+{
+    let (shared, passes) = Shared::<K>::new(alloc, blank).expect(rt, "memory");
+    drop(passes);
+    let mut board = shared.board.lock(rt);
+    let pid = process(rt, 1);
+    let is_right = pid.index() < board.manager().recovery().n() && !board.quiet(pid, 0);
+    drop(board);
+    drop(shared);
+    assert!(rt; is_right);
+}
+
+#[test]
+fn one_that_is_quiet_is_not_all(rt: HostRuntime) {
+    let blank = Blank::new(rt.alloc(), 2).expect(&rt, "memory");
+    one_is_quiet::<Brand, _>(&rt, rt.alloc(), blank);
 }
