@@ -24,7 +24,7 @@ const SLICE: u64 = 500;
 
 /// Tells what came of yielding while a bell was silent.
 #[derive(Clone, Copy, PartialEq, Eq)]
-pub enum Look {
+pub enum SpinOutcome {
     /// It was rung.
     Rung,
     /// It was silent for as long as that is worth while.
@@ -50,14 +50,14 @@ fn bit_of(place: usize) -> u64 {
 
 /// Marks processes.
 #[derive(Clone, Copy, Drop)]
-pub struct Marked {
+pub struct SenderSet {
     bits: u64,
 }
 
-impl Marked {
+impl SenderSet {
     /// Marks none.
-    pub fn none() -> Marked {
-        Marked { bits: 0 }
+    pub fn none() -> SenderSet {
+        SenderSet { bits: 0 }
     }
 
     /// Tells whether none is marked.
@@ -78,7 +78,7 @@ impl Marked {
     }
 
     /// Marks also those that are marked in the other.
-    pub fn add(&mut self, other: Marked) {
+    pub fn add(&mut self, other: SenderSet) {
         self.bits |= other.bits;
     }
 }
@@ -99,11 +99,11 @@ impl Bell {
     }
 
     /// Takes who has put something since this was asked last.
-    pub fn senders(&self) -> Marked {
+    pub fn senders(&self) -> SenderSet {
         if self.senders.load(SeqCst) == 0 {
-            return Marked::none();
+            return SenderSet::none();
         }
-        Marked {
+        SenderSet {
             bits: self.senders.swap(0, SeqCst),
         }
     }
@@ -117,28 +117,28 @@ impl Bell {
 
     /// Yields until it is rung, for a while; not where the clock cannot be read. Rung, it is silent again; else the ring is left
     /// to the sleep.
-    pub fn look<R: Clock>(&self, rt: &R) -> Look {
+    pub fn look<R: Clock>(&self, rt: &R) -> SpinOutcome {
         let Ok(start) = Instant::now(rt) else {
-            return Look::Silent;
+            return SpinOutcome::Silent;
         };
         let mut before = start;
         for _ in 0..YIELDS {
             if self.is_rung() {
-                return Look::Rung;
+                return SpinOutcome::Rung;
             }
             yield_now();
             let Ok(after) = Instant::now(rt) else {
                 break;
             };
             if after.duration_since(before) > Duration::from_micros(SLICE) {
-                return Look::Slice;
+                return SpinOutcome::Slice;
             }
             if after.duration_since(start) > Duration::from_micros(LONGEST_LOOK) {
                 break;
             }
             before = after;
         }
-        Look::Silent
+        SpinOutcome::Silent
     }
 
     // Returns whether it was rung. Then it is silent again.

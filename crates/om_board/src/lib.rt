@@ -25,7 +25,7 @@ mod order;
 mod shared;
 mod waiting;
 
-pub use bell::{Bell, Look, Marked, ring_all};
+pub use bell::{Bell, SenderSet, SpinOutcome, ring_all};
 pub use board::Board;
 pub use front::Front;
 pub use frontier::{Blank, Frontier, Naming, Pass};

@@ -21,7 +21,7 @@ use Rattle.om_world.specs.Changes.{made_by}
 use Rattle.om_world.specs.Holds.{StandsAt}
 use Rattle.om_world.specs.Live.{Legal, program_at, received}
 use Rattle.om_world.specs.World.{WorldState, output_entry}
-use Rattle.om_world.specs.declared.place.Place.{Place}
+use Rattle.om_world.specs.declared.process_state.ProcessState.{ProcessState}
 use Rattle.om_check.specs.FailureFree.{ComesTo, IsAtRest, IsRunBy, RestsWith}
 use Rattle.om_check.specs.Whole.{AreReleasedIn, AreStatusesOf, IsDone, IsUnderWay, IsWhole}
 
@@ -131,7 +131,7 @@ below [] p x at = cc
 below (y ∷ xs) zero x at = omega arith
 below (y ∷ xs) (suc p) x at = let rest = below xs p x at in omega (arith, rest)
 
-up_at : (n p : ℕ) → p < n → slice_get (replicate n Place.Up) p ≡ Some Place.Up
+up_at : (n p : ℕ) → p < n → slice_get (replicate n ProcessState.Up) p ≡ Some ProcessState.Up
 up_at zero p lt = absurd (omega (arith, lt))
 up_at (suc n) zero lt = refl
 up_at (suc n) (suc p) lt = up_at n p (omega (arith, lt))

@@ -9,14 +9,14 @@ use Rattle.om_process.specs.declared.status.Status.TheVariants.{Waiting}
 use Rattle.om_manager.specs.Outputs.{HeldOutput}
 use Rattle.om_manager.specs.State.{process_count, released_by}
 use Rattle.om_world.specs.Changes.{made_by}
-use Rattle.om_world.specs.declared.place.Place.{Place}
+use Rattle.om_world.specs.declared.process_state.ProcessState.{ProcessState}
 use Rattle.om_world.specs.Holds.{Holds}
 use Rattle.om_world.specs.World.{WorldState, IsKnown}
 
 -- a world of these programs, at a point of a run without failures, with all processes up
 pub record IsUnderWay (programs : List Program) (w : WorldState) : Type 0 where
   pub these : w.programs ≡ programs
-  pub places : w.places ≡ replicate (length programs) Place.Up
+  pub places : w.places ≡ replicate (length programs) ProcessState.Up
   pub known : IsKnown w
   pub holds : Holds w
   pub managed : process_count w.manager ≡ length programs

@@ -5,7 +5,7 @@ use std::collections::VecDeque;
 
 // The messages of a process to another.
 #[derive(Drop)]
-pub(crate) struct Line {
+pub(crate) struct FrameQueue {
     // The frames of those that are still to be given, in order.
     frames: VecDeque<usize>,
     // How many of them the sender kept when it was looked at last.
@@ -14,20 +14,20 @@ pub(crate) struct Line {
 
 // All of them: by sender, and there by receiver.
 #[derive(Drop)]
-pub(crate) struct Lines {
-    rows: Vec<Vec<Line>>,
+pub(crate) struct FrameQueues {
+    rows: Vec<Vec<FrameQueue>>,
     // How many frames were made.
     made: usize,
 }
 
-impl Lines {
+impl FrameQueues {
     // Of so many processes, before they run.
-    pub(crate) fn new(alloc: Global, n: usize) -> Result<Lines, AllocError> {
+    pub(crate) fn new(alloc: Global, n: usize) -> Result<FrameQueues, AllocError> {
         let mut rows = Vec::with_capacity(alloc, n)?;
         for _ in 0..n {
             rows.push(row(alloc, n)?)?;
         }
-        Ok(Lines { rows, made: 0 })
+        Ok(FrameQueues { rows, made: 0 })
     }
 
     // The next message of the one to the other, if it was sent.
@@ -64,10 +64,10 @@ impl Lines {
 }
 
 // No messages of a process to each of so many.
-fn row(alloc: Global, n: usize) -> Result<Vec<Line>, AllocError> {
+fn row(alloc: Global, n: usize) -> Result<Vec<FrameQueue>, AllocError> {
     let mut row = Vec::with_capacity(alloc, n)?;
     for _ in 0..n {
-        row.push(Line {
+        row.push(FrameQueue {
             frames: VecDeque::new(alloc),
             kept: 0,
         })?;

@@ -2,7 +2,7 @@
 
 ghost use Rattle.std.specs.Prelude.{◌≡◌, IfOk};
 
-use crate::lines::Lines;
+use crate::lines::FrameQueues;
 use om_interval::Pid;
 use om_stable::MemStable;
 use om_world::World;
@@ -16,7 +16,7 @@ pub(crate) const RECEIPTS_KEPT: usize = 1_000;
 pub(crate) struct Stage {
     pub(crate) alloc: Global,
     pub(crate) world: World<MemStable>,
-    pub(crate) lines: Lines,
+    pub(crate) lines: FrameQueues,
 }
 
 impl Stage {
@@ -27,7 +27,7 @@ impl Stage {
         Ok(Stage {
             alloc,
             world,
-            lines: Lines::new(alloc, n)?,
+            lines: FrameQueues::new(alloc, n)?,
         })
     }
 

@@ -2,7 +2,7 @@
 
 use om_files::{fault_of, first_unusable};
 use om_store_files::{
-    Clash, PlaceError, Places, Standing, clash_with_databases, clash_with_streams,
+    Clash, FilesBefore, PlaceError, Places, clash_with_databases, clash_with_streams,
     clashes_with_stores,
 };
 use sqlite::Connection;
@@ -342,7 +342,7 @@ fn what_a_refused_start_leaves(rt: HostRuntime) {
     fs::remove_file(&rt, log.as_str()).expect(&rt, "a log");
     write(&rt, &rt, &folder, "s1.db", "");
     write(&rt, &rt, &folder, "s2.db-wal", "");
-    let standing = Standing::of(&rt, &prefix, 6).expect(&rt, "memory");
+    let standing = FilesBefore::of(&rt, &prefix, 6).expect(&rt, "memory");
     write(&rt, &rt, &folder, "s0.db-wal", "a head");
     write(&rt, &rt, &folder, "s1.db-wal", "");
     write(&rt, &rt, &folder, "s2.db", "");

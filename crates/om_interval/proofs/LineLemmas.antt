@@ -10,7 +10,7 @@ use Rattle.std.proofs.lemmas.List.{length-append, length-map, length_push, map-a
 use Rattle.std.proofs.lemmas.Grind.{flat_map-append}
 use Rattle.std.proofs.Math.Seq.{get_or-append_seam}
 use Rattle.om_interval.specs.steps.Lines.{blocks_in, joined, IsLine}
-use Rattle.om_interval.specs.declared.line.TheConstants.{BLOCK}
+use Rattle.om_interval.specs.declared.shared_blocks.TheConstants.{BLOCK}
 
 -- all but the first
 all_tail : {X : Type 0} (P : X → Type 0) (x : X) (xs : List X) → All P (x ∷ xs) → All P xs

@@ -3,8 +3,8 @@ ghost use Rattle.om_interval.specs.Starts.{starts_of, newest_of, AllAreStarts, I
 ghost use Rattle.om_interval.specs.declared.pid.TheConstants.{MAX_PROCESSES};
 
 use crate::dep_vec::DepVec;
-use crate::line::Line;
 use crate::pid::{MAX_PROCESSES, Pid};
+use crate::shared_blocks::SharedBlocks;
 use crate::tag::Tag;
 use std::alloc::{AllocError, Global};
 use std::marker::Model;
@@ -14,7 +14,7 @@ use std::marker::Model;
 /// is new.
 #[derive(Debug, Drop)]
 pub struct Starts {
-    by_process: Vec<Line>,
+    by_process: Vec<SharedBlocks>,
 }
 
 impl Model for Starts {
@@ -34,7 +34,7 @@ impl Starts {
     {
         let mut by_process = Vec::with_capacity(alloc, n)?;
         for _ in 0..n {
-            by_process.push_reserved(Line::new(alloc)?);
+            by_process.push_reserved(SharedBlocks::new(alloc)?);
         }
         Ok(Starts { by_process })
     }
@@ -109,10 +109,10 @@ impl Starts {
 // The starts once each named process has one more, right above its place of the state.
 fn begun(
     alloc: Global,
-    by_process: &Vec<Line>,
+    by_process: &Vec<SharedBlocks>,
     who: [bool; MAX_PROCESSES],
     state: &[u32],
-) -> Result<Vec<Line>, AllocError>
+) -> Result<Vec<SharedBlocks>, AllocError>
     requires may { MayBegin who state.now by_process.now.items }
     requires within { length by_process.now.items ≤ MAX_PROCESSES }
     ensures { IfOk result (λ begun. BeginIncarnations who state.now by_process.now.items begun.items) }

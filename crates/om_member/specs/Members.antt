@@ -27,21 +27,21 @@ use Rattle.om_manager.specs.declared.answers.RecordError.{RecordError}
 use Rattle.om_member.specs.declared.batch.Batch.{Batch}
 use Rattle.om_member.specs.declared.batch.Batch.TheVariants.{Checkpoint, First, Log}
 use Rattle.om_member.specs.declared.member.Member.{Member}
-use Rattle.om_member.specs.declared.member.Standing.{Standing}
-use Rattle.om_member.specs.declared.member.Standing.TheVariants as stands
+use Rattle.om_member.specs.declared.member.MemberState.{MemberState}
+use Rattle.om_member.specs.declared.member.MemberState.TheVariants as stands
 use Rattle.om_member.specs.Keeps.{Keeps}
 use Rattle.om_member.specs.Told.{IsToldUpTo}
 
 -- the process, where it is not down
-abbrev pub core_of : Standing → Option CoreState
+abbrev pub core_of : MemberState → Option CoreState
 core_of (stands.Up core) = Some core
 core_of (stands.In core) = Some core
 core_of (stands.Down declared) = None
 
-abbrev pub IsNotUp : Standing → Type 0
+abbrev pub IsNotUp : MemberState → Type 0
 IsNotUp standing = (core : CoreState) → standing ≢ stands.Up core
 
-abbrev pub IsNotIn : Standing → Type 0
+abbrev pub IsNotIn : MemberState → Type 0
 IsNotIn standing = (core : CoreState) → standing ≢ stands.In core
 
 -- ---- its store

@@ -5,14 +5,14 @@ ghost use Rattle.om_manager.specs.State.{held_by, process_count};
 ghost use Rattle.om_member.specs.Keeps.{Keeps};
 ghost use Rattle.om_member.specs.Handed.{AreHandedUpTo, AreTaken, IsHanded, MayHandIn, held_as, outputs_from};
 
-use crate::office::Office;
+use crate::manager_access::ManagerAccess;
 use om_interval::Pid;
 use om_manager::{OutputError, OutputNote};
 use om_process::{Made, ProcCore};
 use std::alloc::Global;
 
 // Hands an output in.
-fn hand_one<O: Office>(
+fn hand_one<O: ManagerAccess>(
     office: &mut O,
     alloc: Global,
     pid: Pid,
@@ -33,7 +33,7 @@ fn hand_one<O: Office>(
 }
 
 /// Hands outputs of a process in, in order, up to the first that is refused.
-pub fn hand_all<O: Office>(
+pub fn hand_all<O: ManagerAccess>(
     office: &mut O,
     alloc: Global,
     pid: Pid,
@@ -50,7 +50,7 @@ pub fn hand_all<O: Office>(
 }
 
 /// Hands in the outputs of a process that the manager has not, in order, up to the first that is refused.
-pub fn hand_in<O: Office>(
+pub fn hand_in<O: ManagerAccess>(
     core: &ProcCore,
     office: &mut O,
     alloc: Global,

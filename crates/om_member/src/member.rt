@@ -9,10 +9,10 @@ ghost use Rattle.om_stable.specs.declared.error.StoreError.{StoreError};
 ghost use Rattle.om_member.specs.Handed.{AreHandedUpTo, MayHandIn, outputs_from};
 ghost use Rattle.om_member.specs.Keeps.{Keeps};
 ghost use Rattle.om_member.specs.Members.{HasComeBack, HasDeclared, HasJoined, HasNoted, HasRun, HasStored, HasTrimmed, IsNotIn, IsNotUp, IsOffered, StaysDown, TakesTurns, WasCalled, WasPruned, core_of};
-ghost use Rattle.om_member.specs.declared.member.Standing.TheVariants as stands;
+ghost use Rattle.om_member.specs.declared.member.MemberState.TheVariants as stands;
 
 use crate::batch::Batch;
-use crate::office::Office;
+use crate::manager_access::ManagerAccess;
 use crate::{handing, telling};
 use om_format::Message;
 use om_interval::{Bounds, Pid, Starts, Verdict};
@@ -24,7 +24,7 @@ use std::mem;
 
 /// Where a process stands, with the process where it is not down.
 #[derive(Drop)]
-pub enum Standing {
+pub enum MemberState {
     /// It runs.
     Up(ProcCore),
     /// It joined a gathering, and has not resumed.
@@ -44,31 +44,31 @@ pub struct NotIn;
 /// A process with its store.
 #[derive(Drop)]
 pub struct Member<S: Stable> {
-    pub standing: Standing,
+    pub standing: MemberState,
     /// How many rounds were finished when it was last up.
     pub round: u32,
     pub store: S,
 }
 
-impl Standing {
+impl MemberState {
     // Returns how it stands once those that are up have joined; any other stands as before.
-    fn joined(self) -> Standing
+    fn joined(self) -> MemberState
         ensures joined { (core : CoreState) → self ≡ stands.Up core → result ≡ stands.In core }
         ensures other { IsNotUp self → result ≡ self }
     {
         match self {
-            Standing::Up(core) => Standing::In(core),
+            MemberState::Up(core) => MemberState::In(core),
             other => other,
         }
     }
 
     // Returns how it stands once those that joined are up; any other stands as before.
-    fn risen(self) -> Standing
+    fn risen(self) -> MemberState
         ensures risen { (core : CoreState) → self ≡ stands.In core → result ≡ stands.Up core }
         ensures other { IsNotIn self → result ≡ self }
     {
         match self {
-            Standing::In(core) => Standing::Up(core),
+            MemberState::In(core) => MemberState::Up(core),
             other => other,
         }
     }
@@ -82,7 +82,7 @@ impl<S: Stable> Member<S> {
         ensures store { result.store ≡ store }
     {
         Member {
-            standing: Standing::Up(core),
+            standing: MemberState::Up(core),
             round: 0,
             store,
         }
@@ -94,9 +94,9 @@ impl<S: Stable> Member<S> {
         ensures none { IfNone result (core_of self.now.standing ≡ None) }
     {
         match &self.standing {
-            Standing::Up(core) => Some(core),
-            Standing::In(core) => Some(core),
-            Standing::Down { declared: _ } => None,
+            MemberState::Up(core) => Some(core),
+            MemberState::In(core) => Some(core),
+            MemberState::Down { declared: _ } => None,
         }
     }
 }
@@ -111,7 +111,7 @@ impl<S: Stable> Member<S> {
         ensures refused { OnErr result (self.new ≡ self.old) }
     {
         match &mut self.standing {
-            Standing::Up(core) => Ok(core.run(alloc, fuel)),
+            MemberState::Up(core) => Ok(core.run(alloc, fuel)),
             _ => Err(NotUp),
         }
     }
@@ -123,7 +123,7 @@ impl<S: Stable> Member<S> {
         ensures refused { OnErr result (self.new ≡ self.old) }
     {
         match &mut self.standing {
-            Standing::Up(core) => Ok(core.accept(alloc, message)),
+            MemberState::Up(core) => Ok(core.accept(alloc, message)),
             _ => Err(NotUp),
         }
     }
@@ -136,7 +136,7 @@ impl<S: Stable> Member<S> {
         ensures refused { OnErr result (self.new ≡ self.old) }
     {
         match &mut self.standing {
-            Standing::Up(core) => {
+            MemberState::Up(core) => {
                 core.trim(bounds);
                 Ok(())
             }
@@ -148,7 +148,7 @@ impl<S: Stable> Member<S> {
     pub fn fail(&mut self)
         ensures { self.new ≡ record self.old { standing = stands.Down false } }
     {
-        self.standing = Standing::Down { declared: false };
+        self.standing = MemberState::Down { declared: false };
     }
 }
 
@@ -163,7 +163,7 @@ impl<S: Stable> Member<S> {
         ensures refused { OnErr result (self.new ≡ self.old) }
     {
         match &mut self.standing {
-            Standing::Up(core) => match kind {
+            MemberState::Up(core) => match kind {
                 Batch::Log => Ok(core.flush(alloc, &mut self.store)),
                 Batch::First(count) => Ok(core.flush_first(alloc, &mut self.store, count)),
                 Batch::Checkpoint => Ok(core.checkpoint(alloc, &mut self.store)),
@@ -202,7 +202,7 @@ impl<S: Stable> Member<S> {
         match down.roll_back(alloc, &mut self.store, starts, verdict) {
             Ok(core) => {
                 let at = (core.interval(), core.inc());
-                self.standing = Standing::Up(core);
+                self.standing = MemberState::Up(core);
                 self.round = verdict.round;
                 Ok(at)
             }
@@ -225,7 +225,7 @@ impl<S: Stable> Member<S> {
         ensures refused { OnErr result (self.new ≡ self.old) }
         ensures no_memory { IfOk result (λ answer. OnErr answer (self.new ≡ self.old)) }
     {
-        let Standing::In(core) = &mut self.standing else {
+        let MemberState::In(core) = &mut self.standing else {
             return Err(NotIn);
         };
         match core.resume(alloc, starts, verdict) {
@@ -242,7 +242,7 @@ impl<S: Stable> Member<S> {
         ensures { (core : CoreState) → self.old.standing ≡ stands.In core
             → self.new ≡ record self.old { standing = stands.Up core; round = round } }
     {
-        let standing = mem::replace(&mut self.standing, Standing::Down { declared: false });
+        let standing = mem::replace(&mut self.standing, MemberState::Down { declared: false });
         self.standing = standing.risen();
         self.round = round;
     }
@@ -252,7 +252,7 @@ impl<S: Stable> Member<S> {
 impl<S: Stable> Member<S> {
     /// Offers the pending rows of a process that is up, in order, up to the first that is refused. Says how many were not
     /// refused; those are pending no longer.
-    pub fn note<O: Office>(
+    pub fn note<O: ManagerAccess>(
         &mut self,
         office: &mut O,
         alloc: Global,
@@ -264,13 +264,13 @@ impl<S: Stable> Member<S> {
         ensures untold { OnErr result (O.state office.new ≡ O.state office.old) }
     {
         match &mut self.standing {
-            Standing::Up(core) => Ok(telling::note(core, office, alloc, pid)),
+            MemberState::Up(core) => Ok(telling::note(core, office, alloc, pid)),
             _ => Err(NotUp),
         }
     }
 
     /// Hands in the outputs of a process that is up that the manager has not, in order, up to the first that is refused.
-    pub fn hand_in<O: Office>(
+    pub fn hand_in<O: ManagerAccess>(
         &self,
         office: &mut O,
         alloc: Global,
@@ -286,13 +286,13 @@ impl<S: Stable> Member<S> {
         ensures untold { OnErr result (O.state office.new ≡ O.state office.old) }
     {
         match &self.standing {
-            Standing::Up(core) => Ok(handing::hand_in(core, office, alloc, pid)),
+            MemberState::Up(core) => Ok(handing::hand_in(core, office, alloc, pid)),
             _ => Err(NotUp),
         }
     }
 
     /// Takes a process that is up into the open gathering. Refused with what the manager answers, and then all stays.
-    pub fn join<O: Office>(
+    pub fn join<O: ManagerAccess>(
         &mut self,
         office: &mut O,
         alloc: Global,
@@ -303,7 +303,7 @@ impl<S: Stable> Member<S> {
         ensures refused { OnErr result (self.new ≡ self.old) }
         ensures untold { OnErr result (O.state office.new ≡ O.state office.old) }
     {
-        let Standing::Up(core) = &self.standing else {
+        let MemberState::Up(core) = &self.standing else {
             return Err(NotUp);
         };
         match office.join(alloc, pid, core.round(), core.interval()) {
@@ -319,13 +319,13 @@ impl<S: Stable> Member<S> {
     fn go_in(&mut self)
         ensures { (core : CoreState) → self.old.standing ≡ stands.Up core → self.new ≡ record self.old { standing = stands.In core } }
     {
-        let standing = mem::replace(&mut self.standing, Standing::Down { declared: false });
+        let standing = mem::replace(&mut self.standing, MemberState::Down { declared: false });
         self.standing = standing.joined();
     }
 
     /// Declares that the process failed: it is down, whatever it did before, and all that is volatile is lost. Refused with what
     /// the manager answers, and then all stays.
-    pub fn declare<O: Office>(
+    pub fn declare<O: ManagerAccess>(
         &mut self,
         office: &mut O,
         alloc: Global,
@@ -335,7 +335,7 @@ impl<S: Stable> Member<S> {
     {
         match office.fail(alloc, pid, self.round) {
             Ok(told) => {
-                self.standing = Standing::Down { declared: true };
+                self.standing = MemberState::Down { declared: true };
                 Ok(told)
             }
             Err(fault) => Err(fault),

@@ -5,7 +5,7 @@ ghost use Rattle.om_process.specs.Core.{with_pending};
 ghost use Rattle.om_member.specs.Keeps.{Keeps};
 ghost use Rattle.om_member.specs.Told.{IsTold, IsToldUpTo, row_for};
 
-use crate::office::Office;
+use crate::manager_access::ManagerAccess;
 use om_interval::Pid;
 use om_manager::RecordError;
 use om_process::{PendingRow, ProcCore};
@@ -30,7 +30,7 @@ fn row_of(pid: Pid, row: &PendingRow) -> Row
 }
 
 // Offers a row to the manager.
-fn tell<O: Office>(
+fn tell<O: ManagerAccess>(
     office: &mut O,
     alloc: Global,
     pid: Pid,
@@ -43,7 +43,7 @@ fn tell<O: Office>(
 }
 
 /// Offers rows of a process to the manager, in order, up to the first that is refused, and says how many were not.
-pub fn tell_all<O: Office>(
+pub fn tell_all<O: ManagerAccess>(
     office: &mut O,
     alloc: Global,
     pid: Pid,
@@ -62,7 +62,7 @@ pub fn tell_all<O: Office>(
 
 /// Offers the pending rows of a process to the manager, in order, up to the first that is refused. Says how many were not
 /// refused; those are pending no longer.
-pub fn note<O: Office>(
+pub fn note<O: ManagerAccess>(
     core: &mut ProcCore,
     office: &mut O,
     alloc: Global,

@@ -6,7 +6,7 @@ use Rattle.std.proofs.lemmas.Grind.{common_steps}
 use Rattle.std.specs.Int.Bits.{bit_xor}
 use Rattle.om_packets.specs.declared.decoder.Event.{Event}
 use Rattle.om_packets.specs.declared.decoder.Event.TheVariants.{Packet}
-use Rattle.om_packets.specs.declared.decoder.Place.TheVariants as places
+use Rattle.om_packets.specs.declared.decoder.DecoderState.TheVariants as places
 use Rattle.om_packets.specs.declared.decoder.TheConstants.{MAX_PACKET}
 use Rattle.om_packets.specs.Packets.{checksum, escaped, escaped_byte, hex_digit, is_special, packet_text}
 use Rattle.om_packets.specs.Decoding.{Decoding, begin, first_digit, second_digit, hex_value, kept, start, step}

@@ -1,15 +1,15 @@
 -- What a byte completes, after the bytes before it.
 use Rattle.std.specs.Prelude.{ℕ, List, [], ◌∷◌, ◌++◌, ◌+◌, ◌*◌, ◌-◌, ◌%◌, ◌&&◌, ◌==◌, if◌then◌else◌, nat_le, length, Option, None, Some}
 use Rattle.std.specs.Int.Bits.{bit_xor}
-use Rattle.om_packets.specs.declared.decoder.Place.{Place}
-use Rattle.om_packets.specs.declared.decoder.Place.TheVariants as places
+use Rattle.om_packets.specs.declared.decoder.DecoderState.{DecoderState}
+use Rattle.om_packets.specs.declared.decoder.DecoderState.TheVariants as places
 use Rattle.om_packets.specs.declared.decoder.Event.{Event}
 use Rattle.om_packets.specs.declared.decoder.Event.TheVariants.{Packet, Garbled, Interrupt}
 use Rattle.om_packets.specs.declared.decoder.TheConstants.{MAX_PACKET}
 
 -- where the next byte stands, the bytes of the packet so far, and the sum of how they were written
 pub record Decoding : Type 0 where
-  pub place : Place
+  pub place : DecoderState
   pub body : List ℕ
   pub total : ℕ
 
@@ -77,7 +77,7 @@ abbrev pub step_second : ℕ → Decoding → ℕ → Decoding × Option Event
 step_second high d byte = (outside d, Some (second_digit high d (hex_value byte)))
 
 -- by where the byte stands
-abbrev pub step_at : Place → Decoding → ℕ → Decoding × Option Event
+abbrev pub step_at : DecoderState → Decoding → ℕ → Decoding × Option Event
 step_at places.Outside d byte = step_outside d byte
 step_at places.Body d byte = step_body d byte
 step_at places.Escaped d byte = step_escaped d byte

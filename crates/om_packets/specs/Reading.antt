@@ -3,7 +3,7 @@ use Rattle.std.specs.Prelude.{◌≡◌, ◌≢◌, ◌≤◌, ℕ, List, [], �
 use Rattle.std.specs.List.{flat_map}
 use Rattle.om_packets.specs.declared.decoder.Event.{Event}
 use Rattle.om_packets.specs.declared.decoder.Event.TheVariants.{Packet}
-use Rattle.om_packets.specs.declared.decoder.Place.TheVariants.{Outside}
+use Rattle.om_packets.specs.declared.decoder.DecoderState.TheVariants.{Outside}
 use Rattle.om_packets.specs.declared.decoder.TheConstants.{MAX_PACKET}
 use Rattle.om_packets.specs.Packets.{packet_text}
 use Rattle.om_packets.specs.Decoding.{Decoding, step, start}

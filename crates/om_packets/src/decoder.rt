@@ -22,7 +22,7 @@ pub enum Event {
 
 /// Tells where in a packet the next byte stands.
 #[derive(Clone, Copy, Debug, PartialEq, Eq)]
-pub enum Place {
+pub enum DecoderState {
     /// Between packets.
     Outside,
     /// Behind `$`.
@@ -38,7 +38,7 @@ pub enum Place {
 /// Reads packets from bytes, one byte at a time.
 #[derive(Drop)]
 pub struct Decoder {
-    place: Place,
+    place: DecoderState,
     body: Vec<u8>,
     total: u8,
 }
@@ -69,7 +69,7 @@ impl Decoder {
         ensures { result ≡ start }
     {
         Decoder {
-            place: Place::Outside,
+            place: DecoderState::Outside,
             body: Vec::new(alloc),
             total: 0,
         }
@@ -88,16 +88,16 @@ impl Decoder {
         ensures refused { OnErr result (self.new ≡ self.old) }
     {
         match self.place {
-            Place::Outside => Ok(self.take_outside(byte)),
-            Place::Body => self.take_body(byte),
-            Place::Escaped => {
+            DecoderState::Outside => Ok(self.take_outside(byte)),
+            DecoderState::Body => self.take_body(byte),
+            DecoderState::Escaped => {
                 self.keep(byte ^ 0x20)?;
                 self.total = self.total.wrapping_add(byte);
-                self.place = Place::Body;
+                self.place = DecoderState::Body;
                 Ok(None)
             }
-            Place::FirstDigit => Ok(self.take_first(byte)),
-            Place::SecondDigit(high) => Ok(self.take_second(high, byte)),
+            DecoderState::FirstDigit => Ok(self.take_first(byte)),
+            DecoderState::SecondDigit(high) => Ok(self.take_second(high, byte)),
         }
     }
 
@@ -122,14 +122,14 @@ impl Decoder {
             return Ok(None);
         }
         if byte == b'#' {
-            self.place = Place::FirstDigit;
+            self.place = DecoderState::FirstDigit;
             return Ok(None);
         }
         if byte == b'}' {
-            self.place = Place::Escaped;
+            self.place = DecoderState::Escaped;
         } else {
             self.keep(byte)?;
-            self.place = Place::Body;
+            self.place = DecoderState::Body;
         }
         self.total = self.total.wrapping_add(byte);
         Ok(None)
@@ -140,11 +140,11 @@ impl Decoder {
     {
         match value_of(byte) {
             Some(high) => {
-                self.place = Place::SecondDigit(high);
+                self.place = DecoderState::SecondDigit(high);
                 None
             }
             None => {
-                self.place = Place::Outside;
+                self.place = DecoderState::Outside;
                 Some(Event::Garbled)
             }
         }
@@ -153,7 +153,7 @@ impl Decoder {
     fn take_second(&mut self, high: u8, byte: u8) -> Option<Event>
         ensures { step_second high self.old byte ≡ (self.new, result) }
     {
-        self.place = Place::Outside;
+        self.place = DecoderState::Outside;
         match value_of(byte) {
             Some(low) if is_sum(high, low, self.total) && self.body.len() <= MAX_PACKET => {
                 Some(Event::Packet)
@@ -165,7 +165,7 @@ impl Decoder {
     fn begin(&mut self)
         ensures { self.new ≡ begin }
     {
-        self.place = Place::Body;
+        self.place = DecoderState::Body;
         self.body.clear();
         self.total = 0;
     }

@@ -8,5 +8,5 @@ mod decoder;
 pub mod laws;
 mod packet;
 
-pub use decoder::{Decoder, Event, MAX_PACKET, Place};
+pub use decoder::{Decoder, DecoderState, Event, MAX_PACKET};
 pub use packet::encode;

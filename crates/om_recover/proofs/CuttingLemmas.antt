@@ -14,7 +14,7 @@ use Rattle.om_recover.proofs.LawfulLemmas.{lawful_part}
 use Rattle.om_recover.proofs.ClimbLemmas.{at_most_or_more}
 use Rattle.om_recover.proofs.MemoryLemmas.{all_alike, none_remembered}
 use Rattle.om_recover.specs.steps.Memory.{AreRemembered}
-use Rattle.om_recover.specs.declared.search.memory.Memory.{Memory}
+use Rattle.om_recover.specs.declared.search.failed_climbs.FailedClimb.{FailedClimb}
 
 kept_one : (e c t : Bool) → (e ≡ true → t ≡ true) → (e || (c && t)) ≡ ((e || c) && t)
 kept_one true c t tested = sym (tested refl)
@@ -114,7 +114,7 @@ greatest_after_prune n rows state checkpoints lawful effective greatest = record
 }
 
 -- what is kept after a cut
-pub kept_after_cut : (rows new : Rows) (state : List ℕ) (old places : List (Option Memory)) → AreKept rows state old → new ≡ cut_to rows state
+pub kept_after_cut : (rows new : Rows) (state : List ℕ) (old places : List (Option FailedClimb)) → AreKept rows state old → new ≡ cut_to rows state
     → ((p : ℕ) → slice_index_or places p None ≡ None) → AreKept new state places
 kept_after_cut rows new state old places kept is none = subst (λ rows. AreKept rows state places) (sym is) (record {
   lawful = lawful_part (length state) _ _ (λ row there. (of_cut rows state row there).0) kept.lawful;
@@ -123,14 +123,14 @@ kept_after_cut rows new state old places kept is none = subst (λ rows. AreKept 
 })
 
 -- and after a prune
-pub kept_after_prune : (rows new : Rows) (state : List ℕ) (places : List (Option Memory)) → AreKept rows state places → IsPruned rows state new → AreKept new state places
+pub kept_after_prune : (rows new : Rows) (state : List ℕ) (places : List (Option FailedClimb)) → AreKept rows state places → IsPruned rows state new → AreKept new state places
 kept_after_prune rows new state places kept pruned = subst (λ rows. AreKept rows state places) (sym pruned.2) (record {
   lawful = lawful_part (length state) _ _ (λ row there. (of_pruned rows pruned.0 row there).0) kept.lawful;
   greatest = greatest_after_prune (length state) rows state pruned.0 kept.lawful pruned.1 kept.greatest;
   remembered = remembered_after_prune (length state) rows state pruned.0 places kept.lawful pruned.1 kept.greatest kept.remembered;
 })
   where
-    remembered_after_prune : (n : ℕ) (rows : Rows) (state checkpoints : List ℕ) (places : List (Option Memory)) → IsLawful n rows → AreEffective rows state checkpoints → IsGreatest n rows state
+    remembered_after_prune : (n : ℕ) (rows : Rows) (state checkpoints : List ℕ) (places : List (Option FailedClimb)) → IsLawful n rows → AreEffective rows state checkpoints → IsGreatest n rows state
         → AreRemembered n rows state places → AreRemembered n (pruned_to rows checkpoints) state places
     remembered_after_prune n rows state checkpoints places lawful effective greatest =
         all_alike n rows (pruned_to rows checkpoints) state places lawful greatest.recoverable (λ bound. record {

@@ -8,7 +8,7 @@ use Rattle.om_recover.specs.Rows.{Rows, HasRow, Has, IsLawful}
 use Rattle.om_recover.specs.declared.row.RowKind.{RowKind}
 use Rattle.om_recover.specs.declared.row.RowKind.TheVariants.{Checkpoint, Log}
 use Rattle.om_recover.specs.declared.row.Row.{Row}
-use Rattle.om_recover.specs.declared.search.memory.Memory.{Memory}
+use Rattle.om_recover.specs.declared.search.failed_climbs.FailedClimb.{FailedClimb}
 use Rattle.om_recover.specs.Recoverable.{IsStable, IsRecoverable, maximum_of}
 use Rattle.om_recover.specs.steps.Climbing.{IsNeededWithin, begins, leads, IsClimbing, IsPassing, IsOutOfReach}
 use Rattle.om_recover.specs.steps.Memory.{IsRemembered, IsTrueMemory, AreRemembered, HasPlace, IsKept, IsUpTo, IsWithout, part_of}
@@ -68,7 +68,7 @@ within_alike n rows others state bound p x q y lawful recoverable start alike (l
     }) low
 
 -- a memory stays where the state rises
-remembered_raised : (n : ℕ) (rows : Rows) (state higher : List ℕ) (p : ℕ) (memory : Memory) → IsLawful n rows → IsRecoverable n rows higher → IsBelow state higher → IsRemembered n rows state p memory → IsRemembered n rows higher p memory
+remembered_raised : (n : ℕ) (rows : Rows) (state higher : List ℕ) (p : ℕ) (memory : FailedClimb) → IsLawful n rows → IsRecoverable n rows higher → IsBelow state higher → IsRemembered n rows state p memory → IsRemembered n rows higher p memory
 remembered_raised n rows state higher p memory lawful recoverable above known =
     let low : (q : ℕ) → slice_index state q ≤ slice_index higher q = below_everywhere state higher above in
     record {
@@ -92,7 +92,7 @@ remembered_raised n rows state higher p memory lawful recoverable above known =
     }
 
 -- and in rows that are alike
-remembered_alike : (n : ℕ) (rows others : Rows) (state : List ℕ) (p : ℕ) (memory : Memory) → IsLawful n rows → IsRecoverable n rows state → AreAlike rows others state memory.reached → IsRemembered n rows state p memory → IsRemembered n others state p memory
+remembered_alike : (n : ℕ) (rows others : Rows) (state : List ℕ) (p : ℕ) (memory : FailedClimb) → IsLawful n rows → IsRecoverable n rows state → AreAlike rows others state memory.reached → IsRemembered n rows state p memory → IsRemembered n others state p memory
 remembered_alike n rows others state p memory lawful recoverable alike known = record {
   places = known.places;
   waits = known.waits;
@@ -111,7 +111,7 @@ remembered_alike n rows others state p memory lawful recoverable alike known = r
 }
 
 -- a climb from its start goes on from what is remembered
-pub climbing_resumed : (n : ℕ) (rows : Rows) (state : List ℕ) (p : ℕ) (memory : Memory) → IsLawful n rows → IsRecoverable n rows state → p < n → IsRemembered n rows state p memory → IsClimbing n rows state p memory.start (maximum_of memory.reached state) state
+pub climbing_resumed : (n : ℕ) (rows : Rows) (state : List ℕ) (p : ℕ) (memory : FailedClimb) → IsLawful n rows → IsRecoverable n rows state → p < n → IsRemembered n rows state p memory → IsClimbing n rows state p memory.start (maximum_of memory.reached state) state
 climbing_resumed n rows state p memory lawful recoverable process known =
     let same : length memory.reached ≡ length state = known.places ∙ sym recoverable.places in
     let rises : IsBelow memory.reached (maximum_of memory.reached state) = one_below memory.reached state same in
@@ -150,7 +150,7 @@ climbing_resumed n rows state p memory lawful recoverable process known =
     }
 
 -- while what is waited for is not there, no recoverable state has the process at the start or above
-pub waits_still : (n : ℕ) (rows : Rows) (state : List ℕ) (p x : ℕ) (memory : Memory) → IsLawful n rows → IsRecoverable n rows state → IsRemembered n rows state p memory → memory.start ≤ x
+pub waits_still : (n : ℕ) (rows : Rows) (state : List ℕ) (p x : ℕ) (memory : FailedClimb) → IsLawful n rows → IsRecoverable n rows state → IsRemembered n rows state p memory → memory.start ≤ x
     → ((z : ℕ) → IsStable rows memory.waits z → memory.from ≤ z → ⊥) → IsOutOfReach n rows p x
 waits_still n rows state p x memory lawful recoverable known at_start none other of_other = elim (at_most_or_more x (slice_index other p)) [
   | inr below ↦ below
@@ -167,7 +167,7 @@ waits_still n rows state p x memory lawful recoverable known at_start none other
 ]
 
 -- of a climb that failed
-pub remembered_failed : (n : ℕ) (rows : Rows) (state : List ℕ) (p x q y : ℕ) (reached looked vec : List ℕ) (memory : Memory) → IsClimbing n rows state p x reached looked
+pub remembered_failed : (n : ℕ) (rows : Rows) (state : List ℕ) (p x q y : ℕ) (reached looked vec : List ℕ) (memory : FailedClimb) → IsClimbing n rows state p x reached looked
     → q < n → y ≡ slice_index reached q → slice_index looked q < y → IsVecAt rows q y vec → memory.start ≡ x → memory.reached ≡ reached → memory.waits < n → memory.from ≡ slice_index vec memory.waits → IsRemembered n rows state p memory
 remembered_failed n rows state p x q y reached looked vec memory climbing in_cluster at behind is start_is reached_is waits from_is =
     let has = (row_of n rows state p x q reached looked climbing in_cluster).1 in
@@ -192,7 +192,7 @@ remembered_failed n rows state p x q y reached looked vec memory climbing in_clu
     }
 
 -- and what is left of it
-pub part_remembered : (n : ℕ) (rows : Rows) (state : List ℕ) (p : ℕ) (reached : List ℕ) (memory : Memory) → IsPassing n rows state p memory.start reached memory.passed → memory.waits < n
+pub part_remembered : (n : ℕ) (rows : Rows) (state : List ℕ) (p : ℕ) (reached : List ℕ) (memory : FailedClimb) → IsPassing n rows state p memory.start reached memory.passed → memory.waits < n
     → IsRemembered n rows state p (part_of memory)
 part_remembered n rows state p reached memory passing waits = record {
   places = passing.places;
@@ -204,14 +204,14 @@ part_remembered n rows state p reached memory passing waits = record {
 }
 
 -- each of both stays where the state rises
-known_raised : (n : ℕ) (rows : Rows) (state higher : List ℕ) (p : ℕ) (memory : Memory) → IsLawful n rows → IsRecoverable n rows higher → IsBelow state higher → IsTrueMemory n rows state p memory → IsTrueMemory n rows higher p memory
+known_raised : (n : ℕ) (rows : Rows) (state higher : List ℕ) (p : ℕ) (memory : FailedClimb) → IsLawful n rows → IsRecoverable n rows higher → IsBelow state higher → IsTrueMemory n rows state p memory → IsTrueMemory n rows higher p memory
 known_raised n rows state higher p memory lawful recoverable above known = record {
   whole = remembered_raised n rows state higher p memory lawful recoverable above known.whole;
   part = remembered_raised n rows state higher p (part_of memory) lawful recoverable above known.part;
 }
 
 -- and in rows that are alike
-known_alike : (n : ℕ) (rows others : Rows) (state : List ℕ) (p : ℕ) (memory : Memory) → IsLawful n rows → IsRecoverable n rows state → AreAlike rows others state memory.reached → AreAlike rows others state memory.passed
+known_alike : (n : ℕ) (rows others : Rows) (state : List ℕ) (p : ℕ) (memory : FailedClimb) → IsLawful n rows → IsRecoverable n rows state → AreAlike rows others state memory.reached → AreAlike rows others state memory.passed
     → IsTrueMemory n rows state p memory → IsTrueMemory n others state p memory
 known_alike n rows others state p memory lawful recoverable alike alike_passed known = record {
   whole = remembered_alike n rows others state p memory lawful recoverable alike known.whole;
@@ -227,40 +227,40 @@ match_both P R Q None f known more = known
 match_both P R Q (Some a) f known more = f a known more
 
 -- all memories, where the state rises
-pub all_raised : (n : ℕ) (rows : Rows) (state higher : List ℕ) (places : List (Option Memory)) → IsLawful n rows → IsRecoverable n rows higher → IsBelow state higher → AreRemembered n rows state places → AreRemembered n rows higher places
+pub all_raised : (n : ℕ) (rows : Rows) (state higher : List ℕ) (places : List (Option FailedClimb)) → IsLawful n rows → IsRecoverable n rows higher → IsBelow state higher → AreRemembered n rows state places → AreRemembered n rows higher places
 all_raised n rows state higher places lawful recoverable above known p in_cluster =
     match_map (IsTrueMemory n rows state p) (IsTrueMemory n rows higher p) (slice_index_or places p None) (λ memory. known_raised n rows state higher p memory lawful recoverable above) (known p in_cluster)
 
 -- where one is kept
 -- what is remembered of a process
-pub remembered_of : (n : ℕ) (rows : Rows) (state : List ℕ) (places : List (Option Memory)) (p : ℕ) (memory : Memory) → AreRemembered n rows state places → p < n
+pub remembered_of : (n : ℕ) (rows : Rows) (state : List ℕ) (places : List (Option FailedClimb)) (p : ℕ) (memory : FailedClimb) → AreRemembered n rows state places → p < n
     → slice_index_or places p None ≡ Some memory → IsRemembered n rows state p memory
-remembered_of n rows state places p memory known within is = (subst (λ (o : Option Memory). MatchOption o ⊤ (IsTrueMemory n rows state p)) is (known p within)).whole
+remembered_of n rows state places p memory known within is = (subst (λ (o : Option FailedClimb). MatchOption o ⊤ (IsTrueMemory n rows state p)) is (known p within)).whole
 
-pub all_with : (n : ℕ) (rows : Rows) (state : List ℕ) (old new : List (Option Memory)) (p : ℕ) (memory : Memory) → AreRemembered n rows state old → IsTrueMemory n rows state p memory → IsKept old new p memory → AreRemembered n rows state new
+pub all_with : (n : ℕ) (rows : Rows) (state : List ℕ) (old new : List (Option FailedClimb)) (p : ℕ) (memory : FailedClimb) → AreRemembered n rows state old → IsTrueMemory n rows state p memory → IsKept old new p memory → AreRemembered n rows state new
 all_with n rows state old new p memory known one is q in_cluster = elim (is q) [
-  | inl same ↦ subst (λ (o : Option Memory). MatchOption o ⊤ (IsTrueMemory n rows state q)) (sym same) (known q in_cluster)
-  | inr here ↦ subst (λ (o : Option Memory). MatchOption o ⊤ (IsTrueMemory n rows state q)) (sym here.1) (subst (λ r. IsTrueMemory n rows state r memory) (sym here.0) one)
+  | inl same ↦ subst (λ (o : Option FailedClimb). MatchOption o ⊤ (IsTrueMemory n rows state q)) (sym same) (known q in_cluster)
+  | inr here ↦ subst (λ (o : Option FailedClimb). MatchOption o ⊤ (IsTrueMemory n rows state q)) (sym here.1) (subst (λ r. IsTrueMemory n rows state r memory) (sym here.0) one)
 ]
 
 -- in rows that are alike
-pub all_alike : (n : ℕ) (rows others : Rows) (state : List ℕ) (places : List (Option Memory)) → IsLawful n rows → IsRecoverable n rows state → ((bound : List ℕ) → AreAlike rows others state bound) → AreRemembered n rows state places → AreRemembered n others state places
+pub all_alike : (n : ℕ) (rows others : Rows) (state : List ℕ) (places : List (Option FailedClimb)) → IsLawful n rows → IsRecoverable n rows state → ((bound : List ℕ) → AreAlike rows others state bound) → AreRemembered n rows state places → AreRemembered n others state places
 all_alike n rows others state places lawful recoverable alike known p in_cluster =
     match_map (IsTrueMemory n rows state p) (IsTrueMemory n others state p) (slice_index_or places p None) (λ memory. known_alike n rows others state p memory lawful recoverable (alike memory.reached) (alike memory.passed)) (known p in_cluster)
 
 -- and in rows that are alike up to an interval of a process, where those that came further are dropped
-pub all_alike_within : (n : ℕ) (rows others : Rows) (state : List ℕ) (old new : List (Option Memory)) (q x : ℕ) → IsLawful n rows → IsRecoverable n rows state → ((bound : List ℕ) → slice_index bound q ≤ x → AreAlike rows others state bound)
+pub all_alike_within : (n : ℕ) (rows others : Rows) (state : List ℕ) (old new : List (Option FailedClimb)) (q x : ℕ) → IsLawful n rows → IsRecoverable n rows state → ((bound : List ℕ) → slice_index bound q ≤ x → AreAlike rows others state bound)
     → IsWithout n old new q x → AreRemembered n rows state old → AreRemembered n others state new
 all_alike_within n rows others state old new q x lawful recoverable alike is known p in_cluster = elim (is p in_cluster) [
   | inl less ↦ elim less [
-    | inl none ↦ subst (λ (o : Option Memory). MatchOption o ⊤ (IsTrueMemory n others state p)) (sym none) tt
+    | inl none ↦ subst (λ (o : Option FailedClimb). MatchOption o ⊤ (IsTrueMemory n others state p)) (sym none) tt
     | inr left ↦
-        let before : IsTrueMemory n rows state p left.0 = subst (λ (o : Option Memory). MatchOption o ⊤ (IsTrueMemory n rows state p)) left.1 (known p in_cluster) in
+        let before : IsTrueMemory n rows state p left.0 = subst (λ (o : Option FailedClimb). MatchOption o ⊤ (IsTrueMemory n rows state p)) left.1 (known p in_cluster) in
         let part : IsRemembered n others state p (part_of left.0) = remembered_alike n rows others state p (part_of left.0) lawful recoverable (alike left.0.passed left.3) before.part in
-        subst (λ (o : Option Memory). MatchOption o ⊤ (IsTrueMemory n others state p)) (sym left.2) (record { whole = part; part = part })
+        subst (λ (o : Option FailedClimb). MatchOption o ⊤ (IsTrueMemory n others state p)) (sym left.2) (record { whole = part; part = part })
   ]
   | inr left ↦
-      subst (λ (o : Option Memory). MatchOption o ⊤ (IsTrueMemory n others state p)) (sym left.0)
+      subst (λ (o : Option FailedClimb). MatchOption o ⊤ (IsTrueMemory n others state p)) (sym left.0)
       (match_both (IsTrueMemory n rows state p) (IsUpTo q x) (IsTrueMemory n others state p) (slice_index_or old p None)
       (λ memory remembered low. known_alike n rows others state p memory lawful recoverable (alike memory.reached low.reached) (alike memory.passed low.passed) remembered) (known p in_cluster) left.1)
 ]
@@ -276,7 +276,7 @@ lawful_before n before row lawful = record {
 }
 
 -- with a row that makes nothing stable above the state
-pub all_kept : (n : ℕ) (before after : Rows) (row : Row) (state : List ℕ) (places : List (Option Memory)) → after ≡ set.insert before row → IsLawful n after → IsRecoverable n before state
+pub all_kept : (n : ℕ) (before after : Rows) (row : Row) (state : List ℕ) (places : List (Option FailedClimb)) → after ≡ set.insert before row → IsLawful n after → IsRecoverable n before state
     → ((y : ℕ) → IsStable after row.pid y → slice_index state row.pid < y → IsStable before row.pid y) → AreRemembered n before state places → AreRemembered n after state places
 all_kept n before after row state places added lawful recoverable nothing known =
     subst (λ (rows : Rows). AreRemembered n rows state places) (sym added)
@@ -290,7 +290,7 @@ all_kept n before after row state places added lawful recoverable nothing known 
     }) known)
 
 -- with any row, where those that came further than its interval are dropped
-pub all_without : (n : ℕ) (before after : Rows) (row : Row) (state : List ℕ) (old new : List (Option Memory)) → after ≡ set.insert before row → IsLawful n after → IsRecoverable n before state → IsWithout n old new row.pid row.interval
+pub all_without : (n : ℕ) (before after : Rows) (row : Row) (state : List ℕ) (old new : List (Option FailedClimb)) → after ≡ set.insert before row → IsLawful n after → IsRecoverable n before state → IsWithout n old new row.pid row.interval
     → AreRemembered n before state old → AreRemembered n after state new
 all_without n before after row state old new added lawful recoverable is known =
     subst (λ (rows : Rows). AreRemembered n rows state new) (sym added)
@@ -307,7 +307,7 @@ all_without n before after row state old new added lawful recoverable is known =
     }) is known)
 
 -- where the rows of a process above an interval are gone, and those that came further are dropped
-pub all_cut : (n : ℕ) (rows left : Rows) (state : List ℕ) (old new : List (Option Memory)) (q r : ℕ) → IsLawful n rows → IsRecoverable n rows state
+pub all_cut : (n : ℕ) (rows left : Rows) (state : List ℕ) (old new : List (Option FailedClimb)) (q r : ℕ) → IsLawful n rows → IsRecoverable n rows state
     → ((row : Row) → HasRow left row → HasRow rows row) → ((row : Row) → HasRow rows row → (row.pid ≡ q → row.interval ≤ r) → HasRow left row)
     → IsWithout n old new q r → AreRemembered n rows state old → AreRemembered n left state new
 all_cut n rows left state old new q r lawful recoverable fewer there_still =
@@ -324,7 +324,7 @@ all_cut n rows left state old new q r lawful recoverable fewer there_still =
     })
 
 -- where the rows of a process below a checkpoint at or below the state are gone
-pub all_pruned : (n : ℕ) (rows left : Rows) (state : List ℕ) (places : List (Option Memory)) (q c : ℕ) → IsLawful n rows → IsRecoverable n rows state
+pub all_pruned : (n : ℕ) (rows left : Rows) (state : List ℕ) (places : List (Option FailedClimb)) (q c : ℕ) → IsLawful n rows → IsRecoverable n rows state
     → ((row : Row) → HasRow left row → HasRow rows row) → ((row : Row) → HasRow rows row → (row.pid ≡ q → c ≤ row.interval) → HasRow left row)
     → c ≤ slice_index state q → Has left Checkpoint q c → AreRemembered n rows state places → AreRemembered n left state places
 all_pruned n rows left state places q c lawful recoverable fewer there_still low checkpoint =
@@ -368,11 +368,11 @@ all_pruned n rows left state places q c lawful recoverable fewer there_still low
     }
 
 -- where there are none
-pub none_remembered : (n : ℕ) (rows : Rows) (state : List ℕ) (places : List (Option Memory)) → ((p : ℕ) → slice_index_or places p None ≡ None) → AreRemembered n rows state places
-none_remembered n rows state places none p in_cluster = subst (λ (o : Option Memory). MatchOption o ⊤ (IsTrueMemory n rows state p)) (sym (none p)) tt
+pub none_remembered : (n : ℕ) (rows : Rows) (state : List ℕ) (places : List (Option FailedClimb)) → ((p : ℕ) → slice_index_or places p None ≡ None) → AreRemembered n rows state places
+none_remembered n rows state places none p in_cluster = subst (λ (o : Option FailedClimb). MatchOption o ⊤ (IsTrueMemory n rows state p)) (sym (none p)) tt
 
 -- each has a place for each process
-pub all_places : (n : ℕ) (rows : Rows) (state : List ℕ) (places : List (Option Memory)) (p : ℕ) → p < n → AreRemembered n rows state places → (q : ℕ) → q < n → MatchOption (slice_index_or places q None) ⊤ (HasPlace p)
+pub all_places : (n : ℕ) (rows : Rows) (state : List ℕ) (places : List (Option FailedClimb)) (p : ℕ) → p < n → AreRemembered n rows state places → (q : ℕ) → q < n → MatchOption (slice_index_or places q None) ⊤ (HasPlace p)
 all_places n rows state places p process known q in_cluster =
     match_map (IsTrueMemory n rows state q) (HasPlace p) (slice_index_or places q None) (λ memory known. record { reached = omega (arith, process, known.whole.places); passed = omega (arith, process, known.part.places) }) (known q in_cluster)
 
@@ -406,5 +406,5 @@ maximum_whole one other greater p same past so_far =
     so_far.before k (omega (arith, within, so_far.places, past)) ∙ sym (place-maximum_of one other k same (omega (arith, within, so_far.places))))
 
 -- where nothing is remembered, there is nothing to forget
-pub without_any : (n : ℕ) (places : List (Option Memory)) (p x : ℕ) → ((q : ℕ) → slice_index_or places q None ≡ None) → IsWithout n places places p x
-without_any n places p x none q _ = inr (refl, subst (λ (o : Option Memory). MatchOption o ⊤ (IsUpTo p x)) (sym (none q)) tt)
+pub without_any : (n : ℕ) (places : List (Option FailedClimb)) (p x : ℕ) → ((q : ℕ) → slice_index_or places q None ≡ None) → IsWithout n places places p x
+without_any n places p x none q _ = inr (refl, subst (λ (o : Option FailedClimb). MatchOption o ⊤ (IsUpTo p x)) (sym (none q)) tt)

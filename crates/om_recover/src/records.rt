@@ -10,7 +10,7 @@ ghost use Rattle.om_recover.specs.Records.{first_row, log_of, checkpoint_of, IsS
 use crate::note::{Note, NoteError};
 use crate::row::{Row, RowKind};
 use crate::rows::index::Index;
-use crate::search::memory::Memories;
+use crate::search::failed_climbs::FailedClimbs;
 use crate::search::raise::raised_by;
 use crate::work::Work;
 use om_interval::{DepVec, Pid};
@@ -22,7 +22,7 @@ use std::marker::Model;
 pub struct Records {
     index: Index,
     state: DepVec,
-    memories: Memories,
+    memories: FailedClimbs,
 }
 
 impl Model for Records {
@@ -52,7 +52,7 @@ impl Records {
         Ok(Records {
             index,
             state,
-            memories: Memories::new(),
+            memories: FailedClimbs::new(),
         })
     }
 
@@ -192,7 +192,7 @@ impl Records {
         ensures sound { IsSound self.new }
     {
         self.index.cut(&self.state);
-        self.memories = Memories::new();
+        self.memories = FailedClimbs::new();
     }
 
     /// Drops the rows below the checkpoints that are used for the recovery state, which stays.

@@ -4,7 +4,7 @@ ghost use Rattle.std.specs.Coded.{coded_list};
 ghost use Rattle.om_recover.specs.Attempts.{Attempt};
 ghost use Rattle.om_recover.specs.steps.Trail.{coded_attempt, after_step, with_look};
 
-use crate::step::Step;
+use crate::step::SearchStep;
 use om_interval::{DepVec, Pid};
 use std::marker::Model;
 
@@ -32,7 +32,7 @@ impl Work {
     {
         *self = Work::after(
             self,
-            &Step::Attempt {
+            &SearchStep::Attempt {
                 pid,
                 interval: x,
                 state: *state,
@@ -45,10 +45,10 @@ impl Work {
         requires { 0 < length self.old.attempts }
         ensures { self.new.attempts ≡ with_look self.old.attempts pid x }
     {
-        *self = Work::after(self, &Step::Look { pid, interval: x });
+        *self = Work::after(self, &SearchStep::Look { pid, interval: x });
     }
 
-    fn after(_before: &Work, _step: &Step) -> Work
+    fn after(_before: &Work, _step: &SearchStep) -> Work
         ensures { result.attempts ≡ after_step _before.now.attempts _step.now }
     {
         Work {}

@@ -16,7 +16,7 @@ use om_run_commands::{
 };
 use om_runner::Watch;
 use om_store_files::{
-    Clash, Notes, PlaceError, Places, Standing, clash_with_databases, clash_with_streams,
+    Clash, FilesBefore, Notes, PlaceError, Places, clash_with_databases, clash_with_streams,
     clashes_with_stores, store_of,
 };
 use std::alloc::AllocError;
@@ -53,7 +53,7 @@ pub(crate) struct Surroundings<'a, 'w, R> {
     // The files of the stores, where the run makes them.
     places: Option<Places>,
     // What stood at the names of the stores, where the run takes them up.
-    standing: Option<Standing>,
+    standing: Option<FilesBefore>,
     // The file of a witness or a record.
     file: Option<File>,
 }
@@ -177,7 +177,7 @@ impl<'a, 'w, R: Wait> Surroundings<'a, 'w, R> {
     fn look(&mut self, prefix: &str, n: usize) -> Result<(), CommandError>
         ensures { IfErr result IsErrorOfContext }
     {
-        match Standing::of(self.rt, prefix, n) {
+        match FilesBefore::of(self.rt, prefix, n) {
             Ok(standing) => {
                 self.standing = Some(standing);
                 Ok(())

@@ -23,7 +23,7 @@ use Rattle.om_runner.proofs.HarvestLemmas.{within_above}
 use Rattle.om_runner.proofs.WireLemmas.{set_apart, set_here}
 use Rattle.om_runner.specs.Released.{AreAllMade, AreAllReleased, AreMade, AreReleased}
 use Rattle.om_runner.specs.Telling.{AreInOrder, AreToldMade, Told, TellsAll, of_process, outputs_in, told_of}
-use Rattle.om_runner.specs.declared.lane.Lane.{Lane}
+use Rattle.om_runner.specs.declared.followed_outputs.FollowedOutputs.{FollowedOutputs}
 use Rattle.om_runner.specs.steps.Harvests.{AreNoFewer}
 use Rattle.om_runner.specs.steps.Following.{AreEmpty, AreKept, AreLanesMade, AreTold, HasTold, IsTold, StayKept, told_in}
 
@@ -84,7 +84,7 @@ made_next programs n p outputs o are one i x at = elim (more_had outputs i o x a
 ]
 
 -- nothing was told yet
-pub told_none : {F : Type 0} (Tells : F → F → List Told → Type 0) (p : ℕ) (lane new : Lane) (now : F) → new ≡ lane → HasTold Tells p lane now new now
+pub told_none : {F : Type 0} (Tells : F → F → List Told → Type 0) (p : ℕ) (lane new : FollowedOutputs) (now : F) → new ≡ lane → HasTold Tells p lane now new now
 told_none Tells p lane new now same start told tells own = record {
   told = told;
   tells = tells;
@@ -93,7 +93,7 @@ told_none Tells p lane new now same start told tells own = record {
 }
 
 -- one output more was told
-pub told_next : {F : Type 0} (Tells : F → F → List Told → Type 0) (p : ℕ) (lane : Lane) (first : F) (was : Lane) (before : F) (new : Lane) (after : F) (o : Output)
+pub told_next : {F : Type 0} (Tells : F → F → List Told → Type 0) (p : ℕ) (lane : FollowedOutputs) (first : F) (was : FollowedOutputs) (before : F) (new : FollowedOutputs) (after : F) (o : Output)
     → HasTold Tells p lane first was before → slice_get was.outputs.items was.told ≡ Some o → new.outputs ≡ was.outputs → new.told ≡ was.told + 1
     → ((start : F) (told : List Told) → Tells start before told → Tells start after (told ++ told_of p o ∷ []))
     → HasTold Tells p lane first new after
@@ -110,7 +110,7 @@ told_next Tells p lane first was before new after o has at same next step start 
     }
 
 -- ---- all lanes
-pub told_where : {F : Type 0} (Tells : F → F → List Told → Type 0) (lanes : List Lane) (p : ℕ) (old new : Lane) (start before after : F)
+pub told_where : {F : Type 0} (Tells : F → F → List Told → Type 0) (lanes : List FollowedOutputs) (p : ℕ) (old new : FollowedOutputs) (start before after : F)
     → slice_get lanes p ≡ Some old → HasTold Tells p old before new after → IsTold Tells start lanes before → IsTold Tells start (set lanes p new) after
 told_where Tells lanes p old new start before after at has was =
     let of = has start was.told was.tells (was.each p ∙ ap (told_in p) at) in record {
@@ -124,45 +124,45 @@ told_where Tells lanes p old new start before after at has was =
       ];
     }
 
-pub kept_where : (vec : List ℕ) (lanes : List Lane) (p : ℕ) (old new : Lane) → slice_get lanes p ≡ Some old
+pub kept_where : (vec : List ℕ) (lanes : List FollowedOutputs) (p : ℕ) (old new : FollowedOutputs) → slice_get lanes p ≡ Some old
     → (AreReleased (slice_index vec p) old.outputs.items → AreReleased (slice_index vec p) new.outputs.items)
     → AreKept vec lanes → AreKept vec (set lanes p new)
 kept_where vec lanes p old new at keeps are q lane there = elim (set_had lanes p new q lane (slice_get_within lanes p old at) there) [
   | inl here ↦
       subst (λ k. AreReleased (slice_index vec k) lane.outputs.items) (sym here.0)
-      (subst (λ (l : Lane). AreReleased (slice_index vec p) l.outputs.items) (sym here.1) (keeps (are p old at)))
+      (subst (λ (l : FollowedOutputs). AreReleased (slice_index vec p) l.outputs.items) (sym here.1) (keeps (are p old at)))
   | inr other ↦ are q lane other.1
 ]
 
-pub kept_same : (vec : List ℕ) (lanes : List Lane) (p : ℕ) (old new : Lane) → slice_get lanes p ≡ Some old → new.outputs ≡ old.outputs → AreKept vec lanes → AreKept vec (set lanes p new)
+pub kept_same : (vec : List ℕ) (lanes : List FollowedOutputs) (p : ℕ) (old new : FollowedOutputs) → slice_get lanes p ≡ Some old → new.outputs ≡ old.outputs → AreKept vec lanes → AreKept vec (set lanes p new)
 kept_same vec lanes p old new at same are =
     kept_where vec lanes p old new at (λ was. subst (λ (v : Vec Output Global). AreReleased (slice_index vec p) v.items) (sym same) was) are
 
-pub made_where : (programs : List Program) (n : ℕ) (lanes : List Lane) (p : ℕ) (old new : Lane) → slice_get lanes p ≡ Some old
+pub made_where : (programs : List Program) (n : ℕ) (lanes : List FollowedOutputs) (p : ℕ) (old new : FollowedOutputs) → slice_get lanes p ≡ Some old
     → (AreMade programs n p old.outputs.items → AreMade programs n p new.outputs.items)
     → AreLanesMade programs n lanes → AreLanesMade programs n (set lanes p new)
 made_where programs n lanes p old new at makes are q lane there = elim (set_had lanes p new q lane (slice_get_within lanes p old at) there) [
   | inl here ↦
       subst (λ k. AreMade programs n k lane.outputs.items) (sym here.0)
-      (subst (λ (l : Lane). AreMade programs n p l.outputs.items) (sym here.1) (makes (are p old at)))
+      (subst (λ (l : FollowedOutputs). AreMade programs n p l.outputs.items) (sym here.1) (makes (are p old at)))
   | inr other ↦ are q lane other.1
 ]
 
 -- where a lane is told of, the outputs of all are the same
-pub outputs_same : (lanes : List Lane) (p : ℕ) (old new : Lane) → slice_get lanes p ≡ Some old → new.outputs ≡ old.outputs
-    → map (λ (l : Lane). l.outputs) (set lanes p new) ≡ map (λ (l : Lane). l.outputs) lanes
+pub outputs_same : (lanes : List FollowedOutputs) (p : ℕ) (old new : FollowedOutputs) → slice_get lanes p ≡ Some old → new.outputs ≡ old.outputs
+    → map (λ (l : FollowedOutputs). l.outputs) (set lanes p new) ≡ map (λ (l : FollowedOutputs). l.outputs) lanes
 outputs_same lanes p old new at same =
-    map-set_same (λ (l : Lane). l.outputs) lanes p new old (same ∙ ap (λ (l : Lane). l.outputs) (sym (get_or_from_slice_get lanes p old old at)))
+    map-set_same (λ (l : FollowedOutputs). l.outputs) lanes p new old (same ∙ ap (λ (l : FollowedOutputs). l.outputs) (sym (get_or_from_slice_get lanes p old old at)))
 
-pub made_same : (programs : List Program) (n : ℕ) (old new : List Lane) → map (λ (l : Lane). l.outputs) new ≡ map (λ (l : Lane). l.outputs) old
+pub made_same : (programs : List Program) (n : ℕ) (old new : List FollowedOutputs) → map (λ (l : FollowedOutputs). l.outputs) new ≡ map (λ (l : FollowedOutputs). l.outputs) old
     → AreLanesMade programs n old → AreLanesMade programs n new
 made_same programs n old new same are p lane at =
-    let there = subst (λ os. slice_get os p ≡ Some lane.outputs) same (map_get (λ (l : Lane). l.outputs) new p lane at) in
-    let had = map_had (λ (l : Lane). l.outputs) old p lane.outputs there in
+    let there = subst (λ os. slice_get os p ≡ Some lane.outputs) same (map_get (λ (l : FollowedOutputs). l.outputs) new p lane at) in
+    let had = map_had (λ (l : FollowedOutputs). l.outputs) old p lane.outputs there in
     subst (λ (v : Vec Output Global). AreMade programs n p v.items) had.2 (are p had.0 had.1)
 
 -- of this lane as much was told as before
-pub same_where : (lanes : List Lane) (p : ℕ) (old new : Lane) → slice_get lanes p ≡ Some old → ((q : ℕ) → told_in q (Some new) ≡ told_in q (Some old))
+pub same_where : (lanes : List FollowedOutputs) (p : ℕ) (old new : FollowedOutputs) → slice_get lanes p ≡ Some old → ((q : ℕ) → told_in q (Some new) ≡ told_in q (Some old))
     → (q : ℕ) → told_in q (slice_get (set lanes p new) q) ≡ told_in q (slice_get lanes q)
 same_where lanes p old new at same q = elim (cases_eq q p) [
   | inl here ↦
@@ -172,118 +172,118 @@ same_where lanes p old new at same q = elim (cases_eq q p) [
 ]
 
 -- the first lanes were told of to their ends, and one more
-pub ends_next : (lanes : List Lane) (p : ℕ) (old new : Lane) → slice_get lanes p ≡ Some old
-    → ((q : ℕ) (lane : Lane) → q < p → slice_get lanes q ≡ Some lane → lane.told ≡ vec_len lane.outputs) → new.told ≡ vec_len new.outputs
-    → (q : ℕ) (lane : Lane) → q < p + 1 → slice_get (set lanes p new) q ≡ Some lane → lane.told ≡ vec_len lane.outputs
+pub ends_next : (lanes : List FollowedOutputs) (p : ℕ) (old new : FollowedOutputs) → slice_get lanes p ≡ Some old
+    → ((q : ℕ) (lane : FollowedOutputs) → q < p → slice_get lanes q ≡ Some lane → lane.told ≡ vec_len lane.outputs) → new.told ≡ vec_len new.outputs
+    → (q : ℕ) (lane : FollowedOutputs) → q < p + 1 → slice_get (set lanes p new) q ≡ Some lane → lane.told ≡ vec_len lane.outputs
 ends_next lanes p old new at are ends q lane below there = elim (set_had lanes p new q lane (slice_get_within lanes p old at) there) [
-  | inl here ↦ subst (λ (l : Lane). l.told ≡ vec_len l.outputs) (sym here.1) ends
+  | inl here ↦ subst (λ (l : FollowedOutputs). l.told ≡ vec_len l.outputs) (sym here.1) ends
   | inr other ↦ are q lane (let ne = other.0 in omega arith) other.1
 ]
 
 -- the first lanes have as many outputs as were brought back or more, and so has one more
-pub fewer_next : (brought : List (Vec Output Global)) (lanes : List Lane) (p : ℕ) (outputs : Vec Output Global) (old new : Lane)
+pub fewer_next : (brought : List (Vec Output Global)) (lanes : List FollowedOutputs) (p : ℕ) (outputs : Vec Output Global) (old new : FollowedOutputs)
     → slice_get brought p ≡ Some outputs → slice_get lanes p ≡ Some old → length outputs.items ≤ length new.outputs.items
-    → ((q : ℕ) (low : Vec Output Global) (lane : Lane) → q < p → slice_get brought q ≡ Some low → slice_get lanes q ≡ Some lane
+    → ((q : ℕ) (low : Vec Output Global) (lane : FollowedOutputs) → q < p → slice_get brought q ≡ Some low → slice_get lanes q ≡ Some lane
     → length low.items ≤ length lane.outputs.items)
-    → (q : ℕ) (low : Vec Output Global) (lane : Lane) → q < p + 1 → slice_get brought q ≡ Some low → slice_get (set lanes p new) q ≡ Some lane
+    → (q : ℕ) (low : Vec Output Global) (lane : FollowedOutputs) → q < p + 1 → slice_get brought q ≡ Some low → slice_get (set lanes p new) q ≡ Some lane
     → length low.items ≤ length lane.outputs.items
 fewer_next brought lanes p outputs old new at_brought at more are q low lane below here there =
     elim (set_had lanes p new q lane (slice_get_within lanes p old at) there) [
       | inl own ↦
           let same : outputs ≡ low = same_Some outputs low (sym at_brought ∙ ap (slice_get brought) (sym own.0) ∙ here) in
           subst (λ (v : Vec Output Global). length v.items ≤ length lane.outputs.items) same
-          (subst (λ (l : Lane). length outputs.items ≤ length l.outputs.items) (sym own.1) more)
+          (subst (λ (l : FollowedOutputs). length outputs.items ≤ length l.outputs.items) (sym own.1) more)
       | inr other ↦ are q low lane (let ne = other.0 in omega arith) here other.1
     ]
 
-pub fewer_all : (brought : List (Vec Output Global)) (lanes : List Lane)
-    → ((q : ℕ) (low : Vec Output Global) (lane : Lane) → q < length brought → slice_get brought q ≡ Some low → slice_get lanes q ≡ Some lane
+pub fewer_all : (brought : List (Vec Output Global)) (lanes : List FollowedOutputs)
+    → ((q : ℕ) (low : Vec Output Global) (lane : FollowedOutputs) → q < length brought → slice_get brought q ≡ Some low → slice_get lanes q ≡ Some lane
     → length low.items ≤ length lane.outputs.items)
-    → AreNoFewer brought (map (λ (l : Lane). l.outputs) lanes)
+    → AreNoFewer brought (map (λ (l : FollowedOutputs). l.outputs) lanes)
 fewer_all brought lanes are p low high at there =
-    let had = map_had (λ (l : Lane). l.outputs) lanes p high there in
+    let had = map_had (λ (l : FollowedOutputs). l.outputs) lanes p high there in
     subst (λ (v : Vec Output Global). length low.items ≤ length v.items) had.2
     (are p low had.0 (slice_get_within brought p low at) at had.1)
 
 -- what is within lower places is within higher ones
-pub kept_above : (low high : List ℕ) (lanes : List Lane) → IsBelow low high → AreKept low lanes → AreKept high lanes
+pub kept_above : (low high : List ℕ) (lanes : List FollowedOutputs) → IsBelow low high → AreKept low lanes → AreKept high lanes
 kept_above low high lanes below are p lane at i o there =
     let was = are p lane at i o there in
     (was.0, within_above low high p o.interval below was.1)
 
 -- what is within the last front that was seen is within each that comes after
-pub stay_kept : (seen : List Front) (last : Front) (lanes : List Lane) → EndsWith seen last → AreKept last.vec lanes → StayKept seen lanes
+pub stay_kept : (seen : List Front) (last : Front) (lanes : List FollowedOutputs) → EndsWith seen last → AreKept last.vec lanes → StayKept seen lanes
 stay_kept seen last lanes ends kept posted later begins rises at_end =
     kept_above last.vec later.vec lanes (ends_rise seen posted last later ends begins at_end rises).vec kept
 
 -- what a board has released was added
-pub kept_met : (n : ℕ) (board : BoardState) (seen : List Front) (front : Front) (lanes new : List Lane) → StayKept seen lanes → IsPrefix seen board.posted → IsBoard n board
+pub kept_met : (n : ℕ) (board : BoardState) (seen : List Front) (front : Front) (lanes new : List FollowedOutputs) → StayKept seen lanes → IsPrefix seen board.posted → IsBoard n board
     → front ≡ front_of board.manager → (AreKept board.manager.recovery lanes → AreKept board.manager.recovery new)
     → AreKept front.vec new × StayKept board.posted new
 kept_met n board seen front lanes new stay begins is same adds =
     let kept : AreKept board.manager.recovery new = adds (stay board.posted (front_of board.manager) begins is.posted is.last) in
     (subst (λ (f : Front). AreKept f.vec new) (sym same) kept, stay_kept board.posted (front_of board.manager) new is.last kept)
 
-pub empty_next : (lanes : List Lane) (lane : Lane) → AreEmpty lanes → lane.outputs.items ≡ [] → AreEmpty (lanes ++ lane ∷ [])
+pub empty_next : (lanes : List FollowedOutputs) (lane : FollowedOutputs) → AreEmpty lanes → lane.outputs.items ≡ [] → AreEmpty (lanes ++ lane ∷ [])
 empty_next lanes lane none same p x at = elim (more_had lanes p lane x at) [
-  | inl here ↦ ap (λ (l : Lane). l.outputs.items) here.1 ∙ same
+  | inl here ↦ ap (λ (l : FollowedOutputs). l.outputs.items) here.1 ∙ same
   | inr there ↦ none p x there
 ]
 
-pub kept_empty : (vec : List ℕ) (lanes : List Lane) → AreEmpty lanes → AreKept vec lanes
+pub kept_empty : (vec : List ℕ) (lanes : List FollowedOutputs) → AreEmpty lanes → AreKept vec lanes
 kept_empty vec lanes none p lane at i o there = absurd (none_in i o (subst (λ os. slice_get os i ≡ Some o) (none p lane at) there))
 
-pub made_empty : (programs : List Program) (n : ℕ) (lanes : List Lane) → AreEmpty lanes → AreLanesMade programs n lanes
+pub made_empty : (programs : List Program) (n : ℕ) (lanes : List FollowedOutputs) → AreEmpty lanes → AreLanesMade programs n lanes
 made_empty programs n lanes none p lane at i o there = absurd (none_in i o (subst (λ os. slice_get os i ≡ Some o) (none p lane at) there))
 
 -- ---- from the start to the end
-empty_in : (lanes : List Lane) (p : ℕ) → AreEmpty lanes → told_in p (slice_get lanes p) ≡ []
+empty_in : (lanes : List FollowedOutputs) (p : ℕ) → AreEmpty lanes → told_in p (slice_get lanes p) ≡ []
 empty_in lanes p none = elim (slice_get_cases lanes p).1 [
   | inl there ↦
       ap (told_in p) there.2 ∙ ap (λ os. map (told_of p) (take there.0.told os)) (none p there.0 there.2) ∙ ap (map (told_of p)) (take-nil there.0.told)
   | inr past ↦ ap (told_in p) past.1
 ]
 
-pub told_at_start : {F : Type 0} (Tells : F → F → List Told → Type 0) (start : F) (lanes : List Lane) → Tells start start [] → AreEmpty lanes → IsTold Tells start lanes start
+pub told_at_start : {F : Type 0} (Tells : F → F → List Told → Type 0) (start : F) (lanes : List FollowedOutputs) → Tells start start [] → AreEmpty lanes → IsTold Tells start lanes start
 told_at_start Tells start lanes tells none = record { told = []; tells = tells; each = λ p. sym (empty_in lanes p none) }
 
 -- the outputs of a lane, if there is one
-outputs_at : (lanes : List Lane) (p : ℕ) → AreTold lanes → told_in p (slice_get lanes p) ≡ map (told_of p) (outputs_in (slice_get (map (λ (l : Lane). l.outputs) lanes) p))
+outputs_at : (lanes : List FollowedOutputs) (p : ℕ) → AreTold lanes → told_in p (slice_get lanes p) ≡ map (told_of p) (outputs_in (slice_get (map (λ (l : FollowedOutputs). l.outputs) lanes) p))
 outputs_at lanes p ends = elim (slice_get_cases lanes p).1 [
   | inl there ↦
       ap (told_in p) there.2
       ∙ ap (map (told_of p)) (ap (λ n. take n there.0.outputs.items) (whole there.0 (ends p there.0 there.2)) ∙ take-length there.0.outputs.items)
-      ∙ ap (λ o. map (told_of p) (outputs_in o)) (sym (map_get (λ (l : Lane). l.outputs) lanes p there.0 there.2))
+      ∙ ap (λ o. map (told_of p) (outputs_in o)) (sym (map_get (λ (l : FollowedOutputs). l.outputs) lanes p there.0 there.2))
   | inr past ↦ ap (told_in p) past.1 ∙ ap (λ o. map (told_of p) (outputs_in o)) (sym (map_past lanes p past.1))
 ]
   where
-    whole : (lane : Lane) → lane.told ≡ vec_len lane.outputs → lane.told ≡ length lane.outputs.items
+    whole : (lane : FollowedOutputs) → lane.told ≡ vec_len lane.outputs → lane.told ≡ length lane.outputs.items
     whole lane end = let is = lane.outputs.ok in omega arith
 
-    map_past : (lanes : List Lane) (p : ℕ) → slice_get lanes p ≡ None → slice_get (map (λ (l : Lane). l.outputs) lanes) p ≡ None
+    map_past : (lanes : List FollowedOutputs) (p : ℕ) → slice_get lanes p ≡ None → slice_get (map (λ (l : FollowedOutputs). l.outputs) lanes) p ≡ None
     map_past [] zero none = refl
     map_past [] (suc p) none = refl
     map_past (lane ∷ lanes) zero none = cc
     map_past (lane ∷ lanes) (suc p) none = map_past lanes p none
 
-pub told_all : {F : Type 0} (Tells : F → F → List Told → Type 0) (start now : F) (lanes : List Lane) (released : List (Vec Output Global))
-    → released ≡ map (λ (l : Lane). l.outputs) lanes → AreTold lanes → IsTold Tells start lanes now
+pub told_all : {F : Type 0} (Tells : F → F → List Told → Type 0) (start now : F) (lanes : List FollowedOutputs) (released : List (Vec Output Global))
+    → released ≡ map (λ (l : FollowedOutputs). l.outputs) lanes → AreTold lanes → IsTold Tells start lanes now
     → (told : List Told) × Tells start now told × TellsAll told released
 told_all Tells start now lanes released are ends is =
     (is.told, is.tells, λ p. is.each p ∙ outputs_at lanes p ends ∙ ap (λ r. map (told_of p) (outputs_in (slice_get r p))) (sym are))
 
-pub all_released : (vec : List ℕ) (lanes : List Lane) (released : List (Vec Output Global)) → released ≡ map (λ (l : Lane). l.outputs) lanes → AreKept vec lanes → AreAllReleased vec released
+pub all_released : (vec : List ℕ) (lanes : List FollowedOutputs) (released : List (Vec Output Global)) → released ≡ map (λ (l : FollowedOutputs). l.outputs) lanes → AreKept vec lanes → AreAllReleased vec released
 all_released vec lanes released are kept p outputs at =
-    let had = map_had (λ (l : Lane). l.outputs) lanes p outputs (subst (λ r. slice_get r p ≡ Some outputs) are at) in
+    let had = map_had (λ (l : FollowedOutputs). l.outputs) lanes p outputs (subst (λ r. slice_get r p ≡ Some outputs) are at) in
     subst (λ (v : Vec Output Global). AreReleased (slice_index vec p) v.items) had.2 (kept p had.0 had.1)
 
-pub made_of_all : (programs : List Program) (n : ℕ) (lanes : List Lane) (released : List (Vec Output Global)) → released ≡ map (λ (l : Lane). l.outputs) lanes
+pub made_of_all : (programs : List Program) (n : ℕ) (lanes : List FollowedOutputs) (released : List (Vec Output Global)) → released ≡ map (λ (l : FollowedOutputs). l.outputs) lanes
     → AreLanesMade programs n lanes → AreAllMade programs n released
 made_of_all programs n lanes released are made p outputs at =
-    let had = map_had (λ (l : Lane). l.outputs) lanes p outputs (subst (λ r. slice_get r p ≡ Some outputs) are at) in
+    let had = map_had (λ (l : FollowedOutputs). l.outputs) lanes p outputs (subst (λ r. slice_get r p ≡ Some outputs) are at) in
     subst (λ (v : Vec Output Global). AreMade programs n p v.items) had.2 (made p had.0 had.1)
 
-numbered_in : (vec : List ℕ) (lanes : List Lane) (p i : ℕ) (t : Told) → AreKept vec lanes → slice_get (told_in p (slice_get lanes p)) i ≡ Some t → t.number ≡ i
+numbered_in : (vec : List ℕ) (lanes : List FollowedOutputs) (p i : ℕ) (t : Told) → AreKept vec lanes → slice_get (told_in p (slice_get lanes p)) i ≡ Some t → t.number ≡ i
 numbered_in vec lanes p i t kept at = elim (slice_get_cases lanes p).1 [
   | inl there ↦
       let had = map_had (told_of p) (take there.0.told there.0.outputs.items) i t (subst (λ l. slice_get (told_in p l) i ≡ Some t) there.2 at) in
@@ -291,7 +291,7 @@ numbered_in vec lanes p i t kept at = elim (slice_get_cases lanes p).1 [
   | inr past ↦ absurd (none_in i t (subst (λ l. slice_get (told_in p l) i ≡ Some t) past.1 at))
 ]
 
-made_in : (programs : List Program) (n : ℕ) (lanes : List Lane) (p i : ℕ) (t : Told) → AreLanesMade programs n lanes → slice_get (told_in p (slice_get lanes p)) i ≡ Some t
+made_in : (programs : List Program) (n : ℕ) (lanes : List FollowedOutputs) (p i : ℕ) (t : Told) → AreLanesMade programs n lanes → slice_get (told_in p (slice_get lanes p)) i ≡ Some t
     → (x : ℕ) × IsMade programs n p t.number (record { interval = x; bytes = t.bytes })
 made_in programs n lanes p i t made at = elim (slice_get_cases lanes p).1 [
   | inl there ↦
@@ -302,7 +302,7 @@ made_in programs n lanes p i t made at = elim (slice_get_cases lanes p).1 [
 ]
 
 -- what was told of the first outputs of each lane is in order, and of the programs where the lanes are
-pub told_partly : {F : Type 0} (Tells : F → F → List Told → Type 0) (start now : F) (vec : List ℕ) (lanes : List Lane) (clean : Type 0) (programs : List Program) (n : ℕ)
+pub told_partly : {F : Type 0} (Tells : F → F → List Told → Type 0) (start now : F) (vec : List ℕ) (lanes : List FollowedOutputs) (clean : Type 0) (programs : List Program) (n : ℕ)
     → AreKept vec lanes → (clean → AreLanesMade programs n lanes) → IsTold Tells start lanes now
     → (told : List Told) × Tells start now told × AreInOrder told × (clean → AreToldMade programs n told)
 told_partly Tells start now vec lanes clean programs n kept made is = (

@@ -22,7 +22,7 @@ use crate::barrier::Barrier;
 use crate::cargo::Went;
 use crate::config::Config;
 use crate::fault::RunFault;
-use crate::flying::{Line, line_of, write_all};
+use crate::flying::{FlightChannel, flight_channel, write_all};
 use crate::ground::{Alone, Beside, Cluster, ground_of, stop_all};
 use crate::harvest::{Harvest, gathered_in};
 use crate::links::Links;
@@ -33,7 +33,7 @@ use crate::report::Report;
 use crate::results::{Finished, Parts, gathered};
 use crate::settle::settle_all;
 use crate::taking_up::{open_fault, take_up};
-use crate::worker::{Place, Worker};
+use crate::worker::{Worker, WorkerState};
 use crate::worker_fault::load_fault;
 use om_board::{Blank, Inbox, Naming, Pass, TakePass};
 use om_interval::{MAX_PROCESSES, Pid};
@@ -56,7 +56,7 @@ struct Job<'a, K: Naming, J: Series, S: Stable> {
     links: Links<'a>,
     pass: Pass<K>,
     // Where stores are slow, the way to the thread that writes that of the process.
-    line: Option<Line<J, S>>,
+    line: Option<FlightChannel<J, S>>,
     ghost sized: { links.n ≡ K.cell.n },
 }
 
@@ -82,7 +82,7 @@ fn begin<'a, J: Series, R, O: Opener<R>>(
     image: &'a Image,
     pid: Pid,
     n: usize,
-    line: Option<Line<J, O::Store>>,
+    line: Option<FlightChannel<J, O::Store>>,
 ) -> Result<Node<'a, J, O::Store>, RunFault>
     ensures member { IfOk result (λ node. node.member ≡ record { program = program_of image.entry.now; own = pid; n = n }) }
     ensures fault { IfErr result (IsFaultBy pid) }
@@ -112,7 +112,7 @@ fn kills_of(alloc: Global, kills: &[(Pid, u32)], pid: Pid) -> Result<Vec<u32>, A
 #[derive(Drop)]
 enum Turned<'a, K: Naming, J: Series, S: Stable> {
     // There are more.
-    On(Place<'a, J, S>, Pass<K>),
+    On(WorkerState<'a, J, S>, Pass<K>),
     // All processes are quiet: how this one ended, its outputs, and its store.
     Over(Status, Harvest<K>, S),
 }
@@ -134,7 +134,7 @@ fn leave<'a, K: Naming, J: Series, S: Stable, R: Wait>(
 {
     let harvest = match worker.harvest(rt, alloc, node.core().made()) {
         Ok(Some(harvest)) => harvest,
-        Ok(None) => return Ok(Turned::On(Place::Up(node), pass)),
+        Ok(None) => return Ok(Turned::On(WorkerState::Up(node), pass)),
         Err(worker_fault) => {
             drop(node);
             return Err(worker_fault.of(worker.pid()));
@@ -143,7 +143,7 @@ fn leave<'a, K: Naming, J: Series, S: Stable, R: Wait>(
     worker.end(node.core().machine().count());
     match node.end() {
         Ok((status, store)) => Ok(Turned::Over(status, harvest, store)),
-        Err(node) => Ok(Turned::On(Place::Up(node), pass)),
+        Err(node) => Ok(Turned::On(WorkerState::Up(node), pass)),
     }
 }
 
@@ -153,7 +153,7 @@ fn take_turn<'a, K: Naming, J: Series, S: Ledger, R: Wait + Clock>(
     rt: &R,
     alloc: Global,
     worker: &mut Worker<'a, K>,
-    place: Place<'a, J, S>,
+    place: WorkerState<'a, J, S>,
     pass: Pass<K>,
 ) -> Result<Turned<'a, K, J, S>, RunFault>
     requires own { (member_of place).own ≡ worker.old.links.own }
@@ -170,7 +170,7 @@ fn take_turn<'a, K: Naming, J: Series, S: Ledger, R: Wait + Clock>(
         Err(worker_fault) => return Err(worker_fault.of(worker.pid())),
     };
     match place {
-        Place::Over(node) => leave(rt, alloc, worker, node, pass),
+        WorkerState::Over(node) => leave(rt, alloc, worker, node, pass),
         place => Ok(Turned::On(place, pass)),
     }
 }
@@ -182,7 +182,7 @@ fn turns_until_over<'a, K: Naming, J: Series, S: Ledger, R: Wait + Clock>(
     turns: u64,
     stop: &AtomicBool,
     worker: &mut Worker<'a, K>,
-    place: Place<'a, J, S>,
+    place: WorkerState<'a, J, S>,
     pass: Pass<K>,
 ) -> Result<(Status, Harvest<K>, S), RunFault>
     requires own { (member_of place).own ≡ worker.old.links.own }
@@ -227,7 +227,7 @@ fn take_turns<'a, K: Naming, J: Series, S: Ledger, R: Wait + Clock>(
     turns: u64,
     stop: &AtomicBool,
     worker: Worker<'a, K>,
-    place: Place<'a, J, S>,
+    place: WorkerState<'a, J, S>,
     pass: Pass<K>,
 ) -> Result<Finished<K, S>, RunFault>
     requires own { (member_of place).own ≡ worker.links.own }
@@ -266,7 +266,7 @@ fn admit<'a, K: Naming, J: Series, R: Wait, G: Gate, O: Opener<R>>(
     image: &'a Image,
     pid: Pid,
     n: usize,
-    line: Option<Line<J, O::Store>>,
+    line: Option<FlightChannel<J, O::Store>>,
 ) -> Result<(Node<'a, J, O::Store>, Vec<u32>), RunFault>
     ensures member { IfOk result (λ made. made.0.member ≡ record { program = program_of image.entry.now; own = pid; n = n }) }
     ensures asked { OnOk result (1 ≤ cluster.now.plan.now.gate_turns) }
@@ -318,7 +318,15 @@ fn work_anew<'a, K: Naming, J: Series, R: Wait + Clock, G: Gate, O: Opener<R>>(
     let barrier = Barrier::new(returns, links.n());
     let mut worker = Worker::new(plan, shared, links, barrier, kills, alloc, observers);
     worker.arrive(node.core().round());
-    take_turns(rt, alloc, plan.turns, stop, worker, Place::Up(node), pass)
+    take_turns(
+        rt,
+        alloc,
+        plan.turns,
+        stop,
+        worker,
+        WorkerState::Up(node),
+        pass,
+    )
 }
 
 // Does what the thread of a process does that is taken up from what an earlier run left of it.
@@ -369,7 +377,7 @@ fn work_on<'a, K: Naming, J: Series, R: Wait + Clock, G: Gate, O: Opener<R>>(
         left,
         stop,
         worker,
-        Place::Failed(down_node),
+        WorkerState::Failed(down_node),
         pass,
     )
 }
@@ -487,7 +495,7 @@ fn started_line<
     cluster: &'s Cluster<'s, K, R, G, O>,
     own: Pid,
     opened: Opened<Went<O::Store>>,
-) -> Option<Option<Line<J, O::Store>>>
+) -> Option<Option<FlightChannel<J, O::Store>>>
     requires { opened.seen.book ≡ J.book }
 {
     if !cluster.opener.is_slow() {
@@ -495,7 +503,7 @@ fn started_line<
     }
     let (rt, alloc) = (cluster.rt, cluster.alloc);
     let bell = cluster.bells.get(own.index())?;
-    let Ok((line, far)) = line_of::<J, O::Store>(alloc, opened) else {
+    let Ok((line, far)) = flight_channel::<J, O::Store>(alloc, opened) else {
         return None;
     };
     let writer = scope.spawn(move || write_all(rt, alloc, far, bell));

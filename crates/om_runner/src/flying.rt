@@ -96,7 +96,7 @@ fn store_cargo<S: Ledger>(store: &mut S, alloc: Global, cargo: &Cargo) -> Result
 
 // The way from a process to the thread that writes its store, and back. One flight is under way at a time, so each holds one.
 #[derive(Drop)]
-pub(crate) struct Line<J: Series, S: Stable> {
+pub(crate) struct FlightChannel<J: Series, S: Stable> {
     errands: Sender<Errand<J, S>, Global>,
     landings: Receiver<Landing<J, S>, Global>,
     book: Book<J, Went<S>>,
@@ -110,16 +110,16 @@ pub(crate) struct FarEnds<J: Series, S: Stable> {
 }
 
 // A line and its far ends.
-pub(crate) fn line_of<J: Series, S: Stable>(
+pub(crate) fn flight_channel<J: Series, S: Stable>(
     alloc: Global,
     opened: Opened<Went<S>>,
-) -> Result<(Line<J, S>, FarEnds<J, S>), AllocError>
+) -> Result<(FlightChannel<J, S>, FarEnds<J, S>), AllocError>
     requires { opened.seen.book ≡ J.book }
 {
     let (to, errands) = bounded(alloc, 1)?;
     let (landings, from) = bounded(alloc, 1)?;
     Ok((
-        Line {
+        FlightChannel {
             errands: to,
             landings: from,
             book: opened.named::<J>(),
@@ -128,7 +128,7 @@ pub(crate) fn line_of<J: Series, S: Stable>(
     ))
 }
 
-impl<J: Series, S: Stable> Line<J, S> {
+impl<J: Series, S: Stable> FlightChannel<J, S> {
     // A ticket for a store and what goes with it, and its stub.
     pub(crate) fn issue(
         &mut self,
@@ -143,7 +143,7 @@ impl<J: Series, S: Stable> Line<J, S> {
     }
 }
 
-impl<J: Series, S: Ledger> Line<J, S> {
+impl<J: Series, S: Ledger> FlightChannel<J, S> {
     // Has it stored, in the other thread. Where that is gone, it is stored at once, and comes back.
     pub(crate) fn send<R: Wait>(
         &self,
@@ -158,7 +158,7 @@ impl<J: Series, S: Ledger> Line<J, S> {
     }
 }
 
-impl<J: Series, S: Stable> Line<J, S> {
+impl<J: Series, S: Stable> FlightChannel<J, S> {
     // Returns what has come back, if it has.
     pub(crate) fn look<R: Wait>(&self, rt: &R) -> Option<Landing<J, S>> {
         match self.landings.try_recv(rt) {

@@ -15,9 +15,9 @@ ghost use Rattle.om_runner.specs.steps.Following.{AreEmpty, AreKept, AreLanesMad
 ghost use Rattle.om_runner.specs.steps.Harvests.{AreNoFewer, AreOwn, harvested};
 
 use crate::fault::RunFault;
+use crate::followed_outputs::FollowedOutputs;
 use crate::follower::{FollowFault, Follower};
 use crate::harvest::{Harvest, all_met};
-use crate::lane::Lane;
 use crate::report::{Report, copy_of};
 use om_board::{Board, Front, Frontier, Naming, Pass, Shared};
 use om_interval::{MAX_PROCESSES, Pid};
@@ -33,7 +33,7 @@ pub(crate) struct Following<'a, K: Naming, F: Follower> {
     herald: &'a Herald,
     pub(crate) follower: F,
     // By process.
-    pub(crate) lanes: Vec<Lane>,
+    pub(crate) lanes: Vec<FollowedOutputs>,
     // Why the run is to come to no end.
     pub(crate) fault: Option<FollowFault>,
     // As it was when it looked last.
@@ -47,17 +47,17 @@ pub(crate) struct Following<'a, K: Naming, F: Follower> {
 }
 
 // A lane without an output.
-fn empty_lane(alloc: Global) -> Lane
+fn empty_lane(alloc: Global) -> FollowedOutputs
     ensures { result.outputs.items ≡ [] }
 {
-    Lane {
+    FollowedOutputs {
         outputs: Vec::new(alloc),
         told: 0,
     }
 }
 
 // So many of them.
-fn empty_lanes(alloc: Global, n: usize) -> Result<Vec<Lane>, AllocError>
+fn empty_lanes(alloc: Global, n: usize) -> Result<Vec<FollowedOutputs>, AllocError>
     ensures many { IfOk result (λ lanes. vec_len lanes ≡ n) }
     ensures empty { IfOk result (λ lanes. AreEmpty lanes.items) }
 {
@@ -69,7 +69,7 @@ fn empty_lanes(alloc: Global, n: usize) -> Result<Vec<Lane>, AllocError>
 }
 
 // Adds what is released of a process beyond what is there.
-fn add_new(alloc: Global, lane: &mut Lane, released: &[Output]) -> Result<(), AllocError>
+fn add_new(alloc: Global, lane: &mut FollowedOutputs, released: &[Output]) -> Result<(), AllocError>
     ensures same { (p : ℕ) → told_in p (Some lane.new) ≡ told_in p (Some lane.old) }
     ensures kept { (limit : ℕ) → AreReleased limit lane.old.outputs.items → AreReleased limit released.now
         → AreReleased limit lane.new.outputs.items }
@@ -84,7 +84,11 @@ fn add_new(alloc: Global, lane: &mut Lane, released: &[Output]) -> Result<(), Al
 }
 
 // Adds what the manager has released beyond what is there.
-fn add_all(alloc: Global, lanes: &mut Vec<Lane>, manager: &Manager) -> Result<(), AllocError>
+fn add_all(
+    alloc: Global,
+    lanes: &mut Vec<FollowedOutputs>,
+    manager: &Manager,
+) -> Result<(), AllocError>
     requires { vec_len lanes.old ≡ process_count manager.now }
     ensures many { vec_len lanes.new ≡ vec_len lanes.old }
     ensures same { (p : ℕ) → told_in p (slice_get lanes.new.items p) ≡ told_in p (slice_get lanes.old.items p) }
@@ -101,7 +105,7 @@ fn add_all(alloc: Global, lanes: &mut Vec<Lane>, manager: &Manager) -> Result<()
 // Adds these outputs beyond what is there.
 fn add_brought(
     alloc: Global,
-    lanes: &mut Vec<Lane>,
+    lanes: &mut Vec<FollowedOutputs>,
     brought: &[Vec<Output>],
 ) -> Result<(), AllocError>
     requires { length brought.now ≡ vec_len lanes.old }
@@ -125,7 +129,7 @@ fn add_harvests<K: Naming, R: Wait>(
     frontier: &Frontier<K>,
     board: &mut Board<K>,
     harvests: Vec<Harvest<K>>,
-    lanes: &mut Vec<Lane>,
+    lanes: &mut Vec<FollowedOutputs>,
 ) -> Result<(), AllocError>
     requires own { AreOwn harvests.items }
     requires sound { IsBoard K.cell.n board.old }
@@ -142,7 +146,12 @@ fn add_harvests<K: Naming, R: Wait>(
 }
 
 // Tells of the outputs of a process below a number, those that are there.
-fn tell_below<F: Follower>(follower: &mut F, lane: &mut Lane, pid: Pid, below: usize) -> bool
+fn tell_below<F: Follower>(
+    follower: &mut F,
+    lane: &mut FollowedOutputs,
+    pid: Pid,
+    below: usize,
+) -> bool
     ensures outputs { lane.new.outputs ≡ lane.old.outputs }
     ensures told { IsTrue result → HasTold F.Tells pid lane.old follower.old lane.new follower.new }
     ensures all { IsTrue result → vec_len lane.old.outputs ≤ below → lane.new.told ≡ vec_len lane.new.outputs }
@@ -158,7 +167,11 @@ fn tell_below<F: Follower>(follower: &mut F, lane: &mut Lane, pid: Pid, below: u
 }
 
 // Tells of the outputs of a process below a number, if there is such a process.
-fn tell_release<F: Follower>(follower: &mut F, lanes: &mut Vec<Lane>, release: Release) -> bool
+fn tell_release<F: Follower>(
+    follower: &mut F,
+    lanes: &mut Vec<FollowedOutputs>,
+    release: Release,
+) -> bool
     ensures many { vec_len lanes.new ≡ vec_len lanes.old }
     ensures outputs { map (λ lane. lane.outputs) lanes.new.items ≡ map (λ lane. lane.outputs) lanes.old.items }
     ensures kept { (vec : List ℕ) → AreKept vec lanes.old.items → AreKept vec lanes.new.items }
@@ -173,7 +186,11 @@ fn tell_release<F: Follower>(follower: &mut F, lanes: &mut Vec<Lane>, release: R
 }
 
 // Tells of what was released, in order.
-fn tell_in_order<F: Follower>(follower: &mut F, lanes: &mut Vec<Lane>, releases: &[Release]) -> bool
+fn tell_in_order<F: Follower>(
+    follower: &mut F,
+    lanes: &mut Vec<FollowedOutputs>,
+    releases: &[Release],
+) -> bool
     ensures many { vec_len lanes.new ≡ vec_len lanes.old }
     ensures outputs { map (λ lane. lane.outputs) lanes.new.items ≡ map (λ lane. lane.outputs) lanes.old.items }
     ensures kept { (vec : List ℕ) → AreKept vec lanes.old.items → AreKept vec lanes.new.items }
@@ -188,7 +205,7 @@ fn tell_in_order<F: Follower>(follower: &mut F, lanes: &mut Vec<Lane>, releases:
 }
 
 // Tells of all that is there.
-fn tell_rest<F: Follower>(follower: &mut F, lanes: &mut Vec<Lane>) -> bool
+fn tell_rest<F: Follower>(follower: &mut F, lanes: &mut Vec<FollowedOutputs>) -> bool
     requires { vec_len lanes.old ≤ MAX_PROCESSES }
     ensures many { vec_len lanes.new ≡ vec_len lanes.old }
     ensures outputs { map (λ lane. lane.outputs) lanes.new.items ≡ map (λ lane. lane.outputs) lanes.old.items }
@@ -205,7 +222,11 @@ fn tell_rest<F: Follower>(follower: &mut F, lanes: &mut Vec<Lane>) -> bool
 }
 
 // Tells of all that is there: in the order of its release, as far as that is known.
-fn tell_all<F: Follower>(follower: &mut F, lanes: &mut Vec<Lane>, releases: &[Release]) -> bool
+fn tell_all<F: Follower>(
+    follower: &mut F,
+    lanes: &mut Vec<FollowedOutputs>,
+    releases: &[Release],
+) -> bool
     requires { vec_len lanes.old ≤ MAX_PROCESSES }
     ensures many { vec_len lanes.new ≡ vec_len lanes.old }
     ensures outputs { map (λ lane. lane.outputs) lanes.new.items ≡ map (λ lane. lane.outputs) lanes.old.items }
@@ -223,12 +244,12 @@ fn tell_all<F: Follower>(follower: &mut F, lanes: &mut Vec<Lane>, releases: &[Re
 }
 
 // The outputs of each lane.
-fn outputs_of(alloc: Global, lanes: Vec<Lane>) -> Result<Vec<Vec<Output>>, AllocError>
+fn outputs_of(alloc: Global, lanes: Vec<FollowedOutputs>) -> Result<Vec<Vec<Output>>, AllocError>
     ensures { IfOk result (λ outputs. outputs.items ≡ map (λ lane. lane.outputs) lanes.items) }
 {
     let mut all = Vec::with_capacity(alloc, lanes.len())?;
     for lane in lanes {
-        let Lane { outputs, .. } = lane;
+        let FollowedOutputs { outputs, .. } = lane;
         all.push_reserved(outputs);
     }
     Ok(all)

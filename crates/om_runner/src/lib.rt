@@ -11,22 +11,22 @@
 //! - `cluster`: the threads, from the first store to the report; `network` (the inboxes of all), `settle` (what is left in
 //!   them), `results` (what the workers bring back), `harvest` (the outputs among it)
 //! - `taking_up`: how a process is taken up from what an earlier run left
-//! - `worker`: what a thread does, turn by turn; `barrier` (where it waits until all are up), `idle` and `patience` (how it yields
+//! - `worker`: what a thread does, turn by turn; `barrier` (where it waits until all are up), `idle` and `spin_policy` (how it yields
 //!   and sleeps), `worker_fault` (why it stops)
 //! - what a worker has: `node` (a process over its store), `cargo` and `flying` (how what it stores gets there while it goes on), `links` (its ends of inboxes), `received` (what a resend may leave
-//!   out), `manager_link` and `desk` (the manager), `keeping` (what its store is given for a run that takes it up)
+//!   out), `manager_link` and `locked_board` (the manager), `keeping` (what its store is given for a run that takes it up)
 //! - `ground`: what all threads have in common
-//! - `followed`, with `follower`, `following` and `lane`: outputs that are told as they are released
+//! - `followed`, with `follower`, `following` and `followed_outputs`: outputs that are told as they are released
 #![tactic(auto)]
 
 mod barrier;
 mod cargo;
 mod cluster;
 mod config;
-mod desk;
 mod fault;
 mod flying;
 mod followed;
+mod followed_outputs;
 mod follower;
 mod following;
 mod ground;
@@ -34,17 +34,17 @@ mod harvest;
 mod idle;
 mod in_memory;
 mod keeping;
-mod lane;
 mod links;
+mod locked_board;
 mod manager_link;
 mod network;
 mod node;
 mod opener;
-mod patience;
 mod received;
 mod report;
 mod results;
 mod settle;
+mod spin_policy;
 mod taking_up;
 mod watched;
 mod worker;

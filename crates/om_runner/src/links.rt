@@ -10,7 +10,9 @@ ghost use Rattle.om_runner.specs.steps.Wiring.{HasEnds};
 
 use crate::network::Ends;
 use crate::received::Received;
-use om_board::{Bell, CAPACITY, Inbox, Look, Marked, PutAnswer, PutPass, TakePass, ring_all};
+use om_board::{
+    Bell, CAPACITY, Inbox, PutAnswer, PutPass, SenderSet, SpinOutcome, TakePass, ring_all,
+};
 use om_format::Message;
 use om_interval::{MAX_PROCESSES, Pid};
 use om_process::ProcCore;
@@ -76,7 +78,7 @@ pub(crate) struct Links<'a> {
     // The sender whose turn it is.
     turn: usize,
     // The senders that may have something in their inboxes.
-    marked: Marked,
+    marked: SenderSet,
     // The number of processes.
     n: usize,
     // By process, what wakes its worker.
@@ -158,7 +160,7 @@ impl<'a> Links<'a> {
             takes,
             next: [0; MAX_PROCESSES],
             turn: 0,
-            marked: Marked::none(),
+            marked: SenderSet::none(),
             n,
             bells,
             received,
@@ -214,10 +216,10 @@ impl<'a> Links<'a> {
     }
 
     // Yields until its worker is woken, for a while.
-    pub(crate) fn look<R: Clock>(&self, rt: &R) -> Look {
+    pub(crate) fn look<R: Clock>(&self, rt: &R) -> SpinOutcome {
         match self.bells.get(self.own.index()) {
             Some(bell) => bell.look(rt),
-            None => Look::Rung,
+            None => SpinOutcome::Rung,
         }
     }
 

@@ -6,13 +6,13 @@ ghost use Rattle.om_member.specs.Handed.{outputs_from};
 ghost use Rattle.om_runner.specs.steps.Nodes.{AreAlwaysClean};
 ghost use Rattle.om_runner.specs.steps.Acts.{AreAllOf, AreLimits, HasDeclared, HasHandedOver, HasHeard, HasJoined, HasMet, HasOffered, HasPruned, HasRefused, HasReleasedAnother, HasTakenUp, HasWaited, HasWithdrawn, IsStanding, UnderLock};
 
-use crate::desk::Desk;
 use crate::harvest::Harvest;
+use crate::locked_board::LockedBoard;
 use crate::node::Node;
 use crate::worker_fault::WorkerFault;
 use om_board::{Board, Front, Naming, Pass, Shared};
 use om_interval::{Bounds, Pid, Starts, Verdict};
-use om_member::{Office, hand_all, tell_all};
+use om_member::{ManagerAccess, hand_all, tell_all};
 use om_observers::Diary;
 use om_process::{Made, PendingRow, ProcCore};
 use om_stable::Stable;
@@ -27,7 +27,7 @@ const TRIES: u32 = 32;
 
 // How the manager stands.
 #[derive(Clone, Copy)]
-pub(crate) enum Standing {
+pub(crate) enum ManagerPhase {
     // No gathering is open.
     Closed,
     // A gathering is open.
@@ -144,7 +144,7 @@ impl<'a, K: Naming> ManagerLink<'a, K> {
     fn hand_over<J: Series, S: Stable, R: Wait>(
         &mut self,
         alloc: Global,
-        desk: &mut Desk<'_, K, R>,
+        desk: &mut LockedBoard<'_, K, R>,
         node: &mut Node<'_, J, S>,
     ) -> Result<(), WorkerFault>
         requires own { node.old.member.own ≡ self.old.pid }
@@ -169,7 +169,11 @@ impl<'a, K: Naming> ManagerLink<'a, K> {
     }
 
     // Prunes the manager where it was told of a checkpoint. Then it says what need not be kept any longer.
-    fn prune<R: Wait>(&self, desk: &mut Desk<'_, K, R>, has_checkpoint: bool) -> Option<Limits>
+    fn prune<R: Wait>(
+        &self,
+        desk: &mut LockedBoard<'_, K, R>,
+        has_checkpoint: bool,
+    ) -> Option<Limits>
         ensures asked { is_some result ≡ has_checkpoint }
         ensures pruned { IfSome result (λ l. HasPruned desk.old.board.now.manager desk.new.board.now.manager) }
         ensures limits { IfSome result (λ l. AreLimits desk.new.board.now.manager self.now.pid l) }
@@ -188,15 +192,15 @@ impl<'a, K: Naming> ManagerLink<'a, K> {
     }
 
     // Returns how the manager stands. A process that has ended reports itself quiet.
-    fn ask<R: Wait>(&self, desk: &mut Desk<'_, K, R>, ended: bool) -> Standing
+    fn ask<R: Wait>(&self, desk: &mut LockedBoard<'_, K, R>, ended: bool) -> ManagerPhase
         ensures { IsStanding desk.old.board.now self.now.pid self.now.round ended result desk.new.board.now }
     {
         if desk.board.manager().gathering() {
-            Standing::Gathers
+            ManagerPhase::Gathers
         } else if ended && desk.board.quiet(self.pid, self.round) {
-            Standing::Quiet
+            ManagerPhase::Quiet
         } else {
-            Standing::Closed
+            ManagerPhase::Closed
         }
     }
 
@@ -205,12 +209,12 @@ impl<'a, K: Naming> ManagerLink<'a, K> {
     fn meet_at<J: Series, S: Stable, R: Wait>(
         &mut self,
         alloc: Global,
-        desk: &mut Desk<'_, K, R>,
+        desk: &mut LockedBoard<'_, K, R>,
         node: &mut Node<'_, J, S>,
         ended: bool,
         has_checkpoint: bool,
         diary: &mut Diary<'_>,
-    ) -> Result<(Standing, Option<Limits>), WorkerFault>
+    ) -> Result<(ManagerPhase, Option<Limits>), WorkerFault>
         requires own { node.old.member.own ≡ self.old.pid }
         requires program { slice_get K.programs node.old.member.own ≡ Some node.old.member.program }
         requires size { node.old.member.n ≡ K.cell.n }
@@ -243,7 +247,7 @@ impl<'a, K: Naming> ManagerLink<'a, K> {
         ended: bool,
         is_patient: bool,
         diary: &mut Diary<'_>,
-    ) -> Result<(Standing, Option<Limits>), WorkerFault>
+    ) -> Result<(ManagerPhase, Option<Limits>), WorkerFault>
         requires own { node.old.member.own ≡ self.old.pid }
         requires program { slice_get K.programs node.old.member.own ≡ Some node.old.member.program }
         requires size { node.old.member.n ≡ K.cell.n }
@@ -257,7 +261,7 @@ impl<'a, K: Naming> ManagerLink<'a, K> {
     {
         let has_checkpoint = have_checkpoint(node.core().pending());
         let mut guard = self.lock(rt, is_patient);
-        let mut desk = Desk {
+        let mut desk = LockedBoard {
             rt,
             board: &mut *guard,
             frontier: &self.shared.frontier,
@@ -270,7 +274,7 @@ impl<'a, K: Naming> ManagerLink<'a, K> {
     fn join_at<J: Series, S: Stable, R: Wait>(
         &mut self,
         alloc: Global,
-        desk: &mut Desk<'_, K, R>,
+        desk: &mut LockedBoard<'_, K, R>,
         node: &mut Node<'_, J, S>,
         diary: &mut Diary<'_>,
         pass: Pass<K>,
@@ -319,7 +323,7 @@ impl<'a, K: Naming> ManagerLink<'a, K> {
             HasJoined before.manager self.old.pid node.old.core after.manager node.new.core)) }
     {
         let mut guard = self.shared.board.lock(rt);
-        let mut desk = Desk {
+        let mut desk = LockedBoard {
             rt,
             board: &mut *guard,
             frontier: &self.shared.frontier,
@@ -404,7 +408,7 @@ impl<'a, K: Naming> ManagerLink<'a, K> {
     fn take_up_at<R: Wait>(
         &self,
         alloc: Global,
-        desk: &mut Desk<'_, K, R>,
+        desk: &mut LockedBoard<'_, K, R>,
         rows: &[PendingRow],
         outputs: &[Made],
     ) -> Result<(), WorkerFault>
@@ -434,7 +438,7 @@ impl<'a, K: Naming> ManagerLink<'a, K> {
             HasTakenUp before.manager self.now.round self.now.pid rows.now outputs.now after.manager)) }
     {
         let mut guard = self.shared.board.lock(rt);
-        let mut desk = Desk {
+        let mut desk = LockedBoard {
             rt,
             board: &mut *guard,
             frontier: &self.shared.frontier,

@@ -22,13 +22,13 @@ ghost use Rattle.om_stable.specs.Calls.{IsCleanCall, UsesStore};
 ghost use Rattle.om_stable.specs.declared.stable.TheConstants.{INTERVALS};
 
 use crate::cargo::{Cargo, Went};
-use crate::flying::{Errand, Landing, Line};
+use crate::flying::{Errand, FlightChannel, Landing};
 use crate::keeping::{Deposit, Due};
 use crate::worker_fault::WorkerFault;
 use om_format::Message;
 use om_interval::{Bounds, Pid, Starts, Verdict};
 use om_manager::{OutputError, RecordError};
-use om_member::Office;
+use om_member::ManagerAccess;
 use om_process::{Accept, Down, Flight, Image, ProcCore, Ran, StartFault, Status};
 use om_stable::{Ledger, NewCheckpoint, Stable, StoreError, WriteBatch};
 use om_tickets::{Series, Ticket};
@@ -49,7 +49,7 @@ pub(crate) struct Node<'a, J: Series, S: Stable> {
     core: Box<ProcCore>,
     hold: Hold<J, S>,
     // Where the store is slow, the way to the thread that writes it.
-    line: Option<Line<J, S>>,
+    line: Option<FlightChannel<J, S>>,
 }
 
 // Where the store of a process is.
@@ -86,7 +86,7 @@ pub(crate) struct DownNode<'a, J: Series, S: Stable> {
     pid: Pid,
     n: usize,
     store: Box<S>,
-    line: Option<Line<J, S>>,
+    line: Option<FlightChannel<J, S>>,
 }
 
 impl<'a, J: Series, S: Stable> Model for DownNode<'a, J, S> {
@@ -129,7 +129,7 @@ impl<'a, J: Series, S: Stable> Node<'a, J, S> {
         pid: Pid,
         n: usize,
         store: S,
-        line: Option<Line<J, S>>,
+        line: Option<FlightChannel<J, S>>,
     ) -> Result<Node<'a, J, S>, StartFault>
         requires sound { IsTrue (S.is_clean store) → S.IsSound store }
         requires empty { IsTrue (S.is_clean store) → S.content store ≡ nothing }
@@ -201,7 +201,7 @@ impl<'a, J: Series, S: Stable> Node<'a, J, S> {
 
     // Offers the pending rows to the manager, up to the first that is refused, and says how many were not: those are pending no
     // longer.
-    pub(crate) fn note<O: Office>(
+    pub(crate) fn note<O: ManagerAccess>(
         &mut self,
         office: &mut O,
         alloc: Global,
@@ -217,7 +217,7 @@ impl<'a, J: Series, S: Stable> Node<'a, J, S> {
     }
 
     // Hands in the outputs that the manager has not, up to the first that is refused.
-    pub(crate) fn hand_in<O: Office>(
+    pub(crate) fn hand_in<O: ManagerAccess>(
         &self,
         office: &mut O,
         alloc: Global,
@@ -489,7 +489,7 @@ impl<'a, J: Series, S: Stable> DownNode<'a, J, S> {
         pid: Pid,
         n: usize,
         store: S,
-        line: Option<Line<J, S>>,
+        line: Option<FlightChannel<J, S>>,
     ) -> Result<DownNode<'a, J, S>, AllocError>
         requires { AreNeverClean S.is_clean }
         ensures { IfOk result (λ node. node ≡ record { program = program_of image.entry.now; own = pid; n = n }) }

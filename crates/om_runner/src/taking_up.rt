@@ -12,7 +12,7 @@ ghost use Rattle.om_runner.specs.steps.Nodes.{AreAlwaysClean};
 ghost use Rattle.om_runner.specs.steps.Refusals.{refusal_of_found, refusal_of_opening};
 
 use crate::fault::RunFault;
-use crate::flying::Line;
+use crate::flying::FlightChannel;
 use crate::ground::Cluster;
 use crate::node::DownNode;
 use crate::opener::{OpenFault, Opener};
@@ -241,7 +241,7 @@ pub(crate) fn take_up<'a, K: Naming, J: Series, R: Wait + Clock, G, O: Opener<R>
     cluster: &Cluster<'a, K, R, G, O>,
     worker: &mut Worker<'a, K>,
     image: &'a Image,
-    line: Option<Line<J, O::Store>>,
+    line: Option<FlightChannel<J, O::Store>>,
 ) -> Result<(DownNode<'a, J, O::Store>, u64), RunFault>
     requires few { K.cell.n ≤ MAX_PROCESSES }
     requires unsure { AreNeverClean O.Store.is_clean }

@@ -20,12 +20,12 @@ use crate::harvest::Harvest;
 use crate::idle::{Idle, Pause};
 use crate::keeping::{Deposit, Due, Kept};
 use crate::links::{Links, Taken};
-use crate::manager_link::{Limits, ManagerLink, RoundOutcome, Standing};
+use crate::manager_link::{Limits, ManagerLink, ManagerPhase, RoundOutcome};
 use crate::network::Ends;
 use crate::node::{DownNode, Node, has_ended};
-use crate::patience::Patience;
+use crate::spin_policy::SpinPolicy;
 use crate::worker_fault::WorkerFault;
-use om_board::{Front, Look, Naming, Pass, Shared};
+use om_board::{Front, Naming, Pass, Shared, SpinOutcome};
 use om_interval::{Pid, Verdict};
 use om_observers::{Diary, Doing, Observers, Past, Sight, Watch};
 use om_process::{Accept, PendingRow, ProcCore, Status, Witness};
@@ -44,7 +44,7 @@ const ALL_RECEIPTS: usize = usize::MAX;
 
 // Where the process of a worker stands.
 #[derive(Drop)]
-pub(crate) enum Place<'a, J: Series, S: Stable> {
+pub(crate) enum WorkerState<'a, J: Series, S: Stable> {
     // It runs.
     Up(Node<'a, J, S>),
     // A gathering is open, which it is to join.
@@ -59,16 +59,16 @@ pub(crate) enum Place<'a, J: Series, S: Stable> {
     Over(Node<'a, J, S>),
 }
 
-impl<'a, J: Series, S: Stable> Place<'a, J, S> {
+impl<'a, J: Series, S: Stable> WorkerState<'a, J, S> {
     // Returns what the process does there.
     fn doing(&self) -> Doing
         ensures { result ≡ doing_at self.now }
     {
         match self {
-            Place::Up(node) | Place::Over(node) => Doing::Up(node.core().status()),
-            Place::Called(_) => Doing::Called,
-            Place::In(_) => Doing::Joined,
-            Place::Failed(_) | Place::Down(_) => Doing::Down,
+            WorkerState::Up(node) | WorkerState::Over(node) => Doing::Up(node.core().status()),
+            WorkerState::Called(_) => Doing::Called,
+            WorkerState::In(_) => Doing::Joined,
+            WorkerState::Failed(_) | WorkerState::Down(_) => Doing::Down,
         }
     }
 
@@ -78,10 +78,11 @@ impl<'a, J: Series, S: Stable> Place<'a, J, S> {
     {
         let doing = self.doing();
         match self {
-            Place::Up(node) | Place::Called(node) | Place::In(node) | Place::Over(node) => {
-                sight_of(node.core(), doing, before)
-            }
-            Place::Failed(_) | Place::Down(_) => Sight { doing, ..before },
+            WorkerState::Up(node)
+            | WorkerState::Called(node)
+            | WorkerState::In(node)
+            | WorkerState::Over(node) => { sight_of(node.core(), doing, before) }
+            WorkerState::Failed(_) | WorkerState::Down(_) => Sight { doing, ..before },
         }
     }
 }
@@ -102,7 +103,7 @@ fn sight_of(core: &ProcCore, doing: Doing, before: Sight) -> Sight
 
 // What a turn of a process that runs comes to.
 #[derive(Clone, Copy)]
-enum Step {
+enum TurnOutcome {
     // It goes on.
     Up,
     // A gathering is open.
@@ -113,19 +114,19 @@ enum Step {
     Over,
 }
 
-impl Step {
+impl TurnOutcome {
     // Returns where the process stands then.
     #[inline(never)]
-    fn place_of<'a, J: Series, S: Stable>(self, node: Node<'a, J, S>) -> Place<'a, J, S>
+    fn place_of<'a, J: Series, S: Stable>(self, node: Node<'a, J, S>) -> WorkerState<'a, J, S>
         requires landed { IsLandedAt self node }
         ensures place { result ≡ place_after self node.entry }
         ensures landed { IsLanded result }
     {
         match self {
-            Step::Up => Place::Up(node),
-            Step::Called => Place::Called(node),
-            Step::Failed => Place::Failed(node.fail()),
-            Step::Over => Place::Over(node),
+            TurnOutcome::Up => WorkerState::Up(node),
+            TurnOutcome::Called => WorkerState::Called(node),
+            TurnOutcome::Failed => WorkerState::Failed(node.fail()),
+            TurnOutcome::Over => WorkerState::Over(node),
         }
     }
 }
@@ -153,7 +154,7 @@ pub(crate) struct Worker<'a, K: Naming> {
     // Who sees what the process does.
     watch: Option<&'a Watch>,
     idle: Idle,
-    patience: Patience,
+    patience: SpinPolicy,
     // Whether all that the process keeps was resent, after some idle turns, since it ran, received or refused a message.
     resent: bool,
     // How many turns the last one counts as beside itself.
@@ -203,17 +204,17 @@ fn pause_of<R: Wait + Clock>(
     rt: &R,
     links: &Links<'_>,
     idle: &Idle,
-    patience: &mut Patience,
+    patience: &mut SpinPolicy,
 ) -> Pause {
     let is_fresh = idle.is_fresh();
     if is_fresh && patience.begin() {
         match links.look(rt) {
-            Look::Rung => {
+            SpinOutcome::Rung => {
                 patience.gain();
                 return Pause::Woken;
             }
-            Look::Slice => patience.end(),
-            Look::Silent => {}
+            SpinOutcome::Slice => patience.end(),
+            SpinOutcome::Silent => {}
         }
     }
     let is_woken = if is_fresh && !patience.is_patient() {
@@ -281,7 +282,7 @@ impl<'a, K: Naming> Worker<'a, K> {
             diary: Diary::new(alloc, own, observers),
             watch: observers.watch,
             idle: Idle::new(),
-            patience: Patience::new(),
+            patience: SpinPolicy::new(),
             resent: false,
             extra: 0,
         }
@@ -398,9 +399,9 @@ impl<'a, K: Naming> Worker<'a, K> {
         &mut self,
         rt: &R,
         alloc: Global,
-        place: Place<'a, J, S>,
+        place: WorkerState<'a, J, S>,
         pass: Pass<K>,
-    ) -> Result<(Place<'a, J, S>, Pass<K>), WorkerFault>
+    ) -> Result<(WorkerState<'a, J, S>, Pass<K>), WorkerFault>
         requires own { (member_of place).own ≡ self.old.links.own }
         requires program { slice_get K.programs (member_of place).own ≡ Some (member_of place).program }
         requires size { (member_of place).n ≡ K.cell.n }
@@ -413,12 +414,12 @@ impl<'a, K: Naming> Worker<'a, K> {
     {
         self.extra = 0;
         match place {
-            Place::Up(node) => self.go_on(rt, alloc, node, pass),
-            Place::Called(node) => self.join(rt, alloc, node, pass),
-            Place::In(node) => self.wait_in(rt, alloc, node, pass),
-            Place::Failed(down_node) => self.declare(rt, alloc, down_node, pass),
-            Place::Down(down_node) => self.wait_down(rt, alloc, down_node, pass),
-            Place::Over(node) => Ok((Place::Over(node), pass)),
+            WorkerState::Up(node) => self.go_on(rt, alloc, node, pass),
+            WorkerState::Called(node) => self.join(rt, alloc, node, pass),
+            WorkerState::In(node) => self.wait_in(rt, alloc, node, pass),
+            WorkerState::Failed(down_node) => self.declare(rt, alloc, down_node, pass),
+            WorkerState::Down(down_node) => self.wait_down(rt, alloc, down_node, pass),
+            WorkerState::Over(node) => Ok((WorkerState::Over(node), pass)),
         }
     }
 
@@ -428,9 +429,9 @@ impl<'a, K: Naming> Worker<'a, K> {
         &mut self,
         rt: &R,
         alloc: Global,
-        place: Place<'a, J, S>,
+        place: WorkerState<'a, J, S>,
         pass: Pass<K>,
-    ) -> Result<(Place<'a, J, S>, Pass<K>), WorkerFault>
+    ) -> Result<(WorkerState<'a, J, S>, Pass<K>), WorkerFault>
         requires own { (member_of place).own ≡ self.old.links.own }
         requires program { slice_get K.programs (member_of place).own ≡ Some (member_of place).program }
         requires size { (member_of place).n ≡ K.cell.n }
@@ -450,7 +451,11 @@ impl<'a, K: Naming> Worker<'a, K> {
 
     // Shows whoever watches what the process does where it stands.
     #[inline(never)]
-    fn show<J: Series, S: Stable, R: Wait>(&self, rt: &R, turned: &mut (Place<'a, J, S>, Pass<K>))
+    fn show<J: Series, S: Stable, R: Wait>(
+        &self,
+        rt: &R,
+        turned: &mut (WorkerState<'a, J, S>, Pass<K>),
+    )
         ensures { turned.new.0 ≡ turned.old.0 }
     {
         let Some(watch) = self.watch else {
@@ -477,7 +482,7 @@ impl<'a, K: Naming> Worker<'a, K> {
         alloc: Global,
         node: Node<'a, J, S>,
         pass: Pass<K>,
-    ) -> Result<(Place<'a, J, S>, Pass<K>), WorkerFault>
+    ) -> Result<(WorkerState<'a, J, S>, Pass<K>), WorkerFault>
         requires own { node.member.own ≡ self.old.links.own }
         requires program { slice_get K.programs node.member.own ≡ Some node.member.program }
         requires size { node.member.n ≡ K.cell.n }
@@ -487,7 +492,7 @@ impl<'a, K: Naming> Worker<'a, K> {
         ensures landed { IfOk result (λ r. IsLanded r.0) }
     {
         if self.waits_for_others(rt) {
-            return Ok((Place::Up(node), pass));
+            return Ok((WorkerState::Up(node), pass));
         }
         let mut node = node;
         match self.step(rt, alloc, &mut node) {
@@ -506,7 +511,7 @@ impl<'a, K: Naming> Worker<'a, K> {
         rt: &R,
         alloc: Global,
         node: &mut Node<'a, J, S>,
-    ) -> Result<Step, WorkerFault>
+    ) -> Result<TurnOutcome, WorkerFault>
         requires own { node.old.member.own ≡ self.old.links.own }
         requires program { slice_get K.programs node.old.member.own ≡ Some node.old.member.program }
         requires size { node.old.member.n ≡ K.cell.n }
@@ -517,7 +522,7 @@ impl<'a, K: Naming> Worker<'a, K> {
     {
         self.look(rt, node)?;
         match self.advance(rt, alloc, node)? {
-            Step::Up => Ok(Step::Up),
+            TurnOutcome::Up => Ok(TurnOutcome::Up),
             step => {
                 self.recall(rt, node)?;
                 Ok(step)
@@ -532,7 +537,7 @@ impl<'a, K: Naming> Worker<'a, K> {
         rt: &R,
         alloc: Global,
         node: &mut Node<'a, J, S>,
-    ) -> Result<Step, WorkerFault>
+    ) -> Result<TurnOutcome, WorkerFault>
         requires own { node.old.member.own ≡ self.old.links.own }
         requires program { slice_get K.programs node.old.member.own ≡ Some node.old.member.program }
         requires size { node.old.member.n ≡ K.cell.n }
@@ -544,16 +549,16 @@ impl<'a, K: Naming> Worker<'a, K> {
         let called = self.manager_link.is_called(self.manager_link.failures());
         let standing = self.report(rt, alloc, node, status, called)?;
         match standing {
-            Standing::Closed => {
+            ManagerPhase::Closed => {
                 if !has_ended(status) {
                     self.launch(rt, alloc, node)?;
                 }
                 self.receive(rt, alloc, node, status)
             }
-            Standing::Gathers => Ok(Step::Called),
-            Standing::Quiet => {
+            ManagerPhase::Gathers => Ok(TurnOutcome::Called),
+            ManagerPhase::Quiet => {
                 self.links.wake_all();
-                Ok(Step::Over)
+                Ok(TurnOutcome::Over)
             }
         }
     }
@@ -602,7 +607,7 @@ impl<'a, K: Naming> Worker<'a, K> {
         node: &mut Node<'a, J, S>,
         status: Status,
         called: bool,
-    ) -> Result<Standing, WorkerFault>
+    ) -> Result<ManagerPhase, WorkerFault>
         requires own { node.old.member.own ≡ self.old.links.own }
         requires program { slice_get K.programs node.old.member.own ≡ Some node.old.member.program }
         requires size { node.old.member.n ≡ K.cell.n }
@@ -617,7 +622,7 @@ impl<'a, K: Naming> Worker<'a, K> {
     {
         let ended = has_ended(status);
         if !self.manager_link.is_due(node.core(), ended, called) {
-            return Ok(Standing::Closed);
+            return Ok(ManagerPhase::Closed);
         }
         let is_patient = self.patience.is_patient();
         let (standing, limits) = self
@@ -635,7 +640,7 @@ impl<'a, K: Naming> Worker<'a, K> {
         alloc: Global,
         node: &mut Node<'a, J, S>,
         status: Status,
-    ) -> Result<Step, WorkerFault>
+    ) -> Result<TurnOutcome, WorkerFault>
         ensures same { self.new.links ≡ self.old.links }
         ensures member { node.new.member ≡ node.old.member }
         ensures offered { OnOk result ((node.new.core ≡ node.old.core)
@@ -652,7 +657,7 @@ impl<'a, K: Naming> Worker<'a, K> {
                 self.rest(rt);
             }
         }
-        Ok(Step::Up)
+        Ok(TurnOutcome::Up)
     }
 
     // Takes a message, or rests; what ends the rest is taken at once.
@@ -684,7 +689,7 @@ impl<'a, K: Naming> Worker<'a, K> {
         alloc: Global,
         node: &mut Node<'a, J, S>,
         taken: &Taken,
-    ) -> Result<Step, WorkerFault>
+    ) -> Result<TurnOutcome, WorkerFault>
         ensures same { self.new.links ≡ self.old.links }
         ensures member { node.new.member ≡ node.old.member }
         ensures offered { OnOk result (IsOffered node.old.core taken.now.message node.new.core.now) }
@@ -702,12 +707,12 @@ impl<'a, K: Naming> Worker<'a, K> {
             Accept::Memory => Err(WorkerFault::Memory),
             Accept::Repeat => {
                 self.idle.interrupt();
-                Ok(Step::Up)
+                Ok(TurnOutcome::Up)
             }
             _ => {
                 self.change();
                 self.manager_link.refuse(rt);
-                Ok(Step::Up)
+                Ok(TurnOutcome::Up)
             }
         }
     }
@@ -787,7 +792,7 @@ impl<'a, K: Naming> Worker<'a, K> {
         alloc: Global,
         node: Node<'a, J, S>,
         pass: Pass<K>,
-    ) -> Result<(Place<'a, J, S>, Pass<K>), WorkerFault>
+    ) -> Result<(WorkerState<'a, J, S>, Pass<K>), WorkerFault>
         requires own { node.member.own ≡ self.old.links.own }
         requires program { slice_get K.programs node.member.own ≡ Some node.member.program }
         requires size { node.member.n ≡ K.cell.n }
@@ -796,11 +801,11 @@ impl<'a, K: Naming> Worker<'a, K> {
         ensures same { self.new.links ≡ self.old.links }
         ensures place { IfOk result (λ r. member_of r.0 ≡ node.entry.member) }
         ensures landed { IfOk result (λ r. IsLanded r.0) }
-        ensures turned { IfOk result (λ r. IsTurnOf K.cell.n self.old.manager_link.round (Place.Called node.entry) r.0) }
+        ensures turned { IfOk result (λ r. IsTurnOf K.cell.n self.old.manager_link.round (WorkerState.Called node.entry) r.0) }
     {
         let mut node = node;
         match self.enter(rt, alloc, &mut node, pass) {
-            Ok(pass) => Ok((Place::In(node), pass)),
+            Ok(pass) => Ok((WorkerState::In(node), pass)),
             Err(worker_fault) => {
                 drop(node);
                 Err(worker_fault)
@@ -847,17 +852,17 @@ impl<'a, K: Naming> Worker<'a, K> {
         alloc: Global,
         down_node: DownNode<'a, J, S>,
         pass: Pass<K>,
-    ) -> Result<(Place<'a, J, S>, Pass<K>), WorkerFault>
+    ) -> Result<(WorkerState<'a, J, S>, Pass<K>), WorkerFault>
         requires { down_node.own ≡ self.old.links.own }
         ensures same { self.new.links ≡ self.old.links }
         ensures place { IfOk result (λ r. member_of r.0 ≡ down_node.entry) }
         ensures landed { IfOk result (λ r. IsLanded r.0) }
-        ensures turned { IfOk result (λ r. IsTurnOf K.cell.n self.old.manager_link.round (Place.Failed down_node.entry) r.0) }
+        ensures turned { IfOk result (λ r. IsTurnOf K.cell.n self.old.manager_link.round (WorkerState.Failed down_node.entry) r.0) }
     {
         let pass = self.manager_link.declare(rt, alloc, &mut self.diary, pass)?;
         self.links.wake_all();
         self.change();
-        Ok((Place::Down(down_node), pass))
+        Ok((WorkerState::Down(down_node), pass))
     }
 
     // Waits for the round to be finished, and then goes on as its verdict says.
@@ -868,14 +873,14 @@ impl<'a, K: Naming> Worker<'a, K> {
         alloc: Global,
         node: Node<'a, J, S>,
         pass: Pass<K>,
-    ) -> Result<(Place<'a, J, S>, Pass<K>), WorkerFault>
+    ) -> Result<(WorkerState<'a, J, S>, Pass<K>), WorkerFault>
         requires own { node.member.own ≡ self.old.links.own }
         requires size { node.member.n ≡ K.cell.n }
         requires landed { node.away ≡ false }
         ensures same { self.new.links ≡ self.old.links }
         ensures place { IfOk result (λ r. member_of r.0 ≡ node.entry.member) }
         ensures landed { IfOk result (λ r. IsLanded r.0) }
-        ensures turned { IfOk result (λ r. IsTurnOf K.cell.n self.old.manager_link.round (Place.In node.entry) r.0) }
+        ensures turned { IfOk result (λ r. IsTurnOf K.cell.n self.old.manager_link.round (WorkerState.In node.entry) r.0) }
     {
         let (told, pass) = match self.listen(rt, alloc, pass) {
             Ok(heard) => heard,
@@ -885,7 +890,7 @@ impl<'a, K: Naming> Worker<'a, K> {
             }
         };
         match told {
-            None => Ok((Place::In(node), pass)),
+            None => Ok((WorkerState::In(node), pass)),
             Some(told) => {
                 let place = self.rise(rt, alloc, node, &told)?;
                 Ok((place, pass))
@@ -901,7 +906,7 @@ impl<'a, K: Naming> Worker<'a, K> {
         alloc: Global,
         node: Node<'a, J, S>,
         told: &RoundOutcome,
-    ) -> Result<Place<'a, J, S>, WorkerFault>
+    ) -> Result<WorkerState<'a, J, S>, WorkerFault>
         requires starts { length told.now.starts ≡ node.member.n }
         requires landed { node.away ≡ false }
         ensures same { self.new.links ≡ self.old.links }
@@ -923,10 +928,10 @@ impl<'a, K: Naming> Worker<'a, K> {
         node: Node<'a, J, S>,
         verdict: &Verdict,
         is_back: bool,
-    ) -> Result<Place<'a, J, S>, WorkerFault>
+    ) -> Result<WorkerState<'a, J, S>, WorkerFault>
         requires { node.core.round ≡ verdict.now.round }
         ensures same { self.new.links ≡ self.old.links }
-        ensures place { IfOk result (λ place. place ≡ Place.Up node.entry) }
+        ensures place { IfOk result (λ place. place ≡ WorkerState.Up node.entry) }
     {
         self.links.tell_all_received(node.core());
         if is_back {
@@ -935,7 +940,7 @@ impl<'a, K: Naming> Worker<'a, K> {
         match self.diary.returned(rt, node.core(), verdict, is_back) {
             Ok(()) => {
                 self.arrive(verdict.round);
-                Ok(Place::Up(node))
+                Ok(WorkerState::Up(node))
             }
             Err(error) => {
                 drop(node);
@@ -952,17 +957,17 @@ impl<'a, K: Naming> Worker<'a, K> {
         alloc: Global,
         down_node: DownNode<'a, J, S>,
         pass: Pass<K>,
-    ) -> Result<(Place<'a, J, S>, Pass<K>), WorkerFault>
+    ) -> Result<(WorkerState<'a, J, S>, Pass<K>), WorkerFault>
         requires own { down_node.own ≡ self.old.links.own }
         requires size { down_node.n ≡ K.cell.n }
         ensures same { self.new.links ≡ self.old.links }
         ensures place { IfOk result (λ r. member_of r.0 ≡ down_node.entry) }
         ensures landed { IfOk result (λ r. IsLanded r.0) }
-        ensures turned { IfOk result (λ r. IsTurnOf K.cell.n self.old.manager_link.round (Place.Down down_node.entry) r.0) }
+        ensures turned { IfOk result (λ r. IsTurnOf K.cell.n self.old.manager_link.round (WorkerState.Down down_node.entry) r.0) }
     {
         let (told, pass) = self.listen(rt, alloc, pass)?;
         match told {
-            None => Ok((Place::Down(down_node), pass)),
+            None => Ok((WorkerState::Down(down_node), pass)),
             Some(told) => {
                 let place = self.come_back(rt, alloc, down_node, &told)?;
                 Ok((place, pass))
@@ -978,7 +983,7 @@ impl<'a, K: Naming> Worker<'a, K> {
         alloc: Global,
         down_node: DownNode<'a, J, S>,
         told: &RoundOutcome,
-    ) -> Result<Place<'a, J, S>, WorkerFault>
+    ) -> Result<WorkerState<'a, J, S>, WorkerFault>
         requires { length told.now.starts ≡ down_node.n }
         ensures same { self.new.links ≡ self.old.links }
         ensures back { IfOk result (λ place. HasComeBack told.now down_node.entry place) }

@@ -2,24 +2,24 @@
 //! overwrite, and what the system answered where one of them failed. What stands in them is no matter here.
 //!
 //! - `names`: how they are named, and `identity`: which file one is, whatever its names
-//! - `places`: the files that a run makes for stores of its own; `standing`: those that a run finds which takes up stores
+//! - `places`: the files that a run makes for stores of its own; `files_before`: those that a run finds which takes up stores
 //! - `clashing`: whether a file that is to be written beside them is one that the run has, or a database
 //! - `settling`: each store in its one file, behind a run
 //! - `noting`: what the system answered where one of them failed
 #![tactic(auto)]
 
 mod clashing;
+mod files_before;
 mod identity;
 mod names;
 mod noting;
 mod places;
 mod settling;
-mod standing;
 
 pub use clashing::{Clash, clash_with_databases, clash_with_streams, clashes_with_stores};
+pub use files_before::FilesBefore;
 pub use identity::Identity;
 pub use names::{is_written, log_of, store_of};
 pub use noting::{Note, NotedFile, Notes};
 pub use places::{PlaceError, Places};
 pub use settling::settle;
-pub use standing::Standing;

@@ -20,7 +20,7 @@ use Rattle.om_member.specs.Handed.{AreHandedUpTo, outputs_from}
 use Rattle.om_member.specs.Members.{Gained, HasNoted, HasRun, HasStored, HasTrimmed, IsNotUp, IsOffered, TakesTurns, WasCalled, WasPruned, after_store, trimmed_core}
 use Rattle.om_member.specs.declared.member.Member.{Member}
 use Rattle.om_member.specs.declared.member.NotUp.{NotUp}
-use Rattle.om_member.specs.declared.member.Standing.TheVariants as stands
+use Rattle.om_member.specs.declared.member.MemberState.TheVariants as stands
 use Rattle.om_world.specs.declared.entry.Entry.{Entry}
 use Rattle.om_world.specs.declared.event.Refusal.{Refusal}
 use Rattle.om_world.specs.declared.event.Refusal.TheVariants as why

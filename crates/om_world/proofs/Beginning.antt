@@ -28,7 +28,7 @@ use Rattle.om_manager.specs.State.{ManagerState}
 use Rattle.om_manager.specs.declared.presence.Presence.{Presence}
 use Rattle.om_manager.specs.declared.presence.Presence.TheVariants.{Away, Failed, Joined}
 use Rattle.om_world.specs.declared.entry.Entry.{Entry}
-use Rattle.om_world.specs.declared.place.Place.{Place}
+use Rattle.om_world.specs.declared.process_state.ProcessState.{ProcessState}
 use Rattle.om_world.specs.Live.{program_at}
 use Rattle.om_world.specs.World.{Health, WorldState, IsEmpty, IsKnown, all_clean}
 use Rattle.om_world.specs.steps.Past.{Past, history}
@@ -158,7 +158,7 @@ begun content health programs cores xs ys m = record {
   live = [];
   frames = [];
   cores = cores;
-  places = replicate (length programs) Place.Up;
+  places = replicate (length programs) ProcessState.Up;
   rounds = replicate (length programs) 0;
   manager = m;
   contents = map content ys;
@@ -205,16 +205,16 @@ held_at content health IsSound programs cores xs ys m p held b known at =
     let none : content before.0 ≡ nothing = all_at IsEmpty (map content xs) p (content before.0) known.0 (map_at content xs p before.0 before.1) in
     (program.0, program.1, subst (HasGainedCheckpoint (started_core program.0 p (length programs)) nothing) is (subst (λ a. HasGainedCheckpoint (started_core program.0 p (length programs)) a (content o.0)) none o.3))
 
-none_joined : (n p : ℕ) → slice_get (replicate n Place.Up) p ≡ Some Place.In → ⊥
-none_joined n p at = apart (same_at n p Place.Up Place.In at)
+none_joined : (n p : ℕ) → slice_get (replicate n ProcessState.Up) p ≡ Some ProcessState.In → ⊥
+none_joined n p at = apart (same_at n p ProcessState.Up ProcessState.In at)
   where
-    apart : Place.In ≡ Place.Up → ⊥
+    apart : ProcessState.In ≡ ProcessState.Up → ⊥
     apart e = cc
 
-none_down : (n p : ℕ) (declared : Bool) → slice_get (replicate n Place.Up) p ≡ Some (Place.Down declared) → ⊥
-none_down n p declared at = apart (same_at n p Place.Up (Place.Down declared) at)
+none_down : (n p : ℕ) (declared : Bool) → slice_get (replicate n ProcessState.Up) p ≡ Some (ProcessState.Down declared) → ⊥
+none_down n p declared at = apart (same_at n p ProcessState.Up (ProcessState.Down declared) at)
   where
-    apart : Place.Down declared ≡ Place.Up → ⊥
+    apart : ProcessState.Down declared ≡ ProcessState.Up → ⊥
     apart e = cc
 
 shape_begun : {S : Type 0} (content : S → Content) (health : S → Health) (IsSound : S → Type 0) (programs : List Program) (cores : List (Option CoreState)) (xs ys : List S) (m : ManagerState) → IsBegun content health IsSound programs cores xs ys m → HasShape (begun content health programs cores xs ys m)
@@ -222,13 +222,13 @@ shape_begun content health IsSound programs cores xs ys m b = record {
   few = b.few;
   stores = length-map content ys ∙ b.started.size ∙ b.stores;
   cores = b.started.many;
-  places = length-replicate (length programs) Place.Up;
+  places = length-replicate (length programs) ProcessState.Up;
   own = λ p c at.
       let o = core_at content health IsSound programs cores xs ys m p c b at in
       subst (IsCoreOf (length programs) p) o.3 (record { own = refl; size = length-replicate (length programs) 0 });
   there = λ p at.
-      let short = inside (replicate (length programs) Place.Up) p Place.Up at in
-      let long : length (replicate (length programs) Place.Up) ≡ length programs = length-replicate (length programs) Place.Up in
+      let short = inside (replicate (length programs) ProcessState.Up) p ProcessState.Up at in
+      let long : length (replicate (length programs) ProcessState.Up) ≡ length programs = length-replicate (length programs) ProcessState.Up in
       let program = there programs p (omega arith) in
       (started_core program.0 p (length programs), b.started.cores p program.0 (omega arith) program.1);
   rounds = length-replicate (length programs) 0;
@@ -374,14 +374,14 @@ begun_by content health IsSound programs n cores xs ys m size few stores started
   sound = sound;
 }
 
-pub begun_is : {S : Type 0} (content : S → Content) (health : S → Health) (programs ps : List Program) (n : ℕ) (live : List Entry) (frames : List Message) (cores : List (Option CoreState)) (places : List Place) (rounds : List ℕ) (xs os ys : List S) (m : ManagerState) → length programs ≡ n
-    → ps ≡ programs → live ≡ [] → frames ≡ [] → places ≡ replicate n Place.Up → rounds ≡ replicate n 0 → os ≡ xs
+pub begun_is : {S : Type 0} (content : S → Content) (health : S → Health) (programs ps : List Program) (n : ℕ) (live : List Entry) (frames : List Message) (cores : List (Option CoreState)) (places : List ProcessState) (rounds : List ℕ) (xs os ys : List S) (m : ManagerState) → length programs ≡ n
+    → ps ≡ programs → live ≡ [] → frames ≡ [] → places ≡ replicate n ProcessState.Up → rounds ≡ replicate n 0 → os ≡ xs
     → begun content health programs cores xs ys m ≡ record { programs = ps; live = live; frames = frames; cores = cores; places = places; rounds = rounds; manager = m; contents = map content ys; health = map health ys; origins = map content os }
 begun_is content health programs ps n live frames cores places rounds xs os ys m size p l f u r o =
-    ap (λ k. record { programs = programs; live = []; frames = []; cores = cores; places = replicate k Place.Up; rounds = replicate k 0; manager = m; contents = map content ys; health = map health ys; origins = map content xs }) size
+    ap (λ k. record { programs = programs; live = []; frames = []; cores = cores; places = replicate k ProcessState.Up; rounds = replicate k 0; manager = m; contents = map content ys; health = map health ys; origins = map content xs }) size
     ∙ sym (ap (λ k. record { programs = k; live = live; frames = frames; cores = cores; places = places; rounds = rounds; manager = m; contents = map content ys; health = map health ys; origins = map content os }) p
     ∙ ap (λ k. record { programs = programs; live = k; frames = frames; cores = cores; places = places; rounds = rounds; manager = m; contents = map content ys; health = map health ys; origins = map content os }) l
     ∙ ap (λ k. record { programs = programs; live = []; frames = k; cores = cores; places = places; rounds = rounds; manager = m; contents = map content ys; health = map health ys; origins = map content os }) f
     ∙ ap (λ k. record { programs = programs; live = []; frames = []; cores = cores; places = k; rounds = rounds; manager = m; contents = map content ys; health = map health ys; origins = map content os }) u
-    ∙ ap (λ k. record { programs = programs; live = []; frames = []; cores = cores; places = replicate n Place.Up; rounds = k; manager = m; contents = map content ys; health = map health ys; origins = map content os }) r
-    ∙ ap (λ k. record { programs = programs; live = []; frames = []; cores = cores; places = replicate n Place.Up; rounds = replicate n 0; manager = m; contents = map content ys; health = map health ys; origins = map content k }) o)
+    ∙ ap (λ k. record { programs = programs; live = []; frames = []; cores = cores; places = replicate n ProcessState.Up; rounds = k; manager = m; contents = map content ys; health = map health ys; origins = map content os }) r
+    ∙ ap (λ k. record { programs = programs; live = []; frames = []; cores = cores; places = replicate n ProcessState.Up; rounds = replicate n 0; manager = m; contents = map content ys; health = map health ys; origins = map content k }) o)

@@ -13,7 +13,7 @@ use Rattle.om_world.specs.declared.event.Answer.{Answer}
 use Rattle.om_world.specs.declared.event.Answer.TheVariants as answers
 use Rattle.om_world.specs.declared.event.Event.{Event}
 use Rattle.om_world.specs.declared.event.Refusal.{Refusal}
-use Rattle.om_world.specs.declared.place.Place.{Place}
+use Rattle.om_world.specs.declared.process_state.ProcessState.{ProcessState}
 use Rattle.om_world.specs.Failures.{HasNews, IsToDeclare, gathered, taken_down}
 use Rattle.om_world.specs.Happened.{Happened}
 use Rattle.om_world.specs.World.{IsEmpty, IsKnown, WorldState, all_clean}
@@ -40,7 +40,7 @@ fail_happened w v z p told due e h known = (
   due,
   subst (λ (m : ManagerState). Gathers (with_failed m p) m told z.manager) (ap (λ (x : WorldState). x.manager) e) (h.manager (known_declared v z p told h known)),
   h.others ∙ ap (λ (x : WorldState). gathered (declared x p) told z.manager) e
-      ∙ ap (λ l. gathered (record (taken_down w p true) { places = l }) told z.manager) (set-set w.places p (Place.Down false) (Place.Down true)),
+      ∙ ap (λ l. gathered (record (taken_down w p true) { places = l }) told z.manager) (set-set w.places p (ProcessState.Down false) (ProcessState.Down true)),
 )
 
 pub fail_keeps : (w v z : WorldState) (p : ℕ) (told : Gathered) → v ≡ taken_down w p false → HasDeclaredAt v p (Ok told) z → Keeps w z
@@ -80,19 +80,19 @@ down_keeps w v p e = keeps_by w v (ap (λ (x : WorldState). x.manager) e) (ap (�
 pub refused_keeps : (w v z : WorldState) (p : ℕ) (fault : FailError) → v ≡ taken_down w p false → HasDeclaredAt v p (Err fault) z → Keeps w z
 refused_keeps w v z p fault e d = down_keeps w z p (d.refused ∙ e)
 
-pub in_undeclared : (o : Option Place) → o ≡ Some Place.In → o ≢ Some (Place.Down true)
+pub in_undeclared : (o : Option ProcessState) → o ≡ Some ProcessState.In → o ≢ Some (ProcessState.Down true)
 in_undeclared o e f = cc
 
 -- whose failure is to be declared has a place, and it is not declared
-due_place : (w : WorldState) (p : ℕ) → IsToDeclare w p → (place : Place) × (slice_get w.places p ≡ Some place) × (place ≢ Place.Down true)
-due_place w p (IsToDeclare.up at) = (Place.Up, at, λ f. cc)
-due_place w p (IsToDeclare.joined at news) = (Place.In, at, λ f. cc)
-due_place w p (IsToDeclare.refused at news) = (Place.Down false, at, λ f. cc)
+due_place : (w : WorldState) (p : ℕ) → IsToDeclare w p → (place : ProcessState) × (slice_get w.places p ≡ Some place) × (place ≢ ProcessState.Down true)
+due_place w p (IsToDeclare.up at) = (ProcessState.Up, at, λ f. cc)
+due_place w p (IsToDeclare.joined at news) = (ProcessState.In, at, λ f. cc)
+due_place w p (IsToDeclare.refused at news) = (ProcessState.Down false, at, λ f. cc)
 
-pub due_undeclared : (w : WorldState) (p : ℕ) → IsToDeclare w p → slice_get w.places p ≢ Some (Place.Down true)
-due_undeclared w p due e = let d = due_place w p due in d.2 (once d.0 (Place.Down true) (sym d.1 ∙ e))
+pub due_undeclared : (w : WorldState) (p : ℕ) → IsToDeclare w p → slice_get w.places p ≢ Some (ProcessState.Down true)
+due_undeclared w p due e = let d = due_place w p due in d.2 (once d.0 (ProcessState.Down true) (sym d.1 ∙ e))
 
-pub due_down : (w v : WorldState) (p : ℕ) → IsToDeclare w p → v ≡ taken_down w p false → slice_get v.places p ≡ Some (Place.Down false)
+pub due_down : (w v : WorldState) (p : ℕ) → IsToDeclare w p → v ≡ taken_down w p false → slice_get v.places p ≡ Some (ProcessState.Down false)
 due_down w v p due e =
     let d = due_place w p due in
-    subst (λ (x : WorldState). slice_get x.places p ≡ Some (Place.Down false)) (sym e) (here w.places p (Place.Down false) (inside w.places p d.0 d.1))
+    subst (λ (x : WorldState). slice_get x.places p ≡ Some (ProcessState.Down false)) (sym e) (here w.places p (ProcessState.Down false) (inside w.places p d.0 d.1))

@@ -16,7 +16,7 @@ use Rattle.om_manager.specs.declared.answers.JoinError.TheVariants as joining
 use Rattle.om_manager.specs.declared.presence.Presence.{Presence}
 use Rattle.om_manager.specs.declared.presence.Presence.TheVariants.{Away, Failed, Joined}
 use Rattle.om_world.specs.declared.entry.Entry.{Entry}
-use Rattle.om_world.specs.declared.place.Place.{Place}
+use Rattle.om_world.specs.declared.process_state.ProcessState.{ProcessState}
 use Rattle.om_world.specs.Changes.{IsUp}
 use Rattle.om_world.specs.Failures.{HasNews}
 use Rattle.om_world.specs.World.{WorldState}
@@ -27,26 +27,26 @@ use Rattle.om_world.proofs.Gathering.{IsEntering, now_in, running_interval, soun
 use Rattle.om_world.proofs.Lists.{at_change, either, inside, once, set_apart, there}
 
 -- ---- a process is placed anew
-abbrev pub placed : WorldState → ℕ → Place → WorldState
+abbrev pub placed : WorldState → ℕ → ProcessState → WorldState
 placed w p place = record w { places = set w.places p place }
 
 -- the manager knows more, and what was received may be cut
-abbrev pub placed_with : WorldState → ℕ → Place → List Entry → ManagerState → WorldState
+abbrev pub placed_with : WorldState → ℕ → ProcessState → List Entry → ManagerState → WorldState
 placed_with w p place live m = record w { live = live; places = set w.places p place; manager = m }
 
 -- it is in with its core, or down
-record IsOut (w : WorldState) (p : ℕ) (place : Place) : Type 0 where
-  pub not_up : place ≡ Place.Up → ⊥
-  pub core : place ≡ Place.In → (c : CoreState) × (slice_get w.cores p ≡ Some (Some c))
+record IsOut (w : WorldState) (p : ℕ) (place : ProcessState) : Type 0 where
+  pub not_up : place ≡ ProcessState.Up → ⊥
+  pub core : place ≡ ProcessState.In → (c : CoreState) × (slice_get w.cores p ≡ Some (Some c))
 
 -- what is known of it there
-record IsPlacing (w : WorldState) (p : ℕ) (place : Place) : Type 0 where
-  pub not_up : place ≡ Place.Up → ⊥
-  pub failed : presence_of (presences_of w.manager.gathering) p ≡ Failed → place ≡ Place.Down true
-  pub ran : place ≡ Place.In → Runs w p
-  pub inc : place ≡ Place.In → (c : CoreState) → slice_get w.cores p ≡ Some (Some c) → c.inc ≡ newest_of w.manager.starts p
-  pub told : place ≡ Place.In → HasNews w p → ⊥
-  pub was : (declared : Bool) → place ≡ Place.Down declared → (before : Bool) × (slice_get w.places p ≡ Some (Place.Down before))
+record IsPlacing (w : WorldState) (p : ℕ) (place : ProcessState) : Type 0 where
+  pub not_up : place ≡ ProcessState.Up → ⊥
+  pub failed : presence_of (presences_of w.manager.gathering) p ≡ Failed → place ≡ ProcessState.Down true
+  pub ran : place ≡ ProcessState.In → Runs w p
+  pub inc : place ≡ ProcessState.In → (c : CoreState) → slice_get w.cores p ≡ Some (Some c) → c.inc ≡ newest_of w.manager.starts p
+  pub told : place ≡ ProcessState.In → HasNews w p → ⊥
+  pub was : (declared : Bool) → place ≡ ProcessState.Down declared → (before : Bool) × (slice_get w.places p ≡ Some (ProcessState.Down before))
 
 pub here : {A : Type 0} (xs : List A) (i : ℕ) (x : A) → i < length xs → slice_get (set xs i x) i ≡ Some x
 here [] i x lt = absurd (omega arith)
@@ -54,16 +54,16 @@ here (y ∷ xs) zero x lt = refl
 here (y ∷ xs) (suc i) x lt = here xs i x (omega arith)
 
 -- where a process stands that stands there after one was placed
-stood : (w : WorldState) (p q : ℕ) (place at : Place) → slice_get (set w.places p place) q ≡ Some at → ((q ≡ p) × (place ≡ at)) ⊎ (slice_get w.places q ≡ Some at)
+stood : (w : WorldState) (p q : ℕ) (place at : ProcessState) → slice_get (set w.places p place) q ≡ Some at → ((q ≡ p) × (place ≡ at)) ⊎ (slice_get w.places q ≡ Some at)
 stood w p q place at is = elim (at_change w.places p q at place is) [ inl mine ↦ inl (mine.0, sym mine.1) | inr other ↦ inr other.1 ]
 
-ran_before : (w : WorldState) (p q : ℕ) (place : Place) → IsPlacing w p place → Runs (placed w p place) q → Runs w q
+ran_before : (w : WorldState) (p q : ℕ) (place : ProcessState) → IsPlacing w p place → Runs (placed w p place) q → Runs w q
 ran_before w p q place k runs = elim runs [
-  | inl up ↦ elim (stood w p q place Place.Up up) [ inl mine ↦ absurd (k.not_up mine.1) | inr old ↦ inl old ]
-  | inr stays ↦ elim (stood w p q place Place.In stays.0) [ inl mine ↦ subst (Runs w) (sym mine.0) (k.ran mine.1) | inr old ↦ inr (old, stays.1) ]
+  | inl up ↦ elim (stood w p q place ProcessState.Up up) [ inl mine ↦ absurd (k.not_up mine.1) | inr old ↦ inl old ]
+  | inr stays ↦ elim (stood w p q place ProcessState.In stays.0) [ inl mine ↦ subst (Runs w) (sym mine.0) (k.ran mine.1) | inr old ↦ inr (old, stays.1) ]
 ]
 
-shape_placed : (w : WorldState) (p : ℕ) (place : Place) → HasShape w → IsOut w p place → HasShape (placed w p place)
+shape_placed : (w : WorldState) (p : ℕ) (place : ProcessState) → HasShape w → IsOut w p place → HasShape (placed w p place)
 shape_placed w p place h k = record {
   few = h.few;
   stores = h.stores;
@@ -71,8 +71,8 @@ shape_placed w p place h k = record {
   places = length-set w.places p place ∙ h.places;
   own = h.own;
   rounds = h.rounds;
-  there = λ q up. elim (stood w p q place Place.Up up) [ inl mine ↦ absurd (k.not_up mine.1) | inr old ↦ h.there q old ];
-  inside = λ q joined. elim (stood w p q place Place.In joined) [
+  there = λ q up. elim (stood w p q place ProcessState.Up up) [ inl mine ↦ absurd (k.not_up mine.1) | inr old ↦ h.there q old ];
+  inside = λ q joined. elim (stood w p q place ProcessState.In joined) [
     | inl mine ↦ subst (λ o. (c : CoreState) × (slice_get w.cores o ≡ Some (Some c))) (sym mine.0) (k.core mine.1)
     | inr old ↦ h.inside q old
   ];
@@ -80,7 +80,7 @@ shape_placed w p place h k = record {
   size = h.size;
 }
 
-sound_placed : (w : WorldState) (p : ℕ) (place : Place) → p < length w.places → Sound w → IsPlacing w p place → Sound (placed w p place)
+sound_placed : (w : WorldState) (p : ℕ) (place : ProcessState) → p < length w.places → Sound w → IsPlacing w p place → Sound (placed w p place)
 sound_placed w p place lt s k = record {
   legal = s.legal;
   frames = s.frames;
@@ -89,25 +89,25 @@ sound_placed w p place lt s k = record {
   stored = s.stored;
   backed = s.backed;
   running = λ q c held at holds runs. s.running q c held at holds (ran_before w p q place k runs);
-  up = λ q c at up. elim (stood w p q place Place.Up up) [ inl mine ↦ absurd (k.not_up mine.1) | inr old ↦ s.up q c at old ];
+  up = λ q c at up. elim (stood w p q place ProcessState.Up up) [ inl mine ↦ absurd (k.not_up mine.1) | inr old ↦ s.up q c at old ];
   joined = s.joined;
   failed = λ q is. elim (either q p) [
     | inl mine ↦ ap (slice_get (set w.places p place)) mine ∙ here w.places p place lt ∙ ap (λ a. Some a) (k.failed (ap (presence_of (presences_of w.manager.gathering)) (sym mine) ∙ is))
     | inr other ↦ set_apart w.places p q place other ∙ s.failed q is
   ];
   gathered = s.gathered;
-  current = λ q up. elim (stood w p q place Place.Up up) [ inl mine ↦ absurd (k.not_up mine.1) | inr old ↦ s.current q old ];
+  current = λ q up. elim (stood w p q place ProcessState.Up up) [ inl mine ↦ absurd (k.not_up mine.1) | inr old ↦ s.current q old ];
   known = s.known;
-  ends = λ q declared held at old holds. elim (stood w p q place (Place.Down declared) at) [
-    | inl mine ↦ let before = k.was declared mine.1 in s.ends q before.0 held (subst (λ o. slice_get w.places o ≡ Some (Place.Down before.0)) (sym mine.0) before.1) old holds
+  ends = λ q declared held at old holds. elim (stood w p q place (ProcessState.Down declared) at) [
+    | inl mine ↦ let before = k.was declared mine.1 in s.ends q before.0 held (subst (λ o. slice_get w.places o ≡ Some (ProcessState.Down before.0)) (sym mine.0) before.1) old holds
     | inr was ↦ s.ends q declared held was old holds
   ];
   behind = s.behind;
-  inside = λ q c at joined runs. elim (stood w p q place Place.In joined) [
+  inside = λ q c at joined runs. elim (stood w p q place ProcessState.In joined) [
     | inl mine ↦ k.inc mine.1 c (subst (λ o. slice_get w.cores o ≡ Some (Some c)) mine.0 at) ∙ ap (newest_of w.manager.starts) (sym mine.0)
     | inr old ↦ s.inside q c at old (ran_before w p q place k runs)
   ];
-  beyond = λ q c at joined news back. elim (stood w p q place Place.In joined) [
+  beyond = λ q c at joined news back. elim (stood w p q place ProcessState.In joined) [
     | inl mine ↦ absurd (k.told mine.1 (subst (HasNews w) mine.0 news))
     | inr old ↦ s.beyond q c at old news back
   ];
@@ -115,12 +115,12 @@ sound_placed w p place lt s k = record {
 
 -- ---- and the manager takes it in
 -- what is known of a process that was placed, and that the manager has taken in
-record IsTakenIn (w : WorldState) (p : ℕ) (place : Place) (x : Presence) (told : Gathered) (m : ManagerState) : Type 0 where
+record IsTakenIn (w : WorldState) (p : ℕ) (place : ProcessState) (x : Presence) (told : Gathered) (m : ManagerState) : Type 0 where
   pub placing : IsPlacing w p place
   pub entering : IsEntering (placed w p place) p x
   pub gathers : Gathers (now_in w p x) w.manager told m
 
-after_gather : {S E : Type 0} (IsSound : S → Type 0) (xs : List S) (w : WorldState) (p : ℕ) (place : Place) (x : Presence) (told : Gathered) (m : ManagerState) (live : List Entry) → IsWorld IsSound xs w → p < length w.places
+after_gather : {S E : Type 0} (IsSound : S → Type 0) (xs : List S) (w : WorldState) (p : ℕ) (place : ProcessState) (x : Presence) (told : Gathered) (m : ManagerState) (live : List Entry) → IsWorld IsSound xs w → p < length w.places
     → IsOut w p place → (Sound w → IsTakenIn w p place x told m) → HasGathered {E = E} w.manager w.live (Ok told) m live → IsWorld IsSound xs (placed_with w p place live m)
 after_gather IsSound xs w p place x told m live i lt k takes g =
     subst (λ l. IsWorld IsSound xs (placed_with w p place l m)) (sym g.live) (record {
@@ -129,22 +129,22 @@ after_gather IsSound xs w p place x told m live i lt k takes g =
     })
 
 -- ---- a failure
-other_place : (o : Option Place) (a : Bool) (b : Place) → o ≡ Some (Place.Down a) → o ≡ Some b → Place.Down a ≡ b
-other_place o a b e f = once (Place.Down a) b (sym e ∙ f)
+other_place : (o : Option ProcessState) (a : Bool) (b : ProcessState) → o ≡ Some (ProcessState.Down a) → o ≡ Some b → ProcessState.Down a ≡ b
+other_place o a b e f = once (ProcessState.Down a) b (sym e ∙ f)
 
-down_up : (a : Bool) → Place.Down a ≡ Place.Up → ⊥
+down_up : (a : Bool) → ProcessState.Down a ≡ ProcessState.Up → ⊥
 down_up a e = cc
 
-down_in : (a : Bool) → Place.Down a ≡ Place.In → ⊥
+down_in : (a : Bool) → ProcessState.Down a ≡ ProcessState.In → ⊥
 down_in a e = cc
 
-undeclared : Place.Down false ≡ Place.Down true → ⊥
+undeclared : ProcessState.Down false ≡ ProcessState.Down true → ⊥
 undeclared e = cc
 
 failed_joined : (x : ℕ) → Failed ≡ Joined x → ⊥
 failed_joined x e = cc
 
-placing_down : (w : WorldState) (p : ℕ) → slice_get w.places p ≡ Some (Place.Down false) → IsPlacing w p (Place.Down true)
+placing_down : (w : WorldState) (p : ℕ) → slice_get w.places p ≡ Some (ProcessState.Down false) → IsPlacing w p (ProcessState.Down true)
 placing_down w p at = record {
   not_up = λ e. down_up true e;
   failed = λ e. refl;
@@ -154,39 +154,39 @@ placing_down w p at = record {
   was = λ declared e. (false, at);
 }
 
-entering_failed : (w : WorldState) (p : ℕ) → p < length w.places → slice_index w.rounds p ≡ w.manager.round → IsEntering (placed w p (Place.Down true)) p Failed
+entering_failed : (w : WorldState) (p : ℕ) → p < length w.places → slice_index w.rounds p ≡ w.manager.round → IsEntering (placed w p (ProcessState.Down true)) p Failed
 entering_failed w p lt round = record {
-  not_up = λ up. down_up true (other_place (slice_get (set w.places p (Place.Down true)) p) true Place.Up (here w.places p (Place.Down true) lt) up);
+  not_up = λ up. down_up true (other_place (slice_get (set w.places p (ProcessState.Down true)) p) true ProcessState.Up (here w.places p (ProcessState.Down true) lt) up);
   round = round;
-  failed = λ e. here w.places p (Place.Down true) lt;
+  failed = λ e. here w.places p (ProcessState.Down true) lt;
   joined = λ x e. absurd (failed_joined x e);
 }
 
 -- the round that is read at a process's place
-pub round_at : (w : WorldState) (p n : ℕ) (place : Place) → HasShape w → slice_get w.places p ≡ Some place → n ≡ get_or w.rounds p n → n ≡ slice_index w.rounds p
+pub round_at : (w : WorldState) (p n : ℕ) (place : ProcessState) → HasShape w → slice_get w.places p ≡ Some place → n ≡ get_or w.rounds p n → n ≡ slice_index w.rounds p
 round_at w p n place h at read = let lt = inside w.places p place at in let long = h.places in let many = h.rounds in read ∙ get_or_default w.rounds p n 0 (omega arith)
 
 -- a process whose failure was not declared has not failed in the gathering
-not_failed : (w : WorldState) (p : ℕ) → Sound w → slice_get w.places p ≡ Some (Place.Down false) → presence_of (presences_of w.manager.gathering) p ≡ Failed → ⊥
-not_failed w p s at is = undeclared (other_place (slice_get w.places p) false (Place.Down true) at (s.failed p is))
+not_failed : (w : WorldState) (p : ℕ) → Sound w → slice_get w.places p ≡ Some (ProcessState.Down false) → presence_of (presences_of w.manager.gathering) p ≡ Failed → ⊥
+not_failed w p s at is = undeclared (other_place (slice_get w.places p) false (ProcessState.Down true) at (s.failed p is))
 
-first_failed : (w : WorldState) (p : ℕ) (told : Gathered) (m : ManagerState) → Sound w → slice_get w.places p ≡ Some (Place.Down false) → Fails w.manager p told m → Gathers (with_failed w.manager p) w.manager told m
+first_failed : (w : WorldState) (p : ℕ) (told : Gathered) (m : ManagerState) → Sound w → slice_get w.places p ≡ Some (ProcessState.Down false) → Fails w.manager p told m → Gathers (with_failed w.manager p) w.manager told m
 first_failed w p told m s at (Fails.first new g) = g
 first_failed w p told m s at (Fails.again is e same) = absurd (not_failed w p s at is)
 
-pub after_declare : {S : Type 0} (IsSound : S → Type 0) (xs : List S) (w : WorldState) (p round : ℕ) (told : Gathered) (m : ManagerState) (live : List Entry) → IsWorld IsSound xs w → slice_get w.places p ≡ Some (Place.Down false)
-    → round ≡ slice_index w.rounds p → Failing w.manager p round (Ok told) m → HasGathered {E = FailError} w.manager w.live (Ok told) m live → IsWorld IsSound xs (placed_with w p (Place.Down true) live m)
+pub after_declare : {S : Type 0} (IsSound : S → Type 0) (xs : List S) (w : WorldState) (p round : ℕ) (told : Gathered) (m : ManagerState) (live : List Entry) → IsWorld IsSound xs w → slice_get w.places p ≡ Some (ProcessState.Down false)
+    → round ≡ slice_index w.rounds p → Failing w.manager p round (Ok told) m → HasGathered {E = FailError} w.manager w.live (Ok told) m live → IsWorld IsSound xs (placed_with w p (ProcessState.Down true) live m)
 after_declare IsSound xs w p round told m live i at is f g =
-    let lt = inside w.places p (Place.Down false) at in
-    after_gather IsSound xs w p (Place.Down true) Failed told m live i lt (record { not_up = λ e. down_up true e; core = λ e. absurd (down_in true e) })
+    let lt = inside w.places p (ProcessState.Down false) at in
+    after_gather IsSound xs w p (ProcessState.Down true) Failed told m live i lt (record { not_up = λ e. down_up true e; core = λ e. absurd (down_in true e) })
     (λ s. record { placing = placing_down w p at; entering = entering_failed w p lt (sym is ∙ f.0.in_round); gathers = first_failed w p told m s at f.2 }) g
 
-pub has_declared : {S : Type 0} (IsSound : S → Type 0) (xs : List S) (w : WorldState) (p round : ℕ) (told : Gathered) (m : ManagerState) (live : List Entry) → IsWorld IsSound xs w → slice_get w.places p ≡ Some (Place.Down false)
-    → Failing w.manager p round (Ok told) m → HasGathered {E = FailError} w.manager w.live (Ok told) m live → HasDeclaredAt w p (Ok told) (placed_with w p (Place.Down true) live m)
+pub has_declared : {S : Type 0} (IsSound : S → Type 0) (xs : List S) (w : WorldState) (p round : ℕ) (told : Gathered) (m : ManagerState) (live : List Entry) → IsWorld IsSound xs w → slice_get w.places p ≡ Some (ProcessState.Down false)
+    → Failing w.manager p round (Ok told) m → HasGathered {E = FailError} w.manager w.live (Ok told) m live → HasDeclaredAt w p (Ok told) (placed_with w p (ProcessState.Down true) live m)
 has_declared IsSound xs w p round told m live i at f g = record {
   size = g.size;
   released = g.released;
-  others = ap (λ l. placed_with w p (Place.Down true) l m) g.live;
+  others = ap (λ l. placed_with w p (ProcessState.Down true) l m) g.live;
   manager = λ known. first_failed w p told m (i.clean known).1 at f.2;
   refused = tt;
   why = λ known old. tt;
@@ -207,10 +207,10 @@ why_not w new p round (failing.Stale told) h s lt is old f = let le = s.known p 
 why_not w new p round failing.Spent h s lt is old f = f.1
 why_not w new p round failing.Memory h s lt is old f = f.3
 
-pub not_declared : {S : Type 0} (IsSound : S → Type 0) (xs : List S) (w : WorldState) (p round : ℕ) (fault : FailError) (m : ManagerState) (live : List Entry) → IsWorld IsSound xs w → slice_get w.places p ≡ Some (Place.Down false)
+pub not_declared : {S : Type 0} (IsSound : S → Type 0) (xs : List S) (w : WorldState) (p round : ℕ) (fault : FailError) (m : ManagerState) (live : List Entry) → IsWorld IsSound xs w → slice_get w.places p ≡ Some (ProcessState.Down false)
     → round ≡ slice_index w.rounds p → Failing w.manager p round (Err fault) m → HasGathered {E = FailError} w.manager w.live (Err fault) m live → HasDeclaredAt w p (Err fault) (record w { live = live; manager = m })
 not_declared IsSound xs w p round fault m live i at is f g =
-    let lt = inside w.places p (Place.Down false) at in
+    let lt = inside w.places p (ProcessState.Down false) at in
     record {
       size = g.size;
       released = g.released;
@@ -221,7 +221,7 @@ not_declared IsSound xs w p round fault m live i at is f g =
     }
 
 -- ---- a join
-in_up : Place.In ≡ Place.Up → ⊥
+in_up : ProcessState.In ≡ ProcessState.Up → ⊥
 in_up e = cc
 
 away_failed : (a : Presence) → a ≡ Away → a ≡ Failed → ⊥
@@ -234,9 +234,9 @@ same_joined : (x y : ℕ) → Joined x ≡ Joined y → x ≡ y
 same_joined x y e = cc
 
 joins : (w : WorldState) (p : ℕ) (c : CoreState) (told : Gathered) (m : ManagerState) → HasShape w → Sound w → IsUp w p → slice_get w.cores p ≡ Some (Some c) → MayJoin w.manager p c.round → Gathers (with_joined w.manager p c.now.interval) w.manager told m
-    → IsTakenIn w p Place.In (Joined c.now.interval) told m
+    → IsTakenIn w p ProcessState.In (Joined c.now.interval) told m
 joins w p c told m h s up at may g =
-    let lt = inside w.places p Place.Up up in
+    let lt = inside w.places p ProcessState.Up up in
     let u = s.up p c at up in
     let current = s.current p up in
     let long = h.places in let stores = h.stores in
@@ -252,7 +252,7 @@ joins w p c told m h s up at may g =
         was = λ declared e. absurd (down_in declared (sym e));
       };
       entering = record {
-        not_up = λ e. in_up (once Place.In Place.Up (sym (here w.places p Place.In lt) ∙ e));
+        not_up = λ e. in_up (once ProcessState.In ProcessState.Up (sym (here w.places p ProcessState.In lt) ∙ e));
         round = current;
         failed = λ e. absurd (joined_failed c.now.interval e);
         joined = λ y e. sym (same_joined c.now.interval y e) ∙ interval;
@@ -267,22 +267,22 @@ joins w p c told m h s up at may g =
     same_core o d e f g = once d e (once (Some d) (Some e) (sym f ∙ g))
 
 pub after_join : {S : Type 0} (IsSound : S → Type 0) (xs : List S) (w : WorldState) (p : ℕ) (at : ℕ × ℕ) (told : Gathered) (m : ManagerState) (live : List Entry) → IsWorld IsSound xs w → IsUp w p → StandsIn w.cores p at
-    → Joining w.manager p at.0 at.1 (Ok told) m → HasGathered {E = JoinError} w.manager w.live (Ok told) m live → IsWorld IsSound xs (placed_with w p Place.In live m)
+    → Joining w.manager p at.0 at.1 (Ok told) m → HasGathered {E = JoinError} w.manager w.live (Ok told) m live → IsWorld IsSound xs (placed_with w p ProcessState.In live m)
 after_join IsSound xs w p at told m live i up stands j g =
-    let lt = inside w.places p Place.Up up in
+    let lt = inside w.places p ProcessState.Up up in
     let c = stands.0 in
     let may = subst (MayJoin w.manager p) stands.2 j.0 in
     let gathers = subst (λ x. Gathers (with_joined w.manager p x) w.manager told m) stands.3 j.1 in
-    after_gather IsSound xs w p Place.In (Joined c.now.interval) told m live i lt (record { not_up = λ e. in_up e; core = λ e. (c, stands.1) }) (λ s. joins w p c told m i.shape s up stands.1 may gathers) g
+    after_gather IsSound xs w p ProcessState.In (Joined c.now.interval) told m live i lt (record { not_up = λ e. in_up e; core = λ e. (c, stands.1) }) (λ s. joins w p c told m i.shape s up stands.1 may gathers) g
 
 pub has_entered : (w : WorldState) (p : ℕ) (at : ℕ × ℕ) (told : Gathered) (m : ManagerState) (live : List Entry) → StandsIn w.cores p at → Joining w.manager p at.0 at.1 (Ok told) m → HasGathered {E = JoinError} w.manager w.live (Ok told) m live
-    → HasEntered w p (Ok told) (placed_with w p Place.In live m)
+    → HasEntered w p (Ok told) (placed_with w p ProcessState.In live m)
 has_entered w p at told m live stands j g = record {
   size = g.size;
   released = g.released;
   core = stands.0;
   there = stands.1;
-  others = ap (λ l. placed_with w p Place.In l m) g.live;
+  others = ap (λ l. placed_with w p ProcessState.In l m) g.live;
   manager = subst (λ x. Gathers (with_joined w.manager p x) w.manager told m) stands.3 j.1;
   refused = tt;
   memory = λ known opened. tt;
@@ -297,7 +297,7 @@ same_joining m new p round current joining.Memory j = j.2
 
 for_memory : (w : WorldState) (new : ManagerState) (p round current : ℕ) (c : CoreState) (fault : JoinError) → HasShape w → Sound w → IsUp w p → slice_get w.cores p ≡ Some (Some c) → round ≡ c.round → w.manager.gathering ≢ None
     → Joining w.manager p round current (Err fault) new → fault ≡ joining.Memory
-for_memory w new p round current c joining.Stranger h s up at is opened j = let lt = inside w.places p Place.Up up in let size = h.size in let long = h.places in let ge = j.0 in absurd (omega arith)
+for_memory w new p round current c joining.Stranger h s up at is opened j = let lt = inside w.places p ProcessState.Up up in let size = h.size in let long = h.places in let ge = j.0 in absurd (omega arith)
 for_memory w new p round current c (joining.Stale told) h s up at is opened j = absurd (j.1 (is ∙ (s.up p c at up).round))
 for_memory w new p round current c joining.NoRound h s up at is opened j = absurd (opened j.1)
 for_memory w new p round current c joining.Joined h s up at is opened j = absurd (j.2 (s.up p c at up).away)

@@ -23,7 +23,7 @@ use Rattle.om_member.specs.declared.batch.Batch.{Batch}
 use Rattle.om_member.specs.declared.batch.Batch.TheVariants as batches
 use Rattle.om_recover.specs.declared.row.RowKind.{RowKind}
 use Rattle.om_recover.specs.declared.row.RowKind.TheVariants.{Checkpoint, Log}
-use Rattle.om_world.specs.declared.place.Place.{Place}
+use Rattle.om_world.specs.declared.process_state.ProcessState.{ProcessState}
 use Rattle.om_world.specs.Changes.{HasGained, stored}
 use Rattle.om_world.specs.Failures.{HasNews}
 use Rattle.om_world.specs.Live.{program_at}
@@ -298,13 +298,13 @@ store_interval (batches.First k) c = refl
 store_interval batches.Checkpoint c = refl
 
 -- who runs is not down
-runs_down : (w : WorldState) (p : ℕ) (declared : Bool) → Runs w p → slice_get w.places p ≡ Some (Place.Down declared) → ⊥
-runs_down w p declared runs down = elim runs [ inl up ↦ apart (once Place.Up (Place.Down declared) (sym up ∙ down)) | inr joined ↦ in_apart (once Place.In (Place.Down declared) (sym joined.0 ∙ down)) ]
+runs_down : (w : WorldState) (p : ℕ) (declared : Bool) → Runs w p → slice_get w.places p ≡ Some (ProcessState.Down declared) → ⊥
+runs_down w p declared runs down = elim runs [ inl up ↦ apart (once ProcessState.Up (ProcessState.Down declared) (sym up ∙ down)) | inr joined ↦ in_apart (once ProcessState.In (ProcessState.Down declared) (sym joined.0 ∙ down)) ]
   where
-    apart : Place.Up ≡ Place.Down declared → ⊥
+    apart : ProcessState.Up ≡ ProcessState.Down declared → ⊥
     apart e = cc
 
-    in_apart : Place.In ≡ Place.Down declared → ⊥
+    in_apart : ProcessState.In ≡ ProcessState.Down declared → ⊥
     in_apart e = cc
 
 pub sound_store : (kind : Batch) (w : WorldState) (p : ℕ) (a b : Content) (c : CoreState) (health : List Health) → HasShape w → Sound w → slice_get w.cores p ≡ Some (Some c) → slice_get w.contents p ≡ Some a → Runs w p → HasGained kind c a b
@@ -337,7 +337,7 @@ sound_store kind w p a b c health h s at holds runs g =
       ];
       up = λ q d f stands. elim (at_change w.cores p q (Some d) (Some (stored kind c)) f) [
         | inl same ↦
-            let u = s.up p c at (subst (λ o. slice_get w.places o ≡ Some Place.Up) same.0 stands) in
+            let u = s.up p c at (subst (λ o. slice_get w.places o ≡ Some ProcessState.Up) same.0 stands) in
             subst (λ o. IsUpIn w.manager o d) (sym same.0) (subst (IsUpIn w.manager p) (sym (once d (stored kind c) same.1)) (store_up kind w p c u))
         | inr other ↦ s.up q d other.1 stands
       ];
@@ -347,19 +347,19 @@ sound_store kind w p a b c health h s at holds runs g =
       current = s.current;
       known = s.known;
       ends = λ q declared held place old f. elim (at_change w.contents p q held b f) [
-        | inl same ↦ absurd (runs_down w p declared runs (subst (λ o. slice_get w.places o ≡ Some (Place.Down declared)) same.0 place))
+        | inl same ↦ absurd (runs_down w p declared runs (subst (λ o. slice_get w.places o ≡ Some (ProcessState.Down declared)) same.0 place))
         | inr other ↦ s.ends q declared held place old other.1
       ];
       behind = s.behind;
       inside = λ q d f place on. elim (at_change w.cores p q (Some d) (Some (stored kind c)) f) [
         | inl same ↦ subst (λ o. d.inc ≡ newest_of w.manager.starts o) (sym same.0)
-            (ap (λ (x : CoreState). x.inc) (once d (stored kind c) same.1) ∙ store_inc kind c ∙ s.inside p c at (subst (λ o. slice_get w.places o ≡ Some Place.In) same.0 place) (subst (Runs w) same.0 on))
+            (ap (λ (x : CoreState). x.inc) (once d (stored kind c) same.1) ∙ store_inc kind c ∙ s.inside p c at (subst (λ o. slice_get w.places o ≡ Some ProcessState.In) same.0 place) (subst (Runs w) same.0 on))
         | inr other ↦ s.inside q d other.1 place on
       ];
       beyond = λ q d f place news back. elim (at_change w.cores p q (Some d) (Some (stored kind c)) f) [
         | inl same ↦ subst (λ o. slice_index w.manager.last o < d.now.interval) (sym same.0)
             (subst (λ x. slice_index w.manager.last p < x) (sym (ap (λ (x : CoreState). x.now.interval) (once d (stored kind c) same.1) ∙ store_interval kind c))
-            (s.beyond p c at (subst (λ o. slice_get w.places o ≡ Some Place.In) same.0 place) (subst (HasNews w) same.0 news) (subst (λ o. is_named w.manager.backs o ≡ true) same.0 back)))
+            (s.beyond p c at (subst (λ o. slice_get w.places o ≡ Some ProcessState.In) same.0 place) (subst (HasNews w) same.0 news) (subst (λ o. is_named w.manager.backs o ≡ true) same.0 back)))
         | inr other ↦ s.beyond q d other.1 place news back
       ];
     }

@@ -28,7 +28,7 @@ use Rattle.om_manager.specs.declared.presence.Presence.{Presence}
 use Rattle.om_manager.specs.declared.presence.Presence.TheVariants.{Away, Failed, Joined}
 use Rattle.om_manager.proofs.ManagerLemmas.{finishes_keeps}
 use Rattle.om_world.specs.declared.entry.Entry.{Entry}
-use Rattle.om_world.specs.declared.place.Place.{Place}
+use Rattle.om_world.specs.declared.process_state.ProcessState.{ProcessState}
 use Rattle.om_world.specs.Failures.{gathered}
 use Rattle.om_world.specs.Live.{cut_list, program_at, receipt_of, received}
 use Rattle.om_world.specs.steps.Legal.{LegalAfter}
@@ -54,16 +54,16 @@ in_set (y ∷ l) (suc p) (suc q) x = elim (in_set l p q x) [ inl s ↦ inl (ap s
 
 -- what is known of a process that the manager takes in
 pub record IsEntering (w : WorldState) (p : ℕ) (presence : Presence) : Type 0 where
-  pub not_up : slice_get w.places p ≡ Some Place.Up → ⊥
+  pub not_up : slice_get w.places p ≡ Some ProcessState.Up → ⊥
   pub round : slice_index w.rounds p ≡ w.manager.round
-  pub failed : presence ≡ Failed → slice_get w.places p ≡ Some (Place.Down true)
+  pub failed : presence ≡ Failed → slice_get w.places p ≡ Some (ProcessState.Down true)
   pub joined : (x : ℕ) → presence ≡ Joined x → x ≡ length (history (past_of w) p)
 
 -- what is known of all who are in
 pub record AreIn (w : WorldState) (presences : List Presence) : Type 0 where
-  pub up : (q : ℕ) → slice_get w.places q ≡ Some Place.Up → presence_of presences q ≡ Away
+  pub up : (q : ℕ) → slice_get w.places q ≡ Some ProcessState.Up → presence_of presences q ≡ Away
   pub round : (q : ℕ) → presence_of presences q ≢ Away → slice_index w.rounds q ≡ w.manager.round
-  pub failed : (q : ℕ) → presence_of presences q ≡ Failed → slice_get w.places q ≡ Some (Place.Down true)
+  pub failed : (q : ℕ) → presence_of presences q ≡ Failed → slice_get w.places q ≡ Some (ProcessState.Down true)
   pub joined : (q x : ℕ) → presence_of presences q ≡ Joined x → x ≡ length (history (past_of w) q)
 
 abbrev pub now_in : WorldState → ℕ → Presence → List Presence
@@ -72,7 +72,7 @@ now_in w p presence = set (presences_of w.manager.gathering) p presence
 are_in : (w : WorldState) (p : ℕ) (x : Presence) → HasShape w → Sound w → IsEntering w p x → AreIn w (now_in w p x)
 are_in w p x h s e = record {
   up = λ q up. elim (in_set (presences_of w.manager.gathering) p q x) [
-    | inl here ↦ absurd (e.not_up (subst (λ o. slice_get w.places o ≡ Some Place.Up) here.0 up))
+    | inl here ↦ absurd (e.not_up (subst (λ o. slice_get w.places o ≡ Some ProcessState.Up) here.0 up))
     | inr old ↦ let c = h.there q up in old ∙ (s.up q c.0 c.1 up).away
   ];
   round = λ q some. elim (in_set (presences_of w.manager.gathering) p q x) [
@@ -285,7 +285,7 @@ not_joined a x e f = cc
 not_failed : (a : Presence) → a ≡ Away → a ≡ Failed → ⊥
 not_failed a e f = cc
 
-not_in : (o : Option Place) → o ≡ Some Place.In → o ≡ Some (Place.Down true) → ⊥
+not_in : (o : Option ProcessState) → o ≡ Some ProcessState.In → o ≡ Some (ProcessState.Down true) → ⊥
 not_in o e f = cc
 
 -- whoever is in failed, or joined
@@ -339,16 +339,16 @@ not_cut_same : (w : WorldState) (presences : List Presence) (m : ManagerState) (
 not_cut_same w presences m q d lt none = sym (cut_first (recovered w.manager) w.live q ∙ take_all (recovered w.manager q) (history (past_of w) q) (not_cut w presences m q d lt none))
 
 -- nobody is up
-none_up : (w : WorldState) (presences : List Presence) (m : ManagerState) (q : ℕ) → AreDone w presences m → slice_get w.places q ≡ Some Place.Up → ⊥
+none_up : (w : WorldState) (presences : List Presence) (m : ManagerState) (q : ℕ) → AreDone w presences m → slice_get w.places q ≡ Some ProcessState.Up → ⊥
 none_up w presences m q d up =
-    let lt = inside w.places q Place.Up up in let long = d.shape.places in let size = d.shape.size in
+    let lt = inside w.places q ProcessState.Up up in let long = d.shape.places in let size = d.shape.size in
     d.all q (omega arith) (d.known.up q up)
 
 round_of : (w : WorldState) (presences : List Presence) (m : ManagerState) (q : ℕ) → AreDone w presences m → q < length w.programs → slice_index w.rounds q ≡ w.manager.round
 round_of w presences m q d lt = let size = d.shape.size in d.known.round q (d.all q (omega arith))
 
 -- who is in ran, and runs still where it is not named
-ran : (w : WorldState) (presences : List Presence) (m : ManagerState) (q : ℕ) → AreDone w presences m → q < length w.programs → slice_get w.places q ≡ Some Place.In → Runs w q
+ran : (w : WorldState) (presences : List Presence) (m : ManagerState) (q : ℕ) → AreDone w presences m → q < length w.programs → slice_get w.places q ≡ Some ProcessState.In → Runs w q
 ran w presences m q d lt place = let same = round_of w presences m q d lt in inr (place, λ news. absurd (none news))
   where
     none : slice_index w.rounds q < w.manager.round → ⊥
@@ -438,7 +438,7 @@ sound_finished w presences m d =
       running = λ p c held at holds runs.
           let long = h.cores in let lt' = inside w.cores p (Some c) at in let lt : p < n = omega arith in
           let none = not_named w presences m p d lt runs in
-          let place = elim runs as (λ _. slice_get w.places p ≡ Some Place.In) [ inl up ↦ absurd (none_up w presences m p d up) | inr stays ↦ stays.0 ] in
+          let place = elim runs as (λ _. slice_get w.places p ≡ Some ProcessState.In) [ inl up ↦ absurd (none_up w presences m p d up) | inr stays ↦ stays.0 ] in
           running_on v live m p held c g (not_cut_same w presences m p d lt none) (s.running p c held at holds (ran w presences m p d lt place));
       up = λ p c at place. absurd (none_up w presences m p d place);
       joined = λ p x at. absurd (not_joined (presence_of (presences_of m.gathering) p) x (ap (λ o. presence_of (presences_of o) p) closed ∙ none_away MAX_PROCESSES p) at);
@@ -447,7 +447,7 @@ sound_finished w presences m d =
       current = λ p place. absurd (none_up w presences m p d place);
       known = λ p. let le = s.known p in let next = f.round in omega arith;
       ends = λ p declared held place old holds.
-          let long = h.places in let lt = inside w.places p (Place.Down declared) place in
+          let long = h.places in let lt = inside w.places p (ProcessState.Down declared) place in
           let same = round_of w presences m p d (omega arith) in let next = f.round in
           absurd (old (omega arith));
       behind = λ p lt news. left_length w p h s ∙ ap (λ l. slice_index l p) (sym f.last);

@@ -11,7 +11,7 @@ use Rattle.om_world.specs.declared.event.Answer.{Answer}
 use Rattle.om_world.specs.declared.event.Event.{Event}
 use Rattle.om_world.specs.declared.event.Refusal.{Refusal}
 use Rattle.om_world.specs.declared.event.Refusal.TheVariants as refusals
-use Rattle.om_world.specs.declared.place.Place.{Place}
+use Rattle.om_world.specs.declared.process_state.ProcessState.{ProcessState}
 use Rattle.om_world.specs.Changes.{IsUp}
 use Rattle.om_world.specs.Happened.{GiveHappened, Happened}
 use Rattle.om_world.specs.World.{WorldState, entry_of}
@@ -50,7 +50,7 @@ after_give IsSound xs w p f x m e cs live i up frame is offer more =
     (subst (λ l. IsWorld IsSound xs (remade w (w.live ++ e ∷ []) w.frames l w.manager w.contents w.health)) (sym (offer.cores ∙ ap (λ o. set w.cores o (Some (taken c m))) mine))
     (record {
       shape = shape_core w e.to c (taken c m) (w.live ++ e ∷ []) w.frames w.manager w.contents w.health i.shape (subst (λ o. slice_get w.cores o ≡ Some (Some c)) mine at) refl (length-set _ c.own _ ∙ length-set c.now.vec m.from _) refl i.shape.manager refl;
-      clean = λ all. let s = i.clean all in (s.0, sound_taken w f m e c i.shape s.1 (recovery_within w i.shape s.1) frame is (subst (λ o. slice_get w.places o ≡ Some Place.Up) mine up) (subst (λ o. slice_get w.cores o ≡ Some (Some c)) mine at) due);
+      clean = λ all. let s = i.clean all in (s.0, sound_taken w f m e c i.shape s.1 (recovery_within w i.shape s.1) frame is (subst (λ o. slice_get w.places o ≡ Some ProcessState.Up) mine up) (subst (λ o. slice_get w.cores o ≡ Some (Some c)) mine at) due);
     }))
 
 pub given_taken : (w : WorldState) (p f x : ℕ) (m : Message) (e : Entry) (cs : List (Option CoreState)) (live : List Entry) → IsUp w p

@@ -28,7 +28,7 @@ use Rattle.om_manager.specs.State.{ManagerState, process_count, released_by}
 use Rattle.om_manager.specs.declared.presence.Presence.{Presence}
 use Rattle.om_manager.specs.declared.presence.Presence.TheVariants.{Away, Joined}
 use Rattle.om_world.specs.declared.entry.Entry.{Entry}
-use Rattle.om_world.specs.declared.place.Place.{Place}
+use Rattle.om_world.specs.declared.process_state.ProcessState.{ProcessState}
 use Rattle.om_world.specs.Failures.{HasNews}
 use Rattle.om_world.specs.Live.{program_at, receipt_of, received, MayFollow}
 use Rattle.om_world.specs.World.{Health, WorldState, recovered, entry_of, output_entry}
@@ -93,7 +93,7 @@ sound_core w p c d s at run know inc interval = record {
     | inr is ↦ s.running q e held is.1 holds runs
   ];
   up = λ q e f place. elim (at_change w.cores p q (Some e) (Some d) f) [
-    | inl is ↦ subst (λ o. IsUpIn w.manager o e) (sym is.0) (subst (IsUpIn w.manager p) (sym (once e d is.1)) (know (s.up p c at (subst (λ o. slice_get w.places o ≡ Some Place.Up) is.0 place))))
+    | inl is ↦ subst (λ o. IsUpIn w.manager o e) (sym is.0) (subst (IsUpIn w.manager p) (sym (once e d is.1)) (know (s.up p c at (subst (λ o. slice_get w.places o ≡ Some ProcessState.Up) is.0 place))))
     | inr is ↦ s.up q e is.1 place
   ];
   joined = s.joined;
@@ -105,13 +105,13 @@ sound_core w p c d s at run know inc interval = record {
   behind = s.behind;
   inside = λ q e f place runs. elim (at_change w.cores p q (Some e) (Some d) f) [
     | inl is ↦ subst (λ o. e.inc ≡ newest_of w.manager.starts o) (sym is.0)
-        (ap (λ (x : CoreState). x.inc) (once e d is.1) ∙ inc ∙ s.inside p c at (subst (λ o. slice_get w.places o ≡ Some Place.In) is.0 place) (subst (Runs w) is.0 runs))
+        (ap (λ (x : CoreState). x.inc) (once e d is.1) ∙ inc ∙ s.inside p c at (subst (λ o. slice_get w.places o ≡ Some ProcessState.In) is.0 place) (subst (Runs w) is.0 runs))
     | inr is ↦ s.inside q e is.1 place runs
   ];
   beyond = λ q e f place news back. elim (at_change w.cores p q (Some e) (Some d) f) [
     | inl is ↦ subst (λ o. slice_index w.manager.last o < e.now.interval) (sym is.0)
         (subst (λ x. slice_index w.manager.last p < x) (sym (ap (λ (x : CoreState). x.now.interval) (once e d is.1) ∙ interval))
-        (s.beyond p c at (subst (λ o. slice_get w.places o ≡ Some Place.In) is.0 place) (subst (HasNews w) is.0 news) (subst (λ o. is_named w.manager.backs o ≡ true) is.0 back)))
+        (s.beyond p c at (subst (λ o. slice_get w.places o ≡ Some ProcessState.In) is.0 place) (subst (HasNews w) is.0 news) (subst (λ o. is_named w.manager.backs o ≡ true) is.0 back)))
     | inr is ↦ s.beyond q e is.1 place news back
   ];
 }
@@ -317,10 +317,10 @@ low_first v p held c is = omega arith
 pub interval_is : (v : Past) (p : ℕ) (held : Content) (c : CoreState) (r : IsRunning v p held c) → c.now.interval ≡ length (history v p)
 interval_is v p held c r = ap (λ (x : Process). x.interval) r.state.2.same ∙ interval_along (program_at v.programs p) p (length v.programs) r.state.1.0 (history v p) r.state.0 r.state.1.1
 
-up_apart : (declared : Bool) → Place.Up ≡ Place.Down declared → ⊥
+up_apart : (declared : Bool) → ProcessState.Up ≡ ProcessState.Down declared → ⊥
 up_apart declared e = cc
 
-pub sound_taken : (w : WorldState) (i : ℕ) (m : Message) (e : Entry) (c : CoreState) → HasShape w → Sound w → ((q : ℕ) → recovered w.manager q ≤ length (history (past_of w) q)) → slice_get w.frames i ≡ Some m → e ≡ entry_of m → slice_get w.places e.to ≡ Some Place.Up → slice_get w.cores e.to ≡ Some (Some c) → IsDue c m
+pub sound_taken : (w : WorldState) (i : ℕ) (m : Message) (e : Entry) (c : CoreState) → HasShape w → Sound w → ((q : ℕ) → recovered w.manager q ≤ length (history (past_of w) q)) → slice_get w.frames i ≡ Some m → e ≡ entry_of m → slice_get w.places e.to ≡ Some ProcessState.Up → slice_get w.cores e.to ≡ Some (Some c) → IsDue c m
     → Sound (remade w (w.live ++ e ∷ []) w.frames (set w.cores e.to (Some (taken c m))) w.manager w.contents w.health)
 sound_taken w i m e c h s within frame is place at due =
     let v = past_of w in
@@ -347,7 +347,7 @@ sound_taken w i m e c h s within frame is place at due =
       outputs = λ q j o b. at_entry v e q o.interval (Makes (program_at w.programs q) q (length w.programs) (length w.programs) j (output_entry o)) (s.outputs q j o b);
       rows = λ row a. at_entry v e row.pid row.interval (RowOf row.pid (length w.programs) row.vec row.got) (s.rows row a);
       stored = λ q held a. stored_more v e q held within (λ same.
-          let t = s.running q c held (subst (λ o. slice_get w.cores o ≡ Some (Some c)) (sym same) at) a (inl (subst (λ o. slice_get w.places o ≡ Some Place.Up) (sym same) place)) in
+          let t = s.running q c held (subst (λ o. slice_get w.cores o ≡ Some (Some c)) (sym same) at) a (inl (subst (λ o. slice_get w.places o ≡ Some ProcessState.Up) (sym same) place)) in
           (c, t.above, low_first v q held c (interval_is v q held c t))) (s.stored q held a);
       backed = s.backed;
       running = λ q d held f holds runs. elim (at_change w.cores p q (Some d) (Some (taken c m)) f) [
@@ -369,7 +369,7 @@ sound_taken w i m e c h s within frame is place at due =
       current = s.current;
       known = s.known;
       ends = λ q declared held stands old holds. elim (either q p) [
-        | inl same ↦ absurd (up_apart declared (once Place.Up (Place.Down declared) (sym place ∙ subst (λ o. slice_get w.places o ≡ Some (Place.Down declared)) same stands)))
+        | inl same ↦ absurd (up_apart declared (once ProcessState.Up (ProcessState.Down declared) (sym place ∙ subst (λ o. slice_get w.places o ≡ Some (ProcessState.Down declared)) same stands)))
         | inr other ↦ subst (λ k. EndsAt held k) (ap length (sym (theirs v e q other))) (s.ends q declared held stands old holds)
       ];
       behind = λ q lt news. elim (either q p) [

@@ -19,7 +19,7 @@ use Rattle.om_world.specs.declared.event.Answer.TheVariants as answers
 use Rattle.om_world.specs.declared.event.Event.{Event}
 use Rattle.om_world.specs.declared.event.Refusal.{Refusal}
 use Rattle.om_world.specs.declared.event.Refusal.TheVariants as why
-use Rattle.om_world.specs.declared.place.Place.{Place}
+use Rattle.om_world.specs.declared.process_state.ProcessState.{ProcessState}
 use Rattle.om_world.specs.Changes.{HasFailed, NoneFell}
 use Rattle.om_world.specs.Disk.{IsSettled, held_in}
 use Rattle.om_world.specs.Happened.{Happened, Refused}
@@ -100,7 +100,7 @@ module _ {S : Type 0} (content : S → Content) (health : S → Health) (IsSound
   as_anew = world_is (seen content health P live [] (map downed ms) m O) (anew (seen content health P L F ms M O) m)
       refl cut refl
       (all_same core_in None (λ y. refl) ms ∙ ap (λ n. replicate n None) many)
-      (all_same place_in (Place.Down true) (λ y. refl) ms ∙ ap (λ n. replicate n (Place.Down true)) many)
+      (all_same place_in (ProcessState.Down true) (λ y. refl) ms ∙ ap (λ n. replicate n (ProcessState.Down true)) many)
       (all_same round_in 0 (λ y. refl) ms ∙ ap (λ n. replicate n 0) many)
       refl (all_kept (content_in content) (λ y. refl) ms) (all_kept (health_in health) (λ y. refl) ms) refl
 

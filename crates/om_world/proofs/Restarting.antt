@@ -23,7 +23,7 @@ use Rattle.om_manager.specs.declared.answers.Gathered.TheVariants.{Finished}
 use Rattle.om_manager.specs.declared.presence.Presence.{Presence}
 use Rattle.om_manager.specs.declared.presence.Presence.TheVariants.{Away, Failed, Joined}
 use Rattle.om_take_up.specs.Anew.{OnlyFailed}
-use Rattle.om_world.specs.declared.place.Place.{Place}
+use Rattle.om_world.specs.declared.process_state.ProcessState.{ProcessState}
 use Rattle.om_world.specs.Disk.{IsSettled, held_in}
 use Rattle.om_world.specs.Failures.{HasNews, gathered}
 use Rattle.om_world.specs.StoreRows.{HasRowsOf}
@@ -47,7 +47,7 @@ abbrev pub put_down : WorldState → ManagerState → WorldState
 put_down w m = record w {
   frames = [];
   cores = replicate (length w.programs) None;
-  places = replicate (length w.programs) (Place.Down true);
+  places = replicate (length w.programs) (ProcessState.Down true);
   rounds = replicate (length w.programs) 0;
   manager = m;
 }
@@ -63,13 +63,13 @@ pub record Starts (w : WorldState) (m : ManagerState) : Type 0 where
   pub waiting : OnlyFailed (length w.programs) (presences_of m.gathering)
 
 -- ---- lists of one element
-none_up : (n p : ℕ) (place : Place) → (Place.Down true ≡ place → ⊥) → slice_get (replicate n (Place.Down true)) p ≡ Some place → ⊥
-none_up n p place apart at = apart (sym (same_at n p (Place.Down true) place at))
+none_up : (n p : ℕ) (place : ProcessState) → (ProcessState.Down true ≡ place → ⊥) → slice_get (replicate n (ProcessState.Down true)) p ≡ Some place → ⊥
+none_up n p place apart at = apart (sym (same_at n p (ProcessState.Down true) place at))
 
-down_up : Place.Down true ≡ Place.Up → ⊥
+down_up : ProcessState.Down true ≡ ProcessState.Up → ⊥
 down_up e = cc
 
-down_in : Place.Down true ≡ Place.In → ⊥
+down_in : ProcessState.Down true ≡ ProcessState.In → ⊥
 down_in e = cc
 
 no_core : (n p : ℕ) (c : CoreState) → slice_get (replicate n None) p ≡ Some (Some c) → ⊥
@@ -167,11 +167,11 @@ shape_down w m h size sound = record {
   few = h.few;
   stores = h.stores;
   cores = length-replicate (length w.programs) None;
-  places = length-replicate (length w.programs) (Place.Down true);
+  places = length-replicate (length w.programs) (ProcessState.Down true);
   own = λ p c at. absurd (no_core (length w.programs) p c at);
   rounds = length-replicate (length w.programs) 0;
-  there = λ p up. absurd (none_up (length w.programs) p Place.Up down_up up);
-  inside = λ p joined. absurd (none_up (length w.programs) p Place.In down_in joined);
+  there = λ p up. absurd (none_up (length w.programs) p ProcessState.Up down_up up);
+  inside = λ p joined. absurd (none_up (length w.programs) p ProcessState.In down_in joined);
   manager = sound;
   size = size;
 }
@@ -195,9 +195,9 @@ sound_down w m h s settled k = record {
   running = λ p c held at. absurd (no_core n p c at);
   up = λ p c at. absurd (no_core n p c at);
   joined = λ p x at. absurd (failed_joined (presence_of (presences_of m.gathering) p) x (k.waiting p (λ away. joined_away (presence_of (presences_of m.gathering) p) x at away)).1 at);
-  failed = λ p at. at_place n p (Place.Down true) (k.waiting p (λ away. failed_away (presence_of (presences_of m.gathering) p) at away)).0;
+  failed = λ p at. at_place n p (ProcessState.Down true) (k.waiting p (λ away. failed_away (presence_of (presences_of m.gathering) p) at away)).0;
   gathered = λ p some. index_same n p 0 ∙ sym k.round;
-  current = λ p up. absurd (none_up n p Place.Up down_up up);
+  current = λ p up. absurd (none_up n p ProcessState.Up down_up up);
   known = λ p. no_more (slice_index (replicate n 0) p) m.round (index_same n p 0);
   ends = λ p declared held place old at.
       let stores = h.stores in let short = inside w.contents p held at in
@@ -220,9 +220,9 @@ sound_started w m new presences h s settled k only all done = sound_finished (pu
   shape = shape_down w m h k.size k.sound;
   sound = sound_down w m h s settled k;
   known = record {
-    up = λ q up. absurd (none_up (length w.programs) q Place.Up down_up up);
+    up = λ q up. absurd (none_up (length w.programs) q ProcessState.Up down_up up);
     round = λ q some. index_same (length w.programs) q 0 ∙ sym k.round;
-    failed = λ q is. at_place (length w.programs) q (Place.Down true) (only q (λ away. failed_away (presence_of presences q) is away)).0;
+    failed = λ q is. at_place (length w.programs) q (ProcessState.Down true) (only q (λ away. failed_away (presence_of presences q) is away)).0;
     joined = λ q x is. absurd (failed_joined (presence_of presences q) x (only q (λ away. joined_away (presence_of presences q) x is away)).1 is);
   };
   all = all;

@@ -11,7 +11,7 @@ use Rattle.om_manager.specs.Sound.{KeepsReleased}
 use Rattle.om_manager.specs.State.{ManagerState, process_count}
 use Rattle.om_world.specs.declared.event.Answer.TheVariants as answers
 use Rattle.om_world.specs.declared.event.Event.{Event}
-use Rattle.om_world.specs.declared.place.Place.{Place}
+use Rattle.om_world.specs.declared.process_state.ProcessState.{ProcessState}
 use Rattle.om_world.specs.Changes.{HasFailed, IsSame, IsUp, NoneFell, RoseAt}
 use Rattle.om_world.specs.Failures.{BackHappened, BackStopped, HasNews, IsToComeBack, down, put_up, rolled_back, taken_down}
 use Rattle.om_world.specs.Happened.{Happened}
@@ -29,7 +29,7 @@ use Rattle.om_world.proofs.Returning.{is_beyond}
 abbrev IsFrom : WorldState → ℕ → WorldState → Type 0
 IsFrom w p mid = (mid ≡ w) ⊎ (mid ≡ taken_down w p false)
 
-down_or_in : (declared : Bool) → Some (Place.Down declared) ≡ Some Place.In → ⊥
+down_or_in : (declared : Bool) → Some (ProcessState.Down declared) ≡ Some ProcessState.In → ⊥
 down_or_in declared e = cc
 
 from_left : (w mid : WorldState) (p : ℕ) → IsToComeBack w p → HasLeft w p mid → IsFrom w p mid
@@ -52,8 +52,8 @@ same_up : (w mid : WorldState) (p : ℕ) (core : CoreState) → IsFrom w p mid �
 same_up w mid p core from = elim from [
   | inl same ↦ ap (λ x. put_up x p core) same
   | inr same ↦ ap (λ x. put_up x p core) same
-      ∙ ap (λ l. record (put_up w p core) { cores = l; places = set (set w.places p (Place.Down false)) p Place.Up }) (set_twice w.cores p None (Some core))
-      ∙ ap (λ l. record (put_up w p core) { places = l }) (set_twice w.places p (Place.Down false) Place.Up)
+      ∙ ap (λ l. record (put_up w p core) { cores = l; places = set (set w.places p (ProcessState.Down false)) p ProcessState.Up }) (set_twice w.cores p None (Some core))
+      ∙ ap (λ l. record (put_up w p core) { places = l }) (set_twice w.places p (ProcessState.Down false) ProcessState.Up)
 ]
 
 known_then : (w mid v : WorldState) (p : ℕ) → IsFrom w p mid → v.origins ≡ mid.origins → (all_clean v.health ≡ true → all_clean mid.health ≡ true) → IsKnown v → IsKnown w
@@ -95,7 +95,7 @@ back_happened w mid v p interval inc due beyond left r known =
       others = h.others ∙ ap (λ (x : WorldState). record x { contents = v.contents; health = v.health }) (same_up w mid p core from);
     }
   where
-    was_beyond : (w : WorldState) (p : ℕ) (c : CoreState) → IsToComeBack w p → IsBeyond w p → slice_get w.places p ≡ Some Place.In → slice_get w.cores p ≡ Some (Some c) → recovered w.manager p < c.now.interval
+    was_beyond : (w : WorldState) (p : ℕ) (c : CoreState) → IsToComeBack w p → IsBeyond w p → slice_get w.places p ≡ Some ProcessState.In → slice_get w.cores p ≡ Some (Some c) → recovered w.manager p < c.now.interval
     was_beyond w p c (down declared place news) beyond joined is = absurd (down_or_in declared (sym place ∙ joined))
     was_beyond w p c (rolled_back joined news back) beyond in_too is = beyond c joined is news back
 
@@ -148,7 +148,7 @@ stays_keeps w mid v p why due left d =
 pub no_news : {S : Type 0} (IsSound : S → Type 0) (xs : List S) (w : WorldState) (p : ℕ) → IsWorld IsSound xs w → IsUp w p → HasNews w p → IsKnown w → ⊥
 no_news IsSound xs w p i up news known = let same = (i.clean known).1.current p up in omega arith
 
-pub due_in : (w : WorldState) (p : ℕ) (back : Bool) → slice_get w.places p ≡ Some Place.In → HasNews w p → back ≡ is_named w.manager.backs p → IsDue w p back
+pub due_in : (w : WorldState) (p : ℕ) (back : Bool) → slice_get w.places p ≡ Some ProcessState.In → HasNews w p → back ≡ is_named w.manager.backs p → IsDue w p back
 due_in w p true joined news is = rolled_back joined news (sym is)
 due_in w p false joined news is = record { joined = joined; news = news; kept = sym is }
 

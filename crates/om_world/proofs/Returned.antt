@@ -8,7 +8,7 @@ use Rattle.om_process.specs.declared.replay.ReplayFault.TheVariants.{Fault}
 use Rattle.om_process.specs.Core.{CoreState}
 use Rattle.om_process.specs.Resumes.{resumed}
 use Rattle.om_process.specs.Stored.{CanReplay, TheProcess}
-use Rattle.om_world.specs.declared.place.Place.{Place}
+use Rattle.om_world.specs.declared.process_state.ProcessState.{ProcessState}
 use Rattle.om_world.specs.Failures.{HasNews, IsToGoOn}
 use Rattle.om_world.specs.World.{Health, WorldState, IsKnown, all_clean}
 use Rattle.om_world.specs.steps.Moves.{IsCalled}
@@ -29,7 +29,7 @@ up_as w p cores round contents health = record {
   live = w.live;
   frames = w.frames;
   cores = cores;
-  places = set w.places p Place.Up;
+  places = set w.places p ProcessState.Up;
   rounds = set w.rounds p round;
   manager = w.manager;
   contents = contents;

@@ -30,7 +30,7 @@ use Rattle.om_recover.specs.declared.row.RowKind.TheVariants.{Checkpoint, Log}
 use Rattle.om_manager.specs.Gatherings.{presence_of, presences_of}
 use Rattle.om_manager.specs.declared.presence.Presence.{Presence}
 use Rattle.om_manager.specs.declared.presence.Presence.TheVariants.{Away, Failed, Joined}
-use Rattle.om_world.specs.declared.place.Place.{Place}
+use Rattle.om_world.specs.declared.process_state.ProcessState.{ProcessState}
 use Rattle.om_world.specs.Failures.{HasNews, IsToGoOn, put_up}
 use Rattle.om_world.specs.Live.{program_at}
 use Rattle.om_world.specs.World.{Health, WorldState, recovered}
@@ -327,11 +327,11 @@ round_apart (r ∷ rounds) zero (suc q) x other = refl
 round_apart (r ∷ rounds) (suc p) zero x other = refl
 round_apart (r ∷ rounds) (suc p) (suc q) x other = round_apart rounds p q x (omega arith)
 
-in_or_up : Place.In ≡ Place.Up → ⊥
+in_or_up : ProcessState.In ≡ ProcessState.Up → ⊥
 in_or_up e = cc
 
-joined_before : (places : List Place) (p q : ℕ) → slice_get (set places p Place.Up) q ≡ Some Place.In → (q ≢ p) × (slice_get places q ≡ Some Place.In)
-joined_before places p q at = elim (at_change places p q Place.In Place.Up at) [ inl is ↦ absurd (in_or_up is.1) | inr other ↦ other ]
+joined_before : (places : List ProcessState) (p q : ℕ) → slice_get (set places p ProcessState.Up) q ≡ Some ProcessState.In → (q ≢ p) × (slice_get places q ≡ Some ProcessState.In)
+joined_before places p q at = elim (at_change places p q ProcessState.In ProcessState.Up at) [ inl is ↦ absurd (in_or_up is.1) | inr other ↦ other ]
 
 -- whether another has news, and runs, is as before
 other_news : (w : WorldState) (p q : ℕ) → q ≢ p → slice_index (set w.rounds p w.manager.round) q < w.manager.round → HasNews w q
@@ -339,8 +339,8 @@ other_news w p q other news = subst (λ r. r < w.manager.round) (round_apart w.r
 
 other_runs : (w : WorldState) (p q : ℕ) (core : CoreState) → q ≢ p → Runs (put_up w p core) q → Runs w q
 other_runs w p q core other runs = elim runs [
-  | inl up ↦ inl (sym (set_apart w.places p q Place.Up other) ∙ up)
-  | inr joined ↦ inr (sym (set_apart w.places p q Place.Up other) ∙ joined.0, λ news. joined.1 (subst (λ r. r < w.manager.round) (sym (round_apart w.rounds p q w.manager.round other)) news))
+  | inl up ↦ inl (sym (set_apart w.places p q ProcessState.Up other) ∙ up)
+  | inr joined ↦ inr (sym (set_apart w.places p q ProcessState.Up other) ∙ joined.0, λ news. joined.1 (subst (λ r. r < w.manager.round) (sym (round_apart w.rounds p q w.manager.round other)) news))
 ]
 
 -- who has news is in no gathering
@@ -408,7 +408,7 @@ shape_back w p core contents health h lt own size long = record {
   few = h.few;
   stores = long ∙ h.stores;
   cores = length-set w.cores p (Some core) ∙ h.cores;
-  places = length-set w.places p Place.Up ∙ h.places;
+  places = length-set w.places p ProcessState.Up ∙ h.places;
   own = λ q c at. elim (at_change w.cores p q (Some c) (Some core) at) [
     | inl same ↦ subst (λ o. IsCoreOf (length w.programs) o c) (sym same.0) (subst (IsCoreOf (length w.programs) p) (sym (once c core same.1)) (record { own = own; size = size }))
     | inr other ↦ h.own q c other.1
@@ -416,7 +416,7 @@ shape_back w p core contents health h lt own size long = record {
   rounds = length-set w.rounds p w.manager.round ∙ h.rounds;
   there = λ q up. elim (either q p) [
     | inl same ↦ (core, subst (λ o. slice_get (set w.cores p (Some core)) o ≡ Some (Some core)) (sym same) here)
-    | inr other ↦ let was = h.there q (sym (set_apart w.places p q Place.Up other) ∙ up) in (was.0, set_apart w.cores p q (Some core) other ∙ was.1)
+    | inr other ↦ let was = h.there q (sym (set_apart w.places p q ProcessState.Up other) ∙ up) in (was.0, set_apart w.cores p q (Some core) other ∙ was.1)
   ];
   inside = λ q joined. let before = joined_before w.places p q joined in let was = h.inside q before.1 in (was.0, set_apart w.cores p q (Some core) before.0 ∙ was.1);
   manager = h.manager;
@@ -460,12 +460,12 @@ up_again w p core a b health h s lt news at up run stored keeps =
       ];
       up = λ q c f place. elim (at_change w.cores p q (Some c) (Some core) f) [
         | inl same ↦ subst (λ o. IsUpIn w.manager o c) (sym same.0) (subst (IsUpIn w.manager p) (sym (once c core same.1)) up)
-        | inr other ↦ s.up q c other.1 (sym (set_apart w.places p q Place.Up other.0) ∙ place)
+        | inr other ↦ s.up q c other.1 (sym (set_apart w.places p q ProcessState.Up other.0) ∙ place)
       ];
       joined = s.joined;
       failed = λ q f. elim (either q p) [
         | inl same ↦ absurd (apart (sym f ∙ ap (presence_of (presences_of w.manager.gathering)) same ∙ is_away w p s news))
-        | inr other ↦ set_apart w.places p q Place.Up other ∙ s.failed q f
+        | inr other ↦ set_apart w.places p q ProcessState.Up other ∙ s.failed q f
       ];
       gathered = λ q not. elim (either q p) [
         | inl same ↦ ap (slice_index (set w.rounds p round)) same ∙ now
@@ -473,13 +473,13 @@ up_again w p core a b health h s lt news at up run stored keeps =
       ];
       current = λ q place. elim (either q p) [
         | inl same ↦ ap (slice_index (set w.rounds p round)) same ∙ now
-        | inr other ↦ round_apart w.rounds p q round other ∙ s.current q (sym (set_apart w.places p q Place.Up other) ∙ place)
+        | inr other ↦ round_apart w.rounds p q round other ∙ s.current q (sym (set_apart w.places p q ProcessState.Up other) ∙ place)
       ];
       known = λ q. elim (either q p) [
         | inl same ↦ same_le (slice_index (set w.rounds p round) q) round (ap (slice_index (set w.rounds p round)) same ∙ now)
         | inr other ↦ subst (λ r. r ≤ round) (sym (round_apart w.rounds p q round other)) (s.known q)
       ];
-      ends = λ q declared held place old f. elim (at_change w.places p q (Place.Down declared) Place.Up place) [
+      ends = λ q declared held place old f. elim (at_change w.places p q (ProcessState.Down declared) ProcessState.Up place) [
         | inl same ↦ absurd (down_apart declared same.1)
         | inr other ↦ elim (at_change w.contents p q held b f) [
           | inl too ↦ absurd (other.0 too.0)
@@ -504,7 +504,7 @@ up_again w p core a b health h s lt news at up run stored keeps =
     apart : Failed ≡ Away → ⊥
     apart e = cc
 
-    down_apart : (declared : Bool) → Place.Down declared ≡ Place.Up → ⊥
+    down_apart : (declared : Bool) → ProcessState.Down declared ≡ ProcessState.Up → ⊥
     down_apart declared e = cc
 
     same_le : (a b : ℕ) → a ≡ b → a ≤ b

@@ -24,12 +24,12 @@ use Rattle.om_member.specs.Members.{HasComeBack, HasDeclared, HasJoined, IsNotIn
 use Rattle.om_member.specs.declared.member.Member.{Member}
 use Rattle.om_member.specs.declared.member.NotIn.{NotIn}
 use Rattle.om_member.specs.declared.member.NotUp.{NotUp}
-use Rattle.om_member.specs.declared.member.Standing.{Standing}
-use Rattle.om_member.specs.declared.member.Standing.TheVariants as stands
+use Rattle.om_member.specs.declared.member.MemberState.{MemberState}
+use Rattle.om_member.specs.declared.member.MemberState.TheVariants as stands
 use Rattle.om_world.specs.declared.entry.Entry.{Entry}
 use Rattle.om_world.specs.declared.event.Refusal.{Refusal}
 use Rattle.om_world.specs.declared.event.Refusal.TheVariants as why
-use Rattle.om_world.specs.declared.place.Place.{Place}
+use Rattle.om_world.specs.declared.process_state.ProcessState.{ProcessState}
 use Rattle.om_world.specs.Changes.{IsUp}
 use Rattle.om_world.specs.Failures.{HasNews, IsToGoOn, live_after, taken_down}
 use Rattle.om_world.specs.Live.{cut_list}
@@ -63,25 +63,25 @@ module _ {S : Type 0} (content : S → Content) (health : S → Health) (IsSound
     down_seen : taken_down (seen content health P L F ms M O) p false ≡ seen content health P L F (set ms p n) M O
     down_seen =
         ap (λ l. record (taken_down (seen content health P L F ms M O) p false) { rounds = l }) (sym (set_round content health IsSound P L F ms M O p m at n))
-        ∙ placed_as content health IsSound P L F ms M O p m at n None (Place.Down false) m.round (ap core_in others) (ap place_in others) (ap round_in others) (ap (λ (x : Member S). x.store) others) L M
+        ∙ placed_as content health IsSound P L F ms M O p m at n None (ProcessState.Down false) m.round (ap core_in others) (ap place_in others) (ap round_in others) (ap (λ (x : Member S). x.store) others) L M
 
-    pub after_taken : slice_get v.places p ≢ Some (Place.Down true) → IsWorld (sound_in IsSound) (set ms p n) (seen content health P L F (set ms p n) M O)
+    pub after_taken : slice_get v.places p ≢ Some (ProcessState.Down true) → IsWorld (sound_in IsSound) (set ms p n) (seen content health P L F (set ms p n) M O)
     after_taken undeclared =
         still content health IsSound P L F ms M O p m at n (ap (λ (x : Member S). x.store) others) (seen content health P L F (set ms p n) M O)
-        (subst (IsWorld (sound_in IsSound) ms) down_seen (after_down (sound_in IsSound) ms (seen content health P L F ms M O) p i (subst (λ (x : WorldState). slice_get x.places p ≢ Some (Place.Down true)) (sym e) undeclared)))
+        (subst (IsWorld (sound_in IsSound) ms) down_seen (after_down (sound_in IsSound) ms (seen content health P L F ms M O) p i (subst (λ (x : WorldState). slice_get x.places p ≢ Some (ProcessState.Down true)) (sym e) undeclared)))
 
     pub was_taken : seen content health P L F (set ms p n) M O ≡ taken_down v p false
     was_taken = sym down_seen ∙ ap (λ (x : WorldState). taken_down x p false) e
 
   -- ---- its failure was declared
-  module _ (q : ℕ) (is : q ≡ p) (k : ManagerState) (at_down : slice_get v.places p ≡ Some (Place.Down false)) where
-    was_down : slice_get (map place_in ms) p ≡ Some (Place.Down false)
-    was_down = subst (λ (x : WorldState). slice_get x.places p ≡ Some (Place.Down false)) (sym e) at_down
+  module _ (q : ℕ) (is : q ≡ p) (k : ManagerState) (at_down : slice_get v.places p ≡ Some (ProcessState.Down false)) where
+    was_down : slice_get (map place_in ms) p ≡ Some (ProcessState.Down false)
+    was_down = subst (λ (x : WorldState). slice_get x.places p ≡ Some (ProcessState.Down false)) (sym e) at_down
 
     no_core : core_of m.standing ≡ None
-    no_core = of_down m.standing (once (place_in m) (Place.Down false) (sym (map_at place_in ms p m at) ∙ was_down))
+    no_core = of_down m.standing (once (place_in m) (ProcessState.Down false) (sym (map_at place_in ms p m at) ∙ was_down))
       where
-        of_down : (s : Standing) → place_of s ≡ Place.Down false → core_of s ≡ None
+        of_down : (s : MemberState) → place_of s ≡ ProcessState.Down false → core_of s ≡ None
         of_down (stands.Up core) d = cc
         of_down (stands.In core) d = cc
         of_down (stands.Down declared) d = refl
@@ -93,11 +93,11 @@ module _ {S : Type 0} (content : S → Content) (health : S → Health) (IsSound
       gathered : HasGathered {E = FailError} M L (Ok told) k live
       gathered = record { sound = h.keeps.sound; size = sym h.keeps.below.same_places; released = h.keeps.released; live = cut ∙ live_fails told M p k L failing.2; refused = tt }
 
-      declared_seen : placed_with (seen content health P L F ms M O) p (Place.Down true) live k ≡ seen content health P live F (set ms p n) k O
+      declared_seen : placed_with (seen content health P L F ms M O) p (ProcessState.Down true) live k ≡ seen content health P live F (set ms p n) k O
       declared_seen =
-          ap (λ l. record (placed_with (seen content health P L F ms M O) p (Place.Down true) live k) { cores = l }) (set_core content health IsSound P L F ms M O p m at n ∙ ap (set (map core_in ms) p) no_core)
-          ∙ ap (λ l. record (placed_with (seen content health P L F ms M O) p (Place.Down true) live k) { cores = set (map core_in ms) p None; rounds = l }) (sym (set_round content health IsSound P L F ms M O p m at n))
-          ∙ placed_as content health IsSound P L F ms M O p m at n None (Place.Down true) m.round (ap core_in h.declared) (ap place_in h.declared) (ap round_in h.declared) (ap (λ (x : Member S). x.store) h.declared) live k
+          ap (λ l. record (placed_with (seen content health P L F ms M O) p (ProcessState.Down true) live k) { cores = l }) (set_core content health IsSound P L F ms M O p m at n ∙ ap (set (map core_in ms) p) no_core)
+          ∙ ap (λ l. record (placed_with (seen content health P L F ms M O) p (ProcessState.Down true) live k) { cores = set (map core_in ms) p None; rounds = l }) (sym (set_round content health IsSound P L F ms M O p m at n))
+          ∙ placed_as content health IsSound P L F ms M O p m at n None (ProcessState.Down true) m.round (ap core_in h.declared) (ap place_in h.declared) (ap round_in h.declared) (ap (λ (x : Member S). x.store) h.declared) live k
 
       pub after_declared : IsWorld (sound_in IsSound) (set ms p n) (seen content health P live F (set ms p n) k O)
       after_declared =
@@ -138,11 +138,11 @@ module _ {S : Type 0} (content : S → Content) (health : S → Health) (IsSound
       joined : HasGathered {E = JoinError} M L (Ok told) k live
       joined = record { sound = h.keeps.sound; size = sym h.keeps.below.same_places; released = h.keeps.released; live = cut ∙ live_gathers told _ M k L joining.1; refused = tt }
 
-      joined_seen : placed_with (seen content health P L F ms M O) p Place.In live k ≡ seen content health P live F (set ms p n) k O
+      joined_seen : placed_with (seen content health P L F ms M O) p ProcessState.In live k ≡ seen content health P live F (set ms p n) k O
       joined_seen =
-          ap (λ l. record (placed_with (seen content health P L F ms M O) p Place.In live k) { cores = l }) (set_core content health IsSound P L F ms M O p m at n ∙ ap (λ s. set (map core_in ms) p (core_of s)) h.up)
-          ∙ ap (λ l. record (placed_with (seen content health P L F ms M O) p Place.In live k) { cores = set (map core_in ms) p (Some h.core); rounds = l }) (sym (set_round content health IsSound P L F ms M O p m at n))
-          ∙ placed_as content health IsSound P L F ms M O p m at n (Some h.core) Place.In m.round (ap core_in h.joined) (ap place_in h.joined) (ap round_in h.joined) (ap (λ (x : Member S). x.store) h.joined) live k
+          ap (λ l. record (placed_with (seen content health P L F ms M O) p ProcessState.In live k) { cores = l }) (set_core content health IsSound P L F ms M O p m at n ∙ ap (λ s. set (map core_in ms) p (core_of s)) h.up)
+          ∙ ap (λ l. record (placed_with (seen content health P L F ms M O) p ProcessState.In live k) { cores = set (map core_in ms) p (Some h.core); rounds = l }) (sym (set_round content health IsSound P L F ms M O p m at n))
+          ∙ placed_as content health IsSound P L F ms M O p m at n (Some h.core) ProcessState.In m.round (ap core_in h.joined) (ap place_in h.joined) (ap round_in h.joined) (ap (λ (x : Member S). x.store) h.joined) live k
 
       pub after_joined : IsWorld (sound_in IsSound) (set ms p n) (seen content health P live F (set ms p n) k O)
       after_joined =
@@ -203,7 +203,7 @@ module _ {S : Type 0} (content : S → Content) (health : S → Health) (IsSound
     )
 
     on_seen : up_as (seen content health P L F ms M O) p (set (map core_in ms) p (Some (resumed core round starts))) round (map (content_in content) ms) (map (health_in health) ms) ≡ seen content health P L F (set ms p n) M O
-    on_seen = placed_as content health IsSound P L F ms M O p m at n (Some (resumed core round starts)) Place.Up round (ap core_in others) (ap place_in others) (ap round_in others) (ap (λ (x : Member S). x.store) others) L M
+    on_seen = placed_as content health IsSound P L F ms M O p m at n (Some (resumed core round starts)) ProcessState.Up round (ap core_in others) (ap place_in others) (ap round_in others) (ap (λ (x : Member S). x.store) others) L M
 
     pub after_went_on : p < length v.programs → IsWorld (sound_in IsSound) (set ms p n) (seen content health P L F (set ms p n) M O)
     after_went_on lt =
@@ -225,9 +225,9 @@ module _ {S : Type 0} (content : S → Content) (health : S → Health) (IsSound
   module _ (due : IsToGoOn v p) (round : ℕ) (starts : List (List ℕ)) (same_round : round ≡ M.round) (same_starts : starts ≡ M.starts) (lt : p < length v.programs) (r : Result (Result (Unit {0}) AllocError) NotIn)
       (on : IfOk r (λ a. OnOk a ((core : CoreState) × (m.standing ≡ stands.In core) × (n ≡ record m { standing = stands.Up (resumed core round starts); round = round })))) (not : OnErr r (IsNotIn m.standing)) (stays : IfOk r (λ a. OnErr a (n ≡ m))) where
     not_out : IsNotIn m.standing → ⊥
-    not_out out = in_or_out m.standing (once (place_in m) Place.In (sym (map_at place_in ms p m at) ∙ subst (λ (x : WorldState). slice_get x.places p ≡ Some Place.In) (sym e) due.joined)) out
+    not_out out = in_or_out m.standing (once (place_in m) ProcessState.In (sym (map_at place_in ms p m at) ∙ subst (λ (x : WorldState). slice_get x.places p ≡ Some ProcessState.In) (sym e) due.joined)) out
       where
-        in_or_out : (s : Standing) → place_of s ≡ Place.In → IsNotIn s → ⊥
+        in_or_out : (s : MemberState) → place_of s ≡ ProcessState.In → IsNotIn s → ⊥
         in_or_out (stands.Up core) joined out = cc
         in_or_out (stands.In core) joined out = out core refl
         in_or_out (stands.Down declared) joined out = cc
@@ -294,7 +294,7 @@ module _ {S : Type 0} (content : S → Content) (is_clean : S → Bool) (failed 
         apart c f = cc
 
     back_seen : up_as (seen content (health_of is_clean failed) P L F ms M O) p (set (map core_in ms) p (Some h.core)) verdict.round (map (content_in content) (set ms p n)) (map (health_in (health_of is_clean failed)) (set ms p n)) ≡ seen content (health_of is_clean failed) P L F (set ms p n) M O
-    back_seen = risen content (health_of is_clean failed) IsSound P L F ms M O p m at n (Some h.core) Place.Up verdict.round (ap core_in h.others) (ap place_in h.others) (ap round_in h.others)
+    back_seen = risen content (health_of is_clean failed) IsSound P L F ms M O p m at n (Some h.core) ProcessState.Up verdict.round (ap core_in h.others) (ap place_in h.others) (ap round_in h.others)
 
     pub after_come_back : IsWorld (sound_in IsSound) (set ms p n) (seen content (health_of is_clean failed) P L F (set ms p n) M O)
     after_come_back = subst (IsWorld (sound_in IsSound) (set ms p n)) back_seen

@@ -12,9 +12,9 @@ use Rattle.om_process.specs.declared.start.StartFault.{StartFault}
 use Rattle.om_manager.specs.State.{ManagerState}
 use Rattle.om_member.specs.Members.{core_of}
 use Rattle.om_member.specs.declared.member.Member.{Member}
-use Rattle.om_member.specs.declared.member.Standing.TheVariants as stands
+use Rattle.om_member.specs.declared.member.MemberState.TheVariants as stands
 use Rattle.om_world.specs.declared.entry.Entry.{Entry}
-use Rattle.om_world.specs.declared.place.Place.{Place}
+use Rattle.om_world.specs.declared.process_state.ProcessState.{ProcessState}
 use Rattle.om_world.specs.Started.{IsRefusedAt}
 use Rattle.om_world.specs.World.{Health, WorldState}
 use Rattle.om_world.specs.steps.Members.{core_in, place_in, place_of, round_in, seen, sound_in, store_in}
@@ -90,7 +90,7 @@ module _ {S : Type 0} (content : S → Content) (failed : S → ℕ) (is_clean :
         subst (λ l. AreStarted content is_clean IsSound programs n (k + 1) l stores (map store_in (ms ++ m ∷ []) ++ drop (k + 1) stores)) (sym (map_push core_in ms m ∙ ap (λ x. map core_in ms ++ core_of x ∷ []) up))
         (subst (AreStarted content is_clean IsSound programs n (k + 1) (map core_in ms ++ Some core ∷ []) stores) stores_are
         (one_started content failed is_clean IsSound programs n k (map core_in ms) stores (map store_in ms ++ drop k stores) before after program core at_program a.started begun s));
-    places = map_push place_in ms m ∙ ap (λ x. map place_in ms ++ place_of x ∷ []) up ∙ ap (λ l. l ++ Place.Up ∷ []) a.places ∙ replicate_push k Place.Up ∙ ap (λ j. replicate j Place.Up) (more k);
+    places = map_push place_in ms m ∙ ap (λ x. map place_in ms ++ place_of x ∷ []) up ∙ ap (λ l. l ++ ProcessState.Up ∷ []) a.places ∙ replicate_push k ProcessState.Up ∙ ap (λ j. replicate j ProcessState.Up) (more k);
     rounds = map_push round_in ms m ∙ ap (λ x. map round_in ms ++ x ∷ []) round ∙ ap (λ l. l ++ 0 ∷ []) a.rounds ∙ replicate_push k 0 ∙ ap (λ j. replicate j 0) (more k);
   }
     where

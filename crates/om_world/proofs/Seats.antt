@@ -12,12 +12,12 @@ use Rattle.om_manager.specs.declared.answers.RecordError.{RecordError}
 use Rattle.om_member.specs.Members.{IsNotUp, WasCalled, core_of}
 use Rattle.om_member.specs.declared.member.Member.{Member}
 use Rattle.om_member.specs.declared.member.NotUp.{NotUp}
-use Rattle.om_member.specs.declared.member.Standing.{Standing}
-use Rattle.om_member.specs.declared.member.Standing.TheVariants as stands
+use Rattle.om_member.specs.declared.member.MemberState.{MemberState}
+use Rattle.om_member.specs.declared.member.MemberState.TheVariants as stands
 use Rattle.om_world.specs.declared.entry.Entry.{Entry}
 use Rattle.om_world.specs.declared.event.Refusal.{Refusal}
 use Rattle.om_world.specs.declared.event.Refusal.TheVariants as why
-use Rattle.om_world.specs.declared.place.Place.{Place}
+use Rattle.om_world.specs.declared.process_state.ProcessState.{ProcessState}
 use Rattle.om_world.specs.Changes.{IsUp}
 use Rattle.om_world.specs.World.{Health, WorldState}
 use Rattle.om_world.specs.steps.Members.{content_in, core_in, health_in, place_in, place_of, round_in, seen, sound_in, health_of}
@@ -42,18 +42,18 @@ world_is v w programs live frames cores places rounds manager contents health or
     ∙ ap (λ x. record w { origins = x }) origins
 
 -- ---- who is up
-pub stands_up : (s : Standing) → place_of s ≡ Place.Up → IsNotUp s → ⊥
+pub stands_up : (s : MemberState) → place_of s ≡ ProcessState.Up → IsNotUp s → ⊥
 stands_up (stands.Up core) up not = not core refl
 stands_up (stands.In core) up not = cc
 stands_up (stands.Down declared) up not = cc
 
-pub up_core : (s : Standing) → place_of s ≡ Place.Up → core_of s ≡ None → ⊥
+pub up_core : (s : MemberState) → place_of s ≡ ProcessState.Up → core_of s ≡ None → ⊥
 up_core (stands.Up core) up none = cc
 up_core (stands.In core) up none = cc
 up_core (stands.Down declared) up none = cc
 
 -- what a process that is up was asked it did
-pub was_up : {T : Type 0} (r : Result T NotUp) (Did : T → Type 0) (s : Standing) → place_of s ≡ Place.Up → IfOk r Did → OnErr r (IsNotUp s) → (a : T) × (r ≡ Ok a) × Did a
+pub was_up : {T : Type 0} (r : Result T NotUp) (Did : T → Type 0) (s : MemberState) → place_of s ≡ ProcessState.Up → IfOk r Did → OnErr r (IsNotUp s) → (a : T) × (r ≡ Ok a) × Did a
 was_up (Ok a) Did s up did not = (a, refl, did)
 was_up (Err e) Did s up did not = absurd (stands_up s up not)
 
@@ -108,7 +108,7 @@ module _ {S : Type 0} (content : S → Content) (health : S → Health) (IsSound
   here v i e lt = subst (λ n. p < n) (length-map core_in ms) (subst (λ n. p < n) (sym i.shape.cores) (subst (λ (x : WorldState). p < length x.programs) (sym e) lt))
 
   pub up_here : (v : WorldState) → seen content health P L F ms M O ≡ v → IsUp v p → p < length ms
-  up_here v e up = subst (λ n. p < n) (length-map place_in ms) (inside (map place_in ms) p Place.Up (subst (λ (x : WorldState). IsUp x p) (sym e) up))
+  up_here v e up = subst (λ n. p < n) (length-map place_in ms) (inside (map place_in ms) p ProcessState.Up (subst (λ (x : WorldState). IsUp x p) (sym e) up))
 
   pub core_here : (v : WorldState) (core : Option CoreState) → seen content health P L F ms M O ≡ v → slice_get v.cores p ≡ Some core → p < length ms
   core_here v core e there = subst (λ n. p < n) (length-map core_in ms) (inside (map core_in ms) p core (subst (λ (x : WorldState). slice_get x.cores p ≡ Some core) (sym e) there))
@@ -118,8 +118,8 @@ module _ {S : Type 0} (content : S → Content) (health : S → Health) (IsSound
     pub place_at : (v : WorldState) → seen content health P L F ms M O ≡ v → slice_get v.places p ≡ Some (place_in m)
     place_at v e = subst (λ (x : WorldState). slice_get x.places p ≡ Some (place_in m)) e (map_at place_in ms p m at)
 
-    pub is_up : (v : WorldState) → seen content health P L F ms M O ≡ v → IsUp v p → place_of m.standing ≡ Place.Up
-    is_up v e up = once (place_in m) Place.Up (sym (place_at v e) ∙ up)
+    pub is_up : (v : WorldState) → seen content health P L F ms M O ≡ v → IsUp v p → place_of m.standing ≡ ProcessState.Up
+    is_up v e up = once (place_in m) ProcessState.Up (sym (place_at v e) ∙ up)
 
     pub core_at : (v : WorldState) (core : CoreState) → seen content health P L F ms M O ≡ v → core_of m.standing ≡ Some core → slice_get v.cores p ≡ Some (Some core)
     core_at v core e is = subst (λ (x : WorldState). slice_get x.cores p ≡ Some (Some core)) e (map_at core_in ms p m at ∙ ap Some is)
@@ -157,7 +157,7 @@ module _ {S : Type 0} (content : S → Content) (health : S → Health) (IsSound
           refl refl refl (same_map core_in ms p m n at core) (same_map place_in ms p m n at place) (same_map round_in ms p m n at round) refl refl refl refl
 
       -- one that stands elsewhere, over the same store
-      pub placed_as : (core : Option CoreState) (place : Place) (round : ℕ) → core_in n ≡ core → place_in n ≡ place → round_in n ≡ round → n.store ≡ m.store → (live : List Entry) (k : ManagerState)
+      pub placed_as : (core : Option CoreState) (place : ProcessState) (round : ℕ) → core_in n ≡ core → place_in n ≡ place → round_in n ≡ round → n.store ≡ m.store → (live : List Entry) (k : ManagerState)
           → record { programs = P; live = live; frames = F; cores = set (map core_in ms) p core; places = set (map place_in ms) p place; rounds = set (map round_in ms) p round; manager = k; contents = map (content_in content) ms; health = map (health_in health) ms; origins = O }
           ≡ seen content health P live F (set ms p n) k O
       placed_as core place round c pl r store live k = world_is (record { programs = P; live = live; frames = F; cores = set (map core_in ms) p core; places = set (map place_in ms) p place; rounds = set (map round_in ms) p round; manager = k; contents = map (content_in content) ms; health = map (health_in health) ms; origins = O }) (seen content health P live F (set ms p n) k O)
@@ -165,7 +165,7 @@ module _ {S : Type 0} (content : S → Content) (health : S → Health) (IsSound
           (same_map (content_in content) ms p m n at (ap content store)) (same_map (health_in health) ms p m n at (ap health store)) refl
 
       -- one that is placed anew, over its store as it was called
-      pub risen : (core : Option CoreState) (place : Place) (round : ℕ) → core_in n ≡ core → place_in n ≡ place → round_in n ≡ round
+      pub risen : (core : Option CoreState) (place : ProcessState) (round : ℕ) → core_in n ≡ core → place_in n ≡ place → round_in n ≡ round
           → record { programs = P; live = L; frames = F; cores = set (map core_in ms) p core; places = set (map place_in ms) p place; rounds = set (map round_in ms) p round; manager = M; contents = map (content_in content) (set ms p n); health = map (health_in health) (set ms p n); origins = O }
           ≡ seen content health P L F (set ms p n) M O
       risen core place round c pl r = world_is (record { programs = P; live = L; frames = F; cores = set (map core_in ms) p core; places = set (map place_in ms) p place; rounds = set (map round_in ms) p round; manager = M; contents = map (content_in content) (set ms p n); health = map (health_in health) (set ms p n); origins = O }) (seen content health P L F (set ms p n) M O)

@@ -3,7 +3,7 @@ use Rattle.std.proofs.Common.{◌≡◌, ℕ, ◌<◌, List, length, map, Some, 
 use Rattle.std.specs.Prelude.{slice_get}
 use Rattle.om_interval.specs.declared.pid.TheConstants.{MAX_PROCESSES}
 use Rattle.om_manager.specs.State.{process_count}
-use Rattle.om_world.specs.declared.place.Place.{Place}
+use Rattle.om_world.specs.declared.process_state.ProcessState.{ProcessState}
 use Rattle.om_world.specs.Changes.{IsUp}
 use Rattle.om_process.specs.Core.{CoreState}
 use Rattle.om_process.specs.declared.image.Image.{Image}
@@ -35,7 +35,7 @@ module _ {S : Type 0} (IsSound : S → Type 0) (xs : List S) (w v : WorldState) 
     known = subst (λ n. p < n) (sym i.shape.size) here
 
   -- who has a place is there
-  pub there_at : (place : Place) → slice_get v.places p ≡ Some place → p < length v.programs
+  pub there_at : (place : ProcessState) → slice_get v.places p ≡ Some place → p < length v.programs
   there_at place at =
       let lt = inside w.places p place (subst (λ (x : WorldState). slice_get x.places p ≡ Some place) (sym e) at) in
       subst (λ (x : WorldState). p < length x.programs) e (subst (λ n. p < n) i.shape.places lt)

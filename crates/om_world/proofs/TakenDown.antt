@@ -5,7 +5,7 @@ use Rattle.om_process.specs.Core.{CoreState}
 use Rattle.om_process.specs.Process.{Process}
 use Rattle.om_process.proofs.Making.{interval_along}
 use Rattle.om_stable.specs.Content.{Content}
-use Rattle.om_world.specs.declared.place.Place.{Place}
+use Rattle.om_world.specs.declared.process_state.ProcessState.{ProcessState}
 use Rattle.om_world.specs.Failures.{HasNews, taken_down}
 use Rattle.om_world.specs.Live.{program_at}
 use Rattle.om_world.specs.World.{WorldState}
@@ -13,18 +13,18 @@ use Rattle.om_world.specs.steps.Past.{Past, history, past_of}
 use Rattle.om_world.specs.steps.Sound.{EndsAt, HasShape, IsRunning, IsWorld, Runs, Sound}
 use Rattle.om_world.proofs.Lists.{at_change, either, inside, none_some, set_apart, there}
 
-up_or_down : (declared : Bool) → Place.Up ≡ Place.Down declared → ⊥
+up_or_down : (declared : Bool) → ProcessState.Up ≡ ProcessState.Down declared → ⊥
 up_or_down declared e = cc
 
-in_or_down : (declared : Bool) → Place.In ≡ Place.Down declared → ⊥
+in_or_down : (declared : Bool) → ProcessState.In ≡ ProcessState.Down declared → ⊥
 in_or_down declared e = cc
 
 -- who is up or in is another, and was before
-still_up : (places : List Place) (p q : ℕ) (declared : Bool) → slice_get (set places p (Place.Down declared)) q ≡ Some Place.Up → (q ≢ p) × (slice_get places q ≡ Some Place.Up)
-still_up places p q declared at = elim (at_change places p q Place.Up (Place.Down declared) at) [ inl is ↦ absurd (up_or_down declared is.1) | inr other ↦ other ]
+still_up : (places : List ProcessState) (p q : ℕ) (declared : Bool) → slice_get (set places p (ProcessState.Down declared)) q ≡ Some ProcessState.Up → (q ≢ p) × (slice_get places q ≡ Some ProcessState.Up)
+still_up places p q declared at = elim (at_change places p q ProcessState.Up (ProcessState.Down declared) at) [ inl is ↦ absurd (up_or_down declared is.1) | inr other ↦ other ]
 
-still_in : (places : List Place) (p q : ℕ) (declared : Bool) → slice_get (set places p (Place.Down declared)) q ≡ Some Place.In → (q ≢ p) × (slice_get places q ≡ Some Place.In)
-still_in places p q declared at = elim (at_change places p q Place.In (Place.Down declared) at) [ inl is ↦ absurd (in_or_down declared is.1) | inr other ↦ other ]
+still_in : (places : List ProcessState) (p q : ℕ) (declared : Bool) → slice_get (set places p (ProcessState.Down declared)) q ≡ Some ProcessState.In → (q ≢ p) × (slice_get places q ≡ Some ProcessState.In)
+still_in places p q declared at = elim (at_change places p q ProcessState.In (ProcessState.Down declared) at) [ inl is ↦ absurd (in_or_down declared is.1) | inr other ↦ other ]
 
 still_core : (cores : List (Option CoreState)) (p q : ℕ) (c : CoreState) → slice_get (set cores p None) q ≡ Some (Some c) → slice_get cores q ≡ Some (Some c)
 still_core cores p q c at = elim (at_change cores p q (Some c) None at) [ inl is ↦ absurd (none_some (Some c) c is.1 refl) | inr other ↦ other.1 ]
@@ -40,7 +40,7 @@ shape_down w p declared h = record {
   few = h.few;
   stores = h.stores;
   cores = length-set w.cores p None ∙ h.cores;
-  places = length-set w.places p (Place.Down declared) ∙ h.places;
+  places = length-set w.places p (ProcessState.Down declared) ∙ h.places;
   own = λ q c at. h.own q c (still_core w.cores p q c at);
   rounds = h.rounds;
   there = λ q up. let was = still_up w.places p q declared up in let core = h.there q was.1 in (core.0, set_apart w.cores p q None was.0 ∙ core.1);
@@ -63,12 +63,12 @@ ended w p held h s old holds =
     let place = there w.places p (omega arith) in
     by place.0 place.1
   where
-    by : (place : Place) → slice_get w.places p ≡ Some place → EndsAt held (length (history (past_of w) p))
-    by Place.Up at = let c = h.there p at in running_ends (past_of w) p held c.0 (s.running p c.0 held c.1 holds (inl at))
-    by Place.In at = let c = h.inside p at in running_ends (past_of w) p held c.0 (s.running p c.0 held c.1 holds (inr (at, λ news. absurd (old news))))
-    by (Place.Down declared) at = s.ends p declared held at old holds
+    by : (place : ProcessState) → slice_get w.places p ≡ Some place → EndsAt held (length (history (past_of w) p))
+    by ProcessState.Up at = let c = h.there p at in running_ends (past_of w) p held c.0 (s.running p c.0 held c.1 holds (inl at))
+    by ProcessState.In at = let c = h.inside p at in running_ends (past_of w) p held c.0 (s.running p c.0 held c.1 holds (inr (at, λ news. absurd (old news))))
+    by (ProcessState.Down declared) at = s.ends p declared held at old holds
 
-sound_down : (w : WorldState) (p : ℕ) → HasShape w → Sound w → slice_get w.places p ≢ Some (Place.Down true) → Sound (taken_down w p false)
+sound_down : (w : WorldState) (p : ℕ) → HasShape w → Sound w → slice_get w.places p ≢ Some (ProcessState.Down true) → Sound (taken_down w p false)
 sound_down w p h s undeclared = record {
   legal = s.legal;
   frames = s.frames;
@@ -80,13 +80,13 @@ sound_down w p h s undeclared = record {
   up = λ q c at up. s.up q c (still_core w.cores p q c at) (still_up w.places p q false up).1;
   joined = s.joined;
   failed = λ q at. elim (either q p) [
-    | inl same ↦ absurd (undeclared (subst (λ o. slice_get w.places o ≡ Some (Place.Down true)) same (s.failed q at)))
-    | inr other ↦ set_apart w.places p q (Place.Down false) other ∙ s.failed q at
+    | inl same ↦ absurd (undeclared (subst (λ o. slice_get w.places o ≡ Some (ProcessState.Down true)) same (s.failed q at)))
+    | inr other ↦ set_apart w.places p q (ProcessState.Down false) other ∙ s.failed q at
   ];
   gathered = s.gathered;
   current = λ q up. s.current q (still_up w.places p q false up).1;
   known = s.known;
-  ends = λ q declared held place old holds. elim (at_change w.places p q (Place.Down declared) (Place.Down false) place) [
+  ends = λ q declared held place old holds. elim (at_change w.places p q (ProcessState.Down declared) (ProcessState.Down false) place) [
     | inl same ↦ subst (λ o. EndsAt held (length (history (past_of w) o))) (sym same.0)
         (ended w p held h s (λ news. old (subst (HasNews w) (sym same.0) news)) (subst (λ o. slice_get w.contents o ≡ Some held) same.0 holds))
     | inr other ↦ s.ends q declared held other.1 old holds
@@ -96,7 +96,7 @@ sound_down w p h s undeclared = record {
   beyond = λ q c at joined news back. s.beyond q c (still_core w.cores p q c at) (still_in w.places p q false joined).1 news back;
 }
 
-pub after_down : {S : Type 0} (IsSound : S → Type 0) (xs : List S) (w : WorldState) (p : ℕ) → IsWorld IsSound xs w → slice_get w.places p ≢ Some (Place.Down true) → IsWorld IsSound xs (taken_down w p false)
+pub after_down : {S : Type 0} (IsSound : S → Type 0) (xs : List S) (w : WorldState) (p : ℕ) → IsWorld IsSound xs w → slice_get w.places p ≢ Some (ProcessState.Down true) → IsWorld IsSound xs (taken_down w p false)
 after_down IsSound xs w p i undeclared = record {
   shape = shape_down w p false i.shape;
   clean = λ known. let s = i.clean known in (s.0, sound_down w p i.shape s.1 undeclared);

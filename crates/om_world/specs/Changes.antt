@@ -12,7 +12,7 @@ use Rattle.om_member.specs.declared.batch.Batch.{Batch}
 use Rattle.om_member.specs.Told.{AreTold}
 use Rattle.om_manager.specs.Outputs.{HeldOutput}
 use Rattle.om_manager.specs.State.{ManagerState, held_by}
-use Rattle.om_world.specs.declared.place.Place.{Place}
+use Rattle.om_world.specs.declared.process_state.ProcessState.{ProcessState}
 use Rattle.om_world.specs.World.{Health, WorldState}
 pub use Rattle.om_member.specs.Members.{HasGained, stored}
 pub use Rattle.om_member.specs.Told.{row_for}
@@ -39,7 +39,7 @@ abbrev pub HasFailed : WorldState → ℕ → WorldState → Type 0
 HasFailed old p new = RoseAt old.health p new.health
 
 abbrev pub IsUp : WorldState → ℕ → Type 0
-IsUp w p = slice_get w.places p ≡ Some Place.Up
+IsUp w p = slice_get w.places p ≡ Some ProcessState.Up
 
 -- process p is up, with the one core before and the other after; no other core changes, what was received stays, and who is up
 pub record Changes (old : WorldState) (p : ℕ) (c d : CoreState) (new : WorldState) : Type 0 where

@@ -12,7 +12,7 @@ use Rattle.om_manager.specs.declared.answers.Gathered.{Gathered}
 use Rattle.om_manager.specs.declared.presence.Presence.TheVariants as presences
 use Rattle.om_manager.specs.declared.answers.Gathered.TheVariants.{Waiting, Finished}
 use Rattle.om_world.specs.declared.entry.Entry.{Entry}
-use Rattle.om_world.specs.declared.place.Place.{Place}
+use Rattle.om_world.specs.declared.process_state.ProcessState.{ProcessState}
 use Rattle.om_member.specs.declared.batch.Batch.TheVariants.{Log}
 use Rattle.om_member.specs.Told.{AreTold}
 use Rattle.om_world.specs.Changes.{Changes, HasStored, HoldsMore, IsSame, IsUp, made_by}
@@ -25,13 +25,13 @@ HasNews w p = slice_index w.rounds p < w.manager.round
 
 -- the process is down: its core is gone
 abbrev pub taken_down : WorldState → ℕ → Bool → WorldState
-taken_down w p declared = record w { cores = slice_set w.cores p None; places = slice_set w.places p (Place.Down declared) }
+taken_down w p declared = record w { cores = slice_set w.cores p None; places = slice_set w.places p (ProcessState.Down declared) }
 
 -- the process is up again, and knows the last round
 abbrev pub put_up : WorldState → ℕ → CoreState → WorldState
 put_up w p core = record w {
   cores = slice_set w.cores p (Some core);
-  places = slice_set w.places p Place.Up;
+  places = slice_set w.places p ProcessState.Up;
   rounds = slice_set w.rounds p w.manager.round;
 }
 
@@ -49,8 +49,8 @@ gathered w answer m = record w { live = live_after answer w.manager w.live; mana
 -- refused and no newer round is finished
 pub data IsToDeclare (w : WorldState) (p : ℕ) : Type 0 where
   up : IsUp w p → IsToDeclare w p
-  joined : slice_get w.places p ≡ Some Place.In → (HasNews w p → ⊥) → IsToDeclare w p
-  refused : slice_get w.places p ≡ Some (Place.Down false) → (HasNews w p → ⊥) → IsToDeclare w p
+  joined : slice_get w.places p ≡ Some ProcessState.In → (HasNews w p → ⊥) → IsToDeclare w p
+  refused : slice_get w.places p ≡ Some (ProcessState.Down false) → (HasNews w p → ⊥) → IsToDeclare w p
 
 -- the manager refused the declaration for this: the process is down all the same
 abbrev pub FailRefused : Type 0 → WorldState → ℕ → WorldState → Type 0
@@ -58,7 +58,7 @@ FailRefused Why old p new = IsToDeclare old p × Why × (new ≡ taken_down old 
 
 -- the process is down, and its failure was declared, or a newer round is finished
 abbrev pub IsDeclared : WorldState → ℕ → Type 0
-IsDeclared w p = (declared : Bool) × (slice_get w.places p ≡ Some (Place.Down declared)) × ((declared ≡ true) ⊎ HasNews w p)
+IsDeclared w p = (declared : Bool) × (slice_get w.places p ≡ Some (ProcessState.Down declared)) × ((declared ≡ true) ⊎ HasNews w p)
 
 -- ---- a join
 -- the process stored its log, all its pending rows are noted, and outputs of it are handed in
@@ -78,19 +78,19 @@ pub record JoinHappened (old : WorldState) (p : ℕ) (answer : Gathered) (new : 
   pub handed : HasHanded old p core ready
   pub all : made_by core ≤ length (held_by ready.manager p)
   pub manager : Gathers (with_presence ready.manager p (presences.Joined core.now.interval)) ready.manager answer new.manager
-  pub others : new ≡ gathered (record ready { places = slice_set ready.places p Place.In }) answer new.manager
+  pub others : new ≡ gathered (record ready { places = slice_set ready.places p ProcessState.In }) answer new.manager
 
 -- ---- a return
 -- a newer round is finished, and the process comes back in it: it is down, or in and rolled back
 pub data IsToComeBack (w : WorldState) (p : ℕ) : Type 0 where
-  down : (declared : Bool) → slice_get w.places p ≡ Some (Place.Down declared) → HasNews w p → IsToComeBack w p
-  rolled_back : slice_get w.places p ≡ Some Place.In → HasNews w p → is_named w.manager.backs p ≡ true → IsToComeBack w p
+  down : (declared : Bool) → slice_get w.places p ≡ Some (ProcessState.Down declared) → HasNews w p → IsToComeBack w p
+  rolled_back : slice_get w.places p ≡ Some ProcessState.In → HasNews w p → is_named w.manager.backs p ≡ true → IsToComeBack w p
 
 -- it is back where the round cut it to, replayed from its store, which is cut to there, and keeps nothing volatile; it is rolled back without a failure only
 -- where it was beyond its place of the recovery state
 pub record BackHappened (old : WorldState) (p interval inc : ℕ) (new : WorldState) : Type 0 where
   pub due : IsToComeBack old p
-  pub beyond : (c : CoreState) → slice_get old.places p ≡ Some Place.In → slice_get old.cores p ≡ Some (Some c)
+  pub beyond : (c : CoreState) → slice_get old.places p ≡ Some ProcessState.In → slice_get old.cores p ≡ Some (Some c)
       → recovered old.manager p < c.now.interval
   pub place : interval ≡ slice_index old.manager.last p
   pub newest : inc ≡ newest_of old.manager.starts p
@@ -105,7 +105,7 @@ pub record BackHappened (old : WorldState) (p interval inc : ℕ) (new : WorldSt
 
 -- a newer round is finished, and the process is in and not rolled back
 pub record IsToGoOn (w : WorldState) (p : ℕ) : Type 0 where
-  pub joined : slice_get w.places p ≡ Some Place.In
+  pub joined : slice_get w.places p ≡ Some ProcessState.In
   pub news : HasNews w p
   pub kept : is_named w.manager.backs p ≡ false
 
@@ -117,5 +117,5 @@ HasGoneOn old p new =
 -- a store failed, or memory was refused: a process that was to be rolled back is down, and no other changes
 abbrev pub BackStopped : WorldState → ℕ → WorldState → Type 0
 BackStopped old p new =
-    IsToComeBack old p × (((declared : Bool) × (slice_get old.places p ≡ Some (Place.Down declared)) × IsSame old new)
-    ⊎ ((slice_get old.places p ≡ Some Place.In) × IsSame (taken_down old p false) new))
+    IsToComeBack old p × (((declared : Bool) × (slice_get old.places p ≡ Some (ProcessState.Down declared)) × IsSame old new)
+    ⊎ ((slice_get old.places p ≡ Some ProcessState.In) × IsSame (taken_down old p false) new))

@@ -21,7 +21,7 @@ use Rattle.om_world.specs.declared.event.Event.{Event}
 use Rattle.om_world.specs.declared.event.Answer.{Answer}
 use Rattle.om_world.specs.declared.event.Answer.TheVariants as answers
 use Rattle.om_world.specs.declared.event.Refusal.{Refusal}
-use Rattle.om_world.specs.declared.place.Place.{Place}
+use Rattle.om_world.specs.declared.process_state.ProcessState.{ProcessState}
 use Rattle.om_world.specs.declared.event.Refusal.TheVariants as refusals
 use Rattle.om_world.specs.World.{WorldState, recovered, entry_of}
 use Rattle.om_world.specs.Events.{process_of}
@@ -175,7 +175,7 @@ Happened old Event.Prune answers.Pruned new = Prunes (StorePruned new) old new
 Happened old (Event.Fail p) (answers.Gathered answer) new =
     IsToDeclare old p × Gathers (with_presence old.manager p presences.Failed) old.manager answer new.manager
     × (new ≡ gathered (taken_down old p true) answer new.manager)
-Happened old (Event.Fail p) answers.Down new = (slice_get old.places p ≡ Some Place.In) × HasNews old p × (new ≡ taken_down old p false)
+Happened old (Event.Fail p) answers.Down new = (slice_get old.places p ≡ Some ProcessState.In) × HasNews old p × (new ≡ taken_down old p false)
 Happened old (Event.Join p) (answers.Gathered answer) new = JoinHappened old p answer new
 Happened old (Event.Resume p) (answers.Back interval inc) new = BackHappened old p interval inc new
 Happened old (Event.Resume p) answers.GoesOn new = IsToGoOn old p × HasGoneOn old p new

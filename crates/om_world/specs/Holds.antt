@@ -19,7 +19,7 @@ use Rattle.om_recover.specs.declared.row.RowKind.{RowKind}
 use Rattle.om_recover.specs.declared.row.RowKind.TheVariants.{Checkpoint, Log}
 use Rattle.om_manager.specs.Outputs.{HeldOutput}
 use Rattle.om_manager.specs.State.{released_by}
-use Rattle.om_world.specs.declared.place.Place.{Place}
+use Rattle.om_world.specs.declared.process_state.ProcessState.{ProcessState}
 use Rattle.om_world.specs.Live.{program_at, received, Legal}
 use Rattle.om_world.specs.World.{WorldState, recovered, output_entry}
 
@@ -61,10 +61,10 @@ pub record Holds (w : WorldState) : Type 0 where
   -- what was received and not cut is a run without failures
   pub legal : Legal w.programs w.live
   -- each process that is up stands where that run leads it, and knows the manager's round
-  pub up : (p : ℕ) (c : CoreState) → slice_get w.cores p ≡ Some (Some c) → slice_get w.places p ≡ Some Place.Up
+  pub up : (p : ℕ) (c : CoreState) → slice_get w.cores p ≡ Some (Some c) → slice_get w.places p ≡ Some ProcessState.Up
       → StandsAt w p c × (c.round ≡ w.manager.round)
   -- and so does each that is in, while the gathering that it joined is open
-  pub gathered : (p : ℕ) (c : CoreState) → slice_get w.cores p ≡ Some (Some c) → slice_get w.places p ≡ Some Place.In
+  pub gathered : (p : ℕ) (c : CoreState) → slice_get w.cores p ≡ Some (Some c) → slice_get w.places p ≡ Some ProcessState.In
       → slice_index w.rounds p ≡ w.manager.round → StandsAt w p c
   -- what is released is what that run puts out
   pub released : (p : ℕ) → p < length w.programs → ReleasedFirst w p

@@ -8,7 +8,7 @@ use Rattle.om_world.specs.Disk.{IsSettled, held_in}
 use Rattle.om_world.specs.Live.{cut_list}
 use Rattle.om_world.specs.StoreRows.{HasRowsOf}
 use Rattle.om_world.specs.World.{WorldState, recovered}
-use Rattle.om_world.specs.declared.place.Place.{Place}
+use Rattle.om_world.specs.declared.process_state.ProcessState.{ProcessState}
 
 -- all is gone but the stores, and what was received up to this manager's recovery state: each process is down, and it is declared
 abbrev pub anew : WorldState → ManagerState → WorldState
@@ -16,7 +16,7 @@ anew w m = record w {
   live = cut_list (recovered m) w.live;
   frames = [];
   cores = replicate (length w.programs) None;
-  places = replicate (length w.programs) (Place.Down true);
+  places = replicate (length w.programs) (ProcessState.Down true);
   rounds = replicate (length w.programs) 0;
   manager = m;
 }

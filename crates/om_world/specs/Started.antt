@@ -16,7 +16,7 @@ use Rattle.om_recover.specs.Records.{first_row}
 use Rattle.om_recover.specs.Rows.{HasRow}
 use Rattle.om_recover.specs.declared.row.Row.{Row}
 use Rattle.om_manager.specs.State.{ManagerState}
-use Rattle.om_world.specs.declared.place.Place.{Place}
+use Rattle.om_world.specs.declared.process_state.ProcessState.{ProcessState}
 use Rattle.om_world.specs.World.{WorldState}
 
 -- the manager of n processes at their start: checkpoint 0 of each, and nothing else
@@ -39,7 +39,7 @@ pub record IsStarted (given : List Program) (w : WorldState) : Type 0 where
   pub many : length w.cores ≡ length given
   pub cores : (p : ℕ) (program : Program) → slice_get given p ≡ Some program
       → slice_get w.cores p ≡ Some (Some (started_core program p (length given)))
-  pub places : w.places ≡ replicate (length given) Place.Up
+  pub places : w.places ≡ replicate (length given) ProcessState.Up
   pub rounds : w.rounds ≡ replicate (length given) 0
   pub manager : IsNew (length given) w.manager
 

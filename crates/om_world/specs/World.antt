@@ -10,7 +10,7 @@ use Rattle.om_process.specs.Core.{CoreState}
 use Rattle.om_manager.specs.Outputs.{HeldOutput}
 use Rattle.om_manager.specs.State.{ManagerState}
 use Rattle.om_world.specs.declared.entry.Entry.{Entry}
-use Rattle.om_world.specs.declared.place.Place.{Place}
+use Rattle.om_world.specs.declared.process_state.ProcessState.{ProcessState}
 
 -- how a store stands: whether what it holds is known, and how often it has failed
 pub record Health : Type 0 where
@@ -22,7 +22,7 @@ pub record WorldState : Type 0 where
   pub live : List Entry  -- what was received and not cut, in order
   pub frames : List Message  -- in the order in which they were made
   pub cores : List (Option CoreState)  -- by process, none where it is down
-  pub places : List Place  -- by process
+  pub places : List ProcessState  -- by process
   pub rounds : List ℕ  -- by process, how many rounds were finished when it was last up
   pub manager : ManagerState
   pub contents : List Content  -- by process, what its store holds

@@ -6,13 +6,13 @@ ghost use Rattle.om_world.specs.Happened.{Happened};
 ghost use Rattle.om_world.specs.Played.{IsFaultless};
 ghost use Rattle.om_world.specs.World.{IsKnown};
 ghost use Rattle.om_world.specs.declared.event.Event.{Event};
-ghost use Rattle.om_world.specs.declared.place.Place.{Place};
+ghost use Rattle.om_world.specs.declared.process_state.ProcessState.{ProcessState};
 ghost use Rattle.om_world.specs.steps.Gathering.{HasDeclaredAt, IsFailure};
 ghost use Rattle.om_world.specs.steps.Moves.{Keeps, answered};
 
 use crate::event::{Answer, Refusal};
 use crate::live::Live;
-use crate::place::Place;
+use crate::process_state::ProcessState;
 use crate::world::World;
 use om_interval::Pid;
 use om_manager::{FailError, Gathered, Manager};
@@ -46,15 +46,15 @@ impl<S: Stable> World<S> {
         ensures { IsFailure self.now p result }
     {
         match self.place(p) {
-            Place::Up => Failure::New,
-            Place::In => {
+            ProcessState::Up => Failure::New,
+            ProcessState::In => {
                 if self.has_news(p) {
                     Failure::Settled
                 } else {
                     Failure::New
                 }
             }
-            Place::Down { declared } => {
+            ProcessState::Down { declared } => {
                 if declared || self.has_news(p) {
                     Failure::Known
                 } else {
@@ -66,7 +66,7 @@ impl<S: Stable> World<S> {
 
     // Declares the failure of a process that is down.
     fn declare(&mut self, alloc: Global, p: usize) -> Result<Gathered, FailError>
-        requires { slice_get self.old.places p ≡ Some (Place.Down false) }
+        requires { slice_get self.old.places p ≡ Some (ProcessState.Down false) }
         ensures { HasDeclaredAt self.old p result self.new }
     {
         let member = &mut self.members[p];

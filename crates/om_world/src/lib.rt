@@ -6,7 +6,7 @@
 //!
 //! In an order of reading:
 //!
-//! - what there is: `event` (events and answers), `world` (the parts, and the reads), `place`, `entry` and `live` (what was
+//! - what there is: `event` (events and answers), `world` (the parts, and the reads), `process_state`, `entry` and `live` (what was
 //!   received), `laws` (theorems over the definitions)
 //! - `start`, and `play`: one event after another; `stopping`: the end, of which the stores are left
 //! - the events: `run`, `give`, `frames` (what is sent), `storing` (flushes and checkpoints), `failing`, `joining`, `resume`, `trim`,
@@ -15,7 +15,7 @@
 
 pub use entry::Entry;
 pub use event::{Answer, Event, Refusal};
-pub use place::Place;
+pub use process_state::ProcessState;
 pub use world::World;
 
 mod entry;
@@ -26,8 +26,8 @@ mod give;
 mod joining;
 pub mod laws;
 mod live;
-mod place;
 mod play;
+mod process_state;
 mod prune;
 mod restart;
 mod resume;

@@ -27,7 +27,7 @@ use crate::world::World;
 use om_interval::Pid;
 use om_look::{RowsFault, stored_rows};
 use om_manager::Manager;
-use om_member::{Member, Standing, tell_all};
+use om_member::{Member, MemberState, tell_all};
 use om_process::PendingRow;
 use om_stable::Stable;
 use om_take_up::{fail_all, hand_in_released};
@@ -39,7 +39,7 @@ fn put_down<S: Stable>(members: &mut Vec<Member<S>>)
 {
     for p in 0..members.len() {
         let member = &mut members[p];
-        member.standing = Standing::Down { declared: true };
+        member.standing = MemberState::Down { declared: true };
         member.round = 0;
     }
 }

@@ -8,13 +8,13 @@ ghost use Rattle.om_world.specs.Played.{IsCounted, IsFaultless};
 ghost use Rattle.om_world.specs.World.{IsKnown};
 ghost use Rattle.om_world.specs.declared.event.Event.{Event};
 ghost use Rattle.om_world.specs.declared.event.Refusal.{Refusal};
-ghost use Rattle.om_world.specs.declared.place.Place.TheVariants as places;
+ghost use Rattle.om_world.specs.declared.process_state.ProcessState.TheVariants as places;
 ghost use Rattle.om_world.specs.steps.Moves.{Keeps, answered};
 ghost use Rattle.om_world.specs.steps.Returning.{HasLeft, IsBeyond, IsDue, Returns};
 ghost use Rattle.om_world.specs.Failures.{HasGoneOn};
 
 use crate::event::{Answer, Refusal};
-use crate::place::Place;
+use crate::process_state::ProcessState;
 use crate::world::World;
 use om_interval::Pid;
 use om_member::NotIn;
@@ -58,7 +58,7 @@ impl<S: Stable> World<S> {
         ensures { HasLeft self.old p self.new }
     {
         match self.place(p) {
-            Place::In => self.take_down(p),
+            ProcessState::In => self.take_down(p),
             _ => {}
         }
     }
@@ -108,9 +108,9 @@ impl<S: Stable> World<S> {
         }
         match self.place(p) {
             // Who is up knows the last round, where what the stores hold is known.
-            Place::Up => Err(Refusal::NotIn),
-            Place::In => Ok(self.manager.verdict(Pid::at(p)).back),
-            Place::Down { declared: _ } => Ok(true),
+            ProcessState::Up => Err(Refusal::NotIn),
+            ProcessState::In => Ok(self.manager.verdict(Pid::at(p)).back),
+            ProcessState::Down { declared: _ } => Ok(true),
         }
     }
 

@@ -10,7 +10,7 @@ ghost use Rattle.om_world.specs.World.{IsKnown, all_clean};
 use crate::entry::Entry;
 use crate::event::Refusal;
 use crate::live::Live;
-use crate::place::Place;
+use crate::process_state::ProcessState;
 use om_format::Message;
 use om_interval::Pid;
 use om_manager::Manager;
@@ -95,12 +95,12 @@ impl<S: Stable> World<S> {
     }
 
     // Returns where a process stands.
-    pub(crate) fn place(&self, p: usize) -> Place
+    pub(crate) fn place(&self, p: usize) -> ProcessState
         requires { p < length self.now.programs }
         ensures { slice_get self.now.places p ≡ Some result }
     {
         let member = &self.members[p];
-        Place::of(&member.standing)
+        ProcessState::of(&member.standing)
     }
 
     // Returns whether the process is there and up.
@@ -112,7 +112,7 @@ impl<S: Stable> World<S> {
         if p >= self.images.len() {
             return Err(Refusal::NoProcess);
         }
-        if self.place(p) != Place::Up {
+        if self.place(p) != ProcessState::Up {
             return Err(Refusal::NotUp);
         }
         Ok(())

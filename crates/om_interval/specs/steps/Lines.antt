@@ -5,7 +5,7 @@ use Rattle.std.specs.Arc.{arc_value}
 use Rattle.std.specs.declared.alloc.Global.{Global}
 use Rattle.std.specs.declared.sync.Arc.{Arc}
 use Rattle.om_interval.specs.Starts.{is_named, starts_of}
-use Rattle.om_interval.specs.declared.line.TheConstants.{BLOCK}
+use Rattle.om_interval.specs.declared.shared_blocks.TheConstants.{BLOCK}
 
 -- the starts in these blocks
 abbrev pub blocks_in : List (Arc (Vec ℕ Global) Global) → List (List ℕ)

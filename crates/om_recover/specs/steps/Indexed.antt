@@ -5,7 +5,7 @@ use Rattle.om_recover.specs.Recoverable.{IsStable, IsRecoverable, IsGreatest}
 use Rattle.om_recover.specs.Attempts.{Attempt}
 use Rattle.om_recover.specs.Counted.{IsCounted}
 use Rattle.om_recover.specs.steps.Memory.{AreRemembered}
-use Rattle.om_recover.specs.declared.search.memory.Memory.{Memory}
+use Rattle.om_recover.specs.declared.search.failed_climbs.FailedClimb.{FailedClimb}
 use Rattle.om_recover.specs.declared.row.Row.{Row}
 
 -- the row's interval is not stable, and is once the row is added
@@ -28,7 +28,7 @@ pub record IsAdded (n : ℕ) (before after : Rows) (row : Row) (state : List ℕ
   pub old : is_new ≡ false → MakesNothingStable before row
 
 -- the rows are those before with the row, and what was remembered then is
-abbrev pub IsRaisable : ℕ → Rows → Row → List ℕ → Bool → List (Option Memory) → Type 0
+abbrev pub IsRaisable : ℕ → Rows → Row → List ℕ → Bool → List (Option FailedClimb) → Type 0
 IsRaisable n after row state is_new places = (before : Rows) × IsAdded n before after row state is_new × AreRemembered n before state places
 
 -- whatever the rows before were, the attempts are those of a note

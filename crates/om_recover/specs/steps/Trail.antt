@@ -2,8 +2,8 @@
 use Rattle.std.specs.Prelude.{ℕ, List, [], ◌∷◌}
 use Rattle.std.proofs.Common.{refl}
 use Rattle.std.specs.Coded.{Coded, code_by, coded×, coded_ℕ, coded_list}
-use Rattle.om_recover.specs.declared.step.Step.{Step}
-use Rattle.om_recover.specs.declared.step.Step.TheVariants as step
+use Rattle.om_recover.specs.declared.step.SearchStep.{SearchStep}
+use Rattle.om_recover.specs.declared.step.SearchStep.TheVariants as step
 use Rattle.om_recover.specs.Attempts.{Attempt}
 
 -- the code of an attempt
@@ -24,6 +24,6 @@ abbrev pub with_look : List Attempt → ℕ → ℕ → List Attempt
 with_look [] p x = []
 with_look (newest ∷ older) p x = record newest { looks = (p, x) ∷ newest.looks } ∷ older
 
-abbrev pub after_step : List Attempt → Step → List Attempt
+abbrev pub after_step : List Attempt → SearchStep → List Attempt
 after_step attempts (step.Attempt p x s) = with_attempt attempts p x s
 after_step attempts (step.Look p x) = with_look attempts p x

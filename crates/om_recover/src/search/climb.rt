@@ -6,7 +6,7 @@ ghost use Rattle.om_recover.specs.steps.Climbing.{TellsClimb, TellsBegin, TellsB
 ghost use Rattle.om_recover.specs.steps.Memory.{IsRemembered, AreRemembered};
 
 use crate::numbers::{is_below, number_of};
-use crate::search::memory::{Memories, Memory};
+use crate::search::failed_climbs::{FailedClimb, FailedClimbs};
 use crate::shelf::Shelf;
 use crate::work::Work;
 use om_interval::{DepVec, Pid};
@@ -17,7 +17,7 @@ pub fn climb<S: Shelf>(
     state: &DepVec,
     pid: Pid,
     x: u32,
-    memories: &mut Memories,
+    memories: &mut FailedClimbs,
     work: &mut Work,
 ) -> Option<DepVec>
     requires lawful { IsLawful (length state.now) (S.rows shelf.now) }
@@ -36,7 +36,7 @@ pub fn climb<S: Shelf>(
             let Some(begun) = begin_known(shelf, state, pid, x, memory) else {
                 return None;
             };
-            let way = Way {
+            let way = Climb {
                 reached: begun,
                 passed: begun,
                 looked: *state,
@@ -53,7 +53,7 @@ fn climb_anew<S: Shelf>(
     state: &DepVec,
     pid: Pid,
     x: u32,
-    memories: &mut Memories,
+    memories: &mut FailedClimbs,
     work: &mut Work,
 ) -> Option<DepVec>
     requires lawful { IsLawful (length state.now) (S.rows shelf.now) }
@@ -74,7 +74,7 @@ fn climb_anew<S: Shelf>(
     }
     match forced(shelf, &begun, vec) {
         Err(lacking) => {
-            let memory = Memory {
+            let memory = FailedClimb {
                 start: x,
                 reached: begun,
                 passed: begun,
@@ -85,7 +85,7 @@ fn climb_anew<S: Shelf>(
             None
         }
         Ok(higher) => {
-            let way = Way {
+            let way = Climb {
                 reached: higher,
                 passed: begun,
                 looked: begun,
@@ -97,7 +97,7 @@ fn climb_anew<S: Shelf>(
 
 // How far a climb has come.
 #[derive(Clone, Copy)]
-struct Way {
+struct Climb {
     /// The state that is reached.
     reached: DepVec,
     /// How far it comes by what was read before the last.
@@ -112,8 +112,8 @@ fn climb_on<S: Shelf>(
     state: &DepVec,
     pid: Pid,
     x: u32,
-    way: &Way,
-    memories: &mut Memories,
+    way: &Climb,
+    memories: &mut FailedClimbs,
     work: &mut Work,
 ) -> Option<DepVec>
     requires lawful { IsLawful (length state.now) (S.rows shelf.now) }
@@ -136,7 +136,7 @@ fn climb_on<S: Shelf>(
         let vec = shelf.look(q, y, work);
         match forced(shelf, &reached, vec) {
             Err(lacking) => {
-                let memory = Memory {
+                let memory = FailedClimb {
                     start: x,
                     reached,
                     passed,
@@ -161,7 +161,7 @@ fn begin_known<S: Shelf>(
     state: &DepVec,
     pid: Pid,
     x: u32,
-    memory: &Memory,
+    memory: &FailedClimb,
 ) -> Option<DepVec>
     requires lawful { IsLawful (length state.now) (S.rows shelf.now) }
     requires state { IsRecoverable (length state.now) (S.rows shelf.now) state.now }

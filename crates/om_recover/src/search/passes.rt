@@ -8,7 +8,7 @@ ghost use Rattle.om_recover.specs.steps.Memory.{AreRemembered};
 ghost use Rattle.om_recover.specs.Counted.{IsSearched};
 
 use crate::search::climb::climb;
-use crate::search::memory::Memories;
+use crate::search::failed_climbs::FailedClimbs;
 use crate::shelf::Shelf;
 use crate::work::Work;
 use om_interval::{DepVec, Pid};
@@ -19,7 +19,7 @@ pub fn greatest_from<S: Shelf>(
     state: &DepVec,
     pid: Pid,
     x: u32,
-    memories: &mut Memories,
+    memories: &mut FailedClimbs,
     work: &mut Work,
 ) -> DepVec
     requires lawful { IsLawful (length state.now) (S.rows shelf.now) }
@@ -50,7 +50,7 @@ pub fn greatest_from<S: Shelf>(
 }
 
 // One attempt for each process, at its least stable interval above the state.
-fn pass<S: Shelf>(shelf: &S, state: &DepVec, memories: &mut Memories, work: &mut Work) -> DepVec
+fn pass<S: Shelf>(shelf: &S, state: &DepVec, memories: &mut FailedClimbs, work: &mut Work) -> DepVec
     requires lawful { IsLawful (length state.now) (S.rows shelf.now) }
     requires state { IsRecoverable (length state.now) (S.rows shelf.now) state.now }
     requires remembered { AreRemembered (length state.now) (S.rows shelf.now) state.now memories.old.places }
@@ -76,7 +76,7 @@ fn raised_at<S: Shelf>(
     shelf: &S,
     state: &DepVec,
     pid: Pid,
-    memories: &mut Memories,
+    memories: &mut FailedClimbs,
     work: &mut Work,
 ) -> DepVec
     requires lawful { IsLawful (length state.now) (S.rows shelf.now) }

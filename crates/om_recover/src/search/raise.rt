@@ -4,7 +4,7 @@ ghost use Rattle.om_recover.specs.steps.Indexed.{IsRaisable, IsCountedFrom};
 ghost use Rattle.om_recover.specs.steps.Memory.{AreRemembered};
 
 use crate::row::Row;
-use crate::search::memory::Memories;
+use crate::search::failed_climbs::FailedClimbs;
 use crate::search::passes::greatest_from;
 use crate::shelf::Shelf;
 use crate::work::Work;
@@ -16,7 +16,7 @@ pub fn raised_by<S: Shelf>(
     row: &Row,
     state: &DepVec,
     is_new: bool,
-    memories: &mut Memories,
+    memories: &mut FailedClimbs,
     work: &mut Work,
 ) -> DepVec
     requires { IsRaisable (length state.now) (S.rows after.now) row.now state.now is_new memories.old.places }

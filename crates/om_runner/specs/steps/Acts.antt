@@ -20,8 +20,8 @@ use Rattle.om_member.specs.Keeps.{Keeps}
 use Rattle.om_member.specs.Told.{AreTold}
 use Rattle.om_runner.specs.declared.manager_link.Limits.{Limits}
 use Rattle.om_runner.specs.declared.manager_link.RoundOutcome.{RoundOutcome}
-use Rattle.om_runner.specs.declared.manager_link.Standing.{Standing}
-use Rattle.om_runner.specs.declared.manager_link.Standing.TheVariants.{Gathers, Quiet}
+use Rattle.om_runner.specs.declared.manager_link.ManagerPhase.{ManagerPhase}
+use Rattle.om_runner.specs.declared.manager_link.ManagerPhase.TheVariants.{Gathers, Quiet}
 
 -- a process handed over all that it had: its pending rows, in order, and then the outputs that the manager had not
 pub record HasHandedOver (before : ManagerState) (p : ℕ) (old : CoreState) (after : ManagerState) (new : CoreState) : Type 0 where
@@ -48,7 +48,7 @@ pub record AreLimits (m : ManagerState) (p : ℕ) (limits : Limits) : Type 0 whe
   pub checkpoint : IsEffective m.rows p (slice_index m.recovery p) limits.checkpoint
 
 -- how the manager stands: a process that has ended reports itself quiet, where it may
-pub record IsStanding (old : BoardState) (p round : ℕ) (ended : Bool) (standing : Standing) (new : BoardState) : Type 0 where
+pub record IsStanding (old : BoardState) (p round : ℕ) (ended : Bool) (standing : ManagerPhase) (new : BoardState) : Type 0 where
   pub gathers : old.manager.gathering ≢ None → standing ≡ Gathers
   pub closed : old.manager.gathering ≡ None → standing ≢ Gathers
   pub reported : IsTrue ended → MayRest old round → new ≡ record old { quiet = slice_set old.quiet p true }
@@ -58,7 +58,7 @@ pub record IsStanding (old : BoardState) (p round : ℕ) (ended : Bool) (standin
 
 -- a process handed over all that it had, and was told how the manager stands; and where a checkpoint was among its rows, the
 -- manager was pruned and said what need not be kept any longer
-pub record HasMet (before : BoardState) (p round : ℕ) (ended : Bool) (old : CoreState) (standing : Standing) (limits : Option Limits)
+pub record HasMet (before : BoardState) (p round : ℕ) (ended : Bool) (old : CoreState) (standing : ManagerPhase) (limits : Option Limits)
     (after : BoardState) (new : CoreState) : Type 0 where
   pub handed_over : ManagerState
   pub over : HasHandedOver before.manager p old handed_over new

@@ -8,55 +8,55 @@ use Rattle.om_runner.specs.Released.{AreMade, AreReleased}
 use Rattle.om_runner.specs.Telling.{Told, of_process, told_of}
 use Rattle.om_runner.specs.declared.follower.FollowFault.{FollowFault}
 use Rattle.om_runner.specs.declared.follower.FollowFault.TheVariants.{Unwanted}
-use Rattle.om_runner.specs.declared.lane.Lane.{Lane}
+use Rattle.om_runner.specs.declared.followed_outputs.FollowedOutputs.{FollowedOutputs}
 
 -- no lane has an output
-abbrev pub AreEmpty : List Lane → Type 0
-AreEmpty lanes = (p : ℕ) (lane : Lane) → slice_get lanes p ≡ Some lane → lane.outputs.items ≡ []
+abbrev pub AreEmpty : List FollowedOutputs → Type 0
+AreEmpty lanes = (p : ℕ) (lane : FollowedOutputs) → slice_get lanes p ≡ Some lane → lane.outputs.items ≡ []
 
 -- the outputs of each lane are numbered from 0 without a gap, each made within its place of the vector
-abbrev pub AreKept : List ℕ → List Lane → Type 0
-AreKept vec lanes = (p : ℕ) (lane : Lane) → slice_get lanes p ≡ Some lane → AreReleased (slice_index vec p) lane.outputs.items
+abbrev pub AreKept : List ℕ → List FollowedOutputs → Type 0
+AreKept vec lanes = (p : ℕ) (lane : FollowedOutputs) → slice_get lanes p ≡ Some lane → AreReleased (slice_index vec p) lane.outputs.items
 
 -- the outputs of each lane are those that its process's program makes
-abbrev pub AreLanesMade : List Program → ℕ → List Lane → Type 0
-AreLanesMade programs n lanes = (p : ℕ) (lane : Lane) → slice_get lanes p ≡ Some lane → AreMade programs n p lane.outputs.items
+abbrev pub AreLanesMade : List Program → ℕ → List FollowedOutputs → Type 0
+AreLanesMade programs n lanes = (p : ℕ) (lane : FollowedOutputs) → slice_get lanes p ≡ Some lane → AreMade programs n p lane.outputs.items
 
 -- those of each lane are within its place still, whatever comes after the fronts that were seen
-abbrev pub StayKept : List Front → List Lane → Type 0
+abbrev pub StayKept : List Front → List FollowedOutputs → Type 0
 StayKept seen lanes = (posted : List Front) (last : Front) → IsPrefix seen posted → IsPosted posted → EndsWith posted last → AreKept last.vec lanes
 
 -- each lane was told of to its end
-abbrev pub AreTold : List Lane → Type 0
-AreTold lanes = (p : ℕ) (lane : Lane) → slice_get lanes p ≡ Some lane → lane.told ≡ vec_len lane.outputs
+abbrev pub AreTold : List FollowedOutputs → Type 0
+AreTold lanes = (p : ℕ) (lane : FollowedOutputs) → slice_get lanes p ≡ Some lane → lane.told ≡ vec_len lane.outputs
 
 -- what a follower was told of a lane, if there is one: its first outputs
-abbrev pub told_in : ℕ → Option Lane → List Told
+abbrev pub told_in : ℕ → Option FollowedOutputs → List Told
 told_in p None = []
 told_in p (Some lane) = map (told_of p) (take lane.told lane.outputs.items)
 
 -- since it was `start`, the follower was told of the first outputs of each lane
-pub record IsTold {F : Type 0} (Tells : F → F → List Told → Type 0) (start : F) (lanes : List Lane) (now : F) : Type 0 where
+pub record IsTold {F : Type 0} (Tells : F → F → List Told → Type 0) (start : F) (lanes : List FollowedOutputs) (now : F) : Type 0 where
   pub told : List Told
   pub tells : Tells start now told
   pub each : (p : ℕ) → of_process p told ≡ told_in p (slice_get lanes p)
 
 -- it was told of the first outputs of this lane, and of other processes what it was told of before
-pub record IsToldOf {F : Type 0} (Tells : F → F → List Told → Type 0) (p : ℕ) (start : F) (before : List Told) (lane : Lane) (now : F) : Type 0 where
+pub record IsToldOf {F : Type 0} (Tells : F → F → List Told → Type 0) (p : ℕ) (start : F) (before : List Told) (lane : FollowedOutputs) (now : F) : Type 0 where
   pub told : List Told
   pub tells : Tells start now told
   pub own : of_process p told ≡ told_in p (Some lane)
   pub others : (q : ℕ) → q ≢ p → of_process q told ≡ of_process q before
 
 -- who was told of the first outputs of the lane as it was, was told of those of the lane as it is
-abbrev pub HasTold : {F : Type 0} → (F → F → List Told → Type 0) → ℕ → Lane → F → Lane → F → Type 0
+abbrev pub HasTold : {F : Type 0} → (F → F → List Told → Type 0) → ℕ → FollowedOutputs → F → FollowedOutputs → F → Type 0
 HasTold Tells p old before new after = (start : _) (told : List Told) → Tells start before told → of_process p told ≡ told_in p (Some old)
     → IsToldOf Tells p start told new after
 
 -- so of all lanes
-abbrev pub HaveTold : {F : Type 0} → (F → F → List Told → Type 0) → List Lane → F → List Lane → F → Type 0
+abbrev pub HaveTold : {F : Type 0} → (F → F → List Told → Type 0) → List FollowedOutputs → F → List FollowedOutputs → F → Type 0
 HaveTold Tells old before new after = (start : _) → IsTold Tells start old before → IsTold Tells start new after
 
 -- the follower was told of the first outputs of each lane, unless it wanted no more
-abbrev pub IsFollowed : {F : Type 0} → (F → F → List Told → Type 0) → F → List Lane → Option FollowFault → F → Type 0
+abbrev pub IsFollowed : {F : Type 0} → (F → F → List Told → Type 0) → F → List FollowedOutputs → Option FollowFault → F → Type 0
 IsFollowed Tells start lanes fault now = fault ≢ Some Unwanted → IsTold Tells start lanes now

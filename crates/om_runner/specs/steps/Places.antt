@@ -1,11 +1,11 @@
 -- Whose place it is.
 use Rattle.std.specs.Prelude.{◌≡◌, false}
 use Rattle.om_runner.specs.steps.Nodes.{Member}
-use Rattle.om_runner.specs.declared.worker.Place.{Place}
-use Rattle.om_runner.specs.declared.worker.Place.TheVariants.{Up, Called, In, Failed, Down, Over}
+use Rattle.om_runner.specs.declared.worker.WorkerState.{WorkerState}
+use Rattle.om_runner.specs.declared.worker.WorkerState.TheVariants.{Up, Called, In, Failed, Down, Over}
 
 -- the member whose place it is
-abbrev pub member_of : {J S : Type 0} → Place J S → Member
+abbrev pub member_of : {J S : Type 0} → WorkerState J S → Member
 member_of (Up node) = node.member
 member_of (Called node) = node.member
 member_of (In node) = node.member
@@ -14,7 +14,7 @@ member_of (Down down_node) = down_node
 member_of (Over node) = node.member
 
 -- no flight of a process is under way that does not run on
-abbrev pub IsLanded : {J S : Type 0} → Place J S → Type 0
+abbrev pub IsLanded : {J S : Type 0} → WorkerState J S → Type 0
 IsLanded (Up node) = Unit {0}
 IsLanded (Called node) = node.away ≡ false
 IsLanded (In node) = node.away ≡ false

@@ -3,11 +3,11 @@ use Rattle.om_process.specs.Core.{CoreState, move_of, status_of}
 use Rattle.om_observers.specs.declared.sight.Doing.{Doing}
 use Rattle.om_observers.specs.declared.sight.Doing.TheVariants as shown
 use Rattle.om_observers.specs.declared.sight.Sight.{Sight}
-use Rattle.om_runner.specs.declared.worker.Place.{Place}
-use Rattle.om_runner.specs.declared.worker.Place.TheVariants.{Up, Called, In, Failed, Down, Over}
+use Rattle.om_runner.specs.declared.worker.WorkerState.{WorkerState}
+use Rattle.om_runner.specs.declared.worker.WorkerState.TheVariants.{Up, Called, In, Failed, Down, Over}
 
 -- what a process does that stands there
-abbrev pub doing_at : {J S : Type 0} → Place J S → Doing
+abbrev pub doing_at : {J S : Type 0} → WorkerState J S → Doing
 doing_at (Up node) = shown.Up (status_of (move_of node.core))
 doing_at (Over node) = shown.Up (status_of (move_of node.core))
 doing_at (Called node) = shown.Called
@@ -25,7 +25,7 @@ sight_of doing before core = record before {
 }
 
 -- what is seen of a process that stands there, once this was seen of it before; of one that is down, what it does
-abbrev pub sight_at : {J S : Type 0} → Sight → Place J S → Sight
+abbrev pub sight_at : {J S : Type 0} → Sight → WorkerState J S → Sight
 sight_at before (Up node) = sight_of (shown.Up (status_of (move_of node.core))) before node.core
 sight_at before (Over node) = sight_of (shown.Up (status_of (move_of node.core))) before node.core
 sight_at before (Called node) = sight_of shown.Called before node.core

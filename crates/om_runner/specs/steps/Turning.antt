@@ -12,12 +12,12 @@ use Rattle.om_process.specs.declared.status.Status.TheVariants as statuses
 use Rattle.om_member.specs.Handed.{outputs_from}
 use Rattle.om_runner.specs.declared.manager_link.Limits.{Limits}
 use Rattle.om_runner.specs.declared.manager_link.RoundOutcome.{RoundOutcome}
-use Rattle.om_runner.specs.declared.manager_link.Standing.{Standing}
-use Rattle.om_runner.specs.declared.manager_link.Standing.TheVariants as standings
-use Rattle.om_runner.specs.declared.worker.Place.{Place}
-use Rattle.om_runner.specs.declared.worker.Place.TheVariants.{Up, Called, In, Failed, Down, Over}
-use Rattle.om_runner.specs.declared.worker.Step.{Step}
-use Rattle.om_runner.specs.declared.worker.Step.TheVariants as steps
+use Rattle.om_runner.specs.declared.manager_link.ManagerPhase.{ManagerPhase}
+use Rattle.om_runner.specs.declared.manager_link.ManagerPhase.TheVariants as standings
+use Rattle.om_runner.specs.declared.worker.WorkerState.{WorkerState}
+use Rattle.om_runner.specs.declared.worker.WorkerState.TheVariants.{Up, Called, In, Failed, Down, Over}
+use Rattle.om_runner.specs.declared.worker.TurnOutcome.{TurnOutcome}
+use Rattle.om_runner.specs.declared.worker.TurnOutcome.TheVariants as steps
 use Rattle.om_runner.specs.declared.idle.Pause.{Pause}
 use Rattle.om_runner.specs.declared.idle.Pause.TheVariants.{Woken, Slept}
 use Rattle.om_runner.specs.declared.idle.TheConstants.{IDLE_TURNS}
@@ -27,7 +27,7 @@ use Rattle.om_runner.specs.steps.Nodes.{Member, NodeState}
 use Rattle.om_runner.specs.steps.Storing.{HasStored}
 
 -- there was nothing to hand over, nor had the process ended; the manager had these many outputs of it
-pub record HasNothingToSay (handed : ℕ) (status : Status) (old : CoreState) (standing : Standing) (new : CoreState) : Type 0 where
+pub record HasNothingToSay (handed : ℕ) (status : Status) (old : CoreState) (standing : ManagerPhase) (new : CoreState) : Type 0 where
   pub runs : IsEnd status → ⊥
   pub told : old.pending ≡ []
   pub made : outputs_from old handed ≡ []
@@ -35,20 +35,20 @@ pub record HasNothingToSay (handed : ℕ) (status : Status) (old : CoreState) (s
   pub same : new ≡ old
 
 -- a process that is up met the manager, with all that it had
-abbrev pub HasReported : ℕ → ℕ → ℕ → Status → CoreState → Standing → Type 0
+abbrev pub HasReported : ℕ → ℕ → ℕ → Status → CoreState → ManagerPhase → Type 0
 HasReported n p round status old standing =
     (ended : Bool) × (IsTrue ended ↔ IsEnd status) × (limits : Option Limits) × (core : CoreState)
     × UnderLock n (λ before after. HasMet before p round ended old standing limits after core)
 
 -- where a process stands after a step
-abbrev pub place_after : {J S : Type 0} → Step → NodeState → Place J S
+abbrev pub place_after : {J S : Type 0} → TurnOutcome → NodeState → WorkerState J S
 place_after steps.Up node = Up node
 place_after steps.Called node = Called node
 place_after steps.Failed node = Failed node.member
 place_after steps.Over node = Over node
 
 -- of one that steps elsewhere no flight is under way
-abbrev pub IsLandedAt : Step → NodeState → Type 0
+abbrev pub IsLandedAt : TurnOutcome → NodeState → Type 0
 IsLandedAt steps.Up node = Unit {0}
 IsLandedAt steps.Called node = node.away ≡ false
 IsLandedAt steps.Failed node = node.away ≡ false
@@ -59,18 +59,18 @@ abbrev pub WasTold : ℕ → ℕ → RoundOutcome → Type 0
 WasTold n p told = UnderLock n (λ before after. HasHeard before.manager p told × (after ≡ before))
 
 -- a process that was in is up after a round: it goes on, or comes back where it is told to
-abbrev pub HasRisen : {J S : Type 0} → RoundOutcome → NodeState → Place J S → Type 0
+abbrev pub HasRisen : {J S : Type 0} → RoundOutcome → NodeState → WorkerState J S → Type 0
 HasRisen told old next = (new : NodeState) × (next ≡ Up new) × (new.member ≡ old.member) × HasHeeded told old.member.own old.core new.core
 
 -- a process that was down comes back after a round, with nothing volatile
-abbrev pub HasComeBack : {J S : Type 0} → RoundOutcome → Member → Place J S → Type 0
+abbrev pub HasComeBack : {J S : Type 0} → RoundOutcome → Member → WorkerState J S → Type 0
 HasComeBack told m next =
     (new : NodeState) × (next ≡ Up new) × (new.member ≡ m)
     × (new.core ≡ settled m.own new.core.now told.verdict.inc told.verdict.round told.starts)
 
 -- a process that was called is in, once it stored its log and handed over all; the failure of one that failed in this round
 -- is declared. One that waits for a round to be finished waits on, or it was told of it, and is up again as the round has it
-abbrev pub IsTurnOf : {J S : Type 0} → ℕ → ℕ → Place J S → Place J S → Type 0
+abbrev pub IsTurnOf : {J S : Type 0} → ℕ → ℕ → WorkerState J S → WorkerState J S → Type 0
 IsTurnOf n round (Called old) next =
     (new : NodeState) × (next ≡ In new)
     × UnderLock n (λ before after. HasJoined before.manager old.member.own (flushed old.core) after.manager new.core)

@@ -6,7 +6,7 @@ ghost use Rattle.om_process.specs.Trims.{trimmed};
 ghost use Rattle.om_runner.specs.steps.Storing.{HasStored};
 ghost use Rattle.om_runner.specs.steps.Turning.{HasStoredBy, is_multiple_of};
 
-use super::{ALL_RECEIPTS, Step, Worker};
+use super::{ALL_RECEIPTS, TurnOutcome, Worker};
 use crate::flying::Landing;
 use crate::keeping::{Deposit, Due};
 use crate::manager_link::Limits;
@@ -46,24 +46,24 @@ impl<'a, K: Naming> Worker<'a, K> {
         alloc: Global,
         node: &mut Node<'a, J, S>,
         x: u32,
-    ) -> Result<Step, WorkerFault>
+    ) -> Result<TurnOutcome, WorkerFault>
         ensures same { self.new.links ≡ self.old.links }
         ensures member { node.new.member ≡ node.old.member }
         ensures now { node.new.core.now ≡ node.old.core.now }
-        ensures killed { Contains self.old.kills.items x → result ≡ Ok Step.Failed }
-        ensures spared { (Contains self.old.kills.items x → ⊥) → IfOk result (λ step. step ≡ Step.Up) }
+        ensures killed { Contains self.old.kills.items x → result ≡ Ok TurnOutcome.Failed }
+        ensures spared { (Contains self.old.kills.items x → ⊥) → IfOk result (λ step. step ≡ TurnOutcome.Up) }
         ensures stored { let w = self.old in (Contains w.kills.items x → ⊥) → node.old.slow ≡ false
             → OnOk result (HasStoredBy x w.plan.now.flush w.plan.now.checkpoint (is_some w.kept) node.old.core node.new.core) }
     {
         if self.is_to_fail(x) {
-            return Ok(Step::Failed);
+            return Ok(TurnOutcome::Failed);
         }
         if node.is_slow() {
             self.launch(rt, alloc, node)?;
         } else {
             self.store_by(alloc, node, x)?;
         }
-        Ok(Step::Up)
+        Ok(TurnOutcome::Up)
     }
 
     // Stores what is due after receipt x, by its number.

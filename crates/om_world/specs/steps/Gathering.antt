@@ -14,7 +14,7 @@ use Rattle.om_manager.specs.declared.answers.JoinError.TheVariants as joining
 use Rattle.om_world.specs.declared.entry.Entry.{Entry}
 use Rattle.om_world.specs.declared.failing.Failure.{Failure}
 use Rattle.om_world.specs.declared.failing.Failure.TheVariants.{Known, Settled, New}
-use Rattle.om_world.specs.declared.place.Place.{Place}
+use Rattle.om_world.specs.declared.process_state.ProcessState.{ProcessState}
 use Rattle.om_world.specs.Failures.{HasNews, IsDeclared, IsToDeclare, gathered, live_after}
 use Rattle.om_world.specs.World.{WorldState, IsKnown}
 
@@ -31,7 +31,7 @@ pub record HasGathered {E : Type 0} (old : ManagerState) (before : List Entry) (
 -- what a failure of the process comes to
 abbrev pub IsFailure : WorldState → ℕ → Failure → Type 0
 IsFailure w p Known = IsDeclared w p
-IsFailure w p Settled = (slice_get w.places p ≡ Some Place.In) × HasNews w p
+IsFailure w p Settled = (slice_get w.places p ≡ Some ProcessState.In) × HasNews w p
 IsFailure w p New = IsToDeclare w p
 
 -- why a declaration is refused
@@ -42,7 +42,7 @@ IsWhyNot fault m p = ⊥
 
 -- the failure of the process is declared
 abbrev pub declared : WorldState → ℕ → WorldState
-declared w p = record w { places = slice_set w.places p (Place.Down true) }
+declared w p = record w { places = slice_set w.places p (ProcessState.Down true) }
 
 -- the failure of a process that is down is declared, or refused
 pub record HasDeclaredAt (old : WorldState) (p : ℕ) (answer : Result Gathered FailError) (new : WorldState) : Type 0 where
@@ -60,7 +60,7 @@ StandsIn cores p at = (c : CoreState) × (slice_get cores p ≡ Some (Some c)) �
 
 -- the process is in
 abbrev pub taken_in : WorldState → ℕ → WorldState
-taken_in w p = record w { places = slice_set w.places p Place.In }
+taken_in w p = record w { places = slice_set w.places p ProcessState.In }
 
 -- a process that was up is in, or it was refused for want of memory
 pub record HasEntered (old : WorldState) (p : ℕ) (answer : Result Gathered JoinError) (new : WorldState) : Type 0 where

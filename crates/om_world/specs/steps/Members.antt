@@ -7,25 +7,25 @@ use Rattle.om_process.specs.Process.{Program}
 use Rattle.om_manager.specs.State.{ManagerState}
 use Rattle.om_member.specs.Members.{core_of}
 use Rattle.om_member.specs.declared.member.Member.{Member}
-use Rattle.om_member.specs.declared.member.Standing.{Standing}
-use Rattle.om_member.specs.declared.member.Standing.TheVariants as stands
+use Rattle.om_member.specs.declared.member.MemberState.{MemberState}
+use Rattle.om_member.specs.declared.member.MemberState.TheVariants as stands
 use Rattle.om_world.specs.declared.entry.Entry.{Entry}
-use Rattle.om_world.specs.declared.place.Place.{Place}
+use Rattle.om_world.specs.declared.process_state.ProcessState.{ProcessState}
 use Rattle.om_world.specs.World.{Health, WorldState}
 
 -- how a store of some type stands
 abbrev pub health_of : {S : Type 0} → (S → Bool) → (S → ℕ) → S → Health
 health_of is_clean failed store = record { clean = is_clean store; failed = failed store }
 
-abbrev pub place_of : Standing → Place
-place_of (stands.Up core) = Place.Up
-place_of (stands.In core) = Place.In
-place_of (stands.Down declared) = Place.Down declared
+abbrev pub place_of : MemberState → ProcessState
+place_of (stands.Up core) = ProcessState.Up
+place_of (stands.In core) = ProcessState.In
+place_of (stands.Down declared) = ProcessState.Down declared
 
 abbrev pub core_in : {S : Type 0} → Member S → Option CoreState
 core_in m = core_of m.standing
 
-abbrev pub place_in : {S : Type 0} → Member S → Place
+abbrev pub place_in : {S : Type 0} → Member S → ProcessState
 place_in m = place_of m.standing
 
 -- a member that is down, and declared, as before any round

@@ -8,7 +8,7 @@ use Rattle.om_process.specs.Core.{CoreState, cluster_size}
 use Rattle.om_process.specs.Resumes.{resumed}
 use Rattle.om_process.specs.Stored.{CanReplay, IsNoMatterOfContent, IsReplay, TheProcess}
 use Rattle.om_manager.specs.State.{ManagerState, process_count}
-use Rattle.om_world.specs.declared.place.Place.{Place}
+use Rattle.om_world.specs.declared.process_state.ProcessState.{ProcessState}
 use Rattle.om_world.specs.Changes.{HasFailed, NoneFell}
 use Rattle.om_world.specs.Failures.{HasNews, IsToComeBack, IsToGoOn, put_up, taken_down}
 use Rattle.om_world.specs.World.{WorldState, IsKnown, all_clean, recovered}
@@ -58,8 +58,8 @@ Returns old p (Err fault) new = StaysDown old p fault new
 -- a process that is in is down; of another all stays
 abbrev pub HasLeft : WorldState → ℕ → WorldState → Type 0
 HasLeft old p new =
-    (slice_get old.places p ≡ Some Place.In → new ≡ taken_down old p false)
-    × ((slice_get old.places p ≡ Some Place.In → ⊥) → new ≡ old)
+    (slice_get old.places p ≡ Some ProcessState.In → new ≡ taken_down old p false)
+    × ((slice_get old.places p ≡ Some ProcessState.In → ⊥) → new ≡ old)
 
 -- the core at this place knows the manager's round and starts, and no other core changes
 abbrev pub KnowsRound : List (Option CoreState) → ℕ → ManagerState → List (Option CoreState) → Type 0
@@ -73,5 +73,5 @@ IsDue w p false = IsToGoOn w p
 
 -- whom the last round rolls back without a failure was beyond its place of the recovery state
 abbrev pub IsBeyond : WorldState → ℕ → Type 0
-IsBeyond w p = (c : CoreState) → slice_get w.places p ≡ Some Place.In → slice_get w.cores p ≡ Some (Some c) → HasNews w p
+IsBeyond w p = (c : CoreState) → slice_get w.places p ≡ Some ProcessState.In → slice_get w.cores p ≡ Some (Some c) → HasNews w p
     → is_named w.manager.backs p ≡ true → recovered w.manager p < c.now.interval

@@ -26,7 +26,7 @@ use Rattle.om_manager.specs.Outputs.{HeldOutput}
 use Rattle.om_manager.specs.Sound.{IsManager}
 use Rattle.om_manager.specs.State.{ManagerState, held_by, process_count, released_by}
 use Rattle.om_manager.specs.declared.presence.Presence.TheVariants.{Away, Failed, Joined}
-use Rattle.om_world.specs.declared.place.Place.{Place}
+use Rattle.om_world.specs.declared.process_state.ProcessState.{ProcessState}
 use Rattle.om_world.specs.Live.{program_at, Legal}
 use Rattle.om_world.specs.World.{WorldState, recovered, output_entry, IsKnown}
 use Rattle.om_world.specs.steps.Past.{Past, past_of, history}
@@ -133,8 +133,8 @@ pub record IsUpIn (m : ManagerState) (p : ℕ) (c : CoreState) : Type 0 where
 
 -- the process runs: it is up, or it is in and is not to be rolled back
 abbrev pub Runs : WorldState → ℕ → Type 0
-Runs w p = (slice_get w.places p ≡ Some Place.Up)
-    ⊎ ((slice_get w.places p ≡ Some Place.In) × (HasNews w p → is_named w.manager.backs p ≡ false))
+Runs w p = (slice_get w.places p ≡ Some ProcessState.Up)
+    ⊎ ((slice_get w.places p ≡ Some ProcessState.In) × (HasNews w p → is_named w.manager.backs p ≡ false))
 
 -- what holds whether or not the stores are clean
 pub record HasShape (w : WorldState) : Type 0 where
@@ -144,8 +144,8 @@ pub record HasShape (w : WorldState) : Type 0 where
   pub places : length w.places ≡ length w.programs
   pub own : (p : ℕ) (c : CoreState) → slice_get w.cores p ≡ Some (Some c) → IsCoreOf (length w.programs) p c
   pub rounds : length w.rounds ≡ length w.programs
-  pub there : (p : ℕ) → slice_get w.places p ≡ Some Place.Up → (c : CoreState) × (slice_get w.cores p ≡ Some (Some c))
-  pub inside : (p : ℕ) → slice_get w.places p ≡ Some Place.In → (c : CoreState) × (slice_get w.cores p ≡ Some (Some c))
+  pub there : (p : ℕ) → slice_get w.places p ≡ Some ProcessState.Up → (c : CoreState) × (slice_get w.cores p ≡ Some (Some c))
+  pub inside : (p : ℕ) → slice_get w.places p ≡ Some ProcessState.In → (c : CoreState) × (slice_get w.cores p ≡ Some (Some c))
   pub manager : IsManager w.manager
   pub size : process_count w.manager ≡ length w.programs
 
@@ -163,23 +163,23 @@ pub record Sound (w : WorldState) : Type 0 where
       → HasBytes held row.kind row.interval ⊎ IsOld w.manager row.pid row.kind row.interval
   pub running : (p : ℕ) (c : CoreState) (held : Content) → slice_get w.cores p ≡ Some (Some c)
       → slice_get w.contents p ≡ Some held → Runs w p → IsRunning (past_of w) p held c
-  pub up : (p : ℕ) (c : CoreState) → slice_get w.cores p ≡ Some (Some c) → slice_get w.places p ≡ Some Place.Up
+  pub up : (p : ℕ) (c : CoreState) → slice_get w.cores p ≡ Some (Some c) → slice_get w.places p ≡ Some ProcessState.Up
       → IsUpIn w.manager p c
   pub joined : (p x : ℕ) → presence_of (presences_of w.manager.gathering) p ≡ Joined x → x ≡ length (history (past_of w) p)
   -- who failed is down; and who is in the gathering knows the last round, as does who is up, and nobody a later one
-  pub failed : (p : ℕ) → presence_of (presences_of w.manager.gathering) p ≡ Failed → slice_get w.places p ≡ Some (Place.Down true)
+  pub failed : (p : ℕ) → presence_of (presences_of w.manager.gathering) p ≡ Failed → slice_get w.places p ≡ Some (ProcessState.Down true)
   pub gathered : (p : ℕ) → presence_of (presences_of w.manager.gathering) p ≢ Away → slice_index w.rounds p ≡ w.manager.round
-  pub current : (p : ℕ) → slice_get w.places p ≡ Some Place.Up → slice_index w.rounds p ≡ w.manager.round
+  pub current : (p : ℕ) → slice_get w.places p ≡ Some ProcessState.Up → slice_index w.rounds p ≡ w.manager.round
   pub known : (p : ℕ) → slice_index w.rounds p ≤ w.manager.round
   -- a process that is down and knows the last round has no record of an interval that it had not reached
-  pub ends : (p : ℕ) (declared : Bool) (held : Content) → slice_get w.places p ≡ Some (Place.Down declared) → (HasNews w p → ⊥)
+  pub ends : (p : ℕ) (declared : Bool) (held : Content) → slice_get w.places p ≡ Some (ProcessState.Down declared) → (HasNews w p → ⊥)
       → slice_get w.contents p ≡ Some held → EndsAt held (length (history (past_of w) p))
   -- whom the last round found: each stands where it was cut to, until it is up again; who is in and runs has the newest
   -- incarnation, and who is in and is to be rolled back was beyond
   pub behind : (p : ℕ) → p < length w.programs → HasNews w p → length (history (past_of w) p) ≡ slice_index w.manager.last p
-  pub inside : (p : ℕ) (c : CoreState) → slice_get w.cores p ≡ Some (Some c) → slice_get w.places p ≡ Some Place.In → Runs w p
+  pub inside : (p : ℕ) (c : CoreState) → slice_get w.cores p ≡ Some (Some c) → slice_get w.places p ≡ Some ProcessState.In → Runs w p
       → c.inc ≡ newest_of w.manager.starts p
-  pub beyond : (p : ℕ) (c : CoreState) → slice_get w.cores p ≡ Some (Some c) → slice_get w.places p ≡ Some Place.In → HasNews w p
+  pub beyond : (p : ℕ) (c : CoreState) → slice_get w.cores p ≡ Some (Some c) → slice_get w.places p ≡ Some ProcessState.In → HasNews w p
       → is_named w.manager.backs p ≡ true → slice_index w.manager.last p < c.now.interval
 
 -- what a world keeps, over its stores

@@ -9,7 +9,7 @@ use Rattle.om_process.specs.Core.{CoreState}
 use Rattle.om_process.specs.Starting.{started_core}
 use Rattle.om_process.specs.Stores.{HasGainedCheckpoint}
 use Rattle.om_member.specs.declared.member.Member.{Member}
-use Rattle.om_world.specs.declared.place.Place.{Place}
+use Rattle.om_world.specs.declared.process_state.ProcessState.{ProcessState}
 use Rattle.om_world.specs.Started.{IsLoadable, IsWhy}
 use Rattle.om_world.specs.steps.Members.{core_in, place_in, round_in, store_in}
 
@@ -45,5 +45,5 @@ pub record AreStarted {S : Type 0} (content : S → Content) (is_clean : S → B
 pub record AreSeated {S : Type 0} (content : S → Content) (is_clean : S → Bool) (IsSound : S → Type 0)
     (programs : List Program) (n k : ℕ) (stores : List S) (members : List (Member S)) : Type 0 where
   pub started : AreStarted content is_clean IsSound programs n k (map core_in members) stores (map store_in members ++ drop k stores)
-  pub places : map place_in members ≡ replicate k Place.Up
+  pub places : map place_in members ≡ replicate k ProcessState.Up
   pub rounds : map round_in members ≡ replicate k 0

@@ -12,7 +12,7 @@ hand_one-requires g c =
 
 pub loop-i-preserved : goal.loop-i-preserved
 loop-i-preserved g c =
-    let state = g.O.Office.state in
+    let state = g.O.ManagerAccess.state in
     let ms = c.args.outputs.now in let i = c.loop-i.i in let m = c.index-outputs-i.result in
     subst (λ l. AreHanded (state c.args.office.now) c.args.round c.args.pid l (state c.hand_one.new.office)) (take_next ms i m c.loop-i-test.true c.index-outputs-i.is)
     (handed_next (state c.args.office.now) (state c.loop-i.office) (state c.hand_one.new.office) c.args.round c.args.pid (take i ms) m c.in_ok-hand_one.field-0 c.loop-i.invariant

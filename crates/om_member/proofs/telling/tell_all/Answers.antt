@@ -9,7 +9,7 @@ use Rattle.om_member.proofs.telling.tell_all.Goals as goal
 
 pub loop-count-preserved : goal.loop-count-preserved
 loop-count-preserved g c =
-    let state = g.O.Office.state in
+    let state = g.O.ManagerAccess.state in
     let rows = c.args.rows.now in let i = c.loop-count.count in let row = c.index-rows-count.result in
     subst (λ l. AreTold (state c.args.office.now) c.args.round c.args.pid l (state c.tell.new.office)) (take_next rows i row c.loop-count-test.true c.index-rows-count.is)
     (told_more (state c.args.office.now) (state c.loop-count.office) (state c.tell.new.office) c.args.round c.args.pid (take i rows) row c.in_default.field-0 c.loop-count.invariant
@@ -17,7 +17,7 @@ loop-count-preserved g c =
 
 pub returns-in-Err : goal.returns-in-Err
 returns-in-Err g c =
-    let state = g.O.Office.state in
+    let state = g.O.ManagerAccess.state in
     let rows = c.args.rows.now in let i = c.loop-count.count in let row = c.index-rows-count.result in
     let at : slice_get rows i ≡ Some row = slice_get_read rows (length rows) i row refl c.loop-count-test.true c.index-rows-count.is in
     let answers = subst (λ a. Notes (state c.loop-count.office) c.args.round (row_for c.args.pid row) a (state c.tell.new.office)) c.in-Err.is c.tell.ensures.answers in

@@ -4,7 +4,7 @@ use Rattle.std.specs.declared.alloc.Global.{Global}
 use Rattle.om_manager.specs.declared.output_log.Output.{Output}
 use Rattle.om_process.specs.Process.{Program}
 use Rattle.om_runner.specs.Released.{AreAllMade, AreAllReleased}
-use Rattle.om_runner.specs.declared.lane.Lane.{Lane}
+use Rattle.om_runner.specs.declared.followed_outputs.FollowedOutputs.{FollowedOutputs}
 use Rattle.om_runner.specs.steps.Following.{AreKept, AreLanesMade, told_in}
 use Rattle.om_runner.proofs.following.add_brought.Given as goal
 
@@ -15,6 +15,6 @@ invariant-loop-p l = record {
   kept : (vec : List ℕ) → AreAllReleased vec l.brought → AreKept vec l.fn.lanes.items → AreKept vec l.lanes.items;
   made : (programs : List Program) (n : ℕ) → AreAllMade programs n l.brought → AreLanesMade programs n l.fn.lanes.items
       → AreLanesMade programs n l.lanes.items;
-  all : (q : ℕ) (low : Vec Output Global) (lane : Lane) → q < l.p → slice_get l.brought q ≡ Some low → slice_get l.lanes.items q ≡ Some lane
+  all : (q : ℕ) (low : Vec Output Global) (lane : FollowedOutputs) → q < l.p → slice_get l.brought q ≡ Some low → slice_get l.lanes.items q ≡ Some lane
       → length low.items ≤ length lane.outputs.items;
 }

@@ -1,6 +1,6 @@
 use Rattle.std.proofs.Common.{◌≡◌, ℕ, ◌<◌, List, Some, map}
 use Rattle.std.specs.Prelude.{slice_get, vec_len}
-use Rattle.om_runner.specs.declared.lane.Lane.{Lane}
+use Rattle.om_runner.specs.declared.followed_outputs.FollowedOutputs.{FollowedOutputs}
 use Rattle.om_runner.specs.steps.Following.{AreKept, HaveTold}
 use Rattle.om_runner.proofs.following.tell_rest.Given as goal
 
@@ -10,5 +10,5 @@ invariant-loop-p g l = record {
   outputs : map (λ lane. lane.outputs) l.lanes.items ≡ map (λ lane. lane.outputs) l.fn.lanes.items;
   kept : (vec : List ℕ) → AreKept vec l.fn.lanes.items → AreKept vec l.lanes.items;
   told : HaveTold g.F.Follower.Tells l.fn.lanes.items l.fn.follower l.lanes.items l.follower;
-  ends : (q : ℕ) (lane : Lane) → q < l.p → slice_get l.lanes.items q ≡ Some lane → lane.told ≡ vec_len lane.outputs;
+  ends : (q : ℕ) (lane : FollowedOutputs) → q < l.p → slice_get l.lanes.items q ≡ Some lane → lane.told ≡ vec_len lane.outputs;
 }

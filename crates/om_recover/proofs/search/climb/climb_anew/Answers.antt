@@ -1,6 +1,6 @@
 use Rattle.std.proofs.Common.{◌≡◌, ◌<◌, List, ℕ, ◌∙◌, refl, sym, subst, arith, length, slice_index}
 use Rattle.om_recover.specs.Attempts.{Attempt}
-use Rattle.om_recover.specs.declared.search.memory.Memory.{Memory}
+use Rattle.om_recover.specs.declared.search.failed_climbs.FailedClimb.{FailedClimb}
 use Rattle.om_recover.specs.steps.Climbing.{IsAttempted, IsClimbing, IsPassing, IsUnderWay, without_newest}
 use Rattle.om_recover.proofs.PassingLemmas.{passing_start, passing_step}
 use Rattle.om_recover.proofs.StableLemmas.{record_of_stable}
@@ -46,7 +46,7 @@ returns-in-Err-clause-remembered g c =
     let begun = climbing_anew _ _ _ _ _ c.requires.state c.requires.process c.requires.start c.requires.above c.raised_to-begun.ensures in
     let here : c.args.x ≡ slice_index c.raised_to-begun.result c.args.pid = raised_here _ _ _ _ c.requires.process c.raised_to-begun.ensures in
     let waits : c.in-Err.lacking < length c.args.state.now = omega (arith, c.in-Err.ensures.within, begun.reached_places) in
-    let memory : Memory = record { start = c.args.x; reached = c.raised_to-begun.result; passed = c.raised_to-begun.result; waits = c.in-Err.lacking; from = c.number_of.result } in
+    let memory : FailedClimb = record { start = c.args.x; reached = c.raised_to-begun.result; passed = c.raised_to-begun.result; waits = c.in-Err.lacking; from = c.number_of.result } in
     all_with _ _ _ _ _ _ _ c.requires.remembered
     (record {
       whole = remembered_failed _ _ _ _ _ _ _ _ _ _ _ begun c.requires.process here c.requires.above c.look-vec.ensures.vec refl refl waits c.number_of.ensures;

@@ -5,7 +5,7 @@ use Rattle.om_recover.specs.steps.Climbing.{IsClimbing, IsPassing, IsUnderWay, w
 use Rattle.om_recover.proofs.PassingLemmas.{passing_step}
 use Rattle.om_recover.proofs.ClimbLemmas.{left_to_look, row_of, vec_places, climbing_step, climb_fails, looks_fall, attempted_by, under_way_step}
 use Rattle.om_recover.proofs.MemoryLemmas.{all_with, part_remembered, remembered_failed}
-use Rattle.om_recover.specs.declared.search.memory.Memory.{Memory}
+use Rattle.om_recover.specs.declared.search.failed_climbs.FailedClimb.{FailedClimb}
 use Rattle.om_recover.proofs.search.climb.climb_on.Goals as goal
 
 pub loop-q-init : goal.loop-q-init
@@ -69,7 +69,7 @@ returns-in-Err-clause-remembered g c =
     let in_cluster : c.in-Some.q < length c.args.state.now = omega (arith, c.in-Some.ensures.0, c.loop-q.invariant.climbing.looked_places) in
     let behind : slice_index c.loop-q.looked c.in-Some.q < c.get-y.result = omega (arith, c.in-Some.ensures.1, c.get-y.ensures) in
     let waits : c.in-Err.lacking < length c.args.state.now = omega (arith, c.in-Err.ensures.within, c.loop-q.invariant.climbing.reached_places) in
-    let memory : Memory = record { start = c.args.x; reached = c.loop-q.reached; passed = c.loop-q.passed; waits = c.in-Err.lacking; from = c.number_of.result } in
+    let memory : FailedClimb = record { start = c.args.x; reached = c.loop-q.reached; passed = c.loop-q.passed; waits = c.in-Err.lacking; from = c.number_of.result } in
     all_with _ _ _ _ _ _ _ c.loop-q.invariant.remembered
     (record {
       whole = remembered_failed _ _ _ _ _ _ _ _ _ _ _ c.loop-q.invariant.climbing in_cluster c.get-y.ensures behind c.look-vec.ensures.vec refl refl waits c.number_of.ensures;

@@ -3,7 +3,7 @@ use Rattle.om_interval.proofs.VectorLemmas.{below_itself}
 use Rattle.om_recover.specs.Recoverable.{IsRecoverable}
 use Rattle.om_recover.specs.steps.Memory.{AreRemembered}
 use Rattle.om_recover.specs.steps.Climbing.{ArePassed, EndsBy, IsOutOfReach}
-use Rattle.om_recover.specs.declared.search.memory.Memories.{Memories}
+use Rattle.om_recover.specs.declared.search.failed_climbs.FailedClimbs.{FailedClimbs}
 use Rattle.om_recover.specs.declared.work.Work.{Work}
 use Rattle.om_recover.proofs.SearchLemmas.{IsPassedTo, passed_by, passed_nothing, passed_over}
 use Rattle.om_recover.proofs.search.passes.pass.Goals as goal
@@ -43,7 +43,7 @@ loop-p-preserved g c =
             so_far = subst (λ (v : List ℕ). IsPassedTo (length state) rows state v (c.loop-p.p + 1) begun c.if-not-ends_by.work.attempts) (sym w.higher-is)
                 (subst (λ (work : Work). IsPassedTo (length state) rows state raised (c.loop-p.p + 1) begun work.attempts) (sym w.work-is) so_far);
             remembered = subst (λ (v : List ℕ). AreRemembered (length state) rows v c.if-not-ends_by.memories.places) (sym w.higher-is)
-                (subst (λ (memories : Memories). AreRemembered (length state) rows raised memories.places) (sym w.memories-is) remembered);
+                (subst (λ (memories : FailedClimbs). AreRemembered (length state) rows raised memories.places) (sym w.memories-is) remembered);
           }
       | else-not-ends_by w ↦
           let process : c.loop-p.p < length state = omega (arith, c.loop-p-test.true, c.n-p-end.ensures.places) in
@@ -55,6 +55,6 @@ loop-p-preserved g c =
             so_far = subst (λ (v : List ℕ). IsPassedTo (length state) rows state v (c.loop-p.p + 1) begun c.if-not-ends_by.work.attempts) (sym w.higher-is)
                 (subst (λ (work : Work). IsPassedTo (length state) rows state higher (c.loop-p.p + 1) begun work.attempts) (sym w.work-is) so_far);
             remembered = subst (λ (v : List ℕ). AreRemembered (length state) rows v c.if-not-ends_by.memories.places) (sym w.higher-is)
-                (subst (λ (memories : Memories). AreRemembered (length state) rows higher memories.places) (sym w.memories-is) c.loop-p.invariant.remembered);
+                (subst (λ (memories : FailedClimbs). AreRemembered (length state) rows higher memories.places) (sym w.memories-is) c.loop-p.invariant.remembered);
           }
     ]

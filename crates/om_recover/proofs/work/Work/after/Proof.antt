@@ -32,7 +32,7 @@ use Rattle.om_recover.specs.contracts.work.Work.after as f
 use Rattle.om_recover.proofs.work.Work.after.Statement as stated
 use Rattle.om_recover.proofs.work.Work.after.Code as code
 use Rattle.om_recover.specs.contracts.work.Work as trail
-use Rattle.om_recover.specs.contracts.step.Step as name
+use Rattle.om_recover.specs.contracts.step.SearchStep as name
 
 abbrev stayed : Stays (f.ended).signature.params (f.ended).kept
 stayed = (stay_none_ref (0 ∷ []) tt (plain (λ _. trail.the_row)) yes, (stay_none_ref (1 ∷ []) tt (plain (λ _. name.the_row)) yes, tt))

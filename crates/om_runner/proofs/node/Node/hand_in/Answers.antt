@@ -9,7 +9,7 @@ use Rattle.om_runner.proofs.node.Node.hand_in.Goals as goal
 
 pub hand_in-requires-clause-taken : goal.hand_in-requires-clause-taken
 hand_in-requires-clause-taken g c =
-    let taken = subst (λ (d : NodeState). TakesFrom g.O.Office.Takes g.S.Stable.is_clean d.member) (sym c.self.view_is) c.requires.taken in
+    let taken = subst (λ (d : NodeState). TakesFrom g.O.ManagerAccess.Takes g.S.Stable.is_clean d.member) (sym c.self.view_is) c.requires.taken in
     λ made has.
     let kept = subst (λ (d : CoreState). HasEntry d.now.queues (cluster_size d.now) made.seq (made_entry made)) c.deref.ensures has in
     taken made.seq (held_as made) (λ always. node_output _ _ _ _ _ c.self.invariant.store made c.self.invariant.node (always c.self.invariant.store) kept)

@@ -1,6 +1,6 @@
 use Rattle.std.proofs.Common.{◌≡◌, ◌∙◌, ◌<◌, ◌≤◌, ap, arith, Bool, true, false, length, map, refl, slice_get, subst, sym, Some}
 use Rattle.om_interval.specs.Starts.{is_named}
-use Rattle.om_world.specs.declared.place.Place.TheVariants as places
+use Rattle.om_world.specs.declared.process_state.ProcessState.TheVariants as places
 use Rattle.om_world.specs.Failures.{HasNews, down}
 use Rattle.om_world.specs.World.{WorldState, IsKnown, program_of}
 use Rattle.om_world.specs.steps.Returning.{IsBeyond, IsDue}

@@ -1,5 +1,5 @@
 use Rattle.std.proofs.Common.{◌≡◌, ◌∙◌, Bool, Some, true, false, inl, inr, sym, ap}
-use Rattle.om_world.specs.declared.place.Place.TheVariants as places
+use Rattle.om_world.specs.declared.process_state.ProcessState.TheVariants as places
 use Rattle.om_world.specs.Failures.{up, joined, refused}
 use Rattle.om_world.proofs.world.World.failure.Goals as goal
 use Rattle.om_world.proofs.world.World.failure.Goals.{then-declared, else-declared}
