@@ -6,7 +6,7 @@ use Rattle.std.proofs.lemmas.Option.{get_or_from_slice_get, same_Some, slice_get
 use Rattle.om_process.specs.Images.{program_of}
 use Rattle.om_process.specs.declared.image.Image.{Image}
 use Rattle.om_runner.specs.Reports.{IsFaultOf}
-use Rattle.om_runner.specs.declared.cluster.EndOf.{EndOf}
+use Rattle.om_runner.specs.declared.starting.EndOf.{EndOf}
 use Rattle.om_runner.specs.declared.results.Finished.{Finished}
 use Rattle.om_runner.specs.declared.config.Config.{Config}
 use Rattle.om_runner.specs.declared.fault.RunFault.{RunFault}

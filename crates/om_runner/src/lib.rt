@@ -8,10 +8,10 @@
 //!
 //! - what a run is given and what it answers: `config`, `opener` (who makes the stores), `in_memory` (one who makes them in
 //!   memory), `watched` (one whose processes are watched), `report`, `fault`
-//! - `cluster`: the threads, from the first store to the report; `network` (the inboxes of all), `settle` (what is left in
+//! - `cluster`: the threads, from the first store to the report; `starting` (they are started and joined), `working` (what each does, from the gate to the end); `network` (the inboxes of all), `settle` (what is left in
 //!   them), `results` (what the workers bring back), `harvest` (the outputs among it)
 //! - `taking_up`: how a process is taken up from what an earlier run left
-//! - `worker`: what a thread does, turn by turn; `barrier` (where it waits until all are up), `idle` and `spin_policy` (how it yields
+//! - `turns` and `worker`: what a thread does, turn by turn; `worker_state` (where its process stands), `worker::rounds`, `worker::storing`, `worker::resting`; `barrier` (where it waits until all are up), `idle` and `spin_policy` (how it yields
 //!   and sleeps), `worker_fault` (why it stops)
 //! - what a worker has: `node` (a process over its store), `cargo` and `flying` (how what it stores gets there while it goes on), `links` (its ends of inboxes), `received` (what a resend may leave
 //!   out), `manager_link` and `locked_board` (the manager), `keeping` (what its store is given for a run that takes it up)
@@ -45,10 +45,14 @@ mod report;
 mod results;
 mod settle;
 mod spin_policy;
+mod starting;
 mod taking_up;
+mod turns;
 mod watched;
 mod worker;
 mod worker_fault;
+mod worker_state;
+mod working;
 
 pub use cluster::{run_and_keep_stores, run_and_keep_witnesses, run_and_record, run_cluster};
 pub use config::Config;

@@ -146,7 +146,7 @@ impl<'a, K: Naming> ManagerLink<'a, K> {
     fn hand_over<J: Series, S: Stable, R: Wait>(
         &mut self,
         alloc: Global,
-        desk: &mut LockedBoard<'_, K, R>,
+        locked: &mut LockedBoard<'_, K, R>,
         node: &mut Node<'_, J, S>,
     ) -> Result<(), WorkerFault>
         requires own { node.old.member.own ≡ self.old.pid }
@@ -157,36 +157,36 @@ impl<'a, K: Naming> ManagerLink<'a, K> {
         ensures round { self.new.round ≡ self.old.round }
         ensures member { node.new.member ≡ node.old.member }
         ensures away { node.new.away ≡ node.old.away }
-        ensures sound { IsBoard K.cell.n desk.old.board.now }
-        ensures over { OnOk result (HasHandedOver desk.old.board.now.manager self.old.pid node.old.core
-            desk.new.board.now.manager node.new.core) }
+        ensures sound { IsBoard K.cell.n locked.old.board.now }
+        ensures over { OnOk result (HasHandedOver locked.old.board.now.manager self.old.pid node.old.core
+            locked.new.board.now.manager node.new.core) }
     {
         // The look tells what holds of every board.
-        let _ = desk.board.manager();
-        let (_, end) = node.note(desk, alloc);
+        let _ = locked.board.manager();
+        let (_, end) = node.note(locked, alloc);
         end?;
-        node.hand_in(desk, alloc)?;
-        self.handed = desk.board.manager().next_output(self.pid);
+        node.hand_in(locked, alloc)?;
+        self.handed = locked.board.manager().next_output(self.pid);
         Ok(())
     }
 
     // Prunes the manager where it was told of a checkpoint. Then it says what need not be kept any longer.
     fn prune<R: Wait>(
         &self,
-        desk: &mut LockedBoard<'_, K, R>,
+        locked: &mut LockedBoard<'_, K, R>,
         has_checkpoint: bool,
     ) -> Option<Limits>
         ensures asked { is_some result ≡ has_checkpoint }
-        ensures pruned { IfSome result (λ l. HasPruned desk.old.board.now.manager desk.new.board.now.manager) }
-        ensures limits { IfSome result (λ l. AreLimits desk.new.board.now.manager self.now.pid l) }
+        ensures pruned { IfSome result (λ l. HasPruned locked.old.board.now.manager locked.new.board.now.manager) }
+        ensures limits { IfSome result (λ l. AreLimits locked.new.board.now.manager self.now.pid l) }
         ensures places { IfSome result (λ l. length l.bounds.got ≡ K.cell.n) }
-        ensures unpruned { IfNone result (desk.new.board.now ≡ desk.old.board.now) }
+        ensures unpruned { IfNone result (locked.new.board.now ≡ locked.old.board.now) }
     {
         if !has_checkpoint {
             return None;
         }
-        desk.prune();
-        let manager = desk.board.manager();
+        locked.prune();
+        let manager = locked.board.manager();
         Some(Limits {
             bounds: manager.bounds(self.pid),
             checkpoint: manager.effective(self.pid),
@@ -194,12 +194,12 @@ impl<'a, K: Naming> ManagerLink<'a, K> {
     }
 
     // Returns how the manager stands. A process that has ended reports itself quiet.
-    fn ask<R: Wait>(&self, desk: &mut LockedBoard<'_, K, R>, ended: bool) -> ManagerPhase
-        ensures { IsStanding desk.old.board.now self.now.pid self.now.round ended result desk.new.board.now }
+    fn ask<R: Wait>(&self, locked: &mut LockedBoard<'_, K, R>, ended: bool) -> ManagerPhase
+        ensures { IsStanding locked.old.board.now self.now.pid self.now.round ended result locked.new.board.now }
     {
-        if desk.board.manager().gathering() {
+        if locked.board.manager().gathering() {
             ManagerPhase::Gathers
-        } else if ended && desk.board.quiet(self.pid, self.round) {
+        } else if ended && locked.board.quiet(self.pid, self.round) {
             ManagerPhase::Quiet
         } else {
             ManagerPhase::Closed
@@ -211,7 +211,7 @@ impl<'a, K: Naming> ManagerLink<'a, K> {
     fn meet_at<J: Series, S: Stable, R: Wait>(
         &mut self,
         alloc: Global,
-        desk: &mut LockedBoard<'_, K, R>,
+        locked: &mut LockedBoard<'_, K, R>,
         node: &mut Node<'_, J, S>,
         ended: bool,
         has_checkpoint: bool,
@@ -225,17 +225,17 @@ impl<'a, K: Naming> ManagerLink<'a, K> {
         ensures pid { self.new.pid ≡ self.old.pid }
         ensures round { self.new.round ≡ self.old.round }
         ensures member { node.new.member ≡ node.old.member }
-        ensures sound { IsBoard K.cell.n desk.old.board.now }
+        ensures sound { IsBoard K.cell.n locked.old.board.now }
         ensures limits { IfOk result (λ met. IfSome met.1 (λ l. length l.bounds.got ≡ K.cell.n)) }
-        ensures met { IfOk result (λ met. HasMet desk.old.board.now self.old.pid self.old.round ended node.old.core met.0 met.1
-            desk.new.board.now node.new.core) }
+        ensures met { IfOk result (λ met. HasMet locked.old.board.now self.old.pid self.old.round ended node.old.core met.0 met.1
+            locked.new.board.now node.new.core) }
     {
         let has_receipt = have_receipt(node.core().pending());
-        self.hand_over(alloc, desk, node)?;
-        diary.noted(desk.rt, has_receipt, has_checkpoint)?;
-        diary.announce(desk.rt, desk.board.manager())?;
-        let limits = self.prune(desk, has_checkpoint);
-        let standing = self.ask(desk, ended);
+        self.hand_over(alloc, locked, node)?;
+        diary.noted(locked.rt, has_receipt, has_checkpoint)?;
+        diary.announce(locked.rt, locked.board.manager())?;
+        let limits = self.prune(locked, has_checkpoint);
+        let standing = self.ask(locked, ended);
         self.failures = self.shared.failures.load(SeqCst);
         Ok((standing, limits))
     }
@@ -263,12 +263,12 @@ impl<'a, K: Naming> ManagerLink<'a, K> {
     {
         let has_checkpoint = have_checkpoint(node.core().pending());
         let mut guard = self.lock(rt, is_patient);
-        let mut desk = LockedBoard {
+        let mut locked = LockedBoard {
             rt,
             board: &mut *guard,
             frontier: &self.shared.frontier,
         };
-        let met = self.meet_at(alloc, &mut desk, node, ended, has_checkpoint, diary)?;
+        let met = self.meet_at(alloc, &mut locked, node, ended, has_checkpoint, diary)?;
         Ok(met)
     }
 
@@ -276,7 +276,7 @@ impl<'a, K: Naming> ManagerLink<'a, K> {
     fn join_at<J: Series, S: Stable, R: Wait>(
         &mut self,
         alloc: Global,
-        desk: &mut LockedBoard<'_, K, R>,
+        locked: &mut LockedBoard<'_, K, R>,
         node: &mut Node<'_, J, S>,
         diary: &mut Diary<'_>,
         pass: Pass<K>,
@@ -289,18 +289,18 @@ impl<'a, K: Naming> ManagerLink<'a, K> {
         ensures round { self.new.round ≡ self.old.round }
         ensures member { node.new.member ≡ node.old.member }
         ensures away { node.new.away ≡ node.old.away }
-        ensures sound { IsBoard K.cell.n desk.old.board.now }
+        ensures sound { IsBoard K.cell.n locked.old.board.now }
         ensures joined { OnOk result
-            (HasJoined desk.old.board.now.manager self.old.pid node.old.core desk.new.board.now.manager node.new.core) }
+            (HasJoined locked.old.board.now.manager self.old.pid node.old.core locked.new.board.now.manager node.new.core) }
     {
-        self.hand_over(alloc, desk, node)?;
+        self.hand_over(alloc, locked, node)?;
         let core = node.core();
-        desk.join(alloc, self.pid, core.round(), core.interval())?;
-        let (front, pass) = desk.frontier.meet(desk.rt, desk.board, pass);
+        locked.join(alloc, self.pid, core.round(), core.interval())?;
+        let (front, pass) = locked.frontier.meet(locked.rt, locked.board, pass);
         self.failures = self.shared.failures.load(SeqCst);
         let is_finished = front.round > self.round;
-        diary.joined(desk.rt, &front, is_finished)?;
-        diary.announce(desk.rt, desk.board.manager())?;
+        diary.joined(locked.rt, &front, is_finished)?;
+        diary.announce(locked.rt, locked.board.manager())?;
         Ok((is_finished, pass))
     }
 
@@ -325,12 +325,12 @@ impl<'a, K: Naming> ManagerLink<'a, K> {
             HasJoined before.manager self.old.pid node.old.core after.manager node.new.core)) }
     {
         let mut guard = self.shared.board.lock(rt);
-        let mut desk = LockedBoard {
+        let mut locked = LockedBoard {
             rt,
             board: &mut *guard,
             frontier: &self.shared.frontier,
         };
-        let joined = self.join_at(alloc, &mut desk, node, diary, pass)?;
+        let joined = self.join_at(alloc, &mut locked, node, diary, pass)?;
         Ok(joined)
     }
 
@@ -410,18 +410,18 @@ impl<'a, K: Naming> ManagerLink<'a, K> {
     fn take_up_at<R: Wait>(
         &self,
         alloc: Global,
-        desk: &mut LockedBoard<'_, K, R>,
+        locked: &mut LockedBoard<'_, K, R>,
         rows: &[PendingRow],
         outputs: &[Made],
     ) -> Result<(), WorkerFault>
         requires { K.OverClean → ⊥ }
-        ensures sound { IsBoard K.cell.n desk.old.board.now }
+        ensures sound { IsBoard K.cell.n locked.old.board.now }
         ensures taken_up { OnOk result
-            (HasTakenUp desk.old.board.now.manager self.now.round self.now.pid rows.now outputs.now desk.new.board.now.manager) }
+            (HasTakenUp locked.old.board.now.manager self.now.round self.now.pid rows.now outputs.now locked.new.board.now.manager) }
     {
         // The look tells what holds of every board.
-        let _ = desk.board.manager();
-        take_up(desk, alloc, self.pid, self.round, rows, outputs)?;
+        let _ = locked.board.manager();
+        take_up(locked, alloc, self.pid, self.round, rows, outputs)?;
         Ok(())
     }
 
@@ -438,12 +438,12 @@ impl<'a, K: Naming> ManagerLink<'a, K> {
             HasTakenUp before.manager self.now.round self.now.pid rows.now outputs.now after.manager)) }
     {
         let mut guard = self.shared.board.lock(rt);
-        let mut desk = LockedBoard {
+        let mut locked = LockedBoard {
             rt,
             board: &mut *guard,
             frontier: &self.shared.frontier,
         };
-        self.take_up_at(alloc, &mut desk, rows, outputs)?;
+        self.take_up_at(alloc, &mut locked, rows, outputs)?;
         Ok(())
     }
 

@@ -1,34 +1,35 @@
 //! What the thread of a process does.
 
-ghost use Rattle.std.specs.Prelude.{◌≡◌, ◌<◌, ◌+◌, ◌⊎◌, ◌↔◌, [], false, IfNone, IfOk, IfSome, IsSome, IsTrue, None, Ok, OnErr, OnOk, Some, length, slice_get, true};
+ghost use Rattle.std.specs.Prelude.{◌≡◌, ◌<◌, ◌+◌, ◌⊎◌, [], false, IfNone, IfOk, IfSome, None, Ok, OnOk, Some, length, slice_get, true};
 ghost use Rattle.om_member.specs.Handed.{outputs_from};
-ghost use Rattle.om_process.specs.Stores.{flushed};
 ghost use Rattle.om_process.specs.Core.{IsEnd};
 ghost use Rattle.om_format.specs.declared.message.Message.{Message};
-ghost use Rattle.om_runner.specs.steps.Acts.{HasDeclared, HasHeeded, HasJoined, HasReleasedAnother, UnderLock};
+ghost use Rattle.om_runner.specs.steps.Acts.{HasReleasedAnother, UnderLock};
 ghost use Rattle.om_runner.specs.steps.Nodes.{AreAlwaysClean};
 ghost use Rattle.om_runner.specs.steps.Places.{IsLanded, member_of};
-ghost use Rattle.om_runner.specs.steps.Sights.{doing_at, sight_at, sight_of};
-ghost use Rattle.om_runner.specs.steps.Turning.{HasComeBack, HasNothingToSay, HasReported, HasRested, HasRisen, HasRun, IsLandedAt, IsOffered, IsTurnOf, WasTold, pause_turns, place_after};
+ghost use Rattle.om_runner.specs.steps.Turning.{HasNothingToSay, HasReported, HasRun, IsLandedAt, IsOffered, IsTurnOf};
 ghost use Rattle.om_runner.specs.steps.Wiring.{HasEnds};
 
+mod resting;
+mod rounds;
 mod storing;
 
 use crate::barrier::Barrier;
 use crate::config::Config;
 use crate::harvest::Harvest;
 use crate::idle::{Idle, Pause};
-use crate::keeping::{Deposit, Due, Kept};
+use crate::keeping::{Due, Kept};
 use crate::links::{Links, Taken};
-use crate::manager_link::{Limits, ManagerLink, ManagerPhase, RoundOutcome};
+use crate::manager_link::{ManagerLink, ManagerPhase};
 use crate::network::Ends;
-use crate::node::{DownNode, Node, has_ended};
+use crate::node::{Node, has_ended};
 use crate::spin_policy::SpinPolicy;
 use crate::worker_fault::WorkerFault;
-use om_board::{Front, Naming, Pass, Shared, SpinOutcome};
-use om_interval::{Pid, Verdict};
-use om_observers::{Diary, Doing, Observers, Past, Sight, Watch};
-use om_process::{Accept, PendingRow, ProcCore, Status, Witness};
+use crate::worker_state::{TurnOutcome, WorkerState};
+use om_board::{Naming, Pass, Shared};
+use om_interval::Pid;
+use om_observers::{Diary, Observers, Past, Sight, Watch};
+use om_process::{Accept, PendingRow, Status, Witness};
 use om_restart::Found;
 use om_stable::{Ledger, Stable};
 use om_tickets::Series;
@@ -41,95 +42,6 @@ const ALL_TURNS: u64 = u64::MAX;
 
 // How many receipts of a log are stored where all are.
 const ALL_RECEIPTS: usize = usize::MAX;
-
-// Where the process of a worker stands.
-#[derive(Drop)]
-pub(crate) enum WorkerState<'a, J: Series, S: Stable> {
-    // It runs.
-    Up(Node<'a, J, S>),
-    // A gathering is open, which it is to join.
-    Called(Node<'a, J, S>),
-    // It joined, and waits for the round to be finished.
-    In(Node<'a, J, S>),
-    // It failed, which the manager is still to be told.
-    Failed(DownNode<'a, J, S>),
-    // It failed, and waits for the round to be finished.
-    Down(DownNode<'a, J, S>),
-    // All processes are quiet.
-    Over(Node<'a, J, S>),
-}
-
-impl<'a, J: Series, S: Stable> WorkerState<'a, J, S> {
-    // Returns what the process does there.
-    fn doing(&self) -> Doing
-        ensures { result ≡ doing_at self.now }
-    {
-        match self {
-            WorkerState::Up(node) | WorkerState::Over(node) => Doing::Up(node.core().status()),
-            WorkerState::Called(_) => Doing::Called,
-            WorkerState::In(_) => Doing::Joined,
-            WorkerState::Failed(_) | WorkerState::Down(_) => Doing::Down,
-        }
-    }
-
-    // Returns what is seen of the process there, once this was seen of it before: of one that is down, what it does.
-    fn sight(&self, before: Sight) -> Sight
-        ensures { result ≡ sight_at before self.now }
-    {
-        let doing = self.doing();
-        match self {
-            WorkerState::Up(node)
-            | WorkerState::Called(node)
-            | WorkerState::In(node)
-            | WorkerState::Over(node) => { sight_of(node.core(), doing, before) }
-            WorkerState::Failed(_) | WorkerState::Down(_) => Sight { doing, ..before },
-        }
-    }
-}
-
-// Returns what is seen of a process that does this, once this was seen of it before.
-fn sight_of(core: &ProcCore, doing: Doing, before: Sight) -> Sight
-    ensures { result ≡ sight_of doing before core.now }
-{
-    let machine = core.machine();
-    Sight {
-        doing,
-        interval: core.interval(),
-        count: machine.count(),
-        pc: machine.pc(),
-        ..before
-    }
-}
-
-// What a turn of a process that runs comes to.
-#[derive(Clone, Copy)]
-enum TurnOutcome {
-    // It goes on.
-    Up,
-    // A gathering is open.
-    Called,
-    // It fails.
-    Failed,
-    // All processes are quiet.
-    Over,
-}
-
-impl TurnOutcome {
-    // Returns where the process stands then.
-    #[inline(never)]
-    fn place_of<'a, J: Series, S: Stable>(self, node: Node<'a, J, S>) -> WorkerState<'a, J, S>
-        requires landed { IsLandedAt self node }
-        ensures place { result ≡ place_after self node.entry }
-        ensures landed { IsLanded result }
-    {
-        match self {
-            TurnOutcome::Up => WorkerState::Up(node),
-            TurnOutcome::Called => WorkerState::Called(node),
-            TurnOutcome::Failed => WorkerState::Failed(node.fail()),
-            TurnOutcome::Over => WorkerState::Over(node),
-        }
-    }
-}
 
 // A worker, but for its process. Where it gives a process up for a worker_fault it drops it by a call: at the end of the scope each
 // part of the process would be dropped in turn.
@@ -197,61 +109,6 @@ fn last_checkpoint(rows: &[PendingRow]) -> u32 {
         }
     }
     last
-}
-
-// Passes a turn in which nothing happened: the worker yields for a while at first, where it has the patience, and sleeps.
-fn pause_of<R: Wait + Clock>(
-    rt: &R,
-    links: &Links<'_>,
-    idle: &Idle,
-    patience: &mut SpinPolicy,
-) -> Pause {
-    let is_fresh = idle.is_fresh();
-    if is_fresh && patience.begin() {
-        match links.look(rt) {
-            SpinOutcome::Rung => {
-                patience.gain();
-                return Pause::Woken;
-            }
-            SpinOutcome::Slice => patience.end(),
-            SpinOutcome::Silent => {}
-        }
-    }
-    let is_woken = if is_fresh && !patience.is_patient() {
-        links.nap(rt)
-    } else {
-        links.sleep(rt, idle.sleep())
-    };
-    if is_woken { Pause::Woken } else { Pause::Slept }
-}
-
-// The process after a finished round: as it was, or rolled back.
-#[inline(never)]
-fn after_round<'a, J: Series, S: Stable>(
-    alloc: Global,
-    node: Node<'a, J, S>,
-    round_outcome: &RoundOutcome,
-) -> Result<Node<'a, J, S>, WorkerFault>
-    requires starts { length round_outcome.now.starts ≡ node.member.n }
-    requires landed { node.away ≡ false }
-    ensures member { IfOk result (λ next. next.member ≡ node.entry.member) }
-    ensures round { IfOk result (λ next. next.core.round ≡ round_outcome.now.verdict.round) }
-    ensures heeded { let old = node.entry in
-        IfOk result (λ next. HasHeeded round_outcome.now old.member.own old.core next.core) }
-{
-    if round_outcome.verdict.back {
-        return node
-            .fail()
-            .come_back(alloc, &round_outcome.starts, &round_outcome.verdict);
-    }
-    let mut node = node;
-    match node.resume(alloc, &round_outcome.starts, &round_outcome.verdict) {
-        Ok(()) => Ok(node),
-        Err(worker_fault) => {
-            drop(node);
-            Err(worker_fault)
-        }
-    }
 }
 
 impl<'a, K: Naming> Worker<'a, K> {
@@ -715,305 +572,5 @@ impl<'a, K: Naming> Worker<'a, K> {
                 Ok(TurnOutcome::Up)
             }
         }
-    }
-
-    // A turn in which nothing happens to a process that is up. Where all that it keeps was resent, and put, the board knows
-    // while it sleeps that it waits.
-    fn rest<R: Wait + Clock>(&mut self, rt: &R) -> Pause
-        ensures same { self.new.links ≡ self.old.links }
-    {
-        if self.resent && !self.is_away && self.links.has_put_all() {
-            self.wait(rt)
-        } else {
-            let pause = pause_of(rt, &self.links, &self.idle, &mut self.patience);
-            self.count(rt, pause);
-            pause
-        }
-    }
-
-    // Sleeps, while the board knows that the process waits. Where all wait, all turns that are left are idle, and they are spent
-    // at once.
-    fn wait<R: Wait + Clock>(&mut self, rt: &R) -> Pause
-        ensures same { self.new.links ≡ self.old.links }
-        ensures waited { HasRested K.cell.n self.old.manager_link.pid self.old.manager_link.round self.old.idle.turns result self.new.extra }
-    {
-        if self
-            .manager_link
-            .wait(rt, self.links.put(), self.links.taken())
-        {
-            self.extra = ALL_TURNS;
-            return Pause::Slept;
-        }
-        let pause = pause_of(rt, &self.links, &self.idle, &mut self.patience);
-        self.manager_link.withdraw(rt);
-        self.count(rt, pause);
-        pause
-    }
-
-    // Counts a pause of a process that is up.
-    fn count<R: Wait>(&mut self, rt: &R, pause: Pause)
-        ensures same { self.new.links ≡ self.old.links }
-        ensures counted { self.new.extra + 1 ≡ pause_turns self.old.idle.turns pause }
-    {
-        if self.pass(pause) {
-            self.manager_link.offer(rt);
-            self.resent = true;
-        }
-    }
-
-    // Counts a pause, and says whether all that is kept is put once more after it. Where there was no room for some of it, that is
-    // put first: a resend would begin it anew each time.
-    fn pass(&mut self, pause: Pause) -> bool
-        ensures same { self.new.links ≡ self.old.links }
-        ensures counted { self.new.extra + 1 ≡ pause_turns self.old.idle.turns pause }
-    {
-        let passed = self.idle.count(pause);
-        self.extra = u64::from(passed.turns).saturating_sub(1);
-        let has_put_all = self.links.has_put_all();
-        if passed.resends {
-            self.links.resend_put();
-        }
-        passed.resends && has_put_all
-    }
-
-    // A turn in which nothing happens to a process that is in, or down.
-    pub(crate) fn doze<R: Wait + Clock>(&mut self, rt: &R)
-        ensures same { self.new.links ≡ self.old.links }
-    {
-        let pause = pause_of(rt, &self.links, &self.idle, &mut self.patience);
-        self.pass(pause);
-    }
-
-    // Joins the open gathering, with all that the process has stored and handed in.
-    #[inline(never)]
-    fn join<J: Series, S: Stable, R: Wait>(
-        &mut self,
-        rt: &R,
-        alloc: Global,
-        node: Node<'a, J, S>,
-        pass: Pass<K>,
-    ) -> Result<(WorkerState<'a, J, S>, Pass<K>), WorkerFault>
-        requires own { node.member.own ≡ self.old.links.own }
-        requires program { slice_get K.programs node.member.own ≡ Some node.member.program }
-        requires size { node.member.n ≡ K.cell.n }
-        requires clean { K.OverClean → AreAlwaysClean S.is_clean }
-        requires landed { node.away ≡ false }
-        ensures same { self.new.links ≡ self.old.links }
-        ensures place { IfOk result (λ r. member_of r.0 ≡ node.entry.member) }
-        ensures landed { IfOk result (λ r. IsLanded r.0) }
-        ensures turned { IfOk result (λ r. IsTurnOf K.cell.n self.old.manager_link.round (WorkerState.Called node.entry) r.0) }
-    {
-        let mut node = node;
-        match self.enter(rt, alloc, &mut node, pass) {
-            Ok(pass) => Ok((WorkerState::In(node), pass)),
-            Err(worker_fault) => {
-                drop(node);
-                Err(worker_fault)
-            }
-        }
-    }
-
-    #[inline(never)]
-    fn enter<J: Series, S: Stable, R: Wait>(
-        &mut self,
-        rt: &R,
-        alloc: Global,
-        node: &mut Node<'a, J, S>,
-        pass: Pass<K>,
-    ) -> Result<Pass<K>, WorkerFault>
-        requires own { node.old.member.own ≡ self.old.links.own }
-        requires program { slice_get K.programs node.old.member.own ≡ Some node.old.member.program }
-        requires size { node.old.member.n ≡ K.cell.n }
-        requires clean { K.OverClean → AreAlwaysClean S.is_clean }
-        requires landed { node.old.away ≡ false }
-        ensures same { self.new.links ≡ self.old.links }
-        ensures member { node.new.member ≡ node.old.member }
-        ensures landed { node.new.away ≡ false }
-        ensures joined { OnOk result (UnderLock K.cell.n (λ before after.
-            HasJoined before.manager node.old.member.own (flushed node.old.core) after.manager node.new.core)) }
-    {
-        node.flush(alloc)?;
-        self.handed.receipts = node.core().interval();
-        let (is_finished, pass) = self
-            .manager_link
-            .join(rt, alloc, node, &mut self.diary, pass)?;
-        if is_finished {
-            self.links.wake_all();
-        }
-        self.change();
-        Ok(pass)
-    }
-
-    // Tells the manager that the process failed.
-    #[inline(never)]
-    fn declare<J: Series, S: Stable, R: Wait>(
-        &mut self,
-        rt: &R,
-        alloc: Global,
-        down_node: DownNode<'a, J, S>,
-        pass: Pass<K>,
-    ) -> Result<(WorkerState<'a, J, S>, Pass<K>), WorkerFault>
-        requires { down_node.own ≡ self.old.links.own }
-        ensures same { self.new.links ≡ self.old.links }
-        ensures place { IfOk result (λ r. member_of r.0 ≡ down_node.entry) }
-        ensures landed { IfOk result (λ r. IsLanded r.0) }
-        ensures turned { IfOk result (λ r. IsTurnOf K.cell.n self.old.manager_link.round (WorkerState.Failed down_node.entry) r.0) }
-    {
-        let pass = self.manager_link.declare(rt, alloc, &mut self.diary, pass)?;
-        self.links.wake_all();
-        self.change();
-        Ok((WorkerState::Down(down_node), pass))
-    }
-
-    // Waits for the round to be finished, and then goes on as its verdict says.
-    #[inline(never)]
-    fn wait_in<J: Series, S: Stable, R: Wait + Clock>(
-        &mut self,
-        rt: &R,
-        alloc: Global,
-        node: Node<'a, J, S>,
-        pass: Pass<K>,
-    ) -> Result<(WorkerState<'a, J, S>, Pass<K>), WorkerFault>
-        requires own { node.member.own ≡ self.old.links.own }
-        requires size { node.member.n ≡ K.cell.n }
-        requires landed { node.away ≡ false }
-        ensures same { self.new.links ≡ self.old.links }
-        ensures place { IfOk result (λ r. member_of r.0 ≡ node.entry.member) }
-        ensures landed { IfOk result (λ r. IsLanded r.0) }
-        ensures turned { IfOk result (λ r. IsTurnOf K.cell.n self.old.manager_link.round (WorkerState.In node.entry) r.0) }
-    {
-        let (told, pass) = match self.listen(rt, alloc, pass) {
-            Ok(heard) => heard,
-            Err(worker_fault) => {
-                drop(node);
-                return Err(worker_fault);
-            }
-        };
-        match told {
-            None => Ok((WorkerState::In(node), pass)),
-            Some(told) => {
-                let place = self.rise(rt, alloc, node, &told)?;
-                Ok((place, pass))
-            }
-        }
-    }
-
-    // Goes on after a finished round as its verdict says.
-    #[inline(never)]
-    fn rise<J: Series, S: Stable, R: Wait>(
-        &mut self,
-        rt: &R,
-        alloc: Global,
-        node: Node<'a, J, S>,
-        told: &RoundOutcome,
-    ) -> Result<WorkerState<'a, J, S>, WorkerFault>
-        requires starts { length told.now.starts ≡ node.member.n }
-        requires landed { node.away ≡ false }
-        ensures same { self.new.links ≡ self.old.links }
-        ensures risen { IfOk result (λ place. HasRisen told.now node.entry place) }
-    {
-        let is_back = told.verdict.back;
-        if is_back {
-            self.past.cut(told.verdict.r);
-        }
-        let node = after_round(alloc, node, told)?;
-        self.up_again(rt, node, &told.verdict, is_back)
-    }
-
-    // Tells that the process is up again. It stands as the round left it, and so does its store.
-    #[inline(never)]
-    fn up_again<J: Series, S: Stable, R: Wait>(
-        &mut self,
-        rt: &R,
-        node: Node<'a, J, S>,
-        verdict: &Verdict,
-        is_back: bool,
-    ) -> Result<WorkerState<'a, J, S>, WorkerFault>
-        requires { node.core.round ≡ verdict.now.round }
-        ensures same { self.new.links ≡ self.old.links }
-        ensures place { IfOk result (λ place. place ≡ WorkerState.Up node.entry) }
-    {
-        self.links.tell_all_received(node.core());
-        if is_back {
-            self.handed.cut(verdict.r);
-        }
-        match self.diary.returned(rt, node.core(), verdict, is_back) {
-            Ok(()) => {
-                self.arrive(verdict.round);
-                Ok(WorkerState::Up(node))
-            }
-            Err(error) => {
-                drop(node);
-                Err(error.into())
-            }
-        }
-    }
-
-    // Waits for the round to be finished, and then comes back.
-    #[inline(never)]
-    fn wait_down<J: Series, S: Stable, R: Wait + Clock>(
-        &mut self,
-        rt: &R,
-        alloc: Global,
-        down_node: DownNode<'a, J, S>,
-        pass: Pass<K>,
-    ) -> Result<(WorkerState<'a, J, S>, Pass<K>), WorkerFault>
-        requires own { down_node.own ≡ self.old.links.own }
-        requires size { down_node.n ≡ K.cell.n }
-        ensures same { self.new.links ≡ self.old.links }
-        ensures place { IfOk result (λ r. member_of r.0 ≡ down_node.entry) }
-        ensures landed { IfOk result (λ r. IsLanded r.0) }
-        ensures turned { IfOk result (λ r. IsTurnOf K.cell.n self.old.manager_link.round (WorkerState.Down down_node.entry) r.0) }
-    {
-        let (told, pass) = self.listen(rt, alloc, pass)?;
-        match told {
-            None => Ok((WorkerState::Down(down_node), pass)),
-            Some(told) => {
-                let place = self.come_back(rt, alloc, down_node, &told)?;
-                Ok((place, pass))
-            }
-        }
-    }
-
-    // Comes back after a finished round.
-    #[inline(never)]
-    fn come_back<J: Series, S: Stable, R: Wait>(
-        &mut self,
-        rt: &R,
-        alloc: Global,
-        down_node: DownNode<'a, J, S>,
-        told: &RoundOutcome,
-    ) -> Result<WorkerState<'a, J, S>, WorkerFault>
-        requires { length told.now.starts ≡ down_node.n }
-        ensures same { self.new.links ≡ self.old.links }
-        ensures back { IfOk result (λ place. HasComeBack told.now down_node.entry place) }
-    {
-        self.past.cut(told.verdict.r);
-        let node = down_node.come_back(alloc, &told.starts, &told.verdict)?;
-        self.up_again(rt, node, &told.verdict, true)
-    }
-
-    // Returns what the manager says of a round that is finished and that the process does not know yet, if there is one. After
-    // it all that is kept is sent once more.
-    fn listen<R: Wait + Clock>(
-        &mut self,
-        rt: &R,
-        alloc: Global,
-        pass: Pass<K>,
-    ) -> Result<(Option<RoundOutcome>, Pass<K>), WorkerFault>
-        ensures same { self.new.links ≡ self.old.links }
-        ensures starts { IfOk result (λ r. IfSome r.0 (λ round_outcome. length round_outcome.starts ≡ K.cell.n)) }
-        ensures heard { IfOk result (λ r. IfSome r.0 (λ told. WasTold K.cell.n self.old.manager_link.pid told)) }
-    {
-        let mut pass = pass;
-        let front = self.manager_link.read(rt, &mut pass);
-        if !self.manager_link.is_behind(&front) {
-            self.doze(rt);
-            return Ok((None, pass));
-        }
-        self.idle.end();
-        self.links.resend();
-        let (round_outcome, pass) = self.manager_link.hear(rt, alloc, pass)?;
-        Ok((Some(round_outcome), pass))
     }
 }

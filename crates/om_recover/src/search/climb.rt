@@ -36,7 +36,7 @@ pub fn climb<S: Shelf>(
             let Some(begun) = begin_known(shelf, state, pid, x, memory) else {
                 return None;
             };
-            let way = Climb {
+            let way = ClimbProgress {
                 reached: begun,
                 passed: begun,
                 looked: *state,
@@ -85,7 +85,7 @@ fn climb_anew<S: Shelf>(
             None
         }
         Ok(higher) => {
-            let way = Climb {
+            let way = ClimbProgress {
                 reached: higher,
                 passed: begun,
                 looked: begun,
@@ -97,7 +97,7 @@ fn climb_anew<S: Shelf>(
 
 // How far a climb has come.
 #[derive(Clone, Copy)]
-struct Climb {
+struct ClimbProgress {
     /// The state that is reached.
     reached: DepVec,
     /// How far it comes by what was read before the last.
@@ -112,7 +112,7 @@ fn climb_on<S: Shelf>(
     state: &DepVec,
     pid: Pid,
     x: u32,
-    way: &Climb,
+    way: &ClimbProgress,
     memories: &mut FailedClimbs,
     work: &mut Work,
 ) -> Option<DepVec>

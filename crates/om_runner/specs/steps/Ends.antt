@@ -12,10 +12,10 @@ use Rattle.om_process.specs.Core.{IsEnd}
 use Rattle.om_runner.specs.declared.config.Config.{Config}
 use Rattle.om_runner.specs.declared.fault.RunFault.{RunFault}
 use Rattle.om_runner.specs.declared.fault.RunFault.TheVariants.{Turns, GateShut, Memory, Fault, Load, StoreInUse, AnotherCluster, StoreMissing, NoThread}
-use Rattle.om_runner.specs.declared.cluster.EndOf.{EndOf}
+use Rattle.om_runner.specs.declared.starting.EndOf.{EndOf}
 use Rattle.om_runner.specs.declared.results.Finished.{Finished}
-use Rattle.om_runner.specs.declared.cluster.Turned.{Turned}
-use Rattle.om_runner.specs.declared.cluster.Turned.TheVariants.{On, Over}
+use Rattle.om_runner.specs.declared.turns.Turned.{Turned}
+use Rattle.om_runner.specs.declared.turns.Turned.TheVariants.{On, Over}
 use Rattle.om_runner.specs.steps.Network.{Lines}
 use Rattle.om_runner.specs.steps.Nodes.{Member}
 use Rattle.om_runner.specs.steps.Places.{IsLanded, member_of}

@@ -1,8 +1,8 @@
 -- Whose place it is.
 use Rattle.std.specs.Prelude.{◌≡◌, false}
 use Rattle.om_runner.specs.steps.Nodes.{Member}
-use Rattle.om_runner.specs.declared.worker.WorkerState.{WorkerState}
-use Rattle.om_runner.specs.declared.worker.WorkerState.TheVariants.{Up, Called, In, Failed, Down, Over}
+use Rattle.om_runner.specs.declared.worker_state.WorkerState.{WorkerState}
+use Rattle.om_runner.specs.declared.worker_state.WorkerState.TheVariants.{Up, Called, In, Failed, Down, Over}
 
 -- the member whose place it is
 abbrev pub member_of : {J S : Type 0} → WorkerState J S → Member

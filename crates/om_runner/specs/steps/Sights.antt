@@ -3,8 +3,8 @@ use Rattle.om_process.specs.Core.{CoreState, move_of, status_of}
 use Rattle.om_observers.specs.declared.sight.Doing.{Doing}
 use Rattle.om_observers.specs.declared.sight.Doing.TheVariants as shown
 use Rattle.om_observers.specs.declared.sight.Sight.{Sight}
-use Rattle.om_runner.specs.declared.worker.WorkerState.{WorkerState}
-use Rattle.om_runner.specs.declared.worker.WorkerState.TheVariants.{Up, Called, In, Failed, Down, Over}
+use Rattle.om_runner.specs.declared.worker_state.WorkerState.{WorkerState}
+use Rattle.om_runner.specs.declared.worker_state.WorkerState.TheVariants.{Up, Called, In, Failed, Down, Over}
 
 -- what a process does that stands there
 abbrev pub doing_at : {J S : Type 0} → WorkerState J S → Doing

@@ -14,10 +14,10 @@ use Rattle.om_runner.specs.declared.manager_link.Limits.{Limits}
 use Rattle.om_runner.specs.declared.manager_link.RoundOutcome.{RoundOutcome}
 use Rattle.om_runner.specs.declared.manager_link.ManagerPhase.{ManagerPhase}
 use Rattle.om_runner.specs.declared.manager_link.ManagerPhase.TheVariants as standings
-use Rattle.om_runner.specs.declared.worker.WorkerState.{WorkerState}
-use Rattle.om_runner.specs.declared.worker.WorkerState.TheVariants.{Up, Called, In, Failed, Down, Over}
-use Rattle.om_runner.specs.declared.worker.TurnOutcome.{TurnOutcome}
-use Rattle.om_runner.specs.declared.worker.TurnOutcome.TheVariants as steps
+use Rattle.om_runner.specs.declared.worker_state.WorkerState.{WorkerState}
+use Rattle.om_runner.specs.declared.worker_state.WorkerState.TheVariants.{Up, Called, In, Failed, Down, Over}
+use Rattle.om_runner.specs.declared.worker_state.TurnOutcome.{TurnOutcome}
+use Rattle.om_runner.specs.declared.worker_state.TurnOutcome.TheVariants as steps
 use Rattle.om_runner.specs.declared.idle.Pause.{Pause}
 use Rattle.om_runner.specs.declared.idle.Pause.TheVariants.{Woken, Slept}
 use Rattle.om_runner.specs.declared.idle.TheConstants.{IDLE_TURNS}

@@ -6,12 +6,13 @@ ghost use Rattle.om_process.specs.Trims.{trimmed};
 ghost use Rattle.om_runner.specs.steps.Storing.{HasStored};
 ghost use Rattle.om_runner.specs.steps.Turning.{HasStoredBy, is_multiple_of};
 
-use super::{ALL_RECEIPTS, TurnOutcome, Worker};
+use super::{ALL_RECEIPTS, Worker};
 use crate::flying::Landing;
 use crate::keeping::{Deposit, Due};
 use crate::manager_link::Limits;
 use crate::node::Node;
 use crate::worker_fault::WorkerFault;
+use crate::worker_state::TurnOutcome;
 use om_board::Naming;
 use om_stable::{Ledger, Stable};
 use om_tickets::Series;

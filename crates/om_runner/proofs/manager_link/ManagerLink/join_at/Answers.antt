@@ -6,7 +6,7 @@ use Rattle.om_runner.proofs.manager_link.ManagerLink.join_at.Goals as goal
 
 pub returns-clause-joined : goal.returns-clause-joined
 returns-clause-joined g c =
-    let over = c.in_ok-hand_over.ensures in let m = c.hand_over.new.desk.board.now.manager in
+    let over = c.in_ok-hand_over.ensures in let m = c.hand_over.new.locked.board.now.manager in
     let core = c.hand_over.new.node.core in let after = c.join.new.self.board.now in let gathered = c.in_ok-join.field-0 in let pid = c.args.self.now.pid in
     record {
       handed_over = m;

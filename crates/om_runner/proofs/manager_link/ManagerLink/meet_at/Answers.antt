@@ -7,15 +7,15 @@ use Rattle.om_runner.proofs.manager_link.ManagerLink.meet_at.Goals as goal
 pub returns-clause-met : goal.returns-clause-met
 returns-clause-met g c =
     let over = c.in_ok-hand_over.ensures in let pruned = c.prune-limits in let asked = c.ask-standing in
-    let board = pruned.new.desk.board.now in let manager_link = c.args.self.now in
+    let board = pruned.new.locked.board.now in let manager_link = c.args.self.now in
     record {
-      handed_over = c.hand_over.new.desk.board.now.manager;
+      handed_over = c.hand_over.new.locked.board.now.manager;
       over = over.over;
       asked = board;
       with_checkpoint = asked_where _ _ _ pruned.ensures.asked c.requires.checkpoint;
       pruned = pruned.ensures.pruned;
       limits_are = subst (λ (p : ℕ). IfSome pruned.result (λ l. AreLimits board.manager p l)) over.pid pruned.ensures.limits;
-      unpruned = same_where_none pruned.result board c.hand_over.new.desk.board.now pruned.ensures.unpruned;
-      stands = subst (λ (p : ℕ). IsStanding board p manager_link.round c.args.ended asked.result asked.new.desk.board.now) over.pid
-          (subst (λ (r : ℕ). IsStanding board c.hand_over.new.self.pid r c.args.ended asked.result asked.new.desk.board.now) over.round asked.ensures);
+      unpruned = same_where_none pruned.result board c.hand_over.new.locked.board.now pruned.ensures.unpruned;
+      stands = subst (λ (p : ℕ). IsStanding board p manager_link.round c.args.ended asked.result asked.new.locked.board.now) over.pid
+          (subst (λ (r : ℕ). IsStanding board c.hand_over.new.self.pid r c.args.ended asked.result asked.new.locked.board.now) over.round asked.ensures);
     }

@@ -3,7 +3,7 @@ use Rattle.std.specs.Prelude.{IfOk}
 use Rattle.om_runner.specs.steps.Ends.{IsTurned}
 use Rattle.om_runner.specs.steps.Nodes.{Member}
 use Rattle.om_runner.specs.steps.Places.{member_of}
-use Rattle.om_runner.proofs.cluster.take_turn.Goals as goal
+use Rattle.om_runner.proofs.turns.take_turn.Goals as goal
 
 pub returns-in-Over-clause-turned : goal.returns-in-Over-clause-turned
 returns-in-Over-clause-turned g c =

@@ -8,7 +8,7 @@ use Rattle.om_runner.specs.steps.Network.{ArePuts, AreTakes}
 use Rattle.om_runner.specs.steps.Wiring.{HasEnds}
 use Rattle.om_runner.specs.steps.Ends.{IsPromised}
 use Rattle.om_runner.proofs.ReportLemmas.{any_default, each_more, ends_at, next_of}
-use Rattle.om_runner.proofs.cluster.start_all.Goals as goal
+use Rattle.om_runner.proofs.starting.start_all.Goals as goal
 
 pub loop-one-init : goal.loop-one-init
 loop-one-init g c =

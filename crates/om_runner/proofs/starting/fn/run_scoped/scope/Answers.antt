@@ -1,6 +1,6 @@
 use Rattle.std.proofs.Common.{◌≡◌, ◌<◌, rules, ap, vec_len, get_or}
 use Rattle.om_runner.proofs.FaultLemmas.{image_in, kept_end}
-use Rattle.om_runner.proofs.cluster.fn.run_scoped.scope.Goals as goal
+use Rattle.om_runner.proofs.starting.fn.run_scoped.scope.Goals as goal
 
 pub returns-in-Ok-join_promised : goal.returns-in-Ok-join_promised
 returns-in-Ok-join_promised g c =

@@ -1,6 +1,6 @@
 use Rattle.std.proofs.Common.{◌≡◌, ◌≤◌}
 use Rattle.om_runner.specs.steps.Places.{IsLanded, member_of}
-use Rattle.om_runner.proofs.cluster.turns_until_over.Given as goal
+use Rattle.om_runner.proofs.turns.turns_until_over.Given as goal
 
 abbrev pub invariant-loop-left : goal.invariant-loop-left
 invariant-loop-left g l = (l.worker.links ≡ l.fn.worker.links) × (member_of l.place ≡ member_of l.fn.place) × (l.left ≤ l.fn.turns) × IsLanded l.place

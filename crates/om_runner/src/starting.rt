@@ -1,0 +1,278 @@
+//! The threads of a cluster are started, and joined.
+
+ghost use Rattle.std.specs.Prelude.{◌≡◌, ◌<◌, ◌≤◌, ℕ, All, IfErr, IfOk, IfSome, Some, length, map, slice_get, slice_index_or, vec_capacity, vec_len};
+ghost use Rattle.om_interval.specs.declared.pid.TheConstants.{MAX_PROCESSES};
+ghost use Rattle.om_process.specs.Images.{program_of};
+ghost use Rattle.om_process.specs.declared.image.Image.{Image};
+ghost use Rattle.om_runner.specs.Reports.{IsFaultOf};
+ghost use Rattle.om_runner.specs.declared.fault.RunFault.TheVariants.{Memory};
+ghost use Rattle.om_runner.specs.steps.Ends.{AreEndsOf, AreOwnEnds, IsEndOf, IsOwnEnd, IsPromised};
+ghost use Rattle.om_runner.specs.steps.Nodes.{AreAlwaysClean};
+ghost use Rattle.om_runner.specs.steps.Wiring.{IsWired};
+
+use crate::cargo::Went;
+use crate::config::Config;
+use crate::fault::RunFault;
+use crate::flying::{FlightChannel, flight_channel, write_all};
+use crate::ground::{Beside, Cluster, stop_all};
+use crate::links::Links;
+use crate::network::Ends;
+use crate::opener::{Gate, Opener};
+use crate::results::Finished;
+use crate::starting::run_scoped;
+use crate::working::{Job, work_or_stop};
+use om_board::{Inbox, Naming, Pass};
+use om_interval::{MAX_PROCESSES, Pid};
+use om_process::Image;
+use om_stable::Stable;
+use om_tickets::{Opened, Series};
+use std::marker::{Brand, PhantomData};
+use std::sync::Wait;
+use std::thread;
+use std::thread::{Promise, PromisedHandle, Scope, Threads, join_promised};
+use std::time::Clock;
+
+// What the thread of a process promises: of which run, which image, which inboxes, which process and how many.
+#[derive(Drop)]
+pub(crate) struct EndOf<'a, S: Stable> {
+    plan: &'a Config,
+    image: &'a Image,
+    inboxes: &'a [Vec<Inbox>],
+    own: Pid,
+    n: usize,
+    store: PhantomData<S>,
+}
+
+impl<'a, K: Naming, S: Stable> Promise<Result<Finished<K, S>, RunFault>> for EndOf<'a, S> {
+    ghost kept_by = { λ p r. IfOk r (λ f. IsEndOf S.is_clean (program_of p.image.now) p.inboxes.now p.own p.n f)
+        × IsOwnEnd p.plan.now p.own r };
+}
+
+type Handle<'s, K, S> = PromisedHandle<Result<Finished<K, S>, RunFault>, EndOf<'s, S>>;
+
+// One process on a thread of the scope.
+fn start<
+    's,
+    E,
+    K: Naming + Send + Sync,
+    J: Series + Send + Sync + 's,
+    R: Threads + Wait + Clock + Sync,
+    G: Gate + Sync,
+    O: Opener<R> + Sync,
+>(
+    scope: &Scope<'s, E>,
+    cluster: &'s Cluster<'s, K, R, G, O>,
+    image: &'s Image,
+    job: Job<'s, K, J, O::Store>,
+) -> Option<Handle<'s, K, O::Store>>
+    requires program { slice_get K.programs job.links.own ≡ Some (program_of image.now) }
+    requires clean { K.OverClean → AreAlwaysClean O.Store.is_clean }
+    ensures plan { IfSome result (λ h. h.promise.plan.now ≡ cluster.entry.now.plan.now) }
+    ensures image { IfSome result (λ h. h.promise.image.now ≡ image.entry.now) }
+    ensures inboxes { IfSome result (λ h. h.promise.inboxes.now ≡ job.entry.links.lines) }
+    ensures own { IfSome result (λ h. h.promise.own ≡ job.entry.links.own) }
+    ensures n { IfSome result (λ h. h.promise.n ≡ K.cell.n) }
+{
+    let end = EndOf {
+        plan: cluster.plan,
+        image,
+        inboxes: job.links.inboxes(),
+        own: job.links.own(),
+        n: job.links.n(),
+        store: PhantomData,
+    };
+    scope
+        .spawn_with(
+            end,
+            move ||
+                requires program { slice_get K.programs job.links.own ≡ Some (program_of image.now) }
+                requires clean { K.OverClean → AreAlwaysClean O.Store.is_clean }
+            { work_or_stop(cluster, image, job) },
+        )
+        .ok()
+}
+
+// Starts, where stores are slow, a thread of the scope that writes the store of a process, and the way to it; None where it could not be made.
+fn started_line<
+    's,
+    E,
+    K: Naming + Send + Sync,
+    J: Series + Send + Sync + 's,
+    R: Threads + Wait + Clock + Sync,
+    G: Gate + Sync,
+    O: Opener<R> + Sync,
+>(
+    scope: &Scope<'s, E>,
+    cluster: &'s Cluster<'s, K, R, G, O>,
+    own: Pid,
+    opened: Opened<Went<O::Store>>,
+) -> Option<Option<FlightChannel<J, O::Store>>>
+    requires { opened.seen.book ≡ J.book }
+{
+    if !cluster.opener.is_slow() {
+        return Some(None);
+    }
+    let (rt, alloc) = (cluster.rt, cluster.alloc);
+    let bell = cluster.bells.get(own.index())?;
+    let Ok((line, far)) = flight_channel::<J, O::Store>(alloc, opened) else {
+        return None;
+    };
+    let writer = scope.spawn(move || write_all(rt, alloc, far, bell));
+    match writer {
+        Ok(_) => Some(Some(line)),
+        Err(_) => None,
+    }
+}
+
+// One process, and the thread that writes its store where that is slow. The book of its flights has a name of its own.
+fn start_apart<
+    's,
+    E,
+    K: Naming + Send + Sync,
+    J: Series + Send + Sync + 's,
+    R: Threads + Wait + Clock + Sync,
+    G: Gate + Sync,
+    O: Opener<R> + Sync,
+>(
+    scope: &Scope<'s, E>,
+    cluster: &'s Cluster<'s, K, R, G, O>,
+    image: &'s Image,
+    links: Links<'s>,
+    pass: Pass<K>,
+    opened: Opened<Went<O::Store>>,
+) -> Option<Handle<'s, K, O::Store>>
+    requires sized { links.n ≡ K.cell.n }
+    requires program { slice_get K.programs links.own ≡ Some (program_of image.now) }
+    requires clean { K.OverClean → AreAlwaysClean O.Store.is_clean }
+    requires book { opened.seen.book ≡ J.book }
+    ensures plan { IfSome result (λ h. h.promise.plan.now ≡ cluster.entry.now.plan.now) }
+    ensures image { IfSome result (λ h. h.promise.image.now ≡ image.entry.now) }
+    ensures inboxes { IfSome result (λ h. h.promise.inboxes.now ≡ links.entry.lines) }
+    ensures own { IfSome result (λ h. h.promise.own ≡ links.entry.own) }
+    ensures n { IfSome result (λ h. h.promise.n ≡ K.cell.n) }
+{
+    let line = started_line::<E, K, J, R, G, O>(scope, cluster, links.own(), opened)?;
+    start(scope, cluster, image, Job { links, pass, line })
+}
+
+// All processes, each on a thread of its own; None where a thread could not be made, and then all are stopped.
+fn start_all<
+    's,
+    E,
+    K: Naming + Send + Sync,
+    R: Threads + Wait + Clock + Sync,
+    G: Gate + Sync,
+    O: Opener<R> + Sync,
+>(
+    scope: &Scope<'s, E>,
+    cluster: &'s Cluster<'s, K, R, G, O>,
+    ends: Vec<Ends>,
+    mut passes: Vec<Pass<K>>,
+    mut handles: Vec<Handle<'s, K, O::Store>>,
+) -> Option<Vec<Handle<'s, K, O::Store>>>
+    requires few { K.cell.n ≤ MAX_PROCESSES }
+    requires images { length cluster.now.plan.now.images.items ≡ K.cell.n }
+    requires programs { K.programs ≡ map program_of cluster.now.plan.now.images.items }
+    requires clean { K.OverClean → AreAlwaysClean O.Store.is_clean }
+    requires wired { IsWired K.cell.n cluster.now.inboxes.now ends.items }
+    requires passes { vec_len passes ≡ K.cell.n }
+    requires none { vec_len handles ≡ 0 }
+    requires room { K.cell.n ≤ vec_capacity handles }
+    ensures long { IfSome result (λ v. vec_len v ≡ K.cell.n) }
+    ensures each { IfSome result (λ v. (i : ℕ) (a : Image) (h : _) → i < vec_len v
+        → IsPromised cluster.entry.now.plan.now (slice_index_or cluster.entry.now.plan.now.images.items i a)
+        cluster.entry.now.inboxes.now i K.cell.n
+        (slice_index_or v.items i h).promise) }
+{
+    for one in ends {
+        let Ends { puts, takes } = one;
+        let Some(pass) = passes.pop() else {
+            unreachable!()
+        };
+        let own = handles.len();
+        let links = Links::new(
+            Pid::at(own),
+            cluster.inboxes,
+            puts,
+            takes,
+            cluster.bells,
+            cluster.received,
+        );
+        let image = &cluster.plan.images[own];
+        let opened = Opened::new();
+        let Some(handle) = start_apart::<E, K, Brand, R, G, O>(
+            scope, cluster, image, links, pass, opened,
+        ) else {
+            stop_all(cluster);
+            return None;
+        };
+        handles.push_reserved(handle);
+    }
+    Some(handles)
+}
+
+// All processes, each on a thread of its own, and all joined; and what was beside them.
+pub(crate) fn run_scoped<
+    K: Naming + Send + Sync,
+    R: Threads + Wait + Clock + Sync,
+    G: Gate + Sync,
+    O: Opener<R> + Sync,
+    B: Beside<K, R>,
+>(
+    cluster: &Cluster<'_, K, R, G, O>,
+    ends: Vec<Ends>,
+    passes: Vec<Pass<K>>,
+    beside: B,
+) -> (
+    Result<Vec<Result<Finished<K, O::Store>, RunFault>>, RunFault>,
+    B,
+)
+    requires few { K.cell.n ≤ MAX_PROCESSES }
+    requires images { length cluster.now.plan.now.images.items ≡ K.cell.n }
+    requires programs { K.programs ≡ map program_of cluster.now.plan.now.images.items }
+    requires clean { K.OverClean → AreAlwaysClean O.Store.is_clean }
+    requires wired { IsWired K.cell.n cluster.now.inboxes.now ends.items }
+    requires passes { vec_len passes ≡ K.cell.n }
+    requires same { B.Becomes beside beside }
+    ensures long { IfOk result.0 (λ v. vec_len v ≡ K.cell.n) }
+    ensures each { IfOk result.0 (λ v. AreEndsOf O.Store.is_clean cluster.now.plan.now.images.items
+        cluster.now.inboxes.now K.cell.n v.items) }
+    ensures own { IfOk result.0 (λ v. AreOwnEnds cluster.now.plan.now K.cell.n v.items) }
+    ensures fault { IfErr result.0 (IsFaultOf K.cell.n) }
+    ensures beside { B.Becomes beside result.1 }
+{
+    thread::scope(
+        thread::scope_env(),
+        cluster.rt,
+        |scope| -> (
+            Result<Vec<Result<Finished<K, O::Store>, RunFault>>, RunFault>,
+            B,
+        )
+            requires few { K.cell.n ≤ MAX_PROCESSES }
+            requires images { length cluster.now.plan.now.images.items ≡ K.cell.n }
+            requires programs { K.programs ≡ map program_of cluster.now.plan.now.images.items }
+            requires clean { K.OverClean → AreAlwaysClean O.Store.is_clean }
+            requires wired { IsWired K.cell.n cluster.now.inboxes.now ends.items }
+            requires passes { vec_len passes ≡ K.cell.n }
+            requires same { B.Becomes beside beside }
+            ensures long { IfOk result.0 (λ v. vec_len v ≡ K.cell.n) }
+            ensures each { IfOk result.0 (λ v. AreEndsOf O.Store.is_clean cluster.entry.now.plan.now.images.items
+                cluster.entry.now.inboxes.now K.cell.n v.items) }
+            ensures own { IfOk result.0 (λ v. AreOwnEnds cluster.entry.now.plan.now K.cell.n v.items) }
+            ensures fault { IfErr result.0 (IsFaultOf K.cell.n) }
+            ensures beside { B.Becomes beside result.1 }
+        {
+            let Ok(handles) = Vec::with_capacity(cluster.alloc, passes.len()) else {
+                return (Err(RunFault::Memory), beside);
+            };
+            let Some(handles) = start_all(scope, cluster, ends, passes, handles) else {
+                return (Err(RunFault::NoThread), beside);
+            };
+            let beside = beside.attend(cluster);
+            match join_promised(cluster.rt, handles) {
+                Ok(results) => (Ok(results), beside),
+                Err(_) => (Err(RunFault::Memory), beside),
+            }
+        },
+    )
+}
