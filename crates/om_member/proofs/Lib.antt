@@ -1,4 +1,4 @@
 mod Lists
 mod RowLemmas
-mod OutputLemmas
+pub mod OutputLemmas
 pub mod KeepLemmas

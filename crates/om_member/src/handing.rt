@@ -1,47 +1,42 @@
 //! Outputs that the manager is handed.
 
-ghost use Rattle.std.specs.Prelude.{◌<◌, length};
+ghost use Rattle.std.specs.Prelude.{◌<◌, length, map};
 ghost use Rattle.om_manager.specs.State.{held_by, process_count};
 ghost use Rattle.om_member.specs.Keeps.{Keeps};
 ghost use Rattle.om_member.specs.Handed.{AreHandedUpTo, AreTaken, IsHanded, MayHandIn, held_as, outputs_from};
 
+use crate::handed::HandedOutput;
 use crate::manager_access::ManagerAccess;
 use om_interval::Pid;
 use om_manager::{OutputError, OutputNote};
-use om_process::{Made, ProcCore};
+use om_process::ProcCore;
 use std::alloc::Global;
 
 // Hands an output in.
-fn hand_one<O: ManagerAccess>(
+fn hand_one<O: ManagerAccess, M: HandedOutput>(
     office: &mut O,
     alloc: Global,
     pid: Pid,
     round: u32,
-    output: &Made,
+    output: &M,
 ) -> Result<OutputNote, OutputError>
-    requires { O.Takes pid output.now.seq (held_as output.now) }
-    ensures { IsHanded (O.state office.old) round pid output.now result (O.state office.new) }
+    requires { O.Takes pid (M.made output.now).seq (held_as (M.made output.now)) }
+    ensures { IsHanded (O.state office.old) round pid (M.made output.now) result (O.state office.new) }
 {
-    office.note_output(
-        alloc,
-        pid,
-        round,
-        output.interval,
-        output.seq,
-        output.bytes.as_slice(),
-    )
+    let (interval, number) = (output.interval(), output.number());
+    office.note_output(alloc, pid, round, interval, number, output.bytes())
 }
 
 /// Hands outputs of a process in, in order, up to the first that is refused.
-pub fn hand_all<O: ManagerAccess>(
+pub fn hand_all<O: ManagerAccess, M: HandedOutput>(
     office: &mut O,
     alloc: Global,
     pid: Pid,
     round: u32,
-    outputs: &[Made],
+    outputs: &[M],
 ) -> Result<(), OutputError>
-    requires { AreTaken O.Takes pid outputs.now }
-    ensures { AreHandedUpTo (O.state office.old) round pid outputs.now result (O.state office.new) }
+    requires { AreTaken O.Takes pid (map M.made outputs.now) }
+    ensures { AreHandedUpTo (O.state office.old) round pid (map M.made outputs.now) result (O.state office.new) }
 {
     for i in 0..outputs.len() {
         hand_one(office, alloc, pid, round, &outputs[i])?;

@@ -4,17 +4,19 @@
 //! An act costs what the calls of the process, of its store and of the manager cost. A store is trusted as far as it says that it is
 //! clean.
 //!
-//! In an order of reading: `manager_access` (the manager as a process reaches it), `telling` (rows), `handing` (outputs), `batch` (what
+//! In an order of reading: `manager_access` (the manager as a process reaches it), `telling` (rows), `handed` and `handing` (outputs), `batch` (what
 //! is stored at once), `member` (a process with its store, and all that it does).
 #![tactic(auto)]
 
 pub use batch::Batch;
+pub use handed::HandedOutput;
 pub use handing::{hand_all, hand_in};
 pub use manager_access::ManagerAccess;
 pub use member::{Member, MemberState, NotIn, NotUp};
 pub use telling::{note, tell_all};
 
 mod batch;
+mod handed;
 mod handing;
 mod manager_access;
 mod member;

@@ -10,14 +10,12 @@ use Rattle.om_board.specs.Made.{IsMade, IsOutputOf}
 use Rattle.om_board.specs.Boards.{BoardState}
 use Rattle.om_manager.specs.Rounds.{Joining}
 use Rattle.om_manager.specs.declared.answers.Gathered.{Gathered}
-use Rattle.om_manager.specs.declared.answers.RecordError.{RecordError}
 use Rattle.om_manager.specs.State.{ManagerState, held_by}
 use Rattle.om_member.specs.Handed.{AreHanded, AreHandedUpTo, outputs_from}
 use Rattle.om_member.specs.Keeps.{Keeps}
 use Rattle.om_member.specs.Told.{AreTold, IsToldUpTo}
 use Rattle.om_member.proofs.KeepLemmas.{keeps_then}
-use Rattle.om_process.specs.declared.queues.Made.{Made}
-use Rattle.om_runner.specs.steps.Acts.{HasHandedOver, HasTakenUp}
+use Rattle.om_runner.specs.steps.Acts.{HasHandedOver}
 use Rattle.om_runner.specs.steps.Nodes.{AreAlwaysClean, Member, TakesFrom}
 
 -- what holds, holds where the result is well
@@ -38,16 +36,6 @@ handed_over before mid after p q count old new is_p told k same handing l =
       none_left = same ∙ ap (λ rows. with_pending old rows) (ap (λ n. drop n old.pending) told.all ∙ drop-length old.pending);
       keeps = keeps_then before mid after k l;
     }
-
--- all that was found was taken
-pub taken_up : (before mid after : ManagerState) (round p count : ℕ) (rows : List PendingRow) (made : List Made) (end : Result (Unit {0}) RecordError) → end ≡ Ok tt
-    → IsToldUpTo before round p rows count end mid → AreHandedUpTo mid round p made (Ok tt) after → HasTakenUp before round p rows made after
-taken_up before mid after round p count rows made end is telling handed =
-    let told = subst (λ e. IsToldUpTo before round p rows count e mid) is telling in (
-      mid,
-      subst (λ l. AreTold before round p l mid) (ap (λ n. take n rows) told.all ∙ take-length rows) told.told,
-      subst (λ l. AreHanded mid round p l after) (ap (λ n. take n made) handed.all ∙ take-length made) handed.handed,
-    )
 
 -- a process joins in its round, with its interval
 pub joined_in : (m after : ManagerState) (p r x : ℕ) (g : Gathered) (c d : CoreState) → d ≡ c → r ≡ d.round → x ≡ d.now.interval → Joining m p r x (Ok g) after → Joining m p c.round c.now.interval (Ok g) after

@@ -3,8 +3,9 @@
 ghost use Rattle.std.specs.Prelude.{◌≡◌, ◌≢◌, ◌<◌, ◌↔◌, ◌⊎◌, [], Any, IfNone, IfOk, IfSome, IsTrue, OnOk, Some, false, is_some, length, slice_get};
 ghost use Rattle.om_board.specs.Boards.{IsBoard};
 ghost use Rattle.om_member.specs.Handed.{outputs_from};
+ghost use Rattle.om_take_up.specs.TakenUp.{HasTakenUp};
 ghost use Rattle.om_runner.specs.steps.Nodes.{AreAlwaysClean};
-ghost use Rattle.om_runner.specs.steps.Acts.{AreAllOf, AreLimits, HasDeclared, HasHandedOver, HasHeard, HasJoined, HasMet, HasOffered, HasPruned, HasRefused, HasReleasedAnother, HasTakenUp, HasWaited, HasWithdrawn, IsStanding, UnderLock};
+ghost use Rattle.om_runner.specs.steps.Acts.{AreAllOf, AreLimits, HasDeclared, HasHandedOver, HasHeard, HasJoined, HasMet, HasOffered, HasPruned, HasRefused, HasReleasedAnother, HasWaited, HasWithdrawn, IsStanding, UnderLock};
 
 use crate::harvest::Harvest;
 use crate::locked_board::LockedBoard;
@@ -12,10 +13,11 @@ use crate::node::Node;
 use crate::worker_fault::WorkerFault;
 use om_board::{Board, Front, Naming, Pass, Shared};
 use om_interval::{Bounds, Pid, Starts, Verdict};
-use om_member::{ManagerAccess, hand_all, tell_all};
+use om_member::ManagerAccess;
 use om_observers::Diary;
 use om_process::{Made, PendingRow, ProcCore};
 use om_stable::Stable;
+use om_take_up::take_up;
 use om_tickets::Series;
 use std::alloc::Global;
 use std::sync::atomic::Ordering::SeqCst;
@@ -419,9 +421,7 @@ impl<'a, K: Naming> ManagerLink<'a, K> {
     {
         // The look tells what holds of every board.
         let _ = locked.board.manager();
-        let (_, end) = tell_all(locked, alloc, self.pid, self.round, rows);
-        end?;
-        hand_all(locked, alloc, self.pid, self.round, outputs)?;
+        take_up(locked, alloc, self.pid, self.round, rows, outputs)?;
         Ok(())
     }
 

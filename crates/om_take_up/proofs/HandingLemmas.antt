@@ -1,21 +1,42 @@
 -- Outputs that are handed in one after another.
-use Rattle.std.proofs.Common.{◌≡◌, ◌≢◌, ◌⊎◌, inl, inr, ℕ, zero, suc, ◌+◌, ◌<◌, ◌≤◌, List, [], ◌∷◌, ◌++◌, length, take, set, map, get_or, Some, Ok, Err, refl, sym, ap, ◌∙◌, subst, arith}
+use Rattle.std.proofs.Common.{◌≡◌, ◌≢◌, ◌⊎◌, inl, inr, ℕ, zero, suc, ◌+◌, ◌<◌, ◌≤◌, List, [], ◌∷◌, ◌++◌, length, take, set, map, get_or, Some, Ok, Err, Result, refl, sym, ap, ◌∙◌, subst, arith, zero-add}
 use Rattle.std.specs.Prelude.{All, nat_le, slice_get, slice_index, slice_index_or}
+use Rattle.std.proofs.Math.Seq.{take-length}
 use Rattle.std.proofs.lemmas.List.{get_or-map, get_or-take, get_or_default, length-map, length-take-le}
 use Rattle.std.proofs.lemmas.List.Elements.{All-map}
 use Rattle.std.proofs.lemmas.List.Kept.{AllPairs-filter}
 use Rattle.om_manager.specs.Notes.{IsDifferent, NotesOutput, with_output}
-use Rattle.om_manager.specs.Outputs.{AreRising, HeldOutput, held_of}
+use Rattle.om_manager.specs.Outputs.{AreNumbered, AreRising, HeldOutput, held_of}
 use Rattle.om_manager.specs.Sound.{IsManager}
 use Rattle.om_manager.specs.State.{ManagerState, held_by, process_count, released_by}
 use Rattle.om_manager.specs.declared.answers.OutputError.{OutputError}
 use Rattle.om_manager.specs.declared.answers.OutputError.TheVariants as refused
 use Rattle.om_manager.specs.declared.answers.OutputNote.{OutputNote}
 use Rattle.om_manager.specs.declared.answers.OutputNote.TheVariants.{Held, Known, Released}
+use Rattle.om_manager.specs.declared.answers.RecordError.{RecordError}
 use Rattle.om_manager.specs.declared.output_log.Output.{Output}
-use Rattle.om_take_up.specs.Anew.{HoldsNone}
-use Rattle.om_take_up.specs.steps.Failing.{HoldReleased, Holds}
+use Rattle.om_member.specs.Handed.{AreHanded, AreHandedUpTo, held_as, made_of}
+use Rattle.om_member.specs.Told.{AreTold, IsToldUpTo}
+use Rattle.om_process.specs.declared.queues.Made.{Made}
+use Rattle.om_process.specs.declared.row.PendingRow.{PendingRow}
+use Rattle.om_take_up.specs.TakenUp.{HasTakenUp}
+use Rattle.om_take_up.specs.steps.Handing.{Holds}
 
+-- ---- all rows were told, and all outputs handed in
+pub all_told : (before mid : ManagerState) (round p count : ℕ) (rows : List PendingRow) (end : Result (Unit {0}) RecordError) → end ≡ Ok tt → IsToldUpTo before round p rows count end mid → AreTold before round p rows mid
+all_told before mid round p count rows end is telling =
+    let told = subst (λ e. IsToldUpTo before round p rows count e mid) is telling in
+    subst (λ l. AreTold before round p l mid) (ap (λ n. take n rows) told.all ∙ take-length rows) told.told
+
+pub all_taken : (before mid after : ManagerState) (round p count : ℕ) (rows : List PendingRow) (made : List Made) (end : Result (Unit {0}) RecordError) → end ≡ Ok tt
+    → IsToldUpTo before round p rows count end mid → AreHandedUpTo mid round p made (Ok tt) after → HasTakenUp before round p rows made after
+all_taken before mid after round p count rows made end is telling handed = (
+  mid,
+  all_told before mid round p count rows end is telling,
+  subst (λ l. AreHanded mid round p l after) (ap (λ n. take n made) handed.all ∙ take-length made) handed.handed,
+)
+
+-- ---- one output
 either : (q p : ℕ) → (q ≡ p) ⊎ (q ≢ p)
 either q p = grind arith
 
@@ -53,24 +74,90 @@ one_held old m new p round seq outputs o Known sound h is n = absurd (beyond (he
 one_held old m new p round seq outputs o Released sound h is n = with_one old m new p outputs o sound h n.0.current.known n.2
 one_held old m new p round seq outputs o Held sound h is n = with_one old m new p outputs o sound h n.0.current.known n.2
 
+-- ---- outputs one after another
+-- outputs under the numbers from this one on
+abbrev AreNumberedFrom : ℕ → List Made → Type 0
+AreNumberedFrom seq [] = Unit {0}
+AreNumberedFrom seq (m ∷ ms) = (m.seq ≡ seq) × AreNumberedFrom (seq + 1) ms
+
+numbered_take : (seq count : ℕ) (ms : List Made) → AreNumberedFrom seq ms → AreNumberedFrom seq (take count ms)
+numbered_take seq zero ms n = tt
+numbered_take seq (suc count) [] n = tt
+numbered_take seq (suc count) (m ∷ ms) n = (n.0, numbered_take (seq + 1) count ms n.1)
+
+numbered_at : (seq i : ℕ) (ms : List Made) (m : Made) → AreNumberedFrom seq ms → slice_get ms i ≡ Some m → m.seq ≡ seq + i
+numbered_at seq i [] m n at = cc
+numbered_at seq zero (d ∷ ms) m n at = let same : d ≡ m = cc in ap (λ (x : Made). x.seq) (sym same) ∙ n.0 ∙ none seq
+  where
+    none : (k : ℕ) → k ≡ k + 0
+    none k = omega arith
+numbered_at seq (suc i) (d ∷ ms) m n at = numbered_at (seq + 1) i ms m n.1 at ∙ next seq i
+  where
+    next : (k i : ℕ) → (k + 1) + i ≡ k + suc i
+    next k i = omega arith
+
+released_numbered : (seq : ℕ) (xs : List Output) → ((i : ℕ) (d : Output) → i < length xs → (slice_index_or xs i d).seq ≡ seq + i) → AreNumberedFrom seq (map made_of xs)
+released_numbered seq [] all = tt
+released_numbered seq (x ∷ xs) all = (first, released_numbered (seq + 1) xs (λ i d lt. all (suc i) d (omega arith) ∙ next seq i))
+  where
+    first : x.seq ≡ seq
+    first = all 0 x (omega arith) ∙ none seq
+      where
+        none : (k : ℕ) → k + 0 ≡ k
+        none k = omega arith
+
+    next : (k i : ℕ) → k + suc i ≡ (k + 1) + i
+    next k i = omega arith
+
+append_nil : (xs : List HeldOutput) → xs ++ [] ≡ xs
+append_nil [] = refl
+append_nil (x ∷ xs) = ap (λ l. x ∷ l) (append_nil xs)
+
+append_one : (xs ys : List HeldOutput) (y : HeldOutput) → (xs ++ y ∷ []) ++ ys ≡ xs ++ y ∷ ys
+append_one [] ys y = refl
+append_one (x ∷ xs) ys y = ap (λ l. x ∷ l) (append_one xs ys y)
+
+length_one : (xs : List HeldOutput) (y : HeldOutput) → length xs + 1 ≡ length (xs ++ y ∷ [])
+length_one [] y = refl
+length_one (x ∷ xs) y = ap suc (length_one xs y)
+
+all_held : (old m new : ManagerState) (p round : ℕ) (xs : List HeldOutput) (ms : List Made) → Holds old p xs m → AreNumberedFrom (length xs) ms → AreHanded m round p ms new → Holds old p (xs ++ map held_as ms) new
+all_held old m new p round xs [] h n same = subst (λ l. Holds old p l new) (sym (append_nil xs)) (subst (Holds old p xs) (sym same) h)
+all_held old m new p round xs (d ∷ ms) h n handed =
+    let mid = handed.0 in let one = handed.2 in
+    let next = one_held old m mid p round d.seq xs (held_as d) handed.1 one.keeps.sound h n.0 one.answers in
+    subst (λ l. Holds old p l new) (append_one xs (map held_as ms) (held_as d))
+    (all_held old mid new p round (xs ++ held_as d ∷ []) ms next (subst (λ k. AreNumberedFrom k ms) (length_one xs (held_as d)) n.1) handed.3)
+
 -- ---- an output is refused for memory alone
+at_get : {A : Type 0} (xs : List A) (i : ℕ) (x : A) → slice_get xs i ≡ Some x → (i < length xs) × (x ≡ get_or xs i x)
+at_get [] i x at = cc
+at_get (y ∷ xs) zero x at = (omega arith, cc)
+at_get (y ∷ xs) (suc i) x at = let rest = at_get xs i x at in (let lt = rest.0 in omega arith, rest.1)
+
+long_taken : (ms : List Made) (i : ℕ) (m : Made) → slice_get ms i ≡ Some m → i ≡ length (map held_as (take i ms))
+long_taken [] i m at = cc
+long_taken (d ∷ ms) zero m at = refl
+long_taken (d ∷ ms) (suc i) m at = ap suc (long_taken ms i m at)
+
 -- none of those before is later
-pub latest : (xs : List Output) (i : ℕ) (x : Output) → AreRising (map held_of xs) → i < length xs → x ≡ get_or xs i x → All (λ held. held.interval ≤ x.interval) (map held_of (take i xs))
-latest xs i x rising lt is =
-    All-map (λ held. held.interval ≤ x.interval) held_of (take i xs)
+latest : (ms : List Made) (i : ℕ) (m : Made) → AreRising (map held_as ms) → slice_get ms i ≡ Some m → All (λ held. held.interval ≤ m.interval) (map held_as (take i ms))
+latest ms i m rising at =
+    let there = at_get ms i m at in let lt = there.0 in let is = there.1 in
+    All-map (λ held. held.interval ≤ m.interval) held_as (take i ms)
     (λ k d small.
-    let many = length-take-le i xs (omega arith) in
+    let many = length-take-le i ms (omega arith) in
     let before : k < i = omega arith in
-    let le = rising k i (held_of x) before (let long = length-map xs held_of in omega arith) in
-    let low : (get_or (map held_of xs) k (held_of x)).interval ≡ (get_or (take i xs) k d).interval =
-    ap (λ (h : HeldOutput). h.interval) (get_or-map held_of xs k x (held_of x) (omega arith)) ∙ ap (λ (o : Output). o.interval) (sym (get_or-take i xs k x before) ∙ get_or_default (take i xs) k x d small) in
-    let high : (get_or (map held_of xs) i (held_of x)).interval ≡ x.interval = ap (λ (h : HeldOutput). h.interval) (get_or-map held_of xs i x (held_of x) lt) ∙ ap (λ (o : Output). o.interval) (sym is) in
+    let le = rising k i (held_as m) before (let long = length-map ms held_as in omega arith) in
+    let low : (get_or (map held_as ms) k (held_as m)).interval ≡ (get_or (take i ms) k d).interval =
+    ap (λ (h : HeldOutput). h.interval) (get_or-map held_as ms k m (held_as m) (omega arith)) ∙ ap (λ (o : Made). o.interval) (sym (get_or-take i ms k m before) ∙ get_or_default (take i ms) k m d small) in
+    let high : (get_or (map held_as ms) i (held_as m)).interval ≡ m.interval = ap (λ (h : HeldOutput). h.interval) (get_or-map held_as ms i m (held_as m) lt) ∙ ap (λ (o : Made). o.interval) (sym is) in
     omega arith)
 
-pub released_rising : (m : ManagerState) (p : ℕ) (xs : List Output) → IsManager m → p < process_count m → map held_of xs ≡ released_by m p → AreRising (map held_of xs)
-released_rising m p xs sound lt is = subst AreRising (sym is) (AllPairs-filter (λ early late. early.interval ≤ late.interval) (λ o. nat_le o.interval (slice_index m.recovery p)) (held_by m p) (sound.rising p lt))
+released_rising : (m : ManagerState) (p : ℕ) → IsManager m → p < process_count m → AreRising (released_by m p)
+released_rising m p sound lt = AllPairs-filter (λ early late. early.interval ≤ late.interval) (λ o. nat_le o.interval (slice_index m.recovery p)) (held_by m p) (sound.rising p lt)
 
-pub for_memory : (old m new : ManagerState) (p round seq : ℕ) (outputs : List HeldOutput) (o : HeldOutput) (fault : OutputError) → Holds old p outputs m → p < process_count old → round ≡ old.round → seq ≡ length outputs → All (λ held. held.interval ≤ o.interval) outputs
+for_memory : (old m new : ManagerState) (p round seq : ℕ) (outputs : List HeldOutput) (o : HeldOutput) (fault : OutputError) → Holds old p outputs m → p < process_count old → round ≡ old.round → seq ≡ length outputs → All (λ held. held.interval ≤ o.interval) outputs
     → NotesOutput m p round seq o (Err fault) new → fault ≡ refused.Memory
 for_memory old m new p round seq outputs o fault h lt current is last n = by fault n
   where
@@ -93,31 +180,25 @@ for_memory old m new p round seq outputs o fault h lt current is last n = by fau
     by (refused.Gap next) n = let many = long in let told = n.1 in let gap = n.2 in absurd (omega arith)
     by refused.Memory n = refl
 
--- the outputs that are handed in, one more
-pub take_next : (xs : List Output) (i : ℕ) (x : Output) → i < length xs → x ≡ get_or xs i x → map held_of (take i xs) ++ held_of x ∷ [] ≡ map held_of (take (i + 1) xs)
-take_next [] i x lt is = absurd (omega arith)
-take_next (y ∷ xs) zero x lt is = ap (λ z. held_of z ∷ []) is
-take_next (y ∷ xs) (suc i) x lt is = ap (λ l. held_of y ∷ l) (take_next xs i x (omega arith) is) ∙ ap (λ k. map held_of (take k (y ∷ xs))) (next i)
-  where
-    next : (i : ℕ) → suc (i + 1) ≡ suc i + 1
-    next i = omega arith
+-- what is released, as its process made it
+pub held_made : (xs : List Output) → map held_as (map made_of xs) ≡ map held_of xs
+held_made [] = refl
+held_made (x ∷ xs) = ap (λ l. held_of x ∷ l) (held_made xs)
 
-pub long_taken : (xs : List Output) (i : ℕ) → i < length xs → i ≡ length (map held_of (take i xs))
-long_taken [] i lt = absurd (omega arith)
-long_taken (x ∷ xs) zero lt = refl
-long_taken (x ∷ xs) (suc i) lt = ap suc (long_taken xs i (omega arith))
+module _ (from m : ManagerState) (p round : ℕ) (xs : List Output) (sound : IsManager m) (none : held_by m p ≡ []) (is : map held_of xs ≡ released_by from p) (numbered : AreNumbered xs) where
+  from_zero : AreNumberedFrom 0 (map made_of xs)
+  from_zero = released_numbered 0 xs (λ i d lt. numbered i d lt ∙ sym (zero-add i))
 
--- ---- processes in order
-pub none_released : (from m : ManagerState) → IsManager m → HoldsNone m → HoldReleased from m 0 m
-none_released from m sound none = record { sound = sound; others = refl; held = λ p lt. absurd (omega arith); none = λ p le. none p }
+  -- what another manager released is handed in, and all of it is held
+  pub released_held : (new : ManagerState) → AreHanded m round p (map made_of xs) new → Holds m p (released_by from p) new
+  released_held new handed = subst (λ l. Holds m p l new) (held_made xs ∙ is) (all_held m m new p round [] (map made_of xs) (none_held m p sound none) from_zero handed)
 
-pub one_released : (from old m new : ManagerState) (p : ℕ) → HoldReleased from old p m → Holds m p (released_by from p) new → HoldReleased from old (p + 1) new
-one_released from old m new p r h = record {
-  sound = h.sound;
-  others = h.others ∙ ap (λ (k : ManagerState). record k { outputs = new.outputs }) r.others;
-  held = λ q lt. elim (either q p) [
-    | inl is ↦ ap (held_by new) is ∙ h.here ∙ ap (released_by from) (sym is)
-    | inr other ↦ h.there q other ∙ r.held q (omega arith)
-  ];
-  none = λ q le. h.there q (λ is. absurd (omega arith)) ∙ r.none q (omega arith);
-}
+  -- and it is refused for memory alone
+  pub released_for_memory : (new : ManagerState) (fault : OutputError) → IsManager from → p < process_count from → p < process_count m → round ≡ m.round → AreHandedUpTo m round p (map made_of xs) (Err fault) new → fault ≡ refused.Memory
+  released_for_memory new fault old here lt current u =
+      let ms = map made_of xs in let o = u.refused.0 in let at = u.refused.1 in let n = u.refused.2 in
+      let held = all_held m m new p round [] (take u.count ms) (none_held m p sound none) (numbered_take 0 u.count ms from_zero) u.handed in
+      let rising : AreRising (map held_as ms) = subst AreRising (sym (held_made xs ∙ is)) (released_rising from p old here) in
+      for_memory m new new p round o.seq (map held_as (take u.count ms)) (held_as o) fault held lt current
+      (numbered_at 0 u.count ms o from_zero at ∙ zero-add u.count ∙ long_taken ms u.count o at)
+      (latest ms u.count o rising at) n

@@ -1,20 +1,11 @@
--- What a manager is told that starts anew: what was put out before, and that each process failed.
-use Rattle.std.specs.Prelude.{◌≡◌, ◌≢◌, ℕ, ◌<◌, List, [], None}
+-- What a manager is told that starts anew, beside what stores held: that each process failed.
+use Rattle.std.specs.Prelude.{◌≡◌, ◌≢◌, ℕ, ◌<◌, List, None}
 use Rattle.om_manager.specs.Gatherings.{AreAllIn, presence_of, presences_of}
 use Rattle.om_manager.specs.Rounds.{Finishes}
 use Rattle.om_manager.specs.Sound.{IsManager}
-use Rattle.om_manager.specs.State.{ManagerState, held_by, process_count, released_by}
+use Rattle.om_manager.specs.State.{ManagerState, process_count}
 use Rattle.om_manager.specs.declared.presence.Presence.{Presence}
 use Rattle.om_manager.specs.declared.presence.Presence.TheVariants.{Away, Failed}
-
--- it holds no outputs
-abbrev pub HoldsNone : ManagerState → Type 0
-HoldsNone m = (p : ℕ) → held_by m p ≡ []
-
--- it holds the outputs of each process that another manager released, under their numbers; all else stays
-pub record HasReleasedOf (from old new : ManagerState) : Type 0 where
-  pub held : (p : ℕ) → p < process_count old → held_by new p ≡ released_by from p
-  pub others : new ≡ record old { outputs = new.outputs }
 
 -- no process has joined or failed, and no round is finished
 pub record IsBefore (m : ManagerState) : Type 0 where

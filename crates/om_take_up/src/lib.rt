@@ -1,11 +1,10 @@
-//! A manager that starts anew: what it is told beside the rows of the stores. That is what was put out before, and that each process
-//! failed.
+//! A manager that starts anew: it is told of each process what its store held, and that it failed.
 //!
-//! A call costs what the calls of the manager cost: one for each output, or for each process.
+//! A call costs what the calls of the manager cost: one for each row and each output, or for each process.
 #![tactic(auto)]
 
 pub use failing::fail_all;
-pub use handing::hand_in_released;
+pub use taking::{TakeUpFault, take_up};
 
 mod failing;
-mod handing;
+mod taking;

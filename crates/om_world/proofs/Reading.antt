@@ -1,6 +1,5 @@
 -- A world whose stores are read, and whose rows a manager is told.
-use Rattle.std.proofs.Common.{◌≡◌, ◌≢◌, ℕ, ◌+◌, ◌<◌, List, length, take, map, set, Some, Bool, true, Ok, refl, sym, ap, ◌∙◌, subst, arith, length-set}
-use Rattle.std.proofs.lemmas.List.{take_all}
+use Rattle.std.proofs.Common.{◌≡◌, ◌≢◌, inl, inr, ℕ, ◌+◌, ◌<◌, List, [], length, map, set, Some, Bool, true, refl, sym, ap, ◌∙◌, subst, arith, length-set}
 use Rattle.std.specs.List.{AllByRecursion}
 use Rattle.std.specs.Prelude.{All, slice_get, slice_index_or}
 use Rattle.om_look.specs.Rows.{AreRowsOf}
@@ -9,38 +8,44 @@ use Rattle.om_look.specs.declared.rows.RowsFault.TheVariants as rows_faults
 use Rattle.om_format.specs.declared.message.Message.{Message}
 use Rattle.om_process.specs.Process.{Program}
 use Rattle.om_process.specs.declared.row.PendingRow.{PendingRow}
-use Rattle.om_recover.specs.Rows.{HasRow}
 use Rattle.om_recover.specs.declared.note.NoteError.TheVariants as notes
-use Rattle.om_recover.specs.declared.row.Row.{Row}
 use Rattle.om_stable.specs.Calls.{IsCleanCall, UsesStore}
 use Rattle.om_stable.specs.Content.{Content, nothing}
-use Rattle.om_member.specs.Told.{IsToldUpTo}
+use Rattle.om_member.specs.Handed.{made_of}
 use Rattle.om_member.specs.declared.member.Member.{Member}
+use Rattle.om_manager.specs.Outputs.{AreNumbered, HeldOutput, held_of}
 use Rattle.om_manager.specs.Sound.{IsManager}
-use Rattle.om_manager.specs.State.{ManagerState}
+use Rattle.om_manager.specs.State.{ManagerState, held_by, process_count, released_by}
+use Rattle.om_manager.specs.declared.output_log.Output.{Output}
 use Rattle.om_manager.specs.declared.answers.OutputError.{OutputError}
 use Rattle.om_manager.specs.declared.answers.OutputError.TheVariants as outputs
 use Rattle.om_manager.specs.declared.answers.RecordError.{RecordError}
 use Rattle.om_manager.specs.declared.answers.RecordError.TheVariants as records
+use Rattle.om_take_up.specs.TakenUp.{HasTakenUp}
+use Rattle.om_take_up.specs.declared.taking.TakeUpFault.{TakeUpFault}
+use Rattle.om_take_up.specs.declared.taking.TakeUpFault.TheVariants as take_ups
+use Rattle.om_take_up.specs.steps.Handing.{Holds}
+use Rattle.om_take_up.proofs.HandingLemmas.{released_held}
 use Rattle.om_world.specs.declared.entry.Entry.{Entry}
 use Rattle.om_world.specs.declared.event.Refusal.TheVariants as why
 use Rattle.om_world.specs.Changes.{HasFailed}
 use Rattle.om_world.specs.Disk.{IsSettled, held_in}
-use Rattle.om_world.specs.StoreRows.{first_row}
+use Rattle.om_world.specs.Started.{IsNew}
 use Rattle.om_world.specs.World.{Health, IsEmpty, IsKnown, WorldState, all_clean}
 use Rattle.om_world.specs.steps.Members.{content_in, core_in, health_in, health_of, place_in, round_in, seen, sound_in}
 use Rattle.om_world.specs.steps.Moves.{IsCalled, refusal_of_record}
-use Rattle.om_world.specs.steps.Restarting.{HasRead, HasToldStores, IsRefusal, refusal_of_rows}
+use Rattle.om_world.specs.steps.Restarting.{HasLearned, HasRead, HasRowsUpTo, HasToldStores, IsRefusal, IsToldRows, refusal_of_rows, refusal_of_take_up}
 use Rattle.om_world.specs.steps.Running.{refusal_of_output}
 use Rattle.om_world.specs.steps.Sound.{IsWorld, Sound}
+use Rattle.om_world.proofs.Beginning.{index_same}
 use Rattle.om_world.proofs.Disk.{index_at}
 use Rattle.om_world.proofs.FailureCounts.{called_counts, counted, counts_stay, counts_then, failed_after}
 use Rattle.om_world.proofs.Gaining.{sound_clean}
 use Rattle.om_world.proofs.Kept.{remade, shape_same}
-use Rattle.om_world.proofs.Lists.{clean_before, length-map, map_at, map_set, sound_at, sound_set}
+use Rattle.om_world.proofs.Lists.{clean_before, either, length-map, map_at, map_set, sound_at, sound_set}
 use Rattle.om_world.proofs.Noting.{over}
 use Rattle.om_world.proofs.Recording.{set_back}
-use Rattle.om_world.proofs.RowsTold.{AreAdded, are_added, no_rows, one_store, rows_same, rows_then}
+use Rattle.om_world.proofs.RowsTold.{AreAdded, are_added, no_rows, one_store}
 use Rattle.om_world.proofs.Seats.{called_in, restored}
 
 abbrev IsSame : Content → Content → Type 0
@@ -138,22 +143,54 @@ settled_after old mid r settled = subst IsSettled (sym r.others) settled
 pub failed_read : (old mid new : WorldState) (p : ℕ) → HasRead old mid → HasFailed mid p new → HasFailed old p new
 failed_read old mid new p r f = failed_after old.health mid.health new.health p r.counts f
 
-pub none_told : (w : WorldState) (m : ManagerState) → IsManager m → ((row : Row) → HasRow m.rows row → (row.pid < length w.programs) × (row ≡ first_row (length w.programs) row.pid)) → HasToldStores w m 0 w m
-none_told w m sound fresh = record { read = none_read w; told = rows_same m sound; rows = λ known. no_rows (length w.programs) (held_in w) m.rows fresh }
+-- ---- what a manager is told of one store after another
+learned_same : (m : ManagerState) → IsManager m → HasLearned m m
+learned_same m sound = record { sound = sound; size = refl; others = refl }
 
-pub one_told : (old mid new : WorldState) (first m next : ManagerState) (p count : ℕ) (rows : List PendingRow) → p < length old.programs → HasToldStores old first p mid m → HasRead mid new
-    → (IsKnown new → AreRowsOf p (length mid.programs) (held_in mid p) rows) → IsToldUpTo m 0 p rows count (Ok tt) next → HasToldStores old first (p + 1) new next
-one_told old mid new first m next p count rows lt t r are u =
-    let all = take_all count rows (let is = u.all in omega arith) in
-    let added : AreAdded m p rows next = subst (λ l. AreAdded m p l next) all (are_added m 0 p (take count rows) next t.told.sound u.told) in
+learned_then : (first m mid next : ManagerState) (p : ℕ) (outputs : List HeldOutput) → HasLearned first m → IsToldRows m mid → Holds mid p outputs next → HasLearned first next
+learned_then first m mid next p outputs t a h = record {
+  sound = h.sound;
+  size = ap process_count h.others ∙ a.size ∙ t.size;
+  others = h.others
+      ∙ ap (λ (k : ManagerState). record k { outputs = next.outputs }) a.others
+      ∙ ap (λ (k : ManagerState). record k { rows = mid.rows; recovery = mid.recovery; outputs = next.outputs; version = mid.version }) t.others
+      ∙ ap (λ (k : ManagerState). record first { rows = k.rows; recovery = k.recovery; outputs = k.outputs; version = k.version }) (sym h.others);
+}
+
+pub none_told : (w : WorldState) (m : ManagerState) → IsManager m → IsNew (length w.programs) m → HasToldStores w m 0 w m
+none_told w m sound fresh = record {
+  read = none_read w;
+  told = learned_same m sound;
+  rows = λ known. no_rows (length w.programs) (held_in w) m.rows (λ row has. (fresh.rows row).0 has);
+  held = λ p lt. absurd (omega arith);
+  none = λ p le. ap (λ l. slice_index_or l p []) fresh.outputs ∙ index_same (length w.programs) p [];
+}
+
+pub one_told : (old mid new : WorldState) (first m next : ManagerState) (p : ℕ) (rows : List PendingRow) (outputs : List Output) → p < length old.programs → HasToldStores old first p mid m → HasRead mid new
+    → (IsKnown new → AreRowsOf p (length mid.programs) (held_in mid p) rows) → map held_of outputs ≡ released_by new.manager p → AreNumbered outputs → HasTakenUp m 0 p rows (map made_of outputs) next
+    → HasToldStores old first (p + 1) new next
+one_told old mid new first m next p rows outputs lt t r are is numbered u =
+    let told = u.0 in
+    let added : AreAdded m p rows told = are_added m 0 p rows told t.told.sound u.1 in
+    let held : (q : ℕ) → held_by told q ≡ held_by m q = λ q. ap (λ (k : ManagerState). held_by k q) added.told.others in
+    let none : held_by told p ≡ [] = held p ∙ t.none p (omega arith) in
+    let h : Holds told p (released_by new.manager p) next = released_held new.manager told p 0 outputs added.told.sound none is numbered next u.2 in
+    let read = read_then old mid new t.read r in
+    let manager : new.manager ≡ old.manager = ap (λ (x : WorldState). x.manager) read.others in
     record {
-      read = read_then old mid new t.read r;
-      told = rows_then first m next t.told added.told;
+      read = read;
+      told = learned_then first m told next p (released_by new.manager p) t.told added.told h;
       rows = λ known.
           let before = known_read mid new r known in
           let many : length mid.programs ≡ length old.programs = ap (λ (x : WorldState). length x.programs) t.read.others in
-          one_store (length old.programs) p (held_in old) m next rows lt (t.rows before)
-          (subst (λ c. AreRowsOf p (length old.programs) c rows) (sym (held_same old mid t.read before p)) (subst (λ n. AreRowsOf p n (held_in mid p) rows) many (are known))) added;
+          subst (λ (k : ManagerState). HasRowsUpTo (p + 1) (length old.programs) (held_in old) k.rows) (sym h.others)
+          (one_store (length old.programs) p (held_in old) m told rows lt (t.rows before)
+          (subst (λ c. AreRowsOf p (length old.programs) c rows) (sym (held_same old mid t.read before p)) (subst (λ n. AreRowsOf p n (held_in mid p) rows) many (are known))) added);
+      held = λ q small. elim (either q p) [
+        | inl same ↦ ap (held_by next) same ∙ h.here ∙ ap (λ (k : ManagerState). released_by k p) manager ∙ ap (released_by old.manager) (sym same)
+        | inr other ↦ h.there q other ∙ held q ∙ t.held q (omega arith)
+      ];
+      none = λ q le. h.there q (λ same. absurd (omega arith)) ∙ held q ∙ t.none q (omega arith);
     }
 
 -- ---- why it stops
@@ -183,3 +220,7 @@ output_refusal (outputs.Stale told) = (IsRefusal.damaged refl, λ is. cc)
 output_refusal outputs.Differs = (IsRefusal.damaged refl, λ is. cc)
 output_refusal (outputs.Gap next) = (IsRefusal.damaged refl, λ is. cc)
 output_refusal outputs.Memory = (IsRefusal.memory refl, λ is. cc)
+
+pub taking_refusal : (fault : TakeUpFault) → IsRefusal (refusal_of_take_up fault) × (refusal_of_take_up fault ≢ why.Fault)
+taking_refusal (take_ups.Row fault) = record_refusal fault
+taking_refusal (take_ups.Output fault) = output_refusal fault

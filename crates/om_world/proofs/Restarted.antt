@@ -13,7 +13,7 @@ use Rattle.om_member.specs.declared.member.Member.{Member}
 use Rattle.om_manager.specs.Gatherings.{AreAllIn, presences_of}
 use Rattle.om_manager.specs.Sound.{IsManager, KeepsReleased}
 use Rattle.om_manager.specs.State.{ManagerState, held_by, process_count, released_by}
-use Rattle.om_take_up.specs.Anew.{EachFailed, HasReleasedOf, HoldsNone, IsBefore, OnlyFailed}
+use Rattle.om_take_up.specs.Anew.{EachFailed, IsBefore, OnlyFailed}
 use Rattle.om_world.specs.declared.entry.Entry.{Entry}
 use Rattle.om_world.specs.declared.event.Answer.TheVariants as answers
 use Rattle.om_world.specs.declared.event.Event.{Event}
@@ -30,7 +30,7 @@ use Rattle.om_world.specs.StoreRows.{HasRowsOf}
 use Rattle.om_world.specs.World.{Health, IsKnown, WorldState, all_clean, recovered}
 use Rattle.om_world.specs.steps.Members.{content_in, core_in, downed, health_in, place_in, round_in, seen, sound_in}
 use Rattle.om_world.specs.steps.Moves.{Keeps}
-use Rattle.om_world.specs.steps.Restarting.{HasRead, HasToldStores, IsAnew, IsRefusal, IsToldRows}
+use Rattle.om_world.specs.steps.Restarting.{HasLearned, HasRead, HasToldStores, IsAnew, IsRefusal}
 use Rattle.om_world.specs.steps.Sound.{HasShape, IsWorld, Sound}
 use Rattle.om_world.proofs.Beginning.{index_same}
 use Rattle.om_world.proofs.Keeping.{keeps_same}
@@ -181,38 +181,34 @@ restart_refused old mid refusal (IsRefusal.damaged is) r failed whole known = ab
 restart_refused old mid refusal (IsRefusal.memory is) r failed whole known = subst (λ x. Refused old Event.Restart x mid) (sym is) (same_but old mid r known)
 
 -- ---- the manager that is made
--- what is told of a new manager, to which rows of stores and outputs were told
-pub told_first : (n : ℕ) (first m told : ManagerState) → IsNew n first → IsToldRows first m → told ≡ record m { outputs = told.outputs } → IsFirst n told
-told_first n first m told fresh t o = record {
-  size = ap process_count o ∙ t.size ∙ ap length fresh.recovery ∙ length-replicate n 0;
-  starts = ap (λ (k : ManagerState). k.starts) o ∙ ap (λ (k : ManagerState). k.starts) t.others ∙ fresh.starts;
-  round = ap (λ (k : ManagerState). k.round) o ∙ ap (λ (k : ManagerState). k.round) t.others ∙ fresh.round;
+pub told_first : (n : ℕ) (first told : ManagerState) → IsNew n first → HasLearned first told → IsFirst n told
+told_first n first told fresh t = record {
+  size = t.size ∙ ap length fresh.recovery ∙ length-replicate n 0;
+  starts = ap (λ (k : ManagerState). k.starts) t.others ∙ fresh.starts;
+  round = ap (λ (k : ManagerState). k.round) t.others ∙ fresh.round;
 }
 
-pub told_none : (n : ℕ) (first m : ManagerState) → IsNew n first → IsToldRows first m → HoldsNone m
-told_none n first m fresh t p = ap (λ (k : ManagerState). held_by k p) t.others ∙ ap (λ l. slice_index_or l p []) fresh.outputs ∙ index_same n p []
-
-pub told_before : (n : ℕ) (first m told : ManagerState) → IsNew n first → IsToldRows first m → told ≡ record m { outputs = told.outputs } → IsBefore told
-told_before n first m told fresh t o = record {
-  gathering = ap (λ (k : ManagerState). k.gathering) o ∙ ap (λ (k : ManagerState). k.gathering) t.others ∙ fresh.gathering;
-  round = ap (λ (k : ManagerState). k.round) o ∙ ap (λ (k : ManagerState). k.round) t.others ∙ fresh.round;
+pub told_before : (n : ℕ) (first told : ManagerState) → IsNew n first → HasLearned first told → IsBefore told
+told_before n first told fresh t = record {
+  gathering = ap (λ (k : ManagerState). k.gathering) t.others ∙ fresh.gathering;
+  round = ap (λ (k : ManagerState). k.round) t.others ∙ fresh.round;
 }
 
-pub made_anew : (old mid : WorldState) (first m told final : ManagerState) → IsNew (length old.programs) first → HasToldStores old first (length old.programs) mid m → HasReleasedOf mid.manager m told → IsManager told → IsBelow mid.manager.recovery told.recovery → EachFailed told final → IsManager final
+pub made_anew : (old mid : WorldState) (first told final : ManagerState) → IsNew (length old.programs) first → HasToldStores old first (length old.programs) mid told → IsBelow mid.manager.recovery told.recovery → EachFailed told final → IsManager final
     → IsAnew mid final
-made_anew old mid first m told final fresh s o sound kept failed finished =
+made_anew old mid first told final fresh s kept failed finished =
     let programs : mid.programs ≡ old.programs = ap (λ (x : WorldState). x.programs) s.read.others in
     let many : length mid.programs ≡ length old.programs = ap length programs in
     record {
       told = told;
-      first = subst (λ n. IsFirst n told) (sym many) (told_first (length old.programs) first m told fresh s.told o.others);
+      first = subst (λ n. IsFirst n told) (sym many) (told_first (length old.programs) first told fresh s.told);
       rows = λ known.
-          let all = all_stores (length old.programs) (held_in old) m.rows (s.rows known) in
-          let here = same_rows (length old.programs) (held_in old) (held_in mid) m.rows (held_same old mid s.read known) all in
-          subst (λ n. HasRowsOf n (held_in mid) told.rows) (sym many) (subst (λ (k : ManagerState). HasRowsOf (length old.programs) (held_in mid) k.rows) (sym o.others) here);
-      sound = sound;
+          let all = all_stores (length old.programs) (held_in old) told.rows (s.rows known) in
+          let here = same_rows (length old.programs) (held_in old) (held_in mid) told.rows (held_same old mid s.read known) all in
+          subst (λ n. HasRowsOf n (held_in mid) told.rows) (sym many) here;
+      sound = s.told.sound;
       kept = kept;
-      outputs = λ p lt. o.held p (let size = s.told.size in let is : process_count first ≡ length old.programs = ap length fresh.recovery ∙ length-replicate (length old.programs) 0 in omega arith);
+      outputs = λ p lt. s.held p (omega arith) ∙ ap (λ (x : WorldState). released_by x.manager p) (sym s.read.others);
       failed = failed;
       finished = finished;
     }

@@ -32,10 +32,10 @@ told_same old new (Noted true) rows state is = is ∙ ap (λ (k : ManagerState).
 told_same old new (Noted false) rows state is = is ∙ ap (λ (k : ManagerState). record old { rows = k.rows; recovery = k.recovery; version = k.version }) (sym is)
 told_same old new Known rows state is = is ∙ ap (λ (k : ManagerState). record old { rows = k.rows; recovery = k.recovery; version = k.version }) (sym is)
 
-pub rows_same : (m : ManagerState) → IsManager m → IsToldRows m m
+rows_same : (m : ManagerState) → IsManager m → IsToldRows m m
 rows_same m sound = record { sound = sound; size = refl; others = refl }
 
-pub rows_then : (old mid new : ManagerState) → IsToldRows old mid → IsToldRows mid new → IsToldRows old new
+rows_then : (old mid new : ManagerState) → IsToldRows old mid → IsToldRows mid new → IsToldRows old new
 rows_then old mid new a b = record {
   sound = b.sound;
   size = b.size ∙ a.size;

@@ -1,5 +1,5 @@
 -- Over the stores of a settled world a restart finds nothing damaged.
-use Rattle.std.proofs.Common.{◌≡◌, ◌≢◌, inl, inr, ℕ, zero, suc, ◌+◌, ◌<◌, ◌≤◌, List, [], ◌∷◌, length, take, Some, None, Option, Bool, true, false, Err, refl, sym, ap, ◌∙◌, subst, arith, length-append}
+use Rattle.std.proofs.Common.{◌≡◌, ◌≢◌, inl, inr, ℕ, zero, suc, ◌+◌, ◌<◌, ◌≤◌, List, [], ◌∷◌, length, map, take, Some, None, Option, Bool, true, false, Err, refl, sym, ap, ◌∙◌, subst, arith, length-append}
 use Rattle.std.specs.Prelude.{slice_get}
 use Rattle.std.specs.FinMap.{get}
 use Rattle.std.proofs.lemmas.List.{length-replicate, length-take-le}
@@ -10,11 +10,15 @@ use Rattle.om_look.specs.Rows.{AreRowsOf, AreSegments, FollowOn, IsBase, IsMisma
 use Rattle.om_look.specs.declared.rows.RowsFault.{RowsFault}
 use Rattle.om_look.specs.declared.rows.RowsFault.TheVariants.{Damaged, Mismatch, Fault, Memory}
 use Rattle.om_manager.specs.Notes.{Notes}
+use Rattle.om_manager.specs.Outputs.{AreNumbered, held_of}
 use Rattle.om_manager.specs.Sound.{IsManager}
-use Rattle.om_manager.specs.State.{ManagerState, process_count}
+use Rattle.om_manager.specs.State.{ManagerState, held_by, process_count, released_by}
+use Rattle.om_manager.specs.declared.answers.OutputError.{OutputError}
 use Rattle.om_manager.specs.declared.answers.RecordError.{RecordError}
 use Rattle.om_manager.specs.declared.answers.RecordError.TheVariants as records
-use Rattle.om_member.specs.Told.{IsToldUpTo, row_for}
+use Rattle.om_manager.specs.declared.output_log.Output.{Output}
+use Rattle.om_member.specs.Handed.{AreHandedUpTo, made_of}
+use Rattle.om_member.specs.Told.{AreTold, IsToldUpTo, row_for}
 use Rattle.om_process.specs.Claims.{AtInterval, RecordOf, RowOf}
 use Rattle.om_process.specs.Process.{Process, Program, Received}
 use Rattle.om_process.specs.Replays.{received_of}
@@ -29,8 +33,12 @@ use Rattle.om_recover.specs.declared.note.NoteError.TheVariants as notes
 use Rattle.om_recover.specs.declared.row.Row.{Row}
 use Rattle.om_recover.specs.declared.row.RowKind.TheVariants.{Checkpoint, Log}
 use Rattle.om_stable.specs.Content.{Content, Records}
-use Rattle.om_take_up.specs.Anew.{HasReleasedOf}
+use Rattle.om_take_up.specs.TakenUp.{IsTakenUp}
+use Rattle.om_take_up.specs.declared.taking.TakeUpFault.{TakeUpFault}
+use Rattle.om_take_up.specs.declared.taking.TakeUpFault.TheVariants as take_ups
+use Rattle.om_take_up.proofs.HandingLemmas.{released_for_memory}
 use Rattle.om_world.specs.declared.entry.Entry.{Entry}
+use Rattle.om_world.specs.declared.event.Refusal.{Refusal}
 use Rattle.om_world.specs.declared.event.Refusal.TheVariants as why
 use Rattle.om_world.specs.Disk.{AreTrue, IsSettled, held_in}
 use Rattle.om_world.specs.Live.{program_at, received}
@@ -38,7 +46,8 @@ use Rattle.om_world.specs.Started.{IsNew}
 use Rattle.om_world.specs.StoreRows.{HasRowsOf}
 use Rattle.om_world.specs.World.{IsKnown, WorldState}
 use Rattle.om_world.specs.steps.Moves.{refusal_of_record}
-use Rattle.om_world.specs.steps.Restarting.{HasRead, HasRowsUpTo, HasToldStores, refusal_of_rows}
+use Rattle.om_world.specs.steps.Restarting.{HasRead, HasRowsUpTo, HasToldStores, refusal_of_rows, refusal_of_take_up}
+use Rattle.om_world.specs.steps.Running.{refusal_of_output}
 use Rattle.om_world.specs.steps.Sound.{HasShape, IsWorld, Sound}
 use Rattle.om_world.proofs.Disk.{content_at, on_disk, store_ends}
 use Rattle.om_world.proofs.Losing.{not_lost}
@@ -215,32 +224,54 @@ told_for_memory programs live held p count rows m next fault disk lt size first 
         (row_true programs live held p count rows t disk lt a told.refused.1) (for_begun p t (store_begun p n (held p) rows count t a told.refused.1))
         (subst (λ k. offered k next.rows row (Err fault) next.rows) (added.told.size ∙ size) o.1))
 
-pub told_stand : (old mid new : WorldState) (first m next : ManagerState) (p count : ℕ) (rows : List PendingRow) (fault : RecordError) → p < length old.programs → process_count first ≡ length old.programs → first.round ≡ 0
+memory_stands : (refusal : Refusal) → refusal ≡ why.Memory → refusal ≢ why.Damaged
+memory_stands refusal memory damaged = cc
+
+told_stand : (old mid new : WorldState) (first m next : ManagerState) (p count : ℕ) (rows : List PendingRow) (fault : RecordError) → p < length old.programs → IsNew (length old.programs) first
     → HasToldStores old first p mid m → HasRead mid new → IsKnown new → AreTrue mid.programs mid.live (held_in mid) → AreRowsOf p (length mid.programs) (held_in mid p) rows
     → IsToldUpTo m 0 p rows count (Err fault) next → refusal_of_record fault ≢ why.Damaged
-told_stand old mid new first m next p count rows fault lt size round t r known disk a u is =
+told_stand old mid new first m next p count rows fault lt fresh t r known disk a u is =
     let before = known_read mid new r known in
     let same = same_but old mid t.read before in
-    let memory = told_for_memory old.programs old.live (held_in old) p count rows m next fault (subst (λ (w : WorldState). AreTrue w.programs w.live (held_in w)) same disk) lt (t.told.size ∙ size) (ap (λ (k : ManagerState). k.round) t.told.others ∙ round) t.told.sound
+    let size : process_count m ≡ length old.programs = t.told.size ∙ ap length fresh.recovery ∙ length-replicate (length old.programs) 0 in
+    let memory = told_for_memory old.programs old.live (held_in old) p count rows m next fault (subst (λ (w : WorldState). AreTrue w.programs w.live (held_in w)) same disk) lt size (ap (λ (k : ManagerState). k.round) t.told.others ∙ fresh.round) t.told.sound
     (t.rows before) (subst (λ (w : WorldState). AreRowsOf p (length w.programs) (held_in w p) rows) same a) u in
-    apart (sym (ap refusal_of_record memory) ∙ is)
-  where
-    apart : why.Memory ≡ why.Damaged → ⊥
-    apart e = cc
+    memory_stands (refusal_of_record fault) (ap refusal_of_record memory) is
+
+handed_stand : (old mid new : WorldState) (first m told next : ManagerState) (p : ℕ) (rows : List PendingRow) (outputs : List Output) (fault : OutputError) → p < length old.programs → IsNew (length old.programs) first
+    → HasToldStores old first p mid m → IsManager new.manager → process_count new.manager ≡ length old.programs → map held_of outputs ≡ released_by new.manager p → AreNumbered outputs
+    → AreTold m 0 p rows told → AreHandedUpTo told 0 p (map made_of outputs) (Err fault) next → refusal_of_output fault ≢ why.Damaged
+handed_stand old mid new first m told next p rows outputs fault lt fresh t sound places is numbered a u damaged =
+    let added : AreAdded m p rows told = are_added m 0 p rows told t.told.sound a in
+    let none : held_by told p ≡ [] = ap (λ (k : ManagerState). held_by k p) added.told.others ∙ t.none p (omega arith) in
+    let size : process_count told ≡ length old.programs = added.told.size ∙ t.told.size ∙ ap length fresh.recovery ∙ length-replicate (length old.programs) 0 in
+    let round : told.round ≡ 0 = ap (λ (k : ManagerState). k.round) added.told.others ∙ ap (λ (k : ManagerState). k.round) t.told.others ∙ fresh.round in
+    let memory = released_for_memory new.manager told p 0 outputs added.told.sound none is numbered next fault sound (omega arith) (omega arith) (sym round) u in
+    memory_stands (refusal_of_output fault) (ap refusal_of_output memory) damaged
+
+-- what a store held is refused for memory alone
+pub taken_stand : (old mid new : WorldState) (first m next : ManagerState) (p : ℕ) (rows : List PendingRow) (outputs : List Output) (fault : TakeUpFault) → p < length old.programs → IsNew (length old.programs) first
+    → HasToldStores old first p mid m → HasRead mid new → IsKnown new → AreTrue mid.programs mid.live (held_in mid) → AreRowsOf p (length mid.programs) (held_in mid p) rows
+    → IsManager new.manager → process_count new.manager ≡ length old.programs → map held_of outputs ≡ released_by new.manager p → AreNumbered outputs
+    → IsTakenUp m 0 p rows (map made_of outputs) (Err fault) next → refusal_of_take_up fault ≢ why.Damaged
+taken_stand old mid new first m next p rows outputs (take_ups.Row fault) lt fresh t r known disk a sound places is numbered u =
+    told_stand old mid new first m next p u.0 rows fault lt fresh t r known disk a u.1
+taken_stand old mid new first m next p rows outputs (take_ups.Output fault) lt fresh t r known disk a sound places is numbered u =
+    handed_stand old mid new first m u.0 next p rows outputs fault lt fresh t sound places is numbered u.1 u.2
 
 -- ---- what is known of a world
 pub stands : {S : Type 0} (IsSound : S → Type 0) (stores : List S) (v w : WorldState) → IsWorld IsSound stores v → v ≡ w → IsKnown w → HasShape w × Sound w
 stands IsSound stores v w i e known = (subst HasShape e i.shape, subst Sound e (i.clean (subst IsKnown (sym e) known)).1)
 
 -- ---- and no less is recovered
-pub none_lost : (old mid : WorldState) (first m told : ManagerState) → IsNew (length old.programs) first → HasToldStores old first (length old.programs) mid m → HasReleasedOf mid.manager m told → IsManager told
-    → HasShape mid → Sound mid → IsSettled old → IsKnown mid → IsBelow mid.manager.recovery told.recovery
-none_lost old mid first m told fresh t o sound h s settled known =
+pub none_lost : (old mid : WorldState) (first told : ManagerState) → IsNew (length old.programs) first → HasToldStores old first (length old.programs) mid told → HasShape mid → Sound mid → IsSettled old → IsKnown mid
+    → IsBelow mid.manager.recovery told.recovery
+none_lost old mid first told fresh t h s settled known =
     let programs : mid.programs ≡ old.programs = ap (λ (x : WorldState). x.programs) t.read.others in
     let many : length mid.programs ≡ length old.programs = ap length programs in
-    let all = all_stores (length old.programs) (held_in old) m.rows (t.rows known) in
-    let here = same_rows (length old.programs) (held_in old) (held_in mid) m.rows (held_same old mid t.read known) all in
-    let rows : HasRowsOf (length mid.programs) (held_in mid) told.rows = subst (λ n. HasRowsOf n (held_in mid) told.rows) (sym many) (subst (λ (k : ManagerState). HasRowsOf (length old.programs) (held_in mid) k.rows) (sym o.others) here) in
-    let size : process_count told ≡ length mid.programs = ap process_count o.others ∙ t.told.size ∙ ap length fresh.recovery ∙ length-replicate (length old.programs) 0 ∙ sym many in
+    let all = all_stores (length old.programs) (held_in old) told.rows (t.rows known) in
+    let here = same_rows (length old.programs) (held_in old) (held_in mid) told.rows (held_same old mid t.read known) all in
+    let rows : HasRowsOf (length mid.programs) (held_in mid) told.rows = subst (λ n. HasRowsOf n (held_in mid) told.rows) (sym many) here in
+    let size : process_count told ≡ length mid.programs = t.told.size ∙ ap length fresh.recovery ∙ length-replicate (length old.programs) 0 ∙ sym many in
     let d = on_disk mid h s (settled_after old mid t.read settled) in
-    not_lost mid.programs mid.live (held_in mid) told.rows mid.manager.recovery told.recovery d.held rows (subst (λ n. IsGreatest n told.rows told.recovery) size sound.exact.greatest) d.places d.last d.served d.within
+    not_lost mid.programs mid.live (held_in mid) told.rows mid.manager.recovery told.recovery d.held rows (subst (λ n. IsGreatest n told.rows told.recovery) size t.told.sound.exact.greatest) d.places d.last d.served d.within

@@ -6,6 +6,7 @@ use om_member::{NotIn, NotUp};
 use om_process::{Accept, ReplayFault, Status};
 use om_recover::NoteError;
 use om_stable::StoreError;
+use om_take_up::TakeUpFault;
 use std::alloc::AllocError;
 
 /// What is to happen to a world. A process is told by its number, a frame by its place among those that were made.
@@ -234,6 +235,19 @@ impl From<RowsFault> for Refusal {
             RowsFault::Fault => Refusal::Fault,
             RowsFault::Memory => Refusal::Memory,
             _ => Refusal::Damaged,
+        }
+    }
+}
+
+impl From<TakeUpFault> for Refusal {
+    ghost use Rattle.om_world.specs.steps.Restarting.{refusal_of_take_up};
+
+    ghost from_gives = { λ fault why. why ≡ refusal_of_take_up fault };
+
+    fn from(fault: TakeUpFault) -> Refusal {
+        match fault {
+            TakeUpFault::Row(fault) => fault.into(),
+            TakeUpFault::Output(fault) => fault.into(),
         }
     }
 }

@@ -3,10 +3,7 @@
 ghost use Rattle.std.specs.Prelude.{◌≡◌, ◌≢◌, ◌<◌, [], length, map, Err, IfErr, IfOk, IsErrOf, OnOk, slice_get};
 ghost use Rattle.om_look.specs.Rows.{AreRowsOf};
 ghost use Rattle.om_look.specs.declared.rows.RowsFault.{RowsFault};
-ghost use Rattle.om_manager.specs.State.{process_count};
 ghost use Rattle.om_manager.specs.Sound.{IsManager};
-ghost use Rattle.om_recover.specs.Records.{first_row};
-ghost use Rattle.om_recover.specs.Rows.{HasRow};
 ghost use Rattle.om_world.specs.Changes.{HasFailed};
 ghost use Rattle.om_world.specs.Disk.{AreTrue, IsSettled, held_in};
 ghost use Rattle.om_world.specs.Failures.{HasNews};
@@ -27,10 +24,10 @@ use crate::world::World;
 use om_interval::Pid;
 use om_look::{RowsFault, stored_rows};
 use om_manager::Manager;
-use om_member::{Member, MemberState, tell_all};
+use om_member::{Member, MemberState};
 use om_process::PendingRow;
 use om_stable::Stable;
-use om_take_up::{fail_all, hand_in_released};
+use om_take_up::{fail_all, take_up};
 use std::alloc::Global;
 
 // Takes each process down, declared, as before any round.
@@ -73,13 +70,10 @@ impl<S: Stable> World<S> {
         stored_rows(alloc, &mut member.store, Pid::at(p), n)
     }
 
-    // Tells a manager the rows of each store.
+    // Tells a new manager what each store held, and what was released of its process.
     fn tell_stores(&mut self, alloc: Global, manager: &mut Manager) -> Result<(), Refusal>
-        requires size { process_count manager.old ≡ length self.old.programs }
-        requires fresh { (row : _) → HasRow manager.old.rows row
-            → (row.pid < length self.old.programs) × (row ≡ first_row (length self.old.programs) row.pid) }
+        requires fresh { IsNew (length self.old.programs) manager.old }
         requires sound { IsManager manager.old }
-        requires round { manager.old.round ≡ 0 }
         ensures told { OnOk result (HasToldStores self.old manager.old (length self.old.programs) self.new manager.new) }
         ensures read { HasRead self.old self.new }
         ensures refused { IfErr result IsRefusal }
@@ -89,8 +83,8 @@ impl<S: Stable> World<S> {
     {
         for p in 0..self.size() {
             let rows = self.rows_at(alloc, p)?;
-            let (_, end) = tell_all(manager, alloc, Pid::at(p), 0, &rows);
-            end?;
+            let pid = Pid::at(p);
+            take_up(manager, alloc, pid, 0, &rows, self.manager.released(pid))?;
         }
         Ok(())
     }
@@ -107,7 +101,6 @@ impl<S: Stable> World<S> {
         let count = self.manager.recovery().n();
         let mut manager = new_manager(alloc, count)?;
         self.tell_stores(alloc, &mut manager)?;
-        hand_in_released(&mut manager, alloc, &self.manager)?;
         if !self.manager.recovery().leq(&manager.recovery()) {
             return Err(Refusal::Damaged);
         }

@@ -4,8 +4,6 @@ use Rattle.om_interval.specs.Starts.{is_named, newest_of}
 use Rattle.om_interval.specs.declared.verdict.Verdict.{Verdict}
 use Rattle.om_process.specs.Core.{CoreState, settled, with_pending}
 use Rattle.om_process.specs.Resumes.{resumed}
-use Rattle.om_process.specs.declared.queues.Made.{Made}
-use Rattle.om_process.specs.declared.row.PendingRow.{PendingRow}
 use Rattle.om_recover.specs.Cutting.{IsEffective, IsPruned}
 use Rattle.om_manager.specs.Bounds.{AreGotFrom}
 use Rattle.om_manager.specs.Outputs.{held_of}
@@ -30,11 +28,6 @@ pub record HasHandedOver (before : ManagerState) (p : ℕ) (old : CoreState) (af
   pub handed : AreHanded told_all new.round p (outputs_from new (length (held_by told_all p))) after
   pub none_left : new ≡ with_pending old []
   pub keeps : Keeps before after
-
--- a process that is taken up told what its store held: rows, in order, and then outputs, in order
-abbrev pub HasTakenUp : ManagerState → ℕ → ℕ → List PendingRow → List Made → ManagerState → Type 0
-HasTakenUp before round p rows outputs after =
-    (told_all : ManagerState) × AreTold before round p rows told_all × AreHanded told_all round p outputs after
 
 -- the manager dropped the rows that it need not keep
 pub record HasPruned (old new : ManagerState) : Type 0 where

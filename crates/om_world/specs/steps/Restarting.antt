@@ -1,5 +1,5 @@
 -- What the calls of a restart do.
-use Rattle.std.specs.Prelude.{◌≡◌, ◌⊎◌, ℕ, ◌<◌, List, slice_get, true, Some, length}
+use Rattle.std.specs.Prelude.{◌≡◌, ◌⊎◌, ℕ, ◌<◌, ◌≤◌, List, [], slice_get, true, Some, length}
 use Rattle.om_interval.specs.Vectors.{IsBelow}
 use Rattle.om_look.specs.Rows.{AreRowsOf}
 use Rattle.om_look.specs.declared.rows.RowsFault.{RowsFault}
@@ -12,6 +12,8 @@ use Rattle.om_stable.specs.Content.{Content}
 use Rattle.om_manager.specs.Sound.{IsManager}
 use Rattle.om_manager.specs.State.{ManagerState, held_by, process_count, released_by}
 use Rattle.om_take_up.specs.Anew.{EachFailed}
+use Rattle.om_take_up.specs.declared.taking.TakeUpFault.{TakeUpFault}
+use Rattle.om_take_up.specs.declared.taking.TakeUpFault.TheVariants as take_ups
 use Rattle.om_world.specs.declared.event.Refusal.{Refusal}
 use Rattle.om_world.specs.declared.event.Refusal.TheVariants as why
 use Rattle.om_world.specs.Changes.{NoneFell}
@@ -19,6 +21,8 @@ use Rattle.om_world.specs.Disk.{held_in}
 use Rattle.om_world.specs.Restarted.{IsFirst}
 use Rattle.om_world.specs.StoreRows.{HasRowsOf, first_row}
 use Rattle.om_world.specs.World.{WorldState, IsKnown, all_clean}
+use Rattle.om_world.specs.steps.Moves.{refusal_of_record}
+use Rattle.om_world.specs.steps.Running.{refusal_of_output}
 
 -- stores were read: what is known of them stays
 pub record HasRead (old new : WorldState) : Type 0 where
@@ -41,11 +45,19 @@ pub record HasRowsUpTo (count n : ℕ) (held : ℕ → Content) (rows : Rows) : 
       ⊎ ((row.pid < count) × ((i : ℕ) × (t : PendingRow) × (slice_get (told row.pid) i ≡ Some t) × (row ≡ row_for row.pid t))))
   pub all : (p i : ℕ) (t : PendingRow) → p < count → slice_get (told p) i ≡ Some t → HasRow rows (row_for p t)
 
--- the stores of the first so many processes were read, and a manager was told their rows
+-- a manager was told rows and handed outputs, and all else of it stays
+pub record HasLearned (old new : ManagerState) : Type 0 where
+  pub sound : IsManager new
+  pub size : process_count new ≡ process_count old
+  pub others : new ≡ record old { rows = new.rows; recovery = new.recovery; outputs = new.outputs; version = new.version }
+
+-- the stores of the first so many processes were read; a manager was told their rows, and holds what was released of those processes
 pub record HasToldStores (old : WorldState) (first : ManagerState) (count : ℕ) (new : WorldState) (m : ManagerState) : Type 0 where
   pub read : HasRead old new
-  pub told : IsToldRows first m
+  pub told : HasLearned first m
   pub rows : IsKnown new → HasRowsUpTo count (length old.programs) (held_in old) m.rows
+  pub held : (p : ℕ) → p < count → held_by m p ≡ released_by old.manager p
+  pub none : (p : ℕ) → count ≤ p → held_by m p ≡ []
 
 -- a manager that a restart of the world puts in place of its own
 pub record IsAnew (w : WorldState) (m : ManagerState) : Type 0 where
@@ -69,3 +81,7 @@ refusal_of_rows (rows_faults.Damaged x) = why.Damaged
 refusal_of_rows (rows_faults.Mismatch x) = why.Damaged
 refusal_of_rows rows_faults.Fault = why.Fault
 refusal_of_rows rows_faults.Memory = why.Memory
+
+abbrev pub refusal_of_take_up : TakeUpFault → Refusal
+refusal_of_take_up (take_ups.Row fault) = refusal_of_record fault
+refusal_of_take_up (take_ups.Output fault) = refusal_of_output fault

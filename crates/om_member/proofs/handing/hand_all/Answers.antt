@@ -1,19 +1,18 @@
-use Rattle.std.proofs.Common.{length, refl, subst, take}
-use Rattle.std.proofs.lemmas.Option.{slice_get_read}
+use Rattle.std.proofs.Common.{map, subst, take}
 use Rattle.om_member.specs.Handed.{AreHanded, IsHanded}
-use Rattle.om_member.proofs.Lists.{take_next}
-use Rattle.om_member.proofs.OutputLemmas.{handed_next}
+use Rattle.om_member.proofs.OutputLemmas.{handed_next, made_at, made_next}
 use Rattle.om_member.proofs.handing.hand_all.Goals as goal
 
 pub hand_one-requires : goal.hand_one-requires
 hand_one-requires g c =
-    let ms = c.args.outputs.now in let i = c.loop-i.i in let m = c.index-outputs-i.result in
-    c.requires i m (slice_get_read ms (length ms) i m refl c.loop-i-test.true c.index-outputs-i.is)
+    let made = g.M.HandedOutput.made in
+    let i = c.loop-i.i in let m = c.index-outputs-i.result in
+    c.requires i (made m) (made_at made c.args.outputs.now i m c.loop-i-test.true c.index-outputs-i.is)
 
 pub loop-i-preserved : goal.loop-i-preserved
 loop-i-preserved g c =
-    let state = g.O.ManagerAccess.state in
+    let state = g.O.ManagerAccess.state in let made = g.M.HandedOutput.made in
     let ms = c.args.outputs.now in let i = c.loop-i.i in let m = c.index-outputs-i.result in
-    subst (λ l. AreHanded (state c.args.office.now) c.args.round c.args.pid l (state c.hand_one.new.office)) (take_next ms i m c.loop-i-test.true c.index-outputs-i.is)
-    (handed_next (state c.args.office.now) (state c.loop-i.office) (state c.hand_one.new.office) c.args.round c.args.pid (take i ms) m c.in_ok-hand_one.field-0 c.loop-i.invariant
-    (subst (λ a. IsHanded (state c.loop-i.office) c.args.round c.args.pid m a (state c.hand_one.new.office)) c.in_ok-hand_one.was c.hand_one.ensures))
+    subst (λ l. AreHanded (state c.args.office.now) c.args.round c.args.pid l (state c.hand_one.new.office)) (made_next made ms i m c.loop-i-test.true c.index-outputs-i.is)
+    (handed_next (state c.args.office.now) (state c.loop-i.office) (state c.hand_one.new.office) c.args.round c.args.pid (take i (map made ms)) (made m) c.in_ok-hand_one.field-0 c.loop-i.invariant
+    (subst (λ a. IsHanded (state c.loop-i.office) c.args.round c.args.pid (made m) a (state c.hand_one.new.office)) c.in_ok-hand_one.was c.hand_one.ensures))

@@ -1,10 +1,16 @@
-use Rattle.std.proofs.Common.{◌≡◌, ◌<◌, ◌∙◌, ap, subst, Err, rules}
-use Rattle.om_member.specs.Told.{IsToldUpTo}
-use Rattle.om_world.specs.steps.Moves.{refusal_of_record}
-use Rattle.om_world.specs.steps.Restarting.{refusal_of_rows}
+use Rattle.std.proofs.Common.{◌≡◌, ◌<◌, ◌∙◌, ap, length, map, subst, sym, Err, rules}
+use Rattle.std.specs.Prelude.{IfErr}
+use Rattle.om_manager.specs.Outputs.{held_of}
+use Rattle.om_manager.specs.Sound.{IsManager}
+use Rattle.om_manager.specs.State.{process_count, released_by}
+use Rattle.om_member.specs.Handed.{made_of}
+use Rattle.om_take_up.specs.TakenUp.{HasTakenUp, IsTakenUp}
+use Rattle.om_world.specs.World.{WorldState}
+use Rattle.om_world.specs.steps.Restarting.{IsRefusal, refusal_of_rows, refusal_of_take_up}
 use Rattle.om_world.proofs.Lists.{once_err}
-use Rattle.om_world.proofs.Reading.{failed_read, none_told, one_told, read_then, rows_fault, settled_after}
-use Rattle.om_world.proofs.Undamaged.{told_stand}
+use Rattle.om_world.proofs.Reading.{failed_read, none_told, one_told, read_then, rows_fault, settled_after, taking_refusal}
+use Rattle.om_world.proofs.Standing.{few, known as known_to}
+use Rattle.om_world.proofs.Undamaged.{taken_stand}
 use Rattle.om_world.proofs.world.World.tell_stores.Goals as goal
 
 pub loop-p-init : goal.loop-p-init
@@ -20,33 +26,61 @@ returns-in_err-rows-clause-counted g c = λ is.
     let failed = rows_fault fault (once_err c.from_residual.result _ _ from is) in
     (c.loop-p.p, failed_read c.args.self.now c.loop-p.self c.rows_at.new.self c.loop-p.p c.loop-p.invariant.read (c.rows_at.ensures.counted (c.in_err-rows.was ∙ ap (λ e. Err e) failed)))
 
-pub returns-in_err-end-clause-read : goal.returns-in_err-end-clause-read
-returns-in_err-end-clause-read g c = read_then c.args.self.now c.loop-p.self c.rows_at.new.self c.loop-p.invariant.read c.rows_at.ensures.read
-
-pub loop-p-preserved : goal.loop-p-preserved
-loop-p-preserved g c =
-    let m = c.loop-p.manager in let next = c.tell_all-end.new.office in let rows = c.in_ok-rows.rows.items in let count = c.tell_all-end.result.0 in
-    one_told c.args.self.now c.loop-p.self c.rows_at.new.self c.args.manager.now m next c.loop-p.p count rows
-    (subst (λ n. c.loop-p.p < n) c.size-p-end.ensures.programs c.loop-p-test.true) c.loop-p.invariant c.rows_at.ensures.read (λ known. c.in_ok-rows.ensures.rows known)
-    (subst (λ e. IsToldUpTo m 0 c.loop-p.p rows count e next) c.in_ok-end.was
-    (subst (λ l. IsToldUpTo m 0 c.loop-p.p l count c.tell_all-end.result.1 next) c.deref.ensures.value
-    (subst (λ q. IsToldUpTo m 0 q c.deref.result.now count c.tell_all-end.result.1 next) c.at.ensures c.tell_all-end.ensures)))
-
 pub returns-in_err-rows-clause-whole : goal.returns-in_err-rows-clause-whole
 returns-in_err-rows-clause-whole g c = λ known settled is.
     let fault = c.in_err-rows.field-0.0 in
     let from : c.from_residual.result ≡ Err (refusal_of_rows fault) = search rules in
     c.in_err-rows.ensures.whole known (settled_after c.args.self.now c.loop-p.self c.loop-p.invariant.read settled) (once_err c.from_residual.result _ _ from is)
 
-pub returns-in_err-end-clause-whole : goal.returns-in_err-end-clause-whole
-returns-in_err-end-clause-whole g c = λ known settled is.
-    let m = c.loop-p.manager in let next = c.tell_all-end.new.office in let rows = c.in_ok-rows.rows.items in let count = c.tell_all-end.result.0 in
-    let fault = c.in_err-end.field-0.0 in
-    let from : c.from_residual-in_err-end.result ≡ Err (refusal_of_record fault) = search rules in
+pub returns-in_err-take_up-clause-read : goal.returns-in_err-take_up-clause-read
+returns-in_err-take_up-clause-read g c = read_then c.args.self.now c.loop-p.self c.rows_at.new.self c.loop-p.invariant.read c.rows_at.ensures.read
+
+pub returns-in_err-take_up-clause-refused : goal.returns-in_err-take_up-clause-refused
+returns-in_err-take_up-clause-refused g c =
+    let fault = c.in_err-take_up.field-0.0 in
+    let from : c.from_residual-in_err-take_up.result ≡ Err (refusal_of_take_up fault) = search rules in
+    subst (λ r. IfErr r IsRefusal) (sym from) (taking_refusal fault).0
+
+pub returns-in_err-take_up-clause-counted : goal.returns-in_err-take_up-clause-counted
+returns-in_err-take_up-clause-counted g c = λ is.
+    let fault = c.in_err-take_up.field-0.0 in
+    let from : c.from_residual-in_err-take_up.result ≡ Err (refusal_of_take_up fault) = search rules in
+    absurd ((taking_refusal fault).1 (once_err c.from_residual-in_err-take_up.result _ _ from is))
+
+pub returns-in_err-take_up-clause-faultless : goal.returns-in_err-take_up-clause-faultless
+returns-in_err-take_up-clause-faultless g c = λ never is.
+    let fault = c.in_err-take_up.field-0.0 in
+    let from : c.from_residual-in_err-take_up.result ≡ Err (refusal_of_take_up fault) = search rules in
+    (taking_refusal fault).1 (once_err c.from_residual-in_err-take_up.result _ _ from is)
+
+pub returns-in_err-take_up-clause-whole : goal.returns-in_err-take_up-clause-whole
+returns-in_err-take_up-clause-whole g c = λ known settled is.
+    let m = c.loop-p.manager in let next = c.take_up.new.office in let rows = c.in_ok-rows.rows.items in let p = c.loop-p.p in let new = c.rows_at.new.self in
+    let outputs = c.released.result.now in let made = map made_of outputs in let programs = c.args.self.now.programs in
+    let fault = c.in_err-take_up.field-0.0 in
+    let from : c.from_residual-in_err-take_up.result ≡ Err (refusal_of_take_up fault) = search rules in
+    let lt : p < length programs = subst (λ n. p < n) c.size-p-end.ensures.programs c.loop-p-test.true in
     let mid = settled_after c.args.self.now c.loop-p.self c.loop-p.invariant.read settled in
-    told_stand c.args.self.now c.loop-p.self c.rows_at.new.self c.args.manager.now m next c.loop-p.p count rows fault
-    (subst (λ n. c.loop-p.p < n) c.size-p-end.ensures.programs c.loop-p-test.true) c.requires.size c.requires.round c.loop-p.invariant c.rows_at.ensures.read known (c.rows_at.ensures.stands known mid) (c.in_ok-rows.ensures.rows known)
-    (subst (λ e. IsToldUpTo m 0 c.loop-p.p rows count e next) c.in_err-end.was
-    (subst (λ l. IsToldUpTo m 0 c.loop-p.p l count c.tell_all-end.result.1 next) c.deref.ensures.value
-    (subst (λ q. IsToldUpTo m 0 q c.deref.result.now count c.tell_all-end.result.1 next) c.at.ensures c.tell_all-end.ensures)))
-    (once_err c.from_residual-in_err-end.result _ _ from is)
+    let released : map held_of outputs ≡ released_by new.manager p =
+    c.released.ensures.outputs ∙ ap (released_by c.self.inside.manager) c.at-pid.ensures ∙ ap (λ (w : WorldState). released_by w.manager p) c.self.view_is in
+    let taken : IsTakenUp m 0 p rows made (Err fault) next =
+    subst (λ e. IsTakenUp m 0 p rows made e next) c.in_err-take_up.was
+    (subst (λ l. IsTakenUp m 0 p l made c.take_up.result next) c.deref.ensures.value
+    (subst (λ q. IsTakenUp m 0 q c.deref.result.now made c.take_up.result next) c.at-pid.ensures c.take_up.ensures)) in
+    let same : length new.programs ≡ length programs =
+    ap (λ (w : WorldState). length w.programs) c.rows_at.ensures.read.others ∙ ap (λ (w : WorldState). length w.programs) c.loop-p.invariant.read.others in
+    let size : process_count new.manager ≡ length programs =
+    sym (ap (λ (w : WorldState). process_count w.manager) c.self.view_is) ∙ c.self.invariant.shape.size ∙ ap (λ (w : WorldState). length w.programs) c.self.view_is ∙ same in
+    taken_stand c.args.self.now c.loop-p.self new c.args.manager.now m next p rows outputs fault lt c.requires.fresh c.loop-p.invariant c.rows_at.ensures.read known (c.rows_at.ensures.stands known mid) (c.in_ok-rows.ensures.rows known)
+    (subst (λ (w : WorldState). IsManager w.manager) c.self.view_is c.self.invariant.shape.manager) size released c.released.ensures.numbered taken
+    (once_err c.from_residual-in_err-take_up.result _ _ from is)
+
+pub loop-p-preserved : goal.loop-p-preserved
+loop-p-preserved g c =
+    let m = c.loop-p.manager in let next = c.take_up.new.office in let rows = c.in_ok-rows.rows.items in let p = c.loop-p.p in let new = c.rows_at.new.self in
+    let outputs = c.released.result.now in let made = map made_of outputs in
+    let lt : p < length c.args.self.now.programs = subst (λ n. p < n) c.size-p-end.ensures.programs c.loop-p-test.true in
+    let released : map held_of outputs ≡ released_by new.manager p =
+    c.released.ensures.outputs ∙ ap (released_by c.self.inside.manager) c.at-pid.ensures ∙ ap (λ (w : WorldState). released_by w.manager p) c.self.view_is in
+    one_told c.args.self.now c.loop-p.self new c.args.manager.now m next p rows outputs lt c.loop-p.invariant c.rows_at.ensures.read (λ known. c.in_ok-rows.ensures.rows known) released c.released.ensures.numbered
+    (subst (λ l. HasTakenUp m 0 p l made next) c.deref.ensures.value (subst (λ q. HasTakenUp m 0 q c.deref.result.now made next) c.at-pid.ensures c.in_ok-take_up.ensures))
