@@ -13,6 +13,9 @@ use std::alloc::Global;
 // Pages that are read again are tested by digests under this key. Any serves, since memory does not lie.
 const KEY: u64 = 0;
 
+// How many pages that were read are kept beside that copy, 4 KiB each. They are cleared as it is opened.
+const CACHE_PAGES: usize = 64;
+
 /// What the file of a database holds, and the log beside it; the log is empty where there is none.
 #[derive(Debug, Drop)]
 pub struct DatabaseBytes {
@@ -33,7 +36,11 @@ impl DatabaseBytes {
             log: memory_of(alloc, &self.log)?,
             db: memory_of(alloc, &self.file)?,
         };
-        match Connection::open_files(alloc, files, Options::new(KEY)) {
+        let options = Options {
+            cache_pages: CACHE_PAGES,
+            ..Options::new(KEY)
+        };
+        match Connection::open_files(alloc, files, options) {
             Ok(conn) => Ok(conn),
             Err((error, _)) => Err(error_of(&error)),
         }

@@ -3,17 +3,12 @@
 use crate::connecting::{Connects, refusal_of_opening};
 use om_interval::Pid;
 use om_runner::OpenFault;
-use om_store_files::{Note, NotedFile, Notes, store_of};
-use sqlite::{Connection, FileStore, Options};
+use om_store_files::{Note, NotedFile, Notes, connection_options, store_of};
+use sqlite::{Connection, FileStore};
 use sqlite_disk::Files as DiskFiles;
 use sqlite_std_file::{OpenError, Unknown, open};
 use std::alloc::Global;
-use std::hash::{BuildHasher, RandomState};
 use std::io::ErrorKind;
-
-// How many pages that were read each connection keeps in memory. They are cleared as it is opened, and a store that is pruned has
-// fewer.
-const CACHE_PAGES: usize = 256;
 
 /// The files that are named by a prefix, the number of the process and `.db`.
 #[derive(Drop)]
@@ -36,7 +31,9 @@ impl<'a> Connects for Files<'a> {
         let Ok(path) = store_of(alloc, self.prefix, pid.index()) else {
             return Err(OpenFault::Memory);
         };
-        let options = options(self.rt)?;
+        let Some(options) = connection_options(self.rt) else {
+            return Err(OpenFault::Refused);
+        };
         let DiskFiles { log, db } = match open(self.rt, path.as_str(), Unknown) {
             Ok(pair) => pair,
             Err(error) => return Err(refused(&error, note)),
@@ -49,17 +46,6 @@ impl<'a> Connects for Files<'a> {
             Ok(conn) => Ok(conn),
             Err((error, _)) => Err(refusal_of_opening(&error)),
         }
-    }
-}
-
-// Pages that are read again are tested by digests under a key that is drawn at random.
-fn options(rt: &HostRuntime) -> Result<Options, OpenFault> {
-    match RandomState::new(rt) {
-        Ok(state) => Ok(Options {
-            cache_pages: CACHE_PAGES,
-            ..Options::new(state.hash_one(&0u8))
-        }),
-        Err(_) => Err(OpenFault::Refused),
     }
 }
 

@@ -17,7 +17,7 @@ ghost use Rattle.om_runner.specs.steps.Wiring.{IsWired};
 
 use crate::config::Config;
 use crate::fault::RunFault;
-use crate::ground::{Alone, Beside, Cluster, ground_of};
+use crate::ground::{Cluster, MainTask, OnlyJoin, ground_of};
 use crate::harvest::{Harvest, gathered_in};
 use crate::network::Ends;
 use crate::opener::{Gate, Opener};
@@ -42,7 +42,7 @@ pub(crate) fn run_workers<
     R: Threads + Wait + Clock + Sync,
     G: Gate + Sync,
     O: Opener<R> + Sync,
-    B: Beside<K, R>,
+    B: MainTask<K, R>,
 >(
     cluster: &Cluster<'_, K, R, G, O>,
     ends: Vec<Ends>,
@@ -199,7 +199,7 @@ fn run_named<
         bells: &ground.bells,
         received: &ground.received,
     };
-    let (parts, _) = run_workers(&cluster, ends, passes, Alone);
+    let (parts, _) = run_workers(&cluster, ends, passes, OnlyJoin);
     let (report, stores, witnesses, _) = close(&cluster, parts?)?;
     Ok((report, stores, witnesses))
 }

@@ -19,7 +19,7 @@ use crate::config::Config;
 use crate::fault::RunFault;
 use crate::follower::{FollowFault, Follower};
 use crate::following::Following;
-use crate::ground::{Beside, Cluster, ground_of, stop_all};
+use crate::ground::{Cluster, MainTask, ground_of, stop_all};
 use crate::opener::{Gate, Opener};
 use crate::report::Report;
 use crate::results::Parts;
@@ -33,11 +33,11 @@ use std::thread::Threads;
 use std::time::Clock;
 
 // It tells a follower of what they release. Where the run is to come to no end, it stops them.
-impl<'h, K: Naming, R: Wait, F: Follower> Beside<K, R> for Following<'h, K, F> {
+impl<'h, K: Naming, R: Wait, F: Follower> MainTask<K, R> for Following<'h, K, F> {
     ghost Becomes = { λ old new. (start : F) → IsFollowed F.Tells start old.lanes.items old.fault old.follower
         → IsFollowed F.Tells start new.lanes.items new.fault new.follower };
 
-    fn attend<G, O>(self, cluster: &Cluster<'_, K, R, G, O>) -> Following<'h, K, F> {
+    fn run_beside<G, O>(self, cluster: &Cluster<'_, K, R, G, O>) -> Following<'h, K, F> {
         let n = cluster.bells.len();
         let following = self.follow(cluster.rt, cluster.alloc, cluster.shared, n);
         if following.is_over() {

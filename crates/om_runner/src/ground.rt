@@ -104,23 +104,23 @@ pub(crate) fn stop_all<K: Naming, R, G, O>(cluster: &Cluster<'_, K, R, G, O>) {
 }
 
 // What the thread that starts the others does beside them.
-pub(crate) trait Beside<K: Naming, R>: Drop {
+pub(crate) trait MainTask<K: Naming, R>: Drop {
     // What it may have become.
     ghost Becomes: { Self → Self → Type 0 };
 
     // Until the others have ended.
-    fn attend<G, O>(self, cluster: &Cluster<'_, K, R, G, O>) -> Self
+    fn run_beside<G, O>(self, cluster: &Cluster<'_, K, R, G, O>) -> Self
         ensures { Becomes self result };
 }
 
 // It waits for them.
 #[derive(Drop)]
-pub(crate) struct Alone;
+pub(crate) struct OnlyJoin;
 
-impl<K: Naming, R> Beside<K, R> for Alone {
+impl<K: Naming, R> MainTask<K, R> for OnlyJoin {
     ghost Becomes = { λ _ _. Unit {0} };
 
-    fn attend<G, O>(self, _cluster: &Cluster<'_, K, R, G, O>) -> Alone {
+    fn run_beside<G, O>(self, _cluster: &Cluster<'_, K, R, G, O>) -> OnlyJoin {
         self
     }
 }

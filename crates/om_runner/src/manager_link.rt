@@ -532,7 +532,7 @@ impl<'a, K: Naming> ManagerLink<'a, K> {
         ensures heard { IfOk result (λ r. HasHeard board.old.manager self.old.pid r.0) }
         ensures board { board.new ≡ board.old }
     {
-        // The next gathering may be open already: `seen` stays, so that the next turn looks for it.
+        // The next gathering may be open already. `failures` stays as it was, so the next turn looks for it.
         let (_, pass) = self.shared.frontier.meet(rt, board, pass);
         let manager = board.manager();
         let verdict = manager.verdict(self.pid);

@@ -14,7 +14,7 @@ use crate::cargo::Went;
 use crate::config::Config;
 use crate::fault::RunFault;
 use crate::flying::{FlightChannel, flight_channel, write_all};
-use crate::ground::{Beside, Cluster, stop_all};
+use crate::ground::{Cluster, MainTask, stop_all};
 use crate::links::Links;
 use crate::network::Ends;
 use crate::opener::{Gate, Opener};
@@ -217,7 +217,7 @@ pub(crate) fn run_scoped<
     R: Threads + Wait + Clock + Sync,
     G: Gate + Sync,
     O: Opener<R> + Sync,
-    B: Beside<K, R>,
+    B: MainTask<K, R>,
 >(
     cluster: &Cluster<'_, K, R, G, O>,
     ends: Vec<Ends>,
@@ -268,7 +268,7 @@ pub(crate) fn run_scoped<
             let Some(handles) = start_all(scope, cluster, ends, passes, handles) else {
                 return (Err(RunFault::NoThread), beside);
             };
-            let beside = beside.attend(cluster);
+            let beside = beside.run_beside(cluster);
             match join_promised(cluster.rt, handles) {
                 Ok(results) => (Ok(results), beside),
                 Err(_) => (Err(RunFault::Memory), beside),

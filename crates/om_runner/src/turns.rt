@@ -25,7 +25,7 @@ use std::time::Clock;
 
 // What a turn of a worker leads to.
 #[derive(Drop)]
-pub(crate) enum Turned<'a, K: Naming, J: Series, S: Stable> {
+pub(crate) enum AfterTurn<'a, K: Naming, J: Series, S: Stable> {
     // There are more.
     On(WorkerState<'a, J, S>, Pass<K>),
     // All processes are quiet: how this one ended, its outputs, and its store.
@@ -40,7 +40,7 @@ fn leave<'a, K: Naming, J: Series, S: Stable, R: Wait>(
     worker: &mut Worker<'a, K>,
     node: Node<'a, J, S>,
     pass: Pass<K>,
-) -> Result<Turned<'a, K, J, S>, RunFault>
+) -> Result<AfterTurn<'a, K, J, S>, RunFault>
     requires own { node.member.own ≡ worker.old.links.own }
     requires landed { node.away ≡ false }
     ensures same { worker.new.links ≡ worker.old.links }
@@ -49,7 +49,7 @@ fn leave<'a, K: Naming, J: Series, S: Stable, R: Wait>(
 {
     let harvest = match worker.harvest(rt, alloc, node.core().made()) {
         Ok(Some(harvest)) => harvest,
-        Ok(None) => return Ok(Turned::On(WorkerState::Up(node), pass)),
+        Ok(None) => return Ok(AfterTurn::On(WorkerState::Up(node), pass)),
         Err(worker_fault) => {
             drop(node);
             return Err(worker_fault.of(worker.pid()));
@@ -57,8 +57,8 @@ fn leave<'a, K: Naming, J: Series, S: Stable, R: Wait>(
     };
     worker.end(node.core().machine().count());
     match node.end() {
-        Ok((status, store)) => Ok(Turned::Over(status, harvest, store)),
-        Err(node) => Ok(Turned::On(WorkerState::Up(node), pass)),
+        Ok((status, store)) => Ok(AfterTurn::Over(status, harvest, store)),
+        Err(node) => Ok(AfterTurn::On(WorkerState::Up(node), pass)),
     }
 }
 
@@ -70,7 +70,7 @@ fn take_turn<'a, K: Naming, J: Series, S: Ledger, R: Wait + Clock>(
     worker: &mut Worker<'a, K>,
     place: WorkerState<'a, J, S>,
     pass: Pass<K>,
-) -> Result<Turned<'a, K, J, S>, RunFault>
+) -> Result<AfterTurn<'a, K, J, S>, RunFault>
     requires own { (member_of place).own ≡ worker.old.links.own }
     requires program { slice_get K.programs (member_of place).own ≡ Some (member_of place).program }
     requires size { (member_of place).n ≡ K.cell.n }
@@ -85,8 +85,8 @@ fn take_turn<'a, K: Naming, J: Series, S: Ledger, R: Wait + Clock>(
         Err(worker_fault) => return Err(worker_fault.of(worker.pid())),
     };
     match place {
-        WorkerState::Over(node) => leave(rt, alloc, worker, node, pass),
-        place => Ok(Turned::On(place, pass)),
+        WorkerState::AllQuiet(node) => leave(rt, alloc, worker, node, pass),
+        place => Ok(AfterTurn::On(place, pass)),
     }
 }
 
@@ -122,12 +122,12 @@ fn turns_until_over<'a, K: Naming, J: Series, S: Ledger, R: Wait + Clock>(
             break;
         }
         match take_turn(rt, alloc, worker, place, pass)? {
-            Turned::On(next, met) => {
+            AfterTurn::On(next, met) => {
                 left = left.saturating_sub(worker.extra());
                 place = next;
                 pass = met;
             }
-            Turned::Over(status, harvest, store) => return Ok((status, harvest, store)),
+            AfterTurn::Over(status, harvest, store) => return Ok((status, harvest, store)),
         }
     }
     // Dropped by a call: at the end of the scope each part of each place would be dropped in turn.

@@ -43,8 +43,8 @@ const ALL_TURNS: u64 = u64::MAX;
 // How many receipts of a log are stored where all are.
 const ALL_RECEIPTS: usize = usize::MAX;
 
-// A worker, but for its process. Where it gives a process up for a worker_fault it drops it by a call: at the end of the scope each
-// part of the process would be dropped in turn.
+// A worker, but for its process. At a `WorkerFault` the process is dropped by a call, since at the end of a scope each of its parts
+// would be, which the prover goes through one by one.
 #[derive(Drop)]
 pub(crate) struct Worker<'a, K: Naming> {
     plan: &'a Config,
@@ -272,11 +272,11 @@ impl<'a, K: Naming> Worker<'a, K> {
         self.extra = 0;
         match place {
             WorkerState::Up(node) => self.go_on(rt, alloc, node, pass),
-            WorkerState::Called(node) => self.join(rt, alloc, node, pass),
-            WorkerState::In(node) => self.wait_in(rt, alloc, node, pass),
+            WorkerState::MustJoin(node) => self.join(rt, alloc, node, pass),
+            WorkerState::Joined(node) => self.wait_in(rt, alloc, node, pass),
             WorkerState::Failed(down_node) => self.declare(rt, alloc, down_node, pass),
             WorkerState::Down(down_node) => self.wait_down(rt, alloc, down_node, pass),
-            WorkerState::Over(node) => Ok((WorkerState::Over(node), pass)),
+            WorkerState::AllQuiet(node) => Ok((WorkerState::AllQuiet(node), pass)),
         }
     }
 
@@ -412,10 +412,10 @@ impl<'a, K: Naming> Worker<'a, K> {
                 }
                 self.receive(rt, alloc, node, status)
             }
-            ManagerPhase::Gathers => Ok(TurnOutcome::Called),
+            ManagerPhase::Gathers => Ok(TurnOutcome::MustJoin),
             ManagerPhase::Quiet => {
                 self.links.wake_all();
-                Ok(TurnOutcome::Over)
+                Ok(TurnOutcome::AllQuiet)
             }
         }
     }

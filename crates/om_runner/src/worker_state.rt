@@ -17,15 +17,15 @@ pub(crate) enum WorkerState<'a, J: Series, S: Stable> {
     // It runs.
     Up(Node<'a, J, S>),
     // A gathering is open, which it is to join.
-    Called(Node<'a, J, S>),
+    MustJoin(Node<'a, J, S>),
     // It joined, and waits for the round to be finished.
-    In(Node<'a, J, S>),
+    Joined(Node<'a, J, S>),
     // It failed, which the manager is still to be told.
     Failed(DownNode<'a, J, S>),
     // It failed, and waits for the round to be finished.
     Down(DownNode<'a, J, S>),
     // All processes are quiet.
-    Over(Node<'a, J, S>),
+    AllQuiet(Node<'a, J, S>),
 }
 
 impl<'a, J: Series, S: Stable> WorkerState<'a, J, S> {
@@ -34,9 +34,9 @@ impl<'a, J: Series, S: Stable> WorkerState<'a, J, S> {
         ensures { result ≡ doing_at self.now }
     {
         match self {
-            WorkerState::Up(node) | WorkerState::Over(node) => Doing::Up(node.core().status()),
-            WorkerState::Called(_) => Doing::Called,
-            WorkerState::In(_) => Doing::Joined,
+            WorkerState::Up(node) | WorkerState::AllQuiet(node) => Doing::Up(node.core().status()),
+            WorkerState::MustJoin(_) => Doing::Called,
+            WorkerState::Joined(_) => Doing::Joined,
             WorkerState::Failed(_) | WorkerState::Down(_) => Doing::Down,
         }
     }
@@ -48,9 +48,9 @@ impl<'a, J: Series, S: Stable> WorkerState<'a, J, S> {
         let doing = self.doing();
         match self {
             WorkerState::Up(node)
-            | WorkerState::Called(node)
-            | WorkerState::In(node)
-            | WorkerState::Over(node) => { sight_of(node.core(), doing, before) }
+            | WorkerState::MustJoin(node)
+            | WorkerState::Joined(node)
+            | WorkerState::AllQuiet(node) => { sight_of(node.core(), doing, before) }
             WorkerState::Failed(_) | WorkerState::Down(_) => Sight { doing, ..before },
         }
     }
@@ -76,11 +76,11 @@ pub(crate) enum TurnOutcome {
     // It goes on.
     Up,
     // A gathering is open.
-    Called,
+    MustJoin,
     // It fails.
     Failed,
     // All processes are quiet.
-    Over,
+    AllQuiet,
 }
 
 impl TurnOutcome {
@@ -96,9 +96,9 @@ impl TurnOutcome {
     {
         match self {
             TurnOutcome::Up => WorkerState::Up(node),
-            TurnOutcome::Called => WorkerState::Called(node),
+            TurnOutcome::MustJoin => WorkerState::MustJoin(node),
             TurnOutcome::Failed => WorkerState::Failed(node.fail()),
-            TurnOutcome::Over => WorkerState::Over(node),
+            TurnOutcome::AllQuiet => WorkerState::AllQuiet(node),
         }
     }
 }

@@ -4,6 +4,7 @@
 //! - `names`: how they are named, and `identity`: which file one is, whatever its names
 //! - `places`: the files that a run makes for stores of its own; `files_before`: those that a run finds which takes up stores
 //! - `clashing`: whether a file that is to be written beside them is one that the run has, or a database
+//! - `options`: how the database of one is opened
 //! - `settling`: each store in its one file, behind a run
 //! - `noting`: what the system answered where one of them failed
 #![tactic(auto)]
@@ -13,6 +14,7 @@ mod files_before;
 mod identity;
 mod names;
 mod noting;
+mod options;
 mod places;
 mod settling;
 
@@ -21,5 +23,6 @@ pub use files_before::FilesBefore;
 pub use identity::Identity;
 pub use names::{is_written, log_of, store_of};
 pub use noting::{Note, NotedFile, Notes};
+pub use options::{CACHE_PAGES, connection_options};
 pub use places::{PlaceError, Places};
 pub use settling::settle;

@@ -1,7 +1,9 @@
 //! The files of a cluster behind its run.
 
 use crate::names::{is_written, log_of, store_of};
-use sqlite::Connection;
+use crate::options::connection_options;
+use sqlite::{Connection, FileStore};
+use sqlite_std_file::{File, Unknown, open};
 use std::alloc::AllocError;
 use std::fs;
 use std::thread::{Threads, map_indices};
@@ -26,10 +28,17 @@ fn settle_one(rt: &HostRuntime, prefix: &str, process: usize) -> Result<(), Allo
     if !is_written(rt, &log) {
         return Ok(());
     }
-    if let Ok(conn) = Connection::open(rt, &file) {
+    if let Some(conn) = connected(rt, file.as_str()) {
         if conn.close().is_ok() {
             let _ = fs::remove_file(rt, log.as_str());
         }
     }
     Ok(())
+}
+
+// Opens the database of a store, with the small cache that its run had.
+fn connected(rt: &HostRuntime, file: &str) -> Option<Connection<FileStore<File>>> {
+    let options = connection_options(rt)?;
+    let pair = open(rt, file, Unknown).ok()?;
+    Connection::open_files(rt.alloc(), pair, options).ok()
 }

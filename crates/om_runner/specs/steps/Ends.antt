@@ -14,8 +14,8 @@ use Rattle.om_runner.specs.declared.fault.RunFault.{RunFault}
 use Rattle.om_runner.specs.declared.fault.RunFault.TheVariants.{Turns, GateShut, Memory, Fault, Load, StoreInUse, AnotherCluster, StoreMissing, NoThread}
 use Rattle.om_runner.specs.declared.starting.EndOf.{EndOf}
 use Rattle.om_runner.specs.declared.results.Finished.{Finished}
-use Rattle.om_runner.specs.declared.turns.Turned.{Turned}
-use Rattle.om_runner.specs.declared.turns.Turned.TheVariants.{On, Over}
+use Rattle.om_runner.specs.declared.turns.AfterTurn.{AfterTurn}
+use Rattle.om_runner.specs.declared.turns.AfterTurn.TheVariants.{On, Over}
 use Rattle.om_runner.specs.steps.Network.{Lines}
 use Rattle.om_runner.specs.steps.Nodes.{Member}
 use Rattle.om_runner.specs.steps.Places.{IsLanded, member_of}
@@ -29,7 +29,7 @@ pub record IsEndOf {K S : Type 0} (is_clean : S → Bool) (program : Program) (l
   pub ends : HasEnds n lines own f.ends
 
 -- a turn leaves the process the member that it is, with no flight under way where it does not run on, or it has ended so
-abbrev pub IsTurned : {K J S : Type 0} → (S → Bool) → Member → Turned K J S → Type 0
+abbrev pub IsTurned : {K J S : Type 0} → (S → Bool) → Member → AfterTurn K J S → Type 0
 IsTurned is_clean m (On place pass) = (member_of place ≡ m) × IsLanded place
 IsTurned is_clean m (Over status harvest store) =
     IsEnd status × (harvest.own ≡ m.own)

@@ -15,7 +15,7 @@ use Rattle.om_runner.specs.declared.manager_link.RoundOutcome.{RoundOutcome}
 use Rattle.om_runner.specs.declared.manager_link.ManagerPhase.{ManagerPhase}
 use Rattle.om_runner.specs.declared.manager_link.ManagerPhase.TheVariants as standings
 use Rattle.om_runner.specs.declared.worker_state.WorkerState.{WorkerState}
-use Rattle.om_runner.specs.declared.worker_state.WorkerState.TheVariants.{Up, Called, In, Failed, Down, Over}
+use Rattle.om_runner.specs.declared.worker_state.WorkerState.TheVariants.{Up, MustJoin, Joined, Failed, Down, AllQuiet}
 use Rattle.om_runner.specs.declared.worker_state.TurnOutcome.{TurnOutcome}
 use Rattle.om_runner.specs.declared.worker_state.TurnOutcome.TheVariants as steps
 use Rattle.om_runner.specs.declared.idle.Pause.{Pause}
@@ -43,16 +43,16 @@ HasReported n p round status old standing =
 -- where a process stands after a step
 abbrev pub place_after : {J S : Type 0} → TurnOutcome → NodeState → WorkerState J S
 place_after steps.Up node = Up node
-place_after steps.Called node = Called node
+place_after steps.MustJoin node = MustJoin node
 place_after steps.Failed node = Failed node.member
-place_after steps.Over node = Over node
+place_after steps.AllQuiet node = AllQuiet node
 
 -- of one that steps elsewhere no flight is under way
 abbrev pub IsLandedAt : TurnOutcome → NodeState → Type 0
 IsLandedAt steps.Up node = Unit {0}
-IsLandedAt steps.Called node = node.away ≡ false
+IsLandedAt steps.MustJoin node = node.away ≡ false
 IsLandedAt steps.Failed node = node.away ≡ false
-IsLandedAt steps.Over node = node.away ≡ false
+IsLandedAt steps.AllQuiet node = node.away ≡ false
 
 -- the manager told a process of the last finished round
 abbrev pub WasTold : ℕ → ℕ → RoundOutcome → Type 0
@@ -71,16 +71,16 @@ HasComeBack told m next =
 -- a process that was called is in, once it stored its log and handed over all; the failure of one that failed in this round
 -- is declared. One that waits for a round to be finished waits on, or it was told of it, and is up again as the round has it
 abbrev pub IsTurnOf : {J S : Type 0} → ℕ → ℕ → WorkerState J S → WorkerState J S → Type 0
-IsTurnOf n round (Called old) next =
-    (new : NodeState) × (next ≡ In new)
+IsTurnOf n round (MustJoin old) next =
+    (new : NodeState) × (next ≡ Joined new)
     × UnderLock n (λ before after. HasJoined before.manager old.member.own (flushed old.core) after.manager new.core)
 IsTurnOf n round (Failed down_node) next =
     (next ≡ Down down_node) × UnderLock n (λ before after. HasDeclared before.manager down_node.own round after.manager)
-IsTurnOf n round (In old) next = (next ≡ In old) ⊎ ((told : RoundOutcome) × WasTold n old.member.own told × HasRisen told old next)
+IsTurnOf n round (Joined old) next = (next ≡ Joined old) ⊎ ((told : RoundOutcome) × WasTold n old.member.own told × HasRisen told old next)
 IsTurnOf n round (Down down_node) next =
     (next ≡ Down down_node) ⊎ ((told : RoundOutcome) × WasTold n down_node.own told × HasComeBack told down_node next)
 IsTurnOf n round (Up node) next = Unit {0}
-IsTurnOf n round (Over node) next = next ≡ Over node
+IsTurnOf n round (AllQuiet node) next = next ≡ AllQuiet node
 
 -- how many turns a pause counts as, after so many idle ones
 abbrev pub pause_turns : ℕ → Pause → ℕ

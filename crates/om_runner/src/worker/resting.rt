@@ -52,8 +52,8 @@ impl<'a, K: Naming> Worker<'a, K> {
         }
     }
 
-    // Sleeps, while the board knows that the process waits. Where all wait, all turns that are left are idle, and they are spent
-    // at once.
+    // Sleeps, while the board knows that the process waits. Where all wait, nothing can happen any more: all turns that are left are
+    // spent at once, and the run ends with `Turns`.
     fn wait<R: Wait + Clock>(&mut self, rt: &R) -> Pause
         ensures same { self.new.links ≡ self.old.links }
         ensures waited { HasRested K.cell.n self.old.manager_link.pid self.old.manager_link.round self.old.idle.turns result self.new.extra }

@@ -67,11 +67,11 @@ impl<'a, K: Naming> Worker<'a, K> {
         ensures same { self.new.links ≡ self.old.links }
         ensures place { IfOk result (λ r. member_of r.0 ≡ node.entry.member) }
         ensures landed { IfOk result (λ r. IsLanded r.0) }
-        ensures turned { IfOk result (λ r. IsTurnOf K.cell.n self.old.manager_link.round (WorkerState.Called node.entry) r.0) }
+        ensures turned { IfOk result (λ r. IsTurnOf K.cell.n self.old.manager_link.round (WorkerState.MustJoin node.entry) r.0) }
     {
         let mut node = node;
         match self.enter(rt, alloc, &mut node, pass) {
-            Ok(pass) => Ok((WorkerState::In(node), pass)),
+            Ok(pass) => Ok((WorkerState::Joined(node), pass)),
             Err(worker_fault) => {
                 drop(node);
                 Err(worker_fault)
@@ -146,7 +146,7 @@ impl<'a, K: Naming> Worker<'a, K> {
         ensures same { self.new.links ≡ self.old.links }
         ensures place { IfOk result (λ r. member_of r.0 ≡ node.entry.member) }
         ensures landed { IfOk result (λ r. IsLanded r.0) }
-        ensures turned { IfOk result (λ r. IsTurnOf K.cell.n self.old.manager_link.round (WorkerState.In node.entry) r.0) }
+        ensures turned { IfOk result (λ r. IsTurnOf K.cell.n self.old.manager_link.round (WorkerState.Joined node.entry) r.0) }
     {
         let (told, pass) = match self.listen(rt, alloc, pass) {
             Ok(heard) => heard,
@@ -156,7 +156,7 @@ impl<'a, K: Naming> Worker<'a, K> {
             }
         };
         match told {
-            None => Ok((WorkerState::In(node), pass)),
+            None => Ok((WorkerState::Joined(node), pass)),
             Some(told) => {
                 let place = self.rise(rt, alloc, node, &told)?;
                 Ok((place, pass))

@@ -5,9 +5,9 @@ use Rattle.om_runner.specs.steps.Nodes.{Member}
 use Rattle.om_runner.specs.steps.Places.{member_of}
 use Rattle.om_runner.proofs.turns.take_turn.Goals as goal
 
-pub returns-in-Over-clause-turned : goal.returns-in-Over-clause-turned
-returns-in-Over-clause-turned g c =
-    let same : c.in-Over.node.member ≡ member_of c.args.place = sym (ap member_of c.in-Over.is) ∙ c.in-Ok.ensures.place in
+pub returns-in-AllQuiet-clause-turned : goal.returns-in-AllQuiet-clause-turned
+returns-in-AllQuiet-clause-turned g c =
+    let same : c.in-AllQuiet.node.member ≡ member_of c.args.place = sym (ap member_of c.in-AllQuiet.is) ∙ c.in-Ok.ensures.place in
     subst (λ (m : Member). IfOk c.leave.result (λ t. IsTurned g.S.Stable.is_clean m t)) same c.leave.ensures.turned
 
 pub returns-in_default : goal.returns-in_default
