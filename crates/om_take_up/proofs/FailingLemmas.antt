@@ -16,17 +16,17 @@ use Rattle.om_take_up.specs.Anew.{EachFailed, IsBefore, OnlyFailed}
 use Rattle.om_take_up.specs.steps.Failing.{AreFailed}
 
 -- ---- who is in
-none_away : (n q : ℕ) → presence_of (replicate n Away) q ≡ Away
+pub none_away : (n q : ℕ) → presence_of (replicate n Away) q ≡ Away
 none_away zero q = refl
 none_away (suc n) zero = refl
 none_away (suc n) (suc q) = none_away n q
 
-set_at : (l : List Presence) (p : ℕ) (x : Presence) → p < length l → presence_of (set l p x) p ≡ x
+pub set_at : (l : List Presence) (p : ℕ) (x : Presence) → p < length l → presence_of (set l p x) p ≡ x
 set_at [] p x lt = absurd (omega arith)
 set_at (y ∷ l) zero x lt = refl
 set_at (y ∷ l) (suc p) x lt = set_at l p x (omega arith)
 
-set_off : (l : List Presence) (p q : ℕ) (x : Presence) → q ≢ p → presence_of (set l p x) q ≡ presence_of l q
+pub set_off : (l : List Presence) (p q : ℕ) (x : Presence) → q ≢ p → presence_of (set l p x) q ≡ presence_of l q
 set_off [] p q x other = refl
 set_off (y ∷ l) zero zero x other = absurd (other refl)
 set_off (y ∷ l) zero (suc q) x other = refl

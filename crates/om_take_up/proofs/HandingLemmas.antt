@@ -19,7 +19,7 @@ use Rattle.om_member.specs.Handed.{AreHanded, AreHandedUpTo, held_as, made_of}
 use Rattle.om_member.specs.Told.{AreTold, IsToldUpTo}
 use Rattle.om_process.specs.declared.queues.Made.{Made}
 use Rattle.om_process.specs.declared.row.PendingRow.{PendingRow}
-use Rattle.om_take_up.specs.TakenUp.{HasTakenUp}
+use Rattle.om_take_up.specs.TakenUp.{HasTakenUp, RiseFrom}
 use Rattle.om_take_up.specs.steps.Handing.{Holds}
 
 -- ---- all rows were told, and all outputs handed in
@@ -121,13 +121,25 @@ length_one : (xs : List HeldOutput) (y : HeldOutput) → length xs + 1 ≡ lengt
 length_one [] y = refl
 length_one (x ∷ xs) y = ap suc (length_one xs y)
 
-all_held : (old m new : ManagerState) (p round : ℕ) (xs : List HeldOutput) (ms : List Made) → Holds old p xs m → AreNumberedFrom (length xs) ms → AreHanded m round p ms new → Holds old p (xs ++ map held_as ms) new
-all_held old m new p round xs [] h n same = subst (λ l. Holds old p l new) (sym (append_nil xs)) (subst (Holds old p xs) (sym same) h)
-all_held old m new p round xs (d ∷ ms) h n handed =
+numbered_rise : (seq : ℕ) (ms : List Made) → AreNumberedFrom seq ms → RiseFrom seq ms
+numbered_rise seq [] n = tt
+numbered_rise seq (m ∷ ms) n = (let is = n.0 in omega arith, subst (λ k. RiseFrom (k + 1) ms) (sym n.0) (numbered_rise (seq + 1) ms n.1))
+
+-- what is taken under a number that is not below the next has the next
+next_number : (m new : ManagerState) (p round seq : ℕ) (o : HeldOutput) (note : OutputNote) → length (held_by m p) ≤ seq → NotesOutput m p round seq o (Ok note) new → seq ≡ length (held_by m p)
+next_number m new p round seq o Known le n = absurd (beyond (held_by m p) seq o le n.1)
+next_number m new p round seq o Released le n = n.0.next
+next_number m new p round seq o Held le n = n.0.next
+
+pub all_rising : (old m new : ManagerState) (p round : ℕ) (xs : List HeldOutput) (ms : List Made) → Holds old p xs m → RiseFrom (length xs) ms → AreHanded m round p ms new → Holds old p (xs ++ map held_as ms) new
+all_rising old m new p round xs [] h n same = subst (λ l. Holds old p l new) (sym (append_nil xs)) (subst (Holds old p xs) (sym same) h)
+all_rising old m new p round xs (d ∷ ms) h n handed =
     let mid = handed.0 in let one = handed.2 in
-    let next = one_held old m mid p round d.seq xs (held_as d) handed.1 one.keeps.sound h n.0 one.answers in
+    let long : length (held_by m p) ≡ length xs = ap length h.here in
+    let is : d.seq ≡ length xs = next_number m mid p round d.seq (held_as d) handed.1 (let le = n.0 in omega arith) one.answers ∙ long in
+    let next = one_held old m mid p round d.seq xs (held_as d) handed.1 one.keeps.sound h is one.answers in
     subst (λ l. Holds old p l new) (append_one xs (map held_as ms) (held_as d))
-    (all_held old mid new p round (xs ++ held_as d ∷ []) ms next (subst (λ k. AreNumberedFrom k ms) (length_one xs (held_as d)) n.1) handed.3)
+    (all_rising old mid new p round (xs ++ held_as d ∷ []) ms next (subst (λ k. RiseFrom k ms) (ap (λ k. k + 1) is ∙ length_one xs (held_as d)) n.1) handed.3)
 
 -- ---- an output is refused for memory alone
 at_get : {A : Type 0} (xs : List A) (i : ℕ) (x : A) → slice_get xs i ≡ Some x → (i < length xs) × (x ≡ get_or xs i x)
@@ -191,13 +203,13 @@ module _ (from m : ManagerState) (p round : ℕ) (xs : List Output) (sound : IsM
 
   -- what another manager released is handed in, and all of it is held
   pub released_held : (new : ManagerState) → AreHanded m round p (map made_of xs) new → Holds m p (released_by from p) new
-  released_held new handed = subst (λ l. Holds m p l new) (held_made xs ∙ is) (all_held m m new p round [] (map made_of xs) (none_held m p sound none) from_zero handed)
+  released_held new handed = subst (λ l. Holds m p l new) (held_made xs ∙ is) (all_rising m m new p round [] (map made_of xs) (none_held m p sound none) (numbered_rise 0 (map made_of xs) from_zero) handed)
 
   -- and it is refused for memory alone
   pub released_for_memory : (new : ManagerState) (fault : OutputError) → IsManager from → p < process_count from → p < process_count m → round ≡ m.round → AreHandedUpTo m round p (map made_of xs) (Err fault) new → fault ≡ refused.Memory
   released_for_memory new fault old here lt current u =
       let ms = map made_of xs in let o = u.refused.0 in let at = u.refused.1 in let n = u.refused.2 in
-      let held = all_held m m new p round [] (take u.count ms) (none_held m p sound none) (numbered_take 0 u.count ms from_zero) u.handed in
+      let held = all_rising m m new p round [] (take u.count ms) (none_held m p sound none) (numbered_rise 0 (take u.count ms) (numbered_take 0 u.count ms from_zero)) u.handed in
       let rising : AreRising (map held_as ms) = subst AreRising (sym (held_made xs ∙ is)) (released_rising from p old here) in
       for_memory m new new p round o.seq (map held_as (take u.count ms)) (held_as o) fault held lt current
       (numbered_at 0 u.count ms o from_zero at ∙ zero-add u.count ∙ long_taken ms u.count o at)

@@ -1,2 +1,4 @@
 pub mod FailingLemmas
 pub mod HandingLemmas
+pub mod Orders
+pub mod RowsLemmas

@@ -1,3 +1,5 @@
 pub mod Anew
+pub mod Orders
+pub mod StoreRows
 pub mod TakenUp
 pub mod steps

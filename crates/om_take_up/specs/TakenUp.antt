@@ -1,5 +1,5 @@
 -- What a manager is told of what the store of a process held.
-use Rattle.std.specs.Prelude.{ℕ, List, Result, Ok, Err}
+use Rattle.std.specs.Prelude.{ℕ, ◌+◌, ◌≤◌, List, [], ◌∷◌, Result, Ok, Err}
 use Rattle.om_manager.specs.State.{ManagerState}
 use Rattle.om_member.specs.Handed.{AreHanded, AreHandedUpTo}
 use Rattle.om_member.specs.Told.{AreTold, IsToldUpTo}
@@ -19,3 +19,8 @@ IsTakenUp old round p rows outputs (Ok done) new = HasTakenUp old round p rows o
 IsTakenUp old round p rows outputs (Err (Row fault)) new = (count : ℕ) × IsToldUpTo old round p rows count (Err fault) new
 IsTakenUp old round p rows outputs (Err (Output fault)) new =
     (told : ManagerState) × AreTold old round p rows told × AreHandedUpTo told round p outputs (Err fault) new
+
+-- the numbers of outputs rise, and none is below this one
+abbrev pub RiseFrom : ℕ → List Made → Type 0
+RiseFrom seq [] = Unit {0}
+RiseFrom seq (output ∷ outputs) = (seq ≤ output.seq) × RiseFrom (output.seq + 1) outputs

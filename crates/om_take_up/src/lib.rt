@@ -7,4 +7,5 @@ pub use failing::fail_all;
 pub use taking::{TakeUpFault, take_up};
 
 mod failing;
+pub mod laws;
 mod taking;

@@ -30,7 +30,8 @@ use Rattle.om_world.proofs.Kept.{remade, shape_core, shape_same, sound_core}
 use Rattle.om_world.proofs.Lists.{clean_before, inside, length-map, map_at, map_set, none_in, once, same_map, sound_at, sound_set, there}
 use Rattle.om_world.proofs.Ordered.{notes_refused}
 use Rattle.om_world.proofs.Raising.{GoesOn, sound_manager}
-use Rattle.om_world.proofs.Telling.{told_goes_on, told_outputs, told_rows}
+use Rattle.om_take_up.proofs.RowsLemmas.{told_rows}
+use Rattle.om_world.proofs.Telling.{told_goes_on, told_outputs}
 
 -- ---- one row
 -- what is true of a pending row, as the manager is told it

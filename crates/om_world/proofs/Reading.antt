@@ -34,7 +34,7 @@ use Rattle.om_world.specs.Started.{IsNew}
 use Rattle.om_world.specs.World.{Health, IsEmpty, IsKnown, WorldState, all_clean}
 use Rattle.om_world.specs.steps.Members.{content_in, core_in, health_in, health_of, place_in, round_in, seen, sound_in}
 use Rattle.om_world.specs.steps.Moves.{IsCalled, refusal_of_record}
-use Rattle.om_world.specs.steps.Restarting.{HasLearned, HasRead, HasRowsUpTo, HasToldStores, IsRefusal, IsToldRows, refusal_of_rows, refusal_of_take_up}
+use Rattle.om_world.specs.steps.Restarting.{HasLearned, HasRead, HasRowsUpTo, HasToldStores, IsRefusal, refusal_of_rows, refusal_of_take_up}
 use Rattle.om_world.specs.steps.Running.{refusal_of_output}
 use Rattle.om_world.specs.steps.Sound.{IsWorld, Sound}
 use Rattle.om_world.proofs.Beginning.{index_same}
@@ -45,7 +45,9 @@ use Rattle.om_world.proofs.Kept.{remade, shape_same}
 use Rattle.om_world.proofs.Lists.{clean_before, either, length-map, map_at, map_set, sound_at, sound_set}
 use Rattle.om_world.proofs.Noting.{over}
 use Rattle.om_world.proofs.Recording.{set_back}
-use Rattle.om_world.proofs.RowsTold.{AreAdded, are_added, no_rows, one_store}
+use Rattle.om_take_up.specs.steps.Telling.{IsToldRows}
+use Rattle.om_take_up.proofs.RowsLemmas.{AreAdded, are_added}
+use Rattle.om_world.proofs.RowsTold.{no_rows, one_store}
 use Rattle.om_world.proofs.Seats.{called_in, restored}
 
 abbrev IsSame : Content → Content → Type 0

@@ -13,7 +13,7 @@ use Rattle.om_member.specs.declared.member.Member.{Member}
 use Rattle.om_manager.specs.Gatherings.{AreAllIn, presences_of}
 use Rattle.om_manager.specs.Sound.{IsManager, KeepsReleased}
 use Rattle.om_manager.specs.State.{ManagerState, held_by, process_count, released_by}
-use Rattle.om_take_up.specs.Anew.{EachFailed, IsBefore, OnlyFailed}
+use Rattle.om_take_up.specs.Anew.{EachFailed, IsBefore, IsFirst, OnlyFailed}
 use Rattle.om_world.specs.declared.entry.Entry.{Entry}
 use Rattle.om_world.specs.declared.event.Answer.TheVariants as answers
 use Rattle.om_world.specs.declared.event.Event.{Event}
@@ -24,7 +24,7 @@ use Rattle.om_world.specs.Changes.{HasFailed, NoneFell}
 use Rattle.om_world.specs.Disk.{IsSettled, held_in}
 use Rattle.om_world.specs.Happened.{Happened, Refused}
 use Rattle.om_world.specs.Live.{cut_list}
-use Rattle.om_world.specs.Restarted.{HasRestarted, IsFirst, anew}
+use Rattle.om_world.specs.Restarted.{HasRestarted, anew}
 use Rattle.om_world.specs.Started.{IsNew}
 use Rattle.om_world.specs.StoreRows.{HasRowsOf}
 use Rattle.om_world.specs.World.{Health, IsKnown, WorldState, all_clean, recovered}

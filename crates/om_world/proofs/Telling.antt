@@ -7,12 +7,11 @@ use Rattle.om_recover.specs.Rows.{HasRow, Rows}
 use Rattle.om_recover.specs.declared.row.Row.{Row}
 use Rattle.om_recover.specs.declared.note.Note.{Note}
 use Rattle.om_recover.specs.declared.note.Note.TheVariants.{Noted, Known}
-use Rattle.om_recover.proofs.RowsLemmas.{kept, of_inserted}
+use Rattle.om_take_up.proofs.RowsLemmas.{told_kept}
 use Rattle.om_manager.specs.Notes.{after_note}
 use Rattle.om_manager.specs.Outputs.{HeldOutput, within}
 use Rattle.om_manager.specs.Sound.{IsManager, KeepsReleased}
 use Rattle.om_manager.specs.State.{ManagerState, process_count, released_by}
-use Rattle.om_world.specs.Changes.{row_for}
 use Rattle.om_world.specs.steps.Moves.{AreTold, IsTold}
 use Rattle.om_world.proofs.Raising.{GoesOn, beyond, less}
 
@@ -51,15 +50,6 @@ after_outputs : (m : ManagerState) (note : Note) (rows : Rows) (state : List ℕ
 after_outputs m (Noted true) rows state = refl
 after_outputs m (Noted false) rows state = refl
 after_outputs m Known rows state = refl
-
--- the rows are those before, with the new one
-pub told_kept : (old new : ManagerState) (round p : ℕ) (row : PendingRow) (note : Note) → IsTold old round p row (Ok note) new → (other : Row) → HasRow old.rows other → HasRow new.rows other
-told_kept old new round p row (Noted raised) t other has = subst (λ rows. HasRow rows other) (sym t.answers.1.1) (kept old.rows (row_for p row) other has)
-told_kept old new round p row Known t other has = subst (λ rows. HasRow rows other) (sym t.answers.1.3) has
-
-pub told_rows : (old new : ManagerState) (round p : ℕ) (row : PendingRow) (note : Note) → IsTold old round p row (Ok note) new → (other : Row) → HasRow new.rows other → HasRow old.rows other ⊎ (other ≡ row_for p row)
-told_rows old new round p row (Noted raised) t other has = elim (of_inserted old.rows (row_for p row) other (subst (λ rows. HasRow rows other) t.answers.1.1 has)) [ inl same ↦ inr same | inr old ↦ inl old ]
-told_rows old new round p row Known t other has = inl (subst (λ rows. HasRow rows other) t.answers.1.3 has)
 
 -- ---- a manager of which some is released goes on
 pub below_all : (low high : List ℕ) (q : ℕ) → IsBelow low high → get_or low q 0 ≤ get_or high q 0

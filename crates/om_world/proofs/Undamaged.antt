@@ -55,7 +55,8 @@ use Rattle.om_world.proofs.Ordered.{offers_by}
 use Rattle.om_world.proofs.Raising.{less}
 use Rattle.om_world.proofs.Reading.{held_same, known_read, same_but, settled_after}
 use Rattle.om_world.proofs.Returning.{what}
-use Rattle.om_world.proofs.RowsTold.{AreAdded, all_stores, are_added, row_pid, same_rows}
+use Rattle.om_take_up.proofs.RowsLemmas.{AreAdded, are_added, row_pid}
+use Rattle.om_world.proofs.RowsTold.{all_stores, same_rows}
 use Rattle.om_world.proofs.StoredRows.{Each, IsTrueRow, base_true, each_append, each_at, next_number, next_true, store_true}
 use Rattle.om_world.proofs.TrueRows.{IsTrueOf, first_true, for_true}
 

@@ -2,8 +2,8 @@
 use Rattle.std.specs.Prelude.{◌≡◌, ℕ, ◌<◌, [], ◌∷◌, length, replicate, None, true}
 use Rattle.om_interval.specs.Vectors.{IsBelow}
 use Rattle.om_recover.specs.Recoverable.{IsGreatest}
-use Rattle.om_manager.specs.State.{ManagerState, held_by, process_count, released_by}
-use Rattle.om_take_up.specs.Anew.{EachFailed}
+use Rattle.om_manager.specs.State.{ManagerState, held_by, released_by}
+use Rattle.om_take_up.specs.Anew.{EachFailed, IsFirst}
 use Rattle.om_world.specs.Disk.{IsSettled, held_in}
 use Rattle.om_world.specs.Live.{cut_list}
 use Rattle.om_world.specs.StoreRows.{HasRowsOf}
@@ -20,12 +20,6 @@ anew w m = record w {
   rounds = replicate (length w.programs) 0;
   manager = m;
 }
-
--- a manager of n processes that has finished no round, each process in its first incarnation
-pub record IsFirst (n : ℕ) (m : ManagerState) : Type 0 where
-  pub size : process_count m ≡ n
-  pub starts : m.starts ≡ replicate n (0 ∷ [])
-  pub round : m.round ≡ 0
 
 -- a new manager was told the rows of the stores, and what was released, under its numbers; it recovers the greatest state that
 -- these rows allow, which is no less than was recovered. Then each process failed, and the round is finished with that state

@@ -1,7 +1,6 @@
 -- A world at its start, and why there is none.
 use Rattle.std.specs.Prelude.{◌≡◌, ℕ, ◌<◌, ◌≤◌, ◌↔◌, List, [], ◌∷◌, length, replicate, slice_get, Bool, IsSome, IsTrue, false, None, Some}
 use Rattle.std.specs.FinMap.{get}
-use Rattle.om_interval.specs.declared.pid.TheConstants.{MAX_PROCESSES}
 use Rattle.om_isa.specs.Memory.{IsMemorySize}
 use Rattle.om_stable.specs.Calls.{IsCleanCall}
 use Rattle.om_stable.specs.Content.{Content}
@@ -12,24 +11,9 @@ use Rattle.om_process.specs.Process.{Program}
 use Rattle.om_process.specs.Core.{CoreState}
 use Rattle.om_process.specs.Starting.{started_core}
 use Rattle.om_process.specs.Stores.{HasGainedCheckpoint}
-use Rattle.om_recover.specs.Records.{first_row}
-use Rattle.om_recover.specs.Rows.{HasRow}
-use Rattle.om_recover.specs.declared.row.Row.{Row}
-use Rattle.om_manager.specs.State.{ManagerState}
+pub use Rattle.om_take_up.specs.Anew.{IsNew}
 use Rattle.om_world.specs.declared.process_state.ProcessState.{ProcessState}
 use Rattle.om_world.specs.World.{WorldState}
-
--- the manager of n processes at their start: checkpoint 0 of each, and nothing else
-pub record IsNew (n : ℕ) (m : ManagerState) : Type 0 where
-  pub rows : (row : Row) → HasRow m.rows row ↔ ((row.pid < n) × (row ≡ first_row n row.pid))
-  pub recovery : m.recovery ≡ replicate n 0
-  pub outputs : m.outputs ≡ replicate n []
-  pub starts : m.starts ≡ replicate n (0 ∷ [])
-  pub round : m.round ≡ 0
-  pub gathering : m.gathering ≡ None
-  pub last : m.last ≡ replicate n 0
-  pub backs : m.backs ≡ replicate MAX_PROCESSES false
-  pub version : m.version ≡ 0
 
 -- each process is up at its program's start, and nothing was sent or received
 pub record IsStarted (given : List Program) (w : WorldState) : Type 0 where

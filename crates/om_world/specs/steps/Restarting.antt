@@ -11,14 +11,13 @@ use Rattle.om_recover.specs.declared.row.Row.{Row}
 use Rattle.om_stable.specs.Content.{Content}
 use Rattle.om_manager.specs.Sound.{IsManager}
 use Rattle.om_manager.specs.State.{ManagerState, held_by, process_count, released_by}
-use Rattle.om_take_up.specs.Anew.{EachFailed}
+use Rattle.om_take_up.specs.Anew.{EachFailed, IsFirst}
 use Rattle.om_take_up.specs.declared.taking.TakeUpFault.{TakeUpFault}
 use Rattle.om_take_up.specs.declared.taking.TakeUpFault.TheVariants as take_ups
 use Rattle.om_world.specs.declared.event.Refusal.{Refusal}
 use Rattle.om_world.specs.declared.event.Refusal.TheVariants as why
 use Rattle.om_world.specs.Changes.{NoneFell}
 use Rattle.om_world.specs.Disk.{held_in}
-use Rattle.om_world.specs.Restarted.{IsFirst}
 use Rattle.om_world.specs.StoreRows.{HasRowsOf, first_row}
 use Rattle.om_world.specs.World.{WorldState, IsKnown, all_clean}
 use Rattle.om_world.specs.steps.Moves.{refusal_of_record}
@@ -30,12 +29,6 @@ pub record HasRead (old new : WorldState) : Type 0 where
   pub was_clean : all_clean new.health ≡ true → all_clean old.health ≡ true
   pub counts : NoneFell old.health new.health
   pub same : IsKnown new → new.contents ≡ old.contents
-
--- a manager was told rows, and all else of it stays
-pub record IsToldRows (old new : ManagerState) : Type 0 where
-  pub sound : IsManager new
-  pub size : process_count new ≡ process_count old
-  pub others : new ≡ record old { rows = new.rows; recovery = new.recovery; version = new.version }
 
 -- the rows of the stores of the first so many of n processes are there, and checkpoint 0 of each
 pub record HasRowsUpTo (count n : ℕ) (held : ℕ → Content) (rows : Rows) : Type 0 where

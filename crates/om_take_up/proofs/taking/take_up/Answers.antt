@@ -21,6 +21,8 @@ returns-in_err-hand_all g c =
     let state = g.O.ManagerAccess.state in let made = map g.M.HandedOutput.made c.args.outputs.now in let fault = c.in_err-hand_all.field-0.0 in
     let mid = state c.tell_all-end.new.office in let new = state c.hand_all.new.office in
     let from : c.from_residual-in_err-hand_all.result ≡ Err (Output fault) = search rules in
-    subst (λ r. IsTakenUp (state c.args.office.now) c.args.round c.args.pid c.args.rows.now made r new) (sym from)
-    (mid, all_told (state c.args.office.now) mid c.args.round c.args.pid c.tell_all-end.result.0 c.args.rows.now c.tell_all-end.result.1 c.in_ok-end.was c.tell_all-end.ensures,
-    subst (λ e. AreHandedUpTo mid c.args.round c.args.pid made e new) c.in_err-hand_all.was c.hand_all.ensures)
+    subst (λ r. IsTakenUp (state c.args.office.now) c.args.round c.args.pid c.args.rows.now made r new) (sym from) (
+      mid,
+      all_told (state c.args.office.now) mid c.args.round c.args.pid c.tell_all-end.result.0 c.args.rows.now c.tell_all-end.result.1 c.in_ok-end.was c.tell_all-end.ensures,
+      subst (λ e. AreHandedUpTo mid c.args.round c.args.pid made e new) c.in_err-hand_all.was c.hand_all.ensures,
+    )

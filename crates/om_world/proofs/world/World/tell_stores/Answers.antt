@@ -1,5 +1,6 @@
-use Rattle.std.proofs.Common.{◌≡◌, ◌<◌, ◌∙◌, ap, length, map, subst, sym, Err, rules}
+use Rattle.std.proofs.Common.{◌≡◌, ◌<◌, ◌∙◌, ap, arith, length, map, subst, sym, Err, rules}
 use Rattle.std.specs.Prelude.{IfErr}
+use Rattle.std.proofs.lemmas.List.{length-replicate}
 use Rattle.om_manager.specs.Outputs.{held_of}
 use Rattle.om_manager.specs.Sound.{IsManager}
 use Rattle.om_manager.specs.State.{process_count, released_by}
@@ -9,12 +10,27 @@ use Rattle.om_world.specs.World.{WorldState}
 use Rattle.om_world.specs.steps.Restarting.{IsRefusal, refusal_of_rows, refusal_of_take_up}
 use Rattle.om_world.proofs.Lists.{once_err}
 use Rattle.om_world.proofs.Reading.{failed_read, none_told, one_told, read_then, rows_fault, settled_after, taking_refusal}
-use Rattle.om_world.proofs.Standing.{few, known as known_to}
 use Rattle.om_world.proofs.Undamaged.{taken_stand}
 use Rattle.om_world.proofs.world.World.tell_stores.Goals as goal
 
 pub loop-p-init : goal.loop-p-init
 loop-p-init g c = none_told c.args.self.now c.args.manager.now c.requires.sound c.requires.fresh
+
+pub at-pid-requires : goal.at-pid-requires
+at-pid-requires g c =
+    let programs = c.args.self.now.programs in
+    let lt : c.loop-p.p < length programs = subst (λ n. c.loop-p.p < n) c.size-p-end.ensures.programs c.loop-p-test.true in
+    let size : process_count c.args.manager.now ≡ length programs = ap length c.requires.fresh.recovery ∙ length-replicate (length programs) 0 in
+    let few = c.requires.sound.few in omega arith
+
+pub released-requires : goal.released-requires
+released-requires g c =
+    let programs = c.args.self.now.programs in
+    let lt : c.loop-p.p < length programs = subst (λ n. c.loop-p.p < n) c.size-p-end.ensures.programs c.loop-p-test.true in
+    let same : length c.rows_at.new.self.programs ≡ length programs =
+    ap (λ (w : WorldState). length w.programs) c.rows_at.ensures.read.others ∙ ap (λ (w : WorldState). length w.programs) c.loop-p.invariant.read.others in
+    let size : process_count c.self.inside.manager ≡ length programs = c.self.invariant.shape.size ∙ ap (λ (w : WorldState). length w.programs) c.self.view_is ∙ same in
+    let is = c.at-pid.ensures in omega arith
 
 pub returns-in_err-rows-clause-read : goal.returns-in_err-rows-clause-read
 returns-in_err-rows-clause-read g c = read_then c.args.self.now c.loop-p.self c.rows_at.new.self c.loop-p.invariant.read c.rows_at.ensures.read
