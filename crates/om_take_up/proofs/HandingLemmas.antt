@@ -119,7 +119,7 @@ append_one (x ∷ xs) ys y = ap (λ l. x ∷ l) (append_one xs ys y)
 
 length_one : (xs : List HeldOutput) (y : HeldOutput) → length xs + 1 ≡ length (xs ++ y ∷ [])
 length_one [] y = refl
-length_one (x ∷ xs) y = ap suc (length_one xs y)
+length_one (x ∷ xs) y = let rest = length_one xs y in omega arith
 
 numbered_rise : (seq : ℕ) (ms : List Made) → AreNumberedFrom seq ms → RiseFrom seq ms
 numbered_rise seq [] n = tt

@@ -34,10 +34,10 @@ use Rattle.om_take_up.specs.Orders.{Act, AreOfEach, ComeInTurn, StartsOver, acto
 either : (q p : ℕ) → (q ≡ p) ⊎ (q ≢ p)
 either q p = grind arith
 
-none_of : (n q : ℕ) → slice_index_or {X = List HeldOutput} (replicate n []) q [] ≡ []
-none_of zero q = refl
-none_of (suc n) zero = refl
-none_of (suc n) (suc q) = none_of n q
+index_same : {A : Type 0} (n q : ℕ) (x : A) → slice_index_or (replicate n x) q x ≡ x
+index_same zero q x = refl
+index_same (suc n) zero x = refl
+index_same (suc n) (suc q) x = index_same n q x
 
 -- ---- the acts of one process among all
 acts_here : (p : ℕ) (act : Act) (acts : List Act) → actor act ≡ p → acts_of p (act ∷ acts) ≡ act ∷ acts_of p acts
@@ -202,7 +202,7 @@ module _ (n : ℕ) (rows : ℕ → List PendingRow) (outputs : ℕ → List Made
     as_before q other = set_off (presences_of m.gathering) p q Failed other
 
     -- another has still to tell
-    pub has_failed : (act : Act) (more : List Act) (new : ManagerState) (told : Gathered) → acts ≡ act ∷ more → IsManager new → Gathers (with_presence m p Failed) m told new → Underway n rows outputs start acts new
+    has_failed : (act : Act) (more : List Act) (new : ManagerState) (told : Gathered) → acts ≡ act ∷ more → IsManager new → Gathers (with_presence m p Failed) m told new → Underway n rows outputs start acts new
     has_failed act more new Finished some sound g = absurd (g.0 q (let size = u.size in let lt = q_lt in omega arith) (as_before q q_other ∙ q_away))
       where
         q : ℕ
@@ -290,7 +290,7 @@ module _ (n : ℕ) (rows : ℕ → List PendingRow) (outputs : ℕ → List Made
       | inr other ↦ let o = only_failed q (λ away. some (as_before q other ∙ away)) in (o.0, as_before q other ∙ o.1)
     ]
 
-    pub ends : (held : ℕ → Content) (new : ManagerState) (told : Gathered) → acts ≡ [] → start.starts ≡ replicate n (0 ∷ []) → start.round ≡ 0 → ((q : ℕ) → q < n → AreRowsOf q n (held q) (rows q)) → Gathers (with_presence m p Failed) m told new
+    ends : (held : ℕ → Content) (new : ManagerState) (told : Gathered) → acts ≡ [] → start.starts ≡ replicate n (0 ∷ []) → start.round ≡ 0 → ((q : ℕ) → q < n → AreRowsOf q n (held q) (rows q)) → Gathers (with_presence m p Failed) m told new
         → StartsOver n held (λ q. map held_as (outputs q)) new
     ends held new Waiting none starts round are g = absurd (g.0 (λ q small away. away_failed (presence_of (with_presence m p Failed) q) away (all_in none q (let size = u.size in omega arith))))
     ends held new Finished none starts round are g = record {
@@ -353,7 +353,7 @@ underway n rows outputs acts start fresh sound each = record {
   size = ap length fresh.recovery ∙ length-replicate n 0;
   others = refl;
   only = λ row has. let f = (fresh.rows row).0 has in (f.0, inl f.1);
-  phase = λ p small. before (each.each p small) (ap (λ l. slice_index_or l p []) fresh.outputs ∙ none_of n p) (away p);
+  phase = λ p small. before (each.each p small) (ap (λ l. slice_index_or l p []) fresh.outputs ∙ index_same n p []) (away p);
   none = each.others;
   places = ap (λ g. length (presences_of g)) fresh.gathering ∙ length-replicate MAX_PROCESSES Away;
   beyond = λ p ge. away p;

@@ -1,6 +1,6 @@
 //! What the store of a process held, as a manager that starts anew is told it.
 
-ghost use Rattle.std.specs.Prelude.{map};
+ghost use Rattle.std.specs.Prelude.{◌≡◌, map};
 ghost use Rattle.om_member.specs.Handed.{AreTaken};
 ghost use Rattle.om_take_up.specs.TakenUp.{IsTakenUp};
 

@@ -18,7 +18,7 @@ pub mod Resending
 pub mod Resuming
 pub mod Returned
 pub mod Returning
-pub mod MemberState
+pub mod Standing
 pub mod Staying
 pub mod Starting
 pub mod TakenDown

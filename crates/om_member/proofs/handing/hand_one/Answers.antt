@@ -4,7 +4,9 @@ use Rattle.om_member.proofs.handing.hand_one.Goals as goal
 
 pub note_output-requires : goal.note_output-requires
 note_output-requires g c =
-    by_parts (g.O.ManagerAccess.Takes c.args.pid) c.number-number.result c.interval-interval.result c.bytes.result.now (g.M.HandedOutput.made c.args.output.now) c.number-number.ensures c.interval-interval.ensures c.bytes.ensures c.requires
+    record {
+      taken = by_parts (g.O.ManagerAccess.Takes c.args.pid) c.number-number.result c.interval-interval.result c.bytes.result.now (g.M.HandedOutput.made c.args.output.now) c.number-number.ensures c.interval-interval.ensures c.bytes.ensures c.requires;
+    }
 
 pub returns : goal.returns
 returns g c = record {

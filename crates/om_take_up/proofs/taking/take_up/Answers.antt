@@ -12,7 +12,7 @@ returns g c = all_taken _ _ _ _ _ _ _ _ _ c.in_ok-end.was c.tell_all-end.ensures
 pub returns-in_err-end : goal.returns-in_err-end
 returns-in_err-end g c =
     let state = g.O.ManagerAccess.state in let fault = c.in_err-end.field-0.0 in
-    let from : c.from_residual-in_err-end.result ≡ Err (Row fault) = search rules in
+    let from : c.from_residual.result ≡ Err (Row fault) = search rules in
     subst (λ r. IsTakenUp (state c.args.office.now) c.args.round c.args.pid c.args.rows.now (map g.M.HandedOutput.made c.args.outputs.now) r (state c.tell_all-end.new.office)) (sym from)
     (c.tell_all-end.result.0, subst (λ e. IsToldUpTo (state c.args.office.now) c.args.round c.args.pid c.args.rows.now c.tell_all-end.result.0 e (state c.tell_all-end.new.office)) c.in_err-end.was c.tell_all-end.ensures)
 
