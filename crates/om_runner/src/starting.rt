@@ -19,7 +19,6 @@ use crate::links::Links;
 use crate::network::Ends;
 use crate::opener::{Gate, Opener};
 use crate::results::Finished;
-use crate::starting::run_scoped;
 use crate::working::{Job, work_or_stop};
 use om_board::{Inbox, Naming, Pass};
 use om_interval::{MAX_PROCESSES, Pid};

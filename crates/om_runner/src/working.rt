@@ -21,7 +21,6 @@ use crate::turns::take_turns;
 use crate::worker::Worker;
 use crate::worker_fault::load_fault;
 use crate::worker_state::WorkerState;
-use crate::working::{Job, kills_of, work_or_stop};
 use om_board::{Naming, Pass};
 use om_interval::Pid;
 use om_process::Image;
@@ -35,10 +34,10 @@ use std::time::Clock;
 // What a worker begins with.
 #[derive(Drop)]
 pub(crate) struct Job<'a, K: Naming, J: Series, S: Stable> {
-    links: Links<'a>,
-    pass: Pass<K>,
+    pub(crate) links: Links<'a>,
+    pub(crate) pass: Pass<K>,
     // Where stores are slow, the way to the thread that writes that of the process.
-    line: Option<FlightChannel<J, S>>,
+    pub(crate) line: Option<FlightChannel<J, S>>,
     ghost sized: { links.n ≡ K.cell.n },
 }
 
