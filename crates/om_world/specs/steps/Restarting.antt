@@ -76,5 +76,5 @@ refusal_of_rows rows_faults.Fault = why.Fault
 refusal_of_rows rows_faults.Memory = why.Memory
 
 abbrev pub refusal_of_take_up : TakeUpFault → Refusal
-refusal_of_take_up (take_ups.Row fault) = refusal_of_record fault
-refusal_of_take_up (take_ups.Output fault) = refusal_of_output fault
+refusal_of_take_up (take_ups.Row error) = refusal_of_record error
+refusal_of_take_up (take_ups.Output error) = refusal_of_output error

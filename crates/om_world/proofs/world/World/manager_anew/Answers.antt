@@ -14,7 +14,8 @@ tell_stores-requires-clause-fresh g c =
     subst (λ n. IsNew n c.in_ok-manager.manager) many c.in_ok-manager.ensures.fresh
 
 pub fail_all-requires : goal.fail_all-requires
-fail_all-requires g c = told_before c.n-count.result c.in_ok-manager.manager c.tell_stores.new.manager c.in_ok-manager.ensures.fresh c.in_ok-tell_stores.ensures.told.told
+fail_all-requires g c =
+    record { before = told_before c.n-count.result c.in_ok-manager.manager c.tell_stores.new.manager c.in_ok-manager.ensures.fresh c.in_ok-tell_stores.ensures.told.told }
 
 pub returns-clause-made : goal.returns-clause-made
 returns-clause-made g c =
