@@ -4,7 +4,7 @@ ghost use Rattle.std.specs.Prelude.{◌≡◌, ℕ, ◌<◌, ◌≤◌, List, So
 ghost use Rattle.om_format.specs.declared.queue.QueueEntry.{QueueEntry};
 ghost use Rattle.om_interval.specs.Vectors.{IsBelow};
 ghost use Rattle.om_manager.specs.Outputs.{HeldOutput};
-ghost use Rattle.om_manager.specs.State.{released_by};
+ghost use Rattle.om_manager.specs.State.{ManagerState, released_by};
 ghost use Rattle.om_process.specs.Claims.{AtInterval, CheckpointOf, Makes, RowOf};
 ghost use Rattle.om_process.specs.Core.{CoreState, cluster_size};
 ghost use Rattle.om_process.specs.Process.{Program};
@@ -19,7 +19,9 @@ ghost use Rattle.om_world.specs.declared.entry.Entry.{Entry};
 ghost use Rattle.om_world.specs.Disk.{AreTrue, CanServe, DependsWithin, IsOnDisk, held_in};
 ghost use Rattle.om_world.specs.World.{WorldState};
 ghost use Rattle.om_world.specs.Restarted.{HasRestarted};
+ghost use Rattle.om_restart_laws.specs.Alone.{AreLeft, StandsOver, content_of};
 ghost use Rattle.om_restart_laws.specs.Chains.{GoesOnFrom, IsChain, IsSaid, Start};
+ghost use Rattle.om_take_up.specs.Orders.{StartsOver};
 ghost use Rattle.om_world.specs.StoreRows.{HasRowsOf};
 ghost use Rattle.om_restart_laws.specs.Worlds.{IsTakenUpAt};
 
@@ -84,4 +86,15 @@ pub fn a_chain_is_one_run()
         → IsChain first starts last → p < length first.programs → IsSaid first p number output → IsSaid last p number output }
     ensures released { (w : WorldState) (p number : ℕ) (output : HeldOutput) → IsOnDisk w → p < length w.programs
         → slice_get (released_by w.manager p) number ≡ Some output → IsSaid w p number output }
+{}
+
+/// Stores alone suffice for a start, whatever left them: over stores whose records are true of a run without failures and can serve a
+/// state, with what was put out, a start comes to a point of that run, which has all of the state and releases just what was put out. A
+/// world that ends leaves such stores.
+pub fn stores_alone()
+    ensures stands { (programs : List Program) (live : List Entry) (state : List ℕ) (contents : List Content)
+        (outputs : ℕ → List HeldOutput) (m : ManagerState) → AreLeft programs live state contents outputs
+        → StartsOver (length programs) (content_of contents) outputs m → StandsOver programs live state contents outputs m }
+    ensures left { (w : WorldState) → IsOnDisk w
+        → AreLeft w.programs w.live w.manager.recovery w.contents (released_by w.manager) }
 {}

@@ -1,0 +1,8 @@
+use Rattle.om_restart_laws.proofs.Alone.{are_left, stands_over}
+use Rattle.om_restart_laws.proofs.laws.stores_alone.Goals as goal
+
+pub returns-clause-stands : goal.returns-clause-stands
+returns-clause-stands c = stands_over
+
+pub returns-clause-left : goal.returns-clause-left
+returns-clause-left c = are_left
