@@ -28,9 +28,10 @@ use Rattle.om_stable.specs.Content.{Content, Records}
 use Rattle.om_stable.proofs.BetweenLemmas.{between-AreAllBetween}
 use Rattle.om_take_up.specs.Orders.{StartsOver}
 use Rattle.om_take_up.specs.StoreRows.{IsToldOf}
-use Rattle.om_world.specs.Disk.{IsOnDisk}
+use Rattle.om_world.specs.Disk.{IsOnDisk, held_in}
 use Rattle.om_world.specs.Holds.{HasRecord, IsWanted, ReleasedFirst}
 use Rattle.om_world.specs.Live.{Legal, cut_list, program_at, received}
+use Rattle.om_world.specs.Restarted.{HasRestarted}
 use Rattle.om_world.specs.World.{WorldState, output_entry, recovered}
 use Rattle.om_world.specs.declared.entry.Entry.{Entry}
 use Rattle.om_world.specs.declared.process_state.ProcessState.{ProcessState}
@@ -220,3 +221,7 @@ are_left w d = record {
   within = d.within;
   put_out = d.released;
 }
+
+-- the event of a restart is a start over the stores of its world
+pub starts_over : (old new : WorldState) → HasRestarted old new → StartsOver (length old.programs) (held_in old) (released_by old.manager) new.manager
+starts_over old new r = record { told = r.told; first = r.first; rows = r.rows; greatest = r.greatest; holds = r.outputs; failed = r.failed; recovery = r.recovery }

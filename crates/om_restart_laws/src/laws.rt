@@ -90,11 +90,13 @@ pub fn a_chain_is_one_run()
 
 /// Stores alone suffice for a start, whatever left them: over stores whose records are true of a run without failures and can serve a
 /// state, with what was put out, a start comes to a point of that run, which has all of the state and releases just what was put out. A
-/// world that ends leaves such stores.
+/// world that ends leaves such stores, and the event of a restart is such a start.
 pub fn stores_alone()
     ensures stands { (programs : List Program) (live : List Entry) (state : List ℕ) (contents : List Content)
         (outputs : ℕ → List HeldOutput) (m : ManagerState) → AreLeft programs live state contents outputs
         → StartsOver (length programs) (content_of contents) outputs m → StandsOver programs live state contents outputs m }
     ensures left { (w : WorldState) → IsOnDisk w
         → AreLeft w.programs w.live w.manager.recovery w.contents (released_by w.manager) }
+    ensures event { (old new : WorldState) → HasRestarted old new
+        → StartsOver (length old.programs) (held_in old) (released_by old.manager) new.manager }
 {}
