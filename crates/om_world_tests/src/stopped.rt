@@ -49,5 +49,6 @@ fn laws_of_restarts_are_called(_rt: HostRuntime) {
     laws::a_restart_is_a_start();
     laws::a_chain_is_one_run();
     laws::stores_alone();
+    laws::a_start_in_any_order();
     starts::any_order_is_a_restart();
 }
