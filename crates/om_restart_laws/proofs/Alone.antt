@@ -9,7 +9,9 @@ use Rattle.om_format.specs.declared.queue.QueueEntry.{QueueEntry}
 use Rattle.om_interval.specs.Vectors.{IsBelow}
 use Rattle.om_look.specs.Rows.{AreRowsOf, AreSegments, FollowOn, base_row, interval_before, receipts_behind, rows_of_segments}
 use Rattle.om_manager.specs.Outputs.{HeldOutput, within}
+use Rattle.om_manager.specs.Sound.{IsManager}
 use Rattle.om_manager.specs.State.{ManagerState, held_by, process_count, released_by}
+use Rattle.om_member.specs.Handed.{held_as}
 use Rattle.om_member.specs.Told.{row_for}
 use Rattle.om_process.specs.Claims.{AtInterval, CheckpointOf, Makes, RecordOf}
 use Rattle.om_process.specs.Core.{CoreState}
@@ -17,6 +19,7 @@ use Rattle.om_process.specs.Process.{Program}
 use Rattle.om_process.specs.Replays.{process_of}
 use Rattle.om_process.specs.Stored.{IsCheckpointAt, IsReceiptAt}
 use Rattle.om_process.specs.declared.limits.TheConstants.{LAST_INTERVAL}
+use Rattle.om_process.specs.declared.queues.Made.{Made}
 use Rattle.om_process.specs.declared.row.PendingRow.{PendingRow}
 use Rattle.om_recover.specs.Cutting.{IsEffective, cut_to}
 use Rattle.om_recover.specs.Rows.{Has, HasRow, Rows}
@@ -26,11 +29,14 @@ use Rattle.om_recover.specs.declared.row.RowKind.TheVariants.{Checkpoint, Log}
 use Rattle.om_recover.proofs.CuttingLemmas.{has_after_cut, of_cut}
 use Rattle.om_stable.specs.Content.{Content, Records}
 use Rattle.om_stable.proofs.BetweenLemmas.{between-AreAllBetween}
-use Rattle.om_take_up.specs.Orders.{StartsOver}
-use Rattle.om_take_up.specs.StoreRows.{IsToldOf}
-use Rattle.om_world.specs.Disk.{IsOnDisk}
+use Rattle.om_take_up.specs.Anew.{IsNew}
+use Rattle.om_take_up.specs.Orders.{Act, AreOfEach, ComeInTurn, StartsOver}
+use Rattle.om_take_up.specs.TakenUp.{RiseFrom}
+use Rattle.om_take_up.proofs.Orders.{any_order}
+use Rattle.om_world.specs.Disk.{IsOnDisk, held_in}
 use Rattle.om_world.specs.Holds.{HasRecord, IsWanted, ReleasedFirst}
 use Rattle.om_world.specs.Live.{Legal, cut_list, program_at, received}
+use Rattle.om_world.specs.Restarted.{HasRestarted}
 use Rattle.om_world.specs.World.{WorldState, output_entry, recovered}
 use Rattle.om_world.specs.declared.entry.Entry.{Entry}
 use Rattle.om_world.specs.declared.process_state.ProcessState.{ProcessState}
@@ -220,3 +226,14 @@ are_left w d = record {
   within = d.within;
   put_out = d.released;
 }
+
+-- the event of a restart is a start over the stores of its world
+pub starts_over : (old new : WorldState) → HasRestarted old new → StartsOver (length old.programs) (held_in old) (released_by old.manager) new.manager
+starts_over old new r = record { told = r.told; first = r.first; rows = r.rows; greatest = r.greatest; holds = r.outputs; failed = r.failed; recovery = r.recovery }
+
+-- a start in any order is one over what was left
+pub any_order_stands : (programs : List Program) (live : List Entry) (state : List ℕ) (contents : List Content) (rows : ℕ → List PendingRow) (outputs : ℕ → List Made) (acts : List Act) (first last : ManagerState)
+    → AreLeft programs live state contents (λ p. map held_as (outputs p)) → IsNew (length programs) first → IsManager first → ((p : ℕ) → p < length programs → AreRowsOf p (length programs) (content_of contents p) (rows p))
+    → ((p : ℕ) → p < length programs → RiseFrom 0 (outputs p)) → AreOfEach (length programs) rows outputs acts → ComeInTurn first acts last → StandsOver programs live state contents (λ p. map held_as (outputs p)) last
+any_order_stands programs live state contents rows outputs acts first last left fresh sound are rise each come =
+    stands_over programs live state contents (λ p. map held_as (outputs p)) last left (any_order (length programs) (content_of contents) rows outputs acts first last fresh sound are rise each come)

@@ -1,15 +1,20 @@
 //! What a start finds, as theorems over the definitions alone: each function stands for one.
 
-ghost use Rattle.std.specs.Prelude.{◌≡◌, ℕ, ◌<◌, ◌≤◌, List, Some, length, slice_get, slice_index};
+ghost use Rattle.std.specs.Prelude.{◌≡◌, ℕ, ◌<◌, ◌≤◌, List, Some, length, map, slice_get, slice_index};
 ghost use Rattle.om_format.specs.declared.queue.QueueEntry.{QueueEntry};
 ghost use Rattle.om_interval.specs.Vectors.{IsBelow};
 ghost use Rattle.om_manager.specs.Outputs.{HeldOutput};
+ghost use Rattle.om_look.specs.Rows.{AreRowsOf};
+ghost use Rattle.om_manager.specs.Sound.{IsManager};
 ghost use Rattle.om_manager.specs.State.{ManagerState, released_by};
+ghost use Rattle.om_member.specs.Handed.{held_as};
 ghost use Rattle.om_process.specs.Claims.{AtInterval, CheckpointOf, Makes, RowOf};
 ghost use Rattle.om_process.specs.Core.{CoreState, cluster_size};
 ghost use Rattle.om_process.specs.Process.{Program};
 ghost use Rattle.om_process.specs.Stored.{IsReplay};
 ghost use Rattle.om_process.specs.declared.limits.TheConstants.{LAST_INTERVAL};
+ghost use Rattle.om_process.specs.declared.queues.Made.{Made};
+ghost use Rattle.om_process.specs.declared.row.PendingRow.{PendingRow};
 ghost use Rattle.om_recover.specs.Recoverable.{IsGreatest, IsRecoverable};
 ghost use Rattle.om_recover.specs.Rows.{HasRow, Rows};
 ghost use Rattle.om_recover.specs.declared.row.Row.{Row};
@@ -21,7 +26,9 @@ ghost use Rattle.om_world.specs.World.{WorldState};
 ghost use Rattle.om_world.specs.Restarted.{HasRestarted};
 ghost use Rattle.om_restart_laws.specs.Alone.{AreLeft, StandsOver, content_of};
 ghost use Rattle.om_restart_laws.specs.Chains.{GoesOnFrom, IsChain, IsSaid, Start};
-ghost use Rattle.om_take_up.specs.Orders.{StartsOver};
+ghost use Rattle.om_take_up.specs.Anew.{IsNew};
+ghost use Rattle.om_take_up.specs.Orders.{Act, AreOfEach, ComeInTurn, StartsOver};
+ghost use Rattle.om_take_up.specs.TakenUp.{RiseFrom};
 ghost use Rattle.om_world.specs.StoreRows.{HasRowsOf};
 ghost use Rattle.om_restart_laws.specs.Worlds.{IsTakenUpAt};
 
@@ -90,11 +97,23 @@ pub fn a_chain_is_one_run()
 
 /// Stores alone suffice for a start, whatever left them: over stores whose records are true of a run without failures and can serve a
 /// state, with what was put out, a start comes to a point of that run, which has all of the state and releases just what was put out. A
-/// world that ends leaves such stores.
+/// world that ends leaves such stores, and the event of a restart is such a start.
 pub fn stores_alone()
     ensures stands { (programs : List Program) (live : List Entry) (state : List ℕ) (contents : List Content)
         (outputs : ℕ → List HeldOutput) (m : ManagerState) → AreLeft programs live state contents outputs
         → StartsOver (length programs) (content_of contents) outputs m → StandsOver programs live state contents outputs m }
     ensures left { (w : WorldState) → IsOnDisk w
         → AreLeft w.programs w.live w.manager.recovery w.contents (released_by w.manager) }
+    ensures event { (old new : WorldState) → HasRestarted old new
+        → StartsOver (length old.programs) (held_in old) (released_by old.manager) new.manager }
+{}
+
+/// So does a start in which each process reaches the manager by itself, in any order: it comes to a point of the run that was left.
+pub fn a_start_in_any_order()
+    ensures { (programs : List Program) (live : List Entry) (state : List ℕ) (contents : List Content)
+        (rows : ℕ → List PendingRow) (outputs : ℕ → List Made) (acts : List Act) (first last : ManagerState)
+        → AreLeft programs live state contents (λ p. map held_as (outputs p)) → IsNew (length programs) first → IsManager first
+        → ((p : ℕ) → p < length programs → AreRowsOf p (length programs) (content_of contents p) (rows p))
+        → ((p : ℕ) → p < length programs → RiseFrom 0 (outputs p)) → AreOfEach (length programs) rows outputs acts
+        → ComeInTurn first acts last → StandsOver programs live state contents (λ p. map held_as (outputs p)) last }
 {}

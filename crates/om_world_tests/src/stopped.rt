@@ -3,6 +3,7 @@
 use crate::events::{STORED_IN_PARTS, pair};
 use om_restart_laws::laws;
 use om_stable::{MemStable, Stable};
+use om_take_up::laws as starts;
 use std::alloc::Global;
 use std::process::Abort;
 
@@ -47,4 +48,7 @@ fn laws_of_restarts_are_called(_rt: HostRuntime) {
     laws::a_start_goes_on();
     laws::a_restart_is_a_start();
     laws::a_chain_is_one_run();
+    laws::stores_alone();
+    laws::a_start_in_any_order();
+    starts::any_order_is_a_restart();
 }
