@@ -1,7 +1,7 @@
 //! A database of a file that is only read: what the file and its log hold is read whole, and opened from there.
 
 ghost use Rattle.std.specs.Prelude.{◌≡◌, false, IfErr, IfOk};
-ghost use Rattle.om_files.specs.steps.Quiet.{IsQuiet};
+ghost use Rattle.om_files.specs.Quiet.{IsQuiet};
 
 use om_commands::CommandError;
 use om_copies::{CopyError, DatabaseBytes};
@@ -28,8 +28,8 @@ pub(crate) fn copy_of(
     }
 }
 
-// Returns what a file and its log hold, each read once. A file that is not there, or has nothing, is a `StoreFault`.
-pub(crate) fn bytes_of(rt: &HostRuntime, file: &str) -> Result<DatabaseBytes, CommandError>
+/// Returns what a file and its log hold, each read once. A file that is not there, or has nothing, is a `StoreFault`.
+pub fn bytes_of(rt: &HostRuntime, file: &str) -> Result<DatabaseBytes, CommandError>
     ensures { IfErr result IsQuiet }
 {
     let alloc = rt.alloc();

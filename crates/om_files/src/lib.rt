@@ -19,6 +19,7 @@ mod resuming;
 
 pub use blaming::{Blame, FileFault, fault_of, first_unusable};
 pub use connecting::{Connects, InTables};
+pub use copying::bytes_of;
 pub use files::Files;
 pub use looking::{replay_file, show_bodies_file, show_file, steps_file};
 pub use resuming::TakenUp;

@@ -15,6 +15,7 @@ mod showing;
 mod stepping;
 
 pub use bodies::{show_all_bodies, show_bodies, show_bodies_in, show_bodies_over};
+pub use opening::{known, opened};
 pub use replaying::{replay_in, replay_over};
 pub use showing::{show_all, show_in, show_over};
 pub use stepping::{steps_in, steps_over};

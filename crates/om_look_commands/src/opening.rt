@@ -12,8 +12,8 @@ use sqlite::{Connection, FileStore};
 use sqlite_disk::Memory;
 use std::alloc::Global;
 
-// The database that bytes hold.
-pub(crate) fn opened(
+/// The database that bytes hold. Refused where they hold none, and where memory ran out.
+pub fn opened(
     alloc: Global,
     bytes: &DatabaseBytes,
 ) -> Result<Connection<FileStore<Memory>>, CommandError>
@@ -39,8 +39,9 @@ fn refusal_of(error: CopyError) -> CommandError
     }
 }
 
-// Returns what was told over a connection into memory, where that answers still; then what was told is what its database holds.
-pub(crate) fn known(
+/// Returns what was told over a connection into memory, where that answers still; then what was told is what its database holds. Refused
+/// else, and where memory ran out.
+pub fn known(
     told: Result<(), CommandError>,
     mut conn: Connection<FileStore<Memory>>,
 ) -> Result<(), CommandError>
