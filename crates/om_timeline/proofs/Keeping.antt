@@ -8,17 +8,17 @@ use Rattle.om_timeline.specs.declared.fault.PlayFault.{PlayFault}
 use Rattle.om_timeline.specs.declared.stage.Stage.{Stage}
 use Rattle.om_timeline.specs.declared.tape.Look.{Look}
 use Rattle.om_timeline.specs.declared.tape.Look.TheVariants as looks
-use Rattle.om_timeline.specs.steps.Filmed.{TapeState}
+use Rattle.om_timeline.specs.steps.Reels.{ReelState}
 use Rattle.om_timeline.specs.steps.Kept.{IsKept, IsStage}
 use Rattle.om_timeline.specs.steps.Placed.{IsPlaced}
 use Rattle.om_timeline.proofs.Placing.{placed_longer}
 
 -- at another position
-pub kept_at : (t : TapeState) (m next : State) (own n event turns own2 n2 event2 turns2 : ℕ) (stages : List Stage) → IsKept t m own n event turns stages → IsPlaced t next own2 n2 event2 turns2
+pub kept_at : (t : ReelState) (m next : State) (own n event turns own2 n2 event2 turns2 : ℕ) (stages : List Stage) → IsKept t m own n event turns stages → IsPlaced t next own2 n2 event2 turns2
     → IsKept t next own2 n2 event2 turns2 stages
 kept_at t m next own n event turns own2 n2 event2 turns2 stages kept placed = record { placed = placed; stages = kept.stages }
 
-kept_longer : (t : TapeState) (more : List Deed) (m : State) (own n event turns : ℕ) (stages : List Stage) → IsKept t m own n event turns stages
+kept_longer : (t : ReelState) (more : List Deed) (m : State) (own n event turns : ℕ) (stages : List Stage) → IsKept t m own n event turns stages
     → IsKept (record t { deeds = t.deeds ++ more }) m own n event turns stages
 kept_longer t more m own n event turns stages kept = record {
   placed = placed_longer t more m own n event turns kept.placed;
@@ -26,7 +26,7 @@ kept_longer t more m own n event turns stages kept = record {
 }
 
 -- with what came of one event more
-pub kept_filmed : (result : Result Look PlayFault) (old new : TapeState) (m : State) (own n event turns : ℕ) (stages : List Stage)
+pub kept_filmed : (result : Result Look PlayFault) (old new : ReelState) (m : State) (own n event turns : ℕ) (stages : List Stage)
     → IfOk result (λ look. look ≡ looks.Next → (deed : Deed) × (new ≡ record old { deeds = old.deeds ++ deed ∷ [] }))
     → IfOk result (λ look. look ≡ looks.NotYet → new ≡ old) → IfOk result (λ look. look ≡ looks.End → new ≡ old) → OnErr result (new ≡ old)
     → IsKept old m own n event turns stages → IsKept new m own n event turns stages
@@ -38,14 +38,14 @@ kept_filmed (Ok looks.End) old new m own n event turns stages more not_yet end r
 kept_filmed (Err fault) old new m own n event turns stages more not_yet end refused kept = subst (λ t. IsKept t m own n event turns stages) (sym refused) kept
 
 -- fewer
-pub kept_fewer : (t : TapeState) (m : State) (own n event turns : ℕ) (stages less : List Stage) → IsKept t m own n event turns stages → All (Contains stages) less → IsKept t m own n event turns less
+pub kept_fewer : (t : ReelState) (m : State) (own n event turns : ℕ) (stages less : List Stage) → IsKept t m own n event turns stages → All (Contains stages) less → IsKept t m own n event turns less
 kept_fewer t m own n event turns stages less kept fewer = record {
   placed = kept.placed;
   stages = All-weaker (Contains stages) (IsStage t) (λ s there. All-contains (IsStage t) stages s kept.stages there) less fewer;
 }
 
 -- the process goes to a position that is kept
-pub kept_there : (t : TapeState) (m next : State) (own n event turns place : ℕ) (stages : List Stage) (stage : Stage) → IsKept t m own n event turns stages → place < length stages → stage ≡ get_or stages place stage
+pub kept_there : (t : ReelState) (m next : State) (own n event turns place : ℕ) (stages : List Stage) (stage : Stage) → IsKept t m own n event turns stages → place < length stages → stage ≡ get_or stages place stage
     → next ≡ stage.machine → IsKept t next own n stage.at.event stage.at.turns stages
 kept_there t m next own n event turns place stages stage kept within read same =
     let there : IsStage t stage = subst (IsStage t) (sym read) (All-get_or (IsStage t) stages place stage within kept.stages) in

@@ -1,6 +1,6 @@
 -- Positions of a tape, and the machine there.
-use Rattle.std.proofs.Common.{◌≡◌, ℕ, zero, suc, ◌+◌, ◌<◌, ◌≤◌, List, [], ◌∷◌, ◌++◌, length, take, get_or, Some, Bool, true, false, Result, Ok, Err, IfOk, OnErr, refl, sym, ap, subst, ◌∙◌, arith, length-append}
-use Rattle.std.specs.Prelude.{slice_get}
+use Rattle.std.proofs.Common.{◌≡◌, ℕ, zero, suc, ◌+◌, ◌<◌, ◌≤◌, List, [], ◌∷◌, ◌++◌, length, take, get_or, Option, None, Some, Bool, true, false, Result, Ok, Err, IfOk, OnErr, refl, sym, ap, subst, ◌∙◌, arith, length-append}
+use Rattle.std.specs.Prelude.{IfSome, slice_get}
 use Rattle.std.proofs.lemmas.Option.{slice_get_read}
 use Rattle.om_machine.specs.State.{State}
 use Rattle.om_world.specs.World.{WorldState}
@@ -10,8 +10,9 @@ use Rattle.om_timeline.specs.declared.fault.PlayFault.{PlayFault}
 use Rattle.om_timeline.specs.Alone.{turns_alone}
 use Rattle.om_timeline.specs.Deeds.{after_deed, after_deeds, turns_at, turns_in}
 use Rattle.om_timeline.specs.Shown.{ShownAt}
-use Rattle.om_timeline.specs.steps.Filmed.{IsFilmed, TapeState}
+use Rattle.om_timeline.specs.steps.Filmed.{IsFilmed}
 use Rattle.om_timeline.specs.steps.Placed.{IsPlaced}
+use Rattle.om_timeline.specs.steps.Reels.{ReelState, tape_from}
 use Rattle.om_timeline.proofs.Filming.{filmed_shows}
 use Rattle.om_timeline.proofs.Taping.{after_more, take_more}
 use Rattle.om_timeline.proofs.Turning.{joined}
@@ -43,7 +44,7 @@ few_longer (d ∷ deeds) more zero turns few = few
 few_longer (d ∷ deeds) more (suc event) turns few = few_longer deeds more event turns few
 
 -- what stands before an event stays as the tape grows
-pub placed_longer : (t : TapeState) (more : List Deed) (m : State) (own n event turns : ℕ) → IsPlaced t m own n event turns → IsPlaced (record t { deeds = t.deeds ++ more }) m own n event turns
+pub placed_longer : (t : ReelState) (more : List Deed) (m : State) (own n event turns : ℕ) → IsPlaced t m own n event turns → IsPlaced (record t { deeds = t.deeds ++ more }) m own n event turns
 placed_longer t more m own n event turns p =
     let long = length-append t.deeds more in
     let within = p.within in
@@ -56,7 +57,7 @@ placed_longer t more m own n event turns p =
     }
 
 -- some turns on
-pub placed_on : (t : TapeState) (m next : State) (own n event turns more : ℕ) → IsPlaced t m own n event turns → turns + more ≤ turns_at t.deeds event → next ≡ turns_alone own n more m → IsPlaced t next own n event (turns + more)
+pub placed_on : (t : ReelState) (m next : State) (own n event turns more : ℕ) → IsPlaced t m own n event turns → turns + more ≤ turns_at t.deeds event → next ≡ turns_alone own n more m → IsPlaced t next own n event (turns + more)
 placed_on t m next own n event turns more p few gone = record {
   is_own = p.is_own;
   is_n = p.is_n;
@@ -67,11 +68,11 @@ placed_on t m next own n event turns more p few gone = record {
 }
 
 -- under another name of the process
-pub placed_as : (t : TapeState) (m : State) (own n own2 n2 event turns : ℕ) → own2 ≡ own → n2 ≡ n → IsPlaced t m own n event turns → IsPlaced t m own2 n2 event turns
+pub placed_as : (t : ReelState) (m : State) (own n own2 n2 event turns : ℕ) → own2 ≡ own → n2 ≡ n → IsPlaced t m own n event turns → IsPlaced t m own2 n2 event turns
 placed_as t m own n own2 n2 event turns is_own is_n p = record { is_own = is_own ∙ p.is_own; is_n = is_n ∙ p.is_n; within = p.within; few = p.few; here = p.here }
 
 -- with what came of one event more
-pub placed_filmed : (result : Result Bool PlayFault) (old new : TapeState) (m : State) (own n event turns : ℕ)
+pub placed_filmed : (result : Result Bool PlayFault) (old new : ReelState) (m : State) (own n event turns : ℕ)
     → IfOk result (λ more. more ≡ true → (deed : Deed) × (new ≡ record old { deeds = old.deeds ++ deed ∷ [] }))
     → IfOk result (λ more. more ≡ false → new ≡ old) → OnErr result (new ≡ old) → IsPlaced old m own n event turns → IsPlaced new m own n event turns
 placed_filmed (Ok true) old new m own n event turns more end refused p =
@@ -81,7 +82,7 @@ placed_filmed (Ok false) old new m own n event turns more end refused p = subst 
 placed_filmed (Err fault) old new m own n event turns more end refused p = subst (λ t. IsPlaced t m own n event turns) (sym refused) p
 
 -- behind the event
-pub placed_behind : (t : TapeState) (m next : State) (own n event turns : ℕ) (deed : Deed) → IsPlaced t m own n event turns → slice_get t.deeds event ≡ Some deed → event < length t.deeds
+pub placed_behind : (t : ReelState) (m next : State) (own n event turns : ℕ) (deed : Deed) → IsPlaced t m own n event turns → slice_get t.deeds event ≡ Some deed → event < length t.deeds
     → ((x : State) → m ≡ turns_alone own n turns x → next ≡ after_deed own n x deed) → IsPlaced t next own n (event + 1) 0
 placed_behind t m next own n event turns deed p at there finished =
     let before : State = after_deeds t.own t.n t.first (take event t.deeds) in
@@ -97,11 +98,17 @@ placed_behind t m next own n event turns deed p at there finished =
     }
 
 -- before the first event
-pub placed_first : (t : TapeState) (m : State) (own n : ℕ) → own ≡ t.own → n ≡ t.n → m ≡ t.first → IsPlaced t m own n 0 0
+pub placed_first : (t : ReelState) (m : State) (own n : ℕ) → own ≡ t.own → n ≡ t.n → m ≡ t.first → IsPlaced t m own n 0 0
 placed_first t m own n is_own is_n first = record { is_own = is_own; is_n = is_n; within = omega arith; few = omega arith; here = first }
 
--- the machine at a position is what is shown there
-pub placed_shown : (t : TapeState) (last : WorldState) (m : State) (own n event turns : ℕ) → IsFilmed t last → IsPlaced t m own n event turns → ShownAt t.own t.first t.begun t.events event turns m
-placed_shown t last m own n event turns film p =
-    subst (ShownAt t.own t.first t.begun t.events event turns) (sym p.here)
-    (filmed_shows t.own t.n t.first t.begun last t.events film.answers t.deeds event turns film.filmed p.within p.few)
+shown_from : (r : ReelState) (m : State) (own n event turns : ℕ) (begun : Option WorldState) → IfSome begun (λ b. (last : WorldState) × IsFilmed (tape_from r b) last) → IsPlaced r m own n event turns
+    → IfSome begun (λ b. ShownAt r.own r.first b r.events event turns m)
+shown_from r m own n event turns None film p = tt
+shown_from r m own n event turns (Some b) film p =
+    subst (ShownAt r.own r.first b r.events event turns) (sym p.here)
+    (filmed_shows r.own r.n r.first b film.0 r.events film.1.answers r.deeds event turns film.1.filmed p.within p.few)
+
+-- the machine at a position of a record that is played is what is shown there
+pub placed_shown : (r : ReelState) (m : State) (own n event turns : ℕ) → IfSome r.begun (λ b. (last : WorldState) × IsFilmed (tape_from r b) last) → IsPlaced r m own n event turns
+    → IfSome r.begun (λ b. ShownAt r.own r.first b r.events event turns m)
+placed_shown r m own n event turns film p = shown_from r m own n event turns r.begun film p

@@ -19,7 +19,7 @@ use Rattle.om_process.specs.Turns.{IsWaiting, Leads, Reaches, Turns, after_event
 use Rattle.om_process.proofs.Basics.{some_once, some_none}
 use Rattle.om_process.proofs.Going.{counts_receive, counts_turn}
 use Rattle.om_process.proofs.Parts.{made_same}
-use Rattle.om_timeline.specs.Alone.{machine_moved, move_alone, or_stands, received_alone, received_at, turn_alone, turns_alone}
+use Rattle.om_timeline.specs.Alone.{HasTurns, TakesAlone, machine_moved, move_alone, or_stands, received_alone, received_at, turn_alone, turns_alone}
 
 -- ---- the machine alone
 -- a step of the machine is a turn
@@ -74,6 +74,45 @@ pub rest_of : (own n done turns : ℕ) (m here next : State) → done ≤ turns 
 rest_of own n done turns m here next within gone rest =
     let e : done + (turns - done) ≡ turns = omega (arith, within) in
     rest ∙ ap (turns_alone own n (turns - done)) gone ∙ sym (joined own n done (turns - done) m) ∙ ap (λ i. turns_alone own n i m) e
+
+-- ---- turns that are there
+takes_more : (own n k : ℕ) (m mid next : State) → TakesAlone own n k m → turns_alone own n k m ≡ mid → turn_alone own n mid ≡ Some next → TakesAlone own n (suc k) m
+takes_more own n zero m mid next taken same turn = (next, ap (turn_alone own n) same ∙ turn, tt)
+takes_more own n (suc k) m mid next taken same turn =
+    let at : or_stands m (turn_alone own n m) ≡ taken.0 = ap (or_stands m) taken.1 in
+    (taken.0, taken.1, takes_more own n k taken.0 mid next taken.2 (ap (turns_alone own n k) (sym at) ∙ same) turn)
+
+takes_add : (own n j k : ℕ) (m : State) → TakesAlone own n j m → TakesAlone own n k (turns_alone own n j m) → TakesAlone own n (j + k) m
+takes_add own n zero k m first more =
+    let e : k ≡ 0 + k = omega arith in
+    subst (λ i. TakesAlone own n i m) e more
+takes_add own n (suc j) k m first more =
+    let e : suc (j + k) ≡ suc j + k = omega arith in
+    let at : or_stands m (turn_alone own n m) ≡ first.0 = ap (or_stands m) first.1 in
+    subst (λ i. TakesAlone own n i m) e
+    (first.0, first.1, takes_add own n j k first.0 first.2 (subst (λ x. TakesAlone own n k (turns_alone own n j x)) at more))
+
+takes_ran : (own n k : ℕ) (m next : State) → StepsOn k m next → TakesAlone own n k m
+takes_ran own n zero m next same = tt
+takes_ran own n (suc k) m next steps =
+    takes_more own n k m steps.0 next (takes_ran own n k m steps.0 steps.1) (ran_alone own n k m steps.0 steps.1) (goes_alone own n steps.0 next steps.2)
+
+pub has_none : (own n : ℕ) (m : State) → HasTurns own n 0 m
+has_none own n m = record { takes = tt }
+
+-- so far, and on by the machine
+pub has_ran : (own n j k : ℕ) (m mid next : State) → HasTurns own n j m → mid ≡ turns_alone own n j m → StepsOn k mid next → HasTurns own n (j + k) m
+has_ran own n j k m mid next has gone steps =
+    record { takes = takes_add own n j k m has.takes (subst (TakesAlone own n k) gone (takes_ran own n k mid next steps)) }
+
+-- and one turn more
+pub has_turn : (own n j : ℕ) (m mid next : State) → HasTurns own n j m → mid ≡ turns_alone own n j m → turn_alone own n mid ≡ Some next → HasTurns own n (j + 1) m
+has_turn own n j m mid next has gone turn =
+    record { takes = subst (λ i. TakesAlone own n i m) (sym (add-one j)) (takes_more own n j m mid next has.takes (sym gone) turn) }
+
+-- and so many more
+pub has_more : (own n j k : ℕ) (m mid : State) → HasTurns own n j m → mid ≡ turns_alone own n j m → HasTurns own n k mid → HasTurns own n (j + k) m
+has_more own n j k m mid has gone more = record { takes = takes_add own n j k m has.takes (subst (TakesAlone own n k) gone more.takes) }
 
 -- ---- the counts of a process do not matter
 abbrev pub AreFew : List ℕ → Type 0

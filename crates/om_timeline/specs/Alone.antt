@@ -1,5 +1,5 @@
 -- The machine of one process, run again without the process around it.
-use Rattle.std.specs.Prelude.{ℕ, zero, suc, [], Option, Some, None, List}
+use Rattle.std.specs.Prelude.{◌≡◌, ℕ, zero, suc, [], Option, Some, None, List}
 use Rattle.om_machine.specs.State.{State}
 use Rattle.om_machine.specs.Finishing.{finished_receive}
 use Rattle.om_process.specs.Process.{Move, Waits, Goes, Emits}
@@ -28,6 +28,14 @@ or_stands m (Some next) = next
 abbrev pub turns_alone : ℕ → ℕ → ℕ → State → State
 turns_alone own n zero m = m
 turns_alone own n (suc k) m = turns_alone own n k (or_stands m (turn_alone own n m))
+
+-- so many turns are there
+abbrev pub TakesAlone : ℕ → ℕ → ℕ → State → Type 0
+TakesAlone own n zero m = Unit {0}
+TakesAlone own n (suc k) m = (next : State) × (turn_alone own n m ≡ Some next) × TakesAlone own n k next
+
+pub record HasTurns (own n turns : ℕ) (m : State) : Type 0 where
+  pub takes : TakesAlone own n turns m
 
 -- after a message of these bytes, where the process waits for one
 abbrev pub received_at : Move → ℕ → List ℕ → State → State

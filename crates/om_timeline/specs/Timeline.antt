@@ -1,5 +1,5 @@
 -- A process of a record at a position.
-use Rattle.std.specs.Prelude.{◌≡◌, ◌⊎◌, ℕ, ◌<◌, ◌≤◌, List, [], slice_get, Some}
+use Rattle.std.specs.Prelude.{◌≡◌, ◌⊎◌, ℕ, ◌<◌, ◌≤◌, List, [], slice_get, Option, None, Some}
 use Rattle.om_machine.specs.State.{State}
 use Rattle.om_process.specs.Core.{CoreState}
 use Rattle.om_process.specs.declared.limits.TheConstants.{LAST_NUMBER}
@@ -12,7 +12,7 @@ pub record TimelineState : Type 0 where
   pub process : ℕ
   pub n : ℕ  -- how many processes there are
   pub first : State  -- the machine at the start
-  pub begun : WorldState  -- the world at the start
+  pub begun : Option WorldState  -- the world at the start, of a record that is played
   pub events : List Event
   pub deeds : List Deed  -- what the events that were played did to the process
   pub event : ℕ  -- how many events have happened
@@ -43,7 +43,7 @@ pub record CanBegin (w : WorldState) (p : ℕ) : Type 0 where
 -- before the first event of a record, with the machine that the process has there
 pub record IsBegin (t : TimelineState) (p : ℕ) (world : WorldState) (events : List Event) : Type 0 where
   pub is_process : t.process ≡ p
-  pub is_begun : t.begun ≡ world
+  pub is_begun : t.begun ≡ Some world
   pub is_events : t.events ≡ events
   pub none : t.deeds ≡ []
   pub at_event : t.event ≡ 0
@@ -51,3 +51,8 @@ pub record IsBegin (t : TimelineState) (p : ℕ) (world : WorldState) (events : 
   pub core : CoreState
   pub is_core : slice_get world.cores p ≡ Some (Some core)
   pub is_first : t.first ≡ core.now.machine
+
+-- before the first event of a record of which all is told: each event did this to process p of n, whose machine was this
+abbrev pub told_timeline : ℕ → ℕ → State → List Event → List Deed → TimelineState
+told_timeline p n first events deeds =
+    record { process = p; n = n; first = first; begun = None; events = events; deeds = deeds; event = 0; turns = 0 }

@@ -4,3 +4,4 @@ pub mod Kept
 pub mod Kinds
 pub mod Parts
 pub mod Placed
+pub mod Reels

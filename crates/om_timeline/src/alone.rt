@@ -1,6 +1,6 @@
 //! The machine of one process, run again without the process around it.
 
-ghost use Rattle.std.specs.Prelude.{ℕ, ◌≡◌, ◌≢◌, ◌≤◌, IfOk, OnErr, OnOk, Some, None, false, true};
+ghost use Rattle.std.specs.Prelude.{ℕ, ◌≡◌, ◌≢◌, ◌<◌, ◌≤◌, IfOk, OnErr, OnOk, Some, None, false, true};
 ghost use Rattle.om_machine.specs.Finishing.{TakesWord};
 ghost use Rattle.om_machine.specs.State.{State};
 ghost use Rattle.om_machine.specs.derived.NextStep.{next_of};
@@ -8,7 +8,7 @@ ghost use Rattle.om_process.specs.Core.{status_of};
 ghost use Rattle.om_process.specs.Turns.{emits};
 ghost use Rattle.om_timeline.specs.Deeds.{after_deed, turns_in};
 ghost use Rattle.om_timeline.specs.steps.Parts.{GoesAlone, IsGoing};
-ghost use Rattle.om_timeline.specs.Alone.{machine_moved, move_alone, received_alone, turn_alone, turns_alone};
+ghost use Rattle.om_timeline.specs.Alone.{HasTurns, machine_moved, move_alone, received_alone, turn_alone, turns_alone};
 
 use crate::deed::Deed;
 use om_format::MAX_BODY;
@@ -16,16 +16,16 @@ use om_machine::{Cause, EnvCall, Event, LoadFault, Machine};
 use om_process::{REFUSED, Status};
 use std::alloc::{AllocError, Global};
 
-// A machine of process `own` of `n`.
+/// A machine of process `own` of `n`.
 #[derive(Debug, Drop)]
-pub(crate) struct Alone {
-    pub(crate) machine: Machine,
-    pub(crate) own: u32,
-    pub(crate) n: u32,
+pub struct Alone {
+    pub machine: Machine,
+    pub own: u32,
+    pub n: u32,
 }
 
-// A machine as another is.
-pub(crate) fn copy_of(alloc: Global, machine: &Machine) -> Result<Machine, AllocError>
+/// Makes a machine as another is. Refused where memory ran out.
+pub fn copy_of(alloc: Global, machine: &Machine) -> Result<Machine, AllocError>
     ensures { IfOk result (λ copy. copy ≡ machine.now) }
 {
     let regs = machine.regs();
@@ -104,9 +104,9 @@ impl Alone {
         }
     }
 
-    // Returns what the process is about to do.
+    /// Returns what the process is about to do.
     #[tactic(auto, using(crate::proofs::Finishing::goes_told, crate::proofs::Finishing::who_told, crate::proofs::Finishing::exit_told, crate::proofs::Finishing::trap_told, crate::proofs::Finishing::receive_told, crate::proofs::Finishing::receive_trap_told, crate::proofs::Finishing::send_told, crate::proofs::Finishing::send_refused_told, crate::proofs::Finishing::output_told, crate::proofs::Finishing::output_refused_told))]
-    pub(crate) fn status(&self) -> Status
+    pub fn status(&self) -> Status
         ensures { status_of (move_alone self.now.own self.now.n self.now.machine) ≡ result }
     {
         match self.machine.peek() {
@@ -158,6 +158,30 @@ impl Alone {
         }
     }
 
+    /// Takes turns as long as there is one, at most so many, and returns how many it took.
+    #[tactic(auto, using(crate::proofs::Turning::gone_on, crate::proofs::Turning::turned_on, crate::proofs::Turning::has_none, crate::proofs::Turning::has_ran, crate::proofs::Turning::has_turn))]
+    pub fn go_while(&mut self, most: u64) -> u64
+        ensures turns { self.new.machine ≡ turns_alone self.old.own self.old.n result self.old.machine }
+        ensures taken { HasTurns self.old.own self.old.n result self.old.machine }
+        ensures within { result ≤ most }
+        ensures no_more { result < most → turn_alone self.old.own self.old.n self.new.machine ≡ None }
+        ensures own { self.new.own ≡ self.old.own }
+        ensures n { self.new.n ≡ self.old.n }
+    {
+        let mut done = 0;
+        while done < most {
+            let ran = self.machine.run(most - done);
+            done += ran.steps;
+            if done < most {
+                if !self.turn(ran.event) {
+                    return done;
+                }
+                done += 1;
+            }
+        }
+        done
+    }
+
     // Answers an event of the machine that asks who the process is, and tells whether it does.
     #[tactic(auto, using(crate::proofs::Parting::who_goes))]
     fn tell(&mut self, event: Event) -> bool
@@ -196,9 +220,9 @@ impl Alone {
         true
     }
 
-    // Takes a message in, where the process waits for one.
+    /// Takes a message in, where the process waits for one: else it stays.
     #[tactic(auto, using(crate::proofs::Finishing::receives, crate::proofs::Finishing::stands_away))]
-    pub(crate) fn receive(&mut self, from: u32, body: &[u8])
+    pub fn receive(&mut self, from: u32, body: &[u8])
         ensures received { self.new.machine ≡ received_alone self.old.own self.old.n from body.now self.old.machine }
         ensures own { self.new.own ≡ self.old.own }
         ensures n { self.new.n ≡ self.old.n }

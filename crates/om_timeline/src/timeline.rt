@@ -9,15 +9,16 @@ ghost use Rattle.om_timeline.specs.declared.tape.Look.{Look};
 ghost use Rattle.om_timeline.specs.Alone.{move_alone};
 ghost use Rattle.om_timeline.specs.Deeds.{turns_at};
 ghost use Rattle.om_timeline.specs.Shown.{ShownAt};
-ghost use Rattle.om_timeline.specs.Timeline.{CanBegin, IsBegin, IsUpTo, at, machine_here, with_deeds};
+ghost use Rattle.om_timeline.specs.Timeline.{CanBegin, IsBegin, IsUpTo, at, machine_here, told_timeline, with_deeds};
 ghost use Rattle.om_timeline.specs.steps.Kept.{IsComing};
 ghost use Rattle.om_timeline.specs.steps.Placed.{IsLeft};
 
 use crate::alone::{Alone, copy_of};
 use crate::deed::{Deed, turns_at};
 use crate::fault::PlayFault;
+use crate::reel::Reel;
 use crate::stage::{Stage, are_up_to, before, is_full, is_up_to, thin, up_to};
-use crate::tape::{Look, Tape};
+use crate::tape::Look;
 use om_interval::Pid;
 use om_machine::Machine;
 use om_process::Status;
@@ -43,7 +44,7 @@ const NEAR: u64 = 4_000;
 /// A record, and a process of it at a position. The record is played only as far as was asked.
 #[derive(Drop)]
 pub struct Timeline {
-    tape: Tape,
+    tape: Reel,
     here: Alone,
     at: Position,
     // Where ways may begin, beside before the first event: in their order.
@@ -94,7 +95,7 @@ impl Timeline {
         ensures begun { IfOk result (λ made. IfSome made (λ t. IsBegin t process world events.items)) }
         ensures can { IfOk result (λ made. MatchOption made (CanBegin world process → ⊥) (λ t. CanBegin world process)) }
     {
-        let Some(tape) = Tape::new(alloc, world, events, process)? else {
+        let Some(tape) = Reel::played(alloc, world, events, process)? else {
             return Ok(None);
         };
         let machine = copy_of(alloc, tape.first())?;
@@ -113,6 +114,36 @@ impl Timeline {
         }))
     }
 
+    /// Begins before the first event of a record of which all is known: what each event did to the process, and the machine that it had.
+    /// Refused where memory ran out.
+    pub fn told(
+        alloc: Global,
+        process: Pid,
+        n: u32,
+        first: Machine,
+        events: Vec<Event>,
+        deeds: Vec<Deed>,
+    ) -> Result<Timeline, AllocError>
+        requires { length deeds.items ≡ length events.items }
+        ensures { IfOk result (λ t. t ≡ told_timeline process n first events.items deeds.items) }
+    {
+        let tape = Reel::told(process, n, first, events, deeds);
+        let machine = copy_of(alloc, tape.first())?;
+        let here = Alone {
+            machine,
+            own: process.index() as u32,
+            n,
+        };
+        Ok(Timeline {
+            tape,
+            here,
+            at: Position { event: 0, turns: 0 },
+            stages: Vec::new(alloc),
+            spacing: SPACING,
+            passed: 0,
+        })
+    }
+
     /// The position.
     pub fn position(&self) -> Position
         ensures event { result.event ≡ self.now.event }
@@ -126,9 +157,10 @@ impl Timeline {
     /// The machine of the process at the position: of a process that is down, the one that it had.
     pub fn machine(&self) -> &Machine
         ensures here { result.now ≡ machine_here self.now }
-        ensures shown { ShownAt self.now.process self.now.first self.now.begun self.now.events self.now.event self.now.turns result.now }
+        ensures shown { IfSome self.now.begun
+            (λ begun. ShownAt self.now.process self.now.first begun self.now.events self.now.event self.now.turns result.now) }
     {
-        self.tape.told();
+        self.tape.told_of();
         &self.here.machine
     }
 

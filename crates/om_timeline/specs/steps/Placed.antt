@@ -3,10 +3,10 @@ use Rattle.std.specs.Prelude.{◌≡◌, ℕ, ◌≤◌, length}
 use Rattle.om_machine.specs.State.{State}
 use Rattle.om_timeline.specs.Deeds.{at_position, turns_at}
 use Rattle.om_timeline.specs.Timeline.{TimelineState, at}
-use Rattle.om_timeline.specs.steps.Filmed.{TapeState}
+use Rattle.om_timeline.specs.steps.Reels.{ReelState}
 
 -- the position is one of the tape, and the machine of the process is the one there
-pub record IsPlaced (t : TapeState) (machine : State) (own n event turns : ℕ) : Type 0 where
+pub record IsPlaced (t : ReelState) (machine : State) (own n event turns : ℕ) : Type 0 where
   pub is_own : own ≡ t.own
   pub is_n : n ≡ t.n
   pub within : event ≤ length t.deeds
